@@ -1,0 +1,11 @@
+pub mod ProgramLemmas
+pub mod TableLemmas
+pub mod FormLemmas
+pub mod SlotLemmas
+pub mod FaultLemmas
+pub mod WalkLemmas
+pub mod ViewLemmas
+pub mod ImageLaws
+pub mod ReadLemmas
+pub mod WriteLemmas
+pub mod LayoutLemmas

@@ -1,0 +1,46 @@
+-- The table of opcodes and the forms of opcodes agree, computed over all 256 opcodes.
+use Rattle.std.proofs.Common.{◌≡◌, ℕ, zero, suc, ◌+◌, ◌<◌, List, [], ◌∷◌, map, get_or, refl, ap, sym, ◌∙◌, arith, true, false}
+use Rattle.std.specs.Prelude.{Some, None, option_map}
+use Rattle.std.proofs.Common.{slice_index, cond}
+use Rattle.bpf_insn.specs.Refusal.{table, uses_in, fields_in, is_left_out, refusal_by_uses, refusal_here}
+use Rattle.bpf_insn.specs.declared.order.Order.{Order}
+use Rattle.bpf_insn.specs.declared.refusal.SlotFault.TheVariants.{LeftOut}
+use Rattle.bpf_insn.specs.Form.{form_in, uses_of}
+
+-- n, n + 1 and so on, k numbers
+unfoldable pub numbers_from : ℕ → ℕ → List ℕ
+numbers_from n zero = []
+numbers_from n (suc k) = n ∷ numbers_from (n + 1) k
+
+get_numbers : {X : Type 0} (f : ℕ → X) (d : X) (k n i : ℕ) → i < k → get_or (map f (numbers_from n k)) i d ≡ f (n + i)
+unfolding numbers_from
+get_numbers f d zero n i h = absurd (omega arith)
+get_numbers f d (suc k) n zero h = ap f (omega arith)
+get_numbers f d (suc k) n (suc i) h =
+    let inside : i < k = omega arith in
+    get_numbers f d k (n + 1) i inside ∙ ap f (omega arith)
+
+-- two functions that agree on a whole range agree at each number in it
+pub same_in_range : {X : Type 0} (f g : ℕ → X) (d : X) (k : ℕ) → map f (numbers_from 0 k) ≡ map g (numbers_from 0 k) → (i : ℕ) → i < k → f i ≡ g i
+same_in_range f g d k e i h =
+    ap f (omega arith) ∙ sym (get_numbers f d k 0 i h) ∙ ap (λ xs. get_or xs i d) e ∙ get_numbers g d k 0 i h ∙ ap g (omega arith)
+
+uses_agree : map (λ b. uses_in table b) (numbers_from 0 256) ≡ map (λ b. option_map uses_of (form_in b)) (numbers_from 0 256)
+unfolding numbers_from
+uses_agree = refl
+
+-- how an opcode's instruction uses its fields, by the table and by its form
+pub uses_in-form : (b : ℕ) → b < 256 → uses_in table b ≡ option_map uses_of (form_in b)
+uses_in-form = same_in_range (λ b. uses_in table b) (λ b. option_map uses_of (form_in b)) None 256 uses_agree
+
+-- ---- the refusal, by the form
+
+pub refusal-left_out : (order : Order) (bytes : List ℕ) → is_left_out (fields_in order bytes) ≡ true → refusal_here order bytes ≡ Some LeftOut
+unfolding refusal_here
+refusal-left_out order bytes e = ap (λ b. cond b (Some LeftOut) (refusal_by_uses (uses_in table (slice_index bytes 0)) (fields_in order bytes) bytes)) e
+
+pub refusal-by_form : (order : Order) (bytes : List ℕ) → slice_index bytes 0 < 256 → is_left_out (fields_in order bytes) ≡ false → refusal_here order bytes ≡ refusal_by_uses (option_map uses_of (form_in (slice_index bytes 0))) (fields_in order bytes) bytes
+unfolding refusal_here
+refusal-by_form order bytes small e =
+    ap (λ b. cond b (Some LeftOut) (refusal_by_uses (uses_in table (slice_index bytes 0)) (fields_in order bytes) bytes)) e
+    ∙ ap (λ u. refusal_by_uses u (fields_in order bytes) bytes) (uses_in-form (slice_index bytes 0) small)

@@ -1,0 +1,18 @@
+use Rattle.std.proofs.Common.{◌≡◌, ◌≤◌, ◌<◌, length, arith, rules}
+use Rattle.std.proofs.lemmas.List.{length-take}
+use Rattle.bpf_insn.specs.Reading.{max_read}
+use Rattle.bpf_insn.proofs.ReadLemmas.{last_read, full_read}
+use Rattle.bpf_insn.proofs.image.read_image.Goals as goal
+
+pub returns-then-count-eq0-clause-ok : goal.returns-then-count-eq0-clause-ok
+returns-then-count-eq0-clause-ok g c =
+    let all : length c.reads.chunk ≡ 4096 = search rules in
+    let part = length-take c.min-room.result c.reads.chunk in
+    let room : 0 < length c.read.new.buf = omega arith in
+    let few : length c.reads.bytes.items ≤ max_read = omega arith in
+    last_read _ _ _ c.reads.bytes.items c.read.new.buf c.in-Ok.count c.reads.invariant.0 c.in-Ok.ensures.bytes.0 c.if-count-eq0.true (c.in-Ok.ensures.bytes.1 c.if-count-eq0.true room) few
+
+pub returns-clause-ok : goal.returns-clause-ok
+returns-clause-ok g c =
+    let full : length c.reads.bytes.items ≡ max_read = omega arith in
+    full_read _ _ c.reads.bytes.items c.reads.invariant.0 full

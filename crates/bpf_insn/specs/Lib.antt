@@ -1,0 +1,12 @@
+pub mod Order
+pub mod Instruction
+pub mod Arithmetic
+pub mod Image
+pub mod Refusal
+pub mod RefusalNumbers
+pub mod Form
+pub mod Decoding
+pub mod Layout
+pub mod Written
+pub mod Reading
+pub mod Laws

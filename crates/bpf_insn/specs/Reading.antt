@@ -1,0 +1,20 @@
+-- What is read of an image from a reader, where its bytes are known.
+use Rattle.std.specs.Prelude.{◌≡◌, ℕ, ◌+◌, ◌*◌, ◌/◌, List, length, take, Option, IfSome}
+use Rattle.std.specs.Io.{StartsWith}
+use Rattle.bpf_insn.specs.Image.{max_slots}
+use Rattle.bpf_insn.specs.declared.refusal.DecodeError.{DecodeError}
+use Rattle.bpf_insn.specs.declared.refusal.DecodeError.TheVariants.{Read}
+
+-- one byte more than the largest image
+abbrev pub max_read : ℕ
+max_read = 8 * max_slots + 1
+
+-- all bytes of the reader, or the first of them
+abbrev pub ReadsImage : Option (List ℕ) → List ℕ → Type 0
+ReadsImage known got = IfSome known (λ bytes. got ≡ take max_read bytes)
+
+-- the reader failed behind the bytes that it had given, in the slot of the next
+pub record FailsAfter (known : Option (List ℕ)) (error : DecodeError) : Type 0 where
+  pub given : List ℕ
+  pub begins : IfSome known (λ bytes. StartsWith bytes given)
+  pub fault : error ≡ Read (length given / 8)

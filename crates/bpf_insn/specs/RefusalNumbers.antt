@@ -1,0 +1,42 @@
+-- The number of each refusal, from 1 to 10, and the slot that it names.
+use Rattle.std.specs.Prelude.{ℕ}
+use Rattle.bpf_insn.specs.declared.refusal.SlotFault.{SlotFault}
+use Rattle.bpf_insn.specs.declared.refusal.SlotFault.TheVariants.{Opcode, Register, Unused, Selector, Truncated, LeftOut}
+use Rattle.bpf_insn.specs.declared.refusal.BuildError.{BuildError}
+use Rattle.bpf_insn.specs.declared.refusal.BuildError.TheVariants.{Length, NoEncoding, Target, Memory}
+use Rattle.bpf_insn.specs.declared.refusal.DecodeError.{DecodeError}
+use Rattle.bpf_insn.specs.declared.refusal.DecodeError.TheVariants.{Length as BadLength, Slot, Target as BadTarget, Memory as NoMemory, Read}
+
+abbrev pub fault_number : SlotFault → ℕ
+fault_number Opcode = 2
+fault_number Register = 3
+fault_number Unused = 4
+fault_number Selector = 5
+fault_number Truncated = 6
+fault_number LeftOut = 7
+
+abbrev pub build_number : BuildError → ℕ
+build_number Length = 1
+build_number (NoEncoding slot) = 5
+build_number (Target slot) = 8
+build_number Memory = 9
+
+abbrev pub build_slot : BuildError → ℕ
+build_slot Length = 0
+build_slot (NoEncoding slot) = slot
+build_slot (Target slot) = slot
+build_slot Memory = 0
+
+abbrev pub decode_number : DecodeError → ℕ
+decode_number BadLength = 1
+decode_number (Slot slot fault) = fault_number fault
+decode_number (BadTarget slot) = 8
+decode_number NoMemory = 9
+decode_number (Read slot) = 10
+
+abbrev pub decode_slot : DecodeError → ℕ
+decode_slot BadLength = 0
+decode_slot (Slot slot fault) = slot
+decode_slot (BadTarget slot) = slot
+decode_slot NoMemory = 0
+decode_slot (Read slot) = slot

@@ -1,0 +1,72 @@
+//! From an image to a program.
+
+ghost use Rattle.std.specs.Prelude.{◌≡◌, ◌⊎◌, ◌≤◌, ◌/◌, List, ℕ, IfOk, IfErr, IfSome, MatchResult, take, length};
+ghost use Rattle.bpf_insn.specs.Image.{image, IsImage, IsProgram};
+ghost use Rattle.bpf_insn.specs.Refusal.{IsRefused};
+ghost use Rattle.bpf_insn.specs.Reading.{max_read, ReadsImage, FailsAfter};
+ghost use Rattle.bpf_insn.specs.declared.instruction.Insn.{Insn};
+ghost use Rattle.bpf_insn.specs.declared.order.Order.TheVariants.{Little};
+ghost use Rattle.bpf_insn.specs.declared.refusal.DecodeError.TheVariants.{Memory};
+
+use crate::program::{MAX_SLOTS, Program};
+use crate::refusal::DecodeError;
+use crate::view::ProgramView;
+use std::alloc::Global;
+use std::io::Read;
+
+/// The most bytes that are read: one more than the largest image.
+const MAX_READ: usize = 8 * MAX_SLOTS + 1;
+
+/// The program whose image these bytes are, with memory of its own. It is refused as by [`ProgramView::of`], and with E9
+/// if memory runs out.
+pub fn decode(alloc: Global, bytes: &[u8]) -> Result<Program, DecodeError>
+    ensures ok { IfOk result (λ p. IsImage Little p.list bytes.now × (p.order ≡ Little)) }
+    ensures program { IfOk result (λ p. IsProgram p.list) }
+    ensures err { IfErr result (λ e. (e ≡ Memory) ⊎ IsRefused Little bytes.now e) }
+    ensures accepts { (is : List Insn) → IsProgram is → bytes.now ≡ image Little is → MatchResult result (λ p. p.list ≡ is) (λ e. e ≡ Memory) }
+{
+    match ProgramView::of(bytes) {
+        Ok(view) => match view.to_program(alloc) {
+            Ok(program) => Ok(program),
+            Err(_) => Err(DecodeError::Memory),
+        },
+        Err(error) => Err(error),
+    }
+}
+
+/// The bytes of a reader to its end, or one more than the largest image has.
+fn read_image<R: Read>(alloc: Global, reader: &mut R) -> Result<Vec<u8>, DecodeError>
+    ensures ok { IfOk result (λ v. ReadsImage (R.remaining reader.old) v.items) }
+    ensures err { IfErr result (λ e. (e ≡ Memory) ⊎ FailsAfter (R.remaining reader.old) e) }
+{
+    let mut bytes = Vec::new(alloc);
+    let mut chunk = [0; 4096];
+    'reads: while bytes.len() < MAX_READ {
+        let room = chunk.len().min(MAX_READ - bytes.len());
+        let Ok(count) = reader.read(&mut chunk[..room]) else {
+            let slot = (bytes.len() / 8) as u32;
+            return Err(DecodeError::Read { slot });
+        };
+        if count == 0 {
+            return Ok(bytes);
+        }
+        if bytes.extend_from_slice(&chunk[..count]).is_err() {
+            return Err(DecodeError::Memory);
+        }
+    }
+    Ok(bytes)
+}
+
+/// The program whose image a reader gives, in whatever pieces. It reads to the end or to 524,289 bytes, and answers as
+/// [`decode`] on those, or E10 at the first fault of the reader, with the slot in which that came.
+pub fn decode_from<R: Read + Drop>(alloc: Global, reader: R) -> Result<Program, DecodeError>
+    ensures ok { IfOk result (λ p. IfSome (R.remaining reader) (λ bytes. IsImage Little p.list (take max_read bytes))) }
+    ensures program { IfOk result (λ p. IsProgram p.list × (p.order ≡ Little)) }
+    ensures err { IfErr result (λ e. (e ≡ Memory) ⊎ FailsAfter (R.remaining reader) e ⊎ IfSome (R.remaining reader) (λ bytes. IsRefused Little (take max_read bytes) e)) }
+{
+    let mut reader = reader;
+    match read_image(alloc, &mut reader) {
+        Ok(bytes) => decode(alloc, &bytes),
+        Err(error) => Err(error),
+    }
+}

@@ -1,0 +1,255 @@
+//! Instructions as values (RFC 9669, sections 3 to 5).
+
+/// A register: r0 to r9, and the frame pointer r10.
+#[derive(Clone, Copy, Debug, PartialEq, Eq)]
+pub enum Reg {
+    R0,
+    R1,
+    R2,
+    R3,
+    R4,
+    R5,
+    R6,
+    R7,
+    R8,
+    R9,
+    R10,
+}
+
+/// The size of an access to memory: 1, 2, 4 or 8 bytes.
+#[derive(Clone, Copy, Debug, PartialEq, Eq)]
+pub enum Size {
+    B,
+    H,
+    W,
+    DW,
+}
+
+/// The width of an operation: the low 32 bits, or all 64.
+#[derive(Clone, Copy, Debug, PartialEq, Eq)]
+pub enum Width {
+    W32,
+    W64,
+}
+
+/// The second operand: a constant or a register.
+#[derive(Clone, Copy, Debug, PartialEq, Eq)]
+pub enum Operand {
+    Imm(i32),
+    Reg(Reg),
+}
+
+/// An operation on two operands.
+#[derive(Clone, Copy, Debug, PartialEq, Eq)]
+pub enum AluOp {
+    Add,
+    Sub,
+    Mul,
+    Div,
+    SDiv,
+    Or,
+    And,
+    Lsh,
+    Rsh,
+    Mod,
+    SMod,
+    Xor,
+    Mov,
+    Arsh,
+}
+
+/// How many low bits a sign-extending move takes.
+#[derive(Clone, Copy, Debug, PartialEq, Eq)]
+pub enum SignBits {
+    B8,
+    B16,
+    B32,
+}
+
+/// What a byte swap does: to little-endian, to big-endian, or in any case.
+#[derive(Clone, Copy, Debug, PartialEq, Eq)]
+pub enum EndKind {
+    Le,
+    Be,
+    Swap,
+}
+
+/// How many low bits a byte swap takes.
+#[derive(Clone, Copy, Debug, PartialEq, Eq)]
+pub enum EndBits {
+    B16,
+    B32,
+    B64,
+}
+
+/// The test of a conditional jump.
+#[derive(Clone, Copy, Debug, PartialEq, Eq)]
+pub enum Cond {
+    Eq,
+    Gt,
+    Ge,
+    Set,
+    Ne,
+    SGt,
+    SGe,
+    Lt,
+    Le,
+    SLt,
+    SLe,
+}
+
+/// How an atomic operation changes a number in memory.
+#[derive(Clone, Copy, Debug, PartialEq, Eq)]
+pub enum Modify {
+    Add,
+    Or,
+    And,
+    Xor,
+}
+
+/// An atomic operation; one that fetches puts the old number into its source register.
+#[derive(Clone, Copy, Debug, PartialEq, Eq)]
+pub enum AtomicOp {
+    Modify { by: Modify, fetch: bool },
+    Xchg,
+    CmpXchg,
+}
+
+/// An instruction. Distances of jumps and calls count slots from the next instruction.
+#[derive(Clone, Copy, Debug, PartialEq, Eq)]
+pub enum Insn {
+    Alu {
+        op: AluOp,
+        width: Width,
+        dst: Reg,
+        src: Operand,
+    },
+    Neg {
+        width: Width,
+        dst: Reg,
+    },
+    MovSx {
+        width: Width,
+        bits: SignBits,
+        dst: Reg,
+        src: Reg,
+    },
+    End {
+        kind: EndKind,
+        bits: EndBits,
+        dst: Reg,
+    },
+    LoadImm64 {
+        dst: Reg,
+        value: u64,
+    },
+    Load {
+        size: Size,
+        dst: Reg,
+        src: Reg,
+        off: i16,
+    },
+    LoadSx {
+        size: Size,
+        dst: Reg,
+        src: Reg,
+        off: i16,
+    },
+    Store {
+        size: Size,
+        dst: Reg,
+        off: i16,
+        src: Reg,
+    },
+    StoreImm {
+        size: Size,
+        dst: Reg,
+        off: i16,
+        imm: i32,
+    },
+    Atomic {
+        wide: bool,
+        op: AtomicOp,
+        dst: Reg,
+        off: i16,
+        src: Reg,
+    },
+    Ja {
+        off: i16,
+    },
+    JaLong {
+        off: i32,
+    },
+    JumpIf {
+        cond: Cond,
+        width: Width,
+        dst: Reg,
+        src: Operand,
+        off: i16,
+    },
+    CallLocal {
+        off: i32,
+    },
+    Exit,
+}
+
+/// The conformance group of an instruction (RFC 9669, section 2.4), its 32 and 64 bit halves joined.
+#[derive(Clone, Copy, Debug, PartialEq, Eq)]
+pub enum Group {
+    Base,
+    Divmul,
+    Atomic,
+}
+
+/// The conformance groups that occur in a program.
+#[derive(Clone, Copy, Debug, PartialEq, Eq)]
+pub struct Groups {
+    pub base: bool,
+    pub divmul: bool,
+    pub atomic: bool,
+}
+
+impl Groups {
+    ghost use Rattle.std.specs.Prelude.{◌≡◌};
+    ghost use Rattle.bpf_insn.specs.Instruction.{with_group};
+
+    /// Adds a group.
+    pub fn add(&mut self, group: Group)
+        ensures { self.new ≡ with_group group self.old }
+    {
+        match group {
+            Group::Base => self.base = true,
+            Group::Divmul => self.divmul = true,
+            Group::Atomic => self.atomic = true,
+        }
+    }
+}
+
+impl Insn {
+    ghost use Rattle.std.specs.Prelude.{◌≡◌};
+    ghost use Rattle.bpf_insn.specs.Instruction.{slot_count, group_of};
+
+    /// How many slots of eight bytes it takes: 2 for a 64-bit constant, else 1 (RFC 9669, section 3).
+    pub fn slots(&self) -> u32
+        ensures { result ≡ slot_count self.now }
+    {
+        match self {
+            Insn::LoadImm64 { .. } => 2,
+            _ => 1,
+        }
+    }
+
+    /// The conformance group that it belongs to (RFC 9669, section 2.4).
+    pub fn group(&self) -> Group
+        ensures { result ≡ group_of self.now }
+    {
+        match self {
+            Insn::Alu {
+                op: AluOp::Mul | AluOp::Div | AluOp::SDiv | AluOp::Mod | AluOp::SMod,
+                ..
+            } => Group::Divmul,
+            Insn::Atomic { .. } => Group::Atomic,
+            _ => Group::Base,
+        }
+    }
+}

@@ -1,0 +1,34 @@
+//! Instructions, programs and images of the BPF instruction set (RFC 9669, integer profile).
+#![tactic(auto)]
+
+mod bytes;
+mod code;
+mod codes;
+mod decoding;
+mod encoding;
+mod fields;
+mod form;
+mod groups;
+mod image;
+pub mod instruction;
+pub mod laws;
+mod layout;
+pub mod order;
+mod program;
+pub mod refusal;
+mod slot;
+mod view;
+pub mod written;
+
+pub use code::Code;
+pub use encoding::encode;
+pub use groups::groups_of;
+pub use image::{decode, decode_from};
+pub use instruction::{
+    AluOp, AtomicOp, Cond, EndBits, EndKind, Group, Groups, Insn, Modify, Operand, Reg, SignBits,
+    Size, Width,
+};
+pub use order::Order;
+pub use program::Program;
+pub use refusal::{BuildError, DecodeError, SlotFault};
+pub use view::ProgramView;
