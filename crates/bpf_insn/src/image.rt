@@ -34,8 +34,9 @@ pub fn decode(alloc: Global, bytes: &[u8]) -> Result<Program, DecodeError>
     }
 }
 
-/// The bytes of a reader to its end, or one more than the largest image has.
-fn read_image<R: Read>(alloc: Global, reader: &mut R) -> Result<Vec<u8>, DecodeError>
+/// The bytes of a reader to its end, or the first 524,289, one more than the largest image has: E9 if memory runs out, E10 at
+/// the first fault of the reader, with the slot in which that came.
+pub fn read_image<R: Read>(alloc: Global, reader: &mut R) -> Result<Vec<u8>, DecodeError>
     ensures ok { IfOk result (λ v. ReadsImage (R.remaining reader.old) v.items) }
     ensures err { IfErr result (λ e. (e ≡ Memory) ⊎ FailsAfter (R.remaining reader.old) e) }
 {

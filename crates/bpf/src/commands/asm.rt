@@ -1,0 +1,82 @@
+//! `bpf asm IN OUT`.
+
+ghost use Rattle.std.specs.Prelude.{◌≡◌, ◌≤◌, IfOk};
+
+use crate::failure::{DONE, Failure, REFUSED, say};
+use crate::places::Places;
+use bpf_insn::encode;
+use bpf_text::{TextError, assemble};
+use std::alloc::{AllocError, Global};
+use std::io::{Read, Write};
+use std::str;
+
+/// The bytes of a reader to its end; None if it fails.
+fn read_all<R: Read>(alloc: Global, reader: &mut R) -> Result<Option<Vec<u8>>, AllocError> {
+    let mut bytes = Vec::new(alloc);
+    let mut chunk = [0; 4096];
+    for _ in 0..u64::MAX {
+        let Ok(count) = reader.read(&mut chunk) else {
+            return Ok(None);
+        };
+        if count == 0 {
+            return Ok(Some(bytes));
+        }
+        bytes.extend_from_slice(&chunk[..count])?;
+    }
+    Ok(None)
+}
+
+/// Prints why a text is refused.
+fn refuse_text<'a, W: Write>(
+    alloc: Global,
+    out: &mut W,
+    error: TextError,
+) -> Result<u8, Failure<'a>>
+    ensures { IfOk result (λ status. status ≡ REFUSED) }
+{
+    let number = error.number();
+    let at = error.line();
+    let line = match error {
+        TextError::Program { error, .. } => {
+            let cause = error.number();
+            let slot = error.slot();
+            format!(in alloc; "no A{number} at line {at} (E{cause} at slot {slot})\n")?
+        }
+        _ => format!(in alloc; "no A{number} at line {at}\n")?,
+    };
+    say(out, line.as_str())?;
+    Ok(REFUSED)
+}
+
+/// Writes the image of a text. The place for it is made only where there is an image.
+pub fn assembled<'a, P: Places, W: Write>(
+    alloc: Global,
+    places: &mut P,
+    out: &mut W,
+    input: &'a str,
+    output: &'a str,
+) -> Result<u8, Failure<'a>>
+    ensures { IfOk result (λ status. status ≤ REFUSED) }
+{
+    let Ok(mut reader) = places.open(input) else {
+        return Err(Failure::CannotRead(input));
+    };
+    let Some(bytes) = read_all(alloc, &mut reader)? else {
+        return Err(Failure::CannotRead(input));
+    };
+    let Ok(text) = str::from_utf8(&bytes) else {
+        return Err(Failure::CannotRead(input));
+    };
+    match assemble(alloc, text) {
+        Ok(program) => {
+            let Ok(mut writer) = places.create(output) else {
+                return Err(Failure::CannotWrite(output));
+            };
+            match encode(&program, &mut writer) {
+                Ok(()) => Ok(DONE),
+                Err(_) => Err(Failure::CannotWrite(output)),
+            }
+        }
+        Err(error) => refuse_text(alloc, out, error),
+    }
+}

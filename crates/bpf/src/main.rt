@@ -1,0 +1,42 @@
+//! The command `bpf`: a toolchain for eBPF programs that hosts can trust.
+#![tactic(auto)]
+
+mod commands;
+mod context;
+mod failure;
+mod places;
+mod respond;
+#[cfg(test)]
+mod tests;
+mod words;
+
+use failure::{FAILED, Failure, tell};
+use places::FilePlaces;
+use respond::respond;
+use std::process::ExitCode;
+use std::rt::Env;
+use std::{env, io};
+
+/// The words of the command line, the command's own name first.
+fn words_of(rt: &(impl Env + AllocGlobal)) -> io::Result<Vec<String>> {
+    Ok(env::args(rt)?.collect(rt.alloc())?)
+}
+
+fn main(rt: HostRuntime) -> ExitCode {
+    let mut out = rt.stdout();
+    let mut err = rt.stderr();
+    let status = match words_of(&rt) {
+        Ok(words) => respond(
+            rt.alloc(),
+            &words,
+            &mut FilePlaces::new(&rt),
+            &mut out,
+            &mut err,
+        ),
+        Err(_) => {
+            tell(rt.alloc(), Failure::NoMemory, &mut err);
+            FAILED
+        }
+    };
+    ExitCode::from(status)
+}

@@ -1,0 +1,93 @@
+//! The words of a command line.
+
+use clap::{Arg, ArgMatches, Command, Error, value_parser};
+use std::alloc::{AllocError, Global};
+
+/// What a command line asks for.
+#[derive(Clone, Copy, Debug, PartialEq, Eq)]
+pub enum Request<'a> {
+    /// The conformance groups that occur in an image.
+    Groups {
+        input: &'a str,
+    },
+    /// The image of a text.
+    Asm {
+        input: &'a str,
+        output: &'a str,
+    },
+    /// The text of an image.
+    List {
+        input: &'a str,
+    },
+    /// A run of an image on a context, for at most so many instructions.
+    Run {
+        input: &'a str,
+        hex: &'a str,
+        steps: u32,
+    },
+}
+
+fn place<'a>(alloc: Global, id: &'a str, help: &'a str) -> Arg<'a> {
+    Arg::new(alloc, id).required(true).help(help)
+}
+
+fn command<'a>(alloc: Global) -> Result<Command<'a>, AllocError> {
+    let groups = Command::new(alloc, "groups")
+        .about("Prints the conformance groups of which an instruction occurs")
+        .arg(place(alloc, "IN", "an image"))?;
+    let asm = Command::new(alloc, "asm")
+        .about("Assembles a text to an image")
+        .arg(place(alloc, "IN", "a text of the assembly language"))?
+        .arg(place(alloc, "OUT", "where the image goes"))?;
+    let list = Command::new(alloc, "list")
+        .about("Prints the instructions of an image, one a line")
+        .arg(place(alloc, "IN", "an image"))?;
+    let run = Command::new(alloc, "run")
+        .about("Runs an image on a context, and prints how it ends")
+        .arg(place(alloc, "IN", "an image"))?
+        .arg(place(alloc, "HEX", "the context in hexadecimal, or `none`"))?
+        .arg(
+            Arg::new(alloc, "steps")
+                .long("steps")
+                .value_name("N")
+                .required(true)
+                .value_parser(value_parser!(u32))
+                .help("the most instructions that are done"),
+        )?;
+    Command::new(alloc, "bpf")
+        .version("0.1.0")
+        .about("Works on eBPF programs (RFC 9669, integer profile)")
+        .subcommand_required(true)
+        .subcommand(groups)?
+        .subcommand(asm)?
+        .subcommand(list)?
+        .subcommand(run)
+}
+
+/// The word of a required argument; the parse has made sure that it is there.
+fn word<'a>(matches: &ArgMatches<'a>, id: &str) -> &'a str {
+    matches.get_str(id).unwrap_or("")
+}
+
+/// What the words ask for, the command's own name first; else the text for the one who wrote them.
+pub fn request_of<'a>(alloc: Global, words: &'a [String]) -> Result<Request<'a>, Error> {
+    let matches = command(alloc)?.try_get_matches_from(words)?;
+    Ok(match matches.subcommand() {
+        Some(("asm", asm)) => Request::Asm {
+            input: word(asm, "IN"),
+            output: word(asm, "OUT"),
+        },
+        Some(("list", list)) => Request::List {
+            input: word(list, "IN"),
+        },
+        Some(("run", run)) => Request::Run {
+            input: word(run, "IN"),
+            hex: word(run, "HEX"),
+            steps: run.get_one::<u32>("steps").unwrap_or(0),
+        },
+        Some((_, groups)) => Request::Groups {
+            input: word(groups, "IN"),
+        },
+        None => Request::Groups { input: "" },
+    })
+}

@@ -1,0 +1,9 @@
+pub mod LineLaws
+pub mod LineAgain
+pub mod LineForms
+pub mod NumeralLaws
+pub mod LimitLemmas
+pub mod SpellingLemmas
+pub mod WritingLemmas
+pub mod Examples
+pub mod Values

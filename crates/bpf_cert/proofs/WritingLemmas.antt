@@ -1,0 +1,75 @@
+-- One write after another.
+use Rattle.std.proofs.Common.{◌≡◌, ℕ, ◌+◌, ◌<◌, List, [], ◌∷◌, ◌++◌, length, get_or, map, take, drop, Option, Result, Ok, Err, ◌≤◌, arith, length-append, length-take, refl, sym, ap, ◌∙◌, subst, append_assoc, append-nil}
+use Rattle.std.specs.Prelude.{flat_map, codes}
+use Rattle.std.specs.Io.KnownBytes.{Appends}
+use Rattle.std.proofs.KnownBytes.{Appends-nil, Appends-trans}
+use Rattle.std.proofs.lemmas.List.{at_drop_more, at_drop_all, length-map}
+use Rattle.std.proofs.lemmas.Grind.{flat_map-append}
+use Rattle.bpf_insn.specs.Written.{AppendsBeginning}
+use Rattle.bpf_state.specs.declared.state.SlotState.{SlotState}
+use Rattle.bpf_state.specs.State.{AbstractState, IsState, value_slot}
+use Rattle.bpf_cert.specs.Written.{Writes}
+use Rattle.bpf_cert.specs.View.{CertificateView}
+use Rattle.bpf_cert.specs.Line.{Line, Place}
+use Rattle.bpf_cert.specs.Spelling.{line_with_end, lines_text, lines_from, entry_lines, place_at, contents, function_lines, header_line, certificate_text}
+
+-- of the whole, the rest is still to be written
+pub record Left (old now : Option (List ℕ)) (whole rest : List ℕ) : Type 0 where
+  pub begun : List ℕ
+  pub is_whole : whole ≡ begun ++ rest
+  pub appends : Appends old now begun
+
+pub left_start : (a : Option (List ℕ)) (whole : List ℕ) → Left a a whole whole
+left_start a whole = record { begun = []; is_whole = refl; appends = Appends-nil a }
+
+pub left_step : {a b c : Option (List ℕ)} {whole rest : List ℕ} (t more : List ℕ) → rest ≡ t ++ more → Left a b whole rest → Appends b c t → Left a c whole more
+left_step {a} {b} {c} t more e l p = record { begun = l.begun ++ t; is_whole = l.is_whole ∙ ap (λ z. l.begun ++ z) e ∙ sym (append_assoc l.begun t more); appends = Appends-trans a b c l.begun t l.appends p }
+
+pub left_stop : {a b c : Option (List ℕ)} {whole rest : List ℕ} (t more : List ℕ) → rest ≡ t ++ more → Left a b whole rest → AppendsBeginning b c t → AppendsBeginning a c whole
+left_stop {a} {b} {c} t more e l p = record {
+  begun = l.begun ++ p.begun;
+  left = p.left ++ more;
+  is_whole = l.is_whole ∙ ap (λ z. l.begun ++ z) (e ∙ ap (λ z. z ++ more) p.is_whole ∙ append_assoc p.begun p.left more) ∙ sym (append_assoc l.begun p.begun (p.left ++ more));
+  appends = Appends-trans a b c l.begun p.begun l.appends p.appends;
+}
+
+pub left_done : {a b : Option (List ℕ)} {whole rest : List ℕ} → rest ≡ [] → Left a b whole rest → Appends a b whole
+left_done {a} {b} e l = subst (Appends a b) (sym (l.is_whole ∙ ap (λ z. l.begun ++ z) e ∙ append-nil l.begun)) l.appends
+
+-- the rest is written, or a beginning of it
+pub left_written : {E : Type 0} {a b : Option (List ℕ)} (c : Option (List ℕ)) {whole : List ℕ} (rest : List ℕ) (r : Result (Unit {0}) E) → Left a b whole rest → Writes b c rest r → Writes a c whole r
+left_written c rest (Ok u) l p = left_done refl (left_step rest [] (sym (append-nil rest)) l p)
+left_written c rest (Err e) l p = left_stop rest [] (sym (append-nil rest)) l p
+
+-- the lines of an element, and those of the elements behind it
+pub next_lines : {A B : Type 0} (lines : B → List Line) (view : A → B) (xs : List A) (i : ℕ) (x : A) → i < length xs → x ≡ get_or xs i x
+    → lines_text (flat_map lines (map view (drop i xs))) ≡ lines_text (lines (view x)) ++ lines_text (flat_map lines (map view (drop (i + 1) xs)))
+next_lines lines view xs i x inside e =
+    at_drop_more (λ ys. lines_text (flat_map lines (map view ys))) xs i x inside
+    ∙ ap (λ y. lines_text (lines (view y) ++ flat_map lines (map view (drop (i + 1) xs)))) (sym e)
+    ∙ flat_map-append line_with_end (lines (view x)) (flat_map lines (map view (drop (i + 1) xs)))
+
+-- the line of a place, and those of the places behind it
+pub next_entry : (cs : List SlotState) (j : ℕ) (place : Place) (value d : SlotState) → j < length cs → place ≡ place_at j → value ≡ get_or cs j d
+    → lines_text (lines_from j (drop j cs)) ≡ lines_text (entry_lines place value) ++ lines_text (lines_from (j + 1) (drop (j + 1) cs))
+next_entry cs j place value d inside at holds =
+    at_drop_more (λ ys. lines_text (lines_from j ys)) cs j d inside
+    ∙ ap (λ p. lines_text (entry_lines p (get_or cs j d) ++ lines_from (j + 1) (drop (j + 1) cs))) (sym at)
+    ∙ ap (λ v. lines_text (entry_lines place v ++ lines_from (j + 1) (drop (j + 1) cs))) (sym holds)
+    ∙ flat_map-append line_with_end (entry_lines place value) (lines_from (j + 1) (drop (j + 1) cs))
+
+pub no_entry : (cs : List SlotState) (j : ℕ) → length cs ≤ j → lines_text (lines_from j (drop j cs)) ≡ []
+no_entry cs j all = at_drop_all (λ ys. lines_text (lines_from j ys)) cs j all
+
+pub length-contents : (s : AbstractState) → IsState s → length (contents s) ≡ 74
+length-contents s h =
+    length-append (map value_slot (take 10 s.registers)) s.slots
+    ∙ ap (λ n. n + length s.slots) (length-map (take 10 s.registers) value_slot)
+    ∙ omega (arith, length-take 10 s.registers, h.register_count, h.slot_count)
+
+-- the lines of a certificate: its header, its functions, its end
+pub header_first : (len steps : ℕ) (c : CertificateView) (t : List ℕ) → t ≡ line_with_end (header_line len steps) → len ≡ c.len → steps ≡ c.steps
+    → certificate_text c ≡ t ++ (lines_text (flat_map function_lines c.functions) ++ (codes "end" ++ 10 ∷ []))
+header_first len steps c t e l s =
+    ap (λ z. line_with_end (header_line c.len c.steps) ++ z) (flat_map-append line_with_end (flat_map function_lines c.functions) (Line.end ∷ []))
+    ∙ ap (λ z. z ++ (lines_text (flat_map function_lines c.functions) ++ (codes "end" ++ 10 ∷ []))) (ap (λ n. line_with_end (header_line n c.steps)) (sym l) ∙ ap (λ n. line_with_end (header_line len n)) (sym s) ∙ sym e)

@@ -1,0 +1,262 @@
+-- Why a text is no certificate: the lowest line that is at fault, and there the first cause of
+--   syntax           the line has no form, or may not stand there
+--   not canonical    it says what another spelling or another order says
+--   limit            it goes past a limit
+-- A line of more than 256 bytes is past a limit, and nothing else is said of it.
+use Rattle.std.specs.Prelude.{ℕ, ◌+◌, ◌-◌, ◌^◌, Bool, true, false, not, ◌&&◌, List, [], ◌∷◌, length, count_by, ℤ, pos, neg_ℤ, int_le, Option, Some, None, Result, Ok, Err, nat_lt, nat_le, ◌==◌, bit_and, if◌then◌else◌}
+use Rattle.std.specs.List.{list_all, slice_split}
+use Rattle.bpf_cert.specs.Numeral.{number as value, is_plain, signed_number as int_value, is_plain_signed, is_from_to, int_eq}
+use Rattle.bpf_cert.specs.Line.{Part, Number, Content, Place, Measure, Term, Line}
+use Rattle.bpf_cert.specs.Reading.{line_in}
+use Rattle.bpf_cert.specs.declared.error.CertError.{CertError}
+use Rattle.bpf_cert.specs.declared.error.CertError.TheVariants as errors
+
+-- each comes before the next
+abbrev pub is_rising : {A : Type 0} → (A → A → Bool) → List A → Bool
+is_rising before [] = true
+is_rising before (x ∷ []) = true
+is_rising before (x ∷ y ∷ ys) = before x y && is_rising before (y ∷ ys)
+
+-- Canonical: no needless zero, no `-0`, no part that is top, no `any`, no `b0`, parts and places in order and none twice.
+
+abbrev pub part_rank : Part → ℕ
+part_rank (Part.unsigned lo hi) = 0
+part_rank (Part.signed lo hi) = 1
+part_rank (Part.bits v m) = 2
+
+abbrev pub part_before : Part → Part → Bool
+part_before p q = nat_lt (part_rank p) (part_rank q)
+
+abbrev pub is_top : Part → Bool
+is_top (Part.unsigned lo hi) = (value lo == 0) && (value hi == 2 ^ 64 - 1)
+is_top (Part.signed lo hi) = int_eq (int_value lo) (neg_ℤ (pos (2 ^ 63))) && int_eq (int_value hi) (pos (2 ^ 63 - 1))
+is_top (Part.bits v m) = (value v == 0) && (value m == 2 ^ 64 - 1)
+
+abbrev pub is_plain_part : Part → Bool
+is_plain_part (Part.unsigned lo hi) = is_plain lo && is_plain hi
+is_plain_part (Part.signed lo hi) = is_plain_signed lo && is_plain_signed hi
+is_plain_part (Part.bits v m) = is_plain v && is_plain m
+
+abbrev pub is_canonical_number : Number → Bool
+is_canonical_number Number.top = true
+is_canonical_number (Number.parts ps) = list_all is_plain_part ps && is_rising part_before ps && not_top ps
+  where
+    not_top : List Part → Bool
+    not_top qs = list_all (λ p. not (is_top p)) qs
+
+abbrev pub is_canonical_content : Content → Bool
+is_canonical_content (Content.number n) = is_canonical_number n
+is_canonical_content (Content.context lo hi) = is_plain_signed lo && is_plain_signed hi
+is_canonical_content (Content.frame lo hi) = is_plain_signed lo && is_plain_signed hi
+is_canonical_content (Content.bytes mask) = is_plain mask && not (value mask == 0)
+is_canonical_content Content.any = false
+
+-- registers come before slots
+abbrev pub place_before : Place → Place → Bool
+place_before (Place.register i) (Place.register j) = nat_lt (value i) (value j)
+place_before (Place.register i) (Place.slot k) = true
+place_before (Place.slot k) (Place.register i) = false
+place_before (Place.slot j) (Place.slot k) = nat_lt (value j) (value k)
+
+abbrev pub is_plain_place : Place → Bool
+is_plain_place (Place.register i) = is_plain i
+is_plain_place (Place.slot k) = is_plain k
+
+abbrev pub place_of : Term → Place
+place_of t = of_measure t.measure
+  where
+    of_measure : Measure → Place
+    of_measure (Measure.down p) = p
+    of_measure (Measure.up limit p) = p
+
+abbrev pub is_plain_measure : Measure → Bool
+is_plain_measure (Measure.down p) = is_plain_place p
+is_plain_measure (Measure.up limit p) = is_plain limit && is_plain_place p
+
+abbrev pub is_canonical : Line → Bool
+is_canonical (Line.header len steps) = is_plain len && is_plain steps
+is_canonical (Line.function first depth ret) = is_plain first && is_plain depth && is_canonical_number ret
+is_canonical (Line.label at base terms) = is_plain at && is_plain base
+    && list_all (λ t. is_plain t.weight && is_plain_measure t.measure) terms
+    && is_rising (λ t u. place_before (place_of t) (place_of u)) terms
+is_canonical (Line.entry p c) = is_plain_place p && is_canonical_content c
+is_canonical Line.end = true
+
+-- Limits of the numbers in a line
+
+abbrev pub is_range : ℕ → ℕ → Bool
+is_range lo hi = nat_le hi (2 ^ 64 - 1) && nat_le lo hi
+
+abbrev pub is_int_range : ℤ → ℤ → ℤ → ℤ → Bool
+is_int_range low high lo hi = int_le low lo && int_le hi high && int_le lo hi
+
+-- pointer bounds are -2^31 to 2^31
+abbrev pub is_pointer_range : ℤ → ℤ → Bool
+is_pointer_range lo hi = is_int_range (neg_ℤ (pos (2 ^ 31))) (pos (2 ^ 31)) lo hi
+
+-- value and mask share no bit
+abbrev pub is_bits : ℕ → ℕ → Bool
+is_bits v m = nat_lt v (2 ^ 64) && nat_lt m (2 ^ 64) && (bit_and v m == 0)
+
+abbrev pub is_limited_part : Part → Bool
+is_limited_part (Part.unsigned lo hi) = is_range (value lo) (value hi)
+is_limited_part (Part.signed lo hi) = is_int_range (neg_ℤ (pos (2 ^ 63))) (pos (2 ^ 63 - 1)) (int_value lo) (int_value hi)
+is_limited_part (Part.bits v m) = is_bits (value v) (value m)
+
+abbrev pub is_limited_number : Number → Bool
+is_limited_number Number.top = true
+is_limited_number (Number.parts ps) = list_all is_limited_part ps
+
+abbrev pub is_limited_content : Content → Bool
+is_limited_content (Content.number n) = is_limited_number n
+is_limited_content (Content.context lo hi) = is_pointer_range (int_value lo) (int_value hi)
+is_limited_content (Content.frame lo hi) = is_pointer_range (int_value lo) (int_value hi)
+is_limited_content (Content.bytes mask) = nat_le (value mask) 254
+is_limited_content Content.any = true
+
+abbrev pub is_limited_place : Place → Bool
+is_limited_place (Place.register i) = nat_le (value i) 9
+is_limited_place (Place.slot k) = is_from_to 1 64 (value k)
+
+abbrev pub is_limited_measure : Measure → Bool
+is_limited_measure (Measure.down p) = is_limited_place p
+is_limited_measure (Measure.up limit p) = nat_lt (value limit) (2 ^ 64) && is_limited_place p
+
+abbrev pub is_limited_term : Term → Bool
+is_limited_term t = is_from_to 1 (2 ^ 20) (value t.weight) && is_limited_measure t.measure
+
+abbrev pub is_limited : Line → Bool
+is_limited (Line.header len steps) = nat_le (value len) 4096 && is_from_to 1 (2 ^ 32 - 1) (value steps)
+is_limited (Line.function first depth ret) = nat_le (value first) 65535 && is_from_to 1 8 (value depth) && is_limited_number ret
+is_limited (Line.label at base terms) = nat_le (value at) 65535 && nat_le (value base) (2 ^ 40)
+    && nat_le (length terms) 4 && list_all is_limited_term terms
+is_limited (Line.entry p c) = is_limited_place p && is_limited_content c
+is_limited Line.end = true
+
+-- What a line's place among the others says. The lines before it come with the nearest first; none of them is at fault.
+
+-- The header is the first line and no other. A label stands in a function, an entry under a label.
+abbrev pub may_stand : List Line → Line → Bool
+may_stand [] (Line.header len steps) = true
+may_stand [] (Line.function first depth ret) = false
+may_stand [] (Line.label at base terms) = false
+may_stand [] (Line.entry p c) = false
+may_stand [] Line.end = false
+may_stand (l ∷ before) (Line.header len steps) = false
+may_stand (l ∷ before) (Line.function first depth ret) = true
+may_stand (l ∷ before) (Line.label at base terms) = not (is_header l)
+  where
+    is_header : Line → Bool
+    is_header (Line.header _ _) = true
+    is_header _ = false
+may_stand (l ∷ before) (Line.entry p c) = is_in_label l
+  where
+    is_in_label : Line → Bool
+    is_in_label (Line.label _ _ _) = true
+    is_in_label (Line.entry _ _) = true
+    is_in_label _ = false
+may_stand (l ∷ before) Line.end = true
+
+-- the first slot of the function that the lines end in
+abbrev pub last_first : List Line → Option ℕ
+last_first [] = None
+last_first ((Line.function first depth ret) ∷ before) = Some (value first)
+last_first (_ ∷ before) = last_first before
+
+-- the slot of the last label in that function
+abbrev pub last_slot : List Line → Option ℕ
+last_slot [] = None
+last_slot ((Line.label at base terms) ∷ before) = Some (value at)
+last_slot ((Line.function first depth ret) ∷ before) = None
+last_slot (_ ∷ before) = last_slot before
+
+-- the place of the last entry under the label that the lines end in
+abbrev pub last_place : List Line → Option Place
+last_place ((Line.entry p c) ∷ before) = Some p
+last_place _ = None
+
+-- y comes after x, where there is an x
+abbrev pub comes_after : {A : Type 0} → (A → A → Bool) → Option A → A → Bool
+comes_after before None y = true
+comes_after before (Some x) y = before x y
+
+-- firsts rise, slots rise within a function, and under a label registers rise, then slots
+abbrev pub is_in_order : List Line → Line → Bool
+is_in_order before (Line.header len steps) = true
+is_in_order before (Line.function first depth ret) = comes_after nat_lt (last_first before) (value first)
+is_in_order before (Line.label at base terms) = comes_after nat_lt (last_slot before) (value at)
+is_in_order before (Line.entry p c) = comes_after place_before (last_place before) p
+is_in_order before Line.end = true
+
+abbrev pub is_function : Line → Bool
+is_function (Line.function first depth ret) = true
+is_function _ = false
+
+abbrev pub is_label : Line → Bool
+is_label (Line.label at base terms) = true
+is_label _ = false
+
+-- the lines before end in a function that has no label yet
+abbrev pub ends_bare : List Line → Bool
+ends_bare [] = false
+ends_bare (l ∷ before) = is_function l
+
+-- at most 256 functions and 65,536 labels, a label in each function, and one function at least
+abbrev pub has_room : List Line → Line → Bool
+has_room before (Line.header len steps) = true
+has_room before (Line.function first depth ret) = nat_lt (count_by is_function before) 256 && not (ends_bare before)
+has_room before (Line.label at base terms) = nat_lt (count_by is_label before) 65536
+has_room before (Line.entry p c) = true
+has_room before Line.end = nat_lt 0 (count_by is_function before) && not (ends_bare before)
+
+-- The line n behind the lines before it: its form, or what is wrong with it.
+unfoldable pub judged : ℕ → List Line → List ℕ → Result Line CertError
+judged n before text = if nat_lt 256 (length text) then Err (errors.Limit n) else by_form (line_in text)
+  where
+    by_form : Option Line → Result Line CertError
+    by_form None = Err (errors.Syntax n)
+    by_form (Some l) =
+        if not (may_stand before l) then Err (errors.Syntax n)
+        else if not (is_canonical l && is_in_order before l) then Err (errors.NotCanonical n)
+        else if not (is_limited l && has_room before l) then Err (errors.Limit n)
+        else Ok l
+
+-- how a text stops: it is all there, the reader failed behind it, or more may come
+pub data Ending : Type 0 where
+  complete : Ending
+  failed : Ending
+  unknown : Ending
+
+-- `end` was the last line
+abbrev pub is_ended : List Line → Bool
+is_ended (Line.end ∷ before) = true
+is_ended _ = false
+
+-- the bytes behind the last line end, in line n
+unfoldable pub rest_fault : Ending → ℕ → List Line → List ℕ → Option CertError
+rest_fault e n before rest = if is_ended before then after_end e rest else if nat_lt 256 (length rest) then Some (errors.Limit n) else cut_line e
+  where
+    cut_line : Ending → Option CertError
+    cut_line complete = Some (errors.Syntax n)
+    cut_line failed = Some (errors.Read n)
+    cut_line unknown = None
+
+    after_end : Ending → List ℕ → Option CertError
+    after_end e (b ∷ bs) = Some (errors.Syntax n)
+    after_end complete [] = None
+    after_end failed [] = Some (errors.Read n)
+    after_end unknown [] = None
+
+-- The first fault from line n on: the pieces between the line ends are lines, but for the last, which no LF ends.
+unfoldable pub fault_from : Ending → ℕ → List Line → List (List ℕ) → Option CertError
+fault_from e n before [] = None
+fault_from e n before (rest ∷ []) = rest_fault e n before rest
+fault_from e n before (text ∷ next ∷ more) = if is_ended before then Some (errors.Syntax n) else go (judged n before text) (λ l. fault_from e (n + 1) (l ∷ before) (next ∷ more))
+  where
+    go : Result Line CertError → (Line → Option CertError) → Option CertError
+    go (Err f) k = Some f
+    go (Ok l) k = k l
+
+-- why the bytes that came are no certificate; `unknown`: why they are none however they go on
+unfoldable pub fault_of : Ending → List ℕ → Option CertError
+fault_of e text = fault_from e 1 [] (slice_split (λ c. c == 10) text)

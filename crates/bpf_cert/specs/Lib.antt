@@ -1,0 +1,11 @@
+pub mod Numeral
+pub mod Line
+pub mod Reading
+pub mod Faults
+pub mod View
+pub mod Spelling
+pub mod Limits
+pub mod Certificates
+pub mod RefusalNumbers
+pub mod SpellingParts
+pub mod Written

@@ -1,0 +1,17 @@
+-- Beginnings and ends of lists in a line.
+use Rattle.std.specs.Prelude.{ℕ, Bool, true, false, List, [], ◌∷◌, flat_map}
+use Rattle.bpf_cert.specs.Line.{Part, part_text, term_text}
+use Rattle.bpf_cert.specs.Spelling.{term_of}
+use Rattle.bpf_cert.specs.declared.certificate.Term.{Term}
+
+abbrev pub is_cons : {A : Type 0} → List A → Bool
+is_cons [] = false
+is_cons (x ∷ xs) = true
+
+-- parts with a comma before each
+abbrev pub parts_tail : List Part → List ℕ
+parts_tail ps = flat_map (λ p. 44 ∷ part_text p) ps
+
+-- terms with a space before each
+abbrev pub terms_tail : List Term → List ℕ
+terms_tail ts = flat_map (λ t. 32 ∷ term_text (term_of t)) ts

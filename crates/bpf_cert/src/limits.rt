@@ -1,0 +1,361 @@
+//! The order of a certificate's parts, and their limits.
+
+ghost use Rattle.std.specs.Prelude.{◌≡◌, ◌≤◌, ◌+◌, map, sum_by, is_none, nat_le, true};
+ghost use Rattle.std.specs.List.{list_all};
+ghost use Rattle.bpf_cert.specs.Faults.{is_rising, is_pointer_range};
+ghost use Rattle.bpf_cert.specs.View.{function_view, label_view, certificate_view};
+ghost use Rattle.bpf_cert.specs.Limits as limits;
+ghost use Rattle.bpf_cert.specs.Limits.{label_count};
+ghost use Rattle.bpf_insn.specs.Instruction.{register_number};
+
+use crate::certificate::{Function, Label, Measure, Term};
+use bpf_insn::Reg;
+use bpf_num::Num;
+use bpf_state::{Place, Pointer, RegState, SlotState, State};
+
+/// The register with a number from 0 to 10.
+pub fn numbered(number: u8) -> Reg
+    requires { number ≤ 10 }
+    ensures { register_number result ≡ number }
+{
+    match number {
+        0 => Reg::R0,
+        1 => Reg::R1,
+        2 => Reg::R2,
+        3 => Reg::R3,
+        4 => Reg::R4,
+        5 => Reg::R5,
+        6 => Reg::R6,
+        7 => Reg::R7,
+        8 => Reg::R8,
+        9 => Reg::R9,
+        _ => Reg::R10,
+    }
+}
+
+// ---- order
+
+fn place_before(p: Place, q: Place) -> bool
+    ensures { result ≡ limits.place_before p q }
+{
+    match (p, q) {
+        (Place::Register(r), Place::Register(s)) => (r as u8) < s as u8,
+        (Place::Register(_), Place::Slot(_)) => true,
+        (Place::Slot(_), Place::Register(_)) => false,
+        (Place::Slot(j), Place::Slot(k)) => j < k,
+    }
+}
+
+fn place_in(measure: Measure) -> Place
+    ensures { result ≡ limits.place_in measure }
+{
+    match measure {
+        Measure::Down(place) => place,
+        Measure::Up(place, _) => place,
+    }
+}
+
+#[tactic(auto, using(crate::proofs::LimitLemmas::rising_short))]
+fn places_rise(terms: &[Term]) -> bool
+    ensures { result ≡ is_rising limits.term_before terms.now }
+{
+    let mut rest = terms;
+    'terms: while rest.len() > 1 {
+        if !place_before(place_in(rest[0].measure), place_in(rest[1].measure)) {
+            return false;
+        }
+        rest = &rest[1..];
+    }
+    true
+}
+
+#[tactic(auto, using(crate::proofs::LimitLemmas::rising_short))]
+fn slots_rise(labels: &[Label]) -> bool
+    ensures { result ≡ is_rising limits.slot_before (map label_view labels.now) }
+{
+    let mut rest = labels;
+    'labels: while rest.len() > 1 {
+        if rest[0].slot >= rest[1].slot {
+            return false;
+        }
+        rest = &rest[1..];
+    }
+    true
+}
+
+#[tactic(auto, using(crate::proofs::LimitLemmas::rising_short))]
+fn firsts_rise(functions: &[Function]) -> bool
+    ensures { result ≡ is_rising limits.first_before (map function_view functions.now) }
+{
+    let mut rest = functions;
+    'functions: while rest.len() > 1 {
+        if rest[0].first >= rest[1].first {
+            return false;
+        }
+        rest = &rest[1..];
+    }
+    true
+}
+
+// r10 points to the end of the function's own frame.
+fn is_frame_end(value: RegState) -> bool
+    ensures { result ≡ limits.is_frame_end value }
+{
+    match value {
+        RegState::Frame { lo, hi } => lo == 0 && hi == 0,
+        RegState::Any => false,
+        RegState::Num(_) => false,
+        RegState::Ctx { .. } => false,
+    }
+}
+
+fn has_no_register_tag(state: &State) -> bool
+    ensures { result ≡ list_all is_none state.now.register_tags }
+{
+    state.valid();
+    for i in 0..11u8 {
+        if state.tag(Place::Register(numbered(i))).is_some() {
+            return false;
+        }
+    }
+    true
+}
+
+fn has_no_slot_tag(state: &State) -> bool
+    ensures { result ≡ list_all is_none state.now.slot_tags }
+{
+    state.valid();
+    for k in 1..65u8 {
+        if state.tag(Place::Slot(k)).is_some() {
+            return false;
+        }
+    }
+    true
+}
+
+fn is_canonical_state(state: &State) -> bool
+    ensures { result ≡ limits.is_canonical_state state.now }
+{
+    is_frame_end(state.reg(Reg::R10)) && has_no_register_tag(state) && has_no_slot_tag(state)
+}
+
+fn is_canonical_label(label: &Label) -> bool
+    ensures { result ≡ limits.is_canonical_label (label_view label.now) }
+{
+    is_canonical_state(&label.state) && places_rise(label.budget.terms.as_slice())
+}
+
+#[tactic(auto, using(crate::proofs::LimitLemmas::all_of))]
+fn are_canonical_labels(labels: &[Label]) -> bool
+    ensures { result ≡ list_all limits.is_canonical_label (map label_view labels.now) }
+{
+    for label in labels {
+        if !is_canonical_label(label) {
+            return false;
+        }
+    }
+    true
+}
+
+fn is_canonical_function(function: &Function) -> bool
+    ensures { result ≡ limits.is_canonical_function (function_view function.now) }
+{
+    slots_rise(&function.labels) && are_canonical_labels(&function.labels)
+}
+
+#[tactic(auto, using(crate::proofs::LimitLemmas::all_of))]
+fn are_canonical_functions(functions: &[Function]) -> bool
+    ensures { result ≡ list_all limits.is_canonical_function (map function_view functions.now) }
+{
+    for function in functions {
+        if !is_canonical_function(function) {
+            return false;
+        }
+    }
+    true
+}
+
+/// Whether parts are in order, and labels' states have what a text has words for.
+pub fn is_canonical(functions: &[Function]) -> bool
+    ensures { result ≡ limits.are_canonical (map function_view functions.now) }
+{
+    firsts_rise(functions) && are_canonical_functions(functions)
+}
+
+// ---- limits
+
+// The parts of a number keep their limits by themselves.
+fn is_limited_num(n: Num) -> bool
+    ensures value { result ≡ limits.is_limited_num n }
+    ensures all { result ≡ true }
+{
+    n.valid();
+    true
+}
+
+fn is_pointer_range(lo: i64, hi: i64) -> bool
+    ensures { result ≡ is_pointer_range lo hi }
+{
+    -0x8000_0000 <= lo && hi <= 0x8000_0000 && lo <= hi
+}
+
+fn is_limited_register(value: RegState) -> bool
+    ensures { result ≡ limits.is_limited_register value }
+{
+    match value {
+        RegState::Any => true,
+        RegState::Num(n) => is_limited_num(n),
+        RegState::Ctx { lo, hi } => is_pointer_range(lo, hi),
+        RegState::Frame { lo, hi } => is_pointer_range(lo, hi),
+    }
+}
+
+fn is_limited_pointer(pointer: Pointer) -> bool
+    ensures { result ≡ limits.is_limited_pointer pointer }
+{
+    match pointer {
+        Pointer::Ctx { lo, hi } => is_pointer_range(lo, hi),
+        Pointer::Frame { lo, hi } => is_pointer_range(lo, hi),
+    }
+}
+
+fn is_limited_slot(value: SlotState) -> bool
+    ensures { result ≡ limits.is_limited_slot value }
+{
+    match value {
+        SlotState::Bytes(mask) => mask <= 254,
+        SlotState::Word(n) => is_limited_num(n),
+        SlotState::Ptr(pointer) => is_limited_pointer(pointer),
+    }
+}
+
+fn has_limited_registers(state: &State) -> bool
+    ensures { result ≡ list_all limits.is_limited_register state.now.registers }
+{
+    state.valid();
+    for i in 0..11u8 {
+        if !is_limited_register(state.reg(numbered(i))) {
+            return false;
+        }
+    }
+    true
+}
+
+fn has_limited_slots(state: &State) -> bool
+    ensures { result ≡ list_all limits.is_limited_slot state.now.slots }
+{
+    state.valid();
+    for k in 1..65u8 {
+        if !is_limited_slot(state.slot(k)) {
+            return false;
+        }
+    }
+    true
+}
+
+fn is_limited_state(state: &State) -> bool
+    ensures { result ≡ limits.is_limited_state state.now }
+{
+    state.valid();
+    has_limited_registers(state) && has_limited_slots(state)
+}
+
+fn is_limited_place(place: Place) -> bool
+    ensures { result ≡ limits.is_limited_place place }
+{
+    match place {
+        Place::Register(r) => r as u8 <= 9,
+        Place::Slot(k) => 1 <= k && k <= 64,
+    }
+}
+
+fn is_limited_term(term: &Term) -> bool
+    ensures { result ≡ limits.is_limited_term term.now }
+{
+    let is_limited_measure = match term.measure {
+        Measure::Down(place) => is_limited_place(place),
+        Measure::Up(place, _limit) => is_limited_place(place),
+    };
+    1 <= term.weight && term.weight <= 1 << 20 && is_limited_measure
+}
+
+fn are_limited_terms(terms: &[Term]) -> bool
+    ensures { result ≡ list_all limits.is_limited_term terms.now }
+{
+    for term in terms {
+        if !is_limited_term(term) {
+            return false;
+        }
+    }
+    true
+}
+
+fn is_limited_label(label: &Label) -> bool
+    ensures { result ≡ limits.is_limited_label (label_view label.now) }
+{
+    label.slot <= 65_535
+        && is_limited_state(&label.state)
+        && label.budget.base <= 1 << 40
+        && are_limited_terms(label.budget.terms.as_slice())
+}
+
+#[tactic(auto, using(crate::proofs::LimitLemmas::all_of))]
+fn are_limited_labels(labels: &[Label]) -> bool
+    ensures { result ≡ list_all limits.is_limited_label (map label_view labels.now) }
+{
+    for label in labels {
+        if !is_limited_label(label) {
+            return false;
+        }
+    }
+    true
+}
+
+fn is_limited_function(function: &Function) -> bool
+    ensures { result ≡ limits.is_limited_function (function_view function.now) }
+{
+    function.first <= 65_535
+        && 1 <= function.depth
+        && function.depth <= 8
+        && is_limited_num(function.ret)
+        && !function.labels.is_empty()
+        && are_limited_labels(&function.labels)
+}
+
+#[tactic(auto, using(crate::proofs::LimitLemmas::all_of))]
+fn are_limited_functions(functions: &[Function]) -> bool
+    ensures { result ≡ list_all limits.is_limited_function (map function_view functions.now) }
+{
+    for function in functions {
+        if !is_limited_function(function) {
+            return false;
+        }
+    }
+    true
+}
+
+// At most 65,536 labels in all functions.
+fn has_few_labels(functions: &[Function]) -> bool
+    ensures { result ≡ nat_le (sum_by label_count (map function_view functions.now)) 65536 }
+{
+    let mut room = 65_536;
+    for function in functions {
+        if function.labels.len() > room {
+            return false;
+        }
+        room -= function.labels.len();
+    }
+    true
+}
+
+/// Whether all numbers and counts are within their limits.
+pub fn is_limited(len: u32, steps: u32, functions: &[Function]) -> bool
+    ensures { result ≡ limits.is_limited (certificate_view len steps functions.now) }
+{
+    len <= 4096
+        && 1 <= steps
+        && 1 <= functions.len()
+        && functions.len() <= 256
+        && has_few_labels(functions)
+        && are_limited_functions(functions)
+}

@@ -1,0 +1,162 @@
+//! Worked certificates and their texts.
+
+use crate::{Budget, CertError, Certificate, Function, Label, Measure, Place, Term, write};
+use arrayvec::ArrayVec;
+use bpf_insn::Reg;
+use bpf_num::{Num, Unsigned};
+use bpf_state::{Pointer, RegState, SlotState, State, Tag};
+use std::alloc::{AllocError, Global};
+use std::io::{self, ErrorKind, Write};
+use std::test::Fail;
+
+fn label(slot: u32, state: State, base: u64) -> Label {
+    Label {
+        slot,
+        state,
+        budget: Budget {
+            base,
+            terms: ArrayVec::new(),
+        },
+    }
+}
+
+fn one_function(alloc: Global, labels: Vec<Label>) -> Result<Vec<Function>, AllocError> {
+    let mut functions = Vec::new(alloc);
+    functions.push(Function {
+        first: 0,
+        depth: 1,
+        ret: Num::top(),
+        labels,
+    })?;
+    Ok(functions)
+}
+
+// r0 = 0, exit
+fn smallest(alloc: Global, steps: u32, state: State) -> Result<Vec<Function>, AllocError> {
+    let mut labels = Vec::new(alloc);
+    labels.push(label(0, state, steps as u64))?;
+    one_function(alloc, labels)
+}
+
+// r6 = 10, and r6 falls to 0 in a loop from slot 1 on
+fn countdown(alloc: Global) -> Result<Vec<Function>, AllocError> {
+    let mut state = State::blank();
+    let r6 = Num::of(Num::top().bits(), Unsigned::new(1, 10), Num::top().signed());
+    state.set_reg(Reg::R6, RegState::Num(r6));
+    let mut terms = ArrayVec::new();
+    terms.push(Term {
+        weight: 2,
+        measure: Measure::Down(Place::Register(Reg::R6)),
+    });
+    let mut labels = Vec::new(alloc);
+    labels.push(label(0, State::blank(), 23))?;
+    labels.push(Label {
+        slot: 1,
+        state,
+        budget: Budget { base: 2, terms },
+    })?;
+    one_function(alloc, labels)
+}
+
+// a writer that takes three bytes at a time, and fails after some writes
+#[derive(Drop)]
+struct Failing {
+    taken: Vec<u8>,
+    writes: usize,
+}
+
+impl Write for Failing {
+    fn write(&mut self, bytes: &[u8]) -> io::Result<usize> {
+        if self.writes == 0 {
+            return Err(io::Error::from(ErrorKind::Other));
+        }
+        self.writes -= 1;
+        let count = bytes.len().min(3);
+        self.taken.extend_from_slice(&bytes[..count])?;
+        Ok(count)
+    }
+
+    fn flush(&mut self) -> io::Result<()> {
+        Ok(())
+    }
+}
+
+#[test]
+fn worked_texts(rt: HostRuntime) -> Result<(), Fail> {
+    let certificate = Certificate::new(0, 2, smallest(rt.alloc(), 2, State::blank())?)?;
+    let mut text = Vec::new(rt.alloc());
+    write(&certificate, &mut text)?;
+    assert_eq!(rt;
+        text.as_slice(),
+        b"bpfcert 1 0 2\nfn 0 1 *\nat 0 2\nend\n".as_slice()
+    );
+    let certificate = Certificate::new(0, 23, countdown(rt.alloc())?)?;
+    let mut text = Vec::new(rt.alloc());
+    write(&certificate, &mut text)?;
+    let expected = b"bpfcert 1 0 23\nfn 0 1 *\nat 0 23\nat 1 2 +2*r6\nr6 u1..10\nend\n";
+    assert_eq!(rt; text.as_slice(), expected.as_slice());
+    Ok(())
+}
+
+#[test]
+fn places_and_pointers(rt: HostRuntime) -> Result<(), Fail> {
+    let mut state = State::blank();
+    state.set_reg(Reg::R1, RegState::Ctx { lo: 0, hi: 12 });
+    state.set_reg(Reg::R9, RegState::Frame { lo: -512, hi: 0 });
+    state.set_slot(1, SlotState::Bytes(254));
+    state.set_slot(2, SlotState::Word(Num::constant(5)));
+    state.set_slot(64, SlotState::Ptr(Pointer::Frame { lo: -8, hi: -8 }));
+    let certificate = Certificate::new(4096, 9, smallest(rt.alloc(), 9, state)?)?;
+    let mut text = Vec::new(rt.alloc());
+    write(&certificate, &mut text)?;
+    let expected =
+        b"bpfcert 1 4096 9\nfn 0 1 *\nat 0 9\nr1 ctx0..12\nr9 fp-512..0\ns1 b254\ns2 u5..5,s5..5,k5/0\ns64 fp-8..-8\nend\n";
+    assert_eq!(rt; text.as_slice(), expected.as_slice());
+    Ok(())
+}
+
+#[test]
+fn refused_parts(rt: HostRuntime) -> Result<(), Fail> {
+    let mut tagged = State::blank();
+    tagged.set_tag(Place::Slot(64), Some(Tag { term: 0, offset: 0 }));
+    let mut far = State::blank();
+    far.set_reg(
+        Reg::R1,
+        RegState::Ctx {
+            lo: 0,
+            hi: 0x8000_0001,
+        },
+    );
+    for (len, steps, state, number) in [
+        (4097, 2, State::blank(), 3),
+        (0, 0, State::blank(), 3),
+        (0, 2, far, 3),
+        (4097, 0, tagged, 2),
+    ] {
+        let functions = smallest(rt.alloc(), 2, state)?;
+        match Certificate::new(len, steps, functions) {
+            Ok(_) => assert!(rt; false, "length {len}, steps {steps}"),
+            Err(error) => assert_eq!(rt; (error.number(), error.line()), (number, 0)),
+        }
+    }
+    Ok(())
+}
+
+#[test]
+fn failing_writer(rt: HostRuntime) -> Result<(), Fail> {
+    let text = b"bpfcert 1 0 2\nfn 0 1 *\nat 0 2\nend\n";
+    let certificate = Certificate::new(0, 2, smallest(rt.alloc(), 2, State::blank())?)?;
+    for writes in 0..14usize {
+        let mut out = Failing {
+            taken: Vec::new(rt.alloc()),
+            writes,
+        };
+        let answer = write(&certificate, &mut out);
+        assert_eq!(rt; answer.is_ok(), writes >= 13, "after {writes} writes");
+        assert!(rt;
+            text.starts_with(out.taken.as_slice()),
+            "after {writes} writes"
+        );
+    }
+    Ok(())
+}

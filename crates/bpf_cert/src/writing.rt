@@ -1,0 +1,131 @@
+//! Writing a certificate.
+
+ghost use Rattle.std.specs.Prelude.{◌≡◌, ◌≤◌, ◌<◌, map, flat_map, get_or};
+ghost use Rattle.bpf_cert.specs.Written.{Writes};
+ghost use Rattle.bpf_cert.specs.View.{function_view, label_view};
+ghost use Rattle.bpf_state.specs.State.{value_slot};
+ghost use Rattle.bpf_state.specs.declared.state.SlotState.TheVariants.{Bytes};
+ghost use Rattle.bpf_cert.specs.Spelling.{place_of, place_at, contents, entry_lines, lines_from, lines_text, label_lines, function_lines, certificate_text};
+
+use crate::certificate::{Certificate, Function, Label};
+use crate::limits::numbered;
+use crate::spelling::{entry_text, function_text, header_text, label_text};
+use bpf_state::{Place, Pointer, RegState, SlotState, State};
+use std::io::{self, ErrorKind, Write};
+
+// All the bytes. A fault, or a write of no bytes, ends it; none is tried again.
+fn write_bytes<W: Write>(out: &mut W, bytes: &[u8]) -> io::Result<()>
+    ensures { Writes (W.contents out.old) (W.contents out.new) bytes.now result }
+{
+    let mut rest = bytes;
+    'writes: while !rest.is_empty() {
+        let count = match out.write(rest) {
+            Ok(count) => count,
+            Err(error) => return Err(error),
+        };
+        if count == 0 {
+            return Err(io::Error::from(ErrorKind::WriteZero));
+        }
+        rest = &rest[count..];
+    }
+    Ok(())
+}
+
+/// What a slot would hold that holds what a register does.
+pub fn value_slot(value: RegState) -> SlotState
+    ensures { result ≡ value_slot value }
+{
+    match value {
+        RegState::Any => SlotState::Bytes(0),
+        RegState::Num(n) => SlotState::Word(n),
+        RegState::Ctx { lo, hi } => SlotState::Ptr(Pointer::Ctx { lo, hi }),
+        RegState::Frame { lo, hi } => SlotState::Ptr(Pointer::Frame { lo, hi }),
+    }
+}
+
+// r0 to r9, then s1 to s64.
+fn place_at(j: u8) -> Place
+    requires { j < 74 }
+    ensures { place_of result ≡ place_at j }
+{
+    if j < 10 {
+        Place::Register(numbered(j))
+    } else {
+        Place::Slot(j - 9)
+    }
+}
+
+// What it holds, of a register as of a slot.
+fn content_at(state: &State, j: u8) -> SlotState
+    requires { j < 74 }
+    ensures { result ≡ get_or (contents state.now) j (Bytes 0) }
+{
+    state.valid();
+    if j < 10 {
+        value_slot(state.reg(numbered(j)))
+    } else {
+        state.slot(j - 9)
+    }
+}
+
+fn write_entry<W: Write>(out: &mut W, place: Place, value: SlotState) -> io::Result<()>
+    ensures { Writes (W.contents out.old) (W.contents out.new) (lines_text (entry_lines (place_of place) value)) result }
+{
+    match value {
+        SlotState::Bytes(0) => Ok(()),
+        _ => write_bytes(out, entry_text(place, value).as_slice()),
+    }
+}
+
+fn write_entries<W: Write>(out: &mut W, state: &State) -> io::Result<()>
+    ensures { Writes (W.contents out.old) (W.contents out.new) (lines_text (lines_from 0 (contents state.now))) result }
+{
+    state.valid();
+    for j in 0..74u8 {
+        write_entry(out, place_at(j), content_at(state, j))?;
+    }
+    Ok(())
+}
+
+fn write_label<W: Write>(out: &mut W, label: &Label) -> io::Result<()>
+    ensures { Writes (W.contents out.old) (W.contents out.new) (lines_text (label_lines (label_view label.now))) result }
+{
+    write_bytes(out, label_text(label).as_slice())?;
+    write_entries(out, &label.state)
+}
+
+fn write_labels<W: Write>(out: &mut W, labels: &[Label]) -> io::Result<()>
+    ensures { Writes (W.contents out.old) (W.contents out.new) (lines_text (flat_map label_lines (map label_view labels.now))) result }
+{
+    for label in labels {
+        write_label(out, label)?;
+    }
+    Ok(())
+}
+
+fn write_function<W: Write>(out: &mut W, function: &Function) -> io::Result<()>
+    ensures { Writes (W.contents out.old) (W.contents out.new) (lines_text (function_lines (function_view function.now))) result }
+{
+    write_bytes(out, function_text(function).as_slice())?;
+    write_labels(out, &function.labels)
+}
+
+fn write_functions<W: Write>(out: &mut W, functions: &[Function]) -> io::Result<()>
+    ensures { Writes (W.contents out.old) (W.contents out.new) (lines_text (flat_map function_lines (map function_view functions.now))) result }
+{
+    for function in functions {
+        write_function(out, function)?;
+    }
+    Ok(())
+}
+
+/// Writes the certificate's text. A fault of the writer, or a write of no bytes, ends it and isn't tried again: what
+/// went out is then a beginning of the text.
+pub fn write<W: Write>(certificate: &Certificate, out: &mut W) -> io::Result<()>
+    ensures { Writes (W.contents out.old) (W.contents out.new) (certificate_text certificate.now) result }
+{
+    let header = header_text(certificate.len(), certificate.steps());
+    write_bytes(out, header.as_slice())?;
+    write_functions(out, certificate.functions())?;
+    write_bytes(out, b"end\n")
+}

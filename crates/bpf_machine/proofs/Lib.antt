@@ -1,0 +1,4 @@
+pub mod StackLemmas
+pub mod FrameLemmas
+pub mod StepLemmas
+pub mod RunLemmas

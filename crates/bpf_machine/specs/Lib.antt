@@ -1,0 +1,6 @@
+pub mod PackedStack
+pub mod Running
+pub mod Frames
+pub mod Places
+pub mod Answers
+pub mod Stored

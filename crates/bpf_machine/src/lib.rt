@@ -1,0 +1,15 @@
+//! The machine of the BPF instruction set (RFC 9669, sections 4 and 5): programs run without memory of their own.
+#![tactic(auto)]
+
+mod bytes;
+mod machine;
+mod outcome;
+mod runs;
+mod stack;
+mod step;
+#[cfg(test)]
+mod tests;
+
+pub use machine::Machine;
+pub use outcome::{Outcome, Step};
+pub use runs::run;

@@ -1,0 +1,354 @@
+//! The machine: a program, the context that it runs on, and its frames.
+
+ghost use Rattle.std.specs.Prelude.{◌≡◌, ◌<◌, ◌≤◌, ◌+◌, ◌%◌, ◌^◌, [], IsTrue, false, nat_le, pos, ◌+ℤ◌, IfSome, IfOk, IfErr, length, option_map, Some};
+ghost use Rattle.bpf_insn.specs.Order.{bytes_of};
+ghost use Rattle.bpf_insn.specs.Instruction.{register_number, byte_count, insn_at, distance};
+ghost use Rattle.bpf_insn.specs.State.{frame_bytes, max_frames, depth, start, register, with_register, at_slot, number_of_register};
+ghost use Rattle.bpf_insn.specs.Memory.{inside, place_of, number_at, pointer_at, stack_of, with_stack, with_bytes, with_parts};
+ghost use Rattle.bpf_insn.specs.Step.{operand, entered, left};
+ghost use Rattle.bpf_insn.specs.Stuck.{unreadable_at};
+ghost use Rattle.bpf_machine.specs.Places.{place_is, IsInside};
+ghost use Rattle.bpf_machine.specs.Answers.{Leads};
+ghost use Rattle.bpf_machine.specs.Running.{running, moved_to};
+
+use crate::bytes::{count_of, number_in};
+use crate::stack::Stacks;
+use crate::step::alu::extend;
+use arrayvec::ArrayVec;
+use bpf_insn::{Code, Insn, Operand, Order, Reason, Reg, Region, Size, Value};
+use std::marker::Model;
+
+/// A place in the context, or in the stack at a depth: the index of its first byte.
+#[derive(Clone, Copy)]
+pub(crate) enum Place {
+    Context(usize),
+    Frame(usize, usize),
+}
+
+/// The index of the first of some bytes, if they lie inside.
+fn inside_of(count: usize, len: usize, first: i128) -> Option<usize>
+    requires few { count ≤ 8 }
+    requires short { len ≤ 4096 }
+    ensures { result ≡ inside count len first }
+{
+    if first < 0 || first > len as i128 {
+        return None;
+    }
+    let index = first as usize;
+    if index + count <= len {
+        Some(index)
+    } else {
+        None
+    }
+}
+
+/// The index of the first of some bytes at an offset from the start of the context, if they lie inside.
+fn in_context(count: usize, len: usize, at: i64, off: i16) -> Option<usize>
+    requires few { count ≤ 8 }
+    requires short { len ≤ 4096 }
+    ensures { result ≡ inside count len (at +ℤ off) }
+{
+    inside_of(count, len, sum_of(at, off))
+}
+
+/// The sum of two offsets.
+pub(crate) fn sum_of(at: i64, off: i16) -> i128
+    ensures { result ≡ at +ℤ off }
+{
+    at as i128 + off as i128
+}
+
+/// The address of the first of some bytes at an offset from the end of a stack, if they lie inside.
+fn in_frame(count: usize, at: i64, off: i16) -> Option<usize>
+    requires { count ≤ 8 }
+    ensures { result ≡ inside count frame_bytes ((at +ℤ off) +ℤ pos frame_bytes) }
+{
+    inside_of(count, 512, sum_of(at, off) + 512)
+}
+
+/// What a call keeps for its return: the slot after it, and r6 to r10.
+#[derive(Clone, Copy)]
+pub(crate) struct Caller {
+    slot: u32,
+    r6: Option<Value>,
+    r7: Option<Value>,
+    r8: Option<Value>,
+    r9: Option<Value>,
+    r10: Option<Value>,
+}
+
+impl Default for Caller {
+    fn default() -> Self {
+        Caller {
+            slot: 0,
+            r6: None,
+            r7: None,
+            r8: None,
+            r9: None,
+            r10: None,
+        }
+    }
+}
+
+/// A machine that runs a program on a context.
+#[derive(Drop)]
+pub struct Machine<'a, C: Code> {
+    code: &'a C,
+    context: &'a [u8],
+    slot: u32,
+    registers: [Option<Value>; 11],
+    callers: ArrayVec<Caller, 7>,
+    stacks: Stacks,
+}
+
+impl<'a, C: Code> Model for Machine<'a, C> {
+    ghost use Rattle.bpf_machine.specs.Running.{Running};
+
+    ghost Value = { Running };
+
+    ghost use Rattle.bpf_machine.specs.Frames.{state_of, IsMachine};
+
+    ghost view = { λ m. record { program = C.program m.code.now; state = state_of m.slot m.registers m.callers.items m.stacks m.context.now } };
+
+    ghost invariant = { λ m. IsMachine (C.program m.code.now) m.registers m.callers.items m.stacks m.context.now };
+}
+
+#[tactic(auto, unfolding(crate::specs::Frames::state_of))]
+impl<'a, C: Code> Machine<'a, C> {
+    /// The machine at the start of a run: r1 is the context, r2 its length, r10 the end of the outermost frame. The
+    /// context has at most 4,096 bytes.
+    pub fn start(code: &'a C, context: &'a [u8]) -> Self
+        requires { length context.now ≤ 4096 }
+        ensures { result ≡ running (C.program code.now) (start context.now) }
+    {
+        let _ = code.slots();
+        let mut registers = [None; 11];
+        registers[1] = Some(Value::Pointer(Region::Context, 0));
+        registers[2] = Some(Value::Number(context.len() as u64));
+        registers[10] = Some(Value::Pointer(Region::Frame(0), 0));
+        Machine {
+            code,
+            context,
+            slot: 0,
+            registers,
+            callers: ArrayVec::new(),
+            stacks: Stacks::new(),
+        }
+    }
+
+    /// The slot of the next instruction.
+    pub(crate) fn slot(&self) -> u32
+        ensures { result ≡ self.now.state.top.slot }
+    {
+        self.slot
+    }
+
+    /// The value of a register; None where it holds nothing.
+    pub(crate) fn register(&self, r: Reg) -> Option<Value>
+        ensures { result ≡ register self.now.state r }
+    {
+        self.registers[r as usize]
+    }
+
+    /// The number in a register; None where it holds nothing or a pointer.
+    pub(crate) fn number_of(&self, r: Reg) -> Option<u64>
+        ensures { result ≡ number_of_register self.now.state r }
+    {
+        match self.register(r) {
+            Some(Value::Number(number)) => Some(number),
+            Some(Value::Pointer(_, _)) => None,
+            None => None,
+        }
+    }
+
+    /// The second operand: a constant, sign-extended, or a register's value.
+    pub(crate) fn operand(&self, src: Operand) -> Option<Value>
+        ensures { result ≡ operand self.now.state src }
+    {
+        match src {
+            Operand::Imm(imm) => Some(Value::Number(extend(imm))),
+            Operand::Reg(r) => self.register(r),
+        }
+    }
+
+    /// Writes a register.
+    pub(crate) fn set_register(&mut self, r: Reg, value: Value)
+        ensures { self.new ≡ moved_to self.old (with_register self.old.state (register_number r) (Some value)) }
+    {
+        self.registers[r as usize] = Some(value);
+    }
+
+    /// Goes to another slot.
+    pub(crate) fn go_to(&mut self, slot: u32)
+        ensures { self.new ≡ moved_to self.old (at_slot slot self.old.state) }
+    {
+        self.slot = slot;
+    }
+
+    /// The byte order of the program.
+    pub(crate) fn order(&self) -> Order
+        ensures { result ≡ self.now.program.order }
+    {
+        self.code.order()
+    }
+
+    /// The instruction at the slot; None past the last one.
+    pub(crate) fn insn(&self) -> Option<Insn>
+        ensures insn { result ≡ insn_at self.now.program.list self.now.state.top.slot }
+        ensures here { IfSome result (λ i. self.now.state.top.slot < 65536) }
+        ensures led { IfSome result (λ i. IfSome (distance i) (λ off. Leads self.now.state.top.slot off)) }
+    {
+        self.code.insn(self.slot)
+    }
+
+    /// Where the bytes at an offset from a pointer lie, if they lie inside the context or a live frame.
+    pub(crate) fn place(&self, size: Size, off: i16, base: Value) -> Option<Place>
+        ensures place { option_map place_is result ≡ place_of self.now.state (byte_count size) off base }
+        ensures inside { IfSome result (IsInside self.now.state (byte_count size)) }
+    {
+        let count = count_of(size);
+        match base {
+            Value::Number(_number) => None,
+            Value::Pointer(region, at) => match region {
+                Region::Context => match in_context(count, self.context.len(), at, off) {
+                    Some(first) => Some(Place::Context(first)),
+                    None => None,
+                },
+                Region::Frame(depth) => {
+                    if depth as usize > self.callers.len() {
+                        return None;
+                    }
+                    match in_frame(count, at, off) {
+                        Some(first) => Some(Place::Frame(depth as usize, first)),
+                        None => None,
+                    }
+                }
+            },
+        }
+    }
+
+    /// The number in the bytes at a place; else why the first that can't be read can't.
+    pub(crate) fn number_at(&self, size: Size, place: Place) -> Result<u64, Reason>
+        requires { IsInside self.now.state (byte_count size) place }
+        ensures ok { IfOk result (λ x. number_at self.now.program.order self.now.state (byte_count size) (place_is place) ≡ Some x) }
+        ensures err { IfErr result (λ reason. unreadable_at self.now.state (byte_count size) (place_is place) ≡ Some reason) }
+        ensures fits { IfOk result (λ x. x < 256 ^ byte_count size) }
+    {
+        match place {
+            Place::Context(at) => Ok(number_in(self.code.order(), size, &self.context[at..])),
+            Place::Frame(depth, at) => self.stacks.number(depth, self.code.order(), at, size),
+        }
+    }
+
+    /// The pointer that the slot at a place holds, if it is a slot and holds one.
+    pub(crate) fn pointer_at(&self, place: Place) -> Option<Value>
+        requires { IsInside self.now.state 8 place }
+        ensures { result ≡ pointer_at self.now.state (place_is place) }
+    {
+        match place {
+            Place::Context(_) => None,
+            Place::Frame(depth, at) => self.stacks.pointer(depth, at),
+        }
+    }
+
+    /// Writes the lowest bytes of a number to a live stack.
+    pub(crate) fn store_number(&mut self, size: Size, depth: usize, at: usize, x: u64)
+        requires { IsInside self.old.state (byte_count size) (Place.Frame depth at) }
+        ensures { self.new ≡ moved_to self.old (with_stack self.old.state depth (with_bytes (bytes_of self.old.program.order (byte_count size) x) at (stack_of self.old.state depth))) }
+    {
+        let order = self.code.order();
+        self.stacks.store_number(depth, order, at, size, x);
+    }
+
+    /// Makes a slot of a live stack a pointer's.
+    pub(crate) fn store_pointer(&mut self, depth: usize, at: usize, region: Region, off: i64)
+        requires inside { IsInside self.old.state 8 (Place.Frame depth at) }
+        requires slot { at % 8 ≡ 0 }
+        ensures { self.new ≡ moved_to self.old (with_stack self.old.state depth (with_parts region off at (stack_of self.old.state depth))) }
+    {
+        self.stacks.store_pointer(depth, at, region, off);
+    }
+
+    /// Goes on behind an instruction of one slot, with a register written.
+    pub(crate) fn put(&mut self, r: Reg, value: Value)
+        requires { self.old.state.top.slot < 65536 }
+        ensures { self.new ≡ moved_to self.old (with_register (at_slot (self.old.state.top.slot + 1) self.old.state) (register_number r) (Some value)) }
+    {
+        self.registers[r as usize] = Some(value);
+        self.slot += 1;
+    }
+
+    /// Goes on behind an instruction of one slot.
+    pub(crate) fn advance(&mut self)
+        requires { self.old.state.top.slot < 65536 }
+        ensures { self.new ≡ moved_to self.old (at_slot (self.old.state.top.slot + 1) self.old.state) }
+    {
+        self.slot += 1;
+    }
+
+    /// Whether all frames are live.
+    pub(crate) fn is_full(&self) -> bool
+        ensures { result ≡ nat_le max_frames (depth self.now.state + 1) }
+    {
+        self.callers.is_full()
+    }
+
+    /// Calls the instruction at a slot: r1 to r5 stay, and the frame is new. There is room for a frame.
+    pub(crate) fn enter(&mut self, slot: u32)
+        requires room { depth self.old.state + 1 < max_frames }
+        requires here { self.old.state.top.slot < 65536 }
+        ensures { self.new ≡ moved_to self.old (entered self.old.state slot) }
+    {
+        self.callers.push(Caller {
+            slot: self.slot + 1,
+            r6: self.registers[6],
+            r7: self.registers[7],
+            r8: self.registers[8],
+            r9: self.registers[9],
+            r10: self.registers[10],
+        });
+        let depth = self.callers.len();
+        self.stacks.clear(depth);
+        self.registers = [
+            None,
+            self.registers[1],
+            self.registers[2],
+            self.registers[3],
+            self.registers[4],
+            self.registers[5],
+            None,
+            None,
+            None,
+            None,
+            Some(Value::Pointer(Region::Frame(depth as u8), 0)),
+        ];
+        self.slot = slot;
+    }
+
+    /// Returns to the caller with a number in r0; false in the outermost frame, and nothing changes.
+    pub(crate) fn leave(&mut self, value: u64) -> bool
+        ensures left { IsTrue result → (self.new.program ≡ self.old.program) × (left self.old.state.waiting value self.old.state.context ≡ Some self.new.state) }
+        ensures outermost { result ≡ false → (self.new ≡ self.old) × (self.old.state.waiting ≡ []) }
+    {
+        match self.callers.pop() {
+            None => false,
+            Some(caller) => {
+                self.registers = [
+                    Some(Value::Number(value)),
+                    None,
+                    None,
+                    None,
+                    None,
+                    None,
+                    caller.r6,
+                    caller.r7,
+                    caller.r8,
+                    caller.r9,
+                    caller.r10,
+                ];
+                self.slot = caller.slot;
+                true
+            }
+        }
+    }
+}

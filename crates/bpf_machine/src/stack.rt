@@ -1,0 +1,295 @@
+//! The stack of a frame: 512 bytes, each a byte of a number, a part of a pointer, or uninitialised.
+
+ghost use Rattle.std.specs.Prelude.{◌≡◌, ◌==◌, ◌+◌, ◌*◌, ◌^◌, ◌%◌, ◌<◌, ◌≤◌, IfOk, IfErr, IfSome, take, drop, option_map, get_or, slice_set, replicate, [], ◌∷◌, Some, None, if◌then◌else◌};
+ghost use Rattle.std.specs.Int.{bytes_low_first};
+ghost use Rattle.bpf_insn.specs.Order.{number_of, bytes_of};
+ghost use Rattle.bpf_insn.specs.Instruction.{byte_count};
+ghost use Rattle.bpf_insn.specs.State.{Cell, cell, empty_stack};
+ghost use Rattle.bpf_insn.specs.State.Cell.{Byte};
+ghost use Rattle.bpf_insn.specs.Memory.{bytes_in, pointer_in, with_bytes, with_parts};
+ghost use Rattle.bpf_insn.specs.Stuck.{first_unreadable};
+
+use crate::bytes::{byte_of, count_of, number_in, word_of};
+use bpf_insn::{Order, Reason, Region, Size, Value};
+use std::marker::Model;
+
+/// How many slots of eight bytes there are.
+const SLOTS: usize = 64;
+
+/// How many frames there are at most.
+const DEPTHS: usize = 8;
+
+/// A stack by slots: the words, the bytes of each that hold a number, and the regions of the pointers, whose offsets
+/// are the words then. What no mask has and no region is may hold anything.
+#[derive(Drop)]
+pub(crate) struct Stack {
+    words: [u64; SLOTS],
+    masks: [u8; SLOTS],
+    regions: [Option<Region>; SLOTS],
+}
+
+impl Model for Stack {
+    ghost use Rattle.std.specs.Prelude.{List, Option};
+    ghost use Rattle.bpf_insn.specs.State.{Cell};
+    ghost use Rattle.bpf_machine.specs.PackedStack.{packed_cells};
+
+    ghost Value = { List (Option Cell) };
+
+    ghost view = { λ s. packed_cells s.words s.masks s.regions };
+
+    ghost use Rattle.std.specs.Prelude.{◌≡◌, length};
+
+    ghost invariant = { λ s. length s.regions ≡ 64 };
+}
+
+impl Stack {
+    /// A stack that holds nothing.
+    #[tactic(auto, using(crate::proofs::StackLemmas::empty_cells))]
+    pub(crate) fn new() -> Self
+        ensures { result ≡ empty_stack }
+    {
+        Stack {
+            words: [0; SLOTS],
+            masks: [0; SLOTS],
+            regions: [None; SLOTS],
+        }
+    }
+
+    /// Makes all uninitialised; the words stay.
+    #[tactic(auto, using(crate::proofs::StackLemmas::empty_cells))]
+    pub(crate) fn clear(&mut self)
+        ensures { self.new ≡ empty_stack }
+    {
+        self.masks = [0; SLOTS];
+        self.regions = [None; SLOTS];
+    }
+
+    /// The byte of a number at an address; else why it can't be read.
+    fn byte(&self, at: usize) -> Result<u8, Reason>
+        requires { at < 512 }
+        ensures ok { IfOk result (λ b. cell self.now at ≡ Some (Byte b)) }
+        ensures err { IfErr result (λ reason. first_unreadable (cell self.now at ∷ []) ≡ Some reason) }
+    {
+        let slot = at / 8;
+        let place = at % 8;
+        if (self.masks[slot] >> place) % 2 == 1 {
+            return Ok(self.words[slot].to_le_bytes()[place]);
+        }
+        match self.regions[slot] {
+            Some(_region) => Err(Reason::OperandKind),
+            None => Err(Reason::UnsetByte),
+        }
+    }
+
+    /// The bytes of a number at an address, at the front of eight; else why the first that can't be read can't.
+    fn bytes(&self, at: usize, count: usize) -> Result<[u8; 8], Reason>
+        requires inside { at + count ≤ 512 }
+        requires few { count ≤ 8 }
+        ensures ok { IfOk result (λ bytes. bytes_in (take count (drop at self.now)) ≡ Some (take count bytes)) }
+        ensures err { IfErr result (λ reason. first_unreadable (take count (drop at self.now)) ≡ Some reason) }
+    {
+        let _ = &self.words;
+        let mut bytes = [0; 8];
+        for i in 0..count {
+            match self.byte(at + i) {
+                Ok(byte) => bytes[i] = byte,
+                Err(reason) => return Err(reason),
+            }
+        }
+        Ok(bytes)
+    }
+
+    /// The number in the bytes at an address; else why the first that can't be read can't.
+    pub(crate) fn number(&self, order: Order, at: usize, size: Size) -> Result<u64, Reason>
+        requires { at + byte_count size ≤ 512 }
+        ensures ok { IfOk result (λ x. option_map (number_of order (byte_count size)) (bytes_in (take (byte_count size) (drop at self.now))) ≡ Some x) }
+        ensures err { IfErr result (λ reason. first_unreadable (take (byte_count size) (drop at self.now)) ≡ Some reason) }
+        ensures fits { IfOk result (λ x. x < 256 ^ byte_count size) }
+    {
+        if let Some(word) = self.word(at, size) {
+            return Ok(word_of(order, word));
+        }
+        match self.bytes(at, count_of(size)) {
+            Ok(bytes) => Ok(number_in(order, size, &bytes)),
+            Err(reason) => Err(reason),
+        }
+    }
+
+    /// The whole word at an address, if the access is of a slot whose eight bytes hold a number.
+    fn word(&self, at: usize, size: Size) -> Option<u64>
+        requires { at + byte_count size ≤ 512 }
+        ensures { IfSome result (λ word. (byte_count size ≡ 8) × (bytes_in (take 8 (drop at self.now)) ≡ Some (bytes_low_first 0 8 word))) }
+    {
+        match size {
+            Size::DW if at % 8 == 0 && self.masks[at / 8] == 0xff => Some(self.words[at / 8]),
+            _ => None,
+        }
+    }
+
+    /// The pointer that the slot at an address holds, if it is a slot and holds one.
+    pub(crate) fn pointer(&self, at: usize) -> Option<Value>
+        requires { at < 512 }
+        ensures { result ≡ (if at % 8 == 0 then pointer_in (cell self.now at) else None) }
+    {
+        if at % 8 != 0 || self.masks[at / 8] % 2 == 1 {
+            return None;
+        }
+        match self.regions[at / 8] {
+            Some(region) => Some(Value::Pointer(region, self.words[at / 8].cast_signed())),
+            None => None,
+        }
+    }
+
+    /// Writes a byte of a number. A pointer that the slot held is gone.
+    fn store_byte(&mut self, at: usize, byte: u8)
+        requires { at < 512 }
+        ensures { self.new ≡ with_bytes (byte ∷ []) at self.old }
+    {
+        let slot = at / 8;
+        let place = at % 8;
+        let mut bytes = self.words[slot].to_le_bytes();
+        bytes[place] = byte;
+        self.words[slot] = u64::from_le_bytes(bytes);
+        self.masks[slot] |= 1 << place;
+        self.regions[slot] = None;
+    }
+
+    /// Writes the lowest bytes of a number. Pointers that the slots held are gone.
+    fn store_bytes(&mut self, order: Order, at: usize, count: usize, x: u64)
+        requires some { 0 < count }
+        requires few { count ≤ 8 }
+        requires inside { at + count ≤ 512 }
+        ensures { self.new ≡ with_bytes (bytes_of order count x) at self.old }
+    {
+        let first = byte_of(order, count, x, 0);
+        self.store_byte(at, first);
+        for i in 1..count {
+            self.store_byte(at + i, byte_of(order, count, x, i));
+        }
+    }
+
+    /// Writes a number of eight bytes to a slot. A pointer that it held is gone.
+    fn store_word(&mut self, slot: usize, word: u64)
+        requires { slot < 64 }
+        ensures { self.new ≡ with_bytes (bytes_low_first 0 8 word) (8 * slot) self.old }
+    {
+        self.words[slot] = word;
+        self.masks[slot] = 0xff;
+        self.regions[slot] = None;
+    }
+
+    /// Writes the lowest bytes of a number at an address. Pointers that the slots held are gone.
+    pub(crate) fn store_number(&mut self, order: Order, at: usize, size: Size, x: u64)
+        requires { at + byte_count size ≤ 512 }
+        ensures { self.new ≡ with_bytes (bytes_of order (byte_count size) x) at self.old }
+    {
+        match size {
+            Size::DW if at % 8 == 0 => self.store_word(at / 8, word_of(order, x)),
+            _ => self.store_bytes(order, at, count_of(size), x),
+        }
+    }
+
+    /// Makes the slot at an address a pointer's.
+    pub(crate) fn store_pointer(&mut self, at: usize, region: Region, off: i64)
+        requires inside { at + 8 ≤ 512 }
+        requires slot { at % 8 ≡ 0 }
+        ensures { self.new ≡ with_parts region off at self.old }
+    {
+        let slot = at / 8;
+        self.words[slot] = off.cast_unsigned();
+        self.masks[slot] = 0;
+        self.regions[slot] = Some(region);
+    }
+}
+
+/// The stacks of the frames at depths 0 to 7.
+#[derive(Drop)]
+pub(crate) struct Stacks {
+    by_depth: [Stack; DEPTHS],
+}
+
+impl Model for Stacks {
+    ghost use Rattle.std.specs.Prelude.{List, Option};
+    ghost use Rattle.bpf_insn.specs.State.{Cell};
+
+    ghost Value = { List (List (Option Cell)) };
+
+    ghost view = { λ s. s.by_depth };
+
+    ghost use Rattle.std.specs.Prelude.{◌≡◌, length};
+
+    ghost invariant = { λ s. length s.by_depth ≡ 8 };
+}
+
+impl Stacks {
+    /// Stacks that hold nothing.
+    pub(crate) fn new() -> Self
+        ensures { result ≡ replicate 8 empty_stack }
+    {
+        Stacks {
+            by_depth: [
+                Stack::new(),
+                Stack::new(),
+                Stack::new(),
+                Stack::new(),
+                Stack::new(),
+                Stack::new(),
+                Stack::new(),
+                Stack::new(),
+            ],
+        }
+    }
+
+    /// Makes the stack at a depth uninitialised.
+    pub(crate) fn clear(&mut self, depth: usize)
+        requires { depth < 8 }
+        ensures { self.new ≡ slice_set self.old depth empty_stack }
+    {
+        self.by_depth[depth].clear();
+    }
+
+    /// The number in the bytes at an address; else why the first that can't be read can't.
+    pub(crate) fn number(
+        &self,
+        depth: usize,
+        order: Order,
+        at: usize,
+        size: Size,
+    ) -> Result<u64, Reason>
+        requires live { depth < 8 }
+        requires inside { at + byte_count size ≤ 512 }
+        ensures ok { IfOk result (λ x. option_map (number_of order (byte_count size)) (bytes_in (take (byte_count size) (drop at (get_or self.now depth empty_stack)))) ≡ Some x) }
+        ensures err { IfErr result (λ reason. first_unreadable (take (byte_count size) (drop at (get_or self.now depth empty_stack))) ≡ Some reason) }
+        ensures fits { IfOk result (λ x. x < 256 ^ byte_count size) }
+    {
+        self.by_depth[depth].number(order, at, size)
+    }
+
+    /// The pointer that the slot at an address holds, if it is a slot and holds one.
+    pub(crate) fn pointer(&self, depth: usize, at: usize) -> Option<Value>
+        requires live { depth < 8 }
+        requires inside { at < 512 }
+        ensures { result ≡ (if at % 8 == 0 then pointer_in (cell (get_or self.now depth empty_stack) at) else None) }
+    {
+        self.by_depth[depth].pointer(at)
+    }
+
+    /// Writes the lowest bytes of a number at an address.
+    pub(crate) fn store_number(&mut self, depth: usize, order: Order, at: usize, size: Size, x: u64)
+        requires live { depth < 8 }
+        requires inside { at + byte_count size ≤ 512 }
+        ensures { self.new ≡ slice_set self.old depth (with_bytes (bytes_of order (byte_count size) x) at (get_or self.old depth empty_stack)) }
+    {
+        self.by_depth[depth].store_number(order, at, size, x);
+    }
+
+    /// Makes the slot at an address a pointer's.
+    pub(crate) fn store_pointer(&mut self, depth: usize, at: usize, region: Region, off: i64)
+        requires live { depth < 8 }
+        requires inside { at + 8 ≤ 512 }
+        requires slot { at % 8 ≡ 0 }
+        ensures { self.new ≡ slice_set self.old depth (with_parts region off at (get_or self.old depth empty_stack)) }
+    {
+        self.by_depth[depth].store_pointer(at, region, off);
+    }
+}

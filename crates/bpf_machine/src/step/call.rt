@@ -1,0 +1,39 @@
+//! Calls of local functions, and exits (RFC 9669, section 4.3.2).
+
+ghost use Rattle.std.specs.Prelude.{◌<◌};
+ghost use Rattle.bpf_machine.specs.Answers.{Does, Leads};
+
+use crate::machine::Machine;
+use crate::outcome::Step;
+use crate::step::jump::target_of;
+use bpf_insn::{Code, Insn, Reason, Reg, Value};
+
+#[tactic(auto, unfolding(bpf_insn::specs::Step::does, bpf_insn::specs::Stuck::reason_at))]
+impl<'a, C: Code> Machine<'a, C> {
+    pub(crate) fn call(&mut self, off: i32) -> Step
+        requires here { self.old.state.top.slot < 65536 }
+        requires led { Leads self.old.state.top.slot off }
+        ensures { Does self.old (Insn.CallLocal off) result self.new }
+    {
+        if self.is_full() {
+            return Step::Fault(Reason::TooManyFrames);
+        }
+        let to = target_of(self.slot(), off);
+        self.enter(to);
+        Step::Moved
+    }
+
+    pub(crate) fn exit(&mut self) -> Step
+        ensures { Does self.old Insn.Exit result self.new }
+    {
+        match self.register(Reg::R0) {
+            Some(Value::Number(value)) => if self.leave(value) {
+                Step::Moved
+            } else {
+                Step::Done(value)
+            },
+            Some(Value::Pointer(_, _)) => Step::Fault(Reason::PointerResult),
+            None => Step::Fault(Reason::UnsetRegister),
+        }
+    }
+}

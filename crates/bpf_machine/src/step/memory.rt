@@ -1,0 +1,186 @@
+//! Constants of 64 bits, loads and stores (RFC 9669, sections 5.1, 5.2 and 5.4).
+
+ghost use Rattle.std.specs.Prelude.{◌≡◌, ◌==◌, ◌<◌, ◌^◌, IfOk, IfErr, Some, None};
+ghost use Rattle.std.specs.Int.{cast_signed};
+ghost use Rattle.bpf_insn.specs.Arithmetic.{modulo};
+ghost use Rattle.bpf_insn.specs.Instruction.{byte_count};
+ghost use Rattle.bpf_insn.specs.Memory.{pointer_at};
+ghost use Rattle.bpf_insn.specs.Step.{size_type, load};
+ghost use Rattle.bpf_insn.specs.Stuck.{unreadable_at};
+ghost use Rattle.bpf_machine.specs.Places.{place_is, IsInside};
+ghost use Rattle.bpf_machine.specs.Answers.{Does};
+ghost use Rattle.bpf_machine.specs.Stored.{may_be_stored};
+
+use crate::machine::{Machine, Place, sum_of};
+use crate::outcome::Step;
+use crate::step::alu::extend;
+use bpf_insn::{Code, Insn, Reason, Reg, Size, Value};
+
+/// A number of some bytes as two's complement, extended to 64 bits.
+fn sign_extend_from(size: Size, x: u64) -> u64
+    requires { x < 256 ^ byte_count size }
+    ensures { result ≡ modulo (cast_signed (size_type size) x) (2 ^ 64) }
+{
+    let signed = match size {
+        Size::B => (x as u8).cast_signed() as i64,
+        Size::H => (x as u16).cast_signed() as i64,
+        Size::W => (x as u32).cast_signed() as i64,
+        Size::DW => x.cast_signed(),
+    };
+    signed.cast_unsigned()
+}
+
+fn is_multiple_of_8(z: i128) -> bool
+    ensures { result ≡ (modulo z 8 == 0) }
+{
+    z % 8 == 0
+}
+
+/// Whether a value may be stored at an offset from a pointer: a number anywhere, a pointer in a whole slot.
+fn may_store(size: Size, at: i64, off: i16, value: Value) -> bool
+    ensures { result ≡ may_be_stored size at off value }
+{
+    match value {
+        Value::Number(_number) => true,
+        Value::Pointer(_region, _off) => match size {
+            Size::DW => is_multiple_of_8(sum_of(at, off)),
+            Size::B => false,
+            Size::H => false,
+            Size::W => false,
+        },
+    }
+}
+
+#[tactic(auto, unfolding(bpf_insn::specs::Step::does, bpf_insn::specs::Stuck::reason_at))]
+impl<'a, C: Code> Machine<'a, C> {
+    pub(crate) fn load_imm64(&mut self, dst: Reg, value: u64) -> Step
+        requires { self.old.state.top.slot < 65536 }
+        ensures { Does self.old (Insn.LoadImm64 dst value) result self.new }
+    {
+        if dst == Reg::R10 {
+            return Step::Fault(Reason::FramePointerWrite);
+        }
+        self.set_register(dst, Value::Number(value));
+        let slot = self.slot();
+        self.go_to(slot + 2);
+        Step::Moved
+    }
+
+    pub(crate) fn load(&mut self, size: Size, dst: Reg, src: Reg, off: i16) -> Step
+        requires { self.old.state.top.slot < 65536 }
+        ensures { Does self.old (Insn.Load size dst src off) result self.new }
+    {
+        if dst == Reg::R10 {
+            return Step::Fault(Reason::FramePointerWrite);
+        }
+        let base = match self.register(src) {
+            Some(Value::Pointer(region, at)) => Value::Pointer(region, at),
+            Some(Value::Number(_number)) => return Step::Fault(Reason::OperandKind),
+            None => return Step::Fault(Reason::UnsetRegister),
+        };
+        let Some(place) = self.place(size, off, base) else {
+            return Step::Fault(Reason::OutOfBounds);
+        };
+        match self.value_at(size, place) {
+            Ok(value) => {
+                self.put(dst, value);
+                Step::Moved
+            }
+            Err(reason) => Step::Fault(reason),
+        }
+    }
+
+    /// The number or, in a whole slot, the pointer at a place; else why the first byte that can't be read can't.
+    fn value_at(&self, size: Size, place: Place) -> Result<Value, Reason>
+        requires { IsInside self.now.state (byte_count size) place }
+        ensures ok { IfOk result (λ value. load self.now.program.order self.now.state size (place_is place) ≡ Some value) }
+        ensures err { IfErr result (λ reason. (unreadable_at self.now.state (byte_count size) (place_is place) ≡ Some reason) × (size ≡ Size.DW → pointer_at self.now.state (place_is place) ≡ None)) }
+    {
+        if matches!(size, Size::DW) {
+            if let Some(pointer) = self.pointer_at(place) {
+                return Ok(pointer);
+            }
+        }
+        match self.number_at(size, place) {
+            Ok(number) => Ok(Value::Number(number)),
+            Err(reason) => Err(reason),
+        }
+    }
+
+    pub(crate) fn load_sx(&mut self, size: Size, dst: Reg, src: Reg, off: i16) -> Step
+        requires { self.old.state.top.slot < 65536 }
+        ensures { Does self.old (Insn.LoadSx size dst src off) result self.new }
+    {
+        if dst == Reg::R10 {
+            return Step::Fault(Reason::FramePointerWrite);
+        }
+        let base = match self.register(src) {
+            Some(Value::Pointer(region, at)) => Value::Pointer(region, at),
+            Some(Value::Number(_number)) => return Step::Fault(Reason::OperandKind),
+            None => return Step::Fault(Reason::UnsetRegister),
+        };
+        let Some(place) = self.place(size, off, base) else {
+            return Step::Fault(Reason::OutOfBounds);
+        };
+        match self.number_at(size, place) {
+            Ok(number) => {
+                self.put(dst, Value::Number(sign_extend_from(size, number)));
+                Step::Moved
+            }
+            Err(reason) => Step::Fault(reason),
+        }
+    }
+}
+
+#[tactic(auto, unfolding(bpf_insn::specs::Step::does, bpf_insn::specs::Stuck::reason_at, bpf_insn::specs::Memory::store_number, bpf_insn::specs::Memory::store_pointer))]
+impl<'a, C: Code> Machine<'a, C> {
+    pub(crate) fn store_imm(&mut self, size: Size, dst: Reg, off: i16, imm: i32) -> Step
+        requires { self.old.state.top.slot < 65536 }
+        ensures { Does self.old (Insn.StoreImm size dst off imm) result self.new }
+    {
+        let base = match self.register(dst) {
+            Some(Value::Pointer(region, at)) => Value::Pointer(region, at),
+            Some(Value::Number(_number)) => return Step::Fault(Reason::OperandKind),
+            None => return Step::Fault(Reason::UnsetRegister),
+        };
+        match self.place(size, off, base) {
+            Some(Place::Frame(depth, at)) => {
+                self.advance();
+                self.store_number(size, depth, at, extend(imm));
+                Step::Moved
+            }
+            Some(Place::Context(_at)) => Step::Fault(Reason::ContextWrite),
+            None => Step::Fault(Reason::OutOfBounds),
+        }
+    }
+
+    pub(crate) fn store(&mut self, size: Size, dst: Reg, off: i16, src: Reg) -> Step
+        requires { self.old.state.top.slot < 65536 }
+        ensures { Does self.old (Insn.Store size dst off src) result self.new }
+    {
+        let Some(base) = self.register(dst) else {
+            return Step::Fault(Reason::UnsetRegister);
+        };
+        let Some(value) = self.register(src) else {
+            return Step::Fault(Reason::UnsetRegister);
+        };
+        let Value::Pointer(region, at) = base else {
+            return Step::Fault(Reason::OperandKind);
+        };
+        if !may_store(size, at, off, value) {
+            return Step::Fault(Reason::OperandKind);
+        }
+        match self.place(size, off, Value::Pointer(region, at)) {
+            Some(Place::Frame(depth, first)) => {
+                self.advance();
+                match value {
+                    Value::Number(number) => self.store_number(size, depth, first, number),
+                    Value::Pointer(stored, from) => self.store_pointer(depth, first, stored, from),
+                }
+                Step::Moved
+            }
+            Some(Place::Context(_at)) => Step::Fault(Reason::ContextWrite),
+            None => Step::Fault(Reason::OutOfBounds),
+        }
+    }
+}

@@ -1,0 +1,5 @@
+use Rattle.bpf_state.proofs.StateLemmas.{blank_is_state}
+use Rattle.bpf_state.proofs.abstract_state.State.blank.Goals as goal
+
+pub invariant_of-result : goal.invariant_of-result
+invariant_of-result c = blank_is_state

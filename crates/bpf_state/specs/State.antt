@@ -1,0 +1,93 @@
+-- Abstract states: what is known of the registers and of the slots of the top frame.
+use Rattle.std.specs.Prelude.{◌≡◌, ℕ, ◌-◌, ◌≤◌, pos, ◌≤ℤ◌, List, [], ◌∷◌, ◌++◌, length, get_or, slice_set, replicate, All, Option, None}
+use Rattle.bpf_insn.specs.declared.instruction.Reg.{Reg}
+use Rattle.bpf_insn.specs.Instruction.{register_number}
+use Rattle.bpf_state.specs.declared.state.RegState.{RegState}
+use Rattle.bpf_state.specs.declared.state.RegState.TheVariants.{Any, Num, Ctx, Frame}
+use Rattle.bpf_state.specs.declared.state.Pointer.{Pointer}
+use Rattle.bpf_state.specs.declared.state.Pointer.TheVariants.{Ctx as CtxIn, Frame as FrameIn}
+use Rattle.bpf_state.specs.declared.state.SlotState.{SlotState}
+use Rattle.bpf_state.specs.declared.state.SlotState.TheVariants.{Bytes, Word, Ptr}
+use Rattle.bpf_state.specs.declared.state.Place.{Place}
+use Rattle.bpf_state.specs.declared.state.Place.TheVariants.{Register, Slot}
+use Rattle.bpf_state.specs.declared.state.Tag.{Tag}
+
+-- r0 to r10, the slots 1 to 64, and the tag of each; slot k has the eight bytes from 8 * k below the frame's end
+pub record AbstractState : Type 0 where
+  pub registers : List RegState
+  pub slots : List SlotState
+  pub register_tags : List (Option Tag)
+  pub slot_tags : List (Option Tag)
+
+-- the bounds of a pointer are in order
+abbrev pub IsRegister : RegState → Type 0
+IsRegister Any = Unit {0}
+IsRegister (Num n) = Unit {0}
+IsRegister (Ctx lo hi) = lo ≤ℤ hi
+IsRegister (Frame lo hi) = lo ≤ℤ hi
+
+abbrev pub IsPointer : Pointer → Type 0
+IsPointer (CtxIn lo hi) = lo ≤ℤ hi
+IsPointer (FrameIn lo hi) = lo ≤ℤ hi
+
+-- eight bytes of a number are a word, so not all are in a mask
+abbrev pub IsSlot : SlotState → Type 0
+IsSlot (Bytes mask) = mask ≤ 254
+IsSlot (Word n) = Unit {0}
+IsSlot (Ptr p) = IsPointer p
+
+-- what every state keeps
+pub record IsState (s : AbstractState) : Type 0 where
+  pub register_count : length s.registers ≡ 11
+  pub slot_count : length s.slots ≡ 64
+  pub register_tag_count : length s.register_tags ≡ 11
+  pub slot_tag_count : length s.slot_tags ≡ 64
+  pub registers : All IsRegister s.registers
+  pub slots : All IsSlot s.slots
+
+-- a register, or a slot from 1 to 64
+abbrev pub IsPlace : Place → Type 0
+IsPlace (Register r) = Unit {0}
+IsPlace (Slot k) = (1 ≤ k) × (k ≤ 64)
+
+abbrev pub register : AbstractState → Reg → RegState
+register s r = get_or s.registers (register_number r) Any
+
+abbrev pub slot : AbstractState → ℕ → SlotState
+slot s k = get_or s.slots (k - 1) (Bytes 0)
+
+abbrev pub tag : AbstractState → Place → Option Tag
+tag s (Register r) = get_or s.register_tags (register_number r) None
+tag s (Slot k) = get_or s.slot_tags (k - 1) None
+
+abbrev pub with_register : AbstractState → Reg → RegState → AbstractState
+with_register s r value = record s { registers = slice_set s.registers (register_number r) value }
+
+abbrev pub with_slot : AbstractState → ℕ → SlotState → AbstractState
+with_slot s k value = record s { slots = slice_set s.slots (k - 1) value }
+
+abbrev pub with_tag : AbstractState → Place → Option Tag → AbstractState
+with_tag s (Register r) t = record s { register_tags = slice_set s.register_tags (register_number r) t }
+with_tag s (Slot k) t = record s { slot_tags = slice_set s.slot_tags (k - 1) t }
+
+-- a slot that holds what a register does; nothing is known of its bytes where nothing is of the register
+abbrev pub value_slot : RegState → SlotState
+value_slot (Num n) = Word n
+value_slot (Ctx lo hi) = Ptr (CtxIn lo hi)
+value_slot (Frame lo hi) = Ptr (FrameIn lo hi)
+value_slot Any = Bytes 0
+
+-- ---- the state to begin with
+
+abbrev pub no_tags : ℕ → List (Option Tag)
+no_tags n = replicate n None
+
+-- r10 at the frame's end, and nothing else
+abbrev pub blank : AbstractState
+blank =
+    record {
+      registers = replicate 10 Any ++ Frame (pos 0) (pos 0) ∷ [];
+      slots = replicate 64 (Bytes 0);
+      register_tags = no_tags 11;
+      slot_tags = no_tags 64;
+    }

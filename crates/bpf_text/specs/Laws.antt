@@ -1,0 +1,13 @@
+-- The laws above the definitions. Each is proved as the contract of a function of its own.
+use Rattle.std.specs.Prelude.{◌≡◌, ℕ, List}
+use Rattle.bpf_insn.specs.declared.instruction.Insn.{Insn}
+use Rattle.bpf_text.specs.declared.error.TextError.{TextError}
+use Rattle.bpf_text.specs.Assembly.{Assembles, IsRefused}
+
+-- a text assembles to one list of instructions
+abbrev pub AssemblesToOne : Type 0
+AssemblesToOne = (text : List ℕ) (is js : List Insn) → Assembles text is → Assembles text js → is ≡ js
+
+-- and then it has no refusal
+abbrev pub NeverBoth : Type 0
+NeverBoth = (text : List ℕ) (is : List Insn) (e : TextError) → Assembles text is → IsRefused text e → ⊥

@@ -1,0 +1,13 @@
+pub mod RefusalNumbers
+pub mod Spelling
+pub mod Listing
+pub mod Pieces
+pub mod Tokens
+pub mod Parts
+pub mod Statements
+pub mod Reading
+pub mod Assembly
+pub mod Seen
+pub mod SourceSeen
+pub mod Slots
+pub mod Laws

@@ -1,0 +1,132 @@
+-- Words, marks and numbers, and how they are read in front of a text. Blanks may stand in front of each.
+use Rattle.std.specs.Prelude.{ℕ, ◌+◌, ◌*◌, Bool, true, false, ◌&&◌, ◌||◌, List, [], ◌∷◌, Option, Some, None, option_and_then, ℤ, pos, neg_ℤ, length, drop, nat_le, nat_lt, ◌==◌, if◌then◌else◌}
+use Rattle.std.specs.Str.{bytes_eq}
+use Rattle.std.specs.Char.{digit_value}
+
+abbrev pub is_between : ℕ → ℕ → ℕ → Bool
+is_between low high c = nat_le low c && nat_le c high
+
+abbrev pub is_digit : ℕ → Bool
+is_digit c = is_between 48 57 c
+
+-- A to Z and a to z
+abbrev pub is_letter : ℕ → Bool
+is_letter c = is_between 65 90 c || is_between 97 122 c
+
+-- 95 is the underscore
+abbrev pub is_word_part : ℕ → Bool
+is_word_part c = is_letter c || is_digit c || (c == 95)
+
+-- space, tab and carriage return
+abbrev pub is_blank : ℕ → Bool
+is_blank c = (c == 32) || (c == 9) || (c == 13)
+
+-- ---- words and marks
+
+abbrev pub skip_blanks : List ℕ → List ℕ
+skip_blanks [] = []
+skip_blanks (c ∷ cs) = if is_blank c then skip_blanks cs else c ∷ cs
+
+-- the longest run of word parts in front, and what stands behind it
+abbrev pub word_front : List ℕ → List ℕ
+word_front [] = []
+word_front (c ∷ cs) = if is_word_part c then c ∷ word_front cs else []
+
+abbrev pub word_rest : List ℕ → List ℕ
+word_rest [] = []
+word_rest (c ∷ cs) = if is_word_part c then word_rest cs else c ∷ cs
+
+-- what is read, and the text behind it
+abbrev pub Read : Type 0 → Type 0
+Read A = Option (A × List ℕ)
+
+infixl 10 ◌>>=◌
+abbrev pub ◌>>=◌ : {A B : Type 0} → Option A → (A → Option B) → Option B
+o >>= f = option_and_then f o
+
+abbrev pub word_of : List ℕ → List ℕ → Read (List ℕ)
+word_of [] rest = None
+word_of (c ∷ cs) rest = Some (c ∷ cs, rest)
+
+unfoldable pub word_in : List ℕ → Read (List ℕ)
+word_in text = word_of (word_front (skip_blanks text)) (word_rest (skip_blanks text))
+
+-- the text behind this word, or behind this mark
+unfoldable pub behind_word : List ℕ → List ℕ → Option (List ℕ)
+behind_word w text = word_in text >>= λ found. if bytes_eq found.0 w then Some found.1 else None
+
+abbrev pub behind_first : ℕ → List ℕ → Option (List ℕ)
+behind_first m [] = None
+behind_first m (c ∷ cs) = if c == m then Some cs else None
+
+unfoldable pub behind_mark : ℕ → List ℕ → Option (List ℕ)
+behind_mark m text = behind_first m (skip_blanks text)
+
+abbrev pub behind_marks : List ℕ → List ℕ → Option (List ℕ)
+behind_marks [] text = Some text
+behind_marks (m ∷ ms) text = behind_mark m text >>= behind_marks ms
+
+abbrev pub behind_front : List ℕ → List ℕ → Option (List ℕ)
+behind_front [] text = Some text
+behind_front (c ∷ cs) text = behind_word (c ∷ cs) text
+
+-- the text behind a spelling: a word, marks, or a word and then marks
+unfoldable pub behind : List ℕ → List ℕ → Option (List ℕ)
+behind spelling text = behind_front (word_front spelling) text >>= behind_marks (word_rest spelling)
+
+-- the first of these things whose spelling stands in front
+abbrev pub or_else : {A : Type 0} → Option A → Option A → Option A
+or_else None y = y
+or_else (Some x) y = Some x
+
+abbrev pub found_here : {A : Type 0} → A → Option (List ℕ) → Read A
+found_here x None = None
+found_here x (Some rest) = Some (x, rest)
+
+abbrev pub first_spelled : {A : Type 0} → (A → List ℕ) → List A → List ℕ → Read A
+first_spelled spelling [] text = None
+first_spelled spelling (x ∷ xs) text = or_else (found_here x (behind (spelling x) text)) (first_spelled spelling xs text)
+
+-- ---- numbers
+
+-- the number of the digits in the base, behind a number that digits before them write
+abbrev pub value_after : ℕ → ℕ → List ℕ → Option ℕ
+value_after base n [] = Some n
+value_after base n (c ∷ cs) = if nat_lt (digit_value c) base then value_after base (n * base + digit_value c) cs else None
+
+abbrev pub value_up_to : ℕ → ℕ → List ℕ → Option ℕ
+value_up_to most base ds = if nat_lt 0 (length ds) && nat_le (length ds) most then value_after base 0 ds else None
+
+-- 1 to 20 decimal digits, or `0x` and 1 to 16 hexadecimal ones of either case
+abbrev pub begins_hex : List ℕ → Bool
+begins_hex [] = false
+begins_hex (c ∷ []) = false
+begins_hex (c ∷ d ∷ ds) = (c == 48) && (d == 120)
+
+unfoldable pub word_value : List ℕ → Option ℕ
+word_value w = if begins_hex w then value_up_to 16 16 (drop 2 w) else value_up_to 20 10 w
+
+unfoldable pub unsigned_in : List ℕ → Read ℕ
+unsigned_in text = do
+  w ← word_in text
+  n ← word_value w.0
+  Some (n, w.1)
+
+abbrev pub with_sign_of : Bool → Read ℕ → Read ℤ
+with_sign_of minus o = o >>= λ n. Some (if minus then neg_ℤ (pos n.0) else pos n.0, n.1)
+
+-- behind a `-`, or with no sign
+abbrev pub number_behind : Option (List ℕ) → List ℕ → Read ℤ
+number_behind None text = with_sign_of false (unsigned_in text)
+number_behind (Some rest) text = with_sign_of true (unsigned_in rest)
+
+unfoldable pub number_in : List ℕ → Read ℤ
+number_in text = number_behind (behind_mark 45 text) text
+
+-- behind a `-` or a `+`
+abbrev pub signed_behind : Option (List ℕ) → List ℕ → Read ℤ
+signed_behind None text = behind_mark 43 text >>= λ rest. with_sign_of false (unsigned_in rest)
+signed_behind (Some rest) text = with_sign_of true (unsigned_in rest)
+
+unfoldable pub signed_in : List ℕ → Read ℤ
+signed_in text = signed_behind (behind_mark 45 text) text

@@ -1,0 +1,167 @@
+//! The assembler.
+
+ghost use Rattle.std.specs.Prelude.{◌≡◌, ◌⊎◌, ℕ, List, [], map, option_map, IfOk, IfErr, OnOk, Some, None, Ok, Err, pos, ◌-ℤ◌, ◌+◌};
+ghost use Rattle.bpf_insn.specs.declared.order.Order.TheVariants.{Little};
+ghost use Rattle.bpf_text.specs.declared.error.TextError.TheVariants.{DefinedAgain, Memory};
+ghost use Rattle.bpf_text.specs.Seen.{label_seen};
+ghost use Rattle.bpf_text.specs.SourceSeen.{said_seen};
+ghost use Rattle.bpf_text.specs.Slots.{slots_in};
+ghost use Rattle.bpf_text.specs.Assembly.{slot_of, redefined, jump_over, jump_from, insn_of, linked, line_at, program_error, Assembles, IsRefused};
+
+use crate::error::TextError;
+use crate::line::Label;
+use crate::source::{Said, source_of};
+use crate::statement::{Jump, Statement, fits_32};
+use bpf_insn::{BuildError, Insn, Program};
+use std::alloc::Global;
+use std::collections::BTreeMap;
+
+/// The slots of the labels by name, or the line of the first label whose name stands above.
+fn slots_by_name<'a>(
+    alloc: Global,
+    labels: &[Label<'a>],
+) -> Result<BTreeMap<&'a [u8], usize>, TextError>
+    ensures slots { IfOk result (λ m. (name : List ℕ) → slots_in m name ≡ slot_of (map label_seen labels.now) name) }
+    ensures unique { OnOk result (redefined [] (map label_seen labels.now) ≡ None) }
+    ensures err { IfErr result (λ e. (e ≡ Memory) ⊎ (option_map DefinedAgain (redefined [] (map label_seen labels.now)) ≡ Some e)) }
+{
+    let mut slots = BTreeMap::new(alloc);
+    for label in labels {
+        match slots.insert(label.name, label.slot) {
+            Ok(None) => {}
+            Ok(Some(_)) => return Err(TextError::DefinedAgain { line: label.line }),
+            Err(_) => return Err(TextError::Memory),
+        }
+    }
+    Ok(slots)
+}
+
+fn jump_over(jump: Jump, distance: i128) -> Option<Insn>
+    ensures { result ≡ jump_over jump distance }
+{
+    match jump {
+        Jump::GotoLong => Some(Insn::JaLong {
+            off: fits_32(distance).unwrap_or(0),
+        }),
+        Jump::Call => Some(Insn::CallLocal {
+            off: fits_32(distance).unwrap_or(0),
+        }),
+        Jump::Goto => jump.by(distance),
+        Jump::If(_, _, _, _) => jump.by(distance),
+    }
+}
+
+fn slot_named(slots: &BTreeMap<&[u8], usize>, name: &[u8]) -> Option<usize>
+    ensures { result ≡ slots_in slots.now name.now }
+{
+    slots.get(name).copied()
+}
+
+/// How many slots it is from the next instruction to the target.
+fn distance(slot: usize, target: usize) -> i128
+    ensures { result ≡ pos target -ℤ pos (slot + 1) }
+{
+    target as i128 - (slot as i128 + 1)
+}
+
+/// The jump or call at a slot to the slot of a label.
+fn jump_from(line: usize, slot: usize, jump: Jump, target: Option<usize>) -> Result<Insn, TextError>
+    ensures { result ≡ jump_from line slot jump target }
+{
+    let Some(target) = target else {
+        return Err(TextError::Undefined { line });
+    };
+    match jump_over(jump, distance(slot, target)) {
+        None => Err(TextError::TooFar { line }),
+        Some(insn) => Ok(insn),
+    }
+}
+
+fn insn_of(slots: &BTreeMap<&[u8], usize>, said: &Said) -> Result<Insn, TextError>
+    ensures { result ≡ insn_of (slots_in slots.now) (said_seen said.now) }
+{
+    match said.statement {
+        Statement::Plain(insn) => Ok(insn),
+        Statement::ToLabel(jump, name) => {
+            let target = slot_named(slots, name);
+            jump_from(said.line, said.slot, jump, target)
+        }
+    }
+}
+
+fn linked(
+    alloc: Global,
+    slots: &BTreeMap<&[u8], usize>,
+    said: &[Said],
+) -> Result<Vec<Insn>, TextError>
+    ensures ok { IfOk result (λ v. linked (slots_in slots.now) (map said_seen said.now) ≡ Ok v.items) }
+    ensures err { IfErr result (λ e. (e ≡ Memory) ⊎ (linked (slots_in slots.now) (map said_seen said.now) ≡ Err e)) }
+{
+    let mut insns = Vec::new(alloc);
+    for statement in said {
+        match insn_of(slots, statement) {
+            Ok(insn) => {
+                if insns.push(insn).is_err() {
+                    return Err(TextError::Memory);
+                }
+            }
+            Err(error) => return Err(error),
+        }
+    }
+    Ok(insns)
+}
+
+/// The line of the statement at a slot.
+fn line_at(slot: u32, said: &[Said]) -> usize
+    ensures { result ≡ line_at slot (map said_seen said.now) }
+{
+    for statement in said {
+        if statement.slot == slot as usize {
+            return statement.line;
+        }
+    }
+    1
+}
+
+fn program_error(said: &[Said], error: BuildError) -> TextError
+    ensures { result ≡ program_error (map said_seen said.now) error }
+{
+    match error {
+        BuildError::Length => TextError::Program { line: 1, error },
+        BuildError::NoEncoding { slot } => TextError::Program {
+            line: line_at(slot, said),
+            error,
+        },
+        BuildError::Target { slot } => TextError::Program {
+            line: line_at(slot, said),
+            error,
+        },
+        BuildError::Memory => TextError::Memory,
+    }
+}
+
+/// Assembles a text. The refusals come in this order: the lowest line with A1, A2 or A3 (in this order in one line), the
+/// lowest line with A4 or A5, A6; A7 where memory ran out. The time is linear in the text, but for the search of labels.
+pub fn assemble(alloc: Global, text: &str) -> Result<Program, TextError>
+    ensures ok { IfOk result (λ p. Assembles text.now p.list × (p.order ≡ Little)) }
+    ensures err { IfErr result (λ e. (e ≡ Memory) ⊎ IsRefused text.now e) }
+{
+    let Ok(source) = source_of(alloc, text.as_bytes()) else {
+        return Err(TextError::Memory);
+    };
+    let slots = match slots_by_name(alloc, &source.labels) {
+        Ok(slots) => slots,
+        Err(error) => return Err(error),
+    };
+    if let Some(fault) = source.fault {
+        return Err(fault);
+    }
+    let insns = match linked(alloc, &slots, &source.said) {
+        Ok(insns) => insns,
+        Err(error) => return Err(error),
+    };
+    match Program::new(alloc, insns) {
+        Ok(program) => Ok(program),
+        Err(error) => Err(program_error(&source.said, error)),
+    }
+}

@@ -1,0 +1,13 @@
+//! Laws above the definitions, each the contract of a function that does nothing.
+
+ghost use Rattle.bpf_text.specs.Laws.{AssemblesToOne, NeverBoth};
+
+/// A text assembles to one list of instructions.
+pub fn assembles_to_one()
+    ensures { AssemblesToOne }
+{}
+
+/// A text that assembles to a program has no refusal: `assemble` answers this program, unless memory runs out.
+pub fn assembles_or_is_refused()
+    ensures { NeverBoth }
+{}

@@ -1,0 +1,21 @@
+//! The assembler and the lister: programs as text.
+#![tactic(auto)]
+
+mod assembler;
+mod digits;
+mod error;
+mod laws;
+mod line;
+mod lister;
+mod source;
+mod spelling;
+mod statement;
+#[cfg(test)]
+mod tests;
+mod token;
+mod written;
+
+pub use assembler::assemble;
+pub use error::TextError;
+pub use laws::{assembles_or_is_refused, assembles_to_one};
+pub use lister::list;

@@ -1,0 +1,117 @@
+//! The lines of a text and their parts.
+
+ghost use Rattle.std.specs.Prelude.{◌≡◌, ℕ, ◌+◌, ◌<◌, option_map, OnOk, map, ◌++◌, length, Ok, Some};
+ghost use Rattle.bpf_text.specs.Tokens.{skip_blanks};
+ghost use Rattle.bpf_text.specs.Assembly.{before, behind_it, label_in, labels_in, last_part, parts_of, labels_at, said_in, line_in};
+ghost use Rattle.bpf_text.specs.Seen.{line_seen, label_seen, size_left};
+
+use crate::statement::{Statement, is_name, statement_of};
+use crate::token::{skip_blanks, word};
+use std::alloc::AllocError;
+
+/// The text in front of the first such byte, and what stands behind it, if it is there.
+pub fn cut(text: &[u8], mark: u8) -> (&[u8], Option<&[u8]>)
+    ensures front { result.0.now ≡ before mark text.now }
+    ensures rest { option_map (λ x. x.now) result.1 ≡ behind_it mark text.now }
+    ensures sizes { length result.0.now + size_left (option_map (λ x. x.now) result.1) ≡ length text.now }
+{
+    let mut count = 0;
+    'front: while count < text.len() && text[count] != mark {
+        count += 1;
+    }
+    let rest = if count < text.len() {
+        Some(&text[count + 1..])
+    } else {
+        None
+    };
+    (&text[..count], rest)
+}
+
+/// The name of a label, with nothing but blanks about it.
+#[tactic(auto, unfolding(crate::specs::Assembly::label_in))]
+pub fn label_name(part: &[u8]) -> Option<&[u8]>
+    ensures { option_map (λ x. x.now) result ≡ label_in part.now }
+{
+    let (name, rest) = word(part)?;
+    if is_name(name) && skip_blanks(rest).is_empty() {
+        Some(name)
+    } else {
+        None
+    }
+}
+
+/// A label: its name, the slot of the next instruction, and its line, counted from 1.
+#[derive(Clone, Copy)]
+pub struct Label<'a> {
+    pub name: &'a [u8],
+    pub slot: usize,
+    pub line: usize,
+}
+
+/// Why a line by itself is refused.
+#[derive(Clone, Copy)]
+pub enum LineFault {
+    NoForm,
+    OutOfRange,
+}
+
+/// What stands behind the labels of a line; None where what stands in front of a colon is no label.
+fn behind_labels(line: &[u8]) -> Option<&[u8]>
+    ensures { option_map (λ x. x.now) result ≡ last_part (parts_of line.now) }
+{
+    let mut rest = line;
+    'labels: loop {
+        let (part, more) = cut(rest, b':');
+        let Some(more) = more else {
+            return Some(rest);
+        };
+        label_name(part)?;
+        rest = more;
+    }
+}
+
+/// Puts the labels of a line behind those that are there.
+pub fn push_labels<'a>(
+    labels: &mut Vec<Label<'a>>,
+    text: &'a [u8],
+    slot: usize,
+    line: usize,
+) -> Result<(), AllocError>
+    ensures { OnOk result (map label_seen labels.new.items ≡ map label_seen labels.old.items ++ labels_at line slot text.now) }
+{
+    let mut rest = text;
+    'labels: loop {
+        let (part, more) = cut(rest, b':');
+        let Some(more) = more else {
+            return Ok(());
+        };
+        if let Some(name) = label_name(part) {
+            labels.push(Label { name, slot, line })?;
+        }
+        rest = more;
+    }
+}
+
+fn said(part: &[u8]) -> Result<Option<Statement<'_>>, LineFault>
+    ensures { line_seen result ≡ said_in part.now (skip_blanks part.now) }
+{
+    if skip_blanks(part).is_empty() {
+        return Ok(None);
+    }
+    match statement_of(part) {
+        None => Err(LineFault::NoForm),
+        Some(None) => Err(LineFault::OutOfRange),
+        Some(Some(statement)) => Ok(Some(statement)),
+    }
+}
+
+/// What a line without its comment says behind its labels.
+#[tactic(auto, unfolding(crate::specs::Assembly::line_in))]
+pub fn statement_in(line: &[u8]) -> Result<Option<Statement<'_>>, LineFault>
+    ensures { line_seen result ≡ line_in line.now }
+{
+    match behind_labels(line) {
+        None => Err(LineFault::NoForm),
+        Some(part) => said(part),
+    }
+}
