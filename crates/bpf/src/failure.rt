@@ -1,6 +1,7 @@
 //! What ends a command before it has an answer, and the statuses.
 
-ghost use Rattle.std.specs.Prelude.{◌≤◌};
+ghost use Rattle.std.specs.Prelude.{◌≤◌, OnOk};
+ghost use Rattle.std.specs.Io.KnownBytes.{Appends};
 
 use crate::context::ContextError;
 use bpf_insn::written::write_bytes;
@@ -46,7 +47,9 @@ impl<'a> From<AllocError> for Failure<'a> {
 }
 
 /// Writes a line to standard output.
-pub fn say<'a, W: Write>(out: &mut W, line: &str) -> Result<(), Failure<'a>> {
+pub fn say<'a, W: Write>(out: &mut W, line: &str) -> Result<(), Failure<'a>>
+    ensures { OnOk result (Appends (W.contents out.old) (W.contents out.new) line.now) }
+{
     match write_bytes(out, line.as_bytes()) {
         Ok(()) => Ok(()),
         Err(_) => Err(Failure::CannotWrite("standard output")),

@@ -1,5 +1,6 @@
 //! What the command prints and answers, on places in memory.
 
+use crate::context::{ContextError, context_of};
 use crate::places::Places;
 use crate::respond::respond;
 use std::alloc::{AllocError, Global};
@@ -54,6 +55,8 @@ struct Shelf<'a> {
     name: &'a str,
     bytes: &'a [u8],
     fails: bool,
+    made: u32,
+    alloc: Global,
 }
 
 impl<'a> Places for Shelf<'a> {
@@ -72,14 +75,23 @@ impl<'a> Places for Shelf<'a> {
         }
     }
 
-    fn create(&mut self, _name: &str) -> io::Result<Paper> {
-        Err(io::Error::from(ErrorKind::PermissionDenied))
+    // A place with room for two instructions.
+    fn create(&mut self, name: &str) -> io::Result<Paper> {
+        self.made = self.made.saturating_add(1);
+        if name == "closed" {
+            return Err(io::Error::from(ErrorKind::PermissionDenied));
+        }
+        Ok(Paper {
+            taken: Vec::new(self.alloc),
+            room: 16,
+        })
     }
 }
 
 #[derive(Drop)]
 struct Answer {
     status: u8,
+    made: u32,
     out: Vec<u8>,
     err: Vec<u8>,
 }
@@ -103,11 +115,18 @@ fn answer_to(
         name: "i.img",
         bytes,
         fails,
+        made: 0,
+        alloc,
     };
     let mut out = Vec::new(alloc);
     let mut err = Vec::new(alloc);
     let status = respond(alloc, &words, &mut places, &mut out, &mut err);
-    Ok(Answer { status, out, err })
+    Ok(Answer {
+        status,
+        made: places.made,
+        out,
+        err,
+    })
 }
 
 const SMALLEST: [u8; 16] = [0xb7, 0, 0, 0, 0, 0, 0, 0, 0x95, 0, 0, 0, 0, 0, 0, 0];
@@ -181,6 +200,8 @@ fn output_fails(rt: HostRuntime) -> Result<(), Fail> {
             name: "i.img",
             bytes: &SMALLEST,
             fails: false,
+            made: 0,
+            alloc: rt.alloc(),
         };
         let mut out = Paper {
             taken: Vec::new(rt.alloc()),
@@ -195,5 +216,150 @@ fn output_fails(rt: HostRuntime) -> Result<(), Fail> {
         );
         assert!(rt; b"base\n".starts_with(out.taken.as_slice()));
     }
+    Ok(())
+}
+
+#[test]
+fn texts_are_assembled(rt: HostRuntime) -> Result<(), Fail> {
+    let rows: [(&str, &[u8], u8, u32, &[u8], &[u8]); 9] = [
+        ("out", b"r0 = 0\nexit", 0, 1, b"", b""),
+        ("out", b"goto x", 1, 0, b"no A4 at line 1\n", b""),
+        ("out", b"r1 = 2147483648", 1, 0, b"no A2 at line 1\n", b""),
+        (
+            "out",
+            b"exit\nx: exit\nx: exit",
+            1,
+            0,
+            b"no A3 at line 3\n",
+            b"",
+        ),
+        ("out", b"", 1, 0, b"no A6 at line 1 (E1 at slot 0)\n", b""),
+        (
+            "out",
+            b"exit\ngoto +5\n",
+            1,
+            0,
+            b"no A6 at line 2 (E8 at slot 1)\n",
+            b"",
+        ),
+        ("out", b"exit ; \xff", 3, 0, b"", b"cannot read i.img\n"),
+        ("closed", b"exit", 3, 1, b"", b"cannot write closed\n"),
+        (
+            "out",
+            b"r0 = 0\nr0 = 0\nexit",
+            3,
+            1,
+            b"",
+            b"cannot write out\n",
+        ),
+    ];
+    for (output, text, status, made, out, err) in rows {
+        let got = answer_to(rt.alloc(), &["bpf", "asm", "i.img", output], text, false)?;
+        assert_eq!(rt; got.status, status, "{text:?}");
+        assert_eq!(rt; got.made, made, "{text:?}");
+        assert_eq!(rt; got.out.as_slice(), out, "{text:?}");
+        assert_eq!(rt; got.err.as_slice(), err, "{text:?}");
+    }
+    let broken = answer_to(rt.alloc(), &["bpf", "asm", "i.img", "out"], b"exit", true)?;
+    assert_eq!(rt; broken.status, 3);
+    assert_eq!(rt; broken.made, 0);
+    Ok(())
+}
+
+#[test]
+fn images_are_listed(rt: HostRuntime) -> Result<(), Fail> {
+    let rows: [(&[u8], u8, &[u8]); 3] = [
+        (&SMALLEST, 0, b"r0 = 0\nexit\n"),
+        (
+            &COUNTDOWN,
+            0,
+            b"r6 = 10\nr6 += -1\nif r6 != 0 goto -2\nr0 = 0\nexit\n",
+        ),
+        (&[0x95, 1, 0, 0, 0, 0, 0, 0], 1, b"no E4 at slot 0\n"),
+    ];
+    for (bytes, status, out) in rows {
+        let got = answer_to(rt.alloc(), &["bpf", "list", "i.img"], bytes, false)?;
+        assert_eq!(rt; got.status, status, "{out:?}");
+        assert_eq!(rt; got.out.as_slice(), out);
+    }
+    Ok(())
+}
+
+const COUNTDOWN: [u8; 40] = [
+    0xb7, 6, 0, 0, 10, 0, 0, 0, 0x07, 6, 0, 0, 0xff, 0xff, 0xff, 0xff, 0x55, 6, 0xfe, 0xff, 0, 0,
+    0, 0, 0xb7, 0, 0, 0, 0, 0, 0, 0, 0x95, 0, 0, 0, 0, 0, 0, 0,
+];
+/// `r0 = *(u8 *)(r1 + 0)` and `exit`.
+const FIRST_BYTE: [u8; 16] = [0x71, 0x10, 0, 0, 0, 0, 0, 0, 0x95, 0, 0, 0, 0, 0, 0, 0];
+
+#[test]
+fn images_are_run(rt: HostRuntime) -> Result<(), Fail> {
+    let rows: [(&[u8], &str, &str, u8, &[u8], &[u8]); 11] = [
+        (&COUNTDOWN, "none", "23", 0, b"done 0 steps 23\n", b""),
+        (&COUNTDOWN, "none", "22", 1, b"out of fuel\n", b""),
+        (&COUNTDOWN, "none", "0", 1, b"out of fuel\n", b""),
+        (
+            &REMAINDER,
+            "none",
+            "100",
+            0,
+            b"done 18446744073709551615 steps 3\n",
+            b"",
+        ),
+        (&FIRST_BYTE, "fF", "9", 0, b"done 255 steps 2\n", b""),
+        (
+            &FIRST_BYTE,
+            "none",
+            "9",
+            1,
+            b"fault F3 at slot 0 steps 0\n",
+            b"",
+        ),
+        (
+            &FIRST_BYTE,
+            "",
+            "9",
+            1,
+            b"fault F3 at slot 0 steps 0\n",
+            b"",
+        ),
+        (&FIRST_BYTE, "f", "9", 2, b"", b"bad hex\n"),
+        (&FIRST_BYTE, "0x", "9", 2, b"", b"bad hex\n"),
+        // The context is judged before the image.
+        (&[0x95], "zz", "9", 2, b"", b"bad hex\n"),
+        (&[0x95], "00", "9", 1, b"no E1 at slot 0\n", b""),
+    ];
+    for (bytes, hex, steps, status, out, err) in rows {
+        let words = ["bpf", "run", "i.img", hex, "--steps", steps];
+        let got = answer_to(rt.alloc(), &words, bytes, false)?;
+        assert_eq!(rt; got.status, status, "{hex} {steps}");
+        assert_eq!(rt; got.out.as_slice(), out, "{hex} {steps}");
+        assert_eq!(rt; got.err.as_slice(), err, "{hex} {steps}");
+    }
+    for steps in ["4294967296", "-1", "ten"] {
+        let words = ["bpf", "run", "i.img", "none", "--steps", steps];
+        let got = answer_to(rt.alloc(), &words, &SMALLEST, false)?;
+        assert_eq!(rt; got.status, 2, "{steps}");
+    }
+    Ok(())
+}
+
+#[test]
+fn contexts_have_a_limit(rt: HostRuntime) -> Result<(), Fail> {
+    let mut text = String::new(rt.alloc());
+    for _ in 0..4096 {
+        text.push_str("2a")?;
+    }
+    assert_eq!(rt; context_of(rt.alloc(), text.as_str())?.len(), 4096);
+    text.push_str("2a")?;
+    assert_eq!(rt;
+        context_of(rt.alloc(), text.as_str()).err(),
+        Some(ContextError::TooLong)
+    );
+    text.push_str("2")?;
+    assert_eq!(rt;
+        context_of(rt.alloc(), text.as_str()).err(),
+        Some(ContextError::BadHex)
+    );
     Ok(())
 }

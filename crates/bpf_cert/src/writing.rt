@@ -10,25 +10,15 @@ ghost use Rattle.bpf_cert.specs.Spelling.{place_of, place_at, contents, entry_li
 use crate::certificate::{Certificate, Function, Label};
 use crate::limits::numbered;
 use crate::spelling::{entry_text, function_text, header_text, label_text};
+use bpf_insn::written;
 use bpf_state::{Place, Pointer, RegState, SlotState, State};
-use std::io::{self, ErrorKind, Write};
+use std::io::{self, Write};
 
-// All the bytes. A fault, or a write of no bytes, ends it; none is tried again.
+// All the bytes, by one clause for both ends.
 fn write_bytes<W: Write>(out: &mut W, bytes: &[u8]) -> io::Result<()>
     ensures { Writes (W.contents out.old) (W.contents out.new) bytes.now result }
 {
-    let mut rest = bytes;
-    'writes: while !rest.is_empty() {
-        let count = match out.write(rest) {
-            Ok(count) => count,
-            Err(error) => return Err(error),
-        };
-        if count == 0 {
-            return Err(io::Error::from(ErrorKind::WriteZero));
-        }
-        rest = &rest[count..];
-    }
-    Ok(())
+    written::write_bytes(out, bytes)
 }
 
 /// What a slot would hold that holds what a register does.

@@ -11,7 +11,7 @@ use crate::instruction::{AluOp, AtomicOp, EndBits, Insn, Modify, Operand, Reg, S
 use byteorder::{ByteOrder, LittleEndian};
 
 /// The registers by the four bits of a register field.
-pub const REGISTERS: [Option<Reg>; 16] = [
+pub static REGISTERS: [Option<Reg>; 16] = [
     Some(Reg::R0),
     Some(Reg::R1),
     Some(Reg::R2),

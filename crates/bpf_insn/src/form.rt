@@ -66,7 +66,7 @@ pub enum Form {
 }
 
 /// The operations that their code alone tells, by code (section 4.1).
-pub const ALU_OPS: [Option<AluOp>; 16] = [
+pub static ALU_OPS: [Option<AluOp>; 16] = [
     Some(AluOp::Add),
     Some(AluOp::Sub),
     Some(AluOp::Mul),
@@ -86,7 +86,7 @@ pub const ALU_OPS: [Option<AluOp>; 16] = [
 ];
 
 /// The tests of conditional jumps, by code (section 4.3).
-pub const CONDS: [Option<Cond>; 16] = [
+pub static CONDS: [Option<Cond>; 16] = [
     None,
     Some(Cond::Eq),
     Some(Cond::Gt),
@@ -106,7 +106,7 @@ pub const CONDS: [Option<Cond>; 16] = [
 ];
 
 /// The sizes of accesses, by code (section 5).
-pub const SIZES: [Size; 4] = [Size::W, Size::H, Size::B, Size::DW];
+pub static SIZES: [Size; 4] = [Size::W, Size::H, Size::B, Size::DW];
 
 fn source_of(opcode: u8) -> Source
     ensures { result ≡ source_in opcode }

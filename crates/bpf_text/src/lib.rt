@@ -13,7 +13,6 @@ mod statement;
 #[cfg(test)]
 mod tests;
 mod token;
-mod written;
 
 pub use assembler::assemble;
 pub use error::TextError;

@@ -9,7 +9,7 @@ ghost use Rattle.bpf_text.specs.Pieces.{piece_text};
 
 use crate::digits::digits_of;
 use crate::spelling::{Memory, Register, Spelled, Swap};
-use crate::written::write_bytes;
+use bpf_insn::written::write_bytes;
 use bpf_insn::{
     AluOp, AtomicOp, Cond, EndBits, EndKind, Insn, Modify, Operand, Program, Reg, SignBits, Size,
     Width,

@@ -6,7 +6,7 @@ use crate::commands::image::{image_at, refuse};
 use crate::context::context_of;
 use crate::failure::{DONE, Failure, REFUSED, say};
 use crate::places::Places;
-use bpf_insn::ProgramView;
+use bpf_insn::decode;
 use bpf_machine::{Outcome, run};
 use std::alloc::{AllocError, Global};
 use std::io::Write;
@@ -53,7 +53,8 @@ pub fn ran<'a, P: Places, W: Write>(
         Ok(bytes) => bytes,
         Err(error) => return refuse(alloc, out, error),
     };
-    match ProgramView::of(&bytes) {
+    // A program of its own is decoded once, where a view would be at each step.
+    match decode(alloc, &bytes) {
         Ok(program) => {
             let outcome = run(&program, &context, u64::from(steps));
             let (line, status) = line_of(alloc, outcome)?;
