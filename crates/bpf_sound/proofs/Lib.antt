@@ -1,0 +1,4 @@
+pub mod Judged
+pub mod Registers
+pub mod Constants
+pub mod StartLaws

@@ -1,0 +1,6 @@
+//! Which machine states an abstract state describes, and that transfer, edges and calls keep it.
+#![tactic(auto)]
+
+mod laws;
+
+pub use laws::{start_describes, start_is_abstract};
