@@ -1,8 +1,8 @@
 //! The laws of abstract states: what each promises of the machine's states that it describes.
 
-ghost use Rattle.bpf_sound.specs.Laws.{StartIsAbstract, StartDescribes};
+ghost use Rattle.bpf_sound.specs.Laws.{StartIsAbstract, StartDescribes, TightenedDescribes, EntailsDescribes};
 
-use bpf_num::laws::constant_has;
+use bpf_num::laws::{constant_has, entails_includes, tighten_keeps};
 
 /// A run begins with a state as an accepted certificate makes them.
 pub fn start_is_abstract()
@@ -16,4 +16,18 @@ pub fn start_describes()
     ensures { StartDescribes }
 {
     constant_has();
+}
+
+/// Tightening each number keeps every described machine state; where it gives None there is none.
+pub fn tightened_describes()
+    ensures { TightenedDescribes }
+{
+    tighten_keeps();
+}
+
+/// A state describes each machine state that one which entails it describes, tags aside.
+pub fn entails_describes()
+    ensures { EntailsDescribes }
+{
+    entails_includes();
 }

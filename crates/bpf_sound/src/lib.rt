@@ -3,4 +3,4 @@
 
 mod laws;
 
-pub use laws::{start_describes, start_is_abstract};
+pub use laws::{entails_describes, start_describes, start_is_abstract, tightened_describes};
