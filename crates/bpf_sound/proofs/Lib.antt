@@ -5,3 +5,9 @@ pub mod StartLaws
 pub mod Lists
 pub mod TightenedLaws
 pub mod EntailLaws
+pub mod Operands
+pub mod Tags
+pub mod Puts
+pub mod Offsets
+pub mod AluValues
+pub mod PlainLaws
