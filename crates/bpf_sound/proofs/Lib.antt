@@ -11,3 +11,4 @@ pub mod Puts
 pub mod Offsets
 pub mod AluValues
 pub mod PlainLaws
+pub mod BranchLaws

@@ -77,6 +77,16 @@ alu_keeps constants is_constant tightens law p len x op width dst src s m m' j s
     subst (λ o. Leads p len x o m') (sym (ap (λ o. option_map (λ r. put_register dst r (alu_tag s width op dst src) s) o) given.is_there))
     (put_keeps p len x i s m m' dst v given.value (alu_tag s width op dst src) j step refl (does_alu p.order op width dst src m b v e f) given.good.1 given.good.0 tag))
 
+-- ---- jumps
+
+-- a jump that is done leads to some slot
+pub jump_slot : (off : ℤ) (m m' : machine.State) → jump m off ≡ Some m' → (sl : ℕ) × (machine.at_slot sl m ≡ m')
+jump_slot off m m' did = by_target (target m.top.slot off) did
+  where
+    by_target : (o : Option ℕ) → option_map (λ sl. machine.at_slot sl m) o ≡ Some m' → (sl : ℕ) × (machine.at_slot sl m ≡ m')
+    by_target None h = cc
+    by_target (Some sl) h = (sl, same_Some (machine.at_slot sl m) m' h)
+
 -- ---- an operation on one number
 
 record HoldsNumber (R : RegState) (v : Option Value) : Type 0 where
@@ -131,14 +141,6 @@ module _ (p : Instructions) (len : ℕ) (x : List ℕ) where
     valid = ok;
     describes = record { length_is = d.length_is; registers = d.registers; slots = d.slots; register_tags = d.register_tags; slot_tags = d.slot_tags };
   }
-
-  -- a jump that is done leads to some slot
-  pub jump_slot : (off : ℤ) (m m' : machine.State) → jump m off ≡ Some m' → (sl : ℕ) × (machine.at_slot sl m ≡ m')
-  jump_slot off m m' did = by_target (target m.top.slot off) did
-    where
-      by_target : (o : Option ℕ) → option_map (λ sl. machine.at_slot sl m) o ≡ Some m' → (sl : ℕ) × (machine.at_slot sl m ≡ m')
-      by_target None h = cc
-      by_target (Some sl) h = (sl, same_Some (machine.at_slot sl m) m' h)
 
   jump_keeps : (off : ℤ) (s : AbstractState) (m m' : machine.State) → IsAbstract s → Describes p.order len x s m → jump m off ≡ Some m' → Leads p len x (Some s) m'
   jump_keeps off s m m' ok d did =

@@ -1,8 +1,8 @@
 //! The laws of abstract states: what each promises of the machine's states that it describes.
 
-ghost use Rattle.bpf_sound.specs.Laws.{StartIsAbstract, StartDescribes, TightenedDescribes, EntailsDescribes};
+ghost use Rattle.bpf_sound.specs.Laws.{StartIsAbstract, StartDescribes, BranchKeeps, TightenedDescribes, EntailsDescribes};
 
-use bpf_num::laws::{constant_has, entails_includes, tighten_keeps};
+use bpf_num::laws::{constant_has, entails_includes, refine_keeps, tighten_keeps};
 
 /// A run begins with a state as an accepted certificate makes them.
 pub fn start_is_abstract()
@@ -16,6 +16,15 @@ pub fn start_describes()
     ensures { StartDescribes }
 {
     constant_has();
+}
+
+/// The edge of a conditional jump on which a described machine goes on has a state, and it describes the machine there; so no
+/// machine takes an edge without one.
+pub fn branch_keeps()
+    ensures { BranchKeeps }
+{
+    constant_has();
+    refine_keeps();
 }
 
 /// Tightening each number keeps every described machine state; where it gives None there is none.

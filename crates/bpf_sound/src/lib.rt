@@ -3,4 +3,6 @@
 
 mod laws;
 
-pub use laws::{entails_describes, start_describes, start_is_abstract, tightened_describes};
+pub use laws::{
+    branch_keeps, entails_describes, start_describes, start_is_abstract, tightened_describes,
+};
