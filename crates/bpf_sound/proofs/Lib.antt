@@ -5,3 +5,15 @@ pub mod StartLaws
 pub mod Lists
 pub mod TightenedLaws
 pub mod EntailLaws
+pub mod StoredCells
+pub mod Cells
+pub mod Slots
+pub mod Stores
+pub mod Keeps
+pub mod Steps
+pub mod Spills
+pub mod ReadCells
+pub mod ReadPlaces
+pub mod KnownNumbers
+pub mod Loads
+pub mod Calls

@@ -3,4 +3,7 @@
 
 mod laws;
 
-pub use laws::{entails_describes, start_describes, start_is_abstract, tightened_describes};
+pub use laws::{
+    entails_describes, enter_keeps, leave_keeps, start_describes, start_is_abstract,
+    tightened_describes,
+};
