@@ -12,3 +12,15 @@ pub mod Offsets
 pub mod AluValues
 pub mod PlainLaws
 pub mod BranchLaws
+pub mod StoredCells
+pub mod Cells
+pub mod Slots
+pub mod Stores
+pub mod Keeps
+pub mod Steps
+pub mod Spills
+pub mod ReadCells
+pub mod ReadPlaces
+pub mod KnownNumbers
+pub mod Loads
+pub mod Calls

@@ -1,6 +1,6 @@
 //! The laws of abstract states: what each promises of the machine's states that it describes.
 
-ghost use Rattle.bpf_sound.specs.Laws.{StartIsAbstract, StartDescribes, BranchKeeps, TightenedDescribes, EntailsDescribes};
+ghost use Rattle.bpf_sound.specs.Laws.{StartIsAbstract, StartDescribes, BranchKeeps, TightenedDescribes, EntailsDescribes, EnterKeeps, LeaveKeeps};
 
 use bpf_num::laws::{constant_has, entails_includes, refine_keeps, tighten_keeps};
 
@@ -39,4 +39,16 @@ pub fn entails_describes()
     ensures { EntailsDescribes }
 {
     entails_includes();
+}
+
+/// A CALL leads to a state of the callee that its entry state describes.
+pub fn enter_keeps()
+    ensures { EnterKeeps }
+{}
+
+/// The EXIT of a callee leads its caller to a state that what is known of it before the CALL, and of the number, describes.
+pub fn leave_keeps()
+    ensures { LeaveKeeps }
+{
+    tighten_keeps();
 }

@@ -4,5 +4,6 @@
 mod laws;
 
 pub use laws::{
-    branch_keeps, entails_describes, start_describes, start_is_abstract, tightened_describes,
+    branch_keeps, entails_describes, enter_keeps, leave_keeps, start_describes, start_is_abstract,
+    tightened_describes,
 };
