@@ -24,3 +24,8 @@ pub mod ReadPlaces
 pub mod KnownNumbers
 pub mod Loads
 pub mod Calls
+pub mod ExtendedLoads
+pub mod Atomics
+pub mod NotStuck
+pub mod Waiting
+pub mod StepLaws

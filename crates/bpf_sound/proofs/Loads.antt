@@ -64,8 +64,8 @@ either_none true o e = e
 either_none false o e = refl
 
 -- bytes are readable
-bytes_readable : (m : machine.State) (size : Size) (dst src : Reg) (off : ℤ) (v : Value) (place : Place) → machine.register m src ≡ Some v → place_of m (byte_count size) off v ≡ Some place → unreadable_at m (byte_count size) place ≡ None → unreadable m (Load size dst src off) ≡ None
-bytes_readable m size dst src off v place base at ok = either_none (not (loads_pointer m (Load size dst src off))) (machine.register m src >>= place_of m (byte_count size) off >>= unreadable_at m (byte_count size)) (rw (base, at, ok))
+place_readable : (m : machine.State) (size : Size) (dst src : Reg) (off : ℤ) (v : Value) (place : Place) → machine.register m src ≡ Some v → place_of m (byte_count size) off v ≡ Some place → unreadable_at m (byte_count size) place ≡ None → unreadable m (Load size dst src off) ≡ None
+place_readable m size dst src off v place base at ok = either_none (not (loads_pointer m (Load size dst src off))) (machine.register m src >>= place_of m (byte_count size) off >>= unreadable_at m (byte_count size)) (rw (base, at, ok))
 
 pointer_readable : (m : machine.State) (dst src : Reg) (off : ℤ) (v v' : Value) (place : Place) → machine.register m src ≡ Some v → place_of m 8 off v ≡ Some place → pointer_at m place ≡ Some v' → unreadable m (Load DW dst src off) ≡ None
 pointer_readable m dst src off v v' place base at is = rw (base, at, is)
@@ -119,7 +119,7 @@ number_loaded p x s m size dst src off bytes r span is k = record {
   base = r.base;
   at = r.at;
   loads = loads_number p.order m size r.place bytes r.are r.plain;
-  readable = bytes_readable m size dst src off (PointerValue r.region r.offset) r.place r.base r.at r.readable;
+  readable = place_readable m size dst src off (PointerValue r.region r.offset) r.place r.base r.at r.readable;
   is_there = ap (λ o. loaded s o size) is ∙ k.is_there;
   describes = k.describes;
   tagged = subst (λ tag. TaggedRegister x tag (Some (NumberValue (number_of p.order (byte_count size) bytes)))) (sym (ap (λ o. loaded_tag s o) is)) k.tagged;

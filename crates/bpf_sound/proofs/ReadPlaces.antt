@@ -153,6 +153,12 @@ some_bytes H = omega arith
 some_bytes W = omega arith
 some_bytes DW = omega arith
 
+pub bytes_there : (m : machine.State) (k c : ℕ) (r : ReadBytes k c m.top.stack) → bytes_at m k (InFrame (machine.depth m) c) ≡ Some r.bytes
+bytes_there m k c r = ap (λ st. bytes_in (take k (drop c st))) (stack_here m) ∙ r.are
+
+pub bytes_readable : (m : machine.State) (k c : ℕ) → ReadBytes k c m.top.stack → unreadable_at m k (InFrame (machine.depth m) c) ≡ None
+bytes_readable m k c r = ap (λ st. first_unreadable (take k (drop c st))) (stack_here m) ∙ r.readable
+
 pub frame_read : (m : machine.State) (a : Access) (value : RegState) (t : InTop m a value) (r : ReadBytes (byte_count a.size) t.first m.top.stack) → Read m a r.bytes
 frame_read m a value t r =
     let some : 0 < byte_count a.size = some_bytes a.size in
@@ -163,8 +169,8 @@ frame_read m a value t r =
       place = InFrame (machine.depth m) t.first;
       base = t.base;
       at = t.place;
-      are = ap (λ st. bytes_in (take (byte_count a.size) (drop t.first st))) (stack_here m) ∙ r.are;
+      are = bytes_there m (byte_count a.size) t.first r;
       fit = r.fit;
-      readable = ap (λ st. first_unreadable (take (byte_count a.size) (drop t.first st))) (stack_here m) ∙ r.readable;
+      readable = bytes_readable m (byte_count a.size) t.first r;
       plain = no_pointer_at m t.first (slice_index r.bytes 0) first;
     }

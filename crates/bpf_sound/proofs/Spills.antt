@@ -43,7 +43,7 @@ use Rattle.bpf_sound.specs.Describes.{Describes, DescribesRegister, DescribesSlo
 use Rattle.bpf_sound.specs.Laws.{Leads, IsJudged, IsAbstract, IsSlot}
 use Rattle.bpf_sound.proofs.StoredCells.{each_cell_at}
 use Rattle.bpf_sound.proofs.Cells.{apart, and3_true}
-use Rattle.bpf_sound.proofs.Steps.{InTop, in_top, stack_top, with_top_stack, does_store_number, reason_is, byte_count_few, no_reason}
+use Rattle.bpf_sound.proofs.Steps.{InTop, in_top, stack_top, with_top_stack, does_store_number, byte_count_few}
 use Rattle.bpf_sound.proofs.Keeps.{whole_slot_is, set_at, value_slot_valid, at_top, number_stored, not_pointer}
 use Rattle.bpf_sound.proofs.Stores.{cells_of, same_slot, same_slot_tag}
 use Rattle.std.proofs.lemmas.Option.{same_Some}
@@ -185,8 +185,8 @@ module _ (p : Instructions) (len : ℕ) (x : List ℕ) (size : Size) (dst src : 
       let known = (or_parts (is_any (register s src)) false r.1).0 in
       stored_is m src t.span size (register s src) known t.count (subst (λ o. can_store o (register s src) ≡ true) t.span_is can) (j.described.registers src)
 
-  pub store_not_stuck : (why : Reason) → reason_of p m ≡ Some why → why ≡ TooManyFrames
-  store_not_stuck why e = no_reason why (reason_at m (Store size dst off src)) (none t (what t)) (reason_is p m (Store size dst off src) why j.stands e)
+  pub store_reason : reason_at m (Store size dst off src) ≡ None
+  store_reason = none t (what t)
     where
       none : (t : InTop m (store_access size dst off) (register s dst)) → Stored m src t.span size (register s src) → reason_at m (Store size dst off src) ≡ None
       none t (number y small e) = store_number_reason size dst src off y m (register s dst) t e
@@ -200,8 +200,8 @@ module _ (p : Instructions) (len : ℕ) (x : List ℕ) (size : Size) (dst src : 
           subst (λ sz. reason_at m (Store sz dst off src) ≡ None) (sym is_dw)
           (store_pointer_reason dst src off t.offset off' region (FrameAt (machine.depth m)) t.first m t.base e place (whole_place (t.offset +ℤ off) t.first t.at (omega arith) even))
 
-  pub store_keeps : (m' : machine.State) → Step p m m' → Leads p len x (after p.order (Store size dst off src) s) m'
-  store_keeps m' step =
+  store_leads : (m' : machine.State) → Step p m m' → Leads p len x (after p.order (Store size dst off src) s) m'
+  store_leads m' step =
       subst (λ o. Leads p len x (stored o (register s src) (register_tag s src) s) m') (sym t.span_is) (leads t (what t))
     where
       leads : (t : InTop m (store_access size dst off) (register s dst)) → Stored m src t.span size (register s src) → Leads p len x (stored (Some t.span) (register s src) (register_tag s src) s) m'
@@ -234,3 +234,6 @@ module _ (p : Instructions) (len : ℕ) (x : List ℕ) (size : Size) (dst src : 
                 (pointer_tag p.order x (register_tag s src) region off' (machine.register m src) (cells_of cells k0) e (j.described.register_tags src))
                 (λ k low' high' apart i lt. kept_part region off' t.first (512 - 8 * k + i) m.top.stack (elim apart [ inl b ↦ inl (omega arith) | inr b ↦ inr (omega arith) ]) (omega arith));
           })
+
+pub store_keeps : (p : Instructions) (len : ℕ) (x : List ℕ) (size : Size) (dst : Reg) (off : ℤ) (src : Reg) (s : AbstractState) (m m' : machine.State) → IsJudged p len x (Store size dst off src) s m → Step p m m' → Leads p len x (after p.order (Store size dst off src) s) m'
+store_keeps p len x size dst off src s m m' j step = store_leads p len x size dst src off s m j m' step

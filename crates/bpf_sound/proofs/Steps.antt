@@ -124,10 +124,6 @@ does_store_number order size dst src off y m value t e = rw (t.base, e, t.place)
 
 -- ---- steps of an instruction that stands there
 
-pub reason_is : (p : Instructions) (m : machine.State) (i : Insn) (why : Reason) → insn_at p.list m.top.slot ≡ Some i → reason_of p m ≡ Some why → reason_at m i ≡ Some why
-unfolding reason_of
-reason_is p m i why stands step = rw stands at step
-
 pub byte_count_few : (size : Size) → byte_count size ≤ 8
 byte_count_few B = omega arith
 byte_count_few H = omega arith
@@ -153,18 +149,8 @@ store_imm_keeps constants p len x size dst off imm s m m' j step =
     subst (λ o. Leads p len x (stored o (Num (constant y)) None s) m') (sym t.span_is)
     (leads_at p len x (stored (Some t.span) (Num (constant y)) None s) (at_top m (m.top.slot + 1) (stack' t.span.count)) m' e l)
 
-abbrev pub IsNoReason : Option Reason → Type 0
-IsNoReason None = ⊤
-IsNoReason (Some why) = ⊥
-
-pub no_reason : (why : Reason) (o : Option Reason) → o ≡ None → o ≡ Some why → why ≡ TooManyFrames
-no_reason why o e f = absurd (subst (λ r. IsNoReason r) (sym e ∙ f) tt)
-
-pub store_imm_reason : (size : Size) (dst : Reg) (off imm : ℤ) (m : machine.State) (value : RegState) (t : InTop m (record { base = dst; offset = off; size = size; reads = false; writes = true }) value) → reason_at m (StoreImm size dst off imm) ≡ None
+pub store_imm_reason : (p : Instructions) (len : ℕ) (x : List ℕ) (size : Size) (dst : Reg) (off imm : ℤ) (s : AbstractState) (m : machine.State) → IsJudged p len x (StoreImm size dst off imm) s m → reason_at m (StoreImm size dst off imm) ≡ None
 unfolding reason_at
-store_imm_reason size dst off imm m value t = rw (t.base, t.place)
-
-pub store_imm_not_stuck : (p : Instructions) (len : ℕ) (x : List ℕ) (size : Size) (dst : Reg) (off imm : ℤ) (s : AbstractState) (m : machine.State) (why : Reason) → IsJudged p len x (StoreImm size dst off imm) s m → reason_of p m ≡ Some why → why ≡ TooManyFrames
-store_imm_not_stuck p len x size dst off imm s m why j e =
+store_imm_reason p len x size dst off imm s m j =
     let t = store_imm_base p len x size dst off imm s m j in
-    no_reason why (reason_at m (StoreImm size dst off imm)) (store_imm_reason size dst off imm m (register s dst) t) (reason_is p m (StoreImm size dst off imm) why j.stands e)
+    rw (t.base, t.place)

@@ -1,8 +1,11 @@
 //! The laws of abstract states: what each promises of the machine's states that it describes.
 
-ghost use Rattle.bpf_sound.specs.Laws.{StartIsAbstract, StartDescribes, BranchKeeps, TightenedDescribes, EntailsDescribes, EnterKeeps, LeaveKeeps};
+ghost use Rattle.bpf_sound.specs.Laws.{StartIsAbstract, StartDescribes, BranchKeeps, TightenedDescribes, EntailsDescribes, EnterKeeps, LeaveKeeps, NotStuckInside, StepKeeps, WaitingFramesStay};
 
-use bpf_num::laws::{constant_has, entails_includes, refine_keeps, tighten_keeps};
+use bpf_num::laws::{
+    alu_keeps, constant_has, constant_is, end_keeps, entails_includes, movsx_keeps, neg_keeps,
+    refine_keeps, tighten_keeps,
+};
 
 /// A run begins with a state as an accepted certificate makes them.
 pub fn start_is_abstract()
@@ -18,6 +21,27 @@ pub fn start_describes()
     constant_has();
 }
 
+/// A described state without fault isn't stuck, but for a CALL with eight live frames.
+pub fn not_stuck_inside()
+    ensures { NotStuckInside }
+{
+    constant_has();
+    tighten_keeps();
+}
+
+/// The state after an instruction that neither jumps on a test nor calls nor returns describes the machine after it.
+pub fn step_keeps()
+    ensures { StepKeeps }
+{
+    constant_has();
+    constant_is();
+    tighten_keeps();
+    alu_keeps();
+    neg_keeps();
+    movsx_keeps();
+    end_keeps();
+}
+
 /// The edge of a conditional jump on which a described machine goes on has a state, and it describes the machine there; so no
 /// machine takes an edge without one.
 pub fn branch_keeps()
@@ -26,6 +50,11 @@ pub fn branch_keeps()
     constant_has();
     refine_keeps();
 }
+
+/// A step that is neither a CALL nor an EXIT leaves the waiting frames as they are.
+pub fn waiting_frames_stay()
+    ensures { WaitingFramesStay }
+{}
 
 /// Tightening each number keeps every described machine state; where it gives None there is none.
 pub fn tightened_describes()
