@@ -1,13 +1,12 @@
 -- Atomic operations: a number of the frame is read, and a number is written in its place.
-use Rattle.std.proofs.Common.{◌≡◌, ℕ, ℤ, ◌+◌, ◌<◌, ◌≤◌, refl, sym, ◌∙◌, ap, subst, List, Option, Some, None, Bool, true, false}
-use Rattle.std.specs.Prelude.{◌==◌, ◌&&◌, not, option_map, option_and_then}
+use Rattle.std.proofs.Common.{◌≡◌, ℕ, ℤ, ◌+◌, ◌≤◌, refl, sym, ◌∙◌, ap, subst, List, Option, Some, None, Bool, true, false}
+use Rattle.std.specs.Prelude.{◌&&◌, not, option_map, option_and_then}
 use Rattle.std.specs.Option.{option_map_or}
-use Rattle.std.proofs.lemmas.Bool.{false≢true, and_parts, or_parts, not-false}
+use Rattle.std.proofs.lemmas.Bool.{false≢true, or_parts, not-false}
 use Rattle.std.proofs.lemmas.Option.{same_Some}
 use Rattle.bpf_insn.specs.declared.order.Order.{Order}
 use Rattle.bpf_insn.specs.declared.state.Value.{Value}
-use Rattle.bpf_insn.specs.declared.state.Value.TheVariants.{Number as NumberValue, Pointer as PointerValue}
-use Rattle.bpf_insn.specs.declared.state.Region.TheVariants.{Frame as FrameAt}
+use Rattle.bpf_insn.specs.declared.state.Value.TheVariants.{Number as NumberValue}
 use Rattle.bpf_insn.specs.declared.instruction.Reg.{Reg}
 use Rattle.bpf_insn.specs.declared.instruction.Reg.TheVariants.{R0}
 use Rattle.bpf_insn.specs.declared.instruction.AtomicOp.{AtomicOp}
@@ -15,7 +14,7 @@ use Rattle.bpf_insn.specs.declared.instruction.AtomicOp.TheVariants.{Modify as C
 use Rattle.bpf_insn.specs.declared.instruction.Size.{Size}
 use Rattle.bpf_insn.specs.declared.instruction.Insn.{Insn}
 use Rattle.bpf_insn.specs.declared.instruction.Insn.TheVariants.{Atomic}
-use Rattle.bpf_insn.specs.Instruction.{register_number, Instructions, byte_count, word_size}
+use Rattle.bpf_insn.specs.Instruction.{Instructions, byte_count, word_size}
 use Rattle.bpf_insn.specs.Order.{number_of, bytes_of}
 use Rattle.bpf_insn.specs.Step.{Step, does, next, atomic_result, fetch_register, fetched as machine_fetched}
 use Rattle.bpf_insn.specs.Stuck.{Access, is_frame_pointer, reason_at, unreadable_at}
@@ -32,15 +31,15 @@ use Rattle.bpf_state.specs.Fault.{have_right_kinds, reads_part, some_passes, is_
 use Rattle.bpf_state.specs.Transfer.{after, fetched, loaded, modified_by, slot_maybe_written, with_touched}
 use Rattle.bpf_sound.specs.Describes.{Describes, DescribesRegister}
 use Rattle.bpf_sound.specs.Laws.{Leads, IsJudged, IsAbstract, IsRegister}
-use Rattle.bpf_sound.proofs.Cells.{and3_true}
-use Rattle.bpf_sound.proofs.Judged.{NoFault, no_fault_is, not_protected, step_is, leads_at, top_frame}
+use Rattle.bpf_sound.proofs.Judged.{NoFault, no_fault_is, step_is, leads_at, top_frame}
 use Rattle.bpf_sound.proofs.Registers.{reg_top, put_is, register_put}
 use Rattle.bpf_sound.proofs.ReadCells.{ReadBytes, no_slot}
-use Rattle.bpf_sound.proofs.ReadPlaces.{frame_bytes, bytes_there, bytes_readable, and_at}
+use Rattle.bpf_sound.proofs.ReadPlaces.{frame_bytes, bytes_there, bytes_readable}
 use Rattle.bpf_sound.proofs.KnownNumbers.{Known, frame_known}
-use Rattle.bpf_sound.proofs.Steps.{InTop, in_top, store_top}
-use Rattle.bpf_sound.proofs.Keeps.{at_top, touched_describes, touched_valid, is_slot_maybe_written, length-bytes_of, are_bytes_of}
-use Rattle.bpf_sound.proofs.Stores.{Write, unknown_slot}
+use Rattle.bpf_sound.proofs.FrameStores.{InTop, in_top, store_top}
+use Rattle.bpf_sound.proofs.NumberStores.{at_top, touched_describes, touched_valid, is_slot_maybe_written, length-bytes_of, are_bytes_of}
+use Rattle.bpf_sound.proofs.ByteStores.{Write, unknown_slot}
+use Rattle.bpf_sound.proofs.Tests.{and3_true, and_at}
 
 abbrev pub atomic_access : Bool → Reg → ℤ → Access
 atomic_access wide dst off = record { base = dst; offset = off; size = word_size wide; reads = true; writes = true }

@@ -1,35 +1,31 @@
 -- Calls and returns.
 use Rattle.std.proofs.Common.{◌≡◌, ℕ, zero, suc, pos, ◌+◌, ◌-◌, refl, sym, ◌∙◌, ap, subst, arith, List, [], ◌∷◌, length, get_or, Option, Some, None, Bool, true, false, cond, ℤ}
-use Rattle.std.specs.Prelude.{option_map, option_and_then, nat_lt}
+use Rattle.std.specs.Prelude.{option_map, option_and_then, nat_lt, take, drop, replicate, ◌++◌}
 use Rattle.std.proofs.lemmas.Int.{ints}
+use Rattle.std.proofs.lemmas.Nat.Bits.{bit_at-zero}
+use Rattle.std.proofs.lemmas.List.{get_or-drop, length-drop}
+use Rattle.std.proofs.lemmas.Option.{same_Some}
 use Rattle.bpf_insn.specs.declared.state.Value.{Value}
 use Rattle.bpf_insn.specs.declared.state.Value.TheVariants.{Number as NumberValue, Pointer as PointerValue}
 use Rattle.bpf_insn.specs.declared.state.Region.TheVariants.{Frame as FrameAt}
-use Rattle.std.proofs.lemmas.Nat.Bits.{bit_at-zero}
-use Rattle.bpf_insn.specs.Instruction.{register_number, Instructions, insn_at, target}
-use Rattle.bpf_insn.specs.Step.{call, wrapped, Step, step_of, does, next}
 use Rattle.bpf_insn.specs.declared.instruction.Reg.{Reg}
-use Rattle.bpf_insn.specs.Step.{operand as machine_operand, alu_result}
 use Rattle.bpf_insn.specs.declared.instruction.Reg.TheVariants.{R0, R1, R2, R3, R4, R5, R6, R7, R8, R9, R10}
-use Rattle.bpf_num.specs.Laws.{TightenKeeps}
+use Rattle.bpf_insn.specs.declared.instruction.Insn.TheVariants.{CallLocal, Exit}
+use Rattle.bpf_insn.specs.Instruction.{register_number, Instructions, insn_at, target}
+use Rattle.bpf_insn.specs.Step.{Step, does}
 use Rattle.bpf_insn.specs.State as machine
-use Rattle.bpf_insn.specs.State.{Cell, StackFrame, put, IsFrame, IsNumberCell, HoldsNoPart, HoldsPointer, cell}
-use Rattle.bpf_insn.specs.State.Cell.{Byte, Part}
+use Rattle.bpf_insn.specs.State.{IsFrame}
+use Rattle.bpf_insn.specs.Step as step
+use Rattle.bpf_num.specs.Laws.{TightenKeeps}
 use Rattle.bpf_num.specs.Number.{Number, IsNumber, Has}
 use Rattle.bpf_state.specs.declared.state.RegState.{RegState}
 use Rattle.bpf_state.specs.declared.state.RegState.TheVariants.{Any, Num, Ctx, Frame}
 use Rattle.bpf_state.specs.declared.state.SlotState.TheVariants.{Bytes}
-use Rattle.bpf_state.specs.State.{AbstractState}
-use Rattle.bpf_state.specs.State.{entered, left, without_frame, each_without_frame, no_tags}
-use Rattle.bpf_insn.specs.Step as step
-use Rattle.std.proofs.lemmas.List.{get_or-drop, length-drop}
-use Rattle.std.specs.Prelude.{take, drop, replicate, ◌++◌}
+use Rattle.bpf_state.specs.State.{AbstractState, entered, left, without_frame, each_without_frame, no_tags}
 use Rattle.bpf_sound.specs.Describes.{Describes, DescribesRegister, DescribesSlot, TaggedRegister, TaggedSlot, slot_cell}
 use Rattle.bpf_sound.specs.Laws.{EnterKeeps, LeaveKeeps, Leads, IsAbstract, IsRegister, IsSlot}
-use Rattle.std.proofs.lemmas.Option.{same_Some}
 use Rattle.bpf_sound.proofs.Judged.{step_is, leads_at, top_frame}
-use Rattle.bpf_insn.specs.declared.instruction.Insn.TheVariants.{CallLocal, Exit}
-use Rattle.bpf_sound.proofs.Cells.{zero_or_one}
+use Rattle.bpf_sound.proofs.TouchedCells.{zero_or_one}
 
 -- ---- a return
 

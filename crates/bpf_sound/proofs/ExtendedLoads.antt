@@ -1,10 +1,10 @@
 -- Sign-extending loads.
-use Rattle.std.proofs.Common.{◌≡◌, ℕ, ℤ, pos, ◌+ℤ◌, ◌*◌, ◌%◌, ◌^◌, ◌<◌, ◌≤◌, refl, sym, ◌∙◌, ap, subst, arith, List, Option, Some, None, true, false}
+use Rattle.std.proofs.Common.{◌≡◌, ℕ, ℤ, ◌%◌, ◌^◌, ◌<◌, refl, sym, ◌∙◌, ap, subst, arith, List, None, true, false}
 use Rattle.std.specs.Prelude.{◌==◌, ◌&&◌, not, option_map, option_and_then}
 use Rattle.std.specs.Int.{cast_signed}
-use mir.Val.{bits}
 use Rattle.std.proofs.lemmas.Int.{ints}
 use Rattle.std.proofs.lemmas.Bool.{false≢true, or_parts, not-false}
+use mir.Val.{bits}
 use Rattle.bpf_insn.specs.declared.order.Order.{Order}
 use Rattle.bpf_insn.specs.declared.state.Value.TheVariants.{Number as NumberValue}
 use Rattle.bpf_insn.specs.declared.instruction.Reg.{Reg}
@@ -33,7 +33,7 @@ use Rattle.bpf_num.specs.SignedInterval.{IsSignedInterval, SignedWithin, signed_
 use Rattle.bpf_state.specs.declared.state.RegState.{RegState}
 use Rattle.bpf_state.specs.declared.state.RegState.TheVariants.{Any, Num, Ctx, Frame}
 use Rattle.bpf_state.specs.State.{AbstractState, register, slot, put_register}
-use Rattle.bpf_state.specs.Access.{Span, span_from, is_inside, is_pointer_slot, are_known_bytes, any_slot, touches, touched_bytes}
+use Rattle.bpf_state.specs.Access.{span_from, is_inside, is_pointer_slot, are_known_bytes, any_slot, touches, touched_bytes}
 use Rattle.bpf_state.specs.Fault.{reads_part, some_passes, is_pointer}
 use Rattle.bpf_state.specs.Transfer.{after, any_signed}
 use Rattle.bpf_sound.specs.Describes.{DescribesRegister}
@@ -41,12 +41,13 @@ use Rattle.bpf_sound.specs.Laws.{Leads, IsJudged}
 use Rattle.bpf_sound.proofs.Judged.{NoFault, no_fault_is, not_protected}
 use Rattle.bpf_sound.proofs.Puts.{put_keeps}
 use Rattle.bpf_sound.proofs.ReadCells.{no_slot}
-use Rattle.bpf_sound.proofs.ReadPlaces.{Read, context_read, frame_read, frame_bytes, and_at}
+use Rattle.bpf_sound.proofs.ReadPlaces.{Read, context_read, frame_read, frame_bytes}
 use Rattle.bpf_sound.proofs.KnownNumbers.{number_fits}
 use Rattle.bpf_sound.proofs.Loads.{load_access}
-use Rattle.bpf_sound.proofs.Steps.{InTop, in_top}
-use Rattle.bpf_sound.proofs.Keeps.{is_number_top}
-use Rattle.bpf_sound.proofs.Slots.{has_top}
+use Rattle.bpf_sound.proofs.FrameStores.{InTop, in_top}
+use Rattle.bpf_sound.proofs.NumberStores.{is_number_top}
+use Rattle.bpf_sound.proofs.WrittenSlots.{has_top}
+use Rattle.bpf_sound.proofs.Tests.{and_at}
 
 -- ---- numbers of a size, read as signed
 

@@ -1,6 +1,7 @@
 -- What is known of a number that an access reads.
 use Rattle.std.proofs.Common.{List, ◌≡◌, ℕ, ◌+◌, ◌-◌, ◌*◌, ◌^◌, ◌<◌, ◌≤◌, refl, sym, ◌∙◌, ap, subst, arith, get_or, Option, Some, None, Bool, true, false, cond}
 use Rattle.std.specs.Prelude.{slice_index, ◌&&◌, option_map}
+use Rattle.std.specs.Cmp.Derive.{both_true}
 use Rattle.std.proofs.lemmas.Bool.{false≢true}
 use Rattle.byteorder.specs.Numbers.{big_from-lt, little_from-lt}
 use Rattle.bpf_insn.specs.declared.order.Order.{Order}
@@ -28,12 +29,12 @@ use Rattle.bpf_state.specs.Access.{Span, is_slot, slot_number, is_pointer_slot, 
 use Rattle.bpf_state.specs.Transfer.{loaded, loaded_tag, any_number}
 use Rattle.bpf_sound.specs.Describes.{Describes, DescribesRegister, DescribesSlot, TaggedRegister, TaggedSlot, IsStored, IsTagged}
 use Rattle.bpf_sound.specs.Laws.{IsAbstract, IsRegister, IsSlot}
-use Rattle.bpf_sound.proofs.Cells.{LiesAt}
 use Rattle.bpf_sound.proofs.ReadCells.{ReadBytes, is_touched, stored_once}
-use Rattle.bpf_sound.proofs.Steps.{InTop}
-use Rattle.bpf_sound.proofs.Keeps.{WholeSlot, whole_slot_is, is_number_top}
-use Rattle.bpf_sound.proofs.Stores.{cells_of}
-use Rattle.bpf_sound.proofs.Slots.{has_top}
+use Rattle.bpf_sound.proofs.FrameStores.{InTop}
+use Rattle.bpf_sound.proofs.NumberStores.{WholeSlot, whole_slot_is, is_number_top}
+use Rattle.bpf_sound.proofs.ByteStores.{cells_of}
+use Rattle.bpf_sound.proofs.WrittenSlots.{has_top}
+use Rattle.bpf_sound.proofs.Tests.{and_second}
 
 -- ---- numbers of a size
 
@@ -94,14 +95,6 @@ slot_value_valid (Bytes mask) ok = tt
 slot_value_valid (Word n) ok = ok
 slot_value_valid (Ptr q) ok = ok
 
-pub and_both : (a b : Bool) → a ≡ true → b ≡ true → (a && b) ≡ true
-and_both true b e f = f
-and_both false b e f = absurd (false≢true e)
-
-and_second : (a b : Bool) → b ≡ false → (a && b) ≡ false
-and_second true b e = e
-and_second false b e = refl
-
 module _ (tightens : TightenKeeps) (order : Order) (len : ℕ) (x : List ℕ) (s : AbstractState) (m : machine.State) (a : Access) (value : RegState) (valid : IsAbstract s) (d : Describes order len x s m) (t : InTop m a value) (r : ReadBytes (byte_count a.size) t.first m.top.stack) where
   -- a whole slot of bytes
   word_known : is_slot t.span ≡ true → is_pointer_slot (slot s (slot_number t.span)) ≡ false → Known x s m t.span a.size (number_of order (byte_count a.size) r.bytes)
@@ -112,7 +105,7 @@ module _ (tightens : TightenKeeps) (order : Order) (len : ℕ) (x : List ℕ) (s
       let eight : byte_count a.size ≡ 8 = sym t.count ∙ w.count in
       let at = w.at in
       let st : IsStored order y (cells_of m.top.stack k0) = (r.bytes, r.count ∙ eight, λ i lt. ap (λ n. get_or m.top.stack (n + i) None) (sym at) ∙ r.at i (omega arith), ap (λ n. number_of order n r.bytes) eight) in
-      let on = and_both t.span.in_frame (is_slot t.span) t.lies.in_frame whole in
+      let on = both_true t.lies.in_frame whole in
       record {
         state = slot_value (slot s k0);
         is_there = ap (λ b. cond b (Some (slot_value (slot s k0))) (option_map Num (any_number (byte_count a.size)))) on;

@@ -1,7 +1,8 @@
 -- Loads: of a number, or of a pointer as a whole.
-use Rattle.std.proofs.Common.{◌≡◌, ℕ, ℤ, pos, ◌+ℤ◌, ◌≤ℤ◌, ◌+◌, ◌-◌, ◌*◌, ◌%◌, ◌<◌, ◌≤◌, refl, sym, ◌∙◌, ap, subst, arith, List, get_or, Option, Some, None, Bool, true, false, cond}
+use Rattle.std.proofs.Common.{◌≡◌, ℕ, ℤ, ◌+ℤ◌, ◌≤ℤ◌, ◌+◌, ◌%◌, ◌≤◌, refl, sym, ◌∙◌, ap, subst, arith, List, get_or, Option, Some, None, Bool, true, false, cond}
 use Rattle.std.specs.Prelude.{◌==◌, ◌&&◌, not, option_map, unsigned_abs}
 use Rattle.std.specs.Option.{option_or}
+use Rattle.std.specs.Cmp.Derive.{both_true}
 use Rattle.std.proofs.lemmas.Bool.{false≢true, or_parts, not-false}
 use Rattle.std.proofs.lemmas.Bool.Decides.{Decides-int_eq, Decides-eqb}
 use Rattle.std.proofs.lemmas.Option.{same_Some}
@@ -21,7 +22,6 @@ use Rattle.bpf_insn.specs.Step.{◌>>=◌, load, Step, does}
 use Rattle.bpf_insn.specs.Stuck.{unreadable, unreadable_at, loads_pointer, Access, reason_at}
 use Rattle.bpf_insn.specs.State as machine
 use Rattle.bpf_insn.specs.State.{Cell}
-use Rattle.bpf_insn.specs.State.Cell.{Byte, Part}
 use Rattle.bpf_insn.specs.Memory.{Place, bytes_at, number_at, pointer_at, pointer_in, place_of}
 use Rattle.bpf_insn.specs.Memory.Place.{InFrame}
 use Rattle.bpf_num.specs.Laws.{TightenKeeps}
@@ -37,16 +37,16 @@ use Rattle.bpf_state.specs.Fault.{reads_part, some_passes, is_pointer}
 use Rattle.bpf_state.specs.Transfer.{after, loaded, loaded_tag, any_number}
 use Rattle.bpf_sound.specs.Describes.{DescribesRegister, DescribesSlot, TaggedRegister, TaggedSlot, IsSpilled}
 use Rattle.bpf_sound.specs.Laws.{Leads, IsJudged, IsRegister}
-use Rattle.bpf_sound.proofs.Cells.{and3_true}
 use Rattle.bpf_sound.proofs.Judged.{NoFault, no_fault_is, step_is, leads_at, top_frame}
 use Rattle.bpf_sound.proofs.Registers.{reg_top, put_is, register_put}
 use Rattle.bpf_sound.proofs.ReadCells.{no_slot}
-use Rattle.bpf_sound.proofs.ReadPlaces.{Read, context_read, frame_read, frame_bytes, only_slot, stack_here, and_at}
-use Rattle.bpf_sound.proofs.KnownNumbers.{Known, part_known, frame_known, number_fits, slot_value_valid, and_both}
-use Rattle.bpf_sound.proofs.Spills.{size_of_eight}
-use Rattle.bpf_sound.proofs.Steps.{InTop, in_top}
-use Rattle.bpf_sound.proofs.Keeps.{WholeSlot, whole_slot_is}
-use Rattle.bpf_sound.proofs.Stores.{IsPartCell, cells_of}
+use Rattle.bpf_sound.proofs.ReadPlaces.{Read, context_read, frame_read, frame_bytes, only_slot, stack_here}
+use Rattle.bpf_sound.proofs.KnownNumbers.{Known, part_known, frame_known, number_fits, slot_value_valid}
+use Rattle.bpf_sound.proofs.RegisterStores.{size_of_eight}
+use Rattle.bpf_sound.proofs.FrameStores.{InTop, in_top}
+use Rattle.bpf_sound.proofs.NumberStores.{WholeSlot, whole_slot_is}
+use Rattle.bpf_sound.proofs.ByteStores.{IsPartCell, cells_of}
+use Rattle.bpf_sound.proofs.Tests.{and3_true, and_at}
 
 abbrev pub load_access : Size → Reg → ℤ → Access
 load_access size src off = record { base = src; offset = off; size = size; reads = true; writes = false }
@@ -129,7 +129,7 @@ number_loaded p x s m size dst src off bytes r span is k = record {
 -- ---- a pointer
 
 -- a part is no byte of a number
-pub spilled_tag : (order : Order) (x : List ℕ) (region : Region) (lo hi : ℤ) (tag : Option Tag) (cell : ℕ → Option Cell) (v : Option Value) → IsSpilled region lo hi cell → TaggedSlot order x tag cell → TaggedRegister x tag v
+spilled_tag : (order : Order) (x : List ℕ) (region : Region) (lo hi : ℤ) (tag : Option Tag) (cell : ℕ → Option Cell) (v : Option Value) → IsSpilled region lo hi cell → TaggedSlot order x tag cell → TaggedRegister x tag v
 spilled_tag order x region lo hi None cell v sp d = tt
 spilled_tag order x region lo hi (Some t) cell v sp d = absurd (subst (λ c. IsPartCell c) (sym (sp.1 0 (omega arith)) ∙ d.1.2 0 (omega arith)) tt)
 
@@ -172,7 +172,7 @@ module _ (tightens : TightenKeeps) (p : Instructions) (len : ℕ) (x : List ℕ)
         let eight : byte_count size ≡ 8 = sym t.count ∙ w.count in
         let is_dw = size_of_eight size eight in
         let even : t.first % 8 ≡ 0 = omega arith in
-        let on = and_both t.span.in_frame (is_slot t.span) t.lies.in_frame whole in
+        let on = both_true t.lies.in_frame whole in
         let v : Value = PointerValue region sp.0 in
         let place : Place = InFrame (machine.depth m) t.first in
         let there : pointer_at m place ≡ Some v =

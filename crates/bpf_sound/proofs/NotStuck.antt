@@ -1,8 +1,8 @@
 -- A described state without fault is stuck for no reason but too many frames.
-use Rattle.std.proofs.Common.{◌≡◌, ℕ, ℤ, refl, sym, ◌∙◌, ap, List, [], ◌∷◌, Option, Some, None, Bool, true, false}
-use Rattle.std.specs.Prelude.{◌==◌, ◌&&◌, ◌||◌, not, is_none, is_some}
+use Rattle.std.proofs.Common.{◌≡◌, ℕ, refl, sym, ◌∙◌, ap, List, [], ◌∷◌, Option, Some, None, Bool, true, false}
+use Rattle.std.specs.Prelude.{◌||◌, not, is_none, is_some}
 use Rattle.std.specs.List.{list_any}
-use Rattle.std.proofs.lemmas.Bool.{false≢true, or_parts, not-false}
+use Rattle.std.proofs.lemmas.Bool.{eq-eqb, false≢true, or_parts, not-false}
 use Rattle.std.proofs.lemmas.Option.{same_Some}
 use Rattle.bpf_insn.specs.declared.instruction.Reg.{Reg}
 use Rattle.bpf_insn.specs.declared.instruction.Reg.TheVariants.{R0}
@@ -28,12 +28,12 @@ use Rattle.bpf_state.specs.declared.state.RegState.{RegState}
 use Rattle.bpf_state.specs.declared.state.RegState.TheVariants.{Any, Num, Ctx, Frame}
 use Rattle.bpf_state.specs.State.{AbstractState, register}
 use Rattle.bpf_state.specs.Fault.{operand, is_any, is_number, alu_of_kinds, can_test, have_right_kinds, reads_part}
-use Rattle.bpf_sound.specs.Describes.{Describes, DescribesRegister}
+use Rattle.bpf_sound.specs.Describes.{DescribesRegister}
 use Rattle.bpf_sound.specs.Laws.{IsJudged, NotStuckInside}
 use Rattle.bpf_sound.proofs.Judged.{no_fault_is, not_protected}
 use Rattle.bpf_sound.proofs.Operands.{operand_describes}
-use Rattle.bpf_sound.proofs.Steps.{eqb_self, store_imm_reason}
-use Rattle.bpf_sound.proofs.Spills.{store_reason}
+use Rattle.bpf_sound.proofs.FrameStores.{store_imm_reason}
+use Rattle.bpf_sound.proofs.RegisterStores.{store_reason}
 use Rattle.bpf_sound.proofs.Loads.{load_reason}
 use Rattle.bpf_sound.proofs.ExtendedLoads.{load_sx_reason}
 use Rattle.bpf_sound.proofs.Atomics.{atomic_reason}
@@ -98,7 +98,7 @@ alu_allowed depth W64 Add (Num n) (Frame lo hi) v w h k d e = rw (e.1, d.1)
 alu_allowed depth W64 Sub (Ctx lo hi) (Num n) v w h k d e = rw (e.1, d.1)
 alu_allowed depth W64 Sub (Frame lo hi) (Num n) v w h k d e = rw (e.1, d.1)
 alu_allowed depth W64 Sub (Ctx lo hi) (Ctx lo' hi') v w h k d e = rw (e.1, d.1)
-alu_allowed depth W64 Sub (Frame lo hi) (Frame lo' hi') v w h k d e = rw (e.1, d.1, eqb_self depth)
+alu_allowed depth W64 Sub (Frame lo hi) (Frame lo' hi') v w h k d e = rw (e.1, d.1, eq-eqb depth depth refl)
 alu_allowed depth width op Any b v w h k d e = absurd (false≢true h)
 alu_allowed depth width op a b v w h k d e = absurd (false≢true h)
 
@@ -106,9 +106,9 @@ test_allowed : (depth : ℕ) (width : Width) (cond : Cond) (a b : RegState) (v w
 test_allowed depth W64 cond (Num n) (Num n') v w h d e = rw (d.1, e.1)
 test_allowed depth W32 cond (Num n) (Num n') v w h d e = rw (d.1, e.1)
 test_allowed depth W64 Eq (Ctx lo hi) (Ctx lo' hi') v w h d e = rw (d.1, e.1)
-test_allowed depth W64 Eq (Frame lo hi) (Frame lo' hi') v w h d e = rw (d.1, e.1, eqb_self depth)
+test_allowed depth W64 Eq (Frame lo hi) (Frame lo' hi') v w h d e = rw (d.1, e.1, eq-eqb depth depth refl)
 test_allowed depth W64 Ne (Ctx lo hi) (Ctx lo' hi') v w h d e = rw (d.1, e.1)
-test_allowed depth W64 Ne (Frame lo hi) (Frame lo' hi') v w h d e = rw (d.1, e.1, eqb_self depth)
+test_allowed depth W64 Ne (Frame lo hi) (Frame lo' hi') v w h d e = rw (d.1, e.1, eq-eqb depth depth refl)
 test_allowed depth width cond a b v w h d e = absurd (false≢true h)
 
 operand_known : (s : AbstractState) (src : Operand) → list_any (λ r. is_any (register s r)) (operand_register src) ≡ false → is_any (operand s src) ≡ false

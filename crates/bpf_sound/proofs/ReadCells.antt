@@ -3,27 +3,25 @@ use Rattle.std.proofs.Common.{◌≡◌, ℕ, zero, suc, ◌+◌, ◌-◌, ◌*�
 use Rattle.std.specs.Prelude.{take, drop, bit_and, slice_index, option_map}
 use Rattle.std.specs.Int.{bit_at}
 use Rattle.std.proofs.lemmas.Int.{ints, clamps}
-use Rattle.std.proofs.lemmas.Bool.{false≢true, eqb-true}
+use Rattle.std.proofs.lemmas.Bool.{false≢true, eqb-true, or_parts}
+use Rattle.std.proofs.lemmas.Nat.Bits.{bit_at_and, bit_at-lt, bit_at_mask_inside}
 use Rattle.bpf_insn.specs.declared.order.Order.{Order}
 use Rattle.bpf_insn.specs.declared.order.Order.TheVariants.{Little, Big}
-use Rattle.std.proofs.lemmas.Nat.Bits.{bit_at_and, bit_at-lt, bit_at_mask_inside}
 use Rattle.bpf_insn.specs.Stuck.{first_unreadable}
-use Rattle.bpf_state.specs.Access.{any_slot, is_pointer_slot, are_known_bytes}
 use Rattle.bpf_insn.specs.Order.{number_of}
 use Rattle.bpf_insn.specs.State.{Cell, cell}
 use Rattle.bpf_insn.specs.State.Cell.{Byte}
 use Rattle.bpf_insn.specs.Memory.{bytes_in}
 use Rattle.bpf_state.specs.declared.state.SlotState.{SlotState}
 use Rattle.bpf_state.specs.declared.state.SlotState.TheVariants.{Bytes, Word, Ptr}
-use Rattle.bpf_state.specs.Access.{Span, span_end, place_in, touches, touched_bytes}
+use Rattle.bpf_state.specs.Access.{any_slot, is_pointer_slot, are_known_bytes, Span, span_end, place_in, touches, touched_bytes}
 use Rattle.bpf_sound.specs.Describes.{DescribesSlot, IsStored}
-use Rattle.bpf_sound.proofs.Cells.{LiesAt, not_touched}
-use Rattle.bpf_sound.proofs.Slots.{IsByte}
-use Rattle.std.proofs.lemmas.Bool.{or_parts}
+use Rattle.bpf_sound.proofs.TouchedCells.{LiesAt, not_touched}
+use Rattle.bpf_sound.proofs.WrittenSlots.{IsByte}
 
 -- ---- tests of slots
 
-pub any_slot_at : (test : ℕ → SlotState → Bool) (k j : ℕ) (ss : List SlotState) → any_slot test k ss ≡ false → j < length ss → test (k + j) (get_or ss j (Bytes 0)) ≡ false
+any_slot_at : (test : ℕ → SlotState → Bool) (k j : ℕ) (ss : List SlotState) → any_slot test k ss ≡ false → j < length ss → test (k + j) (get_or ss j (Bytes 0)) ≡ false
 any_slot_at test k j [] h lt = absurd (omega arith)
 any_slot_at test k zero (s ∷ ss) h lt = ap (λ n. test n s) (omega arith) ∙ (or_parts (test k s) (any_slot test (suc k) ss) h).0
 any_slot_at test k (suc j) (s ∷ ss) h lt = ap (λ n. test n (get_or ss j (Bytes 0))) (omega arith) ∙ any_slot_at test (suc k) j ss (or_parts (test k s) (any_slot test (suc k) ss) h).1 (omega arith)
@@ -104,11 +102,11 @@ byte_or : Option Cell → ℕ
 byte_or (Some (Byte b)) = b
 byte_or c = 0
 
-pub same_byte : (a b : ℕ) → Some (Byte a) ≡ Some (Byte b) → a ≡ b
+same_byte : (a b : ℕ) → Some (Byte a) ≡ Some (Byte b) → a ≡ b
 unfolding byte_or
 same_byte a b e = ap byte_or e
 
-pub same_eight : (order : Order) (xs ys : List ℕ) → ((i : ℕ) → i < 8 → slice_index xs i ≡ slice_index ys i) → number_of order 8 xs ≡ number_of order 8 ys
+same_eight : (order : Order) (xs ys : List ℕ) → ((i : ℕ) → i < 8 → slice_index xs i ≡ slice_index ys i) → number_of order 8 xs ≡ number_of order 8 ys
 same_eight order xs ys same = by_order order
   where
     by_order : (order : Order) → number_of order 8 xs ≡ number_of order 8 ys

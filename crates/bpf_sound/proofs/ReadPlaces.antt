@@ -1,9 +1,8 @@
 -- The bytes that an access reads: in the context, or in the top frame.
-use Rattle.std.proofs.Common.{List, ◌≡◌, ℕ, ℤ, pos, ◌+ℤ◌, ◌≤ℤ◌, ◌+◌, ◌-◌, ◌*◌, ◌/◌, ◌%◌, ◌<◌, ◌≤◌, refl, sym, ◌∙◌, ap, subst, arith, length, get_or, inl, inr, Option, Some, None, Bool, true, false, cond}
-use Rattle.std.specs.Prelude.{take, drop, slice_index, ◌==◌, ◌&&◌, not, int_lt, int_le, nat_le, option_map, unsigned_abs}
+use Rattle.std.proofs.Common.{List, ◌≡◌, ℕ, ℤ, pos, ◌+ℤ◌, ◌+◌, ◌-◌, ◌*◌, ◌/◌, ◌%◌, ◌<◌, ◌≤◌, refl, sym, ◌∙◌, ap, subst, arith, length, get_or, inl, inr, Option, Some, None, Bool, true, false, cond}
+use Rattle.std.specs.Prelude.{take, drop, slice_index, ◌==◌, ◌&&◌, not, int_lt, int_le, option_map, unsigned_abs}
 use Rattle.std.proofs.lemmas.Int.{ints, clamps}
-use Rattle.std.proofs.lemmas.Bool.{false≢true, cases_lt, not-false}
-use Rattle.std.proofs.lemmas.Bool.Decides.{nat_tests}
+use Rattle.std.proofs.lemmas.Bool.{cases_lt, not-false, and_parts}
 use Rattle.std.proofs.lemmas.List.{get_or-take, get_or-drop, get_or_past, length-take}
 use Rattle.bpf_insn.specs.declared.order.Order.{Order}
 use Rattle.bpf_insn.specs.declared.state.Value.{Value}
@@ -15,9 +14,9 @@ use Rattle.bpf_insn.specs.declared.instruction.Size.TheVariants.{B, H, W, DW}
 use Rattle.bpf_insn.specs.Instruction.{byte_count}
 use Rattle.bpf_insn.specs.Stuck.{Access, unreadable_at, first_unreadable}
 use Rattle.bpf_insn.specs.State as machine
-use Rattle.bpf_insn.specs.State.{Cell, IsFrame}
+use Rattle.bpf_insn.specs.State.{IsFrame}
 use Rattle.bpf_insn.specs.State.Cell.{Byte}
-use Rattle.bpf_insn.specs.Memory.{Place, bytes_in, bytes_at, pointer_at, pointer_in, place_of, stack_of, inside}
+use Rattle.bpf_insn.specs.Memory.{Place, bytes_in, bytes_at, pointer_at, pointer_in, place_of, stack_of}
 use Rattle.bpf_insn.specs.Memory.Place.{InContext, InFrame}
 use Rattle.bpf_state.specs.declared.state.RegState.{RegState}
 use Rattle.bpf_state.specs.declared.state.RegState.TheVariants.{Ctx}
@@ -26,13 +25,14 @@ use Rattle.bpf_state.specs.Access.{Span, span_from, span_end, is_inside, first_b
 use Rattle.bpf_state.specs.Fault.{some_passes}
 use Rattle.bpf_sound.specs.Describes.{Describes, PointsInto}
 use Rattle.bpf_sound.specs.Laws.{IsAbstract}
-use Rattle.bpf_sound.proofs.Cells.{int_lt_true, LiesAt, and3_true}
+use Rattle.bpf_sound.proofs.TouchedCells.{int_lt_true, LiesAt}
 use Rattle.bpf_sound.proofs.ReadCells.{no_slot, has_bit, is_touched, known_byte, ReadBytes, read_bytes}
 use Rattle.bpf_sound.proofs.Judged.{top_frame}
-use Rattle.bpf_sound.proofs.Steps.{InTop, stack_top}
-use Rattle.bpf_sound.proofs.Keeps.{WholeSlot}
-use Rattle.bpf_sound.proofs.Stores.{byte_fits, cells_of}
-use Rattle.bpf_sound.proofs.Slots.{IsByte}
+use Rattle.bpf_sound.proofs.FrameStores.{InTop, inside_of, stack_top}
+use Rattle.bpf_sound.proofs.NumberStores.{WholeSlot}
+use Rattle.bpf_sound.proofs.ByteStores.{byte_fits, cells_of}
+use Rattle.bpf_sound.proofs.WrittenSlots.{IsByte}
+use Rattle.bpf_sound.proofs.Tests.{and3_true, and_at}
 
 -- the place of an access, and the bytes there
 pub record Read (m : machine.State) (a : Access) (bytes : List ℕ) : Type 0 where
@@ -48,11 +48,6 @@ pub record Read (m : machine.State) (a : Access) (bytes : List ℕ) : Type 0 whe
 
 -- ---- in the context
 
-inside_of : (k len : ℕ) (z : ℤ) (c : ℕ) → z ≡ pos c → c + k ≤ len → inside k len z ≡ Some c
-inside_of k len z c e fits =
-    let t : nat_le (c + k) len ≡ true = grind (arith, nat_tests) in
-    ap (λ z. inside k len z) e ∙ ap (λ b. cond b (Some c) None) t
-
 -- bytes of a part of the context
 part_bytes : (n c : ℕ) (bytes : List ℕ) → ((i : ℕ) → slice_index bytes i < 256) → (i : ℕ) → slice_index (take n (drop c bytes)) i < 256
 part_bytes n c bytes fit i =
@@ -64,7 +59,9 @@ part_bytes n c bytes fit i =
 pub context_read : (m : machine.State) (len : ℕ) (a : Access) (lo hi : ℤ) → machine.IsState m → length m.context ≡ len → some_passes (λ p. not (is_inside len p)) (span_from a (Ctx lo hi)) ≡ false → PointsInto Context lo hi (machine.register m a.base) → (bytes : List ℕ) × Read m a bytes
 context_read m len a lo hi ok all q d =
     let z : ℤ = d.0 +ℤ a.offset in
-    let t = inside_both (int_le (pos 0) (lo +ℤ a.offset)) (int_le ((hi +ℤ a.offset) +ℤ pos (byte_count a.size)) (pos len)) q in
+    let low : Bool = int_le (pos 0) (lo +ℤ a.offset) in
+    let high : Bool = int_le ((hi +ℤ a.offset) +ℤ pos (byte_count a.size)) (pos len) in
+    let t = and_parts low high (not-false (low && high) q) in
     let l = d.2 in
     let u = d.3 in
     let b = t.0 in
@@ -86,17 +83,8 @@ context_read m len a lo hi ok all q d =
         plain = refl;
       },
     )
-  where
-    inside_both : (a b : Bool) → not (a && b) ≡ false → (a ≡ true) × (b ≡ true)
-    inside_both true true h = (refl, refl)
-    inside_both true false h = absurd (false≢true (sym h))
-    inside_both false b h = absurd (false≢true (sym h))
 
 -- ---- in the top frame
-
-pub and_at : (a b : Bool) → (a && b) ≡ false → a ≡ true → b ≡ false
-and_at true b h e = h
-and_at false b h e = absurd (false≢true e)
 
 module _ (order : Order) (len : ℕ) (x : List ℕ) (s : AbstractState) (m : machine.State) (p : Span) (c : ℕ) (valid : IsAbstract s) (frame : IsFrame m.top) (d : Describes order len x s m) (lies : LiesAt p c) where
   -- no touched slot holds a pointer, and each touched byte is known
@@ -110,7 +98,7 @@ module _ (order : Order) (len : ℕ) (x : List ℕ) (s : AbstractState) (m : mac
       let bit = has_bit p c k r lies (omega arith) (omega arith) (omega arith) (omega arith) (omega arith) in
       let is_known' = not-false (are_known_bytes (touched_bytes p k) (slot s k)) (and_at (touches p k) (not (are_known_bytes (touched_bytes p k) (slot s k))) (no_slot (λ k held. touches p k && not (are_known_bytes (touched_bytes p k) held)) k s.slots known valid.slots_are (omega arith) (omega arith)) touched) in
       let b = known_byte order (machine.depth m) (touched_bytes p k) (slot s k) (cells_of m.top.stack k) r is_known' (plain k (omega arith) (omega arith) touched) bit (omega arith) (d.slots k (omega arith) (omega arith)) in
-      let e : get_or m.top.stack (c + i) None ≡ Some (Byte b.0) = ap (λ n. get_or m.top.stack n None) (sym place) ∙ b.1 in
+      let e : get_or m.top.stack (c + i) None ≡ Some (Byte b.0) = subst (λ n. get_or m.top.stack n None ≡ Some (Byte b.0)) place b.1 in
       record { byte = b.0; is = e; fits = byte_fits m.top frame (c + i) b.0 (omega arith) e }
 
   -- a whole slot's access touches that slot alone

@@ -12,22 +12,21 @@ use Rattle.bpf_insn.specs.declared.instruction.Insn.{Insn}
 use Rattle.bpf_insn.specs.declared.instruction.Insn.TheVariants.{Alu, Neg, MovSx, End, LoadImm64, Load, LoadSx, Store, StoreImm, Atomic, Ja, JaLong, JumpIf, CallLocal, Exit}
 use Rattle.bpf_insn.specs.declared.state.Value.{Value}
 use Rattle.bpf_insn.specs.declared.state.Value.TheVariants.{Number as NumberValue, Pointer as PointerValue}
-use Rattle.bpf_insn.specs.declared.state.Region.{Region}
-use Rattle.bpf_insn.specs.Instruction.{Instructions, register_number, insn_at, target, byte_count, word_size}
+use Rattle.bpf_insn.specs.Instruction.{Instructions, register_number, target, byte_count, word_size}
 use Rattle.bpf_insn.specs.Arithmetic.{extended}
 use Rattle.bpf_insn.specs.Order.{bytes_of}
-use Rattle.bpf_insn.specs.Step.{Step, does, next, store, fetched, fetch_register, jump, load, load_extended, operand, alu_result, atomic_result, test_of_values}
+use Rattle.bpf_insn.specs.Step.{does, next, store, fetched, fetch_register, jump, load, load_extended, operand, alu_result, atomic_result, test_of_values}
 use Rattle.bpf_insn.specs.State as machine
 use Rattle.bpf_insn.specs.State.{Cell, StackFrame, put}
-use Rattle.bpf_insn.specs.Memory.{Place, place_of, number_at, stack_of, with_stack, with_bytes, with_parts, store_number, store_pointer}
+use Rattle.bpf_insn.specs.Memory.{place_of, number_at, stack_of, with_stack, with_bytes, with_parts, store_pointer}
 use Rattle.bpf_insn.specs.Memory.Place.{InFrame}
 use Rattle.bpf_state.specs.State.{AbstractState, register}
 use Rattle.bpf_sound.specs.Laws.{IsJudged, IsCallOrExit, WaitingFramesStay}
 use Rattle.bpf_sound.proofs.Judged.{step_is}
-use Rattle.bpf_sound.proofs.Steps.{InTop, store_top, with_top_stack, store_imm_base}
-use Rattle.bpf_sound.proofs.Spills.{store_access, store_base}
+use Rattle.bpf_sound.proofs.FrameStores.{InTop, store_access, store_top, with_top_stack, store_imm_base}
+use Rattle.bpf_sound.proofs.RegisterStores.{store_base}
 use Rattle.bpf_sound.proofs.Atomics.{atomic_access, atomic_base}
-use Rattle.bpf_sound.proofs.Keeps.{at_top}
+use Rattle.bpf_sound.proofs.NumberStores.{at_top}
 
 -- where there is such a state, its waiting frames are these
 abbrev Stays : List StackFrame → Option machine.State → Type 0

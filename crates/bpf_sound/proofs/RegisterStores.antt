@@ -2,33 +2,29 @@
 use Rattle.std.proofs.Common.{◌≡◌, ℕ, ℤ, pos, negsuc, ◌+ℤ◌, ◌≤ℤ◌, ◌+◌, ◌-◌, ◌*◌, ◌%◌, ◌<◌, ◌≤◌, refl, sym, ◌∙◌, ap, subst, arith, List, [], ◌∷◌, length, get_or, inl, inr, Option, Some, None, true, false, cond}
 use Rattle.std.specs.Prelude.{◌⊎◌, ◌==◌, not, unsigned_abs}
 use Rattle.std.proofs.lemmas.Int.{ints}
-use Rattle.std.proofs.lemmas.Bool.{false≢true, eqb-true}
-use Rattle.std.proofs.lemmas.Bool.Decides.{nat_tests, Decides-eqb}
+use Rattle.std.proofs.lemmas.Bool.{false≢true, eqb-true, and_parts, or_parts, not-false}
+use Rattle.std.proofs.lemmas.Bool.Decides.{Decides-eqb}
 use Rattle.std.proofs.lemmas.List.{length-set}
+use Rattle.std.specs.List.{list_any}
+use Rattle.std.proofs.lemmas.Option.{same_Some}
 use Rattle.bpf_insn.specs.declared.order.Order.{Order}
 use Rattle.bpf_insn.specs.declared.state.Value.{Value}
 use Rattle.bpf_insn.specs.declared.state.Value.TheVariants.{Number as NumberValue, Pointer as PointerValue}
 use Rattle.bpf_insn.specs.declared.state.Region.{Region}
 use Rattle.bpf_insn.specs.declared.state.Region.TheVariants.{Context, Frame as FrameAt}
-use Rattle.std.specs.List.{list_any}
-use Rattle.bpf_insn.specs.Instruction.{Instructions, byte_count}
-use Rattle.bpf_insn.specs.Arithmetic.{modulo}
-use Rattle.bpf_insn.specs.Step.{Step, does}
-use Rattle.bpf_insn.specs.Stuck.{Access, reason_at, reason_of}
-use Rattle.bpf_insn.specs.declared.state.Reason.{Reason}
-use Rattle.bpf_insn.specs.declared.state.Reason.TheVariants.{TooManyFrames}
 use Rattle.bpf_insn.specs.declared.instruction.Reg.{Reg}
 use Rattle.bpf_insn.specs.declared.instruction.Size.{Size}
 use Rattle.bpf_insn.specs.declared.instruction.Size.TheVariants.{B, H, W, DW}
 use Rattle.bpf_insn.specs.declared.instruction.Insn.TheVariants.{Store}
-use Rattle.bpf_state.specs.Access.{span_of}
-use Rattle.bpf_state.specs.Fault.{can_store, have_right_kinds, is_pointer, is_any}
-use Rattle.bpf_state.specs.Transfer.{after}
+use Rattle.bpf_insn.specs.Instruction.{Instructions, byte_count}
+use Rattle.bpf_insn.specs.Arithmetic.{modulo}
+use Rattle.bpf_insn.specs.Step.{Step, does}
+use Rattle.bpf_insn.specs.Stuck.{reason_at}
 use Rattle.bpf_insn.specs.Order.{bytes_of}
 use Rattle.bpf_insn.specs.State as machine
-use Rattle.bpf_insn.specs.State.{Cell, StackFrame, IsFrame, IsNumberCell, HoldsNoPart, HoldsPointer, cell}
-use Rattle.bpf_insn.specs.State.Cell.{Byte, Part}
-use Rattle.bpf_insn.specs.Memory.{with_bytes, with_parts, store_pointer, is_within, part_after, place_of, stack_of, with_stack}
+use Rattle.bpf_insn.specs.State.{Cell, cell}
+use Rattle.bpf_insn.specs.State.Cell.{Part}
+use Rattle.bpf_insn.specs.Memory.{with_bytes, with_parts, store_pointer, part_after, place_of, stack_of, with_stack}
 use Rattle.bpf_insn.specs.Memory.Place.{InFrame}
 use Rattle.bpf_num.specs.Word.{M}
 use Rattle.bpf_state.specs.declared.state.RegState.{RegState}
@@ -36,36 +32,30 @@ use Rattle.bpf_state.specs.declared.state.RegState.TheVariants.{Any, Num, Ctx, F
 use Rattle.bpf_state.specs.declared.state.SlotState.{SlotState}
 use Rattle.bpf_state.specs.declared.state.SlotState.TheVariants.{Bytes}
 use Rattle.bpf_state.specs.declared.state.Tag.{Tag}
+use Rattle.bpf_state.specs.Access.{span_of, Span, is_known, is_slot, slot_number, touched_bytes}
+use Rattle.bpf_state.specs.Fault.{can_store, have_right_kinds, is_pointer, is_any}
+use Rattle.bpf_state.specs.Transfer.{after, slot_written, slot_maybe_written, with_touched, stored}
 use Rattle.bpf_state.specs.State.{AbstractState, register, register_tag, slot, slot_tag, put_slot, value_slot}
-use Rattle.bpf_state.specs.Access.{Span, is_known, is_slot, slot_number, touched_bytes}
-use Rattle.bpf_state.specs.Transfer.{slot_written, slot_maybe_written, with_touched, stored}
 use Rattle.bpf_sound.specs.Describes.{Describes, DescribesRegister, DescribesSlot, TaggedRegister, TaggedSlot, IsSpilled}
 use Rattle.bpf_sound.specs.Laws.{Leads, IsJudged, IsAbstract, IsSlot}
-use Rattle.bpf_sound.proofs.StoredCells.{each_cell_at}
-use Rattle.bpf_sound.proofs.Cells.{apart, and3_true}
-use Rattle.bpf_sound.proofs.Steps.{InTop, in_top, stack_top, with_top_stack, does_store_number, byte_count_few}
-use Rattle.bpf_sound.proofs.Keeps.{whole_slot_is, set_at, value_slot_valid, at_top, number_stored, not_pointer}
-use Rattle.bpf_sound.proofs.Stores.{cells_of, same_slot, same_slot_tag}
-use Rattle.std.proofs.lemmas.Option.{same_Some}
-use Rattle.std.proofs.lemmas.Bool.{and_parts, or_parts, not-false}
+use Rattle.bpf_sound.proofs.StoredCells.{each_cell_at, outside, within}
+use Rattle.bpf_sound.proofs.TouchedCells.{apart}
+use Rattle.bpf_sound.proofs.FrameStores.{InTop, store_access, in_top, stack_top, with_top_stack, does_store_number, byte_count_few}
+use Rattle.bpf_sound.proofs.NumberStores.{whole_slot_is, set_at, value_slot_valid, at_top, number_stored, not_pointer}
+use Rattle.bpf_sound.proofs.ByteStores.{cells_of, same_slot, same_slot_tag}
 use Rattle.bpf_sound.proofs.Judged.{no_fault_is, step_is, leads_at, top_frame}
+use Rattle.bpf_sound.proofs.Tests.{and3_true}
 
 -- ---- cells after a pointer is written
 
-pub outside : (low high j : ℕ) → (j < low) ⊎ (high ≤ j) → is_within low high j ≡ false
-outside low high j h = grind (arith, nat_tests)
-
-pub within : (low high j : ℕ) → low ≤ j → j < high → is_within low high j ≡ true
-within low high j h k = grind (arith, nat_tests)
-
-pub written_part : (region : Region) (off : ℤ) (i j : ℕ) (cells : List (Option Cell)) → i ≤ j → j < i + 8 → j < length cells → get_or (with_parts region off i cells) j None ≡ Some (Part (j - i) region off)
+written_part : (region : Region) (off : ℤ) (i j : ℕ) (cells : List (Option Cell)) → i ≤ j → j < i + 8 → j < length cells → get_or (with_parts region off i cells) j None ≡ Some (Part (j - i) region off)
 unfolding with_parts
 written_part region off i j cells le lt fits =
     let c = get_or cells j None in
     each_cell_at (part_after region off i) 0 j cells fits ∙ ap (λ n. part_after region off i n c) (omega arith)
     ∙ ap (λ b. cond b (Some (Part (j - i) region off)) c) (within i (i + 8) j le lt)
 
-pub kept_part : (region : Region) (off : ℤ) (i j : ℕ) (cells : List (Option Cell)) → (j < i) ⊎ (i + 8 ≤ j) → j < length cells → get_or (with_parts region off i cells) j None ≡ get_or cells j None
+kept_part : (region : Region) (off : ℤ) (i j : ℕ) (cells : List (Option Cell)) → (j < i) ⊎ (i + 8 ≤ j) → j < length cells → get_or (with_parts region off i cells) j None ≡ get_or cells j None
 unfolding with_parts
 kept_part region off i j cells apart fits =
     let c = get_or cells j None in
@@ -75,7 +65,7 @@ kept_part region off i j cells apart fits =
 -- ---- one slot is replaced
 
 module _ (order : Order) (len : ℕ) (x : List ℕ) (s : AbstractState) (m : machine.State) (k0 sl : ℕ) (cells : List (Option Cell)) (held : SlotState) (tag : Option Tag) (valid : IsAbstract s) (d : Describes order len x s m) (low0 : 1 ≤ k0) (high0 : k0 ≤ 64) where
-  pub slot_replaced : DescribesSlot order (machine.depth m) held (cells_of cells k0) → TaggedSlot order x tag (cells_of cells k0) → ((k : ℕ) → 1 ≤ k → k ≤ 64 → (k0 < k) ⊎ (k < k0) → (i : ℕ) → i < 8 → cells_of cells k i ≡ cells_of m.top.stack k i) → Describes order len x (put_slot k0 held tag s) (at_top m sl cells)
+  slot_replaced : DescribesSlot order (machine.depth m) held (cells_of cells k0) → TaggedSlot order x tag (cells_of cells k0) → ((k : ℕ) → 1 ≤ k → k ≤ 64 → (k0 < k) ⊎ (k < k0) → (i : ℕ) → i < 8 → cells_of cells k i ≡ cells_of m.top.stack k i) → Describes order len x (put_slot k0 held tag s) (at_top m sl cells)
   slot_replaced here tagged elsewhere = record {
     length_is = d.length_is;
     registers = d.registers;
@@ -88,7 +78,7 @@ module _ (order : Order) (len : ℕ) (x : List ℕ) (s : AbstractState) (m : mac
         (λ apart. same_slot_tag order x (slot_tag s k) (cells_of m.top.stack k) (cells_of cells k) (elsewhere k low high apart) (d.slot_tags k low high));
   }
 
-  pub replaced_valid : IsSlot held → IsAbstract (put_slot k0 held tag s)
+  replaced_valid : IsSlot held → IsAbstract (put_slot k0 held tag s)
   replaced_valid ok =
       record {
         eleven = valid.eleven;
@@ -102,20 +92,15 @@ module _ (order : Order) (len : ℕ) (x : List ℕ) (s : AbstractState) (m : mac
 -- ---- a pointer into a slot
 
 -- the parts of a pointer in slot k
-pub spilled : (region : Region) (lo hi off : ℤ) (c k : ℕ) (cells : List (Option Cell)) → length cells ≡ 512 → c ≡ 512 - 8 * k → 1 ≤ k → k ≤ 64 → lo ≤ℤ off → off ≤ℤ hi → IsSpilled region lo hi (cells_of (with_parts region off c cells) k)
+spilled : (region : Region) (lo hi off : ℤ) (c k : ℕ) (cells : List (Option Cell)) → length cells ≡ 512 → c ≡ 512 - 8 * k → 1 ≤ k → k ≤ 64 → lo ≤ℤ off → off ≤ℤ hi → IsSpilled region lo hi (cells_of (with_parts region off c cells) k)
 spilled region lo hi off c k cells all e low high l h =
     (off, λ i lt. written_part region off c (512 - 8 * k + i) cells (omega arith) (omega arith) (omega arith) ∙ ap (λ n. Some (Part n region off)) (omega arith), l, h)
 
--- what a pointer in a register is
-pub region_of : ℕ → RegState → Region
-region_of depth (Frame lo hi) = FrameAt depth
-region_of depth value = Context
-
-pub pointer_tag : (order : Order) (x : List ℕ) (tag : Option Tag) (region : Region) (off : ℤ) (v : Option Value) (cell : ℕ → Option Cell) → v ≡ Some (PointerValue region off) → TaggedRegister x tag v → TaggedSlot order x tag cell
+pointer_tag : (order : Order) (x : List ℕ) (tag : Option Tag) (region : Region) (off : ℤ) (v : Option Value) (cell : ℕ → Option Cell) → v ≡ Some (PointerValue region off) → TaggedRegister x tag v → TaggedSlot order x tag cell
 pointer_tag order x None region off v cell e d = tt
 pointer_tag order x (Some t) region off v cell e d = not_pointer d.0 region off (sym d.1 ∙ e)
 
-pub store_pointer_top : (region : Region) (off : ℤ) (c sl : ℕ) (m : machine.State) → (c % 8 == 0) ≡ true → store_pointer region off (InFrame (machine.depth m) c) (machine.at_slot sl m) ≡ Some (at_top m sl (with_parts region off c m.top.stack))
+store_pointer_top : (region : Region) (off : ℤ) (c sl : ℕ) (m : machine.State) → (c % 8 == 0) ≡ true → store_pointer region off (InFrame (machine.depth m) c) (machine.at_slot sl m) ≡ Some (at_top m sl (with_parts region off c m.top.stack))
 unfolding store_pointer
 store_pointer_top region off c sl m even =
     ap (λ b. cond b (Some (with_stack (machine.at_slot sl m) (machine.depth m) (with_parts region off c (stack_of (machine.at_slot sl m) (machine.depth m))))) None) even
@@ -123,9 +108,6 @@ store_pointer_top region off c sl m even =
     ∙ ap (λ t. Some t) (with_top_stack sl m (with_parts region off c m.top.stack))
 
 -- ---- the instruction
-
-abbrev pub store_access : Size → Reg → ℤ → Access
-store_access size dst off = record { base = dst; offset = off; size = size; reads = false; writes = true }
 
 pub store_base : (p : Instructions) (len : ℕ) (x : List ℕ) (size : Size) (dst src : Reg) (off : ℤ) (s : AbstractState) (m : machine.State) → IsJudged p len x (Store size dst off src) s m → InTop m (store_access size dst off) (register s dst)
 store_base p len x size dst src off s m j =
@@ -135,7 +117,7 @@ store_base p len x size dst src off s m j =
     (and_parts (is_pointer (register s dst)) (can_store (span_of s (Store size dst off src)) (register s src)) k).0 f.protected f.bounds (j.described.registers dst)
 
 -- what a register that is stored is: a number, or a pointer whose slot is known
-pub data Stored (m : machine.State) (src : Reg) (span : Span) (size : Size) (value : RegState) : Type 0 where
+data Stored (m : machine.State) (src : Reg) (span : Span) (size : Size) (value : RegState) : Type 0 where
   number : (y : ℕ) → y < M → machine.register m src ≡ Some (NumberValue y) → Stored m src span size value
   pointer : (region : Region) (off lo hi : ℤ) → machine.register m src ≡ Some (PointerValue region off) → is_slot span ≡ true → size ≡ DW → ((cell : ℕ → Option Cell) (order : Order) → IsSpilled region lo hi cell → DescribesSlot order (machine.depth m) (value_slot value) cell) → lo ≤ℤ off → off ≤ℤ hi → Stored m src span size value
 
@@ -145,30 +127,30 @@ size_of_eight H e = absurd (omega (arith, e))
 size_of_eight W e = absurd (omega (arith, e))
 size_of_eight DW e = refl
 
-pub eight_in_slot : (p : Span) → is_slot p ≡ true → p.count ≡ 8
+eight_in_slot : (p : Span) → is_slot p ≡ true → p.count ≡ 8
 eight_in_slot p whole = eqb-true p.count 8 (and3_true (is_known p) (p.count == 8) (unsigned_abs p.lowest % 8 == 0) whole).1
 
-pub stored_is : (m : machine.State) (src : Reg) (span : Span) (size : Size) (value : RegState) → is_any value ≡ false → span.count ≡ byte_count size → can_store (Some span) value ≡ true → DescribesRegister (machine.depth m) value (machine.register m src) → Stored m src span size value
+stored_is : (m : machine.State) (src : Reg) (span : Span) (size : Size) (value : RegState) → is_any value ≡ false → span.count ≡ byte_count size → can_store (Some span) value ≡ true → DescribesRegister (machine.depth m) value (machine.register m src) → Stored m src span size value
 stored_is m src span size Any known n can d = absurd (false≢true (sym known))
 stored_is m src span size (Num k) known n can d = number d.0 d.2.bits.fits d.1
 stored_is m src span size (Ctx lo hi) known n can d = pointer Context d.0 lo hi d.1 can (size_of_eight size (sym n ∙ eight_in_slot span can)) (λ cell order sp. sp) d.2 d.3
 stored_is m src span size (Frame lo hi) known n can d = pointer (FrameAt (machine.depth m)) d.0 lo hi d.1 can (size_of_eight size (sym n ∙ eight_in_slot span can)) (λ cell order sp. sp) d.2 d.3
 
 -- what a store of a pointer does
-pub does_store_pointer : (order : Order) (dst src : Reg) (off at off' : ℤ) (region region' : Region) (c : ℕ) (m : machine.State) → machine.register m dst ≡ Some (PointerValue region' at) → machine.register m src ≡ Some (PointerValue region off') → place_of m 8 off (PointerValue region' at) ≡ Some (InFrame (machine.depth m) c) → (c % 8 == 0) ≡ true → does order (Store DW dst off src) m ≡ Some (at_top m (m.top.slot + 1) (with_parts region off' c m.top.stack))
+does_store_pointer : (order : Order) (dst src : Reg) (off at off' : ℤ) (region region' : Region) (c : ℕ) (m : machine.State) → machine.register m dst ≡ Some (PointerValue region' at) → machine.register m src ≡ Some (PointerValue region off') → place_of m 8 off (PointerValue region' at) ≡ Some (InFrame (machine.depth m) c) → (c % 8 == 0) ≡ true → does order (Store DW dst off src) m ≡ Some (at_top m (m.top.slot + 1) (with_parts region off' c m.top.stack))
 unfolding does
 does_store_pointer order dst src off at off' region region' c m base e place even = rw (base, e, place) (store_pointer_top region off' c (m.top.slot + 1) m even)
 
 -- the base's offset and the instruction's are a multiple of 8
-pub whole_place : (z : ℤ) (c : ℕ) → z +ℤ pos 512 ≡ pos c → c ≤ 512 → c % 8 ≡ 0 → (modulo z 8 == 0) ≡ true
+whole_place : (z : ℤ) (c : ℕ) → z +ℤ pos 512 ≡ pos c → c ≤ 512 → c % 8 ≡ 0 → (modulo z 8 == 0) ≡ true
 whole_place (pos n) c e fits even = (Decides-eqb (n % 8) 0).1 (let f : n + 512 ≡ c = omega (arith, ints) in omega arith)
 whole_place (negsuc n) c e fits even = (Decides-eqb (8 - 1 - n % 8) 0).1 (let f : n + 1 + c ≡ 512 = omega (arith, ints) in omega arith)
 
-pub store_number_reason : (size : Size) (dst src : Reg) (off : ℤ) (y : ℕ) (m : machine.State) (value : RegState) (t : InTop m (store_access size dst off) value) → machine.register m src ≡ Some (NumberValue y) → reason_at m (Store size dst off src) ≡ None
+store_number_reason : (size : Size) (dst src : Reg) (off : ℤ) (y : ℕ) (m : machine.State) (value : RegState) (t : InTop m (store_access size dst off) value) → machine.register m src ≡ Some (NumberValue y) → reason_at m (Store size dst off src) ≡ None
 unfolding reason_at
 store_number_reason size dst src off y m value t e = rw (t.base, e, t.place)
 
-pub store_pointer_reason : (dst src : Reg) (off at off' : ℤ) (region region' : Region) (c : ℕ) (m : machine.State) → machine.register m dst ≡ Some (PointerValue region' at) → machine.register m src ≡ Some (PointerValue region off') → place_of m 8 off (PointerValue region' at) ≡ Some (InFrame (machine.depth m) c) → (modulo (at +ℤ off) 8 == 0) ≡ true → reason_at m (Store DW dst off src) ≡ None
+store_pointer_reason : (dst src : Reg) (off at off' : ℤ) (region region' : Region) (c : ℕ) (m : machine.State) → machine.register m dst ≡ Some (PointerValue region' at) → machine.register m src ≡ Some (PointerValue region off') → place_of m 8 off (PointerValue region' at) ≡ Some (InFrame (machine.depth m) c) → (modulo (at +ℤ off) 8 == 0) ≡ true → reason_at m (Store DW dst off src) ≡ None
 unfolding reason_at
 store_pointer_reason dst src off at off' region region' c m base e place even = rw (base, e, place, even)
 

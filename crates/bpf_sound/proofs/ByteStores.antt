@@ -15,8 +15,8 @@ use Rattle.bpf_state.specs.Access.{Span, touches, touched_bytes}
 use Rattle.bpf_state.specs.Transfer.{slot_written, slot_maybe_written, each_slot, each_slot_tag}
 use Rattle.bpf_sound.specs.Describes.{DescribesSlot, TaggedSlot}
 use Rattle.bpf_sound.proofs.StoredCells.{written_cell, kept_cell, left_cell}
-use Rattle.bpf_sound.proofs.Cells.{LiesAt, not_touched, apart, touched_bit}
-use Rattle.bpf_sound.proofs.Slots.{IsByte, written_slot, maybe_written_slot}
+use Rattle.bpf_sound.proofs.TouchedCells.{LiesAt, not_touched, apart, touched_bit}
+use Rattle.bpf_sound.proofs.WrittenSlots.{IsByte, written_slot, maybe_written_slot}
 
 -- ---- cells
 
@@ -34,7 +34,7 @@ byte_fits f ok j b lt is =
     ]
 
 -- a byte stays a byte under a write of bytes
-pub stays_byte : (bytes : List ℕ) (c j : ℕ) (cells : List (Option Cell)) → ((i : ℕ) → slice_index bytes i < 256) → j < length cells → (b : ℕ) → b < 256 → get_or cells j None ≡ Some (Byte b) → IsByte (get_or (with_bytes bytes c cells) j None)
+stays_byte : (bytes : List ℕ) (c j : ℕ) (cells : List (Option Cell)) → ((i : ℕ) → slice_index bytes i < 256) → j < length cells → (b : ℕ) → b < 256 → get_or cells j None ≡ Some (Byte b) → IsByte (get_or (with_bytes bytes c cells) j None)
 stays_byte bytes c j cells fit lt b small is =
     elim (cases_lt j c) [
       | inl below ↦ record { byte = b; is = left_cell bytes c j cells (inl below) lt b is; fits = small }
@@ -68,7 +68,7 @@ pub record Write (f : StackFrame) (p : Span) (c : ℕ) (bytes : List ℕ) : Type
 
 module _ (f : StackFrame) (p : Span) (c : ℕ) (bytes : List ℕ) (w : Write f p c bytes) (k : ℕ) (low : 1 ≤ k) (high : k ≤ 64) where
   -- an untouched slot
-  pub untouched : touches p k ≡ false → (i : ℕ) → i < 8 → cells_of (with_bytes bytes c f.stack) k i ≡ cells_of f.stack k i
+  untouched : touches p k ≡ false → (i : ℕ) → i < 8 → cells_of (with_bytes bytes c f.stack) k i ≡ cells_of f.stack k i
   untouched not i lt =
       let all = w.frame.cells in
       let n = w.count in
@@ -111,12 +111,12 @@ module _ (f : StackFrame) (p : Span) (c : ℕ) (bytes : List ℕ) (w : Write f p
 
 -- ---- the slots of an abstract state
 
-pub each_slot_at : (f : ℕ → SlotState → SlotState) (k j : ℕ) (ss : List SlotState) → j < length ss → get_or (each_slot f k ss) j (Bytes 0) ≡ f (k + j) (get_or ss j (Bytes 0))
+each_slot_at : (f : ℕ → SlotState → SlotState) (k j : ℕ) (ss : List SlotState) → j < length ss → get_or (each_slot f k ss) j (Bytes 0) ≡ f (k + j) (get_or ss j (Bytes 0))
 each_slot_at f k j [] lt = absurd (omega arith)
 each_slot_at f k zero (s ∷ ss) lt = ap (λ n. f n s) (omega arith)
 each_slot_at f k (suc j) (s ∷ ss) lt = each_slot_at f (suc k) j ss (omega arith) ∙ ap (λ n. f n (get_or ss j (Bytes 0))) (omega arith)
 
-pub each_slot_tag_at : (f : ℕ → Option Tag → Option Tag) (k j : ℕ) (ts : List (Option Tag)) → j < length ts → get_or (each_slot_tag f k ts) j None ≡ f (k + j) (get_or ts j None)
+each_slot_tag_at : (f : ℕ → Option Tag → Option Tag) (k j : ℕ) (ts : List (Option Tag)) → j < length ts → get_or (each_slot_tag f k ts) j None ≡ f (k + j) (get_or ts j None)
 each_slot_tag_at f k j [] lt = absurd (omega arith)
 each_slot_tag_at f k zero (s ∷ ss) lt = ap (λ n. f n s) (omega arith)
 each_slot_tag_at f k (suc j) (s ∷ ss) lt = each_slot_tag_at f (suc k) j ss (omega arith) ∙ ap (λ n. f n (get_or ss j None)) (omega arith)

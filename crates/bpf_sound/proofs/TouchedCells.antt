@@ -1,11 +1,12 @@
 -- Which cells of a slot an access touches: the tests on a span, against places in the stack.
-use Rattle.std.proofs.Common.{◌≡◌, ℕ, ℤ, pos, ◌+ℤ◌, ◌-ℤ◌, ◌≤ℤ◌, ◌+◌, ◌-◌, ◌*◌, ◌/◌, ◌<◌, ◌≤◌, refl, sym, ◌∙◌, arith, inl, inr, Bool, true, false, min}
-use Rattle.std.proofs.lemmas.Bool.{false≢true, cases_lt}
-use Rattle.std.specs.Prelude.{◌⊎◌, int_lt, ◌&&◌, ◌||◌}
+use Rattle.std.proofs.Common.{◌≡◌, ℕ, ℤ, pos, ◌+ℤ◌, ◌-ℤ◌, ◌≤ℤ◌, ◌+◌, ◌-◌, ◌*◌, ◌/◌, ◌<◌, ◌≤◌, sym, ◌∙◌, arith, inl, inr, true, false, min}
+use Rattle.std.proofs.lemmas.Bool.{cases_lt}
+use Rattle.std.specs.Prelude.{◌⊎◌, int_lt}
 use Rattle.std.specs.Int.{bit_at}
 use Rattle.std.proofs.lemmas.Int.{ints, clamps}
 use Rattle.std.proofs.lemmas.Nat.Bits.{bit_at_mask_below, bit_at_mask_above}
 use Rattle.bpf_state.specs.Access.{Span, span_end, touches, first_byte, place_in, touched_bytes}
+use Rattle.bpf_sound.proofs.Tests.{and3_false}
 
 -- the first byte of an access by a span lies in cell c of the frame's 512
 pub record LiesAt (p : Span) (c : ℕ) : Type 0 where
@@ -21,22 +22,8 @@ place_is k c z e = omega (arith, ints, clamps)
 pub int_lt_true : (a b : ℤ) → int_lt a b ≡ true → (a +ℤ pos 1) ≤ℤ b
 int_lt_true a b h = omega (arith, ints)
 
-pub int_lt_false : (a b : ℤ) → int_lt a b ≡ false → b ≤ℤ a
+int_lt_false : (a b : ℤ) → int_lt a b ≡ false → b ≤ℤ a
 int_lt_false a b h = omega (arith, ints)
-
--- ---- tests of several parts
-
-pub and3_true : (a b c : Bool) → (a && b && c) ≡ true → (a ≡ true) × (b ≡ true) × (c ≡ true)
-and3_true true true true h = (refl, refl, refl)
-and3_true true true false h = absurd (false≢true h)
-and3_true true false c h = absurd (false≢true h)
-and3_true false b c h = absurd (false≢true h)
-
-pub and3_false : (a b c : Bool) → (a && b && c) ≡ false → a ≡ true → (b ≡ false) ⊎ (c ≡ false)
-and3_false true true true h e = inr h
-and3_false true true false h e = inr refl
-and3_false true false c h e = inl refl
-and3_false false b c h e = absurd (false≢true e)
 
 -- ---- touched or not
 

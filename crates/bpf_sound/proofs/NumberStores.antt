@@ -1,26 +1,26 @@
 -- A store of a number in the top frame keeps the description.
 use Rattle.std.proofs.Common.{◌≡◌, ℕ, zero, suc, ℤ, pos, ◌-ℤ◌, ◌+◌, ◌-◌, ◌*◌, ◌/◌, ◌%◌, ◌^◌, ◌<◌, ◌≤◌, refl, sym, ◌∙◌, ap, subst, arith, List, [], length, get_or, set, inl, inr, Option, Some, None, Bool, true, false, cond, min}
-use Rattle.std.specs.Prelude.{slice_index, ◌⊎◌, bit_or, ◌==◌, ⊤, ◌&&◌, unsigned_abs}
+use Rattle.std.specs.Prelude.{slice_index, ◌⊎◌, bit_or, ◌==◌, ⊤, unsigned_abs}
 use Rattle.std.specs.Int.{byte_at, bytes_low_first, bytes_high_first}
+use Rattle.std.specs.Cmp.Derive.{both_true}
 use Rattle.std.proofs.lemmas.Int.{ints, clamps}
 use Rattle.std.proofs.lemmas.Bool.{false≢true, cases_lt, eqb-true}
 use Rattle.std.proofs.lemmas.Bool.Decides.{nat_tests, Decides-int_eq, Decides-eqb}
 use Rattle.std.proofs.lemmas.List.{get_or-set_same, get_or-set_other, length-set}
+use Rattle.std.proofs.lemmas.Nat.{or_of_8, mod_below}
+use Rattle.std.proofs.lemmas.Nat.Bits.{bit_at-zero}
+use Rattle.std.proofs.Math.Pow.{pow_mono}
+use Rattle.byteorder.specs.Numbers.{length-bytes_high_first, length-bytes_low_first, big_number-reads_back, little_number-reads_back}
 use Rattle.bpf_insn.specs.declared.order.Order.{Order}
 use Rattle.bpf_insn.specs.declared.order.Order.TheVariants.{Little, Big}
 use Rattle.bpf_insn.specs.declared.state.Value.{Value}
 use Rattle.bpf_insn.specs.declared.state.Value.TheVariants.{Number as NumberValue, Pointer as PointerValue}
 use Rattle.bpf_insn.specs.declared.state.Region.{Region}
 use Rattle.bpf_insn.specs.declared.state.Region.TheVariants.{Context, Frame as FrameAt}
-use Rattle.byteorder.specs.Numbers.{length-bytes_high_first, length-bytes_low_first, big_number-reads_back, little_number-reads_back}
-use Rattle.std.proofs.lemmas.Nat.{or_of_8, mod_below}
-use Rattle.std.proofs.lemmas.Nat.Bits.{bit_at-zero}
-use Rattle.std.proofs.Math.Pow.{pow_mono}
 use Rattle.bpf_insn.specs.Instruction.{Instructions}
 use Rattle.bpf_insn.specs.Order.{number_of, bytes_of}
 use Rattle.bpf_insn.specs.State as machine
-use Rattle.bpf_insn.specs.State.{Cell, StackFrame, IsFrame, IsNumberCell, HoldsNoPart, HoldsPointer, cell}
-use Rattle.bpf_insn.specs.State.Cell.{Byte, Part}
+use Rattle.bpf_insn.specs.State.{Cell, IsFrame, cell}
 use Rattle.bpf_insn.specs.Memory.{with_bytes}
 use Rattle.bpf_num.specs.Word.{M}
 use Rattle.bpf_num.specs.Number.{IsNumber, top}
@@ -35,8 +35,9 @@ use Rattle.bpf_state.specs.Transfer.{slot_written, slot_maybe_written, with_touc
 use Rattle.bpf_sound.specs.Describes.{Describes, DescribesRegister, DescribesSlot, TaggedRegister, TaggedSlot, IsStored}
 use Rattle.bpf_sound.specs.Laws.{Leads, IsAbstract, IsRegister, IsSlot}
 use Rattle.bpf_sound.proofs.StoredCells.{whole_slot, other_slot}
-use Rattle.bpf_sound.proofs.Cells.{place_is, LiesAt, zero_or_one, apart, and3_true}
-use Rattle.bpf_sound.proofs.Stores.{Write, cells_of, same_slot, same_slot_tag, known_slot, unknown_slot, touched_tag, slot_of_each, tag_of_each, length-each_slot, length-each_slot_tag}
+use Rattle.bpf_sound.proofs.TouchedCells.{place_is, LiesAt, zero_or_one, apart}
+use Rattle.bpf_sound.proofs.ByteStores.{Write, cells_of, same_slot, same_slot_tag, known_slot, unknown_slot, touched_tag, slot_of_each, tag_of_each, length-each_slot, length-each_slot_tag}
+use Rattle.bpf_sound.proofs.Tests.{and3_true}
 
 -- the machine at another slot, with another stack in its top frame
 abbrev pub at_top : machine.State → ℕ → List (Option Cell) → machine.State
@@ -44,15 +45,7 @@ at_top m sl stack = record { top = record { slot = sl; registers = m.top.registe
 
 -- ---- masks
 
-pub and3_from : (a b c : Bool) → a ≡ true → b ≡ true → c ≡ true → (a && b && c) ≡ true
-and3_from true b c e f g = and2 b c f g
-  where
-    and2 : (b c : Bool) → b ≡ true → c ≡ true → (b && c) ≡ true
-    and2 true c f g = g
-    and2 false c f g = absurd (false≢true f)
-and3_from false b c e f g = absurd (false≢true e)
-
-pub mask_small : (p : Span) (c k : ℕ) → LiesAt p c → p.count ≤ 8 → p.lowest ≡ p.highest → is_slot p ≡ false → 1 ≤ k → k ≤ 64 → touched_bytes p k ≤ 254
+mask_small : (p : Span) (c k : ℕ) → LiesAt p c → p.count ≤ 8 → p.lowest ≡ p.highest → is_slot p ≡ false → 1 ≤ k → k ≤ 64 → touched_bytes p k ≤ 254
 mask_small p c k at few known whole low high =
     let l = at.lowest in
     let h = at.highest in
@@ -68,7 +61,7 @@ mask_small p c k at few known whole low high =
         let h = at.highest in
         let g : unsigned_abs p.lowest ≡ 8 * k = omega (arith, ints, clamps) in
         let m : unsigned_abs p.lowest % 8 ≡ 0 = omega arith in
-        and3_from (is_known p) (p.count == 8) (unsigned_abs p.lowest % 8 == 0) ((Decides-int_eq p.lowest p.highest).1 known) ((Decides-eqb p.count 8).1 n) ((Decides-eqb (unsigned_abs p.lowest % 8) 0).1 m)
+        both_true (both_true ((Decides-int_eq p.lowest p.highest).1 known) ((Decides-eqb p.count 8).1 n)) ((Decides-eqb (unsigned_abs p.lowest % 8) 0).1 m)
 
     by_cases : place_in k p.lowest ≡ min 8 (c + 8 * k - 512) → place_in k (span_end p) ≡ min 8 (c + p.count + 8 * k - 512) → (place_in k p.lowest < 1) ⊎ (1 ≤ place_in k p.lowest) → (place_in k (span_end p) < 8) ⊎ (8 ≤ place_in k (span_end p)) → touched_bytes p k ≤ 254
     by_cases a b (inr one) t = let u = pow_mono {i = 1} {j = place_in k p.lowest} one in let v = pow_mono {i = place_in k (span_end p)} {j = 8} (omega arith) in omega arith
@@ -82,7 +75,7 @@ is_number_top = record {
   signed = record { above = omega (arith, ints); ordered = omega (arith, ints); below = omega (arith, ints) };
 }
 
-pub is_slot_written : (mask : ℕ) (held : SlotState) → mask ≤ 254 → IsSlot held → IsSlot (slot_written mask held)
+is_slot_written : (mask : ℕ) (held : SlotState) → mask ≤ 254 → IsSlot held → IsSlot (slot_written mask held)
 is_slot_written mask (Ptr p) small ok = small
 is_slot_written mask (Word n) small ok = is_number_top
 is_slot_written mask (Bytes m) small ok = by_test (bit_or m mask == 255) refl
@@ -153,7 +146,7 @@ pub are_bytes_of : (order : Order) (n y i : ℕ) → slice_index (bytes_of order
 are_bytes_of Little n y i = low_first 0 n y i
 are_bytes_of Big n y i = high_first n y i
 
-pub reads_back : (order : Order) (y : ℕ) → y < M → y ≡ number_of order 8 (bytes_of order 8 y)
+reads_back : (order : Order) (y : ℕ) → y < M → y ≡ number_of order 8 (bytes_of order 8 y)
 reads_back Little y small = sym (little_number-reads_back 8 y [] small)
 reads_back Big y small = sym (big_number-reads_back 8 y [] small)
 
@@ -167,20 +160,20 @@ abbrev IsNumberValue : Option Value → Type 0
 IsNumberValue (Some (NumberValue y)) = ⊤
 IsNumberValue v = ⊥
 
-pub same_number : (a b : ℕ) → Some (NumberValue a) ≡ Some (NumberValue b) → a ≡ b
+same_number : (a b : ℕ) → Some (NumberValue a) ≡ Some (NumberValue b) → a ≡ b
 unfolding number_or
 same_number a b e = ap number_or e
 
 pub not_pointer : {A : Type 0} (y : ℕ) (region : Region) (off : ℤ) → Some (NumberValue y) ≡ Some (PointerValue region off) → A
 not_pointer y region off e = absurd (subst (λ v. IsNumberValue v) e tt)
 
-pub stored_value : (order : Order) (depth y : ℕ) (value : RegState) (cell : ℕ → Option Cell) → DescribesRegister depth value (Some (NumberValue y)) → IsStored order y cell → DescribesSlot order depth (value_slot value) cell
+stored_value : (order : Order) (depth y : ℕ) (value : RegState) (cell : ℕ → Option Cell) → DescribesRegister depth value (Some (NumberValue y)) → IsStored order y cell → DescribesSlot order depth (value_slot value) cell
 stored_value order depth y Any cell d st = λ i lt set. zero_or_one (sym (bit_at-zero i) ∙ set)
 stored_value order depth y (Num n) cell d st = (d.0, subst (λ z. IsStored order z cell) (same_number y d.0 d.1) st, d.2)
 stored_value order depth y (Ctx lo hi) cell d st = not_pointer y Context d.0 d.1
 stored_value order depth y (Frame lo hi) cell d st = not_pointer y (FrameAt depth) d.0 d.1
 
-pub stored_tag : (order : Order) (x : List ℕ) (y : ℕ) (tag : Option Tag) (cell : ℕ → Option Cell) → TaggedRegister x tag (Some (NumberValue y)) → IsStored order y cell → TaggedSlot order x tag cell
+stored_tag : (order : Order) (x : List ℕ) (y : ℕ) (tag : Option Tag) (cell : ℕ → Option Cell) → TaggedRegister x tag (Some (NumberValue y)) → IsStored order y cell → TaggedSlot order x tag cell
 stored_tag order x y None cell d st = tt
 stored_tag order x y (Some t) cell d st = (d.0, subst (λ z. IsStored order z cell) (same_number y d.0 d.1) st, d.2)
 
@@ -226,7 +219,7 @@ module _ (order : Order) (len : ℕ) (x : List ℕ) (s : AbstractState) (m : mac
   write : Write m.top p c (bytes_of order p.count y)
   write = record { frame = frame; lies = lies; count = length-bytes_of order p.count y; fit = are_bytes_of order p.count y }
 
-  pub whole_describes : is_slot p ≡ true → Describes order len x (put_slot (slot_number p) (value_slot value) tag s) (at_top m sl (with_bytes (bytes_of order p.count y) c m.top.stack))
+  whole_describes : is_slot p ≡ true → Describes order len x (put_slot (slot_number p) (value_slot value) tag s) (at_top m sl (with_bytes (bytes_of order p.count y) c m.top.stack))
   whole_describes whole = record {
     length_is = d.length_is;
     registers = d.registers;
@@ -254,7 +247,7 @@ module _ (order : Order) (len : ℕ) (x : List ℕ) (s : AbstractState) (m : mac
       elsewhere k low high apart i lt =
           ap (λ n. cells_of (with_bytes (bytes_of order p.count y) n m.top.stack) k i) t.at ∙ other_slot (bytes_of order p.count y) (slot_number p) k i m.top.stack (length-bytes_of order p.count y ∙ t.count) frame.cells t.low t.high low high apart lt
 
-  pub whole_valid : is_slot p ≡ true → IsAbstract (put_slot (slot_number p) (value_slot value) tag s)
+  whole_valid : is_slot p ≡ true → IsAbstract (put_slot (slot_number p) (value_slot value) tag s)
   whole_valid whole =
       let t = whole_slot_is p c lies whole in
       record {

@@ -1,65 +1,54 @@
--- The steps of stores.
-use Rattle.std.proofs.Common.{◌≡◌, ℕ, ℤ, pos, negsuc, ◌+ℤ◌, ◌+◌, ◌<◌, ◌≤◌, refl, sym, ◌∙◌, ap, subst, arith, List, get_or, Option, Some, None, Bool, true, false, cond}
-use Rattle.std.specs.Prelude.{◌==◌, ⊤, ◌&&◌, not, nat_le, int_le, neg_ℤ, option_map, unsigned_abs}
+-- An access to the top frame: its base and its place. Stores of a constant.
+use Rattle.std.proofs.Common.{◌≡◌, ℕ, ℤ, pos, ◌+ℤ◌, ◌+◌, ◌≤◌, refl, sym, ◌∙◌, ap, subst, arith, List, get_or, Option, Some, None, Bool, true, false, cond}
+use Rattle.std.specs.Prelude.{◌&&◌, not, nat_le, int_le, neg_ℤ, option_map, unsigned_abs}
 use Rattle.std.proofs.lemmas.Int.{ints, clamps}
-use Rattle.std.proofs.lemmas.Bool.{false≢true}
+use Rattle.std.proofs.lemmas.Bool.{false≢true, or_parts, not-false, and_parts, eq-eqb}
 use Rattle.std.proofs.lemmas.Bool.Decides.{nat_tests}
+use Rattle.std.proofs.Math.Nat.{sub_self}
+use Rattle.std.proofs.lemmas.Option.{same_Some}
 use Rattle.bpf_insn.specs.declared.order.Order.{Order}
 use Rattle.bpf_insn.specs.declared.state.Value.TheVariants.{Number as NumberValue, Pointer as PointerValue}
 use Rattle.bpf_insn.specs.declared.state.Region.TheVariants.{Frame as FrameAt}
-use Rattle.std.proofs.lemmas.Nat.{mod_below}
-use Rattle.bpf_insn.specs.Instruction.{Instructions, insn_at, byte_count}
-use Rattle.bpf_insn.specs.Arithmetic.{extended}
-use Rattle.bpf_insn.specs.Step.{Step, step_of, does}
-use Rattle.bpf_insn.specs.Stuck.{Access, reason_at, reason_of}
-use Rattle.bpf_insn.specs.declared.state.Reason.{Reason}
-use Rattle.bpf_insn.specs.declared.state.Reason.TheVariants.{TooManyFrames}
 use Rattle.bpf_insn.specs.declared.instruction.Reg.{Reg}
 use Rattle.bpf_insn.specs.declared.instruction.Size.{Size}
 use Rattle.bpf_insn.specs.declared.instruction.Size.TheVariants.{B, H, W, DW}
-use Rattle.bpf_insn.specs.declared.instruction.Insn.{Insn}
 use Rattle.bpf_insn.specs.declared.instruction.Insn.TheVariants.{Store, StoreImm}
-use Rattle.bpf_num.specs.Number.{constant}
-use Rattle.bpf_num.specs.Laws.{ConstantHas}
-use Rattle.bpf_state.specs.Access.{span_from, is_inside}
-use Rattle.bpf_state.specs.Fault.{fault_of, reads_any, has_wrong_kinds, is_out_of_bounds, reads_unknown_byte, writes_protected, some_passes, is_pointer}
-use Rattle.bpf_state.specs.Transfer.{after}
-use Rattle.std.proofs.Math.Nat.{sub_self}
+use Rattle.bpf_insn.specs.Instruction.{Instructions, byte_count}
+use Rattle.bpf_insn.specs.Arithmetic.{extended}
+use Rattle.bpf_insn.specs.Step.{Step, does}
+use Rattle.bpf_insn.specs.Stuck.{Access, reason_at}
 use Rattle.bpf_insn.specs.Order.{bytes_of}
 use Rattle.bpf_insn.specs.State as machine
-use Rattle.bpf_insn.specs.State.{Cell, StackFrame, IsFrame, IsNumberCell, HoldsNoPart, HoldsPointer, cell}
-use Rattle.bpf_insn.specs.State.Cell.{Byte, Part}
+use Rattle.bpf_insn.specs.State.{Cell}
 use Rattle.bpf_insn.specs.Memory.{with_bytes, store_number, place_of, stack_of, with_stack, inside}
 use Rattle.bpf_insn.specs.Memory.Place.{InFrame}
-use Rattle.bpf_num.specs.Word.{M}
-use Rattle.bpf_num.specs.Number.{IsNumber, Has}
+use Rattle.bpf_num.specs.Number.{constant}
+use Rattle.bpf_num.specs.Laws.{ConstantHas}
 use Rattle.bpf_state.specs.declared.state.RegState.{RegState}
 use Rattle.bpf_state.specs.declared.state.RegState.TheVariants.{Any, Num, Ctx, Frame}
+use Rattle.bpf_state.specs.Access.{span_from, is_inside, Span}
+use Rattle.bpf_state.specs.Fault.{some_passes, is_pointer}
+use Rattle.bpf_state.specs.Transfer.{after, stored}
 use Rattle.bpf_state.specs.State.{AbstractState, register}
-use Rattle.bpf_state.specs.Access.{Span}
-use Rattle.bpf_state.specs.Transfer.{stored}
 use Rattle.bpf_sound.specs.Describes.{DescribesRegister}
 use Rattle.bpf_sound.specs.Laws.{Leads, IsJudged}
-use Rattle.bpf_sound.proofs.Cells.{LiesAt}
-use Rattle.bpf_sound.proofs.Keeps.{at_top, number_stored}
-use Rattle.std.proofs.lemmas.Option.{same_Some}
-use Rattle.std.proofs.lemmas.Bool.{or_parts, not-false}
+use Rattle.bpf_sound.proofs.TouchedCells.{LiesAt}
+use Rattle.bpf_sound.proofs.NumberStores.{at_top, number_stored}
 use Rattle.bpf_sound.proofs.Judged.{no_fault_is, step_is, leads_at, top_frame}
 use Rattle.bpf_sound.proofs.Constants.{extended_fits, constant_describes}
-
-pub leb_self : (n : ℕ) → nat_le n n ≡ true
-leb_self n = grind (arith, nat_tests)
-
-pub eqb_self : (n : ℕ) → (n == n) ≡ true
-eqb_self n = grind (arith, nat_tests)
-
-pub inside_at : (k : ℕ) (z : ℤ) (c : ℕ) → z ≡ pos c → c + k ≤ 512 → inside k 512 z ≡ Some c
-inside_at k z c e fits =
-    let t : nat_le (c + k) 512 ≡ true = grind (arith, nat_tests) in
-    ap (λ z. inside k 512 z) e ∙ ap (λ b. cond b (Some c) None) t
+use Rattle.bpf_sound.proofs.Tests.{leb_self}
 
 -- ---- the base of an access to the frame
 
+abbrev pub store_access : Size → Reg → ℤ → Access
+store_access size dst off = record { base = dst; offset = off; size = size; reads = false; writes = true }
+
+pub inside_of : (k len : ℕ) (z : ℤ) (c : ℕ) → z ≡ pos c → c + k ≤ len → inside k len z ≡ Some c
+inside_of k len z c e fits =
+    let t : nat_le (c + k) len ≡ true = grind (arith, nat_tests) in
+    ap (λ z. inside k len z) e ∙ ap (λ b. cond b (Some c) None) t
+
+-- the base of an access points into the top frame, and its bytes lie there, the first in cell `first`
 pub record InTop (m : machine.State) (a : Access) (value : RegState) : Type 0 where
   pub span : Span
   pub span_is : span_from a value ≡ Some span
@@ -77,7 +66,9 @@ in_top m len a (Num n) h p q d = absurd (false≢true h)
 in_top m len a (Ctx lo hi) h p q d = absurd (false≢true (sym p))
 in_top m len a (Frame lo hi) h p q d =
     let z : ℤ = (d.0 +ℤ a.offset) +ℤ pos 512 in
-    let t = inside_both (int_le (neg_ℤ (pos 512)) (lo +ℤ a.offset)) (int_le ((hi +ℤ a.offset) +ℤ pos (byte_count a.size)) (pos 0)) q in
+    let low : Bool = int_le (neg_ℤ (pos 512)) (lo +ℤ a.offset) in
+    let high : Bool = int_le ((hi +ℤ a.offset) +ℤ pos (byte_count a.size)) (pos 0) in
+    let t = and_parts low high (not-false (low && high) q) in
     let l = d.2 in
     let u = d.3 in
     let b = t.0 in
@@ -91,16 +82,11 @@ in_top m len a (Frame lo hi) h p q d =
       offset = d.0;
       base = d.1;
       first = c;
-      place = rw (leb_self (machine.depth m)) (ap (λ o. option_map (λ x. InFrame (machine.depth m) x) o) (inside_at (byte_count a.size) z c is room));
+      place = rw (leb_self (machine.depth m)) (ap (λ o. option_map (λ x. InFrame (machine.depth m) x) o) (inside_of (byte_count a.size) 512 z c is room));
       at = is;
       count = refl;
       lies = record { in_frame = refl; lowest = omega (arith, ints); highest = omega (arith, ints); fits = room };
     }
-  where
-    inside_both : (a b : Bool) → not (a && b) ≡ false → (a ≡ true) × (b ≡ true)
-    inside_both true true h = (refl, refl)
-    inside_both true false h = absurd (false≢true (sym h))
-    inside_both false b h = absurd (false≢true (sym h))
 
 -- ---- what a store does
 
@@ -108,21 +94,19 @@ pub stack_top : (sl : ℕ) (m : machine.State) → stack_of (machine.at_slot sl 
 stack_top sl m = ap (λ n. (get_or (machine.frames (machine.at_slot sl m)) n (machine.at_slot sl m).top).stack) (sub_self (machine.depth m))
 
 pub with_top_stack : (sl : ℕ) (m : machine.State) (stack : List (Option Cell)) → with_stack (machine.at_slot sl m) (machine.depth m) stack ≡ at_top m sl stack
-with_top_stack sl m stack = rw (sub_self (machine.depth m), eqb_self (machine.depth m))
+with_top_stack sl m stack = rw (sub_self (machine.depth m), eq-eqb (machine.depth m) (machine.depth m) refl)
 
 pub store_top : (order : Order) (k y c sl : ℕ) (m : machine.State) → store_number order k y (InFrame (machine.depth m) c) (machine.at_slot sl m) ≡ Some (at_top m sl (with_bytes (bytes_of order k y) c m.top.stack))
 unfolding store_number
 store_top order k y c sl m = ap (λ st. Some (with_stack (machine.at_slot sl m) (machine.depth m) (with_bytes (bytes_of order k y) c st))) (stack_top sl m) ∙ ap (λ t. Some t) (with_top_stack sl m (with_bytes (bytes_of order k y) c m.top.stack))
 
-pub does_store_imm : (order : Order) (size : Size) (dst : Reg) (off imm : ℤ) (m : machine.State) (value : RegState) (t : InTop m (record { base = dst; offset = off; size = size; reads = false; writes = true }) value) → does order (StoreImm size dst off imm) m ≡ Some (at_top m (m.top.slot + 1) (with_bytes (bytes_of order (byte_count size) (extended imm)) t.first m.top.stack))
+does_store_imm : (order : Order) (size : Size) (dst : Reg) (off imm : ℤ) (m : machine.State) (value : RegState) (t : InTop m (store_access size dst off) value) → does order (StoreImm size dst off imm) m ≡ Some (at_top m (m.top.slot + 1) (with_bytes (bytes_of order (byte_count size) (extended imm)) t.first m.top.stack))
 unfolding does
 does_store_imm order size dst off imm m value t = rw (t.base, t.place) (store_top order (byte_count size) (extended imm) t.first (m.top.slot + 1) m)
 
-pub does_store_number : (order : Order) (size : Size) (dst src : Reg) (off : ℤ) (y : ℕ) (m : machine.State) (value : RegState) (t : InTop m (record { base = dst; offset = off; size = size; reads = false; writes = true }) value) → machine.register m src ≡ Some (NumberValue y) → does order (Store size dst off src) m ≡ Some (at_top m (m.top.slot + 1) (with_bytes (bytes_of order (byte_count size) y) t.first m.top.stack))
+pub does_store_number : (order : Order) (size : Size) (dst src : Reg) (off : ℤ) (y : ℕ) (m : machine.State) (value : RegState) (t : InTop m (store_access size dst off) value) → machine.register m src ≡ Some (NumberValue y) → does order (Store size dst off src) m ≡ Some (at_top m (m.top.slot + 1) (with_bytes (bytes_of order (byte_count size) y) t.first m.top.stack))
 unfolding does
 does_store_number order size dst src off y m value t e = rw (t.base, e, t.place) (store_top order (byte_count size) y t.first (m.top.slot + 1) m)
-
--- ---- steps of an instruction that stands there
 
 pub byte_count_few : (size : Size) → byte_count size ≤ 8
 byte_count_few B = omega arith
@@ -130,11 +114,12 @@ byte_count_few H = omega arith
 byte_count_few W = omega arith
 byte_count_few DW = omega arith
 
--- the base of a store without fault
-pub store_imm_base : (p : Instructions) (len : ℕ) (x : List ℕ) (size : Size) (dst : Reg) (off imm : ℤ) (s : AbstractState) (m : machine.State) → IsJudged p len x (StoreImm size dst off imm) s m → InTop m (record { base = dst; offset = off; size = size; reads = false; writes = true }) (register s dst)
+-- ---- a store of a constant
+
+pub store_imm_base : (p : Instructions) (len : ℕ) (x : List ℕ) (size : Size) (dst : Reg) (off imm : ℤ) (s : AbstractState) (m : machine.State) → IsJudged p len x (StoreImm size dst off imm) s m → InTop m (store_access size dst off) (register s dst)
 store_imm_base p len x size dst off imm s m j =
     let f = no_fault_is len s (StoreImm size dst off imm) j.no_fault in
-    in_top m len (record { base = dst; offset = off; size = size; reads = false; writes = true }) (register s dst)
+    in_top m len (store_access size dst off) (register s dst)
     (not-false (is_pointer (register s dst)) (or_parts (not (is_pointer (register s dst))) false f.kinds).0) f.protected f.bounds (j.described.registers dst)
 
 pub store_imm_keeps : ConstantHas → (p : Instructions) (len : ℕ) (x : List ℕ) (size : Size) (dst : Reg) (off imm : ℤ) (s : AbstractState) (m m' : machine.State) → IsJudged p len x (StoreImm size dst off imm) s m → Step p m m' → Leads p len x (after p.order (StoreImm size dst off imm) s) m'

@@ -14,9 +14,9 @@ use Rattle.bpf_num.specs.Number.{Has, top}
 use Rattle.bpf_num.specs.SignedLaws.{in_signed_top}
 use Rattle.bpf_state.specs.declared.state.SlotState.{SlotState}
 use Rattle.bpf_state.specs.declared.state.SlotState.TheVariants.{Bytes, Word, Ptr}
-use Rattle.bpf_sound.proofs.Cells.{zero_or_one}
 use Rattle.bpf_state.specs.Transfer.{slot_written, slot_maybe_written}
 use Rattle.bpf_sound.specs.Describes.{DescribesSlot, IsStored}
+use Rattle.bpf_sound.proofs.TouchedCells.{zero_or_one}
 
 -- a cell holds a byte
 pub record IsByte (c : Option Cell) : Type 0 where
@@ -25,7 +25,7 @@ pub record IsByte (c : Option Cell) : Type 0 where
   pub fits : byte < 256
 
 -- each place below 8
-pub below_eight : (P : ℕ → Type 0) → P 0 → P 1 → P 2 → P 3 → P 4 → P 5 → P 6 → P 7 → (i : ℕ) → i < 8 → P i
+below_eight : (P : ℕ → Type 0) → P 0 → P 1 → P 2 → P 3 → P 4 → P 5 → P 6 → P 7 → (i : ℕ) → i < 8 → P i
 below_eight P a b c d e f g h zero lt = a
 below_eight P a b c d e f g h (suc zero) lt = b
 below_eight P a b c d e f g h (suc (suc zero)) lt = c
@@ -45,7 +45,7 @@ has_top x fits = record {
 }
 
 -- eight bytes are a number of 64 bits
-pub eight_bytes : (order : Order) (bytes : List ℕ) → ((i : ℕ) → i < 8 → slice_index bytes i < 256) → number_of order 8 bytes < M
+eight_bytes : (order : Order) (bytes : List ℕ) → ((i : ℕ) → i < 8 → slice_index bytes i < 256) → number_of order 8 bytes < M
 eight_bytes Little bytes fit =
     let f0 = fit 0 (omega arith) in
     let f1 = fit 1 (omega arith) in
@@ -68,7 +68,7 @@ eight_bytes Big bytes fit =
     omega arith
 
 -- eight cells with bytes are a number
-pub all_bytes : (order : Order) (cell : ℕ → Option Cell) → ((i : ℕ) → i < 8 → IsByte (cell i)) → (x : ℕ) × IsStored order x cell × Has top x
+all_bytes : (order : Order) (cell : ℕ → Option Cell) → ((i : ℕ) → i < 8 → IsByte (cell i)) → (x : ℕ) × IsStored order x cell × Has top x
 all_bytes order cell each =
     let c0 = each 0 (omega arith) in
     let c1 = each 1 (omega arith) in
