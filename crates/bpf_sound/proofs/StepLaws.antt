@@ -1,0 +1,27 @@
+-- The step of each instruction that neither branches nor enters or leaves a function.
+use Rattle.bpf_insn.specs.declared.instruction.Insn.TheVariants.{Alu, Neg, MovSx, End, LoadImm64, Load, LoadSx, Store, StoreImm, Atomic, Ja, JaLong, JumpIf, CallLocal, Exit}
+use Rattle.bpf_num.specs.Laws.{ConstantHas, ConstantIs, TightenKeeps, AluKeeps, NegKeeps, MovsxKeeps, EndKeeps}
+use Rattle.bpf_sound.specs.Laws.{StepKeeps}
+use Rattle.bpf_sound.proofs.PlainLaws.{alu_keeps, neg_keeps, movsx_keeps, end_keeps, load_imm_keeps, ja_keeps, ja_long_keeps}
+use Rattle.bpf_sound.proofs.Loads.{load_keeps}
+use Rattle.bpf_sound.proofs.ExtendedLoads.{load_sx_keeps}
+use Rattle.bpf_sound.proofs.Spills.{store_keeps}
+use Rattle.bpf_sound.proofs.Steps.{store_imm_keeps}
+use Rattle.bpf_sound.proofs.Atomics.{atomic_keeps}
+
+pub step_keeps : ConstantHas → ConstantIs → TightenKeeps → AluKeeps → NegKeeps → MovsxKeeps → EndKeeps → StepKeeps
+step_keeps has known tightens alus negs movsxs ends p len x (Alu op width dst src) s m m' j plain goes = alu_keeps has known tightens alus p len x op width dst src s m m' j goes
+step_keeps has known tightens alus negs movsxs ends p len x (Neg width dst) s m m' j plain goes = neg_keeps p len x negs width dst s m m' j goes
+step_keeps has known tightens alus negs movsxs ends p len x (MovSx width bits dst src) s m m' j plain goes = movsx_keeps p len x movsxs width bits dst src s m m' j goes
+step_keeps has known tightens alus negs movsxs ends p len x (End kind bits dst) s m m' j plain goes = end_keeps p len x ends kind bits dst s m m' j goes
+step_keeps has known tightens alus negs movsxs ends p len x (LoadImm64 dst value) s m m' j plain goes = load_imm_keeps p len x has dst value s m m' j goes
+step_keeps has known tightens alus negs movsxs ends p len x (Load size dst src off) s m m' j plain goes = load_keeps tightens p len x size dst src off s m m' j goes
+step_keeps has known tightens alus negs movsxs ends p len x (LoadSx size dst src off) s m m' j plain goes = load_sx_keeps tightens p len x size dst src off s m m' j goes
+step_keeps has known tightens alus negs movsxs ends p len x (Store size dst off src) s m m' j plain goes = store_keeps p len x size dst off src s m m' j goes
+step_keeps has known tightens alus negs movsxs ends p len x (StoreImm size dst off imm) s m m' j plain goes = store_imm_keeps has p len x size dst off imm s m m' j goes
+step_keeps has known tightens alus negs movsxs ends p len x (Atomic wide op dst off src) s m m' j plain goes = atomic_keeps tightens p len x wide op dst src off s m m' j goes
+step_keeps has known tightens alus negs movsxs ends p len x (Ja off) s m m' j plain goes = ja_keeps p len x off s m m' j goes
+step_keeps has known tightens alus negs movsxs ends p len x (JaLong off) s m m' j plain goes = ja_long_keeps p len x off s m m' j goes
+step_keeps has known tightens alus negs movsxs ends p len x (JumpIf cond width dst src off) s m m' j plain goes = absurd plain
+step_keeps has known tightens alus negs movsxs ends p len x (CallLocal off) s m m' j plain goes = absurd plain
+step_keeps has known tightens alus negs movsxs ends p len x Exit s m m' j plain goes = absurd plain

@@ -1,0 +1,156 @@
+-- The steps of stores.
+use Rattle.std.proofs.Common.{◌≡◌, ℕ, ℤ, pos, negsuc, ◌+ℤ◌, ◌+◌, ◌<◌, ◌≤◌, refl, sym, ◌∙◌, ap, subst, arith, List, get_or, Option, Some, None, Bool, true, false, cond}
+use Rattle.std.specs.Prelude.{◌==◌, ⊤, ◌&&◌, not, nat_le, int_le, neg_ℤ, option_map, unsigned_abs}
+use Rattle.std.proofs.lemmas.Int.{ints, clamps}
+use Rattle.std.proofs.lemmas.Bool.{false≢true}
+use Rattle.std.proofs.lemmas.Bool.Decides.{nat_tests}
+use Rattle.bpf_insn.specs.declared.order.Order.{Order}
+use Rattle.bpf_insn.specs.declared.state.Value.TheVariants.{Number as NumberValue, Pointer as PointerValue}
+use Rattle.bpf_insn.specs.declared.state.Region.TheVariants.{Frame as FrameAt}
+use Rattle.std.proofs.lemmas.Nat.{mod_below}
+use Rattle.bpf_insn.specs.Instruction.{Instructions, insn_at, byte_count}
+use Rattle.bpf_insn.specs.Arithmetic.{extended}
+use Rattle.bpf_insn.specs.Step.{Step, step_of, does}
+use Rattle.bpf_insn.specs.Stuck.{Access, reason_at, reason_of}
+use Rattle.bpf_insn.specs.declared.state.Reason.{Reason}
+use Rattle.bpf_insn.specs.declared.state.Reason.TheVariants.{TooManyFrames}
+use Rattle.bpf_insn.specs.declared.instruction.Reg.{Reg}
+use Rattle.bpf_insn.specs.declared.instruction.Size.{Size}
+use Rattle.bpf_insn.specs.declared.instruction.Size.TheVariants.{B, H, W, DW}
+use Rattle.bpf_insn.specs.declared.instruction.Insn.{Insn}
+use Rattle.bpf_insn.specs.declared.instruction.Insn.TheVariants.{Store, StoreImm}
+use Rattle.bpf_num.specs.Number.{constant}
+use Rattle.bpf_num.specs.Laws.{ConstantHas}
+use Rattle.bpf_state.specs.Access.{span_from, is_inside}
+use Rattle.bpf_state.specs.Fault.{fault_of, reads_any, has_wrong_kinds, is_out_of_bounds, reads_unknown_byte, writes_protected, some_passes, is_pointer}
+use Rattle.bpf_state.specs.Transfer.{after}
+use Rattle.std.proofs.Math.Nat.{sub_self}
+use Rattle.bpf_insn.specs.Order.{bytes_of}
+use Rattle.bpf_insn.specs.State as machine
+use Rattle.bpf_insn.specs.State.{Cell, StackFrame, IsFrame, IsNumberCell, HoldsNoPart, HoldsPointer, cell}
+use Rattle.bpf_insn.specs.State.Cell.{Byte, Part}
+use Rattle.bpf_insn.specs.Memory.{with_bytes, store_number, place_of, stack_of, with_stack, inside}
+use Rattle.bpf_insn.specs.Memory.Place.{InFrame}
+use Rattle.bpf_num.specs.Word.{M}
+use Rattle.bpf_num.specs.Number.{IsNumber, Has}
+use Rattle.bpf_state.specs.declared.state.RegState.{RegState}
+use Rattle.bpf_state.specs.declared.state.RegState.TheVariants.{Any, Num, Ctx, Frame}
+use Rattle.bpf_state.specs.State.{AbstractState, register}
+use Rattle.bpf_state.specs.Access.{Span}
+use Rattle.bpf_state.specs.Transfer.{stored}
+use Rattle.bpf_sound.specs.Describes.{DescribesRegister}
+use Rattle.bpf_sound.specs.Laws.{Leads, IsJudged}
+use Rattle.bpf_sound.proofs.Cells.{LiesAt}
+use Rattle.bpf_sound.proofs.Keeps.{at_top, number_stored}
+use Rattle.std.proofs.lemmas.Option.{same_Some}
+use Rattle.std.proofs.lemmas.Bool.{or_parts, not-false}
+use Rattle.bpf_sound.proofs.Judged.{no_fault_is, step_is, leads_at, top_frame}
+use Rattle.bpf_sound.proofs.Constants.{extended_fits, constant_describes}
+
+pub leb_self : (n : ℕ) → nat_le n n ≡ true
+leb_self n = grind (arith, nat_tests)
+
+pub eqb_self : (n : ℕ) → (n == n) ≡ true
+eqb_self n = grind (arith, nat_tests)
+
+pub inside_at : (k : ℕ) (z : ℤ) (c : ℕ) → z ≡ pos c → c + k ≤ 512 → inside k 512 z ≡ Some c
+inside_at k z c e fits =
+    let t : nat_le (c + k) 512 ≡ true = grind (arith, nat_tests) in
+    ap (λ z. inside k 512 z) e ∙ ap (λ b. cond b (Some c) None) t
+
+-- ---- the base of an access to the frame
+
+pub record InTop (m : machine.State) (a : Access) (value : RegState) : Type 0 where
+  pub span : Span
+  pub span_is : span_from a value ≡ Some span
+  pub offset : ℤ
+  pub base : machine.register m a.base ≡ Some (PointerValue (FrameAt (machine.depth m)) offset)
+  pub first : ℕ
+  pub place : place_of m (byte_count a.size) a.offset (PointerValue (FrameAt (machine.depth m)) offset) ≡ Some (InFrame (machine.depth m) first)
+  pub at : (offset +ℤ a.offset) +ℤ pos 512 ≡ pos first
+  pub count : span.count ≡ byte_count a.size
+  pub lies : LiesAt span first
+
+pub in_top : (m : machine.State) (len : ℕ) (a : Access) (value : RegState) → is_pointer value ≡ true → some_passes (λ p. not p.in_frame) (span_from a value) ≡ false → some_passes (λ p. not (is_inside len p)) (span_from a value) ≡ false → DescribesRegister (machine.depth m) value (machine.register m a.base) → InTop m a value
+in_top m len a Any h p q d = absurd (false≢true h)
+in_top m len a (Num n) h p q d = absurd (false≢true h)
+in_top m len a (Ctx lo hi) h p q d = absurd (false≢true (sym p))
+in_top m len a (Frame lo hi) h p q d =
+    let z : ℤ = (d.0 +ℤ a.offset) +ℤ pos 512 in
+    let t = inside_both (int_le (neg_ℤ (pos 512)) (lo +ℤ a.offset)) (int_le ((hi +ℤ a.offset) +ℤ pos (byte_count a.size)) (pos 0)) q in
+    let l = d.2 in
+    let u = d.3 in
+    let b = t.0 in
+    let e = t.1 in
+    let c : ℕ = unsigned_abs z in
+    let is : z ≡ pos c = omega (arith, ints, clamps) in
+    let room : c + byte_count a.size ≤ 512 = omega (arith, ints, clamps) in
+    record {
+      span = record { in_frame = true; lowest = lo +ℤ a.offset; highest = hi +ℤ a.offset; count = byte_count a.size };
+      span_is = refl;
+      offset = d.0;
+      base = d.1;
+      first = c;
+      place = rw (leb_self (machine.depth m)) (ap (λ o. option_map (λ x. InFrame (machine.depth m) x) o) (inside_at (byte_count a.size) z c is room));
+      at = is;
+      count = refl;
+      lies = record { in_frame = refl; lowest = omega (arith, ints); highest = omega (arith, ints); fits = room };
+    }
+  where
+    inside_both : (a b : Bool) → not (a && b) ≡ false → (a ≡ true) × (b ≡ true)
+    inside_both true true h = (refl, refl)
+    inside_both true false h = absurd (false≢true (sym h))
+    inside_both false b h = absurd (false≢true (sym h))
+
+-- ---- what a store does
+
+pub stack_top : (sl : ℕ) (m : machine.State) → stack_of (machine.at_slot sl m) (machine.depth m) ≡ m.top.stack
+stack_top sl m = ap (λ n. (get_or (machine.frames (machine.at_slot sl m)) n (machine.at_slot sl m).top).stack) (sub_self (machine.depth m))
+
+pub with_top_stack : (sl : ℕ) (m : machine.State) (stack : List (Option Cell)) → with_stack (machine.at_slot sl m) (machine.depth m) stack ≡ at_top m sl stack
+with_top_stack sl m stack = rw (sub_self (machine.depth m), eqb_self (machine.depth m))
+
+pub store_top : (order : Order) (k y c sl : ℕ) (m : machine.State) → store_number order k y (InFrame (machine.depth m) c) (machine.at_slot sl m) ≡ Some (at_top m sl (with_bytes (bytes_of order k y) c m.top.stack))
+unfolding store_number
+store_top order k y c sl m = ap (λ st. Some (with_stack (machine.at_slot sl m) (machine.depth m) (with_bytes (bytes_of order k y) c st))) (stack_top sl m) ∙ ap (λ t. Some t) (with_top_stack sl m (with_bytes (bytes_of order k y) c m.top.stack))
+
+pub does_store_imm : (order : Order) (size : Size) (dst : Reg) (off imm : ℤ) (m : machine.State) (value : RegState) (t : InTop m (record { base = dst; offset = off; size = size; reads = false; writes = true }) value) → does order (StoreImm size dst off imm) m ≡ Some (at_top m (m.top.slot + 1) (with_bytes (bytes_of order (byte_count size) (extended imm)) t.first m.top.stack))
+unfolding does
+does_store_imm order size dst off imm m value t = rw (t.base, t.place) (store_top order (byte_count size) (extended imm) t.first (m.top.slot + 1) m)
+
+pub does_store_number : (order : Order) (size : Size) (dst src : Reg) (off : ℤ) (y : ℕ) (m : machine.State) (value : RegState) (t : InTop m (record { base = dst; offset = off; size = size; reads = false; writes = true }) value) → machine.register m src ≡ Some (NumberValue y) → does order (Store size dst off src) m ≡ Some (at_top m (m.top.slot + 1) (with_bytes (bytes_of order (byte_count size) y) t.first m.top.stack))
+unfolding does
+does_store_number order size dst src off y m value t e = rw (t.base, e, t.place) (store_top order (byte_count size) y t.first (m.top.slot + 1) m)
+
+-- ---- steps of an instruction that stands there
+
+pub byte_count_few : (size : Size) → byte_count size ≤ 8
+byte_count_few B = omega arith
+byte_count_few H = omega arith
+byte_count_few W = omega arith
+byte_count_few DW = omega arith
+
+-- the base of a store without fault
+pub store_imm_base : (p : Instructions) (len : ℕ) (x : List ℕ) (size : Size) (dst : Reg) (off imm : ℤ) (s : AbstractState) (m : machine.State) → IsJudged p len x (StoreImm size dst off imm) s m → InTop m (record { base = dst; offset = off; size = size; reads = false; writes = true }) (register s dst)
+store_imm_base p len x size dst off imm s m j =
+    let f = no_fault_is len s (StoreImm size dst off imm) j.no_fault in
+    in_top m len (record { base = dst; offset = off; size = size; reads = false; writes = true }) (register s dst)
+    (not-false (is_pointer (register s dst)) (or_parts (not (is_pointer (register s dst))) false f.kinds).0) f.protected f.bounds (j.described.registers dst)
+
+pub store_imm_keeps : ConstantHas → (p : Instructions) (len : ℕ) (x : List ℕ) (size : Size) (dst : Reg) (off imm : ℤ) (s : AbstractState) (m m' : machine.State) → IsJudged p len x (StoreImm size dst off imm) s m → Step p m m' → Leads p len x (after p.order (StoreImm size dst off imm) s) m'
+store_imm_keeps constants p len x size dst off imm s m m' j step =
+    let t = store_imm_base p len x size dst off imm s m j in
+    let y : ℕ = extended imm in
+    let small = extended_fits imm in
+    let few : t.span.count ≤ 8 = subst (λ n. n ≤ 8) (sym t.count) (byte_count_few size) in
+    let stack' : ℕ → List (Option Cell) = λ n. with_bytes (bytes_of p.order n y) t.first m.top.stack in
+    let l : Leads p len x (stored (Some t.span) (Num (constant y)) None s) (at_top m (m.top.slot + 1) (stack' t.span.count)) = number_stored p.order len x s m t.span t.first (m.top.slot + 1) y (Num (constant y)) None j.valid (top_frame m j.state) t.lies few j.described small (constant_describes constants (machine.depth m) y small) tt (constants y small).0 p refl in
+    let e : at_top m (m.top.slot + 1) (stack' t.span.count) ≡ m' = ap (λ n. at_top m (m.top.slot + 1) (stack' n)) t.count ∙ same_Some (at_top m (m.top.slot + 1) (stack' (byte_count size))) m' (sym (does_store_imm p.order size dst off imm m (register s dst) t) ∙ step_is p m m' (StoreImm size dst off imm) j.stands step) in
+    subst (λ o. Leads p len x (stored o (Num (constant y)) None s) m') (sym t.span_is)
+    (leads_at p len x (stored (Some t.span) (Num (constant y)) None s) (at_top m (m.top.slot + 1) (stack' t.span.count)) m' e l)
+
+pub store_imm_reason : (p : Instructions) (len : ℕ) (x : List ℕ) (size : Size) (dst : Reg) (off imm : ℤ) (s : AbstractState) (m : machine.State) → IsJudged p len x (StoreImm size dst off imm) s m → reason_at m (StoreImm size dst off imm) ≡ None
+unfolding reason_at
+store_imm_reason p len x size dst off imm s m j =
+    let t = store_imm_base p len x size dst off imm s m j in
+    rw (t.base, t.place)
