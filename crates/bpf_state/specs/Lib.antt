@@ -1,1 +1,5 @@
 pub mod State
+pub mod Access
+pub mod Fault
+pub mod Transfer
+pub mod Entails

@@ -1,7 +1,9 @@
 -- Abstract states: what is known of the registers and of the slots of the top frame.
-use Rattle.std.specs.Prelude.{◌≡◌, ℕ, ◌-◌, ◌≤◌, pos, ◌≤ℤ◌, List, [], ◌∷◌, ◌++◌, length, get_or, slice_set, replicate, All, Option, None}
+use Rattle.std.specs.Prelude.{◌≡◌, ℕ, ◌-◌, ◌≤◌, pos, ◌≤ℤ◌, List, [], ◌∷◌, ◌++◌, length, get_or, slice_set, take, drop, replicate, All, Option, Some, None, option_map, option_and_then}
 use Rattle.bpf_insn.specs.declared.instruction.Reg.{Reg}
+use Rattle.bpf_insn.specs.declared.instruction.Reg.TheVariants.{R1, R2}
 use Rattle.bpf_insn.specs.Instruction.{register_number}
+use Rattle.bpf_num.specs.Number.{Number, constant, tighten}
 use Rattle.bpf_state.specs.declared.state.RegState.{RegState}
 use Rattle.bpf_state.specs.declared.state.RegState.TheVariants.{Any, Num, Ctx, Frame}
 use Rattle.bpf_state.specs.declared.state.Pointer.{Pointer}
@@ -56,9 +58,15 @@ register s r = get_or s.registers (register_number r) Any
 abbrev pub slot : AbstractState → ℕ → SlotState
 slot s k = get_or s.slots (k - 1) (Bytes 0)
 
+abbrev pub register_tag : AbstractState → Reg → Option Tag
+register_tag s r = get_or s.register_tags (register_number r) None
+
+abbrev pub slot_tag : AbstractState → ℕ → Option Tag
+slot_tag s k = get_or s.slot_tags (k - 1) None
+
 abbrev pub tag : AbstractState → Place → Option Tag
-tag s (Register r) = get_or s.register_tags (register_number r) None
-tag s (Slot k) = get_or s.slot_tags (k - 1) None
+tag s (Register r) = register_tag s r
+tag s (Slot k) = slot_tag s k
 
 abbrev pub with_register : AbstractState → Reg → RegState → AbstractState
 with_register s r value = record s { registers = slice_set s.registers (register_number r) value }
@@ -69,6 +77,31 @@ with_slot s k value = record s { slots = slice_set s.slots (k - 1) value }
 abbrev pub with_tag : AbstractState → Place → Option Tag → AbstractState
 with_tag s (Register r) t = record s { register_tags = slice_set s.register_tags (register_number r) t }
 with_tag s (Slot k) t = record s { slot_tags = slice_set s.slot_tags (k - 1) t }
+
+-- what a register or a slot holds, and its tag
+abbrev pub put_register : Reg → RegState → Option Tag → AbstractState → AbstractState
+put_register r value t s =
+    record s {
+      registers = slice_set s.registers (register_number r) value;
+      register_tags = slice_set s.register_tags (register_number r) t;
+    }
+
+abbrev pub put_slot : ℕ → SlotState → Option Tag → AbstractState → AbstractState
+put_slot k value t s =
+    record s {
+      slots = slice_set s.slots (k - 1) value;
+      slot_tags = slice_set s.slot_tags (k - 1) t;
+    }
+
+abbrev pub pointer_register : Pointer → RegState
+pointer_register (CtxIn lo hi) = Ctx lo hi
+pointer_register (FrameIn lo hi) = Frame lo hi
+
+-- what a slot holds as a whole
+abbrev pub slot_value : SlotState → RegState
+slot_value (Word n) = Num n
+slot_value (Ptr p) = pointer_register p
+slot_value (Bytes m) = Any
 
 -- a slot that holds what a register does; nothing is known of its bytes where nothing is of the register
 abbrev pub value_slot : RegState → SlotState
@@ -91,3 +124,55 @@ blank =
       register_tags = no_tags 11;
       slot_tags = no_tags 64;
     }
+
+-- a run begins with the context in r1 and its length in r2
+abbrev pub start : ℕ → AbstractState
+start len = put_register R1 (Ctx (pos 0) (pos 0)) None (put_register R2 (Num (constant len)) None blank)
+
+-- ---- calls
+
+-- a callee gets r1 to r5, but no pointer into its caller's frame
+abbrev pub without_frame : RegState → RegState
+without_frame (Frame lo hi) = Any
+without_frame value = value
+
+abbrev pub each_without_frame : List RegState → List RegState
+each_without_frame [] = []
+each_without_frame (value ∷ values) = without_frame value ∷ each_without_frame values
+
+abbrev pub entered : AbstractState → AbstractState
+entered s =
+    record blank {
+      registers = Any ∷ each_without_frame (take 5 (drop 1 s.registers)) ++ replicate 4 Any ++ Frame (pos 0) (pos 0) ∷ [];
+    }
+
+-- after a call r0 is what the callee returns, r1 to r5 are gone, and the rest is kept
+abbrev pub left : Number → AbstractState → Option AbstractState
+left returned s =
+    option_map
+    (λ n. record s {
+      registers = Num n ∷ replicate 5 Any ++ drop 6 s.registers;
+      register_tags = no_tags 6 ++ drop 6 s.register_tags;
+    })
+    (tighten returned)
+
+-- ---- each number tightened
+
+abbrev pub each_if : {A : Type 0} → (A → Option A) → List A → Option (List A)
+each_if f [] = Some []
+each_if f (x ∷ xs) = option_and_then (λ y. option_map (λ ys. y ∷ ys) (each_if f xs)) (f x)
+
+abbrev pub tightened_register : RegState → Option RegState
+tightened_register (Num n) = option_map Num (tighten n)
+tightened_register value = Some value
+
+abbrev pub tightened_slot : SlotState → Option SlotState
+tightened_slot (Word n) = option_map Word (tighten n)
+tightened_slot value = Some value
+
+-- None if a number has no member
+abbrev pub tightened : AbstractState → Option AbstractState
+tightened s =
+    option_and_then (λ registers.
+    option_map (λ slots. record s { registers = registers; slots = slots })
+    (each_if tightened_slot s.slots)) (each_if tightened_register s.registers)

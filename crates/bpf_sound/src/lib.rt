@@ -1,0 +1,3 @@
+//! Which machine states an abstract state describes, and that transfer, edges and calls keep it.
+#![tactic(auto)]
+

@@ -1,0 +1,175 @@
+-- Why an instruction is refused in an abstract state: the conditions on registers and memory, each by itself.
+use Rattle.std.specs.Prelude.{ℕ, ◌+◌, ◌==◌, ℤ, pos, neg_ℤ, ◌+ℤ◌, ◌-ℤ◌, int_le, ◌^◌, Bool, true, false, not, ◌&&◌, ◌||◌, List, [], ◌∷◌, Option, Some, None, is_none, is_some, option_map, option_and_then, if◌then◌else◌}
+use Rattle.std.specs.List.{list_any}
+use Rattle.bpf_insn.specs.Arithmetic.{extended}
+use Rattle.bpf_insn.specs.Instruction.{register_number}
+use Rattle.bpf_insn.specs.Stuck.{registers_read, access_of, writes_frame_pointer}
+use Rattle.bpf_insn.specs.declared.instruction.Reg.{Reg}
+use Rattle.bpf_insn.specs.declared.instruction.Reg.TheVariants.{R0}
+use Rattle.bpf_insn.specs.declared.instruction.Operand.{Operand}
+use Rattle.bpf_insn.specs.declared.instruction.Operand.TheVariants.{Imm, Reg as FromReg}
+use Rattle.bpf_insn.specs.declared.instruction.Width.{Width}
+use Rattle.bpf_insn.specs.declared.instruction.Width.TheVariants.{W32, W64}
+use Rattle.bpf_insn.specs.declared.instruction.AluOp.{AluOp}
+use Rattle.bpf_insn.specs.declared.instruction.AluOp.TheVariants.{Add, Sub, Mov}
+use Rattle.bpf_insn.specs.declared.instruction.Cond.{Cond}
+use Rattle.bpf_insn.specs.declared.instruction.Cond.TheVariants.{Eq, Ne}
+use Rattle.bpf_insn.specs.declared.instruction.AtomicOp.{AtomicOp}
+use Rattle.bpf_insn.specs.declared.instruction.AtomicOp.TheVariants.{CmpXchg}
+use Rattle.bpf_insn.specs.declared.instruction.Insn.{Insn}
+use Rattle.bpf_insn.specs.declared.instruction.Insn.TheVariants.{Alu, Neg, MovSx, End, LoadImm64, Load, LoadSx, Store, StoreImm, Atomic, Ja, JaLong, JumpIf, CallLocal, Exit}
+use Rattle.bpf_num.specs.Tristate.{bits_top}
+use Rattle.bpf_num.specs.Interval.{unsigned_top}
+use Rattle.bpf_num.specs.SignedInterval.{signed_interval, signed_sub}
+use Rattle.bpf_num.specs.Number.{Number, number, constant, tighten}
+use Rattle.bpf_num.specs.Operation.{num_alu}
+use Rattle.bpf_state.specs.declared.state.RegState.{RegState}
+use Rattle.bpf_state.specs.declared.state.RegState.TheVariants.{Any, Num, Ctx, Frame}
+use Rattle.bpf_state.specs.State.{AbstractState, register, slot}
+use Rattle.bpf_state.specs.Access.{Span, span_of, is_slot, is_inside, touches, touched_bytes, is_pointer_slot, are_known_bytes, any_slot}
+
+-- the second operand: a constant, sign-extended, or what is known of a register
+abbrev pub operand : AbstractState → Operand → RegState
+operand s (Imm imm) = Num (constant (extended imm))
+operand s (FromReg r) = register s r
+
+-- a value is there and passes
+abbrev pub some_passes : {A : Type 0} → (A → Bool) → Option A → Bool
+some_passes test None = false
+some_passes test (Some x) = test x
+
+abbrev pub is_any : RegState → Bool
+is_any Any = true
+is_any _ = false
+
+abbrev pub is_number : RegState → Bool
+is_number (Num n) = true
+is_number _ = false
+
+abbrev pub is_pointer : RegState → Bool
+is_pointer (Ctx lo hi) = true
+is_pointer (Frame lo hi) = true
+is_pointer _ = false
+
+-- ---- arithmetic on what is known of two values
+-- None where it isn't allowed on their kinds; else what is known of the result, None if there is no member
+
+-- the difference of offsets in two intervals, modulo 2 ^ 64
+abbrev pub difference : ℤ → ℤ → ℤ → ℤ → Option RegState
+difference a A b B =
+    option_map Num (tighten (number bits_top unsigned_top (signed_sub (signed_interval a A) (signed_interval b B))))
+
+-- numbers; at 64 bits a pointer plus or minus a number, and the difference of two pointers of one kind; a move reads its
+-- source alone
+abbrev pub alu_of_kinds : Width → AluOp → RegState → RegState → Option (Option RegState)
+alu_of_kinds W64 Mov a b = Some (Some b)
+alu_of_kinds W32 Mov a (Num n) = Some (option_map Num (num_alu W32 Mov n n))
+alu_of_kinds width op (Num m) (Num n) = Some (option_map Num (num_alu width op m n))
+alu_of_kinds W64 Add (Ctx lo hi) (Num n) = Some (Some (Ctx (lo +ℤ n.signed.lo) (hi +ℤ n.signed.hi)))
+alu_of_kinds W64 Add (Frame lo hi) (Num n) = Some (Some (Frame (lo +ℤ n.signed.lo) (hi +ℤ n.signed.hi)))
+alu_of_kinds W64 Add (Num n) (Ctx lo hi) = Some (Some (Ctx (lo +ℤ n.signed.lo) (hi +ℤ n.signed.hi)))
+alu_of_kinds W64 Add (Num n) (Frame lo hi) = Some (Some (Frame (lo +ℤ n.signed.lo) (hi +ℤ n.signed.hi)))
+alu_of_kinds W64 Sub (Ctx lo hi) (Num n) = Some (Some (Ctx (lo -ℤ n.signed.hi) (hi -ℤ n.signed.lo)))
+alu_of_kinds W64 Sub (Frame lo hi) (Num n) = Some (Some (Frame (lo -ℤ n.signed.hi) (hi -ℤ n.signed.lo)))
+alu_of_kinds W64 Sub (Ctx a A) (Ctx b B) = Some (difference a A b B)
+alu_of_kinds W64 Sub (Frame a A) (Frame b B) = Some (difference a A b B)
+alu_of_kinds _ _ _ _ = None
+
+-- numbers; at 64 bits two pointers of one kind, equal or not
+abbrev pub can_test : Width → Cond → RegState → RegState → Bool
+can_test width cond (Num m) (Num n) = true
+can_test W64 Eq (Ctx a A) (Ctx b B) = true
+can_test W64 Eq (Frame a A) (Frame b B) = true
+can_test W64 Ne (Ctx a A) (Ctx b B) = true
+can_test W64 Ne (Frame a A) (Frame b B) = true
+can_test _ _ _ _ = false
+
+-- ---- the conditions
+
+-- 3: a register that is read may be uninitialised
+abbrev pub reads_any : AbstractState → Insn → Bool
+reads_any s i = list_any (λ r. is_any (register s r)) (registers_read i)
+
+-- a pointer goes into a slot as a whole or not at all
+abbrev pub can_store : Option Span → RegState → Bool
+can_store span value = not (is_pointer value) || some_passes is_slot span
+
+abbrev pub atomic_kinds : AtomicOp → AbstractState → Bool
+atomic_kinds CmpXchg s = is_number (register s R0)
+atomic_kinds _ s = true
+
+-- the registers that are read hold what the instruction takes
+abbrev pub have_right_kinds : AbstractState → Insn → Bool
+have_right_kinds s (Alu op width dst src) = is_some (alu_of_kinds width op (register s dst) (operand s src))
+have_right_kinds s (Neg width dst) = is_number (register s dst)
+have_right_kinds s (MovSx width bits dst src) = is_number (register s src)
+have_right_kinds s (End kind bits dst) = is_number (register s dst)
+have_right_kinds s (Load size dst src off) = is_pointer (register s src)
+have_right_kinds s (LoadSx size dst src off) = is_pointer (register s src)
+have_right_kinds s (Store size dst off src) = is_pointer (register s dst) && can_store (span_of s (Store size dst off src)) (register s src)
+have_right_kinds s (StoreImm size dst off imm) = is_pointer (register s dst)
+have_right_kinds s (Atomic wide op dst off src) = is_pointer (register s dst) && is_number (register s src) && atomic_kinds op s
+have_right_kinds s (JumpIf cond width dst src off) = can_test width cond (register s dst) (operand s src)
+have_right_kinds s Exit = is_number (register s R0)
+have_right_kinds s _ = true
+
+-- a load of a whole slot, the one access that may read a pointer
+abbrev pub loads_slot : Insn → Span → Bool
+loads_slot (Load size dst src off) p = is_slot p
+loads_slot _ p = false
+
+abbrev pub reads_memory : Insn → Bool
+reads_memory i = some_passes (λ a. a.reads) (access_of i)
+
+abbrev pub writes_memory : Insn → Bool
+writes_memory i = some_passes (λ a. a.writes) (access_of i)
+
+-- a test of the span, if the instruction has one
+abbrev pub on_span : AbstractState → Insn → (Span → Bool) → Bool
+on_span s i test = some_passes test (span_of s i)
+
+-- a slot that holds a pointer may be read in part
+abbrev pub reads_part : AbstractState → Insn → Bool
+reads_part s i =
+    reads_memory i
+    && on_span s i (λ p. not (loads_slot i p) && any_slot (λ k held. touches p k && is_pointer_slot held) 1 s.slots)
+
+-- 4: the kinds of operands or of slots are wrong
+abbrev pub has_wrong_kinds : AbstractState → Insn → Bool
+has_wrong_kinds s i = not (have_right_kinds s i) || reads_part s i
+
+-- the bounds of a pointer stay within 2 ^ 31
+abbrev pub leaves_bounds : RegState → Bool
+leaves_bounds (Ctx lo hi) = not (int_le (neg_ℤ (pos (2 ^ 31))) lo && int_le hi (pos (2 ^ 31)))
+leaves_bounds (Frame lo hi) = not (int_le (neg_ℤ (pos (2 ^ 31))) lo && int_le hi (pos (2 ^ 31)))
+leaves_bounds _ = false
+
+abbrev pub makes_far_pointer : AbstractState → Insn → Bool
+makes_far_pointer s (Alu Mov width dst src) = false
+makes_far_pointer s (Alu op width dst src) =
+    some_passes leaves_bounds (option_and_then (λ r. r) (alu_of_kinds width op (register s dst) (operand s src)))
+makes_far_pointer s _ = false
+
+-- 5: an access may leave the context or the frame, or a pointer its bounds
+abbrev pub is_out_of_bounds : ℕ → AbstractState → Insn → Bool
+is_out_of_bounds len s i = makes_far_pointer s i || on_span s i (λ p. not (is_inside len p))
+
+-- 6: a byte that may be read isn't known as initialised
+abbrev pub reads_unknown_byte : AbstractState → Insn → Bool
+reads_unknown_byte s i =
+    reads_memory i
+    && on_span s i (λ p. any_slot (λ k held. touches p k && not (are_known_bytes (touched_bytes p k) held)) 1 s.slots)
+
+-- 7: the context or r10 is to be written
+abbrev pub writes_protected : AbstractState → Insn → Bool
+writes_protected s i = writes_frame_pointer i || (writes_memory i && on_span s i (λ p. not p.in_frame))
+
+-- the lowest number whose condition holds
+abbrev pub fault_of : ℕ → AbstractState → Insn → Option ℕ
+fault_of len s i =
+    if reads_any s i then Some 3
+    else if has_wrong_kinds s i then Some 4
+    else if is_out_of_bounds len s i then Some 5
+    else if reads_unknown_byte s i then Some 6
+    else if writes_protected s i then Some 7
+    else None
