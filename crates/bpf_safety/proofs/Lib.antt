@@ -1,0 +1,12 @@
+mod LawsBelow
+mod SlackLaws
+mod SlackEnds
+mod Here
+mod Facts
+mod Visits
+mod Moves
+mod Places
+mod Arrive
+mod Pay
+mod Enter
+mod Safe

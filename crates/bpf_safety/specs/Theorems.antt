@@ -1,0 +1,80 @@
+-- The promises of an accepted certificate, over the machine's definitions.
+use Rattle.std.specs.Prelude.{◌≡◌, ℕ, suc, ◌≤◌, ◌<◌, ◌↔◌, ℤ, pos, ◌≤ℤ◌, List, length, slice_get, Contains, Some}
+use Rattle.bpf_insn.specs.declared.order.Order.{Order}
+use Rattle.bpf_insn.specs.declared.instruction.Insn.{Insn}
+use Rattle.bpf_insn.specs.Instruction.{Instructions}
+use Rattle.bpf_insn.specs.Image.{IsProgram}
+use Rattle.bpf_insn.specs.Laws.{AreBytes, IsImageOfProgram}
+use Rattle.bpf_insn.specs.State as machine
+use Rattle.bpf_insn.specs.Step.{IsStuck}
+use Rattle.bpf_insn.specs.Run.{Steps, IsDone}
+use Rattle.bpf_insn.specs.Flat.{Placement, FlatState, FlatStep, FlatFinish, FlatSteps}
+use Rattle.bpf_insn.specs.Placement.{IsPlacement, IsFlatStart, StaysInside}
+use Rattle.bpf_num.specs.Number.{IsNumber}
+use Rattle.bpf_state.specs.State.{AbstractState, IsPlace}
+use Rattle.bpf_sound.specs.Laws.{IsAbstract}
+use Rattle.bpf_cert.specs.declared.certificate.Term.{Term}
+use Rattle.bpf_cert.specs.View.{LabelView, FunctionView, CertificateView}
+use Rattle.bpf_safety.specs.Labels.{label_at}
+use Rattle.bpf_cert.specs.Limits.{IsCertificate}
+use Rattle.bpf_safety.specs.Budget.{Budget, place_of, least_slack, Pays, HaveTagsOf}
+use Rattle.bpf_safety.specs.Certified.{Certified}
+
+-- a context of `len` bytes
+pub record IsContext (len : ℕ) (context : List ℕ) : Type 0 where
+  pub bytes : AreBytes context
+  pub length_is : length context ≡ len
+
+-- ---- the machine never gets stuck, and ends in time
+
+pub record EndsWithin (p : Instructions) (context : List ℕ) (bound : ℕ) : Type 0 where
+  pub value : ℕ
+  pub steps : ℕ
+  pub in_time : steps ≤ bound
+  pub done : IsDone p context value steps
+
+pub record IsSafe (p : Instructions) (len bound : ℕ) : Type 0 where
+  pub never_stuck : (context : List ℕ) (k : ℕ) (s : machine.State) → IsContext len context → Steps p k (machine.start context) s → IsStuck p s → ⊥
+  pub ends : (context : List ℕ) → IsContext len context → EndsWithin p context bound
+
+-- what a certificate keeps that the theorem rests on
+pub record IsWellFormed (c : CertificateView) : Type 0 where
+  pub short_context : c.len ≤ 4096
+  pub states : (l : LabelView) (slot : ℕ) → label_at c slot ≡ Some l → IsAbstract l.state
+  pub depths : (f : FunctionView) → Contains c.functions f → (1 ≤ f.depth) × (f.depth ≤ 8)
+  pub returns : (f : FunctionView) → Contains c.functions f → IsNumber f.ret
+  pub one_each : (f g : FunctionView) → Contains c.functions f → Contains c.functions g → f.first ≡ g.first → f ≡ g
+  pub places : (l : LabelView) (slot j : ℕ) (t : Term) → label_at c slot ≡ Some l → slice_get l.terms j ≡ Some t → IsPlace (place_of t)
+
+abbrev pub CertifiedIsSafe : Type 0
+CertifiedIsSafe = (p : Instructions) (c : CertificateView) → IsProgram p.list → IsCertificate c → Certified p c → IsSafe p c.len c.steps
+
+-- what a yes of length `len` and bound `bound` says of an image
+pub record Verified (order : Order) (image : List ℕ) (len bound : ℕ) : Type 0 where
+  pub program : List Insn
+  pub is_image : IsImageOfProgram order image program
+  pub only : (other : List Insn) → IsImageOfProgram order image other → other ≡ program
+  pub safe : IsSafe (record { order = order; list = program }) len bound
+
+-- ---- the flat machine follows
+
+-- a run of the flat machine from a start that fits, on a context on which the machine ends with v after k instructions
+pub record FlatFollowsRun (p : Instructions) (len : ℕ) (place : Placement) (context : List ℕ) (v k j : ℕ) (g : FlatState) : Type 0 where
+  pub not_past : j < k
+  pub inside : StaysInside place len p g
+  pub visits_same : (s : machine.State) × Steps p j (machine.start context) s × (g.slot ≡ s.top.slot)
+  pub goes_on : suc j < k → (h : FlatState) × FlatStep place p g h
+  pub ends : suc j ≡ k → FlatFinish p g v × ((h : FlatState) → FlatStep place p g h → ⊥)
+
+abbrev pub IsFlatSafe : Instructions → ℕ → Type 0
+IsFlatSafe p len =
+    (context : List ℕ) (place : Placement) (f g : FlatState) (v k j : ℕ) → IsContext len context → IsPlacement len place → IsFlatStart p.order place context f
+    → IsDone p context v k → FlatSteps place p j f g → FlatFollowsRun p len place context v k j g
+
+abbrev pub CertifiedIsFlatSafe : Type 0
+CertifiedIsFlatSafe = (p : Instructions) (c : CertificateView) → IsProgram p.list → IsCertificate c → Certified p c → IsFlatSafe p c.len
+
+-- ---- budgets: the least slack is at the ends of the intervals
+
+abbrev pub SlackIsLeast : Type 0
+SlackIsLeast = (old new : Budget) (at_label edge : AbstractState) (cost slack : ℤ) → IsAbstract at_label → IsAbstract edge → HaveTagsOf (length old.terms) edge new.terms → least_slack old at_label cost edge new ≡ Some slack → (pos 0 ≤ℤ slack) ↔ Pays old at_label cost edge new
