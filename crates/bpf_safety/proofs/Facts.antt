@@ -65,7 +65,7 @@ pub record IsFirst {X : Type 0} (test : X → Bool) (xs : List X) (x : X) : Type
   pub passes : test x ≡ true
   pub is_element : Contains xs x
 
-is_first : {X : Type 0} (test : X → Bool) (xs : List X) (x : X) → first_with test xs ≡ Some x → IsFirst test xs x
+pub is_first : {X : Type 0} (test : X → Bool) (xs : List X) (x : X) → first_with test xs ≡ Some x → IsFirst test xs x
 is_first test [] x e = absurd (false≢true (ap is_some e))
 is_first {X} test (y ∷ xs) x e = by_test (test y) refl e (is_first test xs x)
   where

@@ -9,4 +9,7 @@ mod Places
 mod Arrive
 mod Pay
 mod Enter
+mod Runs
 mod Safe
+mod FlatRuns
+mod WellFormedLaw

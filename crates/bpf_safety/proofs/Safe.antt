@@ -1,6 +1,6 @@
 -- Certified programs are safe, from the laws of the machine and of abstract states.
-use Rattle.std.proofs.Common.{◌≡◌, ℕ, zero, suc, ◌+◌, ◌≤◌, ◌<◌, ◌⊎◌, inl, inr, ⊎_elim, refl, sym, ap, ◌∙◌, subst, arith, Bool, true, false, List, [], ◌∷◌, Option, Some, None, is_some, option_and_then}
-use Rattle.std.proofs.lemmas.Bool.{false≢true}
+use Rattle.std.proofs.Common.{◌≡◌, ℕ, zero, suc, ◌+◌, ◌≤◌, ◌<◌, ◌⊎◌, inl, inr, refl, sym, ap, ◌∙◌, subst, arith, Bool, true, false, List, [], ◌∷◌, Option, Some, None, is_some, option_and_then}
+use Rattle.std.proofs.lemmas.Bool.{false≢true, cases_order}
 use Rattle.bpf_insn.specs.declared.instruction.Insn.{Insn}
 use Rattle.bpf_insn.specs.declared.instruction.Insn.TheVariants.{Exit}
 use Rattle.bpf_insn.specs.declared.instruction.Reg.TheVariants.{R0}
@@ -15,36 +15,12 @@ use Rattle.bpf_safety.specs.Certified.{Certified}
 use Rattle.bpf_safety.specs.Theorems.{IsContext, EndsWithin, IsSafe, IsWellFormed}
 use Rattle.bpf_safety.proofs.Here.{Here, Advances, ReachesExit}
 use Rattle.bpf_safety.proofs.LawsBelow.{Laws}
+use Rattle.bpf_safety.proofs.Runs.{same_run, goes_on, no_longer}
 use Rattle.bpf_safety.proofs.Visits.{stands_here, slots-cons, some_slots}
 use Rattle.bpf_safety.proofs.Enter.{advance, at_exit, not_stuck, begins, runs, Callees}
 
--- ---- runs
-
 some_is : {A : Type 0} (a b : A) → Some a ≡ Some b → a ≡ b
 some_is a b e = cc
-
-one_step : (p : Instructions) (s t u : machine.State) → Step p s t → Step p s u → t ≡ u
-one_step p s t u a b = some_is t u (sym a ∙ b)
-
-same_run : (p : Instructions) (k : ℕ) (s t u : machine.State) → Steps p k s t → Steps p k s u → t ≡ u
-same_run p zero s t u a b = a ∙ sym b
-same_run p (suc k) s t u a b = one_step p a.0 t u a.2 (subst (λ z. Step p z u) (sym (same_run p k s a.0 b.0 a.1 b.1)) b.2)
-
-order : (i n : ℕ) → (i < n) ⊎ ((i ≡ n) ⊎ (n < i))
-order zero zero = inr (inl refl)
-order zero (suc n) = inl (omega arith)
-order (suc i) zero = inr (inr (omega arith))
-order (suc i) (suc n) = ⊎_elim (λ a. inl (omega arith)) (λ b. ⊎_elim (λ e. inr (inl (ap suc e))) (λ l. inr (inr (omega arith))) b) (order i n)
-
--- a run that is longer has a step there
-goes_on : (p : Instructions) (j k : ℕ) (s t u : machine.State) → Steps p j s t → Steps p k s u → j < k → (v : machine.State) × Step p t v
-goes_on p j zero s t u a b lt = absurd (omega arith)
-goes_on p j (suc k) s t u a b lt = by_order (λ less. goes_on p j k s t b.0 a b.1 less) (order j k)
-  where
-    by_order : (j < k → (v : machine.State) × Step p t v) → (j < k) ⊎ ((j ≡ k) ⊎ (k < j)) → (v : machine.State) × Step p t v
-    by_order later (inl less) = later less
-    by_order later (inr (inl e)) = (u, subst (λ z. Step p z u) (same_run p k s b.0 t b.1 (subst (λ n. Steps p n s t) e a)) b.2)
-    by_order later (inr (inr more)) = absurd (omega arith)
 
 -- ---- EXIT
 
@@ -162,12 +138,12 @@ module _ (p : Instructions) (c : CertificateView) (laws : Laws) (program : IsPro
     where
       by_steps : (v n : ℕ) → IsDone p context v n → ⊥
       by_steps v zero done = done
-      by_steps v (suc n) done = by_order (order k n)
+      by_steps v (suc n) done = by_order (cases_order k n)
         where
-          by_order : (k < n) ⊎ ((k ≡ n) ⊎ (n < k)) → ⊥
-          by_order (inl less) = let g = goes_on p k n (machine.start context) s done.0 run done.1 less in stuck.no_step g.0 g.1
-          by_order (inr (inl e)) = stuck.no_finish v (subst (λ z. Finish p z v) (same_run p n (machine.start context) done.0 s done.1 (subst (λ i. Steps p i (machine.start context) s) e run)) done.2)
-          by_order (inr (inr more)) = let g = goes_on p n k (machine.start context) done.0 s done.1 run more in laws.finish_is_last p done.0 g.0 v done.2 g.1
+          by_order : (k ≡ n) ⊎ ((k < n) ⊎ (n < k)) → ⊥
+          by_order (inl e) = stuck.no_finish v (subst (λ z. Finish p z v) (same_run p n (machine.start context) done.0 s done.1 (subst (λ i. Steps p i (machine.start context) s) e run)) done.2)
+          by_order (inr (inl less)) = let g = goes_on p k n (machine.start context) s done.0 run done.1 less in stuck.no_step g.0 g.1
+          by_order (inr (inr more)) = let most = no_longer laws.finish_is_last p n k (machine.start context) done.0 s v done.1 done.2 run in omega arith
 
   pub certified_is_safe : IsSafe p c.len c.steps
   certified_is_safe = record { never_stuck = never_stuck; ends = ends }

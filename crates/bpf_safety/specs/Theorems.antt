@@ -7,7 +7,8 @@ use Rattle.bpf_insn.specs.Image.{IsProgram}
 use Rattle.bpf_insn.specs.Laws.{AreBytes, IsImageOfProgram}
 use Rattle.bpf_insn.specs.State as machine
 use Rattle.bpf_insn.specs.Step.{IsStuck}
-use Rattle.bpf_insn.specs.Run.{Steps, IsDone}
+use Rattle.bpf_insn.specs.declared.state.Reason.{Reason}
+use Rattle.bpf_insn.specs.Run.{Steps, IsDone, IsFault, CanMake}
 use Rattle.bpf_insn.specs.Flat.{Placement, FlatState, FlatStep, FlatFinish, FlatSteps}
 use Rattle.bpf_insn.specs.Placement.{IsPlacement, IsFlatStart, StaysInside}
 use Rattle.bpf_num.specs.Number.{IsNumber}
@@ -36,6 +37,13 @@ pub record EndsWithin (p : Instructions) (context : List ℕ) (bound : ℕ) : Ty
 pub record IsSafe (p : Instructions) (len bound : ℕ) : Type 0 where
   pub never_stuck : (context : List ℕ) (k : ℕ) (s : machine.State) → IsContext len context → Steps p k (machine.start context) s → IsStuck p s → ⊥
   pub ends : (context : List ℕ) → IsContext len context → EndsWithin p context bound
+
+-- No run of a safe program is at fault, and none goes on for as many steps as its bound: it ends before.
+abbrev pub SafeHasNoFault : Type 0
+SafeHasNoFault = (p : Instructions) (len bound : ℕ) (context : List ℕ) (slot : ℕ) (reason : Reason) (k : ℕ) → IsProgram p.list → IsSafe p len bound → IsContext len context → IsFault p context slot reason k → ⊥
+
+abbrev pub SafeEnds : Type 0
+SafeEnds = (p : Instructions) (len bound fuel : ℕ) (context : List ℕ) → IsSafe p len bound → IsContext len context → bound ≤ fuel → CanMake p context fuel → ⊥
 
 -- what a certificate keeps that the theorem rests on
 pub record IsWellFormed (c : CertificateView) : Type 0 where
@@ -70,6 +78,10 @@ abbrev pub IsFlatSafe : Instructions → ℕ → Type 0
 IsFlatSafe p len =
     (context : List ℕ) (place : Placement) (f g : FlatState) (v k j : ℕ) → IsContext len context → IsPlacement len place → IsFlatStart p.order place context f
     → IsDone p context v k → FlatSteps place p j f g → FlatFollowsRun p len place context v k j g
+
+-- for every program: the flat machine follows wherever the machine ends
+abbrev pub ProgramIsFlatSafe : Type 0
+ProgramIsFlatSafe = (p : Instructions) (len : ℕ) → IsProgram p.list → IsFlatSafe p len
 
 abbrev pub CertifiedIsFlatSafe : Type 0
 CertifiedIsFlatSafe = (p : Instructions) (c : CertificateView) → IsProgram p.list → IsCertificate c → Certified p c → IsFlatSafe p c.len

@@ -3,4 +3,6 @@
 
 mod laws;
 
-pub use laws::slack_is_least;
+pub use laws::{
+    certified_is_flat_safe, program_is_flat_safe, safe_ends, safe_has_no_fault, slack_is_least,
+};
