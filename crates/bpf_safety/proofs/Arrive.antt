@@ -1,5 +1,5 @@
 -- A machine comes to a label whose state takes what is known of it.
-use Rattle.std.proofs.Common.{◌*ℤ◌, negsuc, not, nat_le, ◌≡◌, ℕ, suc, ◌+◌, ◌≤◌, refl, sym, ap, ◌∙◌, subst, arith, ℤ, pos, ◌≤ℤ◌, true, false, List, [], ◌∷◌, length, get_or, slice_get, Option, Some, None, is_some, is_none, option_map}
+use Rattle.std.proofs.Common.{◌*ℤ◌, not, nat_le, ◌≡◌, ℕ, suc, ◌+◌, ◌≤◌, refl, sym, ap, ◌∙◌, subst, arith, ℤ, pos, ◌≤ℤ◌, true, false, List, [], ◌∷◌, length, get_or, slice_get, Option, Some, None, is_some, is_none, option_map}
 use Rattle.std.proofs.lemmas.Bool.{false≢true, true≢false, or_parts}
 use Rattle.std.proofs.lemmas.Int.{ints}
 use Rattle.bpf_insn.specs.Instruction.{Instructions}
@@ -18,8 +18,8 @@ use Rattle.bpf_cert.specs.declared.certificate.Measure.{Measure}
 use Rattle.bpf_cert.specs.declared.certificate.Measure.TheVariants.{Down, Up}
 use Rattle.bpf_safety.specs.Flaw.{is_bad_limit}
 use Rattle.bpf_safety.specs.Flow.{label_state, with_tags}
-use Rattle.bpf_safety.specs.Theorems.{IsWellFormed}
-use Rattle.bpf_safety.proofs.Here.{IsRightLabel, HasBounds, values}
+use Rattle.bpf_safety.proofs.Basics.{some_is, natural}
+use Rattle.bpf_safety.proofs.Here.{IsWellFormed, IsRightLabel, HasBounds, values}
 use Rattle.bpf_safety.proofs.LawsBelow.{Laws}
 use Rattle.bpf_safety.proofs.Places.{HoldsValue, HoldsValues, holds_once, term_within, holds_tagged, entailed_bounds, tightened_bounds, untagged, untagged_describes, untagged_abstract, tightened_untagged, held_untagged, held_tags, abstract_tags, tags_describe, find_values}
 use Rattle.bpf_safety.proofs.Facts.{passes_none}
@@ -46,9 +46,6 @@ pub record Arrives (p : Instructions) (len : ℕ) (m : machine.State) (l : Label
   pub budget : ℕ
   pub budget_is : budget_value (budget_of l) (values y) ≡ pos budget
 
-some_is : {A : Type 0} (a b : A) → Some a ≡ Some b → a ≡ b
-some_is a b e = cc
-
 map_fusion : {A B C : Type 0} (f : B → C) (g : A → B) (o : Option A) → option_map f (option_map g o) ≡ option_map (λ a. f (g a)) o
 map_fusion f g None = refl
 map_fusion f g (Some a) = refl
@@ -67,10 +64,6 @@ there (Some a) e = (a, refl)
 there None e = absurd (true≢false e)
 
 -- ---- a budget isn't negative where its places are within their limits
-
-natural : (z : ℤ) → pos 0 ≤ℤ z → (n : ℕ) × (z ≡ pos n)
-natural (pos n) h = (n, refl)
-natural (negsuc n) h = absurd (omega (arith, ints))
 
 weighed : (w : ℕ) (z : ℤ) → pos 0 ≤ℤ z → pos 0 ≤ℤ (pos w *ℤ z)
 weighed w z h =

@@ -1,5 +1,5 @@
 -- A step in one frame keeps the invariant, and pays for itself.
-use Rattle.std.proofs.Common.{negsuc, ◌^◌, ◌≡◌, ℕ, zero, suc, ◌+◌, ◌≤◌, ◌<◌, ◌⊎◌, inl, inr, refl, sym, ap, ap₂, ◌∙◌, subst, arith, ℤ, pos, ◌+ℤ◌, ◌-ℤ◌, ◌≤ℤ◌, int_lt, nat_le, Bool, true, false, cond, not, ◌||◌, ◌&&◌, ◌==◌, List, [], ◌∷◌, ◌++◌, take, drop, length, Option, Some, None, is_some, is_none, Contains, option_and_then, option_map}
+use Rattle.std.proofs.Common.{◌^◌, ◌≡◌, ℕ, suc, ◌+◌, ◌≤◌, ◌<◌, ◌⊎◌, inl, inr, refl, sym, ap, ◌∙◌, subst, arith, ℤ, pos, ◌+ℤ◌, ◌-ℤ◌, ◌≤ℤ◌, int_lt, nat_le, Bool, true, false, cond, not, ◌||◌, ◌&&◌, ◌==◌, List, [], ◌∷◌, length, Option, Some, None, is_some, is_none, Contains, option_and_then, option_map}
 use Rattle.std.specs.List.{list_any}
 use Rattle.std.proofs.lemmas.Bool.{false≢true, true≢false, or_parts}
 use Rattle.std.proofs.lemmas.Bool.Decides.{nat_tests}
@@ -7,26 +7,20 @@ use Rattle.std.proofs.lemmas.Int.{ints}
 use Rattle.bpf_insn.specs.declared.instruction.Insn.{Insn}
 use Rattle.bpf_insn.specs.declared.instruction.Insn.TheVariants.{Ja, JaLong, CallLocal, Exit}
 use Rattle.bpf_insn.specs.declared.instruction.Reg.TheVariants.{R0}
-use Rattle.bpf_insn.specs.declared.state.Value.{Value}
 use Rattle.bpf_insn.specs.declared.state.Reason.{Reason}
-use Rattle.bpf_insn.specs.declared.state.Reason.TheVariants.{UnsetRegister, UnsetByte, OutOfBounds, ContextWrite, FramePointerWrite, OperandKind, TooManyFrames, PointerResult}
-use Rattle.bpf_insn.specs.Instruction.{Instructions, insn_at, slots, slot_count, byte_count, target}
+use Rattle.bpf_insn.specs.Instruction.{Instructions, insn_at, slots, slot_count, target}
 use Rattle.bpf_insn.specs.Image.{IsProgram}
 use Rattle.bpf_insn.specs.State as machine
 use Rattle.bpf_insn.specs.Step.{Step, IsStuck}
-use Rattle.bpf_insn.specs.Stuck as stuck
-use Rattle.bpf_insn.specs.Stuck.{reason_of, reason_of_insn, reason_at, reason_if, first_of, first_unreadable, unreadable_at, unreadable, loads_pointer, accessed, access_of, has_no_frame, exits_with_pointer, writes_context, has_wrong_kind, reads_unset, writes_frame_pointer}
+use Rattle.bpf_insn.specs.Stuck.{reason_of}
 use Rattle.bpf_insn.specs.State.{Cell}
 use Rattle.bpf_insn.specs.State.Cell.{Byte, Part}
-use Rattle.bpf_insn.specs.Memory as memory
-use Rattle.bpf_insn.specs.Memory.{stack_of}
-use Rattle.bpf_insn.specs.Memory.Place.{InContext, InFrame}
 use Rattle.bpf_insn.specs.Run.{Steps}
 use Rattle.bpf_state.specs.declared.state.RegState.{RegState}
 use Rattle.bpf_state.specs.declared.state.RegState.TheVariants.{Any, Num, Ctx, Frame}
 use Rattle.bpf_state.specs.State.{AbstractState, start, register, entered, left}
 use Rattle.bpf_num.specs.Number.{Has}
-use Rattle.bpf_state.specs.Fault.{fault_of, some_passes, is_number, have_right_kinds, reads_part, reads_any, has_wrong_kinds, is_out_of_bounds, reads_unknown_byte, writes_protected}
+use Rattle.bpf_state.specs.Fault.{fault_of, some_passes, is_number}
 use Rattle.bpf_sound.specs.Describes.{Describes, DescribesRegister}
 use Rattle.bpf_state.specs.Entails.{state_entails, register_entails}
 use Rattle.bpf_sound.specs.Laws as abstract
@@ -35,11 +29,12 @@ use Rattle.bpf_safety.specs.Labels.{label_at, function_at, function_from}
 use Rattle.bpf_safety.specs.Budget.{budget as budget_of, InBox, place_of, least_slack, least_budget, greatest_budget, HaveTagsOf}
 use Rattle.bpf_safety.specs.Flow as flow
 use Rattle.bpf_safety.specs.Flow.{callee, call_cost, Arrival, Visit, visits, arrives, arrives_at, at_label_arrival, label_state, jump_target, jump_state, next_state, cost_after, passed_on, sound_arrival}
-use Rattle.bpf_safety.specs.Flaw.{Edge, edge_to, edges, is_refused_by, is_unpaid, is_not_entailed, is_over_budget, enters_wrongly, returns_wrongly, exits_unpaid, is_negative_if, begins_elsewhere, calls_nowhere, leaves_for, next_slot, is_not}
+use Rattle.bpf_safety.specs.Flaw.{edges, is_refused_by, is_unpaid, enters_wrongly, returns_wrongly, exits_unpaid, is_negative_if, begins_elsewhere, calls_nowhere, leaves_for, next_slot, is_not}
 use Rattle.bpf_safety.specs.Certified.{Certified}
-use Rattle.bpf_safety.specs.Theorems.{IsContext, IsWellFormed}
+use Rattle.bpf_safety.specs.Theorems.{IsContext}
+use Rattle.bpf_safety.proofs.Basics.{some_is, natural}
 use Rattle.bpf_safety.proofs.SlackLaws.{slack_pays}
-use Rattle.bpf_safety.proofs.Here.{Here, Advances, ReachesExit, IsRight, Reaches, HasBounds, values}
+use Rattle.bpf_safety.proofs.Here.{IsWellFormed, Here, Advances, ReachesExit, IsRight, Reaches, HasBounds, values}
 use Rattle.bpf_safety.proofs.LawsBelow.{Laws}
 use Rattle.bpf_safety.proofs.Moves.{GoesNext, Jumps, moves, Enters, enters, Leaves, leaves}
 use Rattle.bpf_safety.proofs.Places.{entered_bounds}
@@ -47,159 +42,9 @@ use Rattle.bpf_safety.proofs.Facts.{is_right, is_right_label, slot_of_label, beg
 use Rattle.bpf_safety.proofs.Visits.{encoded, reaches_slot, is_visited, stands_here, goes_on, goes_on_with, some_slots}
 use Rattle.bpf_safety.proofs.Arrive.{Arrives, arrive}
 use Rattle.bpf_safety.proofs.Pay.{not_negative, least_is, greatest_is, IsGreatestBudget, slack_there}
-
-some_is : {A : Type 0} (a b : A) → Some a ≡ Some b → a ≡ b
-some_is a b e = cc
-
--- ---- tests on numbers
-
-equal_passes : (a b : ℕ) → a ≡ b → (a == b) ≡ true
-equal_passes a b e = grind (arith, nat_tests)
-
-not_above : (z : ℤ) (n : ℕ) → int_lt (pos n) z ≡ false → z ≤ℤ pos n
-not_above z n e = grind (arith, ints)
-
--- ---- tests on edges
-
-any_append : {X : Type 0} (test : X → Bool) (xs ys : List X) → list_any test (xs ++ ys) ≡ false → (list_any test xs ≡ false) × (list_any test ys ≡ false)
-any_append test [] ys e = (refl, e)
-any_append test (x ∷ xs) ys e =
-    let h = or_parts (test x) (list_any test (xs ++ ys)) e in
-    let r = any_append test xs ys h.1 in
-    (both (test x) (list_any test xs) h.0 r.0, r.1)
-  where
-    both : (a b : Bool) → a ≡ false → b ≡ false → (a || b) ≡ false
-    both true b f g = f
-    both false b f g = g
-
-one_edge : (test : Edge → Bool) (o : Option ℕ) (st : Option AbstractState) (n : ℕ) (s : AbstractState) → o ≡ Some n → st ≡ Some s → list_any test (edge_to o st) ≡ false → test (record { slot = n; state = s }) ≡ false
-one_edge test o st n s e f h = (or_parts (test (record { slot = n; state = s })) false (sym (ap₂ (λ a b. list_any test (edge_to a b)) e f) ∙ h)).0
-
-not_false : (b : Bool) → not b ≡ false → b ≡ true
-not_false true e = refl
-not_false false e = absurd (true≢false e)
-
--- the edges that an instruction's step may take
-module _ (p : Instructions) (c : CertificateView) (v : Visit) (a : Arrival) where
-  jump_edge : (test : Edge → Bool) (n : ℕ) (s : AbstractState) → jump_target v.slot v.insn ≡ Some n → jump_state v.slot v.insn a.state ≡ Some s → list_any test (edges p c v a) ≡ false → test (record { slot = n; state = s }) ≡ false
-  jump_edge test n s e f h = one_edge test (jump_target v.slot v.insn) (jump_state v.slot v.insn a.state) n s e f (any_append test (edge_to (jump_target v.slot v.insn) (jump_state v.slot v.insn a.state)) (edge_to (Some (v.slot + slot_count v.insn)) (next_state p c v.slot v.insn a.state)) h).0
-
-  next_edge : (test : Edge → Bool) (s : AbstractState) → next_state p c v.slot v.insn a.state ≡ Some s → list_any test (edges p c v a) ≡ false → test (record { slot = v.slot + slot_count v.insn; state = s }) ≡ false
-  next_edge test s f h = one_edge test (Some (v.slot + slot_count v.insn)) (next_state p c v.slot v.insn a.state) (v.slot + slot_count v.insn) s refl f (any_append test (edge_to (jump_target v.slot v.insn) (jump_state v.slot v.insn a.state)) (edge_to (Some (v.slot + slot_count v.insn)) (next_state p c v.slot v.insn a.state)) h).1
-
-  none_refused : is_not_entailed p c v a ≡ false → list_any (is_refused_by c) (edges p c v a) ≡ false
-  none_refused e = (or_parts (list_any (is_refused_by c) (edges p c v a)) (enters_wrongly c v a) (or_parts (list_any (is_refused_by c) (edges p c v a) || enters_wrongly c v a) (returns_wrongly c v a v.insn) e).0).0
-
-  none_unpaid : is_over_budget p c v a ≡ false → (list_any (is_unpaid c v a) (edges p c v a) ≡ false) × (exits_unpaid v a (cost_after c v.slot v.insn a) v.insn ≡ false)
-  none_unpaid e = or_parts (list_any (is_unpaid c v a) (edges p c v a)) (exits_unpaid v a (cost_after c v.slot v.insn a) v.insn) e
-
--- ---- costs
-
-cost_next : (c : CertificateView) (slot : ℕ) (i : Insn) (a : Arrival) (spent : ℕ) → ((off : ℤ) → i ≡ CallLocal off → ⊥) → a.cost ≡ Some (pos spent) → cost_after c slot i a ≡ Some (pos (suc spent))
-cost_next c slot (CallLocal off) a spent other e = absurd (other off refl)
-cost_next c slot i a spent other e = ap (option_map (λ z. z +ℤ pos 1)) e ∙ ap Some (omega (arith, ints))
-
--- ---- faults at EXIT
-
-second_none : (a b : Bool) (rest : Option ℕ) → cond a (Some 3) (cond b (Some 4) rest) ≡ None → b ≡ false
-second_none true b rest e = absurd (true≢false (ap is_some e))
-second_none false true rest e = absurd (true≢false (ap is_some e))
-second_none false false rest e = refl
-
-result_is_number : (len : ℕ) (s : AbstractState) → fault_of len s Exit ≡ None → is_number (register s R0) ≡ true
-result_is_number len s e =
-    not_false (is_number (register s R0))
-    (or_parts (not (have_right_kinds s Exit)) (reads_part s Exit)
-    (second_none (reads_any s Exit) (has_wrong_kinds s Exit) (cond (is_out_of_bounds len s Exit) (Some 5) (cond (reads_unknown_byte s Exit) (Some 6) (cond (writes_protected s Exit) (Some 7) None))) e)).0
-
-number_there : (depth : ℕ) (v : RegState) (o : Option Value) → is_number v ≡ true → DescribesRegister depth v o → (n : ℕ) × (option_and_then machine.number_in o ≡ Some n)
-number_there depth (Num n) o e h = (h.0, ap (option_and_then machine.number_in) h.1)
-number_there depth Any o e h = absurd (false≢true e)
-number_there depth (Ctx lo hi) o e h = absurd (false≢true e)
-number_there depth (Frame lo hi) o e h = absurd (false≢true e)
-
--- without a CALL there is no reason of too many frames
-is_frames : Reason → Bool
-is_frames TooManyFrames = true
-is_frames why = false
-
-frames_apart : (why : Reason) → why ≡ TooManyFrames → is_frames why ≡ true
-unfolding is_frames
-frames_apart why e = ap is_frames e
-
-skip : (test : Bool) (why : Reason) (rest : List (Option Reason)) → is_frames why ≡ false → first_of (reason_if test why ∷ rest) ≡ Some TooManyFrames → first_of rest ≡ Some TooManyFrames
-skip true why rest apart e = absurd (true≢false (sym (frames_apart why (some_is why TooManyFrames e)) ∙ apart))
-skip false why rest apart e = e
-
-skip_option : (o : Option Reason) (rest : List (Option Reason)) → (o ≡ Some TooManyFrames → ⊥) → first_of (o ∷ rest) ≡ Some TooManyFrames → first_of rest ≡ Some TooManyFrames
-skip_option (Some why) rest apart e = absurd (apart e)
-skip_option None rest apart e = e
-
-unreadable_apart : (cells : List (Option Cell)) → first_unreadable cells ≡ Some TooManyFrames → ⊥
-unfolding is_frames
-unreadable_apart [] e = false≢true (ap is_some e)
-unreadable_apart (None ∷ cells) e = false≢true (frames_apart UnsetByte (some_is UnsetByte TooManyFrames e))
-unreadable_apart (Some (Part i region off) ∷ cells) e = false≢true (frames_apart OperandKind (some_is OperandKind TooManyFrames e))
-unreadable_apart (Some (Byte b) ∷ cells) e = unreadable_apart cells e
-
-place_apart : (m : machine.State) (k : ℕ) (place : memory.Place) → unreadable_at m k place ≡ Some TooManyFrames → ⊥
-place_apart m k (InContext at) e = false≢true (ap is_some e)
-place_apart m k (InFrame n at) e = unreadable_apart (take k (drop at (stack_of m n))) e
-
-chain_apart : {A : Type 0} (o : Option A) (f : A → Option Reason) → ((a : A) → f a ≡ Some TooManyFrames → ⊥) → option_and_then f o ≡ Some TooManyFrames → ⊥
-chain_apart None f h e = false≢true (ap is_some e)
-chain_apart (Some a) f h e = h a e
-
-if_apart : (b : Bool) (o : Option Reason) → (o ≡ Some TooManyFrames → ⊥) → cond b o None ≡ Some TooManyFrames → ⊥
-if_apart true o h e = h e
-if_apart false o h e = false≢true (ap is_some e)
-
-cells_apart : (m : machine.State) (i : Insn) → unreadable m i ≡ Some TooManyFrames → ⊥
-cells_apart m i e =
-    chain_apart (access_of i) (λ a. cond (a.reads && not (loads_pointer m i)) (option_and_then (unreadable_at m (byte_count a.size)) (accessed m a)) None)
-    (λ a. if_apart (a.reads && not (loads_pointer m i)) (option_and_then (unreadable_at m (byte_count a.size)) (accessed m a)) (chain_apart (accessed m a) (unreadable_at m (byte_count a.size)) (place_apart m (byte_count a.size)))) e
-
-call_is : (m : machine.State) (i : Insn) → has_no_frame m i ≡ true → (off : ℤ) × (i ≡ CallLocal off) × (8 ≤ machine.depth m + 1)
-call_is m (CallLocal off) e = (off, refl, grind (arith, nat_tests))
-call_is m i e = absurd (false≢true e)
-
-frames_last : (m : machine.State) (i : Insn) (b c : Bool) → b ≡ has_no_frame m i → first_of (reason_if b TooManyFrames ∷ reason_if c PointerResult ∷ []) ≡ Some TooManyFrames → (off : ℤ) × (i ≡ CallLocal off) × (8 ≤ machine.depth m + 1)
-unfolding is_frames
-frames_last m i true c e f = call_is m i (sym e)
-frames_last m i false true e f = absurd (false≢true (frames_apart PointerResult (some_is PointerResult TooManyFrames f)))
-frames_last m i false false e f = absurd (false≢true (ap is_some f))
-
-only_calls_at : (m : machine.State) (i : Insn) → reason_at m i ≡ Some TooManyFrames → (off : ℤ) × (i ≡ CallLocal off) × (8 ≤ machine.depth m + 1)
-unfolding reason_at is_frames
-only_calls_at m i e =
-    let t8 = reason_if (exits_with_pointer m i) PointerResult ∷ [] in
-    let t7 = reason_if (has_no_frame m i) TooManyFrames ∷ t8 in
-    let t6 = unreadable m i ∷ t7 in
-    let t5 = reason_if (writes_context m i) ContextWrite ∷ t6 in
-    let t4 = reason_if (stuck.is_out_of_bounds m i) OutOfBounds ∷ t5 in
-    let t3 = reason_if (has_wrong_kind m i) OperandKind ∷ t4 in
-    let t2 = reason_if (reads_unset m i) UnsetRegister ∷ t3 in
-    let e2 = skip (writes_frame_pointer i) FramePointerWrite t2 refl e in
-    let e3 = skip (reads_unset m i) UnsetRegister t3 refl e2 in
-    let e4 = skip (has_wrong_kind m i) OperandKind t4 refl e3 in
-    let e5 = skip (stuck.is_out_of_bounds m i) OutOfBounds t5 refl e4 in
-    let e6 = skip (writes_context m i) ContextWrite t6 refl e5 in
-    let e7 = skip_option (unreadable m i) t7 (cells_apart m i) e6 in
-    frames_last m i (has_no_frame m i) (exits_with_pointer m i) refl e7
-
-only_calls : (p : Instructions) (m : machine.State) (i : Insn) → insn_at p.list m.top.slot ≡ Some i → reason_of p m ≡ Some TooManyFrames → (off : ℤ) × (i ≡ CallLocal off) × (8 ≤ machine.depth m + 1)
-unfolding reason_of
-only_calls p m i stands e = only_calls_at m i (ap (reason_of_insn m) (sym stands) ∙ e)
-
--- a step before a run
-pub first_step : (p : Instructions) (k : ℕ) (s t u : machine.State) → Step p s t → Steps p k t u → Steps p (suc k) s u
-first_step p zero s t u step run = (s, refl, subst (λ z. Step p s z) (sym run) step)
-first_step p (suc k) s t u step run = (run.0, first_step p k s t run.0 step run.1, run.2)
-
--- a run before a run
-pub runs : (p : Instructions) (j k : ℕ) (s t u : machine.State) → Steps p j s t → Steps p k t u → Steps p (j + k) s u
-runs p j zero s t u a b = let e : j ≡ j + zero = omega arith in subst (λ n. Steps p n s u) e (subst (λ z. Steps p j s z) (sym b) a)
-runs p j (suc k) s t u a b = let e : suc (j + k) ≡ j + suc k = omega arith in subst (λ n. Steps p n s u) e (b.0, runs p j k s t b.0 a b.1, b.2)
+use Rattle.bpf_safety.proofs.Frames.{only_calls}
+use Rattle.bpf_safety.proofs.Edges.{equal_passes, not_above, not_false, jump_edge, next_edge, none_refused, none_unpaid, cost_next, result_is_number}
+use Rattle.bpf_safety.proofs.Runs.{first_step}
 
 is_call : Insn → Bool
 is_call (CallLocal off) = true
@@ -209,10 +54,6 @@ call_or_not : (i : Insn) → ((off : ℤ) × (i ≡ CallLocal off)) ⊎ ((off : 
 unfolding is_call
 call_or_not (CallLocal off) = inl (off, refl)
 call_or_not i = inr (λ off e. false≢true (ap is_call e))
-
-natural : (z : ℤ) → pos 0 ≤ℤ z → (n : ℕ) × (z ≡ pos n)
-natural (pos n) h = (n, refl)
-natural (negsuc n) h = absurd (omega (arith, ints))
 
 module _ (p : Instructions) (c : CertificateView) (laws : Laws) (program : IsProgram p.list) (certificate : IsWellFormed c) (certified : Certified p c) where
   right : (m : machine.State) (budget spent : ℕ) (h : Here p c m budget spent) → IsRight p c (record { slot = m.top.slot; insn = h.insn; arrival = arrives c m.top.slot h.passed })

@@ -15,10 +15,8 @@ use Rattle.bpf_safety.specs.Flaw.{number_if, numbers_of_visit, numbers_of_arriva
 use Rattle.bpf_safety.specs.Certified.{Certified}
 use Rattle.std.specs.Prelude.{get_or}
 use Rattle.std.specs.Option.{option_to_list}
+use Rattle.bpf_safety.proofs.Basics.{some_is}
 use Rattle.bpf_safety.proofs.Here.{IsRight, IsRightLabel}
-
-some_is : {A : Type 0} (a b : A) → Some a ≡ Some b → a ≡ b
-some_is a b e = cc
 
 -- ---- elements of lists
 

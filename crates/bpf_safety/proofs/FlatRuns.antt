@@ -15,10 +15,8 @@ use Rattle.bpf_insn.specs.FlatLaws.{FlatFollows, FlatFinishes, Follows}
 use Rattle.bpf_insn.specs.State.{frame_bytes}
 use Rattle.bpf_insn.specs.Placement.{AreApart, IsPlacement, IsFlatStart, Fits, StaysInside}
 use Rattle.bpf_safety.specs.Theorems.{IsContext, FlatFollowsRun, ProgramIsFlatSafe}
+use Rattle.bpf_safety.proofs.Basics.{some_is}
 use Rattle.bpf_safety.proofs.Runs.{same_run, goes_on, same_context}
-
-some_is : {A : Type 0} (a b : A) → Some a ≡ Some b → a ≡ b
-some_is a b e = cc
 
 -- what the flat machine's run rests on
 pub record FlatLaws : Type 0 where

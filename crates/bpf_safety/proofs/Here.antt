@@ -18,12 +18,21 @@ use Rattle.bpf_cert.specs.View.{LabelView, FunctionView, CertificateView}
 use Rattle.bpf_safety.specs.Labels.{label_at, function_at}
 use Rattle.bpf_state.specs.declared.state.Place.TheVariants.{Register, Slot}
 use Rattle.bpf_num.specs.Interval.{Interval}
-use Rattle.bpf_num.specs.Number.{Has}
-use Rattle.bpf_safety.specs.Budget.{budget as budget_of, budget_value, InBox, bounds}
+use Rattle.bpf_num.specs.Number.{Has, IsNumber}
+use Rattle.bpf_state.specs.State.{IsPlace}
+use Rattle.bpf_safety.specs.Budget.{place_of, budget as budget_of, budget_value, InBox, bounds}
 use Rattle.bpf_safety.specs.Flow.{Arrival, Visit, visits, visits_from, arrives, label_state}
 use Rattle.bpf_safety.specs.Flaw.{lacks_label, is_not_entailed, is_over_budget, falls_past_end, is_bad_term, calls_no_deeper, leaves_function}
 
--- ---- what a certified program has
+-- ---- what a certificate keeps, and what a certified program has
+
+pub record IsWellFormed (c : CertificateView) : Type 0 where
+  pub short_context : c.len ≤ 4096
+  pub states : (l : LabelView) (slot : ℕ) → label_at c slot ≡ Some l → IsAbstract l.state
+  pub depths : (f : FunctionView) → Contains c.functions f → (1 ≤ f.depth) × (f.depth ≤ 8)
+  pub returns : (f : FunctionView) → Contains c.functions f → IsNumber f.ret
+  pub one_each : (f g : FunctionView) → Contains c.functions f → Contains c.functions g → f.first ≡ g.first → f ≡ g
+  pub places : (l : LabelView) (slot j : ℕ) (t : Term) → label_at c slot ≡ Some l → slice_get l.terms j ≡ Some t → IsPlace (place_of t)
 
 -- no condition fails at a visit
 pub record IsRight (p : Instructions) (c : CertificateView) (v : Visit) : Type 0 where

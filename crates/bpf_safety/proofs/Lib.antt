@@ -1,3 +1,4 @@
+mod Basics
 mod LawsBelow
 mod SlackLaws
 mod SlackEnds
@@ -8,8 +9,10 @@ mod Moves
 mod Places
 mod Arrive
 mod Pay
-mod Enter
 mod Runs
+mod Edges
+mod Frames
+mod Enter
 mod Safe
 mod FlatRuns
 mod WellFormedLaw

@@ -25,6 +25,7 @@ use Rattle.bpf_insn.specs.State as machine
 use Rattle.bpf_insn.specs.Step.{Step, step_of, does, jump, next, operand, test_of_values, alu_result, load, load_extended, store, atomic_result, fetch_register, fetched, entered, saved, left}
 use Rattle.bpf_state.specs.State.{AbstractState}
 use Rattle.bpf_sound.specs.Laws as abstract
+use Rattle.bpf_safety.proofs.Basics.{some_is}
 use Rattle.bpf_safety.proofs.LawsBelow.{Laws}
 use Rattle.bpf_cert.specs.View.{CertificateView}
 use Rattle.bpf_safety.specs.Flow.{jump_target, jump_state, next_state}
@@ -37,9 +38,6 @@ pub record GoesNext (p : Instructions) (c : CertificateView) (x : List ℕ) (i :
 pub record Jumps (p : Instructions) (c : CertificateView) (x : List ℕ) (i : Insn) (s : AbstractState) (m m' : machine.State) : Type 0 where
   pub to : jump_target m.top.slot i ≡ Some m'.top.slot
   pub leads : abstract.Leads p c.len x (jump_state m.top.slot i s) m'
-
-some_is : {A : Type 0} (a b : A) → Some a ≡ Some b → a ≡ b
-some_is a b e = cc
 
 -- a chain that gives a value has a first part that does
 pub record Chained {A B : Type 0} (o : Option A) (f : A → Option B) (b : B) : Type 0 where

@@ -10,11 +10,9 @@ use Rattle.bpf_cert.specs.declared.certificate.Term.{Term}
 use Rattle.bpf_safety.specs.Budget.{Budget}
 use Rattle.bpf_safety.specs.Budget.{budget_value, terms_value, term_value, InBox, place_of, bounds, tag_of, sum_if, each_term, least_at_ends, greatest_at_ends, least_budget, greatest_budget, least_slack, free_part, shares}
 use Rattle.bpf_safety.specs.Flaw.{is_negative_if}
+use Rattle.bpf_safety.proofs.Basics.{some_is}
 use Rattle.bpf_safety.proofs.SlackLaws.{term_affine}
 use Rattle.bpf_safety.proofs.Here.{HasBounds}
-
-some_is : {A : Type 0} (a b : A) → Some a ≡ Some b → a ≡ b
-some_is a b e = cc
 
 pub not_negative : (o : Option ℤ) (z : ℤ) → is_negative_if o ≡ false → o ≡ Some z → pos 0 ≤ℤ z
 not_negative o z h e = let f : int_lt z (pos 0) ≡ false = sym (ap is_negative_if e) ∙ h in grind (arith, ints)

@@ -1,6 +1,6 @@
 -- What places hold, and what abstract states tell of it.
-use Rattle.std.proofs.Common.{◌++◌, take, drop, ◌≡◌, ℕ, zero, suc, ◌+◌, ◌-◌, ◌≤◌, ◌<◌, refl, sym, ap, ◌∙◌, subst, arith, pos, Bool, true, false, ◌&&◌, List, [], ◌∷◌, length, get_or, slice_get, slice_index, slice_set, replicate, Option, Some, None, is_some, option_map, option_and_then, ext_get_or, length-set}
-use Rattle.std.proofs.lemmas.Bool.{false≢true, true≢false}
+use Rattle.std.proofs.Common.{◌++◌, take, drop, ◌≡◌, ℕ, zero, suc, ◌+◌, ◌-◌, ◌≤◌, ◌<◌, refl, sym, ap, ◌∙◌, subst, arith, pos, Bool, true, List, [], ◌∷◌, length, get_or, slice_get, slice_index, slice_set, replicate, Option, Some, None, is_some, option_map, option_and_then, ext_get_or, length-set}
+use Rattle.std.proofs.lemmas.Bool.{and_parts, false≢true, true≢false}
 use Rattle.std.proofs.lemmas.Int.{ints}
 use Rattle.bpf_insn.specs.declared.order.Order.{Order}
 use Rattle.bpf_insn.specs.declared.instruction.Reg.{Reg}
@@ -28,10 +28,8 @@ use Rattle.bpf_cert.specs.declared.certificate.Term.{Term}
 use Rattle.bpf_state.specs.declared.state.Place.TheVariants.{Register, Slot}
 use Rattle.bpf_safety.specs.Budget.{held, tag_of, unsigned_bounds, bounds, place_of}
 use Rattle.bpf_safety.specs.Flow.{with_tag, with_tags}
+use Rattle.bpf_safety.proofs.Basics.{some_is}
 use Rattle.bpf_safety.proofs.Here.{HoldsNumber}
-
-some_is : {A : Type 0} (a b : A) → Some a ≡ Some b → a ≡ b
-some_is a b e = cc
 
 -- ---- a place holds one number
 
@@ -108,16 +106,8 @@ module _ (order : Order) (len : ℕ) (x : List ℕ) (s : AbstractState) (m : mac
 pairs_at : {A : Type 0} (test : A → A → Bool) (xs ys : List A) (d : A) (i : ℕ) → length xs ≡ length ys → i < length xs → all_pairs test xs ys ≡ true → test (get_or xs i d) (get_or ys i d) ≡ true
 pairs_at test [] ys d i long lt e = absurd (omega arith)
 pairs_at test (x ∷ xs) [] d i long lt e = absurd (omega arith)
-pairs_at test (x ∷ xs) (y ∷ ys) d zero long lt e = (both (test x y) (all_pairs test xs ys) e).0
-  where
-    both : (a b : Bool) → (a && b) ≡ true → (a ≡ true) × (b ≡ true)
-    both true b e = (refl, e)
-    both false b e = absurd (false≢true e)
-pairs_at test (x ∷ xs) (y ∷ ys) d (suc i) long lt e = pairs_at test xs ys d i (omega arith) (omega arith) (right (test x y) (all_pairs test xs ys) e)
-  where
-    right : (a b : Bool) → (a && b) ≡ true → b ≡ true
-    right true b e = e
-    right false b e = absurd (false≢true e)
+pairs_at test (x ∷ xs) (y ∷ ys) d zero long lt e = (and_parts (test x y) (all_pairs test xs ys) e).0
+pairs_at test (x ∷ xs) (y ∷ ys) d (suc i) long lt e = pairs_at test xs ys d i (omega arith) (omega arith) (and_parts (test x y) (all_pairs test xs ys) e).1
 
 abbrev pub IsBounded : RegState → Type 0
 IsBounded v = (b : Interval) × (unsigned_bounds v ≡ Some b)
@@ -155,22 +145,18 @@ entailed_slot a (Bytes mask) e h = unbounded Any refl h
 entailed_slot a (Ptr (CtxIn lo hi)) e h = unbounded (Ctx lo hi) refl h
 entailed_slot a (Ptr (FrameIn lo hi)) e h = unbounded (Frame lo hi) refl h
 
-and_both : (a b : Bool) → (a && b) ≡ true → (a ≡ true) × (b ≡ true)
-and_both true b e = (refl, e)
-and_both false b e = absurd (false≢true e)
-
 pub entailed_bounds : (s t : AbstractState) (place : Place) → IsAbstract s → IsAbstract t → IsPlace place → state_entails s t ≡ true → IsBounded (held t place) → IsBounded (held s place)
 entailed_bounds s t (Register r) valid valid' is e h =
     let below = register_below r in
     let long = valid.eleven in
     let long' = valid'.eleven in
-    entailed_register (register s r) (register t r) (pairs_at register_entails s.registers t.registers Any (register_number r) (omega arith) (omega arith) (and_both (all_pairs register_entails s.registers t.registers) (all_pairs slot_entails s.slots t.slots) e).0) h
+    entailed_register (register s r) (register t r) (pairs_at register_entails s.registers t.registers Any (register_number r) (omega arith) (omega arith) (and_parts (all_pairs register_entails s.registers t.registers) (all_pairs slot_entails s.slots t.slots) e).0) h
 entailed_bounds s t (Slot k) valid valid' is e h =
     let low = is.0 in
     let high = is.1 in
     let long = valid.slots_are in
     let long' = valid'.slots_are in
-    entailed_slot (slot s k) (slot t k) (pairs_at slot_entails s.slots t.slots (Bytes 0) (k - 1) (omega arith) (omega arith) (and_both (all_pairs register_entails s.registers t.registers) (all_pairs slot_entails s.slots t.slots) e).1) h
+    entailed_slot (slot s k) (slot t k) (pairs_at slot_entails s.slots t.slots (Bytes 0) (k - 1) (omega arith) (omega arith) (and_parts (all_pairs register_entails s.registers t.registers) (all_pairs slot_entails s.slots t.slots) e).1) h
 
 -- ---- tightening keeps numbers
 

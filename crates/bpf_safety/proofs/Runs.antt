@@ -1,5 +1,5 @@
 -- Runs: what two of them have in common, and that one which has ended goes no further.
-use Rattle.std.proofs.Common.{◌≡◌, ℕ, zero, suc, ◌≤◌, ◌<◌, ◌⊎◌, inl, inr, sym, ap, ◌∙◌, subst, arith, Some, is_some}
+use Rattle.std.proofs.Common.{◌≡◌, ℕ, zero, suc, ◌+◌, ◌≤◌, ◌<◌, ◌⊎◌, inl, inr, refl, sym, ap, ◌∙◌, subst, arith, is_some}
 use Rattle.std.proofs.lemmas.Bool.{cases_order}
 use Rattle.bpf_insn.specs.Instruction.{Instructions}
 use Rattle.bpf_insn.specs.MachineLaws.{FinishIsLast, StuckHasReason, StepKeepsContext}
@@ -7,9 +7,7 @@ use Rattle.bpf_insn.specs.State as machine
 use Rattle.bpf_insn.specs.Step.{Step, Finish}
 use Rattle.bpf_insn.specs.Run.{Steps, IsDone}
 use Rattle.bpf_safety.specs.Theorems.{SafeHasNoFault, SafeEnds}
-
-some_is : {A : Type 0} (a b : A) → Some a ≡ Some b → a ≡ b
-some_is a b e = cc
+use Rattle.bpf_safety.proofs.Basics.{some_is}
 
 one_step : (p : Instructions) (s t u : machine.State) → Step p s t → Step p s u → t ≡ u
 one_step p s t u a b = some_is t u (sym a ∙ b)
@@ -27,6 +25,16 @@ goes_on p j (suc k) s t u a b lt = by_order (λ less. goes_on p j k s t b.0 a b.
     by_order later (inl e) = (u, subst (λ z. Step p z u) (same_run p k s b.0 t b.1 (subst (λ n. Steps p n s t) e a)) b.2)
     by_order later (inr (inl less)) = later less
     by_order later (inr (inr more)) = absurd (omega arith)
+
+-- a step before a run
+pub first_step : (p : Instructions) (k : ℕ) (s t u : machine.State) → Step p s t → Steps p k t u → Steps p (suc k) s u
+first_step p zero s t u step run = (s, refl, subst (λ z. Step p s z) (sym run) step)
+first_step p (suc k) s t u step run = (run.0, first_step p k s t run.0 step run.1, run.2)
+
+-- a run before a run
+pub runs : (p : Instructions) (j k : ℕ) (s t u : machine.State) → Steps p j s t → Steps p k t u → Steps p (j + k) s u
+runs p j zero s t u a b = let e : j ≡ j + zero = omega arith in subst (λ n. Steps p n s u) e (subst (λ z. Steps p j s z) (sym b) a)
+runs p j (suc k) s t u a b = let e : suc (j + k) ≡ j + suc k = omega arith in subst (λ n. Steps p n s u) e (b.0, runs p j k s t b.0 a b.1, b.2)
 
 -- where a run has ended, no other is longer
 pub no_longer : FinishIsLast → (p : Instructions) (n k : ℕ) (s t u : machine.State) (v : ℕ) → Steps p n s t → Finish p t v → Steps p k s u → k ≤ n

@@ -12,15 +12,12 @@ use Rattle.bpf_insn.specs.Run.{Steps, IsDone}
 use Rattle.bpf_num.specs.Number.{Has}
 use Rattle.bpf_cert.specs.View.{FunctionView, CertificateView}
 use Rattle.bpf_safety.specs.Certified.{Certified}
-use Rattle.bpf_safety.specs.Theorems.{IsContext, EndsWithin, IsSafe, IsWellFormed}
-use Rattle.bpf_safety.proofs.Here.{Here, Advances, ReachesExit}
+use Rattle.bpf_safety.specs.Theorems.{IsContext, EndsWithin, IsSafe}
+use Rattle.bpf_safety.proofs.Here.{IsWellFormed, Here, Advances, ReachesExit}
 use Rattle.bpf_safety.proofs.LawsBelow.{Laws}
-use Rattle.bpf_safety.proofs.Runs.{same_run, goes_on, no_longer}
+use Rattle.bpf_safety.proofs.Runs.{runs, same_run, goes_on, no_longer}
 use Rattle.bpf_safety.proofs.Visits.{stands_here, slots-cons, some_slots}
-use Rattle.bpf_safety.proofs.Enter.{advance, at_exit, not_stuck, begins, runs, Callees}
-
-some_is : {A : Type 0} (a b : A) → Some a ≡ Some b → a ≡ b
-some_is a b e = cc
+use Rattle.bpf_safety.proofs.Enter.{advance, at_exit, not_stuck, begins, Callees}
 
 -- ---- EXIT
 

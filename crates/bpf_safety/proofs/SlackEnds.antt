@@ -18,10 +18,8 @@ use Rattle.bpf_sound.specs.Laws.{IsAbstract, IsRegister, IsSlot}
 use Rattle.bpf_cert.specs.declared.certificate.Term.{Term}
 use Rattle.bpf_safety.specs.Budget.{Budget, held, unsigned_bounds, place_of, tag_of, bounds, term_value, terms_value, budget_value, least_at_ends, greatest_at_ends, sum_if, shares, free_part, least_slack, AllowedBy, InBox, OnEdge, HaveTagsOf, Pays}
 use Rattle.bpf_safety.specs.Theorems.{SlackIsLeast}
+use Rattle.bpf_safety.proofs.Basics.{some_is}
 use Rattle.bpf_safety.proofs.SlackLaws.{parts, from_bounds, all_shares, all_shares-cons, all_shares-nil, all_share, tagged, untagged, free_parts, kept_parts, slack_pays}
-
-some_is : {A : Type 0} (a b : A) → Some a ≡ Some b → a ≡ b
-some_is a b e = cc
 
 -- ---- the bounds of a state are intervals
 

@@ -13,6 +13,7 @@ use Rattle.bpf_cert.specs.declared.certificate.Term.{Term}
 use Rattle.bpf_safety.specs.Budget.{Budget}
 use Rattle.bpf_cert.specs.declared.certificate.Measure.TheVariants.{Down, Up}
 use Rattle.bpf_safety.specs.Budget.{place_of, tag_of, bounds, measured, term_value, terms_value, budget_value, least_at_ends, greatest_at_ends, sum_if, each_term, share_of, shares, free_part, least_slack, AllowedBy, HaveTagsOf, Pays}
+use Rattle.bpf_safety.proofs.Basics.{some_is}
 
 -- ---- sums that are there have their parts
 
@@ -22,9 +23,6 @@ pub record HasParts (x : Option ℤ) (rest : List (Option ℤ)) (z : ℤ) : Type
   pub head_is : x ≡ Some head
   pub tail_is : sum_if rest ≡ Some tail
   pub sum_is : z ≡ head +ℤ tail
-
-some_is : (a b : ℤ) → Some a ≡ Some b → a ≡ b
-some_is a b e = cc
 
 pub parts : (x : Option ℤ) (rest : List (Option ℤ)) (z : ℤ) → sum_if (x ∷ rest) ≡ Some z → HasParts x rest z
 parts x rest z h = go x (sum_if rest) refl refl h

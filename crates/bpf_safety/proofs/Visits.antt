@@ -7,6 +7,7 @@ use Rattle.bpf_insn.specs.Image.{HasEncoding, AllHaveEncoding}
 use Rattle.bpf_insn.specs.Instruction.{Instructions, insn_at, slots, slots_of, slot_count, layout}
 use Rattle.bpf_cert.specs.View.{CertificateView}
 use Rattle.bpf_safety.specs.Flow.{Arrival, Visit, visits, visits_from, arrives, passed_on, sound_arrival}
+use Rattle.bpf_safety.proofs.Basics.{some_is}
 use Rattle.bpf_safety.proofs.Here.{Reaches}
 
 -- the visit at the head
@@ -18,9 +19,6 @@ goes_on_with p c slot passed i = option_and_then (passed_on p c slot i) (sound_a
 
 pub begins : (p : Instructions) (c : CertificateView) → Reaches p c 0 None p.list
 begins p c = record { visited = λ v h. h; stands = λ n. ap (insn_at p.list) (omega arith); ends = omega arith }
-
-some_is : {A : Type 0} (a b : A) → Some a ≡ Some b → a ≡ b
-some_is a b e = cc
 
 there : (v w : Visit) (vs : List Visit) → Contains vs v → Contains (w ∷ vs) v
 there v w vs h = let lt = h.1 in (suc h.0, omega arith, h.2)

@@ -24,11 +24,9 @@ use Rattle.bpf_cert.specs.Faults.{is_rising, is_range, is_int_range, is_pointer_
 use Rattle.bpf_cert.specs.Limits.{IsCertificate, is_canonical, is_canonical_function, first_before, is_limited, is_limited_function, is_limited_label, is_limited_term, is_limited_measure, is_limited_place, is_limited_state, has_shape, is_limited_register, is_limited_slot, is_limited_num, label_count}
 use Rattle.bpf_safety.specs.Budget.{place_of, place_in}
 use Rattle.bpf_safety.specs.Labels.{labels, label_at}
-use Rattle.bpf_safety.specs.Theorems.{IsWellFormed}
+use Rattle.bpf_safety.proofs.Basics.{some_is}
+use Rattle.bpf_safety.proofs.Here.{IsWellFormed}
 use Rattle.bpf_safety.proofs.Facts.{is_first, Contains-from_flat}
-
-some_is : {A : Type 0} (a b : A) → Some a ≡ Some b → a ≡ b
-some_is a b e = cc
 
 -- ---- tests
 

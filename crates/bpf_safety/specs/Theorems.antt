@@ -1,24 +1,19 @@
 -- The promises of an accepted certificate, over the machine's definitions.
-use Rattle.std.specs.Prelude.{◌≡◌, ℕ, suc, ◌≤◌, ◌<◌, ◌↔◌, ℤ, pos, ◌≤ℤ◌, List, length, slice_get, Contains, Some}
-use Rattle.bpf_insn.specs.declared.order.Order.{Order}
-use Rattle.bpf_insn.specs.declared.instruction.Insn.{Insn}
+use Rattle.std.specs.Prelude.{◌≡◌, ℕ, suc, ◌≤◌, ◌<◌, ◌↔◌, ℤ, pos, ◌≤ℤ◌, List, length, Some}
 use Rattle.bpf_insn.specs.Instruction.{Instructions}
 use Rattle.bpf_insn.specs.Image.{IsProgram}
-use Rattle.bpf_insn.specs.Laws.{AreBytes, IsImageOfProgram}
+use Rattle.bpf_insn.specs.Laws.{AreBytes}
 use Rattle.bpf_insn.specs.State as machine
 use Rattle.bpf_insn.specs.Step.{IsStuck}
 use Rattle.bpf_insn.specs.declared.state.Reason.{Reason}
 use Rattle.bpf_insn.specs.Run.{Steps, IsDone, IsFault, CanMake}
 use Rattle.bpf_insn.specs.Flat.{Placement, FlatState, FlatStep, FlatFinish, FlatSteps}
 use Rattle.bpf_insn.specs.Placement.{IsPlacement, IsFlatStart, StaysInside}
-use Rattle.bpf_num.specs.Number.{IsNumber}
-use Rattle.bpf_state.specs.State.{AbstractState, IsPlace}
+use Rattle.bpf_state.specs.State.{AbstractState}
 use Rattle.bpf_sound.specs.Laws.{IsAbstract}
-use Rattle.bpf_cert.specs.declared.certificate.Term.{Term}
-use Rattle.bpf_cert.specs.View.{LabelView, FunctionView, CertificateView}
-use Rattle.bpf_safety.specs.Labels.{label_at}
+use Rattle.bpf_cert.specs.View.{CertificateView}
 use Rattle.bpf_cert.specs.Limits.{IsCertificate}
-use Rattle.bpf_safety.specs.Budget.{Budget, place_of, least_slack, Pays, HaveTagsOf}
+use Rattle.bpf_safety.specs.Budget.{Budget, least_slack, Pays, HaveTagsOf}
 use Rattle.bpf_safety.specs.Certified.{Certified}
 
 -- a context of `len` bytes
@@ -45,24 +40,8 @@ SafeHasNoFault = (p : Instructions) (len bound : ℕ) (context : List ℕ) (slot
 abbrev pub SafeEnds : Type 0
 SafeEnds = (p : Instructions) (len bound fuel : ℕ) (context : List ℕ) → IsSafe p len bound → IsContext len context → bound ≤ fuel → CanMake p context fuel → ⊥
 
--- what a certificate keeps that the theorem rests on
-pub record IsWellFormed (c : CertificateView) : Type 0 where
-  pub short_context : c.len ≤ 4096
-  pub states : (l : LabelView) (slot : ℕ) → label_at c slot ≡ Some l → IsAbstract l.state
-  pub depths : (f : FunctionView) → Contains c.functions f → (1 ≤ f.depth) × (f.depth ≤ 8)
-  pub returns : (f : FunctionView) → Contains c.functions f → IsNumber f.ret
-  pub one_each : (f g : FunctionView) → Contains c.functions f → Contains c.functions g → f.first ≡ g.first → f ≡ g
-  pub places : (l : LabelView) (slot j : ℕ) (t : Term) → label_at c slot ≡ Some l → slice_get l.terms j ≡ Some t → IsPlace (place_of t)
-
 abbrev pub CertifiedIsSafe : Type 0
 CertifiedIsSafe = (p : Instructions) (c : CertificateView) → IsProgram p.list → IsCertificate c → Certified p c → IsSafe p c.len c.steps
-
--- what a yes of length `len` and bound `bound` says of an image
-pub record Verified (order : Order) (image : List ℕ) (len bound : ℕ) : Type 0 where
-  pub program : List Insn
-  pub is_image : IsImageOfProgram order image program
-  pub only : (other : List Insn) → IsImageOfProgram order image other → other ≡ program
-  pub safe : IsSafe (record { order = order; list = program }) len bound
 
 -- ---- the flat machine follows
 
