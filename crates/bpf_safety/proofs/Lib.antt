@@ -14,5 +14,6 @@ mod Edges
 mod Frames
 mod Enter
 mod Safe
+mod SafetyLaw
 mod FlatRuns
 mod WellFormedLaw
