@@ -7,8 +7,6 @@ mod outcome;
 mod runs;
 mod stack;
 mod step;
-#[cfg(test)]
-mod tests;
 
 pub use machine::Machine;
 pub use outcome::{Outcome, Step};

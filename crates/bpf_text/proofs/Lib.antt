@@ -6,3 +6,9 @@ pub mod LineLemmas
 pub mod SourceLemmas
 pub mod AssemblerLemmas
 pub mod LawLemmas
+pub mod WordLemmas
+pub mod PartLemmas
+pub mod StatementLemmas
+pub mod AccessLemmas
+pub mod ListedLemmas
+pub mod RoundTripLemmas

@@ -2,7 +2,9 @@
 use Rattle.std.specs.Prelude.{◌≡◌, ℕ, List}
 use Rattle.bpf_insn.specs.declared.instruction.Insn.{Insn}
 use Rattle.bpf_text.specs.declared.error.TextError.{TextError}
+use Rattle.bpf_insn.specs.Image.{IsProgram}
 use Rattle.bpf_text.specs.Assembly.{Assembles, IsRefused}
+use Rattle.bpf_text.specs.Listing.{listing}
 
 -- a text assembles to one list of instructions
 abbrev pub AssemblesToOne : Type 0
@@ -11,3 +13,7 @@ AssemblesToOne = (text : List ℕ) (is js : List Insn) → Assembles text is →
 -- and then it has no refusal
 abbrev pub NeverBoth : Type 0
 NeverBoth = (text : List ℕ) (is : List Insn) (e : TextError) → Assembles text is → IsRefused text e → ⊥
+
+-- a program's listing assembles to the program again
+abbrev pub ListingAssembles : Type 0
+ListingAssembles = (is : List Insn) → IsProgram is → Assembles (listing is) is

@@ -1,6 +1,6 @@
 //! Laws above the definitions, each the contract of a function that does nothing.
 
-ghost use Rattle.bpf_text.specs.Laws.{AssemblesToOne, NeverBoth};
+ghost use Rattle.bpf_text.specs.Laws.{AssemblesToOne, ListingAssembles, NeverBoth};
 
 /// A text assembles to one list of instructions.
 pub fn assembles_to_one()
@@ -10,4 +10,9 @@ pub fn assembles_to_one()
 /// A text that assembles to a program has no refusal: `assemble` answers this program, unless memory runs out.
 pub fn assembles_or_is_refused()
     ensures { NeverBoth }
+{}
+
+/// A program's listing assembles to the program again: `assemble` answers it, unless memory runs out.
+pub fn listing_assembles()
+    ensures { ListingAssembles }
 {}

@@ -16,5 +16,5 @@ mod token;
 
 pub use assembler::assemble;
 pub use error::TextError;
-pub use laws::{assembles_or_is_refused, assembles_to_one};
+pub use laws::{assembles_or_is_refused, assembles_to_one, listing_assembles};
 pub use lister::list;

@@ -1,0 +1,6 @@
+pub mod Labels
+pub mod Budget
+pub mod Flow
+pub mod Flaw
+pub mod Certified
+pub mod Theorems

@@ -1,0 +1,71 @@
+-- The promises of an accepted certificate, over the machine's definitions.
+use Rattle.std.specs.Prelude.{◌≡◌, ℕ, suc, ◌≤◌, ◌<◌, ◌↔◌, ℤ, pos, ◌≤ℤ◌, List, length, Some}
+use Rattle.bpf_insn.specs.Instruction.{Instructions}
+use Rattle.bpf_insn.specs.Image.{IsProgram}
+use Rattle.bpf_insn.specs.Laws.{AreBytes}
+use Rattle.bpf_insn.specs.State as machine
+use Rattle.bpf_insn.specs.Step.{IsStuck}
+use Rattle.bpf_insn.specs.declared.state.Reason.{Reason}
+use Rattle.bpf_insn.specs.Run.{Steps, IsDone, IsFault, CanMake}
+use Rattle.bpf_insn.specs.Flat.{Placement, FlatState, FlatStep, FlatFinish, FlatSteps}
+use Rattle.bpf_insn.specs.Placement.{IsPlacement, IsFlatStart, StaysInside}
+use Rattle.bpf_state.specs.State.{AbstractState}
+use Rattle.bpf_sound.specs.Laws.{IsAbstract}
+use Rattle.bpf_cert.specs.View.{CertificateView}
+use Rattle.bpf_cert.specs.Limits.{IsCertificate}
+use Rattle.bpf_safety.specs.Budget.{Budget, least_slack, Pays, HaveTagsOf}
+use Rattle.bpf_safety.specs.Certified.{Certified}
+
+-- a context of `len` bytes
+pub record IsContext (len : ℕ) (context : List ℕ) : Type 0 where
+  pub bytes : AreBytes context
+  pub length_is : length context ≡ len
+
+-- ---- the machine never gets stuck, and ends in time
+
+pub record EndsWithin (p : Instructions) (context : List ℕ) (bound : ℕ) : Type 0 where
+  pub value : ℕ
+  pub steps : ℕ
+  pub in_time : steps ≤ bound
+  pub done : IsDone p context value steps
+
+pub record IsSafe (p : Instructions) (len bound : ℕ) : Type 0 where
+  pub never_stuck : (context : List ℕ) (k : ℕ) (s : machine.State) → IsContext len context → Steps p k (machine.start context) s → IsStuck p s → ⊥
+  pub ends : (context : List ℕ) → IsContext len context → EndsWithin p context bound
+
+-- No run of a safe program is at fault, and none goes on for as many steps as its bound: it ends before.
+abbrev pub SafeHasNoFault : Type 0
+SafeHasNoFault = (p : Instructions) (len bound : ℕ) (context : List ℕ) (slot : ℕ) (reason : Reason) (k : ℕ) → IsProgram p.list → IsSafe p len bound → IsContext len context → IsFault p context slot reason k → ⊥
+
+abbrev pub SafeEnds : Type 0
+SafeEnds = (p : Instructions) (len bound fuel : ℕ) (context : List ℕ) → IsSafe p len bound → IsContext len context → bound ≤ fuel → CanMake p context fuel → ⊥
+
+abbrev pub CertifiedIsSafe : Type 0
+CertifiedIsSafe = (p : Instructions) (c : CertificateView) → IsProgram p.list → IsCertificate c → Certified p c → IsSafe p c.len c.steps
+
+-- ---- the flat machine follows
+
+-- a run of the flat machine from a start that fits, on a context on which the machine ends with v after k instructions
+pub record FlatFollowsRun (p : Instructions) (len : ℕ) (place : Placement) (context : List ℕ) (v k j : ℕ) (g : FlatState) : Type 0 where
+  pub not_past : j < k
+  pub inside : StaysInside place len p g
+  pub visits_same : (s : machine.State) × Steps p j (machine.start context) s × (g.slot ≡ s.top.slot)
+  pub goes_on : suc j < k → (h : FlatState) × FlatStep place p g h
+  pub ends : suc j ≡ k → FlatFinish p g v × ((h : FlatState) → FlatStep place p g h → ⊥)
+
+abbrev pub IsFlatSafe : Instructions → ℕ → Type 0
+IsFlatSafe p len =
+    (context : List ℕ) (place : Placement) (f g : FlatState) (v k j : ℕ) → IsContext len context → IsPlacement len place → IsFlatStart p.order place context f
+    → IsDone p context v k → FlatSteps place p j f g → FlatFollowsRun p len place context v k j g
+
+-- for every program: the flat machine follows wherever the machine ends
+abbrev pub ProgramIsFlatSafe : Type 0
+ProgramIsFlatSafe = (p : Instructions) (len : ℕ) → IsProgram p.list → IsFlatSafe p len
+
+abbrev pub CertifiedIsFlatSafe : Type 0
+CertifiedIsFlatSafe = (p : Instructions) (c : CertificateView) → IsProgram p.list → IsCertificate c → Certified p c → IsFlatSafe p c.len
+
+-- ---- budgets: the least slack is at the ends of the intervals
+
+abbrev pub SlackIsLeast : Type 0
+SlackIsLeast = (old new : Budget) (at_label edge : AbstractState) (cost slack : ℤ) → IsAbstract at_label → IsAbstract edge → HaveTagsOf (length old.terms) edge new.terms → least_slack old at_label cost edge new ≡ Some slack → (pos 0 ≤ℤ slack) ↔ Pays old at_label cost edge new

@@ -1,0 +1,9 @@
+//! When a certificate certifies a program, and what that promises.
+#![tactic(auto)]
+
+mod laws;
+
+pub use laws::{
+    certified_is_flat_safe, certified_is_safe, program_is_flat_safe, safe_ends, safe_has_no_fault,
+    slack_is_least,
+};
