@@ -1,5 +1,7 @@
 -- What every state keeps.
-use Rattle.std.proofs.Common.{pos, [], ◌∷◌, replicate, refl, arith}
+use Rattle.std.proofs.Common.{pos, List, [], ◌∷◌, replicate, refl, arith}
+use Rattle.std.specs.Prelude.{All}
+use Rattle.bpf_state.specs.declared.state.RegState.{RegState}
 use Rattle.std.proofs.lemmas.Int.{ints}
 use Rattle.std.proofs.lemmas.List.Elements.{All-nil, All-cons, All-replicate, All-append}
 use Rattle.bpf_state.specs.declared.state.RegState.TheVariants.{Any, Frame}
@@ -14,5 +16,37 @@ blank_is_state =
       register_tag_count = refl;
       slot_tag_count = refl;
       registers = All-append IsRegister (replicate 10 Any) (Frame (pos 0) (pos 0) ∷ []) (All-replicate IsRegister 10 Any tt) (All-cons IsRegister (Frame (pos 0) (pos 0)) [] (omega (arith, ints)) (All-nil IsRegister));
+      slots = All-replicate IsSlot 64 (Bytes 0) (omega arith);
+    }
+
+-- a callee's registers, of which five are the caller's
+abbrev pub callee_registers : RegState → RegState → RegState → RegState → RegState → List RegState
+callee_registers a b c d e = Any ∷ a ∷ b ∷ c ∷ d ∷ e ∷ Any ∷ Any ∷ Any ∷ Any ∷ Frame (pos 0) (pos 0) ∷ []
+
+abbrev callee_rest : List RegState
+callee_rest = Any ∷ Any ∷ Any ∷ Any ∷ Frame (pos 0) (pos 0) ∷ []
+
+callee_rest_is : All IsRegister callee_rest
+callee_rest_is =
+    All-cons IsRegister Any (Any ∷ Any ∷ Any ∷ Frame (pos 0) (pos 0) ∷ []) tt
+    (All-cons IsRegister Any (Any ∷ Any ∷ Frame (pos 0) (pos 0) ∷ []) tt
+    (All-cons IsRegister Any (Any ∷ Frame (pos 0) (pos 0) ∷ []) tt
+    (All-cons IsRegister Any (Frame (pos 0) (pos 0) ∷ []) tt
+    (All-cons IsRegister (Frame (pos 0) (pos 0)) [] (omega (arith, ints)) (All-nil IsRegister)))))
+
+pub entered_is_state : (a b c d e : RegState) → IsRegister a → IsRegister b → IsRegister c → IsRegister d → IsRegister e → IsState (record blank { registers = callee_registers a b c d e })
+entered_is_state a b c d e ha hb hc hd he =
+    record {
+      register_count = refl;
+      slot_count = refl;
+      register_tag_count = refl;
+      slot_tag_count = refl;
+      registers =
+          All-cons IsRegister Any (a ∷ b ∷ c ∷ d ∷ e ∷ callee_rest) tt
+          (All-cons IsRegister a (b ∷ c ∷ d ∷ e ∷ callee_rest) ha
+          (All-cons IsRegister b (c ∷ d ∷ e ∷ callee_rest) hb
+          (All-cons IsRegister c (d ∷ e ∷ callee_rest) hc
+          (All-cons IsRegister d (e ∷ callee_rest) hd
+          (All-cons IsRegister e callee_rest he callee_rest_is)))));
       slots = All-replicate IsSlot 64 (Bytes 0) (omega arith);
     }

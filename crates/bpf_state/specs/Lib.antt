@@ -3,3 +3,6 @@ pub mod Access
 pub mod Fault
 pub mod Transfer
 pub mod Entails
+pub mod Answer
+pub mod Parts
+pub mod Results

@@ -1,16 +1,17 @@
 //! Abstract states.
 
 use crate::state::{Place, RegState, SlotState, Tag};
-use bpf_insn::Reg;
+use bpf_insn::{Operand, Reg};
+use bpf_num::Num;
 use std::marker::Model;
 
 /// What is known of the registers and of the slots of the top frame, and which places hold counters.
 #[derive(Debug, Drop)]
 pub struct State {
-    registers: [RegState; 11],
-    slots: [SlotState; 64],
-    register_tags: [Option<Tag>; 11],
-    slot_tags: [Option<Tag>; 64],
+    pub(crate) registers: [RegState; 11],
+    pub(crate) slots: [SlotState; 64],
+    pub(crate) register_tags: [Option<Tag>; 11],
+    pub(crate) slot_tags: [Option<Tag>; 64],
 }
 
 impl Model for State {
@@ -24,8 +25,11 @@ impl Model for State {
 }
 
 impl State {
-    ghost use Rattle.std.specs.Prelude.{◌≡◌, ◌≤◌};
-    ghost use Rattle.bpf_state.specs.State.{IsState, IsRegister, IsSlot, IsPlace, blank, register, slot, tag, with_register, with_slot, with_tag};
+    ghost use Rattle.std.specs.Prelude.{◌≡◌, ◌≤◌, ◌<◌, suc};
+    ghost use Rattle.bpf_state.specs.State.{IsState, IsRegister, IsSlot, IsPlace, blank, start, register, register_tag, slot, tag, with_register, with_slot, with_tag, put_register, put_slot};
+    ghost use Rattle.bpf_state.specs.Fault.{operand};
+    ghost use Rattle.bpf_state.specs.Transfer.{operand_tag};
+    ghost use Rattle.bpf_state.specs.Answer.{without_tags};
 
     /// Nothing is known but that r10 points to the frame's end.
     pub fn blank() -> Self
@@ -107,5 +111,82 @@ impl State {
             Place::Register(r) => self.register_tags[r as usize] = tag,
             Place::Slot(k) => self.slot_tags[k as usize - 1] = tag,
         }
+    }
+
+    /// The state at the start of a program: r1 points to the context, r2 is its length in bytes, and r10 points to the
+    /// frame's end.
+    pub fn start(len: u32) -> Self
+        ensures { result ≡ start len }
+    {
+        let mut state = State::blank();
+        state.registers[1] = RegState::Ctx { lo: 0, hi: 0 };
+        state.registers[2] = RegState::Num(Num::constant(len as u64));
+        state
+    }
+
+    /// The same state once more.
+    pub fn copy(&self) -> Self
+        ensures { result ≡ self.now }
+    {
+        let mut state = State::blank();
+        state.registers.copy_from_slice(&self.registers);
+        state.slots.copy_from_slice(&self.slots);
+        state.register_tags.copy_from_slice(&self.register_tags);
+        state.slot_tags.copy_from_slice(&self.slot_tags);
+        state
+    }
+
+    /// Forgets all counters.
+    pub fn clear_tags(&mut self)
+        ensures { self.new ≡ without_tags self.old }
+    {
+        self.register_tags = [None; 11];
+        self.slot_tags = [None; 64];
+    }
+
+    /// What is known of a second operand: a constant, sign-extended, or what is known of a register.
+    pub(crate) fn operand(&self, src: Operand) -> RegState
+        ensures value { result ≡ operand self.now src }
+        ensures ordered { IsRegister result }
+    {
+        match src {
+            Operand::Imm(imm) => RegState::Num(Num::constant((imm as i64).cast_unsigned())),
+            Operand::Reg(r) => self.reg(r),
+        }
+    }
+
+    pub(crate) fn register_tag(&self, r: Reg) -> Option<Tag>
+        ensures { result ≡ register_tag self.now r }
+    {
+        self.register_tags[r as usize]
+    }
+
+    pub(crate) fn operand_tag(&self, src: Operand) -> Option<Tag>
+        ensures { result ≡ operand_tag self.now src }
+    {
+        match src {
+            Operand::Imm(_imm) => None,
+            Operand::Reg(r) => self.register_tag(r),
+        }
+    }
+
+    /// Makes this what is known of a register, and its counter.
+    pub(crate) fn put_register(&mut self, r: Reg, value: RegState, tag: Option<Tag>)
+        requires { IsRegister value }
+        ensures { self.new ≡ put_register r value tag self.old }
+    {
+        let place = r as usize;
+        self.registers[place] = value;
+        self.register_tags[place] = tag;
+    }
+
+    /// Another content and counter of the slot at a place among all.
+    pub(crate) fn put_slot(&mut self, index: usize, value: SlotState, tag: Option<Tag>)
+        requires place { index < 64 }
+        requires mask { IsSlot value }
+        ensures { self.new ≡ put_slot (suc index) value tag self.old }
+    {
+        self.slots[index] = value;
+        self.slot_tags[index] = tag;
     }
 }

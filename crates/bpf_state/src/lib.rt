@@ -1,8 +1,22 @@
-//! Abstract states: what is known of the registers and of the top frame's slots.
+//! Abstract states: what is known of the registers and of the top frame's slots, and what instructions make of it.
 #![tactic(auto)]
 
 mod abstract_state;
+mod access;
+mod branches;
+mod calls;
+mod entailment;
+pub mod fault;
+mod slots;
 pub mod state;
+#[cfg(test)]
+mod tests;
+mod tightening;
+mod transfers;
 
 pub use abstract_state::State;
+pub use branches::branch;
+pub use calls::{enter, leave};
+pub use fault::StateFault;
 pub use state::{Place, Pointer, RegState, SlotState, Tag};
+pub use transfers::transfer;

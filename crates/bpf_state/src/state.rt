@@ -51,3 +51,66 @@ pub struct Tag {
     pub term: u8,
     pub offset: i64,
 }
+
+impl RegState {
+    ghost use Rattle.std.specs.Prelude.{◌≡◌};
+    ghost use Rattle.bpf_state.specs.Fault.{is_any, is_number, is_pointer};
+
+    pub(crate) fn is_any(self) -> bool
+        ensures { result ≡ is_any self }
+    {
+        match self {
+            RegState::Any => true,
+            RegState::Num(_) | RegState::Ctx { .. } | RegState::Frame { .. } => false,
+        }
+    }
+
+    pub(crate) fn is_number(self) -> bool
+        ensures { result ≡ is_number self }
+    {
+        match self {
+            RegState::Num(_) => true,
+            RegState::Any | RegState::Ctx { .. } | RegState::Frame { .. } => false,
+        }
+    }
+
+    pub(crate) fn is_pointer(self) -> bool
+        ensures { result ≡ is_pointer self }
+    {
+        match self {
+            RegState::Ctx { .. } | RegState::Frame { .. } => true,
+            RegState::Any | RegState::Num(_) => false,
+        }
+    }
+}
+
+impl Pointer {
+    ghost use Rattle.std.specs.Prelude.{◌≡◌};
+    ghost use Rattle.bpf_state.specs.State.{pointer_register};
+
+    /// The pointer as a register holds it.
+    pub(crate) fn register(self) -> RegState
+        ensures { result ≡ pointer_register self }
+    {
+        match self {
+            Pointer::Ctx { lo, hi } => RegState::Ctx { lo, hi },
+            Pointer::Frame { lo, hi } => RegState::Frame { lo, hi },
+        }
+    }
+}
+
+impl SlotState {
+    ghost use Rattle.std.specs.Prelude.{◌≡◌};
+    ghost use Rattle.bpf_state.specs.State.{slot_value};
+
+    /// What the slot holds as a whole.
+    pub(crate) fn value(self) -> RegState
+        ensures { result ≡ slot_value self }
+    {
+        match self {
+            SlotState::Word(n) => RegState::Num(n),
+            SlotState::Ptr(p) => p.register(),
+            SlotState::Bytes(_) => RegState::Any,
+        }
+    }
+}

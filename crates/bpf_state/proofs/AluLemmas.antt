@@ -1,0 +1,160 @@
+-- What arithmetic instructions make of a state.
+use Rattle.std.proofs.Common.{◌≡◌, ℕ, ℤ, refl, ◌+ℤ◌, ◌-ℤ◌, sym, ◌∙◌, ap, ap₂, arith, to_z, of_z, true, false, Bool, Option, Some, None}
+use Rattle.std.specs.Prelude.{FitsSigned, ◌||◌, not, is_some, Ok, Err, option_map, option_and_then, if◌then◌else◌}
+use Rattle.std.specs.Int.{w64, w128}
+use Rattle.std.proofs.lemmas.Int.{ints, to_z-of_z}
+use Rattle.bpf_insn.specs.Stuck.{is_frame_pointer}
+use Rattle.bpf_insn.specs.declared.order.Order.TheVariants.{Little}
+use Rattle.bpf_insn.specs.declared.instruction.Reg.{Reg}
+use Rattle.bpf_insn.specs.declared.instruction.Operand.{Operand}
+use Rattle.bpf_insn.specs.declared.instruction.Width.{Width}
+use Rattle.bpf_insn.specs.declared.instruction.Width.TheVariants.{W32, W64}
+use Rattle.bpf_insn.specs.declared.instruction.AluOp.{AluOp}
+use Rattle.bpf_insn.specs.declared.instruction.AluOp.TheVariants.{Add, Sub, Mov}
+use Rattle.bpf_insn.specs.declared.instruction.Insn.TheVariants.{Alu}
+use Rattle.bpf_num.specs.Tristate.{bits_top}
+use Rattle.bpf_num.specs.Interval.{unsigned_top}
+use Rattle.bpf_num.specs.SignedInterval.{SignedInterval, signed_interval, signed_sub}
+use Rattle.bpf_num.specs.Number.{Number, number, tighten}
+use Rattle.bpf_num.specs.Operation.{num_alu}
+use Rattle.bpf_state.specs.declared.state.RegState.{RegState}
+use Rattle.bpf_state.specs.declared.state.RegState.TheVariants.{Any, Num, Ctx, Frame}
+use Rattle.bpf_state.specs.declared.fault.StateFault.TheVariants.{OutOfBounds}
+use Rattle.bpf_state.specs.declared.state.Tag.{Tag}
+use Rattle.bpf_state.specs.State.{AbstractState, register, put_register}
+use Rattle.bpf_state.specs.Fault.{operand, difference, some_passes, leaves_bounds, alu_of_kinds, reads_any}
+use Rattle.bpf_state.specs.Transfer.{Outcome, Faulty, live, unless, transfer, alu_tag}
+use Rattle.bpf_state.specs.Answer.{fault_number}
+use Rattle.bpf_state.specs.Results.{Known, judged_result, numbers_result, result_of, written}
+
+-- the code holds sums of 64-bit numbers in 128 bits
+abbrev pub held : ℤ → ℤ
+held z = to_z w128 (of_z w128 z)
+
+abbrev pub wide : ℤ → ℤ
+wide z = held (to_z w64 (of_z w64 z))
+
+wide_is : (z : ℤ) → FitsSigned w64 z → wide z ≡ z
+wide_is z f = ap held (to_z-of_z w64 z f) ∙ omega (arith, ints)
+
+held_sum : (x y : ℤ) → FitsSigned w64 x → FitsSigned w64 y → held (x +ℤ y) ≡ x +ℤ y
+held_sum x y f g = omega (arith, ints)
+
+held_rest : (x y : ℤ) → FitsSigned w64 x → FitsSigned w64 y → held (x -ℤ y) ≡ x -ℤ y
+held_rest x y f g = omega (arith, ints)
+
+pub sum_is : (x y : ℤ) → FitsSigned w64 x → FitsSigned w64 y → held (wide x +ℤ wide y) ≡ x +ℤ y
+sum_is x y f g = ap₂ (λ a b. held (a +ℤ b)) (wide_is x f) (wide_is y g) ∙ held_sum x y f g
+
+pub rest_is : (x y : ℤ) → FitsSigned w64 x → FitsSigned w64 y → held (wide x -ℤ wide y) ≡ x -ℤ y
+rest_is x y f g = ap₂ (λ a b. held (a -ℤ b)) (wide_is x f) (wide_is y g) ∙ held_rest x y f g
+
+-- ---- results
+
+pub judged_number : (op : AluOp) (o : Option Number) → ◌≡◌ {A = Known} (Ok (option_map Num o)) (judged_result op (Some (option_map Num o)))
+judged_number op None = refl
+judged_number Mov (Some n) = refl
+judged_number op (Some n) = refl
+
+pub difference_held : (a A b B : ℤ) → FitsSigned w64 a → FitsSigned w64 A → FitsSigned w64 b → FitsSigned w64 B → difference (to_z w64 (of_z w64 a)) (to_z w64 (of_z w64 A)) (to_z w64 (of_z w64 b)) (to_z w64 (of_z w64 B)) ≡ difference a A b B
+difference_held a A b B f g h k =
+    ap₂ (λ (r t : SignedInterval). option_map Num (tighten (number bits_top unsigned_top (signed_sub r t))))
+    (ap₂ signed_interval (to_z-of_z w64 a f) (to_z-of_z w64 A g))
+    (ap₂ signed_interval (to_z-of_z w64 b h) (to_z-of_z w64 B k))
+
+-- pointers of one kind
+pub context_rest : (x y : RegState) (d : Option RegState) (a A b B : ℤ) → x ≡ Ctx a A → y ≡ Ctx b B → d ≡ difference a A b B → ◌≡◌ {A = Known} (Ok d) (result_of W64 Sub x y)
+context_rest x y d a A b B e f g =
+    ap Ok g
+    ∙ judged_number Sub (tighten (number bits_top unsigned_top (signed_sub (signed_interval a A) (signed_interval b B))))
+    ∙ sym (ap₂ (λ v w. result_of W64 Sub v w) e f)
+
+pub frame_rest : (x y : RegState) (d : Option RegState) (a A b B : ℤ) → x ≡ Frame a A → y ≡ Frame b B → d ≡ difference a A b B → ◌≡◌ {A = Known} (Ok d) (result_of W64 Sub x y)
+frame_rest x y d a A b B e f g =
+    ap Ok g
+    ∙ judged_number Sub (tighten (number bits_top unsigned_top (signed_sub (signed_interval a A) (signed_interval b B))))
+    ∙ sym (ap₂ (λ v w. result_of W64 Sub v w) e f)
+
+-- an operation on numbers alone
+abbrev pub IsPlain : Width → AluOp → Type 0
+IsPlain W64 Add = ⊥
+IsPlain W64 Sub = ⊥
+IsPlain W64 Mov = ⊥
+IsPlain W32 Mov = ⊥
+IsPlain width op = Unit {0}
+
+pub plain_result : (width : Width) (op : AluOp) (a b : RegState) → IsPlain width op → numbers_result width op a b ≡ result_of width op a b
+plain_result W64 Add a b plain = absurd plain
+plain_result W64 Sub a b plain = absurd plain
+plain_result W64 Mov a b plain = absurd plain
+plain_result W32 Mov a b plain = absurd plain
+plain_result width op (Num m) (Num n) plain = judged_number op (num_alu width op m n)
+plain_result width op (Num m) Any plain = refl
+plain_result width op (Num m) (Ctx l h) plain = refl
+plain_result width op (Num m) (Frame l h) plain = refl
+plain_result width op Any Any plain = refl
+plain_result width op Any (Num n) plain = refl
+plain_result width op Any (Ctx l h) plain = refl
+plain_result width op Any (Frame l h) plain = refl
+plain_result width op (Ctx k i) Any plain = refl
+plain_result width op (Ctx k i) (Num n) plain = refl
+plain_result width op (Ctx k i) (Ctx l h) plain = refl
+plain_result width op (Ctx k i) (Frame l h) plain = refl
+plain_result width op (Frame k i) Any plain = refl
+plain_result width op (Frame k i) (Num n) plain = refl
+plain_result width op (Frame k i) (Ctx l h) plain = refl
+plain_result width op (Frame k i) (Frame l h) plain = refl
+
+pub others_plain : (op : AluOp) (width : Width) → (op ≡ Mov → ⊥) → (op ≡ Add → ⊥) → (op ≡ Sub → ⊥) → IsPlain width op
+others_plain Mov width f g h = absurd (f refl)
+others_plain Add width f g h = absurd (g refl)
+others_plain Sub width f g h = absurd (h refl)
+others_plain op W32 f g h = tt
+others_plain op W64 f g h = tt
+
+-- ---- outcomes
+
+abbrev is_far : AluOp → Option (Option RegState) → Bool
+is_far Mov kinds = false
+is_far op kinds = some_passes leaves_bounds (option_and_then (λ r. r) kinds)
+
+abbrev told : AluOp → Bool → Option (Option RegState) → Reg → Option Tag → AbstractState → Outcome
+told op unset kinds dst tag s =
+    unless
+    (if unset then Some 3
+    else if not (is_some kinds) || false then Some 4
+    else if is_far op kinds || false then Some 5
+    else if false then Some 6
+    else if is_frame_pointer dst || false then Some 7
+    else None)
+    (live (option_map (λ v. put_register dst v tag s) (option_and_then (λ r. r) kinds)))
+
+alu_told : (op : AluOp) (width : Width) (dst : Reg) (src : Operand) (len : ℕ) (s : AbstractState) → transfer Little (Alu op width dst src) len s ≡ told op (reads_any s (Alu op width dst src)) (alu_of_kinds width op (register s dst) (operand s src)) dst (alu_tag s width op dst src) s
+alu_told Mov width dst src len s = refl
+alu_told op width dst src len s = refl
+
+abbrev pub judged : Known → Reg → Option Tag → AbstractState → Outcome
+judged (Err fault) dst tag s = Faulty (fault_number fault)
+judged (Ok known) dst tag s = written dst known tag s
+
+protected_told : (ten : Bool) (o : Outcome) → unless (if ten || false then Some 7 else None) o ≡ (if ten then Faulty 7 else o)
+protected_told true o = refl
+protected_told false o = refl
+
+near_told : (far : Bool) (v : RegState) (dst : Reg) (tag : Option Tag) (s : AbstractState) → unless (if far || false then Some 5 else if is_frame_pointer dst || false then Some 7 else None) (live (Some (put_register dst v tag s))) ≡ judged (if far then Err OutOfBounds else Ok (Some v)) dst tag s
+near_told true v dst tag s = refl
+near_told false v dst tag s = protected_told (is_frame_pointer dst) (live (Some (put_register dst v tag s)))
+
+judged_is : (op : AluOp) (kinds : Option (Option RegState)) (dst : Reg) (tag : Option Tag) (s : AbstractState) → told op false kinds dst tag s ≡ judged (judged_result op kinds) dst tag s
+judged_is op None dst tag s = refl
+judged_is Mov (Some None) dst tag s = protected_told (is_frame_pointer dst) (live None)
+judged_is op (Some None) dst tag s = protected_told (is_frame_pointer dst) (live None)
+judged_is Mov (Some (Some v)) dst tag s = protected_told (is_frame_pointer dst) (live (Some (put_register dst v tag s)))
+judged_is op (Some (Some v)) dst tag s = near_told (leaves_bounds v) v dst tag s
+
+pub alu_known : (op : AluOp) (width : Width) (dst : Reg) (src : Operand) (len : ℕ) (s : AbstractState) (k : Known) → reads_any s (Alu op width dst src) ≡ false → k ≡ result_of width op (register s dst) (operand s src) → judged k dst (alu_tag s width op dst src) s ≡ transfer Little (Alu op width dst src) len s
+alu_known op width dst src len s k e f =
+    let kinds = alu_of_kinds width op (register s dst) (operand s src) in
+    let tag = alu_tag s width op dst src in
+    ap (λ x. judged x dst tag s) f
+    ∙ sym (alu_told op width dst src len s ∙ ap (λ unset. told op unset kinds dst tag s) e ∙ judged_is op kinds dst tag s)

@@ -1,0 +1,47 @@
+-- What arithmetic makes of what is known of two values, or why it is refused.
+use Rattle.std.specs.Prelude.{Option, Some, None, Result, Ok, Err, IfOk, IfSome, option_map, if◌then◌else◌}
+use Rattle.bpf_insn.specs.Stuck.{is_frame_pointer}
+use Rattle.bpf_insn.specs.declared.instruction.Reg.{Reg}
+use Rattle.bpf_insn.specs.declared.instruction.Width.{Width}
+use Rattle.bpf_insn.specs.declared.instruction.AluOp.{AluOp}
+use Rattle.bpf_insn.specs.declared.instruction.AluOp.TheVariants.{Mov}
+use Rattle.bpf_num.specs.Operation.{num_alu}
+use Rattle.bpf_state.specs.declared.fault.StateFault.{StateFault}
+use Rattle.bpf_state.specs.declared.fault.StateFault.TheVariants.{WrongKinds, OutOfBounds}
+use Rattle.bpf_state.specs.declared.state.RegState.{RegState}
+use Rattle.bpf_state.specs.declared.state.RegState.TheVariants.{Num}
+use Rattle.bpf_state.specs.declared.state.Tag.{Tag}
+use Rattle.bpf_state.specs.State.{AbstractState, IsRegister, put_register}
+use Rattle.bpf_state.specs.Fault.{alu_of_kinds, leaves_bounds}
+use Rattle.bpf_state.specs.Transfer.{Outcome, Faulty, live}
+
+-- what is known of the result, None if it has no member, or a fault
+abbrev pub Known : Type 0
+Known = Result (Option RegState) StateFault
+
+-- the bounds of a pointer are in order
+abbrev pub IsKnown : Known → Type 0
+IsKnown known = IfOk known (λ result. IfSome result IsRegister)
+
+-- a pointer that isn't too far off
+abbrev pub near : RegState → Known
+near value = if leaves_bounds value then Err OutOfBounds else Ok (Some value)
+
+-- a move takes any pointer
+abbrev pub judged_result : AluOp → Option (Option RegState) → Known
+judged_result op None = Err WrongKinds
+judged_result op (Some None) = Ok None
+judged_result Mov (Some (Some value)) = Ok (Some value)
+judged_result op (Some (Some value)) = near value
+
+abbrev pub result_of : Width → AluOp → RegState → RegState → Known
+result_of width op a b = judged_result op (alu_of_kinds width op a b)
+
+-- of numbers alone
+abbrev pub numbers_result : Width → AluOp → RegState → RegState → Known
+numbers_result width op (Num m) (Num n) = Ok (option_map Num (num_alu width op m n))
+numbers_result width op _ _ = Err WrongKinds
+
+-- a result and its tag put into a register, which isn't r10
+abbrev pub written : Reg → Option RegState → Option Tag → AbstractState → Outcome
+written r known tag s = if is_frame_pointer r then Faulty 7 else live (option_map (λ value. put_register r value tag s) known)

@@ -1,0 +1,178 @@
+//! Which bytes an access may touch.
+
+use crate::state::RegState;
+use bpf_insn::Size;
+use std::marker::Model;
+
+/// The bytes of an access: where its first byte may lie at the lowest and at the highest, and their number.
+#[derive(Clone, Copy)]
+pub(crate) struct Reach {
+    in_frame: bool,
+    lowest: i128,
+    highest: i128,
+    count: u8,
+}
+
+impl Model for Reach {
+    ghost use Rattle.bpf_state.specs.Access.{Span};
+    ghost use Rattle.bpf_state.specs.Parts.{IsSpan};
+
+    ghost Value = { Span };
+
+    ghost view = { λ r. record { in_frame = r.in_frame; lowest = r.lowest; highest = r.highest; count = r.count } };
+
+    ghost invariant = { λ r. IsSpan (record { in_frame = r.in_frame; lowest = r.lowest; highest = r.highest; count = r.count }) };
+
+    ghost inverse = { λ r. record { in_frame = r.in_frame; lowest = r.lowest; highest = r.highest; count = r.count } };
+}
+
+ghost use Rattle.std.specs.Prelude.{◌≡◌, ◌<◌, ◌^◌, ◌≤ℤ◌, ◌+ℤ◌, ◌-ℤ◌, pos, neg_ℤ, suc, IsTrue, true, Some};
+ghost use Rattle.bpf_state.specs.Fault.{is_pointer};
+ghost use Rattle.bpf_insn.specs.Instruction.{byte_count};
+ghost use Rattle.bpf_state.specs.Access.{span_at, span_end, is_known, is_slot, is_inside, slot_number, first_byte, place_in, touched_bytes};
+ghost use Rattle.bpf_state.specs.State.{IsRegister};
+ghost use Rattle.bpf_state.specs.Parts.{IsSpan, AreTouched, depth_of};
+
+/// The number of bytes of an access.
+pub(crate) fn count_of(size: Size) -> u8
+    ensures { result ≡ byte_count size }
+{
+    match size {
+        Size::B => 1,
+        Size::H => 2,
+        Size::W => 4,
+        Size::DW => 8,
+    }
+}
+
+impl Reach {
+    /// The reach of an access at an offset from a pointer.
+    pub(crate) fn of(base: RegState, off: i16, size: Size) -> Self
+        requires ordered { IsRegister base }
+        requires pointer { is_pointer base ≡ true }
+        ensures { Some result ≡ span_at off size base }
+    {
+        match base {
+            RegState::Ctx { lo, hi } => Reach::at(false, lo, hi, off, size),
+            RegState::Frame { lo, hi } => Reach::at(true, lo, hi, off, size),
+            // Neither is a pointer.
+            RegState::Any | RegState::Num(_) => Reach::at(false, 0, 0, off, size),
+        }
+    }
+
+    fn at(in_frame: bool, lo: i64, hi: i64, off: i16, size: Size) -> Self
+        requires { lo ≤ℤ hi }
+        ensures { result ≡ record { in_frame = in_frame; lowest = lo +ℤ off; highest = hi +ℤ off; count = byte_count size } }
+    {
+        let off = off as i128;
+        Reach {
+            in_frame,
+            lowest: lo as i128 + off,
+            highest: hi as i128 + off,
+            count: count_of(size),
+        }
+    }
+
+    pub(crate) fn valid(self)
+        ensures { IsSpan self }
+    {
+        let _count = self.count;
+    }
+
+    pub(crate) fn in_frame(self) -> bool
+        ensures { result ≡ self.in_frame }
+    {
+        self.in_frame
+    }
+
+    /// The end of the bytes that may be touched.
+    fn end(self) -> i128
+        ensures { result ≡ span_end self }
+    {
+        self.highest + self.count as i128
+    }
+
+    pub(crate) fn is_known(self) -> bool
+        ensures { result ≡ is_known self }
+    {
+        self.lowest == self.highest
+    }
+
+    /// Whether it is eight bytes at one known multiple of 8.
+    pub(crate) fn is_slot(self) -> bool
+        ensures { result ≡ is_slot self }
+    {
+        self.is_known() && self.count == 8 && self.lowest.unsigned_abs() % 8 == 0
+    }
+
+    /// Whether all bytes that may be touched lie in the context of a length, or in the frame.
+    pub(crate) fn is_inside(self, len: u32) -> bool
+        ensures { result ≡ is_inside len self }
+    {
+        if self.in_frame {
+            -512 <= self.lowest && self.end() <= 0
+        } else {
+            0 <= self.lowest && self.end() <= len as i128
+        }
+    }
+
+    /// The places of the slots that may be touched among all 64: the first, and the end of these places.
+    pub(crate) fn slots(self) -> (usize, usize)
+        ensures { AreTouched self result.0 result.1 }
+    {
+        if !self.in_frame {
+            return (0, 0);
+        }
+        (depth_of(self.end()) / 8, (depth_of(self.lowest) + 7) / 8)
+    }
+
+    /// The place among all slots of the one that it is.
+    pub(crate) fn place(self) -> usize
+        requires framed { IsTrue self.in_frame }
+        requires slot { IsTrue (is_slot self) }
+        requires inside { IsTrue (is_inside 0 self) }
+        ensures value { suc result ≡ slot_number self }
+        ensures within { result < 64 }
+    {
+        depth_of(self.lowest) / 8 - 1
+    }
+
+    /// The mask of the bytes that may be touched of the slot at a place.
+    pub(crate) fn mask(self, index: usize) -> u8
+        requires { index < 64 }
+        ensures { result ≡ touched_bytes self (suc index) }
+    {
+        let from = place_in(index, self.lowest);
+        let to = place_in(index, self.end());
+        ((1u16 << to) - (1u16 << from)) as u8
+    }
+}
+
+/// How far an offset lies below the frame's end: at most all of the frame.
+fn depth_of(offset: i128) -> usize
+    requires above { neg_ℤ (pos (2 ^ 65)) ≤ℤ offset }
+    requires below { offset ≤ℤ pos (2 ^ 65) }
+    ensures { result ≡ depth_of offset }
+{
+    (-offset).clamp(0, 512) as usize
+}
+
+/// The distance of an offset from the first byte of the slot at a place.
+fn above_slot(index: usize, offset: i128) -> i128
+    requires slot { index < 64 }
+    requires above { neg_ℤ (pos (2 ^ 65)) ≤ℤ offset }
+    requires below { offset ≤ℤ pos (2 ^ 65) }
+    ensures { result ≡ offset -ℤ first_byte (suc index) }
+{
+    offset + 8 * (index as i128 + 1)
+}
+
+/// How far an offset lies above the first byte of the slot at a place: at least 0, at most 8.
+fn place_in(index: usize, offset: i128) -> u32
+    requires slot { index < 64 }
+    requires above { neg_ℤ (pos (2 ^ 65)) ≤ℤ offset }
+    requires below { offset ≤ℤ pos (2 ^ 65) }
+    ensures { result ≡ place_in (suc index) offset }
+{
+    above_slot(index, offset).clamp(0, 8) as u32
+}

@@ -1,0 +1,143 @@
+//! What accesses read of the slots, and what they leave there.
+
+ghost use Rattle.std.specs.Prelude.{◌≡◌, ◌≤◌, ◌&&◌, not, length, All, IsTrue, true, false, None, if◌then◌else◌};
+ghost use Rattle.bpf_state.specs.State.{IsSlot};
+ghost use Rattle.bpf_state.specs.Access.{is_known, is_slot, touches, touched_bytes, is_pointer_slot, are_known_bytes, any_slot};
+ghost use Rattle.bpf_state.specs.Transfer.{slot_written, slot_maybe_written, each_slot, each_slot_tag, with_touched};
+
+use crate::abstract_state::State;
+use crate::access::Reach;
+use crate::state::{SlotState, Tag};
+use bpf_num::Num;
+
+/// What the slot holds after some of its bytes, not all, are written as bytes of a number.
+fn written(held: SlotState, bytes: u8) -> SlotState
+    requires held { IsSlot held }
+    requires partial { bytes ≤ 254 }
+    ensures value { result ≡ slot_written bytes held }
+    ensures mask { IsSlot result }
+{
+    match held {
+        SlotState::Ptr(_) => SlotState::Bytes(bytes),
+        SlotState::Word(_) => SlotState::Word(Num::top()),
+        SlotState::Bytes(mask) => {
+            if mask | bytes == 255 {
+                SlotState::Word(Num::top())
+            } else {
+                SlotState::Bytes(mask | bytes)
+            }
+        }
+    }
+}
+
+/// What the slot holds after some of its bytes may be written.
+fn maybe_written(held: SlotState) -> SlotState
+    requires { IsSlot held }
+    ensures value { result ≡ slot_maybe_written held }
+    ensures mask { IsSlot result }
+{
+    match held {
+        SlotState::Ptr(_) => SlotState::Bytes(0),
+        SlotState::Word(_) => SlotState::Word(Num::top()),
+        SlotState::Bytes(mask) => SlotState::Bytes(mask),
+    }
+}
+
+fn is_pointer_slot(held: SlotState) -> bool
+    ensures { result ≡ is_pointer_slot held }
+{
+    match held {
+        SlotState::Ptr(_) => true,
+        SlotState::Bytes(_) | SlotState::Word(_) => false,
+    }
+}
+
+fn are_known_bytes(bytes: u8, held: SlotState) -> bool
+    ensures { result ≡ are_known_bytes bytes held }
+{
+    match held {
+        SlotState::Bytes(mask) => bytes & mask == bytes,
+        SlotState::Word(_) | SlotState::Ptr(_) => true,
+    }
+}
+
+/// Whether a slot that may be touched holds a pointer.
+pub(crate) fn any_pointer(slots: &[SlotState; 64], reach: Reach) -> bool
+    ensures { result ≡ any_slot (λ k held. touches reach k && is_pointer_slot held) 1 slots.now }
+{
+    let (first, end) = reach.slots();
+    for i in first..end {
+        if is_pointer_slot(slots[i]) {
+            return true;
+        }
+    }
+    false
+}
+
+/// Whether a byte that may be touched isn't known as initialised.
+pub(crate) fn any_unknown(slots: &[SlotState; 64], reach: Reach) -> bool
+    ensures { result ≡ any_slot (λ k held. touches reach k && not (are_known_bytes (touched_bytes reach k) held)) 1 slots.now }
+{
+    let (first, end) = reach.slots();
+    for i in first..end {
+        if !are_known_bytes(reach.mask(i), slots[i]) {
+            return true;
+        }
+    }
+    false
+}
+
+fn write_slots(slots: &mut [SlotState; 64], reach: Reach)
+    requires known { is_known reach ≡ true }
+    requires partial { is_slot reach ≡ false }
+    requires masks { All IsSlot slots.old }
+    ensures value { slots.new ≡ each_slot (λ k held. if touches reach k then slot_written (touched_bytes reach k) held else held) 1 slots.old }
+    ensures masks { All IsSlot slots.new }
+    ensures long { length slots.new ≡ 64 }
+{
+    reach.valid();
+    let (first, end) = reach.slots();
+    for i in first..end {
+        slots[i] = written(slots[i], reach.mask(i));
+    }
+}
+
+fn maybe_write_slots(slots: &mut [SlotState; 64], reach: Reach)
+    requires { All IsSlot slots.old }
+    ensures value { slots.new ≡ each_slot (λ k held. if touches reach k then slot_maybe_written held else held) 1 slots.old }
+    ensures masks { All IsSlot slots.new }
+    ensures long { length slots.new ≡ 64 }
+{
+    let (first, end) = reach.slots();
+    for i in first..end {
+        slots[i] = maybe_written(slots[i]);
+    }
+}
+
+fn forget_counters(tags: &mut [Option<Tag>; 64], reach: Reach)
+    ensures value { tags.new ≡ each_slot_tag (λ k tag. if touches reach k then None else tag) 1 tags.old }
+    ensures long { length tags.new ≡ 64 }
+{
+    let (first, end) = reach.slots();
+    for i in first..end {
+        tags[i] = None;
+    }
+}
+
+/// Writes bytes of a number at one known offset; it isn't a whole slot.
+pub(crate) fn write(state: &mut State, reach: Reach)
+    requires known { is_known reach ≡ true }
+    requires partial { is_slot reach ≡ false }
+    ensures { state.new ≡ with_touched reach (λ k held. slot_written (touched_bytes reach k) held) state.old }
+{
+    write_slots(&mut state.slots, reach);
+    forget_counters(&mut state.slot_tags, reach);
+}
+
+/// Writes bytes of a number at one of several offsets.
+pub(crate) fn maybe_write(state: &mut State, reach: Reach)
+    ensures { state.new ≡ with_touched reach (λ k held. slot_maybe_written held) state.old }
+{
+    maybe_write_slots(&mut state.slots, reach);
+    forget_counters(&mut state.slot_tags, reach);
+}

@@ -1,0 +1,494 @@
+//! Worked states. The expected values are those of the rules for each instruction, by hand.
+
+ghost use Rattle.bpf_state.specs.State.{IsPlace, IsRegister};
+
+use crate::{Place, Pointer, RegState, SlotState, State, Tag, branch, enter, leave, transfer};
+use bpf_insn::AluOp::*;
+use bpf_insn::Reg::*;
+use bpf_insn::Size::*;
+use bpf_insn::Width::*;
+use bpf_insn::{
+    AluOp, AtomicOp, Cond, EndBits, EndKind, Insn, Modify, Operand, Reg, SignBits, Size,
+};
+use bpf_num::{KnownBits, Num, Signed, Unsigned, WordDomain};
+use std::process::Abort;
+use std::rt::HostRuntime;
+
+// ---- what is told of a value
+
+const NOTHING: (u64, u64) = (1, 0);
+
+// The bounds of a number; 1 to 0 of what is none.
+fn number_of(held: RegState) -> (u64, u64) {
+    match held {
+        RegState::Num(n) => (n.unsigned().lo(), n.unsigned().hi()),
+        RegState::Any | RegState::Ctx { .. } | RegState::Frame { .. } => NOTHING,
+    }
+}
+
+fn context_of(held: RegState) -> Option<(i64, i64)> {
+    match held {
+        RegState::Ctx { lo, hi } => Some((lo, hi)),
+        RegState::Any | RegState::Num(_) | RegState::Frame { .. } => None,
+    }
+}
+
+// The mask of a slot's known bytes: 255 of a word, 256 of a pointer.
+fn mask_of(held: SlotState) -> u16 {
+    match held {
+        SlotState::Bytes(mask) => mask as u16,
+        SlotState::Word(_) => 255,
+        SlotState::Ptr(_) => 256,
+    }
+}
+
+fn between(rt: &impl Abort, lo: u64, hi: u64) -> RegState
+    ensures { IsRegister result }
+{
+    assert!(rt; lo <= hi);
+    let bounds = Num::of(KnownBits::top(), Unsigned::new(lo, hi), Signed::top());
+    RegState::Num(bounds.tighten().expect(rt, "it has a member"))
+}
+
+// ---- instructions
+
+fn alu(op: AluOp, dst: Reg, src: Operand) -> Insn {
+    Insn::Alu {
+        op,
+        width: W64,
+        dst,
+        src,
+    }
+}
+
+fn add(dst: Reg, imm: i32) -> Insn {
+    alu(Add, dst, Operand::Imm(imm))
+}
+
+fn mov(dst: Reg, src: Reg) -> Insn {
+    alu(Mov, dst, Operand::Reg(src))
+}
+
+fn load(size: Size, dst: Reg, src: Reg, off: i16) -> Insn {
+    Insn::Load {
+        size,
+        dst,
+        src,
+        off,
+    }
+}
+
+fn store(size: Size, dst: Reg, off: i16, src: Reg) -> Insn {
+    Insn::Store {
+        size,
+        dst,
+        off,
+        src,
+    }
+}
+
+fn store_imm(size: Size, dst: Reg, off: i16) -> Insn {
+    Insn::StoreImm {
+        size,
+        dst,
+        off,
+        imm: 1,
+    }
+}
+
+fn atomic(wide: bool, op: AtomicOp, off: i16, src: Reg) -> Insn {
+    Insn::Atomic {
+        wide,
+        op,
+        dst: R10,
+        off,
+        src,
+    }
+}
+
+const FETCHED: AtomicOp = AtomicOp::Modify {
+    by: Modify::Add,
+    fetch: true,
+};
+
+const ADDED: AtomicOp = AtomicOp::Modify {
+    by: Modify::Add,
+    fetch: false,
+};
+
+fn test(cond: Cond, dst: Reg, src: Reg) -> Insn {
+    Insn::JumpIf {
+        cond,
+        width: W64,
+        dst,
+        src: Operand::Reg(src),
+        off: 1,
+    }
+}
+
+// ---- steps
+
+// What an instruction answers in a context of 8 bytes: 1 if it is done, 0 if the edge is dead, else the fault's number.
+fn answer(state: &mut State, insn: Insn) -> u8 {
+    match transfer(&insn, 8, state) {
+        Ok(true) => 1,
+        Ok(false) => 0,
+        Err(fault) => fault.number(),
+    }
+}
+
+fn done(rt: &impl Abort, state: &mut State, insn: Insn) {
+    assert_eq!(rt; answer(state, insn), 1);
+}
+
+// r1 points to the context, and r6 is a number from lo to 10 with counter 0.
+fn counting(rt: &impl Abort, lo: u64) -> State {
+    let mut state = State::start(8);
+    state.set_reg(R6, between(rt, lo, 10));
+    state.set_tag(Place::Register(R6), Some(Tag { term: 0, offset: 0 }));
+    state
+}
+
+fn tag_offset(state: &State, place: Place) -> Option<i64>
+    requires { IsPlace place }
+{
+    match state.tag(place) {
+        Some(tag) => Some(tag.offset),
+        None => None,
+    }
+}
+
+#[test]
+fn the_start(rt: HostRuntime) {
+    let state = State::start(8);
+    assert!(rt; context_of(state.reg(R1)) == Some((0, 0)));
+    assert!(rt; number_of(state.reg(R2)) == (8, 8));
+    assert!(rt; number_of(state.reg(R0)) == NOTHING);
+    assert_eq!(rt; mask_of(state.slot(64)), 0);
+}
+
+#[test]
+fn counters_go_along(rt: HostRuntime) {
+    let mut state = counting(&rt, 1);
+    done(&rt, &mut state, add(R6, -1));
+    assert!(rt; tag_offset(&state, Place::Register(R6)) == Some(-1));
+    done(&rt, &mut state, mov(R7, R6));
+    assert!(rt; tag_offset(&state, Place::Register(R7)) == Some(-1));
+    done(&rt, &mut state, store(DW, R10, -16, R7));
+    assert!(rt; tag_offset(&state, Place::Slot(2)) == Some(-1));
+    done(&rt, &mut state, load(DW, R8, R10, -16));
+    assert!(rt; tag_offset(&state, Place::Register(R8)) == Some(-1));
+    assert!(rt; number_of(state.reg(R8)) == (0, 9));
+    done(&rt, &mut state, load(W, R8, R10, -16));
+    assert!(rt; tag_offset(&state, Place::Register(R8)) == None);
+    done(&rt, &mut state, store_imm(B, R10, -9));
+    assert!(rt; tag_offset(&state, Place::Slot(2)) == None);
+    state.clear_tags();
+    assert!(rt; tag_offset(&state, Place::Register(R6)) == None);
+}
+
+#[test]
+fn counters_that_may_wrap_or_go_far_are_lost(rt: HostRuntime) {
+    let mut state = counting(&rt, 0);
+    done(&rt, &mut state, add(R6, -1));
+    assert!(rt; tag_offset(&state, Place::Register(R6)) == None);
+    let mut state = counting(&rt, 1);
+    done(
+        &rt,
+        &mut state,
+        Insn::LoadImm64 {
+            dst: R3,
+            value: 1 << 40,
+        },
+    );
+    let far = alu(Add, R6, Operand::Reg(R3));
+    done(&rt, &mut state, far);
+    assert!(rt; tag_offset(&state, Place::Register(R6)) == Some(1 << 40));
+    done(&rt, &mut state, add(R6, 1));
+    assert!(rt; tag_offset(&state, Place::Register(R6)) == None);
+}
+
+#[test]
+fn pointers_are_spilled_whole(rt: HostRuntime) {
+    let mut state = State::start(8);
+    done(&rt, &mut state, store(DW, R10, -8, R1));
+    assert_eq!(rt; mask_of(state.slot(1)), 256);
+    done(&rt, &mut state, load(DW, R3, R10, -8));
+    assert!(rt; context_of(state.reg(R3)) == Some((0, 0)));
+    assert_eq!(rt; answer(&mut state, load(W, R0, R10, -8)), 4);
+    assert_eq!(rt; answer(&mut state, store(W, R10, -8, R1)), 4);
+    assert_eq!(rt; answer(&mut state, store(DW, R10, -12, R1)), 4);
+    done(&rt, &mut state, store_imm(B, R10, -8));
+    assert_eq!(rt; mask_of(state.slot(1)), 1);
+    assert_eq!(rt; answer(&mut state, load(DW, R3, R10, -8)), 6);
+    done(&rt, &mut state, load(B, R3, R10, -8));
+    assert!(rt; number_of(state.reg(R3)) == (0, 255));
+}
+
+#[test]
+fn bytes_gather_over_two_slots(rt: HostRuntime) {
+    let mut state = State::start(8);
+    done(&rt, &mut state, store_imm(DW, R10, -12));
+    assert_eq!(rt; mask_of(state.slot(1)), 0x0f);
+    assert_eq!(rt; mask_of(state.slot(2)), 0xf0);
+    done(&rt, &mut state, load(DW, R3, R10, -12));
+    assert_eq!(rt; answer(&mut state, load(H, R3, R10, -5)), 6);
+    done(&rt, &mut state, store_imm(W, R10, -4));
+    assert!(rt; number_of(state.slot(1).value()) == (0, u64::MAX));
+    assert_eq!(rt; answer(&mut state, store_imm(B, R10, -513)), 5);
+    assert_eq!(rt; answer(&mut state, store_imm(B, R10, 0)), 5);
+    done(&rt, &mut state, store_imm(B, R10, -512));
+    assert_eq!(rt; mask_of(state.slot(64)), 1);
+}
+
+// The pointer r3 to the frame's offset -16 or -8 or any between, slot 1 a number, slot 2 a pointer, slot 3 its upper four bytes.
+fn at_several_offsets(rt: &impl Abort) -> State {
+    let mut state = State::start(8);
+    state.set_reg(R3, RegState::Frame { lo: -16, hi: -8 });
+    state.set_slot(1, SlotState::Word(Num::constant(7)));
+    state.set_slot(2, SlotState::Ptr(Pointer::Ctx { lo: 0, hi: 0 }));
+    state.set_slot(3, SlotState::Bytes(240));
+    state.set_tag(Place::Slot(1), Some(Tag { term: 1, offset: 5 }));
+    assert_eq!(rt; mask_of(state.slot(2)), 256);
+    state
+}
+
+#[test]
+fn stores_at_several_offsets(rt: HostRuntime) {
+    let mut state = at_several_offsets(&rt);
+    done(&rt, &mut state, store_imm(B, R3, 0));
+    assert!(rt; number_of(state.slot(1).value()) == (0, u64::MAX));
+    assert_eq!(rt; mask_of(state.slot(2)), 0);
+    assert_eq!(rt; mask_of(state.slot(3)), 240);
+    assert!(rt; tag_offset(&state, Place::Slot(1)) == None);
+    let mut state = at_several_offsets(&rt);
+    done(&rt, &mut state, store_imm(DW, R3, -8));
+    assert!(rt; number_of(state.slot(1).value()) == (7, 7));
+    assert_eq!(rt; mask_of(state.slot(2)), 0);
+    assert!(rt; tag_offset(&state, Place::Slot(1)) == Some(5));
+}
+
+#[test]
+fn loads_at_several_offsets(rt: HostRuntime) {
+    let mut state = at_several_offsets(&rt);
+    assert_eq!(rt; answer(&mut state, load(B, R0, R3, 0)), 4);
+    assert_eq!(rt; answer(&mut state, load(B, R0, R3, 1000)), 5);
+    done(&rt, &mut state, store(DW, R10, -16, R2));
+    done(&rt, &mut state, load(DW, R0, R3, 0));
+    assert!(rt; number_of(state.reg(R0)) == (0, u64::MAX));
+    assert_eq!(rt; answer(&mut state, load(DW, R0, R3, -8)), 6);
+    done(&rt, &mut state, load(W, R0, R3, -4));
+    assert!(rt; number_of(state.reg(R0)) == (0, 0xffff_ffff));
+}
+
+#[test]
+fn the_context_is_read_only(rt: HostRuntime) {
+    let mut state = State::start(8);
+    done(&rt, &mut state, load(W, R0, R1, 4));
+    assert_eq!(rt; answer(&mut state, load(W, R0, R1, 5)), 5);
+    assert_eq!(rt; answer(&mut state, load(W, R0, R1, -1)), 5);
+    assert_eq!(rt; answer(&mut state, store_imm(B, R1, 0)), 7);
+    assert_eq!(rt; answer(&mut state, load(W, R10, R1, 0)), 7);
+    assert_eq!(rt; answer(&mut state, add(R10, 8)), 7);
+    assert_eq!(rt; answer(&mut state, add(R5, 8)), 3);
+    assert_eq!(rt; answer(&mut state, load(B, R0, R2, 0)), 4);
+}
+
+#[test]
+fn atomics_change_words(rt: HostRuntime) {
+    let mut state = counting(&rt, 1);
+    done(&rt, &mut state, store(DW, R10, -8, R6));
+    done(&rt, &mut state, atomic(true, ADDED, -8, R6));
+    assert!(rt; number_of(state.slot(1).value()) == (0, u64::MAX));
+    assert!(rt; tag_offset(&state, Place::Slot(1)) == None);
+    assert!(rt; tag_offset(&state, Place::Register(R6)) == Some(0));
+    done(&rt, &mut state, atomic(false, FETCHED, -4, R6));
+    assert!(rt; number_of(state.reg(R6)) == (0, 0xffff_ffff));
+    assert!(rt; tag_offset(&state, Place::Register(R6)) == None);
+    done(&rt, &mut state, store(DW, R10, -16, R2));
+    done(&rt, &mut state, atomic(true, AtomicOp::Xchg, -16, R6));
+    assert!(rt; number_of(state.reg(R6)) == (8, 8));
+    assert_eq!(rt;
+        answer(&mut state, atomic(true, AtomicOp::CmpXchg, -16, R6)),
+        3
+    );
+    state.set_reg(R0, between(&rt, 0, 3));
+    done(&rt, &mut state, atomic(true, AtomicOp::CmpXchg, -16, R6));
+    assert!(rt; number_of(state.reg(R0)) == (0, u64::MAX));
+    assert_eq!(rt; answer(&mut state, atomic(true, ADDED, -24, R6)), 6);
+    assert_eq!(rt; answer(&mut state, atomic(true, ADDED, -8, R1)), 4);
+}
+
+#[test]
+fn pointers_stay_near(rt: HostRuntime) {
+    let mut state = State::start(8);
+    done(
+        &rt,
+        &mut state,
+        Insn::LoadImm64 {
+            dst: R3,
+            value: 0x8000_0000,
+        },
+    );
+    done(&rt, &mut state, alu(Add, R1, Operand::Reg(R3)));
+    assert!(rt; context_of(state.reg(R1)) == Some((0x8000_0000, 0x8000_0000)));
+    assert_eq!(rt; answer(&mut state, add(R1, 1)), 5);
+    assert_eq!(rt; answer(&mut state, alu(Mul, R1, Operand::Imm(2))), 4);
+    done(&rt, &mut state, mov(R4, R1));
+    done(&rt, &mut state, add(R4, -8));
+    done(&rt, &mut state, alu(Sub, R1, Operand::Reg(R4)));
+    assert!(rt; number_of(state.reg(R1)) == (8, 8));
+}
+
+#[test]
+fn single_numbers(rt: HostRuntime) {
+    let mut state = counting(&rt, 1);
+    let loaded = Insn::LoadSx {
+        size: H,
+        dst: R3,
+        src: R1,
+        off: 6,
+    };
+    done(&rt, &mut state, loaded);
+    match state.reg(R3) {
+        RegState::Num(n) => {
+            assert_eq!(rt; n.signed().lo(), -32768);
+            assert_eq!(rt; n.signed().hi(), 32767);
+        }
+        RegState::Any | RegState::Ctx { .. } | RegState::Frame { .. } => assert!(rt; false),
+    }
+    done(
+        &rt,
+        &mut state,
+        Insn::Neg {
+            width: W64,
+            dst: R6,
+        },
+    );
+    assert!(rt; number_of(state.reg(R6)) == (u64::MAX - 9, u64::MAX));
+    assert!(rt; tag_offset(&state, Place::Register(R6)) == None);
+    done(
+        &rt,
+        &mut state,
+        Insn::LoadImm64 {
+            dst: R7,
+            value: 0x80,
+        },
+    );
+    done(
+        &rt,
+        &mut state,
+        Insn::MovSx {
+            width: W32,
+            bits: SignBits::B8,
+            dst: R8,
+            src: R7,
+        },
+    );
+    assert!(rt; number_of(state.reg(R8)) == (0xffff_ff80, 0xffff_ff80));
+    done(
+        &rt,
+        &mut state,
+        Insn::End {
+            kind: EndKind::Be,
+            bits: EndBits::B16,
+            dst: R7,
+        },
+    );
+    assert!(rt; number_of(state.reg(R7)) == (0x8000, 0x8000));
+}
+
+#[test]
+fn tests_of_pointers(rt: HostRuntime) {
+    let mut state = State::start(8);
+    done(&rt, &mut state, mov(R3, R1));
+    assert_eq!(rt; answer(&mut state, test(Cond::Ne, R1, R3)), 1);
+    assert_eq!(rt; answer(&mut state, test(Cond::Gt, R1, R3)), 4);
+    assert_eq!(rt; answer(&mut state, test(Cond::Eq, R1, R10)), 4);
+    assert_eq!(rt; answer(&mut state, test(Cond::Eq, R1, R4)), 3);
+    assert_eq!(rt; answer(&mut state, Insn::Exit), 3);
+    done(&rt, &mut state, mov(R0, R1));
+    assert_eq!(rt; answer(&mut state, Insn::Exit), 4);
+    done(&rt, &mut state, mov(R0, R2));
+    done(&rt, &mut state, Insn::Exit);
+}
+
+#[test]
+fn edges_of_a_jump(rt: HostRuntime) {
+    let jump = Insn::JumpIf {
+        cond: Cond::Gt,
+        width: W64,
+        dst: R6,
+        src: Operand::Imm(5),
+        off: 1,
+    };
+    let mut state = counting(&rt, 1);
+    done(&rt, &mut state, jump);
+    let mut other = state.copy();
+    assert!(rt; branch(&jump, true, &mut state));
+    assert!(rt; number_of(state.reg(R6)) == (6, 10));
+    assert!(rt; tag_offset(&state, Place::Register(R6)) == Some(0));
+    assert!(rt; branch(&jump, false, &mut other));
+    assert!(rt; number_of(other.reg(R6)) == (1, 5));
+    assert!(rt; !branch(&jump, true, &mut other));
+    assert!(rt; number_of(other.reg(R6)) == (1, 5));
+}
+
+#[test]
+fn calls(rt: HostRuntime) {
+    let mut state = counting(&rt, 1);
+    state.set_reg(R3, RegState::Frame { lo: -8, hi: -8 });
+    state.set_slot(1, SlotState::Bytes(3));
+    let mut caller = state.copy();
+    enter(&mut state);
+    assert!(rt; context_of(state.reg(R1)) == Some((0, 0)));
+    assert!(rt; number_of(state.reg(R2)) == (8, 8));
+    assert!(rt; state.reg(R3).entails(RegState::Any) && !state.reg(R3).is_pointer());
+    assert!(rt; number_of(state.reg(R6)) == NOTHING);
+    assert_eq!(rt; mask_of(state.slot(1)), 0);
+    assert!(rt; leave(&mut caller, Num::constant(3)));
+    assert!(rt; number_of(caller.reg(R0)) == (3, 3));
+    assert!(rt; number_of(caller.reg(R2)) == NOTHING);
+    assert!(rt; number_of(caller.reg(R6)) == (1, 10));
+    assert!(rt; tag_offset(&caller, Place::Register(R6)) == Some(0));
+    assert_eq!(rt; mask_of(caller.slot(1)), 3);
+    let empty = Num::of(KnownBits::constant(1), Unsigned::constant(2), Signed::top());
+    assert!(rt; !leave(&mut caller, empty));
+}
+
+#[test]
+fn states_in_states(rt: HostRuntime) {
+    let narrow = counting(&rt, 1);
+    let wide = counting(&rt, 0);
+    assert!(rt; narrow.entails(&wide));
+    assert!(rt; !wide.entails(&narrow));
+    assert!(rt; narrow.entails(&State::blank()));
+    assert!(rt; !State::blank().entails(&narrow));
+    let mut spilled = State::blank();
+    spilled.set_slot(9, SlotState::Ptr(Pointer::Frame { lo: -8, hi: -8 }));
+    assert!(rt; spilled.entails(&State::blank()));
+    let mut byte = State::blank();
+    byte.set_slot(9, SlotState::Bytes(4));
+    assert!(rt; !spilled.entails(&byte));
+    let mut word = State::blank();
+    word.set_slot(9, SlotState::Word(Num::constant(4)));
+    assert!(rt; word.entails(&byte));
+}
+
+#[test]
+fn tightened_states(rt: HostRuntime) {
+    let mut state = State::blank();
+    let bounds = Num::of(KnownBits::top(), Unsigned::new(4, 7), Signed::top());
+    state.set_slot(2, SlotState::Word(bounds));
+    let tight = state.tightened().expect(&rt, "it has a member");
+    match tight.slot(2) {
+        SlotState::Word(n) => {
+            assert!(rt; n.signed().lo() == 4);
+            assert!(rt; n.bits().mask() == 3);
+        }
+        SlotState::Bytes(_) | SlotState::Ptr(_) => assert!(rt; false),
+    }
+    let empty = Num::of(KnownBits::constant(1), Unsigned::constant(2), Signed::top());
+    state.set_reg(R4, RegState::Num(empty));
+    assert!(rt; state.tightened().is_none());
+}

@@ -1,0 +1,479 @@
+//! Arithmetic, moves and byte swaps.
+
+ghost use Rattle.std.specs.Prelude.{◌≡◌, ℕ, ◌^◌, pos, neg_ℤ, ◌+ℤ◌, ◌-ℤ◌, ◌≤ℤ◌, None, IfSome, option_map};
+ghost use Rattle.bpf_insn.specs.Stuck.{is_frame_pointer};
+ghost use Rattle.bpf_insn.specs.declared.order.Order.TheVariants.{Little};
+ghost use Rattle.bpf_insn.specs.declared.instruction.Width.{Width};
+ghost use Rattle.bpf_insn.specs.declared.instruction.Width.TheVariants.{W64};
+ghost use Rattle.bpf_insn.specs.declared.instruction.AluOp.TheVariants.{Add, Sub, Mov};
+ghost use Rattle.bpf_insn.specs.declared.instruction.Insn.TheVariants.{Alu, Neg, MovSx, End};
+ghost use Rattle.bpf_state.specs.declared.state.RegState.{RegState};
+ghost use Rattle.bpf_state.specs.declared.state.RegState.TheVariants.{Num as Number, Ctx, Frame};
+ghost use Rattle.bpf_state.specs.State.{IsRegister};
+ghost use Rattle.bpf_state.specs.Fault.{difference, reads_any};
+ghost use Rattle.bpf_state.specs.Transfer.{constant_of, added, never_wraps, shifted_tag, tag_after, alu_tag, transfer};
+ghost use Rattle.bpf_state.specs.Answer.{outcome_told, KeepsUnlessDone};
+ghost use Rattle.bpf_state.specs.Results.{IsKnown, near, numbers_result, result_of, written};
+
+use crate::abstract_state::State;
+use crate::fault::StateFault;
+use crate::state::{RegState, Tag};
+use bpf_insn::{AluOp, EndBits, EndKind, Operand, Order, Reg, SignBits, Width};
+use bpf_num::{KnownBits, Num, Signed, Unsigned, WordDomain};
+
+/// The greatest distance of a pointer's offset from 0.
+const FARTHEST: i128 = 1 << 31;
+
+/// The greatest distance of a counter's offset from 0.
+const MAX_OFFSET: i128 = 1 << 40;
+
+// ---- results
+
+pub(crate) fn number_state(number: Option<Num>) -> Option<RegState>
+    ensures value { result ≡ option_map Number number }
+    ensures ordered { IfSome result IsRegister }
+{
+    match number {
+        Some(n) => Some(RegState::Num(n)),
+        None => None,
+    }
+}
+
+/// What is known of the difference of offsets in two intervals.
+fn difference(lo: i64, hi: i64, least: i64, most: i64) -> Option<RegState>
+    requires first { lo ≤ℤ hi }
+    requires second { least ≤ℤ most }
+    ensures value { result ≡ difference lo hi least most }
+    ensures ordered { IfSome result IsRegister }
+{
+    let signed = Signed::new(lo, hi).alu(AluOp::Sub, Signed::new(least, most));
+    number_state(Num::of(KnownBits::top(), Unsigned::top(), signed).tighten())
+}
+
+/// A pointer into the context with these bounds, if they aren't too far.
+fn near_context(lo: i128, hi: i128) -> Result<Option<RegState>, StateFault>
+    requires { lo ≤ℤ hi }
+    ensures value { result ≡ near (Ctx lo hi) }
+    ensures ordered { IsKnown result }
+{
+    if -FARTHEST <= lo && hi <= FARTHEST {
+        Ok(Some(RegState::Ctx {
+            lo: lo as i64,
+            hi: hi as i64,
+        }))
+    } else {
+        Err(StateFault::OutOfBounds)
+    }
+}
+
+/// A pointer into the frame with these bounds, if they aren't too far.
+fn near_frame(lo: i128, hi: i128) -> Result<Option<RegState>, StateFault>
+    requires { lo ≤ℤ hi }
+    ensures value { result ≡ near (Frame lo hi) }
+    ensures ordered { IsKnown result }
+{
+    if -FARTHEST <= lo && hi <= FARTHEST {
+        Ok(Some(RegState::Frame {
+            lo: lo as i64,
+            hi: hi as i64,
+        }))
+    } else {
+        Err(StateFault::OutOfBounds)
+    }
+}
+
+fn context_plus(lo: i64, hi: i64, n: Num) -> Result<Option<RegState>, StateFault>
+    requires { lo ≤ℤ hi }
+    ensures value { result ≡ near (Ctx (lo +ℤ n.signed.lo) (hi +ℤ n.signed.hi)) }
+    ensures ordered { IsKnown result }
+{
+    n.valid();
+    let by = n.signed();
+    near_context(lo as i128 + by.lo() as i128, hi as i128 + by.hi() as i128)
+}
+
+fn context_minus(lo: i64, hi: i64, n: Num) -> Result<Option<RegState>, StateFault>
+    requires { lo ≤ℤ hi }
+    ensures value { result ≡ near (Ctx (lo -ℤ n.signed.hi) (hi -ℤ n.signed.lo)) }
+    ensures ordered { IsKnown result }
+{
+    n.valid();
+    let by = n.signed();
+    near_context(lo as i128 - by.hi() as i128, hi as i128 - by.lo() as i128)
+}
+
+fn frame_plus(lo: i64, hi: i64, n: Num) -> Result<Option<RegState>, StateFault>
+    requires { lo ≤ℤ hi }
+    ensures value { result ≡ near (Frame (lo +ℤ n.signed.lo) (hi +ℤ n.signed.hi)) }
+    ensures ordered { IsKnown result }
+{
+    n.valid();
+    let by = n.signed();
+    near_frame(lo as i128 + by.lo() as i128, hi as i128 + by.hi() as i128)
+}
+
+fn frame_minus(lo: i64, hi: i64, n: Num) -> Result<Option<RegState>, StateFault>
+    requires { lo ≤ℤ hi }
+    ensures value { result ≡ near (Frame (lo -ℤ n.signed.hi) (hi -ℤ n.signed.lo)) }
+    ensures ordered { IsKnown result }
+{
+    n.valid();
+    let by = n.signed();
+    near_frame(lo as i128 - by.hi() as i128, hi as i128 - by.lo() as i128)
+}
+
+/// The result of an operation on numbers; C4 on anything else.
+fn numbers_result(
+    width: Width,
+    op: AluOp,
+    a: RegState,
+    b: RegState,
+) -> Result<Option<RegState>, StateFault>
+    ensures value { result ≡ numbers_result width op a b }
+    ensures ordered { IsKnown result }
+{
+    match a {
+        RegState::Num(m) => match b {
+            RegState::Num(n) => Ok(number_state(m.alu(op, width, n))),
+            RegState::Any | RegState::Ctx { .. } | RegState::Frame { .. } => {
+                Err(StateFault::WrongKinds)
+            }
+        },
+        RegState::Any | RegState::Ctx { .. } | RegState::Frame { .. } => {
+            Err(StateFault::WrongKinds)
+        }
+    }
+}
+
+fn move_result(width: Width, b: RegState) -> Result<Option<RegState>, StateFault>
+    requires { IsRegister b }
+    ensures value { (a : RegState) → result ≡ result_of width Mov a b }
+    ensures ordered { IsKnown result }
+{
+    match width {
+        Width::W64 => Ok(Some(b)),
+        Width::W32 => match b {
+            RegState::Num(n) => Ok(number_state(n.alu(AluOp::Mov, Width::W32, n))),
+            RegState::Any | RegState::Ctx { .. } | RegState::Frame { .. } => {
+                Err(StateFault::WrongKinds)
+            }
+        },
+    }
+}
+
+/// The sum of two numbers, or of a pointer and a number.
+fn sum_result(a: RegState, b: RegState) -> Result<Option<RegState>, StateFault>
+    requires left { IsRegister a }
+    requires right { IsRegister b }
+    ensures value { result ≡ result_of W64 Add a b }
+    ensures ordered { IsKnown result }
+{
+    match a {
+        RegState::Num(m) => match b {
+            RegState::Ctx { lo, hi } => context_plus(lo, hi, m),
+            RegState::Frame { lo, hi } => frame_plus(lo, hi, m),
+            RegState::Num(n) => Ok(number_state(m.alu(AluOp::Add, Width::W64, n))),
+            RegState::Any => Err(StateFault::WrongKinds),
+        },
+        RegState::Ctx { lo, hi } => match b {
+            RegState::Num(n) => context_plus(lo, hi, n),
+            RegState::Any | RegState::Ctx { .. } | RegState::Frame { .. } => {
+                Err(StateFault::WrongKinds)
+            }
+        },
+        RegState::Frame { lo, hi } => match b {
+            RegState::Num(n) => frame_plus(lo, hi, n),
+            RegState::Any | RegState::Ctx { .. } | RegState::Frame { .. } => {
+                Err(StateFault::WrongKinds)
+            }
+        },
+        RegState::Any => Err(StateFault::WrongKinds),
+    }
+}
+
+/// The difference of two numbers, of a pointer and a number, or of two pointers of one kind.
+fn difference_result(a: RegState, b: RegState) -> Result<Option<RegState>, StateFault>
+    requires left { IsRegister a }
+    requires right { IsRegister b }
+    ensures value { result ≡ result_of W64 Sub a b }
+    ensures ordered { IsKnown result }
+{
+    match a {
+        RegState::Num(m) => match b {
+            RegState::Num(n) => Ok(number_state(m.alu(AluOp::Sub, Width::W64, n))),
+            RegState::Any | RegState::Ctx { .. } | RegState::Frame { .. } => {
+                Err(StateFault::WrongKinds)
+            }
+        },
+        RegState::Ctx { lo, hi } => match b {
+            RegState::Num(n) => context_minus(lo, hi, n),
+            RegState::Ctx {
+                lo: least,
+                hi: most,
+            } => Ok(difference(lo, hi, least, most)),
+            RegState::Any | RegState::Frame { .. } => Err(StateFault::WrongKinds),
+        },
+        RegState::Frame { lo, hi } => match b {
+            RegState::Num(n) => frame_minus(lo, hi, n),
+            RegState::Frame {
+                lo: least,
+                hi: most,
+            } => Ok(difference(lo, hi, least, most)),
+            RegState::Any | RegState::Ctx { .. } => Err(StateFault::WrongKinds),
+        },
+        RegState::Any => Err(StateFault::WrongKinds),
+    }
+}
+
+/// What is known of the result of an operation; None if it has no member. C4 if it isn't allowed on the kinds of its
+/// operands, C5 if it gives a pointer too far off.
+fn result_of(
+    width: Width,
+    op: AluOp,
+    a: RegState,
+    b: RegState,
+) -> Result<Option<RegState>, StateFault>
+    requires left { IsRegister a }
+    requires right { IsRegister b }
+    ensures value { result ≡ result_of width op a b }
+    ensures ordered { IsKnown result }
+{
+    match op {
+        AluOp::Mov => move_result(width, b),
+        AluOp::Add => match width {
+            Width::W64 => sum_result(a, b),
+            Width::W32 => numbers_result(width, op, a, b),
+        },
+        AluOp::Sub => match width {
+            Width::W64 => difference_result(a, b),
+            Width::W32 => numbers_result(width, op, a, b),
+        },
+        _ => numbers_result(width, op, a, b),
+    }
+}
+
+// ---- counters
+
+/// The number of a constant, read as signed.
+fn constant_of(b: RegState) -> Option<i64>
+    ensures { result ≡ constant_of b }
+{
+    match b {
+        RegState::Num(n) => if n.is_constant() {
+            Some(n.bits().value().cast_signed())
+        } else {
+            None
+        },
+        RegState::Any | RegState::Ctx { .. } | RegState::Frame { .. } => None,
+    }
+}
+
+/// The constant that an operation adds to its destination.
+fn added(op: AluOp, b: RegState) -> Option<i128>
+    ensures value { result ≡ added op b }
+    ensures low { IfSome result (λ c. neg_ℤ (pos (2 ^ 63)) ≤ℤ c) }
+    ensures high { IfSome result (λ c. c ≤ℤ pos (2 ^ 63)) }
+{
+    match op {
+        AluOp::Add => match constant_of(b) {
+            Some(c) => Some(c as i128),
+            None => None,
+        },
+        AluOp::Sub => match constant_of(b) {
+            Some(c) => Some(-(c as i128)),
+            None => None,
+        },
+        _ => None,
+    }
+}
+
+/// Whether the sum of each member and a constant is an unsigned number.
+fn never_wraps(n: Num, c: i128) -> bool
+    requires low { neg_ℤ (pos (2 ^ 63)) ≤ℤ c }
+    requires high { c ≤ℤ pos (2 ^ 63) }
+    ensures { result ≡ never_wraps n c }
+{
+    0 <= n.unsigned().lo() as i128 + c && n.unsigned().hi() as i128 + c <= u64::MAX as i128
+}
+
+/// The counter with a constant added, if its offset stays within bounds.
+fn shifted_tag(c: i128, tag: Tag) -> Option<Tag>
+    requires low { neg_ℤ (pos (2 ^ 63)) ≤ℤ c }
+    requires high { c ≤ℤ pos (2 ^ 63) }
+    ensures { result ≡ shifted_tag c tag }
+{
+    let offset = tag.offset as i128 + c;
+    if -MAX_OFFSET <= offset && offset <= MAX_OFFSET {
+        Some(Tag {
+            term: tag.term,
+            offset: offset as i64,
+        })
+    } else {
+        None
+    }
+}
+
+/// The counter in a number after a constant is added to it.
+fn tag_after(a: RegState, c: Option<i128>, tag: Option<Tag>) -> Option<Tag>
+    requires low { IfSome c (λ c. neg_ℤ (pos (2 ^ 63)) ≤ℤ c) }
+    requires high { IfSome c (λ c. c ≤ℤ pos (2 ^ 63)) }
+    ensures { result ≡ tag_after a c tag }
+{
+    match a {
+        RegState::Num(n) => match c {
+            Some(c) => match tag {
+                Some(tag) => if never_wraps(n, c) {
+                    shifted_tag(c, tag)
+                } else {
+                    None
+                },
+                None => None,
+            },
+            None => None,
+        },
+        RegState::Any | RegState::Ctx { .. } | RegState::Frame { .. } => None,
+    }
+}
+
+/// The counter in the destination of an arithmetic instruction.
+fn alu_tag(state: &State, width: Width, op: AluOp, dst: Reg, src: Operand) -> Option<Tag>
+    ensures { result ≡ alu_tag state.now width op dst src }
+{
+    match width {
+        Width::W32 => None,
+        Width::W64 => match op {
+            AluOp::Mov => state.operand_tag(src),
+            _ => {
+                tag_after(
+                    state.reg(dst),
+                    added(op, state.operand(src)),
+                    state.register_tag(dst),
+                )
+            }
+        },
+    }
+}
+
+// ---- instructions
+
+fn is_frame_pointer(r: Reg) -> bool
+    ensures { result ≡ is_frame_pointer r }
+{
+    r as u8 == 10
+}
+
+/// Puts what is known of a result into a register, and its counter. C7 at r10.
+pub(crate) fn put_known(
+    dst: Reg,
+    known: Option<RegState>,
+    tag: Option<Tag>,
+    state: &mut State,
+) -> Result<bool, StateFault>
+    requires { IfSome known IsRegister }
+    ensures outcome { outcome_told result state.new ≡ written dst known tag state.old }
+    ensures kept { KeepsUnlessDone result state.old state.new }
+{
+    if is_frame_pointer(dst) {
+        return Err(StateFault::Protected);
+    }
+    match known {
+        Some(value) => {
+            state.put_register(dst, value, tag);
+            Ok(true)
+        }
+        None => Ok(false),
+    }
+}
+
+/// Puts a number without counter into a register. C7 at r10.
+pub(crate) fn put_number(
+    dst: Reg,
+    number: Option<Num>,
+    state: &mut State,
+) -> Result<bool, StateFault>
+    ensures outcome { outcome_told result state.new
+        ≡ written dst (option_map Number number) None state.old }
+    ensures kept { KeepsUnlessDone result state.old state.new }
+{
+    put_known(dst, number_state(number), None, state)
+}
+
+/// Whether a register that an operation reads may be uninitialised.
+fn reads_any(op: AluOp, dst: Reg, src: Operand, state: &State) -> bool
+    ensures { (width : Width) → result ≡ reads_any state.now (Alu op width dst src) }
+{
+    match op {
+        AluOp::Mov => state.operand(src).is_any(),
+        _ => state.reg(dst).is_any() || state.operand(src).is_any(),
+    }
+}
+
+pub(crate) fn alu(
+    op: AluOp,
+    width: Width,
+    dst: Reg,
+    src: Operand,
+    state: &mut State,
+) -> Result<bool, StateFault>
+    ensures outcome { (len : ℕ) → outcome_told result state.new
+        ≡ transfer Little (Alu op width dst src) len state.old }
+    ensures kept { KeepsUnlessDone result state.old state.new }
+{
+    if reads_any(op, dst, src, state) {
+        return Err(StateFault::UnsetRegister);
+    }
+    match result_of(width, op, state.reg(dst), state.operand(src)) {
+        Ok(known) => {
+            let tag = alu_tag(state, width, op, dst, src);
+            put_known(dst, known, tag, state)
+        }
+        Err(fault) => Err(fault),
+    }
+}
+
+pub(crate) fn neg(width: Width, dst: Reg, state: &mut State) -> Result<bool, StateFault>
+    ensures outcome { (len : ℕ) → outcome_told result state.new
+        ≡ transfer Little (Neg width dst) len state.old }
+    ensures kept { KeepsUnlessDone result state.old state.new }
+{
+    match state.reg(dst) {
+        RegState::Any => Err(StateFault::UnsetRegister),
+        RegState::Num(n) => put_number(dst, n.neg(width), state),
+        RegState::Ctx { .. } | RegState::Frame { .. } => Err(StateFault::WrongKinds),
+    }
+}
+
+pub(crate) fn mov_sx(
+    width: Width,
+    bits: SignBits,
+    dst: Reg,
+    src: Reg,
+    state: &mut State,
+) -> Result<bool, StateFault>
+    ensures outcome { (len : ℕ) → outcome_told result state.new
+        ≡ transfer Little (MovSx width bits dst src) len state.old }
+    ensures kept { KeepsUnlessDone result state.old state.new }
+{
+    match state.reg(src) {
+        RegState::Any => Err(StateFault::UnsetRegister),
+        RegState::Num(n) => put_number(dst, n.sign_extend(bits, width), state),
+        RegState::Ctx { .. } | RegState::Frame { .. } => Err(StateFault::WrongKinds),
+    }
+}
+
+pub(crate) fn end(
+    kind: EndKind,
+    bits: EndBits,
+    dst: Reg,
+    state: &mut State,
+) -> Result<bool, StateFault>
+    ensures outcome { (len : ℕ) → outcome_told result state.new
+        ≡ transfer Little (End kind bits dst) len state.old }
+    ensures kept { KeepsUnlessDone result state.old state.new }
+{
+    match state.reg(dst) {
+        RegState::Any => Err(StateFault::UnsetRegister),
+        RegState::Num(n) => put_number(dst, n.swap(Order::Little, kind, bits), state),
+        RegState::Ctx { .. } | RegState::Frame { .. } => Err(StateFault::WrongKinds),
+    }
+}

@@ -1,0 +1,203 @@
+//! Constants of 64 bits and loads.
+
+ghost use Rattle.std.specs.Prelude.{◌≡◌, ℕ, IsTrue, IfSome, true, Some, option_map};
+ghost use Rattle.bpf_insn.specs.Instruction.{byte_count};
+ghost use Rattle.bpf_insn.specs.declared.order.Order.TheVariants.{Little};
+ghost use Rattle.bpf_insn.specs.declared.instruction.Insn.TheVariants.{Load, LoadSx, LoadImm64};
+ghost use Rattle.bpf_state.specs.State.{IsRegister};
+ghost use Rattle.bpf_state.specs.Access.{is_inside};
+ghost use Rattle.bpf_state.specs.Transfer.{transfer, any_number, any_signed, loaded, loaded_tag};
+ghost use Rattle.bpf_state.specs.Parts.{byte_fault, read_fault, load_outcome, load_sx_outcome};
+ghost use Rattle.bpf_state.specs.Answer.{fault_number, outcome_told, KeepsUnlessDone};
+
+use crate::abstract_state::State;
+use crate::access::Reach;
+use crate::fault::StateFault;
+use crate::slots::{any_pointer, any_unknown};
+use crate::state::{RegState, Tag};
+use bpf_insn::{Reg, Size};
+use bpf_num::{KnownBits, Num, Signed, Unsigned, WordDomain};
+
+/// Loads a constant of 64 bits.
+pub(crate) fn load_imm64(dst: Reg, value: u64, state: &mut State) -> Result<bool, StateFault>
+    ensures outcome { (len : ℕ) → outcome_told result state.new ≡ transfer Little (LoadImm64 dst value) len state.old }
+    ensures kept { KeepsUnlessDone result state.old state.new }
+{
+    if dst == Reg::R10 {
+        return Err(StateFault::Protected);
+    }
+    state.put_register(dst, RegState::Num(Num::constant(value)), None);
+    Ok(true)
+}
+
+/// Any number of a size, zero-extended.
+fn any_number(size: Size) -> Option<Num>
+    ensures { result ≡ any_number (byte_count size) }
+{
+    let unsigned = match size {
+        Size::B => Unsigned::new(0, u8::MAX as u64),
+        Size::H => Unsigned::new(0, u16::MAX as u64),
+        Size::W => Unsigned::new(0, u32::MAX as u64),
+        Size::DW => Unsigned::new(0, u64::MAX),
+    };
+    Num::of(KnownBits::top(), unsigned, Signed::top()).tighten()
+}
+
+/// Any number of a size, sign-extended.
+fn any_signed(size: Size) -> Option<Num>
+    ensures { result ≡ any_signed (byte_count size) }
+{
+    let signed = match size {
+        Size::B => Signed::new(i8::MIN as i64, i8::MAX as i64),
+        Size::H => Signed::new(i16::MIN as i64, i16::MAX as i64),
+        Size::W => Signed::new(i32::MIN as i64, i32::MAX as i64),
+        Size::DW => Signed::new(i64::MIN, i64::MAX),
+    };
+    Num::of(KnownBits::top(), Unsigned::top(), signed).tighten()
+}
+
+/// What is known of a loaded value: what a whole slot of the frame holds, else any number of the size.
+pub(crate) fn loaded(state: &State, reach: Reach, size: Size) -> Option<RegState>
+    requires { IsTrue reach.in_frame → is_inside 0 reach ≡ true }
+    ensures value { result ≡ loaded state.now (Some reach) size }
+    ensures ordered { IfSome result (λ v. IsRegister v) }
+{
+    if reach.in_frame() && reach.is_slot() {
+        Some(state.slots[reach.place()].value())
+    } else {
+        match any_number(size) {
+            Some(n) => Some(RegState::Num(n)),
+            None => None,
+        }
+    }
+}
+
+fn loaded_tag(state: &State, reach: Reach) -> Option<Tag>
+    requires { IsTrue reach.in_frame → is_inside 0 reach ≡ true }
+    ensures { result ≡ loaded_tag state.now (Some reach) }
+{
+    if reach.in_frame() && reach.is_slot() {
+        state.slot_tags[reach.place()]
+    } else {
+        None
+    }
+}
+
+/// Why the bytes of an access may not be read. Only a load of a whole slot may read a pointer.
+pub(crate) fn read_fault(
+    state: &State,
+    reach: Reach,
+    is_whole: bool,
+    len: u32,
+) -> Option<StateFault>
+    ensures { option_map fault_number result ≡ read_fault is_whole len state.now reach }
+{
+    if !is_whole && any_pointer(&state.slots, reach) {
+        return Some(StateFault::WrongKinds);
+    }
+    byte_fault(state, reach, len)
+}
+
+/// Why the bytes of an access may not be read, pointers aside.
+fn byte_fault(state: &State, reach: Reach, len: u32) -> Option<StateFault>
+    ensures { option_map fault_number result ≡ byte_fault len state.now reach }
+{
+    if !reach.is_inside(len) {
+        return Some(StateFault::OutOfBounds);
+    }
+    if any_unknown(&state.slots, reach) {
+        return Some(StateFault::UnsetByte);
+    }
+    None
+}
+
+/// A load of bytes that lie so, zero-extended.
+fn load_at(
+    dst: Reg,
+    size: Size,
+    reach: Reach,
+    len: u32,
+    state: &mut State,
+) -> Result<bool, StateFault>
+    ensures outcome { outcome_told result state.new ≡ load_outcome dst size len reach state.old }
+    ensures kept { KeepsUnlessDone result state.old state.new }
+{
+    if let Some(fault) = read_fault(state, reach, reach.is_slot(), len) {
+        return Err(fault);
+    }
+    if dst == Reg::R10 {
+        return Err(StateFault::Protected);
+    }
+    let Some(value) = loaded(state, reach, size) else {
+        return Ok(false);
+    };
+    let tag = loaded_tag(state, reach);
+    state.put_register(dst, value, tag);
+    Ok(true)
+}
+
+/// A load, zero-extended.
+pub(crate) fn load(
+    size: Size,
+    dst: Reg,
+    src: Reg,
+    off: i16,
+    len: u32,
+    state: &mut State,
+) -> Result<bool, StateFault>
+    ensures outcome { outcome_told result state.new ≡ transfer Little (Load size dst src off) len state.old }
+    ensures kept { KeepsUnlessDone result state.old state.new }
+{
+    if state.reg(src).is_any() {
+        return Err(StateFault::UnsetRegister);
+    }
+    if !state.reg(src).is_pointer() {
+        return Err(StateFault::WrongKinds);
+    }
+    load_at(dst, size, Reach::of(state.reg(src), off, size), len, state)
+}
+
+/// A load of bytes that lie so, sign-extended.
+fn load_sx_at(
+    dst: Reg,
+    size: Size,
+    reach: Reach,
+    len: u32,
+    state: &mut State,
+) -> Result<bool, StateFault>
+    ensures outcome { outcome_told result state.new ≡ load_sx_outcome dst size len reach state.old }
+    ensures kept { KeepsUnlessDone result state.old state.new }
+{
+    if let Some(fault) = read_fault(state, reach, false, len) {
+        return Err(fault);
+    }
+    if dst == Reg::R10 {
+        return Err(StateFault::Protected);
+    }
+    let Some(number) = any_signed(size) else {
+        return Ok(false);
+    };
+    state.put_register(dst, RegState::Num(number), None);
+    Ok(true)
+}
+
+/// A load, sign-extended.
+pub(crate) fn load_sx(
+    size: Size,
+    dst: Reg,
+    src: Reg,
+    off: i16,
+    len: u32,
+    state: &mut State,
+) -> Result<bool, StateFault>
+    ensures outcome { outcome_told result state.new ≡ transfer Little (LoadSx size dst src off) len state.old }
+    ensures kept { KeepsUnlessDone result state.old state.new }
+{
+    if state.reg(src).is_any() {
+        return Err(StateFault::UnsetRegister);
+    }
+    if !state.reg(src).is_pointer() {
+        return Err(StateFault::WrongKinds);
+    }
+    load_sx_at(dst, size, Reach::of(state.reg(src), off, size), len, state)
+}

@@ -1,0 +1,136 @@
+//! Stores.
+
+ghost use Rattle.std.specs.Prelude.{◌≡◌, IsTrue, true, Some, option_map};
+ghost use Rattle.bpf_insn.specs.declared.order.Order.TheVariants.{Little};
+ghost use Rattle.bpf_insn.specs.declared.instruction.Insn.TheVariants.{Store, StoreImm};
+ghost use Rattle.bpf_state.specs.State.{IsRegister, IsSlot, value_slot};
+ghost use Rattle.bpf_state.specs.Access.{is_inside};
+ghost use Rattle.bpf_state.specs.Transfer.{transfer, stored};
+ghost use Rattle.bpf_state.specs.Parts.{store_fault, store_outcome};
+ghost use Rattle.bpf_state.specs.Answer.{fault_number, outcome_told, KeepsUnlessDone};
+
+use crate::abstract_state::State;
+use crate::access::Reach;
+use crate::fault::StateFault;
+use crate::slots::{maybe_write, write};
+use crate::state::{Pointer, RegState, SlotState, Tag};
+use bpf_insn::{Operand, Reg, Size};
+
+/// A slot that holds what a register does.
+fn value_slot(value: RegState) -> SlotState
+    requires { IsRegister value }
+    ensures value { result ≡ value_slot value }
+    ensures mask { IsSlot result }
+{
+    match value {
+        RegState::Num(n) => SlotState::Word(n),
+        RegState::Ctx { lo, hi } => SlotState::Ptr(Pointer::Ctx { lo, hi }),
+        RegState::Frame { lo, hi } => SlotState::Ptr(Pointer::Frame { lo, hi }),
+        RegState::Any => SlotState::Bytes(0),
+    }
+}
+
+/// Writes a value to the frame: a whole slot holds it then with its counter; of others the bytes are known or not.
+fn put(reach: Reach, value: RegState, tag: Option<Tag>, state: &mut State)
+    requires framed { IsTrue reach.in_frame }
+    requires inside { IsTrue (is_inside 0 reach) }
+    requires ordered { IsRegister value }
+    ensures { Some state.new ≡ stored (Some reach) value tag state.old }
+{
+    if reach.is_slot() {
+        state.put_slot(reach.place(), value_slot(value), tag);
+    } else if reach.is_known() {
+        write(state, reach);
+    } else {
+        maybe_write(state, reach);
+    }
+}
+
+/// Why a value, which is a pointer or isn't, may not be written to bytes that lie so.
+fn store_fault(pointer: bool, reach: Reach, len: u32) -> Option<StateFault>
+    ensures { option_map fault_number result ≡ store_fault pointer len reach }
+{
+    if pointer && !reach.is_slot() {
+        return Some(StateFault::WrongKinds);
+    }
+    if !reach.is_inside(len) {
+        return Some(StateFault::OutOfBounds);
+    }
+    if !reach.in_frame() {
+        return Some(StateFault::Protected);
+    }
+    None
+}
+
+/// Writes a value, which is a pointer or isn't, to bytes that lie so.
+fn store_at(
+    reach: Reach,
+    pointer: bool,
+    value: RegState,
+    tag: Option<Tag>,
+    len: u32,
+    state: &mut State,
+) -> Result<bool, StateFault>
+    requires ordered { IsRegister value }
+    ensures outcome { outcome_told result state.new ≡ store_outcome pointer value tag len reach state.old }
+    ensures kept { KeepsUnlessDone result state.old state.new }
+{
+    if let Some(fault) = store_fault(pointer, reach, len) {
+        return Err(fault);
+    }
+    put(reach, value, tag, state);
+    Ok(true)
+}
+
+/// A store of a register.
+pub(crate) fn store(
+    size: Size,
+    dst: Reg,
+    off: i16,
+    src: Reg,
+    len: u32,
+    state: &mut State,
+) -> Result<bool, StateFault>
+    ensures outcome { outcome_told result state.new ≡ transfer Little (Store size dst off src) len state.old }
+    ensures kept { KeepsUnlessDone result state.old state.new }
+{
+    if state.reg(dst).is_any() || state.reg(src).is_any() {
+        return Err(StateFault::UnsetRegister);
+    }
+    if !state.reg(dst).is_pointer() {
+        return Err(StateFault::WrongKinds);
+    }
+    let tag = state.register_tag(src);
+    let reach = Reach::of(state.reg(dst), off, size);
+    let pointer = state.reg(src).is_pointer();
+    store_at(reach, pointer, state.reg(src), tag, len, state)
+}
+
+/// A store of a constant.
+pub(crate) fn store_imm(
+    size: Size,
+    dst: Reg,
+    off: i16,
+    imm: i32,
+    len: u32,
+    state: &mut State,
+) -> Result<bool, StateFault>
+    ensures outcome { outcome_told result state.new ≡ transfer Little (StoreImm size dst off imm) len state.old }
+    ensures kept { KeepsUnlessDone result state.old state.new }
+{
+    if state.reg(dst).is_any() {
+        return Err(StateFault::UnsetRegister);
+    }
+    if !state.reg(dst).is_pointer() {
+        return Err(StateFault::WrongKinds);
+    }
+    let reach = Reach::of(state.reg(dst), off, size);
+    store_at(
+        reach,
+        false,
+        state.operand(Operand::Imm(imm)),
+        None,
+        len,
+        state,
+    )
+}
