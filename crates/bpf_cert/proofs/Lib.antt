@@ -5,5 +5,14 @@ pub mod NumeralLaws
 pub mod LimitLemmas
 pub mod SpellingLemmas
 pub mod WritingLemmas
+pub mod SourceLemmas
+pub mod CutLemmas
+pub mod NumberLemmas
+pub mod NumLemmas
+pub mod FindingLemmas
+pub mod PieceLemmas
+pub mod PartLemmas
+pub mod ContentLemmas
+pub mod TermLemmas
 pub mod Examples
 pub mod Values

@@ -9,3 +9,10 @@ pub mod Certificates
 pub mod RefusalNumbers
 pub mod SpellingParts
 pub mod Written
+pub mod Taken
+pub mod Seen
+pub mod Findings
+pub mod Sums
+pub mod PartSums
+pub mod Contents
+pub mod TermSums

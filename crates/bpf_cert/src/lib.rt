@@ -2,10 +2,19 @@
 #![tactic(auto)]
 
 mod certificate;
+mod content;
+mod cut;
 pub mod error;
+mod finding;
 mod laws;
 mod limits;
+mod num;
+mod number;
+mod part;
+mod place;
+mod source;
 mod spelling;
+mod term;
 mod writing;
 
 pub use bpf_state::Place;
