@@ -1,10 +1,10 @@
 -- Findings of parts, joined to findings of the whole.
-use Rattle.std.proofs.Common.{◌≡◌, ℕ, ◌+◌, Bool, true, false, cond, not, List, [], ◌∷◌, ◌++◌, Option, Some, None, Result, Ok, Err, refl, sym, ap, subst, ◌∙◌}
+use Rattle.std.proofs.Common.{◌≡◌, Bool, true, false, cond, not, List, [], ◌∷◌, ◌++◌, Result, Ok, Err, refl, ap, ◌∙◌}
 use Rattle.std.specs.Prelude.{◌&&◌}
 use Rattle.std.specs.List.{list_all}
-use Rattle.bpf_cert.specs.Findings.{tested, found, joined, graver, valued}
+use Rattle.bpf_cert.specs.Findings.{tested, joined, valued}
 use Rattle.bpf_cert.specs.declared.finding.Flaw.{Flaw}
-use Rattle.bpf_cert.specs.declared.finding.Flaw.TheVariants.{Syntax, NotCanonical, Limit}
+use Rattle.bpf_cert.specs.declared.finding.Flaw.TheVariants.{NotCanonical, Limit}
 
 -- what is found in a form is what its tests say
 pub found_tested : {A : Type 0} (a b : Bool) (x : A) → cond (not a) (Err NotCanonical) (cond (not b) (Err Limit) (Ok x)) ≡ valued (λ (u : Unit {0}). x) (tested a b)

@@ -14,5 +14,11 @@ pub mod PieceLemmas
 pub mod PartLemmas
 pub mod ContentLemmas
 pub mod TermLemmas
+pub mod StandingLemmas
+pub mod JudgeLemmas
+pub mod AfterLemmas
+pub mod BuildingLemmas
+pub mod BuiltLemmas
+pub mod ReadingLemmas
 pub mod Examples
 pub mod Values

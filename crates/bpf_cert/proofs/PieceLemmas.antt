@@ -34,21 +34,22 @@ there_none read t ts e = rw e refl
 
 -- one piece more
 pub taken_more : {A : Type 0} (c : ℕ) (read : List ℕ → Option A) (text rest piece more : List ℕ) (done : List A) (x : A) → Taken c read text rest done → cut c rest ≡ Some (piece, more) → read piece ≡ Some x
-  → Taken c read text more (done ++ x ∷ [])
+    → Taken c read text more (done ++ x ∷ [])
 taken_more c read text rest piece more done x taken e f = record {
   left = taken.left ∙ ap (λ ts. option_map (λ xs. done ++ xs) (all_there (map read ts))) (cut_some c rest (piece, more) e)
-    ∙ ap (option_map (λ xs. done ++ xs)) (there_more read piece (pieces c more) x f) ∙ moved done x (all_read c read more) }
+      ∙ ap (option_map (λ xs. done ++ xs)) (there_more read piece (pieces c more) x f) ∙ moved done x (all_read c read more);
+}
 
 -- a piece that has no form
 pub no_piece : {A : Type 0} (c : ℕ) (read : List ℕ → Option A) (text rest piece more : List ℕ) (done : List A) → Taken c read text rest done → cut c rest ≡ Some (piece, more) → read piece ≡ None → all_read c read text ≡ None
 no_piece c read text rest piece more done taken e f = taken.left ∙ ap (λ ts. option_map (λ xs. done ++ xs) (all_there (map read ts))) (cut_some c rest (piece, more) e)
-  ∙ ap (option_map (λ xs. done ++ xs)) (there_none read piece (pieces c more) f)
+    ∙ ap (option_map (λ xs. done ++ xs)) (there_none read piece (pieces c more) f)
 
 pub no_last : {A : Type 0} (c : ℕ) (read : List ℕ → Option A) (text rest : List ℕ) (done : List A) → Taken c read text rest done → cut c rest ≡ None → read rest ≡ None → all_read c read text ≡ None
 no_last c read text rest done taken e f = taken.left ∙ ap (λ ts. option_map (λ xs. done ++ xs) (all_there (map read ts))) (cut_no c rest e)
-  ∙ ap (option_map (λ xs. done ++ xs)) (there_none read rest [] f)
+    ∙ ap (option_map (λ xs. done ++ xs)) (there_none read rest [] f)
 
 pub taken_all : {A : Type 0} (c : ℕ) (read : List ℕ → Option A) (text rest : List ℕ) (done : List A) (x : A) → Taken c read text rest done → cut c rest ≡ None → read rest ≡ Some x → all_read c read text ≡ Some (done ++ x ∷ [])
 unfolding all_there ◌>>=◌
 taken_all c read text rest done x taken e f = taken.left ∙ ap (λ ts. option_map (λ xs. done ++ xs) (all_there (map read ts))) (cut_no c rest e)
-  ∙ ap (option_map (λ xs. done ++ xs)) (there_more read rest [] x f)
+    ∙ ap (option_map (λ xs. done ++ xs)) (there_more read rest [] x f)

@@ -1,5 +1,5 @@
 -- What a line says of a place, as a slot's content.
-use Rattle.std.specs.Prelude.{◌≡◌, ℕ, Bool, true, false, ◌&&◌, ℤ}
+use Rattle.std.specs.Prelude.{◌≡◌, Bool, true, false, ◌&&◌, ℤ}
 use Rattle.bpf_cert.specs.Numeral.{SignedDigits, signed_number, is_plain_signed, digits_of_int}
 use Rattle.bpf_cert.specs.Faults.{is_pointer_range}
 use Rattle.bpf_cert.specs.Spelling.{is_unknown}

@@ -16,3 +16,7 @@ pub mod Sums
 pub mod PartSums
 pub mod Contents
 pub mod TermSums
+pub mod Standing
+pub mod Building
+pub mod ReadAnswers
+pub mod Behind

@@ -1,11 +1,7 @@
 -- What parts of a number say together, as they come one by one.
-use Rattle.std.specs.Prelude.{◌≡◌, ℕ, ◌+◌, ◌-◌, ◌^◌, ◌≤◌, Bool, ◌&&◌, ◌==◌, List, [], ◌∷◌, ◌++◌, ℤ, pos, neg_ℤ, Ok, Err}
-use Rattle.std.specs.List.{list_all}
+use Rattle.std.specs.Prelude.{ℕ, ◌-◌, ◌^◌, Bool, ◌&&◌, ◌==◌, List, [], ◌∷◌, ℤ, pos, neg_ℤ}
 use Rattle.bpf_cert.specs.Numeral.{int_eq}
 use Rattle.bpf_cert.specs.Line.{Part}
-use Rattle.bpf_cert.specs.Faults.{is_rising, part_before, part_rank, is_limited_part}
-use Rattle.bpf_cert.specs.Findings.{tested}
-use Rattle.bpf_cert.specs.Seen.{is_canonical_part}
 
 abbrev pub single : Part → List Part
 single p = p ∷ []

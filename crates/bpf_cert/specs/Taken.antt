@@ -1,5 +1,5 @@
 -- The bytes that a source has left, where they are known, and what taking a line from it does to them.
-use Rattle.std.specs.Prelude.{◌≡◌, ◌≢◌, ◌≤◌, ◌-◌, ℕ, List, [], ◌∷◌, ◌++◌, length, take, drop, All, Option, Some, None, Result, Ok, Err, option_to_list, MatchResult}
+use Rattle.std.specs.Prelude.{◌≡◌, ◌≢◌, ◌-◌, ℕ, List, [], ◌∷◌, ◌++◌, length, take, drop, All, Option, Some, None, Result, MatchResult}
 use Rattle.std.specs.Io.KnownBytes.{Consumes, IsAtEnd, Keeps, prepend_known}
 use Rattle.bpf_cert.specs.declared.source.Stop.{Stop}
 use Rattle.bpf_cert.specs.declared.source.Stop.TheVariants as stop

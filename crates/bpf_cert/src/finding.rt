@@ -36,7 +36,7 @@ fn graver(first: Flaw, second: Flaw) -> Flaw
 }
 
 /// The graver flaw of two findings, and the value where there is none.
-pub fn joined<T: Copy>(first: Result<(), Flaw>, second: Result<T, Flaw>) -> Result<T, Flaw>
+pub fn joined<T: Drop>(first: Result<(), Flaw>, second: Result<T, Flaw>) -> Result<T, Flaw>
     ensures { result ≡ joined first second }
 {
     match (first, second) {

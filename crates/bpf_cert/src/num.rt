@@ -37,7 +37,8 @@ pub fn says_some(plain: bool, whole: bool) -> bool
     plain && !whole
 }
 
-fn are_plain(first: &[u8], second: &[u8]) -> bool
+/// Whether both are spelled plainly.
+pub fn are_plain(first: &[u8], second: &[u8]) -> bool
     ensures { result ≡ (is_plain first.now && is_plain second.now) }
 {
     is_plain(first) && is_plain(second)
@@ -50,7 +51,10 @@ fn unsigned(low: &[u8], high: &[u8]) -> Result<Unsigned, Flaw>
 {
     let lo = number(low);
     let hi = number(high);
-    tested(says_some(are_plain(low, high), is_whole(lo, hi)), is_range(lo, hi))?;
+    tested(
+        says_some(are_plain(low, high), is_whole(lo, hi)),
+        is_range(lo, hi),
+    )?;
     Ok(Unsigned::new(lo as u64, hi as u64))
 }
 
@@ -68,7 +72,10 @@ fn bits(value: &[u8], mask: &[u8]) -> Result<KnownBits, Flaw>
     let known = number(value);
     let unknown = number(mask);
     let whole = is_whole(known, unknown);
-    tested(says_some(are_plain(value, mask), whole), is_bits(known, unknown))?;
+    tested(
+        says_some(are_plain(value, mask), whole),
+        is_bits(known, unknown),
+    )?;
     Ok(KnownBits::new(known as u64, unknown as u64))
 }
 

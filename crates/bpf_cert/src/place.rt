@@ -4,6 +4,7 @@ ghost use Rattle.std.specs.Prelude.{◌≡◌, ◌^◌, option_map, true};
 ghost use Rattle.bpf_cert.specs.Reading.{place_in};
 ghost use Rattle.bpf_cert.specs.Faults.{place_before, is_plain_place, is_limited_place};
 ghost use Rattle.bpf_cert.specs.Line.{is_place};
+ghost use Rattle.bpf_cert.specs.Limits as limits;
 ghost use Rattle.bpf_cert.specs.Spelling.{place_of};
 ghost use Rattle.bpf_cert.specs.Seen.{place_seen};
 
@@ -77,7 +78,8 @@ pub fn place_value(place: PlaceForm<'_>) -> Place
     requires form { is_place (place_seen place) ≡ true }
     requires plain { is_plain_place (place_seen place) ≡ true }
     requires limited { is_limited_place (place_seen place) ≡ true }
-    ensures { place_of result ≡ place_seen place.entry }
+    ensures spelled { place_of result ≡ place_seen place.entry }
+    ensures value { limits.is_limited_place result ≡ true }
 {
     match place {
         PlaceForm::Register(index) => Place::Register(numbered(number(index) as u8)),

@@ -1,4 +1,3 @@
-use Rattle.std.proofs.Common.{◌≡◌, ℕ, ◌<◌, get_or}
 use Rattle.bpf_cert.proofs.NumberLemmas.{SameBefore}
 use Rattle.bpf_cert.proofs.number.is_less.Given as goal
 

@@ -7,7 +7,8 @@ place_value-place-requires-clause-form c = term_place c.args.term c.requires.for
 
 pub returns : goal.returns
 returns c =
-  let weight = weight_again c.args.term c.number-2.result c.number-2.ensures c.requires.form c.requires.plain c.requires.limited in
-  elim c.match-term.branch [
-    in-None w ↦ rw w.measure-is (term_down c.args.term c.number-2.result c.place_value-place.result w.in-None.is weight c.place_value-place.ensures)
-  | in-Some w ↦ rw w.measure-is (term_up c.args.term c.number-2.result w.number.result c.place_value-place.result w.in-Some.limit w.in-Some.is weight c.place_value-place.ensures w.number.ensures c.requires.form c.requires.plain c.requires.limited) ]
+    let weight = weight_again c.args.term c.number-2.result c.number-2.ensures c.requires.form c.requires.plain c.requires.limited in
+    elim c.match-term.branch [
+      | in-None w ↦ rw w.measure-is (term_down c.args.term c.number-2.result c.place_value-place.result w.in-None.is weight c.place_value-place.ensures.spelled)
+      | in-Some w ↦ rw w.measure-is (term_up c.args.term c.number-2.result w.number.result c.place_value-place.result w.in-Some.limit w.in-Some.is weight c.place_value-place.ensures.spelled w.number.ensures c.requires.form c.requires.plain c.requires.limited)
+    ]

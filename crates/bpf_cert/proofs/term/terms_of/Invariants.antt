@@ -1,4 +1,4 @@
-use Rattle.std.proofs.Common.{◌≡◌, List, length}
+use Rattle.std.proofs.Common.{List, length}
 use Rattle.bpf_cert.specs.Line.{Term}
 use Rattle.bpf_cert.specs.Reading.{term_in}
 use Rattle.bpf_cert.specs.TermSums.{IsTermSum}

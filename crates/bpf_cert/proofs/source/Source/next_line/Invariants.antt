@@ -8,4 +8,5 @@ invariant-loop g l = record {
   taken : Consumes l.fn.self l.self l.line.items;
   one_line : IsOneLine l.line.items;
   count : length l.line.items ≡ l.counter;
-  room : length l.line.items ≤ 256 }
+  room : length l.line.items ≤ 256;
+}
