@@ -30,7 +30,7 @@ range_is : {A : Type 0} (end_in : List ℕ → Option A) (P : A → Type 0) → 
 unfolding range_in
 range_is end_in P ends text = bind_gives (any (cut 46 text)) (λ p u. bind_gives (any (behind (codes ".") p.1)) (λ high v. bind_gives (ends p.0) (λ lo l. bind_gives (ends high) (λ hi m. some_gives (lo, hi) (l, m)))))
 
-part_is : (text : List ℕ) → Gives (part_in text) (λ p. is_part p ≡ true)
+pub part_is : (text : List ℕ) → Gives (part_in text) (λ p. is_part p ≡ true)
 unfolding part_in
 part_is text = or_gives
     (bind_gives (any (behind (codes "u") text)) (λ range u. bind_gives (range_is numeral_in (λ ds. is_numeral ds ≡ true) numeral_is range) (λ ends e. some_gives (Part.unsigned ends.0 ends.1) (both e.0 e.1))))
@@ -57,7 +57,7 @@ some_parts : (text : List ℕ) (ps : List Part) → slice_split (λ x. eqb x 44)
 some_parts text [] e f = let s = pieces_some 44 text in let none : s.0 ∷ s.1 ≡ [] = sym (s.2) ∙ e in cc
 some_parts text (p ∷ ps) e f = f
 
-number_is : (text : List ℕ) → Gives (number_in text) (λ n. is_number n ≡ true)
+pub number_is : (text : List ℕ) → Gives (number_in text) (λ n. is_number n ≡ true)
 unfolding number_in
 number_is text = choice_gives (bytes_eq text (codes "*")) (λ e. some_gives Number.top refl)
     (λ e. bind_gives (pair_gives (all_gives part_in part_text part_gives (slice_split (λ c. eqb c 44) text)) (all_is part_in is_part part_is (slice_split (λ c. eqb c 44) text)))
@@ -66,23 +66,23 @@ number_is text = choice_gives (bytes_eq text (codes "*")) (λ e. some_gives Numb
     pair_gives : {A : Type 0} {o : Option A} {P Q : A → Type 0} → Gives o P → Gives o Q → Gives o (λ x. P x × Q x)
     pair_gives g h = record { holds = λ x e. (g.holds x e, h.holds x e) }
 
-pointer_is : (p : Place) (text : List ℕ) → Gives (pointer_in text) (λ c. is_content p c ≡ true)
+pub pointer_is : (p : Place) (text : List ℕ) → Gives (pointer_in text) (λ c. is_content p c ≡ true)
 unfolding pointer_in
 pointer_is p text = or_gives
     (bind_gives (any (behind (codes "ctx") text)) (λ range u. bind_gives (range_is signed_in (λ s. is_numeral s.digits ≡ true) signed_is range) (λ ends e. some_gives (Content.context ends.0 ends.1) (both e.0 e.1))))
     (bind_gives (any (behind (codes "fp") text)) (λ range u. bind_gives (range_is signed_in (λ s. is_numeral s.digits ≡ true) signed_is range) (λ ends e. some_gives (Content.frame ends.0 ends.1) (both e.0 e.1))))
 
-bytes_is : (p : Place) (text : List ℕ) → Gives (bytes_in p text) (λ c. is_content p c ≡ true)
+pub bytes_is : (p : Place) (text : List ℕ) → Gives (bytes_in p text) (λ c. is_content p c ≡ true)
 unfolding bytes_in
 bytes_is (Place.register i) text = none_gives
 bytes_is (Place.slot k) text = bind_gives (any (behind (codes "b") text)) (λ mask u. bind_gives (numeral_is mask) (λ m e. some_gives (Content.bytes m) e))
 
-content_is : (p : Place) (text : List ℕ) → Gives (content_in p text) (λ c. is_content p c ≡ true)
+pub content_is : (p : Place) (text : List ℕ) → Gives (content_in p text) (λ c. is_content p c ≡ true)
 unfolding content_in
 content_is p text = choice_gives (bytes_eq text (codes "any")) (λ e. some_gives Content.any refl)
     (λ e. or_gives (pointer_is p text) (or_gives (bytes_is p text) (bind_gives (number_is text) (λ n h. some_gives (Content.number n) h))))
 
-place_is : (text : List ℕ) → Gives (place_in text) (λ p. is_place p ≡ true)
+pub place_is : (text : List ℕ) → Gives (place_in text) (λ p. is_place p ≡ true)
 unfolding place_in
 place_is text = or_gives
     (bind_gives (any (behind (codes "r") text)) (λ digits u. bind_gives (numeral_is digits) (λ i e. some_gives (Place.register i) e)))
@@ -98,7 +98,7 @@ measure_is text = or_gives
     (bind_gives (place_is text) (λ p h. some_gives (Measure.down p) h))
     (bind_gives (any (behind (codes "(") text)) (λ inside u. bind_gives (any (cut 45 inside)) (λ parts v. bind_gives (numeral_is parts.0) (λ limit l. bind_gives (closed_is parts.1) (λ p m. some_gives (Measure.up limit p) (both l m))))))
 
-term_is : (text : List ℕ) → Gives (term_in text) (λ t. is_term t ≡ true)
+pub term_is : (text : List ℕ) → Gives (term_in text) (λ t. is_term t ≡ true)
 unfolding term_in
 term_is text = bind_gives (any (behind (codes "+") text)) (λ product u. bind_gives (any (cut 42 product)) (λ parts v. bind_gives (numeral_is parts.0) (λ weight l. bind_gives (measure_is parts.1) (λ measure m.
     some_gives (record { weight = weight; measure = measure }) (both l m)))))

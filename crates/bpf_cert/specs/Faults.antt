@@ -39,10 +39,7 @@ is_plain_part (Part.bits v m) = is_plain v && is_plain m
 
 abbrev pub is_canonical_number : Number → Bool
 is_canonical_number Number.top = true
-is_canonical_number (Number.parts ps) = list_all is_plain_part ps && is_rising part_before ps && not_top ps
-  where
-    not_top : List Part → Bool
-    not_top qs = list_all (λ p. not (is_top p)) qs
+is_canonical_number (Number.parts ps) = list_all is_plain_part ps && is_rising part_before ps && list_all (λ p. not (is_top p)) ps
 
 abbrev pub is_canonical_content : Content → Bool
 is_canonical_content (Content.number n) = is_canonical_number n

@@ -9,3 +9,14 @@ pub mod Certificates
 pub mod RefusalNumbers
 pub mod SpellingParts
 pub mod Written
+pub mod Taken
+pub mod Seen
+pub mod Findings
+pub mod Sums
+pub mod PartSums
+pub mod Contents
+pub mod TermSums
+pub mod Standing
+pub mod Building
+pub mod ReadAnswers
+pub mod Behind

@@ -1,0 +1,39 @@
+-- A certificate in the making, one part later.
+use Rattle.std.proofs.Common.{◌≡◌, ℕ, ◌+◌, ◌-◌, ◌<◌, ◌≤◌, List, [], ◌∷◌, ◌++◌, map, flat_map, sym, ap, ◌∙◌, arith, append-nil}
+use Rattle.std.proofs.lemmas.List.{map-append, map-set, set-append_left, set-append_right, length-take-le, length-map}
+use Rattle.std.proofs.Math.Seq.{take-set-lt}
+use Rattle.std.proofs.lemmas.Grind.{flat_map-append}
+use Rattle.std.proofs.Common.{take, length}
+use Rattle.std.proofs.Math.ListN.{set}
+use Rattle.bpf_state.specs.State.{value_slot, AbstractState, IsState}
+use Rattle.bpf_state.specs.declared.state.RegState.{RegState}
+use Rattle.bpf_state.specs.declared.state.SlotState.{SlotState}
+use Rattle.bpf_cert.specs.Line.{Line}
+use Rattle.bpf_cert.specs.View.{label_view, function_view}
+use Rattle.bpf_cert.specs.Spelling.{function_lines, label_lines}
+use Rattle.bpf_cert.specs.declared.certificate.Label.{Label}
+use Rattle.bpf_cert.specs.declared.certificate.Function.{Function}
+
+-- a function with one label more
+pub label_more : (line : Line) (old new : List Label) (l : Label) → new ≡ old ++ l ∷ [] → line ∷ flat_map label_lines (map label_view new) ≡ (line ∷ flat_map label_lines (map label_view old)) ++ label_lines (label_view l)
+label_more line old new l e = ap (λ ls. line ∷ flat_map label_lines (map label_view ls)) e ∙ ap (λ ls. line ∷ flat_map label_lines ls) (map-append label_view old (l ∷ []))
+    ∙ ap (λ ls. line ∷ ls) (flat_map-append label_lines (map label_view old) (label_view l ∷ []) ∙ ap (λ ls. flat_map label_lines (map label_view old) ++ ls) (append-nil (label_lines (label_view l))))
+
+-- one function more
+pub function_more : (old new : List Function) (f : Function) → new ≡ old ++ f ∷ [] → flat_map function_lines (map function_view new) ≡ flat_map function_lines (map function_view old) ++ function_lines (function_view f)
+function_more old new f e = ap (λ fs. flat_map function_lines (map function_view fs)) e ∙ ap (flat_map function_lines) (map-append function_view old (f ∷ []))
+    ∙ flat_map-append function_lines (map function_view old) (function_view f ∷ []) ∙ ap (λ ls. flat_map function_lines (map function_view old) ++ ls) (append-nil (function_lines (function_view f)))
+
+-- the contents of a state with a register changed
+pub contents_register : (registers : List RegState) (slots : List SlotState) (i : ℕ) (value : RegState) (content : SlotState) → i ≤ 9 → length registers ≡ 11 → value_slot value ≡ content
+    → map value_slot (take 10 (set registers i value)) ++ slots ≡ set (map value_slot (take 10 registers) ++ slots) i content
+contents_register registers slots i value content few long e =
+    let inside : i < length (map value_slot (take 10 registers)) = omega (arith, length-map (take 10 registers) value_slot, length-take-le 10 registers (omega arith)) in
+    ap (λ xs. map value_slot xs ++ slots) (take-set-lt 10 registers i value (omega arith)) ∙ ap (λ xs. xs ++ slots) (map-set value_slot (take 10 registers) i value)
+    ∙ ap (λ c. set (map value_slot (take 10 registers)) i c ++ slots) e ∙ sym (set-append_left (map value_slot (take 10 registers)) slots i content inside)
+
+pub contents_slot : (front slots : List SlotState) (k : ℕ) (content : SlotState) → length front ≡ 10 → 1 ≤ k → k ≤ 64 → front ++ set slots (k - 1) content ≡ set (front ++ slots) (9 + k) content
+contents_slot front slots k content long low high = let same : 9 + k - 10 ≡ k - 1 = omega arith in ap (λ i. front ++ set slots i content) (sym same) ∙ sym (set-append_right front slots 10 (9 + k) content long (omega arith))
+
+pub front_length : (s : AbstractState) → IsState s → length (map value_slot (take 10 s.registers)) ≡ 10
+front_length s st = let long : length s.registers ≡ 11 = st.register_count in omega (arith, length-map (take 10 s.registers) value_slot, length-take-le 10 s.registers (omega arith))

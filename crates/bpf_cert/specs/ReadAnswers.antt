@@ -1,0 +1,18 @@
+-- What is answered of a reader's bytes, where they are known.
+use Rattle.std.specs.Prelude.{◌≡◌, ◌⊎◌, ℕ, List, ◌++◌, Some}
+use Rattle.bpf_cert.specs.Faults.{fault_of, complete, failed}
+use Rattle.bpf_cert.specs.declared.error.CertError.{CertError}
+use Rattle.bpf_cert.specs.declared.error.CertError.TheVariants.{Syntax, NotCanonical, Limit, Memory, Read}
+
+-- The fault is the text's. Memory may run out in any text. Where the reader failed, the fault is that of the bytes that
+-- it had given.
+abbrev pub IsFaultOf : List ℕ → CertError → Type 0
+IsFaultOf text (Syntax n) = fault_of complete text ≡ Some (Syntax n)
+IsFaultOf text (NotCanonical n) = fault_of complete text ≡ Some (NotCanonical n)
+IsFaultOf text (Limit n) = fault_of complete text ≡ Some (Limit n)
+IsFaultOf text Memory = Unit {0}
+IsFaultOf text (Read n) = (given rest : List ℕ) × (text ≡ given ++ rest) × (fault_of failed given ≡ Some (Read n))
+
+-- want of memory, or a fault of the reader
+abbrev pub IsFromOutside : CertError → Type 0
+IsFromOutside e = (e ≡ Memory) ⊎ ((n : ℕ) × (e ≡ Read n))

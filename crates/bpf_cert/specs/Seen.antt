@@ -1,0 +1,57 @@
+-- Forms that the code keeps, without where their digits lie in memory.
+use Rattle.std.specs.Prelude.{◌≡◌, ℕ, Bool, true, not, ◌&&◌, List, codes, Option, Some, None, ℤ, pos, neg_ℤ, min, ◌^◌, if◌then◌else◌}
+use Rattle.bpf_cert.specs.Numeral.{SignedDigits, number, is_numeral, is_plain}
+use Rattle.bpf_cert.specs.Line.{Part, Place, Content, Measure, Term}
+use Rattle.bpf_cert.specs.Reading.{◌>>=◌, cut, behind}
+use Rattle.bpf_cert.specs.Faults.{is_plain_part, is_top}
+use Rattle.bpf_cert.specs.declared.number.SignedForm.{SignedForm}
+use Rattle.bpf_cert.specs.declared.part.PartForm.{PartForm}
+use Rattle.bpf_cert.specs.declared.part.PartForm.TheVariants as part
+use Rattle.bpf_cert.specs.declared.content.PointerForm.{PointerForm}
+use Rattle.bpf_cert.specs.declared.content.PointerForm.TheVariants as pointer
+use Rattle.bpf_cert.specs.declared.term.TermForm.{TermForm}
+use Rattle.std.specs.Borrow.{Bor}
+use Rattle.bpf_cert.specs.declared.place.PlaceForm.{PlaceForm}
+use Rattle.bpf_cert.specs.declared.place.PlaceForm.TheVariants as place
+
+abbrev pub signed_seen : SignedForm → SignedDigits
+signed_seen s = record { minus = s.minus; digits = s.digits.now }
+
+-- both ends of `lo..hi`, whatever they are
+unfoldable pub ends_in : List ℕ → Option (List ℕ × List ℕ)
+ends_in text = do
+  ends ← cut 46 text
+  high ← behind (codes ".") ends.1
+  Some (ends.0, high)
+
+abbrev pub part_seen : PartForm → Part
+part_seen (part.Unsigned lo hi) = Part.unsigned lo.now hi.now
+part_seen (part.Signed lo hi) = Part.signed (signed_seen lo) (signed_seen hi)
+part_seen (part.Bits value mask) = Part.bits value.now mask.now
+
+-- a part by itself
+abbrev pub is_canonical_part : Part → Bool
+is_canonical_part p = is_plain_part p && not (is_top p)
+
+-- digits without a needless zero
+abbrev pub IsPlainNumeral : List ℕ → Type 0
+IsPlainNumeral ds = (is_numeral ds ≡ true) × (is_plain ds ≡ true)
+
+abbrev pub place_seen : PlaceForm → Place
+place_seen (place.Register i) = Place.register i.now
+place_seen (place.Slot k) = Place.slot k.now
+
+-- the number that is written, or 2^64 or -2^64 where it is past that
+abbrev pub capped_signed : SignedDigits → ℤ
+capped_signed s = if s.minus then neg_ℤ (pos (min (number s.digits) (2 ^ 64))) else pos (min (number s.digits) (2 ^ 64))
+
+abbrev pub pointer_seen : PointerForm → Content
+pointer_seen (pointer.Context lo hi) = Content.context (signed_seen lo) (signed_seen hi)
+pointer_seen (pointer.Frame lo hi) = Content.frame (signed_seen lo) (signed_seen hi)
+
+abbrev pub measure_seen : Option (Bor (List ℕ)) → PlaceForm → Measure
+measure_seen None p = Measure.down (place_seen p)
+measure_seen (Some limit) p = Measure.up limit.now (place_seen p)
+
+abbrev pub term_seen : TermForm → Term
+term_seen t = record { weight = t.weight.now; measure = measure_seen t.limit t.place }

@@ -1,0 +1,131 @@
+-- A line that was read: what it says, and what is kept of the lines before it.
+use Rattle.std.specs.Prelude.{◌≡◌, ◌≤◌, ◌<◌, ◌^◌, ℕ, Bool, true, false, not, ◌&&◌, ◌==◌, List, [], ◌∷◌, count_by, Option, Some, None, option_map, IfSome, Result, Ok, Err, map, if◌then◌else◌, decimal}
+use Rattle.std.specs.List.{slice_split}
+use Rattle.bpf_cert.specs.Line.{Line, Place, is_place, is_content}
+use Rattle.bpf_state.specs.declared.state.Place.{Place as PlaceValue}
+use Rattle.bpf_state.specs.declared.state.SlotState.{SlotState}
+use Rattle.bpf_cert.specs.Numeral.{is_numeral}
+use Rattle.bpf_cert.specs.Reading.{number_in, content_in, header_in, function_in, label_in, entry_in}
+use Rattle.bpf_cert.specs.TermSums.{terms_in}
+use Rattle.bpf_cert.specs.Faults.{is_canonical, is_limited, may_stand, is_in_order, has_room, last_first, last_slot, last_place, is_function, is_label}
+use Rattle.bpf_cert.specs.Limits.{is_limited_place}
+use Rattle.bpf_cert.specs.Spelling.{place_of, term_of, number_of, content_of, header_line}
+use Rattle.bpf_cert.specs.Contents.{IsContent}
+use Rattle.bpf_cert.specs.declared.finding.Flaw.{Flaw}
+use Rattle.bpf_cert.specs.declared.finding.Flaw.TheVariants.{Syntax, NotCanonical, Limit}
+use Rattle.bpf_cert.specs.declared.standing.Stage.{Stage}
+use Rattle.bpf_cert.specs.declared.standing.Stage.TheVariants as stage
+use Rattle.bpf_cert.specs.declared.standing.Standing.{Standing}
+use Rattle.bpf_cert.specs.declared.standing.LineValue.{LineValue}
+use Rattle.bpf_cert.specs.declared.standing.LineValue.TheVariants as value
+
+-- the line that says so
+abbrev pub value_line : LineValue → Line
+value_line (value.Header len steps) = header_line len steps
+value_line (value.Function first depth ret) = Line.function (decimal first) (decimal depth) (number_of ret)
+value_line (value.Label slot base terms) = Line.label (decimal slot) (decimal base) (map term_of terms.items)
+value_line (value.Entry place content) = Line.entry (place_of place) (content_of content)
+value_line value.End = Line.end
+
+-- what is known of an entry besides
+pub record IsEntry (place : PlaceValue) (content : SlotState) : Type 0 where
+  pub known : IsContent content
+  pub form : is_content (place_of place) (content_of content) ≡ true
+  pub limited : is_limited_place place ≡ true
+
+abbrev pub IsValue : LineValue → Type 0
+IsValue (value.Entry place content) = IsEntry place content
+IsValue (value.Function first depth ret) = first < 2 ^ 32
+IsValue (value.Label slot base terms) = slot < 2 ^ 32
+IsValue (value.Header len steps) = Unit {0}
+IsValue value.End = Unit {0}
+
+-- the place of an entry
+abbrev pub value_place : LineValue → Option PlaceValue
+value_place (value.Header len steps) = None
+value_place (value.Function first depth ret) = None
+value_place (value.Label slot base terms) = None
+value_place (value.Entry place content) = Some place
+value_place value.End = None
+
+-- the last line's kind; an entry belongs to a label
+abbrev pub stage_of : List Line → Stage
+stage_of [] = stage.Start
+stage_of (Line.header len steps ∷ before) = stage.Header
+stage_of (Line.function first depth ret ∷ before) = stage.Function
+stage_of (Line.label at base terms ∷ before) = stage.Label
+stage_of (Line.entry p c ∷ before) = stage.Label
+stage_of (Line.end ∷ before) = stage.Ended
+
+-- what is kept of the lines before, with the nearest first
+pub record Stands (before : List Line) (s : Standing) : Type 0 where
+  pub stage : s.stage ≡ stage_of before
+  pub first : s.first ≡ last_first before
+  pub slot : s.slot ≡ last_slot before
+  pub place : option_map place_of s.place ≡ last_place before
+  pub functions : s.functions ≡ count_by is_function before
+  pub labels : s.labels ≡ count_by is_label before
+  pub low_first : IfSome s.first (λ n. n ≤ 65535)
+  pub low_slot : IfSome s.slot (λ n. n ≤ 65535)
+  pub low_place : IfSome s.place (λ p. is_limited_place p ≡ true)
+
+-- a form behind the lines before it
+abbrev pub ruled : List Line → Option Line → Result Line Flaw
+ruled before None = Err Syntax
+ruled before (Some l) =
+    if not (may_stand before l) then Err Syntax
+    else if not (is_canonical l && is_in_order before l) then Err NotCanonical
+    else if not (is_limited l && has_room before l) then Err Limit
+    else Ok l
+
+-- the fields of what is left of a line
+abbrev pub fields_in : Option (List ℕ) → List (List ℕ)
+fields_in None = []
+fields_in (Some text) = slice_split (λ c. c == 32) text
+
+abbrev pub uncons : List (List ℕ) → Option (List ℕ × List (List ℕ))
+uncons [] = None
+uncons (f ∷ fs) = Some (f, fs)
+
+abbrev pub three_of : List (List ℕ) → Option (List ℕ × List ℕ × List ℕ)
+three_of (a ∷ b ∷ c ∷ []) = Some (a, b, c)
+three_of _ = None
+
+abbrev pub is_start : Stage → Bool
+is_start stage.Start = true
+is_start stage.Header = false
+is_start stage.Function = false
+is_start stage.Label = false
+is_start stage.Ended = false
+
+abbrev pub may_have_label : Stage → Bool
+may_have_label stage.Start = false
+may_have_label stage.Header = false
+may_have_label stage.Function = true
+may_have_label stage.Label = true
+may_have_label stage.Ended = true
+
+abbrev pub may_have_entry : Stage → Bool
+may_have_entry stage.Start = false
+may_have_entry stage.Header = false
+may_have_entry stage.Function = false
+may_have_entry stage.Label = true
+may_have_entry stage.Ended = false
+
+-- the form of each kind of line, as far as its own fields tell
+
+abbrev pub HeaderIs : List (List ℕ) → Option (List ℕ × List ℕ) → Type 0
+HeaderIs fs None = header_in fs ≡ None
+HeaderIs fs (Some x) = (is_numeral x.0 ≡ true) × (is_numeral x.1 ≡ true) × (header_in fs ≡ Some (Line.header x.0 x.1))
+
+abbrev pub FunctionIs : List (List ℕ) → Option (List ℕ × List ℕ × List ℕ) → Type 0
+FunctionIs fs None = function_in fs ≡ None
+FunctionIs fs (Some x) = (is_numeral x.0 ≡ true) × (is_numeral x.1 ≡ true) × (function_in fs ≡ option_map (Line.function x.0 x.1) (number_in x.2))
+
+abbrev pub LabelIs : List (List ℕ) → Option (List ℕ × List ℕ × Option (List ℕ)) → Type 0
+LabelIs fs None = label_in fs ≡ None
+LabelIs fs (Some x) = (is_numeral x.0 ≡ true) × (is_numeral x.1 ≡ true) × (label_in fs ≡ option_map (Line.label x.0 x.1) (terms_in x.2))
+
+abbrev pub EntryIs : List ℕ → List (List ℕ) → Option (Place × List ℕ) → Type 0
+EntryIs name fs None = entry_in name fs ≡ None
+EntryIs name fs (Some x) = (is_place x.0 ≡ true) × (entry_in name fs ≡ option_map (Line.entry x.0) (content_in x.0 x.1))

@@ -1,0 +1,213 @@
+//! A certificate, as its lines come.
+
+ghost use Rattle.std.specs.Prelude.{◌≡◌, ◌≤◌, ◌∷◌, [], List, length, true, false, IfOk, Some, Ok};
+ghost use Rattle.bpf_cert.specs.Line.{Line};
+ghost use Rattle.bpf_cert.specs.Standing.{IsValue, IsEntry, value_line, ruled};
+ghost use Rattle.bpf_cert.specs.Building.{IsBuilt, IsRegisterContent, ClosesLabel, Closes, Puts, fault_at, Takes, Finishes};
+ghost use Rattle.bpf_cert.specs.Faults.{is_ended};
+ghost use Rattle.bpf_state.specs.State.{value_slot, IsRegister};
+
+use crate::certificate::{Budget, Certificate, Function, Label};
+use crate::error::CertError;
+use crate::finding::Flaw;
+use crate::standing::{LineValue, Stage, Standing};
+use arrayvec::ArrayVec;
+use bpf_num::Num;
+use bpf_state::{Place, Pointer, RegState, SlotState, State};
+use std::alloc::{AllocError, Global};
+use std::mem;
+
+/// The parts of a certificate so far.
+#[derive(Drop)]
+pub struct Builder {
+    pub alloc: Global,
+    pub standing: Standing,
+    pub len: u32,
+    pub steps: u32,
+    /// The functions before the last one.
+    pub functions: Vec<Function>,
+    /// The last function, but for its last label.
+    pub function: Function,
+    /// The last label in it.
+    pub label: Label,
+}
+
+// What a register holds that holds what a slot would.
+fn register_value(content: SlotState) -> RegState
+    requires { IsRegisterContent content }
+    ensures value { value_slot result ≡ content }
+    ensures ordered { IsRegister result }
+{
+    match content {
+        SlotState::Word(number) => RegState::Num(number),
+        SlotState::Ptr(pointer) => match pointer {
+            Pointer::Ctx { lo, hi } => RegState::Ctx { lo, hi },
+            Pointer::Frame { lo, hi } => RegState::Frame { lo, hi },
+        },
+        SlotState::Bytes(_) => RegState::Any,
+    }
+}
+
+fn at_line(flaw: Flaw, line: usize) -> CertError
+    ensures { result ≡ fault_at line flaw }
+{
+    match flaw {
+        Flaw::Syntax => CertError::Syntax { line },
+        Flaw::NotCanonical => CertError::NotCanonical { line },
+        Flaw::Limit => CertError::Limit { line },
+    }
+}
+
+fn blank_label() -> Label {
+    Label {
+        slot: 0,
+        state: State::blank(),
+        budget: Budget {
+            base: 0,
+            terms: ArrayVec::new(),
+        },
+    }
+}
+
+impl Builder {
+    /// No line yet.
+    pub fn new(alloc: Global) -> Self
+        ensures { IsBuilt [] result }
+    {
+        Builder {
+            alloc,
+            standing: Standing::new(),
+            len: 0,
+            steps: 0,
+            functions: Vec::new(alloc),
+            function: Function {
+                first: 0,
+                depth: 0,
+                ret: Num::top(),
+                labels: Vec::new(alloc),
+            },
+            label: blank_label(),
+        }
+    }
+
+    // Puts the last label into its function.
+    fn close_label(&mut self) -> Result<(), AllocError>
+        ensures { IfOk result (λ u. ClosesLabel self.old self.new) }
+    {
+        match self.standing.stage {
+            Stage::Label => {
+                let label = mem::replace(&mut self.label, blank_label());
+                self.function.labels.push(label)?;
+                Ok(())
+            }
+            Stage::Start | Stage::Header | Stage::Function | Stage::Ended => Ok(()),
+        }
+    }
+
+    // Puts the last function into the list.
+    fn close(&mut self) -> Result<(), AllocError>
+        ensures { IfOk result (λ u. Closes self.old self.new) }
+    {
+        self.close_label()?;
+        match self.standing.stage {
+            Stage::Function | Stage::Label => {
+                let none = Function {
+                    first: 0,
+                    depth: 0,
+                    ret: Num::top(),
+                    labels: Vec::new(self.alloc),
+                };
+                let function = mem::replace(&mut self.function, none);
+                self.functions.push(function)?;
+                Ok(())
+            }
+            Stage::Start => Ok(()),
+            Stage::Header => Ok(()),
+            Stage::Ended => Ok(()),
+        }
+    }
+
+    // Says what is known of a place of the last label.
+    fn put(&mut self, place: Place, content: SlotState)
+        requires { IsEntry place content }
+        ensures { Puts place content self.old self.new }
+    {
+        self.label.state.valid();
+        match place {
+            Place::Register(r) => self.label.state.set_reg(r, register_value(content)),
+            Place::Slot(k) => self.label.state.set_slot(k, content),
+        }
+    }
+
+    /// Takes what a line says. Nothing is said of the builder once memory ran out.
+    fn push(&mut self, value: LineValue) -> Result<(), AllocError>
+        requires { IsValue value }
+        ensures { (lines : List Line) → IsBuilt lines self.old → is_ended lines ≡ false → ruled lines (Some (value_line value)) ≡ Ok (value_line value) → IfOk result (λ u. IsBuilt (value_line value ∷ lines) self.new) }
+    {
+        let standing = self.standing.after(&value);
+        match value {
+            LineValue::Header { len, steps } => {
+                self.len = len;
+                self.steps = steps;
+            }
+            LineValue::Function { first, depth, ret } => {
+                self.close()?;
+                self.function = Function {
+                    first,
+                    depth,
+                    ret,
+                    labels: Vec::new(self.alloc),
+                };
+            }
+            LineValue::Label { slot, base, terms } => {
+                self.close_label()?;
+                self.label = Label {
+                    slot,
+                    state: State::blank(),
+                    budget: Budget { base, terms },
+                };
+            }
+            LineValue::Entry { place, content } => self.put(place, content),
+            LineValue::End => self.close()?,
+        }
+        self.standing = standing;
+        Ok(())
+    }
+
+    /// Whether the last line was `end`.
+    pub fn is_ended(&self) -> bool
+        ensures { (lines : List Line) → IsBuilt lines self.now → result ≡ is_ended lines }
+    {
+        match self.standing.stage {
+            Stage::Ended => true,
+            Stage::Start | Stage::Header | Stage::Function | Stage::Label => false,
+        }
+    }
+
+    /// Takes the text of a line of at most 256 bytes, by its number. K1 to K3 if it is at fault behind the lines so far,
+    /// K4 if memory runs out.
+    pub fn take(&mut self, line: usize, text: &[u8]) -> Result<(), CertError>
+        requires { length text.now ≤ 256 }
+        ensures { (lines : List Line) → IsBuilt lines self.old → is_ended lines ≡ false → Takes line lines text.now self.new result }
+    {
+        let value = match self.standing.judge(text) {
+            Ok(value) => value,
+            Err(flaw) => return Err(at_line(flaw, line)),
+        };
+        match self.push(value) {
+            Ok(()) => Ok(()),
+            Err(_) => Err(CertError::Memory),
+        }
+    }
+
+    /// The certificate whose lines these are.
+    pub fn finish(self) -> Result<Certificate, CertError>
+        ensures { (lines : List Line) → IsBuilt lines self → is_ended lines ≡ true → Finishes lines result }
+    {
+        match Certificate::new(self.len, self.steps, self.functions) {
+            Ok(certificate) => Ok(certificate),
+            // Lines that are at no fault are a certificate's, so it isn't refused.
+            Err(_) => Err(CertError::Memory),
+        }
+    }
+}

@@ -1,0 +1,95 @@
+//! Numbers in decimal digits.
+
+ghost use Rattle.std.specs.Prelude.{◌≡◌, ◌^◌, min, nat_lt, option_map};
+ghost use Rattle.std.specs.List.{list_all};
+ghost use Rattle.bpf_cert.specs.Numeral.{is_decimal_digit, is_numeral, is_plain, number};
+ghost use Rattle.bpf_cert.specs.Reading.{signed_in};
+ghost use Rattle.bpf_cert.specs.Seen.{signed_seen, IsPlainNumeral};
+
+use crate::cut::behind;
+
+/// What stands for each number past 64 bits.
+pub const HUGE: u128 = 1 << 64;
+
+fn are_digits(text: &[u8]) -> bool
+    ensures { result ≡ list_all is_decimal_digit text.now }
+{
+    for byte in text {
+        if !byte.is_ascii_digit() {
+            return false;
+        }
+    }
+    true
+}
+
+/// One digit or more, and nothing else.
+pub fn is_numeral(text: &[u8]) -> bool
+    ensures { result ≡ is_numeral text.now }
+{
+    !text.is_empty() && are_digits(text)
+}
+
+/// No zero stands in front of another digit.
+pub fn is_plain(digits: &[u8]) -> bool
+    ensures { result ≡ is_plain digits.now }
+{
+    match digits {
+        [first, _, ..] => *first != b'0',
+        _ => true,
+    }
+}
+
+/// The number that digits write, or 2^64 where it is above that.
+pub fn number(digits: &[u8]) -> u128
+    ensures { result ≡ min (number digits.now) (2 ^ 64) }
+{
+    let mut number = 0;
+    for digit in digits {
+        number = (number * 10 + u128::from(digit.saturating_sub(b'0'))).min(HUGE);
+    }
+    number
+}
+
+/// Whether the first number is the lesser one, of any size, where both are written plainly.
+pub fn is_less(left: &[u8], right: &[u8]) -> bool
+    ensures { IsPlainNumeral left.now → IsPlainNumeral right.now → result ≡ nat_lt (number left.now) (number right.now) }
+{
+    if left.len() != right.len() {
+        return left.len() < right.len();
+    }
+    for (at, digit) in left.iter().enumerate() {
+        if *digit != right[at] {
+            return *digit < right[at];
+        }
+    }
+    false
+}
+
+/// Digits, and whether a `-` stands before them.
+#[derive(Clone, Copy)]
+pub struct SignedForm<'a> {
+    pub minus: bool,
+    pub digits: &'a [u8],
+}
+
+#[tactic(auto, unfolding(crate::specs::Reading::signed_in, crate::specs::Reading::or_else, crate::specs::Reading::numeral_in))]
+pub fn signed(text: &[u8]) -> Option<SignedForm<'_>>
+    ensures { option_map signed_seen result ≡ signed_in text.now }
+{
+    if let Some(digits) = behind(text, b"-") {
+        if is_numeral(digits) {
+            return Some(SignedForm {
+                minus: true,
+                digits,
+            });
+        }
+    }
+    if is_numeral(text) {
+        Some(SignedForm {
+            minus: false,
+            digits: text,
+        })
+    } else {
+        None
+    }
+}

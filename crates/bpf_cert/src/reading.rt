@@ -1,0 +1,64 @@
+//! Reading a certificate.
+
+ghost use Rattle.std.specs.Prelude.{◌≡◌, List, IfOk, IfErr, IfSome, true};
+ghost use Rattle.bpf_cert.specs.Line.{Line};
+ghost use Rattle.bpf_cert.specs.Faults.{is_ended};
+ghost use Rattle.bpf_cert.specs.Certificates.{Spells};
+ghost use Rattle.bpf_cert.specs.Building.{IsBuilt};
+ghost use Rattle.bpf_cert.specs.Behind.{AnswersBehindEnd};
+ghost use Rattle.bpf_cert.specs.ReadAnswers.{IsFaultOf};
+
+use crate::building::Builder;
+use crate::certificate::Certificate;
+use crate::error::CertError;
+use crate::source::{Source, Stop};
+use arrayvec::ArrayVec;
+use std::alloc::Global;
+use std::io::Read;
+
+// What is answered where `end` came, and behind it nothing or some bytes.
+fn behind_end(
+    builder: Builder,
+    stop: Stop,
+    is_empty: bool,
+    line: usize,
+) -> Result<Certificate, CertError>
+    ensures { (lines : List Line) → IsBuilt lines builder → is_ended lines ≡ true → AnswersBehindEnd stop is_empty line lines result }
+{
+    match (stop, is_empty) {
+        (Stop::End, true) => builder.finish(),
+        (Stop::Failed, true) => Err(CertError::Read { line }),
+        (_, _) => Err(CertError::Syntax { line }),
+    }
+}
+
+/// The certificate that a reader's bytes spell, in whatever pieces they come. K1 to K3 at the lowest line at fault, K4 if
+/// memory runs out, K5 at the line in which the reader failed, if no earlier line is at fault.
+pub fn read<R: Read + Drop>(alloc: Global, reader: R) -> Result<Certificate, CertError>
+    ensures ok { IfOk result (λ c. IfSome (R.remaining reader) (λ text. Spells text c)) }
+    ensures err { IfErr result (λ e. IfSome (R.remaining reader) (λ text. IsFaultOf text e)) }
+{
+    let mut source = Source::new(reader);
+    let mut builder = Builder::new(alloc);
+    let mut text: ArrayVec<u8, 256> = ArrayVec::new();
+    for before in 0..usize::MAX {
+        let line = before + 1;
+        text.clear();
+        let stop = source.next_line(&mut text);
+        if builder.is_ended() {
+            return behind_end(builder, stop, text.is_empty(), line);
+        }
+        match stop {
+            Stop::End => return Err(CertError::Syntax { line }),
+            Stop::Failed => return Err(CertError::Read { line }),
+            Stop::Long => return Err(CertError::Limit { line }),
+            Stop::LineEnd => {
+                if let Err(error) = builder.take(line, text.as_slice()) {
+                    return Err(error);
+                }
+            }
+        }
+    }
+    // No text is as long as that.
+    Err(CertError::Memory)
+}

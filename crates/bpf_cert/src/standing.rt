@@ -1,0 +1,450 @@
+//! A line, judged by its text and the lines before it.
+
+ghost use Rattle.std.specs.Prelude.{◌≡◌, List, option_map, nat_lt, not, count_by, true, ◌&&◌, [], ◌∷◌, Some, Ok, IfOk};
+ghost use Rattle.bpf_cert.specs.Line.{Line};
+ghost use Rattle.bpf_cert.specs.Faults.{comes_after, place_before, is_canonical, is_limited, is_function, ends_bare};
+ghost use Rattle.bpf_cert.specs.Numeral.{is_numeral, is_from_to};
+ghost use Rattle.bpf_insn.specs.Instruction.{register_number};
+ghost use Rattle.bpf_cert.specs.Reading.{header_in, function_in, label_in, entry_in, end_in, line_in};
+ghost use Rattle.bpf_cert.specs.Findings.{found, valued};
+ghost use Rattle.bpf_cert.specs.Spelling.{place_of};
+ghost use Rattle.bpf_cert.specs.Seen.{place_seen};
+ghost use Rattle.bpf_cert.specs.Standing.{Stands, IsValue, HeaderIs, FunctionIs, LabelIs, EntryIs, value_line, value_place, stage_of, is_start, may_have_label, may_have_entry, ruled, fields_in, uncons, three_of};
+
+use crate::certificate::Term;
+use crate::content::content;
+use crate::cut::cut;
+use crate::finding::{Flaw, joined, tested};
+use crate::num::{are_plain, number_in};
+use crate::number::{is_numeral, number};
+use crate::place::{PlaceForm, is_limited_place, is_plain_place, place, place_value};
+use crate::term::all_terms;
+use arrayvec::ArrayVec;
+use bpf_insn::Reg;
+use bpf_num::Num;
+use bpf_state::{Place, SlotState};
+
+/// What the last line was; an entry belongs to a label.
+#[derive(Clone, Copy)]
+pub enum Stage {
+    Start,
+    Header,
+    Function,
+    Label,
+    Ended,
+}
+
+/// What is kept of the lines so far.
+#[derive(Clone, Copy)]
+pub struct Standing {
+    pub stage: Stage,
+    /// The first slot of the last function.
+    pub first: Option<u32>,
+    /// The slot of the last label in it.
+    pub slot: Option<u32>,
+    /// The place of the last entry under that label.
+    pub place: Option<Place>,
+    pub functions: u32,
+    pub labels: u32,
+}
+
+/// What a line says.
+#[derive(Drop)]
+pub enum LineValue {
+    Header {
+        len: u32,
+        steps: u32,
+    },
+    Function {
+        first: u32,
+        depth: u32,
+        ret: Num,
+    },
+    Label {
+        slot: u32,
+        base: u64,
+        terms: ArrayVec<Term, 4>,
+    },
+    Entry {
+        place: Place,
+        content: SlotState,
+    },
+    End,
+}
+
+/// The next field, and what stands behind it.
+type Split<'a> = Option<(&'a [u8], Option<&'a [u8]>)>;
+
+fn next_field(rest: Option<&[u8]>) -> Split<'_>
+    ensures { option_map (λ x. (x.0.now, fields_in (option_map (λ y. y.now) x.1))) result ≡ uncons (fields_in (option_map (λ x. x.now) rest.entry)) }
+{
+    let Some(text) = rest else {
+        return None;
+    };
+    match cut(text, b' ') {
+        Some((field, more)) => Some((field, Some(more))),
+        None => Some((text, None)),
+    }
+}
+
+fn three_fields(rest: Option<&[u8]>) -> Option<(&[u8], &[u8], &[u8])>
+    ensures { option_map (λ x. (x.0.now, x.1.now, x.2.now)) result ≡ three_of (fields_in (option_map (λ x. x.now) rest.entry)) }
+{
+    let (first, rest) = next_field(rest)?;
+    let (second, rest) = next_field(rest)?;
+    let (third, rest) = next_field(rest)?;
+    match next_field(rest) {
+        Some(_) => None,
+        None => Some((first, second, third)),
+    }
+}
+
+fn rises(last: Option<u32>, number: u128) -> bool
+    ensures { result ≡ comes_after nat_lt last number }
+{
+    match last {
+        None => true,
+        Some(last) => (last as u128) < number,
+    }
+}
+
+fn register_number(r: Reg) -> u8
+    ensures { result ≡ register_number r }
+{
+    r as u8
+}
+
+fn place_rises(last: Option<Place>, next: PlaceForm<'_>) -> bool
+    ensures { result ≡ comes_after place_before (option_map place_of last) (place_seen next.entry) }
+{
+    let Some(last) = last else {
+        return true;
+    };
+    match last {
+        Place::Register(r) => match next {
+            PlaceForm::Register(index) => (register_number(r) as u128) < number(index),
+            PlaceForm::Slot(_) => true,
+        },
+        Place::Slot(k) => match next {
+            PlaceForm::Register(_) => false,
+            PlaceForm::Slot(index) => (k as u128) < number(index),
+        },
+    }
+}
+
+fn between(low: u128, high: u128, number: u128) -> bool
+    ensures { result ≡ is_from_to low high number }
+{
+    low <= number && number <= high
+}
+
+fn both(first: bool, second: bool) -> bool
+    ensures { result ≡ (first && second) }
+{
+    first && second
+}
+
+fn header_value(bytes: &[u8], most: &[u8]) -> Result<LineValue, Flaw>
+    requires bytes { is_numeral bytes.now ≡ true }
+    requires most { is_numeral most.now ≡ true }
+    ensures value { valued value_line result ≡ found is_canonical is_limited (Some (Line.header bytes.now most.now)) }
+    ensures kept { IfOk result IsValue }
+{
+    let len = number(bytes);
+    let steps = number(most);
+    let limited = both(len <= 4096, between(1, 0xffff_ffff, steps));
+    match tested(are_plain(bytes, most), limited) {
+        Ok(()) => Ok(LineValue::Header {
+            len: len as u32,
+            steps: steps as u32,
+        }),
+        Err(flaw) => Err(flaw),
+    }
+}
+
+fn header_form(rest: Option<&[u8]>) -> Option<(&[u8], &[u8])>
+    ensures { HeaderIs (fields_in (option_map (λ x. x.now) rest.entry)) (option_map (λ x. (x.0.now, x.1.now)) result) }
+{
+    let Some((version, bytes, most)) = three_fields(rest) else {
+        return None;
+    };
+    let known = version == b"1".as_slice();
+    if both(known, both(is_numeral(bytes), is_numeral(most))) {
+        Some((bytes, most))
+    } else {
+        None
+    }
+}
+
+fn function_form(rest: Option<&[u8]>) -> Option<(&[u8], &[u8], &[u8])>
+    ensures { FunctionIs (fields_in (option_map (λ x. x.now) rest.entry)) (option_map (λ x. (x.0.now, x.1.now, x.2.now)) result) }
+{
+    let Some((first, depth, ret)) = three_fields(rest) else {
+        return None;
+    };
+    if both(is_numeral(first), is_numeral(depth)) {
+        Some((first, depth, ret))
+    } else {
+        None
+    }
+}
+
+/// The slot, the base, and the text of the terms.
+type LabelForm<'a> = Option<(&'a [u8], &'a [u8], Option<&'a [u8]>)>;
+
+fn label_form(rest: Option<&[u8]>) -> LabelForm<'_>
+    ensures { LabelIs (fields_in (option_map (λ x. x.now) rest.entry)) (option_map (λ x. (x.0.now, x.1.now, option_map (λ y. y.now) x.2)) result) }
+{
+    let Some((at, rest)) = next_field(rest) else {
+        return None;
+    };
+    let Some((base, rest)) = next_field(rest) else {
+        return None;
+    };
+    if both(is_numeral(at), is_numeral(base)) {
+        Some((at, base, rest))
+    } else {
+        None
+    }
+}
+
+fn entry_form<'a>(name: &'a [u8], rest: Option<&'a [u8]>) -> Option<(PlaceForm<'a>, &'a [u8])>
+    ensures { EntryIs name.now (fields_in (option_map (λ x. x.now) rest.entry)) (option_map (λ x. (place_seen x.0, x.1.now)) result) }
+{
+    let Some((said, rest)) = next_field(rest) else {
+        return None;
+    };
+    let None = next_field(rest) else {
+        return None;
+    };
+    match place(name) {
+        Some(place) => Some((place, said)),
+        None => None,
+    }
+}
+
+impl Standing {
+    /// No line yet.
+    pub fn new() -> Self
+        ensures { Stands [] result }
+    {
+        Standing {
+            stage: Stage::Start,
+            first: None,
+            slot: None,
+            place: None,
+            functions: 0,
+            labels: 0,
+        }
+    }
+
+    fn header(self, rest: Option<&[u8]>) -> Result<LineValue, Flaw>
+        ensures value { (before : List Line) → Stands before self → valued value_line result ≡ ruled before (header_in (fields_in (option_map (λ x. x.now) rest.entry))) }
+        ensures kept { IfOk result IsValue }
+    {
+        let Some((bytes, most)) = header_form(rest) else {
+            return Err(Flaw::Syntax);
+        };
+        if !self.is_at_start() {
+            return Err(Flaw::Syntax);
+        }
+        header_value(bytes, most)
+    }
+
+    fn function(self, rest: Option<&[u8]>) -> Result<LineValue, Flaw>
+        ensures value { (before : List Line) → Stands before self → valued value_line result ≡ ruled before (function_in (fields_in (option_map (λ x. x.now) rest.entry))) }
+        ensures kept { IfOk result IsValue }
+    {
+        let Some((first, depth, ret)) = function_form(rest) else {
+            return Err(Flaw::Syntax);
+        };
+        if self.is_at_start() {
+            return Err(Flaw::Syntax);
+        }
+        let slot = number(first);
+        let deep = number(depth);
+        let canonical = both(are_plain(first, depth), rises(self.first, slot));
+        let limited = both(slot <= 65_535, between(1, 8, deep));
+        let found = tested(canonical, both(limited, self.has_room_for_function()));
+        match joined(found, number_in(ret)) {
+            Ok(ret) => Ok(LineValue::Function {
+                first: slot as u32,
+                depth: deep as u32,
+                ret,
+            }),
+            Err(flaw) => Err(flaw),
+        }
+    }
+
+    fn label(self, rest: Option<&[u8]>) -> Result<LineValue, Flaw>
+        ensures value { (before : List Line) → Stands before self → valued value_line result ≡ ruled before (label_in (fields_in (option_map (λ x. x.now) rest.entry))) }
+        ensures kept { IfOk result IsValue }
+    {
+        let Some((at, base, terms)) = label_form(rest) else {
+            return Err(Flaw::Syntax);
+        };
+        if !self.may_have_label() {
+            return Err(Flaw::Syntax);
+        }
+        let slot = number(at);
+        let most = number(base);
+        let canonical = both(are_plain(at, base), rises(self.slot, slot));
+        let limited = both(slot <= 65_535, most <= 1 << 40);
+        let found = tested(canonical, both(limited, self.labels < 65_536));
+        match joined(found, all_terms(terms)) {
+            Ok(terms) => Ok(LineValue::Label {
+                slot: slot as u32,
+                base: most as u64,
+                terms,
+            }),
+            Err(flaw) => Err(flaw),
+        }
+    }
+
+    fn entry(self, name: &[u8], rest: Option<&[u8]>) -> Result<LineValue, Flaw>
+        ensures value { (before : List Line) → Stands before self → valued value_line result ≡ ruled before (entry_in name.now (fields_in (option_map (λ x. x.now) rest.entry))) }
+        ensures kept { IfOk result IsValue }
+    {
+        let Some((place, said)) = entry_form(name, rest) else {
+            return Err(Flaw::Syntax);
+        };
+        if !self.may_have_entry() {
+            return Err(Flaw::Syntax);
+        }
+        let canonical = both(is_plain_place(place), place_rises(self.place, place));
+        let found = tested(canonical, is_limited_place(place));
+        match joined(found, content(place, said)) {
+            Ok(content) => Ok(LineValue::Entry {
+                place: place_value(place),
+                content,
+            }),
+            Err(flaw) => Err(flaw),
+        }
+    }
+
+    fn end(self, rest: Option<&[u8]>) -> Result<LineValue, Flaw>
+        ensures value { (before : List Line) → Stands before self → valued value_line result ≡ ruled before (end_in (fields_in (option_map (λ x. x.now) rest.entry))) }
+        ensures kept { IfOk result IsValue }
+    {
+        let None = next_field(rest) else {
+            return Err(Flaw::Syntax);
+        };
+        if self.is_at_start() {
+            return Err(Flaw::Syntax);
+        }
+        match tested(true, self.may_end()) {
+            Ok(()) => Ok(LineValue::End),
+            Err(flaw) => Err(flaw),
+        }
+    }
+
+    /// What a line says behind the lines so far, or the gravest flaw of it.
+    pub fn judge(self, text: &[u8]) -> Result<LineValue, Flaw>
+        ensures value { (before : List Line) → Stands before self → valued value_line result ≡ ruled before (line_in text.now) }
+        ensures kept { IfOk result IsValue }
+    {
+        let Some((name, rest)) = next_field(Some(text)) else {
+            return Err(Flaw::Syntax);
+        };
+        if name == b"bpfcert".as_slice() {
+            return self.header(rest);
+        }
+        if name == b"fn".as_slice() {
+            return self.function(rest);
+        }
+        if name == b"at".as_slice() {
+            return self.label(rest);
+        }
+        if name == b"end".as_slice() {
+            return self.end(rest);
+        }
+        self.entry(name, rest)
+    }
+
+    /// What is kept once the line is there, too.
+    pub fn after(self, value: &LineValue) -> Standing
+        requires { IsValue value.now }
+        ensures place { result.place ≡ value_place value.now }
+        ensures stands { (before : List Line) → Stands before self → ruled before (Some (value_line value.now)) ≡ Ok (value_line value.now) → Stands (value_line value.now ∷ before) result }
+    {
+        match *value {
+            LineValue::Header { .. } => Standing {
+                stage: Stage::Header,
+                place: None,
+                ..self
+            },
+            LineValue::Function { first, .. } => Standing {
+                stage: Stage::Function,
+                first: Some(first),
+                slot: None,
+                place: None,
+                functions: self.functions.saturating_add(1),
+                labels: self.labels,
+            },
+            LineValue::Label { slot, .. } => Standing {
+                stage: Stage::Label,
+                slot: Some(slot),
+                place: None,
+                labels: self.labels.saturating_add(1),
+                ..self
+            },
+            LineValue::Entry { place, .. } => Standing {
+                stage: Stage::Label,
+                place: Some(place),
+                ..self
+            },
+            LineValue::End => Standing {
+                stage: Stage::Ended,
+                place: None,
+                ..self
+            },
+        }
+    }
+
+    fn is_at_start(self) -> bool
+        ensures { (before : List Line) → Stands before self → result ≡ is_start (stage_of before) }
+    {
+        match self.stage {
+            Stage::Start => true,
+            Stage::Header | Stage::Function | Stage::Label | Stage::Ended => false,
+        }
+    }
+
+    fn may_have_label(self) -> bool
+        ensures { (before : List Line) → Stands before self → result ≡ may_have_label (stage_of before) }
+    {
+        match self.stage {
+            Stage::Function | Stage::Label | Stage::Ended => true,
+            Stage::Start | Stage::Header => false,
+        }
+    }
+
+    fn may_have_entry(self) -> bool
+        ensures { (before : List Line) → Stands before self → result ≡ may_have_entry (stage_of before) }
+    {
+        match self.stage {
+            Stage::Label => true,
+            Stage::Start | Stage::Header | Stage::Function | Stage::Ended => false,
+        }
+    }
+
+    // Room for a function, and the last one has a label.
+    fn has_room_for_function(self) -> bool
+        ensures { (before : List Line) → Stands before self → result ≡ (nat_lt (count_by is_function before) 256 && not (ends_bare before)) }
+    {
+        match self.stage {
+            Stage::Function => false,
+            Stage::Start | Stage::Header | Stage::Label | Stage::Ended => self.functions < 256,
+        }
+    }
+
+    // Some function, and the last one has a label.
+    fn may_end(self) -> bool
+        ensures { (before : List Line) → Stands before self → result ≡ (nat_lt 0 (count_by is_function before) && not (ends_bare before)) }
+    {
+        match self.stage {
+            Stage::Function => false,
+            Stage::Start | Stage::Header | Stage::Label | Stage::Ended => self.functions > 0,
+        }
+    }
+}
