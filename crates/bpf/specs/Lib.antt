@@ -1,1 +1,4 @@
 pub mod Context
+pub mod Opened
+pub mod CommandLine
+pub mod Told

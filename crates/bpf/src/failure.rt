@@ -1,6 +1,9 @@
 //! What ends a command before it has an answer, and the statuses.
 
-ghost use Rattle.std.specs.Prelude.{◌≤◌, OnOk};
+ghost use Rattle.std.specs.Prelude.{◌≡◌, ◌≤◌, ℕ, List, IfOk, OnOk};
+ghost use Rattle.std.specs.String.{string_bytes};
+ghost use Rattle.bpf_insn.specs.Written.{AppendsBeginning};
+ghost use Rattle.bpf.specs.Told.{IsTold, failure_line};
 ghost use Rattle.std.specs.Io.KnownBytes.{Appends};
 
 use crate::context::ContextError;
@@ -56,15 +59,27 @@ pub fn say<'a, W: Write>(out: &mut W, line: &str) -> Result<(), Failure<'a>>
     }
 }
 
-/// Tells a failure on standard error. A fault of that is passed over: there is nowhere left to tell it.
-pub fn tell<W: Write>(alloc: Global, failure: Failure<'_>, err: &mut W) {
-    let line = match failure {
+/// The line of a failure.
+fn line_of(alloc: Global, failure: Failure<'_>) -> Result<String, AllocError>
+    ensures { IfOk result (λ line. string_bytes line ≡ failure_line failure.entry) }
+{
+    match failure {
         Failure::CannotRead(name) => format!(in alloc; "cannot read {name}\n"),
         Failure::CannotWrite(name) => format!(in alloc; "cannot write {name}\n"),
-        Failure::BadContext(error) => format!(in alloc; "{error}\n"),
-        Failure::NoMemory => Err(AllocError),
-    };
-    let _ = match line {
+        Failure::BadContext(ContextError::BadHex) => String::from_str(alloc, "bad hex\n"),
+        Failure::BadContext(ContextError::TooLong) => {
+            String::from_str(alloc, "context too long\n")
+        }
+        Failure::BadContext(ContextError::Memory) | Failure::NoMemory => Err(AllocError),
+    }
+}
+
+/// Tells a failure on standard error: its line, or `no memory` where there is none for the line. A fault of that is
+/// passed over, for there is nowhere left to tell it: then a beginning of the line went out.
+pub fn tell<W: Write>(alloc: Global, failure: Failure<'_>, err: &mut W)
+    ensures { (line : List ℕ) × IsTold failure.entry line × AppendsBeginning (W.contents err.old) (W.contents err.new) line }
+{
+    let _ = match line_of(alloc, failure) {
         Ok(line) => write_bytes(err, line.as_bytes()),
         Err(_) => write_bytes(err, b"no memory\n"),
     };

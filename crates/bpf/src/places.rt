@@ -1,5 +1,8 @@
 //! Where the command's files lie.
 
+ghost use Rattle.std.specs.Prelude.{◌≡◌, ℕ, List, Option, ⊤};
+ghost use Rattle.std.specs.Result.{result_ok};
+
 use std::fs;
 use std::io::{self, Read, Write};
 use std::rt::Files;
@@ -10,8 +13,12 @@ pub trait Places {
 
     type Writer: Write + Drop;
 
+    /// What opening a name gives, None where it fails, and the places after it. Of files nothing is known.
+    ghost opens: { Self → List ℕ → Option Self.Reader → Self → Type 0 } = { λ _ _ _ _. ⊤ };
+
     /// What stands at the name.
-    fn open(&mut self, name: &str) -> io::Result<Self::Reader>;
+    fn open(&mut self, name: &str) -> io::Result<Self::Reader>
+        ensures { opens self.old name.now (result_ok result) self.new };
 
     /// An empty place at the name, in place of what stood there.
     fn create(&mut self, name: &str) -> io::Result<Self::Writer>;
@@ -25,7 +32,9 @@ pub struct FilePlaces<'a, R: Files> {
 
 impl<'a, R: Files> FilePlaces<'a, R> {
     /// The files that the runtime reaches.
-    pub fn new(runtime: &'a R) -> Self {
+    pub fn new(runtime: &'a R) -> Self
+        ensures { result.runtime ≡ runtime.entry }
+    {
         FilePlaces { runtime }
     }
 }

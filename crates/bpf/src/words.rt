@@ -1,5 +1,11 @@
 //! The words of a command line.
 
+ghost use Rattle.std.specs.Prelude.{◌≡◌, IfOk, IfErr, map, unwrap_or, [], true, false};
+ghost use Rattle.std.specs.String.{string_bytes};
+ghost use Rattle.clap.specs.Words.{app_of, first_value, found_of, kind_of, rule_of, subcommand_of, takes};
+ghost use Rattle.bpf.specs.CommandLine.{IsAsked, bpf, place};
+ghost use Rattle.clap.specs.declared.error.ErrorKind.TheVariants.{OutOfMemory};
+
 use clap::{Arg, ArgMatches, Command, Error, value_parser};
 use std::alloc::{AllocError, Global};
 
@@ -27,11 +33,16 @@ pub enum Request<'a> {
     },
 }
 
-fn place<'a>(alloc: Global, id: &'a str, help: &'a str) -> Arg<'a> {
+fn place<'a>(alloc: Global, id: &'a str, help: &'a str) -> Arg<'a>
+    ensures rule { rule_of result ≡ place id.entry.now }
+    ensures local { result.global ≡ false }
+{
     Arg::new(alloc, id).required(true).help(help)
 }
 
-fn command<'a>(alloc: Global) -> Result<Command<'a>, AllocError> {
+fn command<'a>(alloc: Global) -> Result<Command<'a>, AllocError>
+    ensures { IfOk result (λ c. app_of c ≡ bpf) }
+{
     let groups = Command::new(alloc, "groups")
         .about("Prints the conformance groups of which an instruction occurs")
         .arg(place(alloc, "IN", "an image"))?;
@@ -65,13 +76,21 @@ fn command<'a>(alloc: Global) -> Result<Command<'a>, AllocError> {
 }
 
 /// The word of a required argument; the parse has made sure that it is there.
-fn word<'a>(matches: &ArgMatches<'a>, id: &str) -> &'a str {
+fn word<'a>(matches: &ArgMatches<'a>, id: &str) -> &'a str
+    ensures { result.now ≡ unwrap_or (first_value (found_of matches.now) id.now) [] }
+{
     matches.get_str(id).unwrap_or("")
 }
 
 /// What the words ask for, the command's own name first; else the text for the one who wrote them.
-pub fn request_of<'a>(alloc: Global, words: &'a [String]) -> Result<Request<'a>, Error> {
-    let matches = command(alloc)?.try_get_matches_from(words)?;
+pub fn request_of<'a>(alloc: Global, words: &'a [String]) -> Result<Request<'a>, Error>
+    ensures ok { IfOk result (IsAsked (subcommand_of bpf (map (λ s. string_bytes s) words.entry.now))) }
+    ensures accepts { IfErr result (λ e. takes bpf (map (λ s. string_bytes s) words.entry.now) ≡ true → kind_of e ≡ OutOfMemory) }
+{
+    let matches = match command(alloc)?.try_get_matches_from(words) {
+        Ok(matches) => matches,
+        Err(error) => return Err(error),
+    };
     Ok(match matches.subcommand() {
         Some(("asm", asm)) => Request::Asm {
             input: word(asm, "IN"),

@@ -292,3 +292,43 @@ fn a_fault_leaves_a_beginning(rt: HostRuntime) -> Result<(), Fail> {
     }
     Ok(())
 }
+
+/// Memory may be refused at any allocation (`rt try --test --fail-alloc N`): then it is A7, and no other answer.
+#[test]
+fn want_of_memory_is_a7(rt: HostRuntime) {
+    let rows: [(&str, Result<u32, TextError>); 5] = [
+        (
+            "a: b: r6 = 10\nL: r6 += -1 ; down\nif r6 != 0 goto L\ncall a\nr1 = 5 ll\ngoto b\nexit",
+            Ok(8),
+        ),
+        (
+            "x: exit\ny: exit\nx: exit",
+            Err(TextError::DefinedAgain { line: 3 }),
+        ),
+        (
+            "x: exit\ny: exit\nr11 = 0",
+            Err(TextError::Form { line: 3 }),
+        ),
+        (
+            "x: exit\ny: exit\ngoto z",
+            Err(TextError::Undefined { line: 3 }),
+        ),
+        (
+            "x: exit\ngoto +5",
+            Err(TextError::Program {
+                line: 2,
+                error: BuildError::Target { slot: 1 },
+            }),
+        ),
+    ];
+    for (text, wanted) in rows {
+        match assemble(rt.alloc(), text) {
+            Ok(program) => assert_eq!(rt; Ok(program.slots()), wanted, "{text}"),
+            Err(TextError::Memory) => assert_eq!(rt;
+                (TextError::Memory.number(), TextError::Memory.line()),
+                (7, 0)
+            ),
+            Err(error) => assert_eq!(rt; Err(error), wanted, "{text}"),
+        }
+    }
+}

@@ -14,6 +14,7 @@ use bpf_insn::{
 };
 
 /// The result of an operation on 64-bit numbers.
+#[inline(always)]
 fn compute_64(op: AluOp, a: u64, b: u64) -> u64
     ensures { result ≡ compute w64 op a b }
 {
@@ -52,6 +53,7 @@ fn compute_64(op: AluOp, a: u64, b: u64) -> u64
 }
 
 /// The result of an operation on 32-bit numbers.
+#[inline(always)]
 fn compute_32(op: AluOp, a: u32, b: u32) -> u32
     ensures { result ≡ compute w32 op a b }
 {
@@ -97,6 +99,7 @@ fn low_half(x: u64) -> u32
 }
 
 /// The result of an operation on registers: at 32 bits of their low halves, and zero above.
+#[inline(always)]
 pub(crate) fn alu_of(width: Width, op: AluOp, a: u64, b: u64) -> u64
     ensures { result ≡ alu width op a b }
 {

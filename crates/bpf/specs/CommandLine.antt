@@ -1,0 +1,59 @@
+-- The command line, as its parser sees it.
+use Rattle.std.specs.Prelude.{◌≡◌, ◌≢◌, ℕ, List, [], Option, Some, None, unwrap_or, pos, codes, true}
+use Rattle.std.specs.Str.Parse.{ParsesUnsigned}
+use Rattle.std.specs.declared.num.ParseIntError.{ParseIntError}
+use Rattle.clap.specs.Words.{App, ReadsOne, Row, Rule, Text, first_of, one_of, new_app, new_rule, with_rule, with_subcommand}
+use Rattle.clap.specs.declared.builder.value_parser.ValueParser.TheVariants as parser
+use Rattle.bpf.specs.declared.words.Request.{Request}
+use Rattle.bpf.specs.declared.words.Request.TheVariants.{Groups, Asm, List as ListOf, Run}
+
+-- a required word
+abbrev pub place : Text → Rule
+place id = record (new_rule id) { required = true }
+
+-- the required option `--steps`, with a number below 2 ^ 32
+abbrev pub steps : Rule
+steps = record (new_rule (codes "steps")) { long = Some (codes "steps"); value_names = 1; parser = Some (parser.Signed (pos 0) (pos 4294967295)); required = true }
+
+abbrev pub groups : App
+groups = with_rule (new_app (codes "groups")) (place (codes "IN"))
+
+abbrev pub asm : App
+asm = with_rule (with_rule (new_app (codes "asm")) (place (codes "IN"))) (place (codes "OUT"))
+
+abbrev pub list : App
+list = with_rule (new_app (codes "list")) (place (codes "IN"))
+
+abbrev pub run : App
+run = with_rule (with_rule (with_rule (new_app (codes "run")) (place (codes "IN"))) (place (codes "HEX"))) steps
+
+abbrev pub top : App
+top = let named = new_app (codes "bpf") in record named { top = record named.top { has_version = true; subcommand_required = true } }
+
+-- `bpf` with one of the four
+abbrev pub bpf : App
+bpf = with_subcommand (with_subcommand (with_subcommand (with_subcommand top groups.top) asm.top) list.top) run.top
+
+-- ---- what the words ask for
+
+-- the word of an argument
+abbrev pub word_of : Text → List Row → Text
+word_of id rows = unwrap_or (first_of id rows) []
+
+-- a number below 2 ^ 32 as it is parsed, 0 where there is none
+abbrev pub IsCount : Option Text → ℕ → Type 0
+IsCount None n = n ≡ 0
+IsCount (Some text) n = (parsed : Option ℕ) × ReadsOne {E = ParseIntError} (λ t r. ParsesUnsigned 32 10 t r) text parsed × (n ≡ unwrap_or parsed 0)
+
+-- the request of a subcommand with these matches
+abbrev pub Asks : Text → List Row → Request → Type 0
+Asks name rows (Groups input) = (name ≢ codes "asm") × (name ≢ codes "list") × (name ≢ codes "run") × (input.now ≡ word_of (codes "IN") rows)
+Asks name rows (Asm input output) = (name ≡ codes "asm") × (input.now ≡ word_of (codes "IN") rows) × (output.now ≡ word_of (codes "OUT") rows)
+Asks name rows (ListOf input) = (name ≡ codes "list") × (input.now ≡ word_of (codes "IN") rows)
+Asks name rows (Run input hex count) = (name ≡ codes "run") × (input.now ≡ word_of (codes "IN") rows) × (hex.now ≡ word_of (codes "HEX") rows) × IsCount (one_of (codes "steps") rows) count
+
+-- the request of a command line on which the parser found this subcommand
+abbrev pub IsAsked : Option (Text × List Row) → Request → Type 0
+IsAsked (Some s) request = Asks s.0 s.1 request
+IsAsked None (Groups input) = input.now ≡ []
+IsAsked None _ = ⊥
