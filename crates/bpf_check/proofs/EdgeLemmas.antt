@@ -1,0 +1,129 @@
+-- Edges, from the state before an instruction and from the one after it.
+use Rattle.std.proofs.Common.{◌≡◌, ℕ, ◌+◌, ◌<◌, Bool, true, false, ◌||◌, cond, List, [], ◌∷◌, ◌++◌, length, get_or, Option, Some, None, refl, sym, ap, subst, ◌∙◌, rules}
+use Rattle.std.specs.List.{list_any}
+use Rattle.std.proofs.lemmas.Option.{none-some, same_Some}
+use Rattle.bpf_insn.specs.Instruction.{Instructions}
+use Rattle.bpf_insn.specs.declared.instruction.Insn.{Insn}
+use Rattle.bpf_insn.specs.declared.instruction.Insn.TheVariants.{Alu, Neg, MovSx, End, LoadImm64, Load, LoadSx, Store, StoreImm, Atomic, Ja, JaLong, JumpIf, CallLocal, Exit}
+use Rattle.bpf_state.specs.State.{AbstractState, IsPlace}
+use Rattle.bpf_state.specs.declared.state.Place.{Place}
+use Rattle.bpf_state.specs.declared.state.Place.TheVariants.{Register, Slot}
+use Rattle.bpf_state.specs.Transfer.{after}
+use Rattle.bpf_cert.specs.declared.certificate.Term.{Term}
+use Rattle.bpf_cert.specs.declared.certificate.Measure.{Measure}
+use Rattle.bpf_cert.specs.declared.certificate.Measure.TheVariants.{Down, Up}
+use Rattle.bpf_cert.specs.View.{LabelView, CertificateView}
+use Rattle.bpf_cert.specs.Limits.{is_limited_term, is_limited_label}
+use Rattle.bpf_check.proofs.BudgetLemmas.{limited_here}
+use Rattle.bpf_safety.specs.Budget.{place_of}
+use Rattle.bpf_safety.specs.Flow.{Arrival, next_state}
+use Rattle.bpf_safety.specs.Flaw.{Edge, edge_to, edges}
+use Rattle.bpf_check.specs.Edges.{visit, next_of, edges_of}
+
+pub list_any-append : {A : Type 0} (p : A → Bool) (xs ys : List A) → list_any p (xs ++ ys) ≡ (list_any p xs || list_any p ys)
+list_any-append p [] ys = refl
+list_any-append p (x ∷ xs) ys = or_step (p x) (list_any-append p xs ys)
+  where
+    or_step : (b : Bool) → list_any p (xs ++ ys) ≡ (list_any p xs || list_any p ys) → (b || list_any p (xs ++ ys)) ≡ ((b || list_any p xs) || list_any p ys)
+    or_step true e = refl
+    or_step false e = e
+
+-- no edge to the next instruction
+pub any_jump : (p : Edge → Bool) (jump : List Edge) (slot : ℕ) (o : Option AbstractState) → o ≡ None → list_any p (jump ++ edge_to (Some slot) o) ≡ list_any p jump
+any_jump p jump slot o e = list_any-append p jump (edge_to (Some slot) o) ∙ ap (λ q. list_any p jump || list_any p (edge_to (Some slot) q)) e ∙ or_false (list_any p jump)
+  where
+    or_false : (b : Bool) → (b || false) ≡ b
+    or_false true = refl
+    or_false false = refl
+
+-- with one
+pub any_both : (p : Edge → Bool) (jump : List Edge) (slot : ℕ) (o : Option AbstractState) (s : AbstractState) → o ≡ Some s → list_any p (jump ++ edge_to (Some slot) o) ≡ (list_any p jump || p (record { slot = slot; state = s }))
+any_both p jump slot o s e = list_any-append p jump (edge_to (Some slot) o) ∙ ap (λ q. list_any p jump || list_any p (edge_to (Some slot) q)) e ∙ ap (λ b. list_any p jump || b) (or_false (p (record { slot = slot; state = s })))
+  where
+    or_false : (b : Bool) → (b || false) ≡ b
+    or_false true = refl
+    or_false false = refl
+
+-- a jump, a call or an EXIT leaves the state
+pub edges_live : (p : Instructions) (c : CertificateView) (slot : ℕ) (i : Insn) (a : Arrival) (s : AbstractState) → after p.order i a.state ≡ Some s → edges p c (visit slot i) a ≡ edges_of c slot i s
+edges_live p c slot (Alu op width dst src) a s e = ap (edge_to (Some (slot + 1))) e
+edges_live p c slot (Neg width dst) a s e = ap (edge_to (Some (slot + 1))) e
+edges_live p c slot (MovSx width bits dst src) a s e = ap (edge_to (Some (slot + 1))) e
+edges_live p c slot (End kind bits dst) a s e = ap (edge_to (Some (slot + 1))) e
+edges_live p c slot (LoadImm64 dst value) a s e = ap (edge_to (Some (slot + 2))) e
+edges_live p c slot (Load size dst src off) a s e = ap (edge_to (Some (slot + 1))) e
+edges_live p c slot (LoadSx size dst src off) a s e = ap (edge_to (Some (slot + 1))) e
+edges_live p c slot (Store size dst off src) a s e = ap (edge_to (Some (slot + 1))) e
+edges_live p c slot (StoreImm size dst off imm) a s e = ap (edge_to (Some (slot + 1))) e
+edges_live p c slot (Atomic wide op dst off src) a s e = ap (edge_to (Some (slot + 1))) e
+edges_live p c slot (Ja off) a s e = ap (edges_of c slot (Ja off)) (same_Some a.state s e)
+edges_live p c slot (JaLong off) a s e = ap (edges_of c slot (JaLong off)) (same_Some a.state s e)
+edges_live p c slot (JumpIf cond width dst src off) a s e = ap (edges_of c slot (JumpIf cond width dst src off)) (same_Some a.state s e)
+edges_live p c slot (CallLocal off) a s e = ap (edges_of c slot (CallLocal off)) (same_Some a.state s e)
+edges_live p c slot Exit a s e = ap (edges_of c slot Exit) (same_Some a.state s e)
+
+pub next_live : (p : Instructions) (c : CertificateView) (slot : ℕ) (i : Insn) (s s' : AbstractState) → after p.order i s ≡ Some s' → next_state p c slot i s ≡ next_of c slot i s'
+next_live p c slot (Alu op width dst src) s s' e = e
+next_live p c slot (Neg width dst) s s' e = e
+next_live p c slot (MovSx width bits dst src) s s' e = e
+next_live p c slot (End kind bits dst) s s' e = e
+next_live p c slot (LoadImm64 dst value) s s' e = e
+next_live p c slot (Load size dst src off) s s' e = e
+next_live p c slot (LoadSx size dst src off) s s' e = e
+next_live p c slot (Store size dst off src) s s' e = e
+next_live p c slot (StoreImm size dst off imm) s s' e = e
+next_live p c slot (Atomic wide op dst off src) s s' e = e
+next_live p c slot (Ja off) s s' e = refl
+next_live p c slot (JaLong off) s s' e = refl
+next_live p c slot (JumpIf cond width dst src off) s s' e = ap (next_of c slot (JumpIf cond width dst src off)) (same_Some s s' e)
+next_live p c slot (CallLocal off) s s' e = ap (next_of c slot (CallLocal off)) (same_Some s s' e)
+next_live p c slot Exit s s' e = refl
+
+-- an instruction without a state after it has no edge
+pub edges_dead : (p : Instructions) (c : CertificateView) (slot : ℕ) (i : Insn) (a : Arrival) → after p.order i a.state ≡ None → edges p c (visit slot i) a ≡ []
+edges_dead p c slot (Alu op width dst src) a e = ap (edge_to (Some (slot + 1))) e
+edges_dead p c slot (Neg width dst) a e = ap (edge_to (Some (slot + 1))) e
+edges_dead p c slot (MovSx width bits dst src) a e = ap (edge_to (Some (slot + 1))) e
+edges_dead p c slot (End kind bits dst) a e = ap (edge_to (Some (slot + 1))) e
+edges_dead p c slot (LoadImm64 dst value) a e = ap (edge_to (Some (slot + 2))) e
+edges_dead p c slot (Load size dst src off) a e = ap (edge_to (Some (slot + 1))) e
+edges_dead p c slot (LoadSx size dst src off) a e = ap (edge_to (Some (slot + 1))) e
+edges_dead p c slot (Store size dst off src) a e = ap (edge_to (Some (slot + 1))) e
+edges_dead p c slot (StoreImm size dst off imm) a e = ap (edge_to (Some (slot + 1))) e
+edges_dead p c slot (Atomic wide op dst off src) a e = ap (edge_to (Some (slot + 1))) e
+edges_dead p c slot (Ja off) a e = absurd (none-some a.state (sym e))
+edges_dead p c slot (JaLong off) a e = absurd (none-some a.state (sym e))
+edges_dead p c slot (JumpIf cond width dst src off) a e = absurd (none-some a.state (sym e))
+edges_dead p c slot (CallLocal off) a e = absurd (none-some a.state (sym e))
+edges_dead p c slot Exit a e = absurd (none-some a.state (sym e))
+
+pub next_dead : (p : Instructions) (c : CertificateView) (slot : ℕ) (i : Insn) (s : AbstractState) → after p.order i s ≡ None → next_state p c slot i s ≡ None
+next_dead p c slot (Alu op width dst src) s e = e
+next_dead p c slot (Neg width dst) s e = e
+next_dead p c slot (MovSx width bits dst src) s e = e
+next_dead p c slot (End kind bits dst) s e = e
+next_dead p c slot (LoadImm64 dst value) s e = e
+next_dead p c slot (Load size dst src off) s e = e
+next_dead p c slot (LoadSx size dst src off) s e = e
+next_dead p c slot (Store size dst off src) s e = e
+next_dead p c slot (StoreImm size dst off imm) s e = e
+next_dead p c slot (Atomic wide op dst off src) s e = e
+next_dead p c slot (Ja off) s e = absurd (none-some s (sym e))
+next_dead p c slot (JaLong off) s e = absurd (none-some s (sym e))
+next_dead p c slot (JumpIf cond width dst src off) s e = absurd (none-some s (sym e))
+next_dead p c slot (CallLocal off) s e = absurd (none-some s (sym e))
+next_dead p c slot Exit s e = absurd (none-some s (sym e))
+
+-- ---- places of terms
+
+place_in_limits : (m : Measure) (w : ℕ) → is_limited_term (record { weight = w; measure = m }) ≡ true → IsPlace (place_of (record { weight = w; measure = m }))
+place_in_limits (Down (Register r)) w h = search rules
+place_in_limits (Down (Slot k)) w h = search rules
+place_in_limits (Up (Register r) limit) w h = search rules
+place_in_limits (Up (Slot k) limit) w h = search rules
+
+pub place_within : (t : Term) → is_limited_term t ≡ true → IsPlace (place_of t)
+place_within t h = place_in_limits t.measure t.weight h
+
+pub tagged_place : (l : LabelView) (ts : List Term) (i : ℕ) (d : Term) (p : Place) → is_limited_label l ≡ true → ts ≡ l.terms → i < length ts → p ≡ place_of (get_or ts i d) → IsPlace p
+tagged_place l ts i d p limited e h place = subst IsPlace (sym place) (place_within (get_or ts i d) (limited_here l ts i d limited e h))

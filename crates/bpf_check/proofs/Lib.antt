@@ -1,0 +1,12 @@
+pub mod SearchLemmas
+pub mod CertificateFacts
+pub mod BudgetLemmas
+pub mod AtLabel
+pub mod LeastLemmas
+pub mod EdgeLemmas
+pub mod VisitLemmas
+pub mod ArrivalLemmas
+pub mod PassLemmas
+pub mod LoopLimits
+pub mod CheckLemmas
+pub mod Promise

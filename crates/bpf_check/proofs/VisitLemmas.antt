@@ -1,0 +1,155 @@
+-- What a visit finds of an instruction that a state reaches.
+use Rattle.std.proofs.Common.{◌≡◌, ℕ, ◌+◌, ◌*◌, ◌^◌, ◌≤◌, Bool, true, false, ◌&&◌, ◌||◌, cond, Option, Some, None, refl, sym, ap, ap₂, ◌∙◌, arith, ℤ}
+use Rattle.std.specs.Prelude.{option_map, is_some, IfSome, Ok, Err, ◌==◌}
+use Rattle.std.specs.List.{list_any}
+use Rattle.std.proofs.lemmas.Option.{IfSome_then}
+use Rattle.std.proofs.lemmas.Int.{ints}
+use Rattle.bpf_insn.specs.declared.order.Order.TheVariants.{Little}
+use Rattle.bpf_insn.specs.declared.instruction.Insn.{Insn}
+use Rattle.bpf_insn.specs.declared.instruction.Insn.TheVariants.{Alu, Neg, MovSx, End, LoadImm64, Load, LoadSx, Store, StoreImm, Atomic, Ja, JaLong, JumpIf, CallLocal, Exit}
+use Rattle.std.proofs.Common.{lit≤}
+use Rattle.bpf_insn.specs.Instruction.{Instructions, slots, slot_count}
+use Rattle.bpf_state.specs.declared.fault.StateFault.{StateFault}
+use Rattle.bpf_state.specs.State.{AbstractState}
+use Rattle.bpf_state.specs.Fault.{fault_of}
+use Rattle.bpf_state.specs.Transfer.{after, transfer, Faulty, Dead, Live, live, unless}
+use Rattle.bpf_state.specs.Answer.{fault_number, outcome_told, edge_told}
+use Rattle.bpf_cert.specs.View.{CertificateView, label_view}
+use Rattle.bpf_safety.specs.Flow.{next_state, cost_after}
+use Rattle.bpf_safety.specs.Flaw.{is_refused_by, is_unpaid, enters_wrongly, returns_wrongly, exits_unpaid, is_not_entailed, is_over_budget}
+use Rattle.bpf_check.specs.Slack.{IsWithin}
+use Rattle.bpf_check.specs.Arrivals.{arrival_of, IsReaching}
+use Rattle.bpf_check.specs.Edges.{visit, next_of, edges_of, unpaid_from}
+use Rattle.bpf_check.specs.Visits.{IsJudged}
+use Rattle.bpf_check.specs.declared.arrival.Arrival.{Arrival as Reaching}
+use Rattle.bpf_check.proofs.EdgeLemmas.{edges_live, edges_dead, next_live, next_dead}
+
+-- a cost at the next slot fits
+pub cost_fits : (slot : ℕ) (o : Option ℤ) → slot ≤ 65535 → IfSome o (λ z. IsWithin ((slot + 1) * 2 ^ 94) z) → IfSome o (λ z. IsWithin (2 ^ 112) z)
+cost_fits slot o few h = IfSome_then o h (λ z w. let low = w.low in let high = w.high in record { low = omega (arith, ints); high = omega (arith, ints) })
+
+-- ---- what a transfer told
+
+fault_told : (n : ℕ) (o : Option ℕ) (b : Option AbstractState) → Faulty n ≡ unless o (live b) → o ≡ Some n
+fault_told n (Some m) b e = cc
+fault_told n None None e = cc
+fault_told n None (Some s) e = cc
+
+pub transfer_fault : (i : Insn) (len : ℕ) (s s' : AbstractState) (f : StateFault) → outcome_told (Err f) s' ≡ transfer Little i len s → fault_of len s i ≡ Some (fault_number f)
+transfer_fault i len s s' f e = fault_told (fault_number f) (fault_of len s i) (after Little i s) e
+
+alive_told : (s' : AbstractState) (o : Option ℕ) (b : Option AbstractState) → Live s' ≡ unless o (live b) → (o ≡ None) × (b ≡ Some s')
+alive_told s' (Some m) b e = cc
+alive_told s' None None e = cc
+alive_told s' None (Some s) e = (refl, cc)
+
+dead_told : (o : Option ℕ) (b : Option AbstractState) → Dead ≡ unless o (live b) → (o ≡ None) × (b ≡ None)
+dead_told (Some m) b e = cc
+dead_told None None e = (refl, refl)
+dead_told None (Some s) e = cc
+
+pub transfer_live : (i : Insn) (len : ℕ) (s s' : AbstractState) (alive : Bool) → alive ≡ true → outcome_told (Ok alive) s' ≡ transfer Little i len s → (fault_of len s i ≡ None) × (after Little i s ≡ Some s')
+transfer_live i len s s' true t e = alive_told s' (fault_of len s i) (after Little i s) e
+transfer_live i len s s' false t e = cc
+
+pub transfer_dead : (i : Insn) (len : ℕ) (s s' : AbstractState) (alive : Bool) → alive ≡ false → outcome_told (Ok alive) s' ≡ transfer Little i len s → (fault_of len s i ≡ None) × (after Little i s ≡ None)
+transfer_dead i len s s' true t e = cc
+transfer_dead i len s s' false t e = dead_told (fault_of len s i) (after Little i s) e
+
+in_order : (p : Instructions) (i : Insn) (s : AbstractState) (o : Option AbstractState) → p.order ≡ Little → after Little i s ≡ o → after p.order i s ≡ o
+in_order p i s o order e = ap (λ q. after q i s) order ∙ e
+
+and_false : (b : Bool) → false ≡ (b && false)
+and_false true = refl
+and_false false = refl
+
+and_true : (b : Bool) → b ≡ (b && true)
+and_true true = refl
+and_true false = refl
+
+-- ---- the three ends of a visit
+
+pub dead_judged : (p : Instructions) (c : CertificateView) (slot : ℕ) (i : Insn) (r : Reaching) (s' : AbstractState) (alive enters returns exits : Bool) (cost : Option ℤ) → p.order ≡ Little → alive ≡ false → outcome_told (Ok alive) s' ≡ transfer Little i c.len r.state → cost ≡ cost_after c slot i (arrival_of r) → enters ≡ enters_wrongly c (visit slot i) (arrival_of r) → returns ≡ returns_wrongly c (visit slot i) (arrival_of r) i → exits ≡ exits_unpaid (visit slot i) (arrival_of r) cost i → IsJudged p c slot i (arrival_of r) (record { passed = None; not_entailed = enters || returns; over_budget = exits; past_end = false })
+dead_judged p c slot i r s' alive enters returns exits cost order dead told spent en re ex =
+    let both = transfer_dead i c.len r.state s' alive dead told in
+    let none = in_order p i r.state None order both.1 in
+    let no_next = next_dead p c slot i r.state none in
+    let no_edge = edges_dead p c slot i (arrival_of r) none in
+    record {
+      no_fault = both.0;
+      passed = sym (ap (option_map (λ s. record (arrival_of r) { state = s; cost = cost_after c slot i (arrival_of r) })) no_next);
+      valid = tt;
+      not_entailed = ap₂ (λ x y. x || y) en re ∙ sym (ap (λ es. (list_any (is_refused_by c) es || enters_wrongly c (visit slot i) (arrival_of r)) || returns_wrongly c (visit slot i) (arrival_of r) i) no_edge);
+      over_budget = ex ∙ ap (λ o. exits_unpaid (visit slot i) (arrival_of r) o i) spent ∙ sym (ap (λ es. list_any (is_unpaid c (visit slot i) (arrival_of r)) es || exits_unpaid (visit slot i) (arrival_of r) (cost_after c slot i (arrival_of r)) i) no_edge);
+      past_end = and_false (slot + slot_count i == slots p.list) ∙ ap (λ o. (slot + slot_count i == slots p.list) && is_some o) (sym no_next);
+    }
+
+-- what both ends of a live state share
+record IsShared (p : Instructions) (c : CertificateView) (slot : ℕ) (i : Insn) (r : Reaching) (s' : AbstractState) (refused unpaid enters returns exits : Bool) (cost : Option ℤ) : Type 0 where
+  no_fault : fault_of c.len r.state i ≡ None
+  next : next_state p c slot i r.state ≡ next_of c slot i s'
+  not_entailed : ((refused || enters) || returns) ≡ is_not_entailed p c (visit slot i) (arrival_of r)
+  over_budget : (unpaid || exits) ≡ is_over_budget p c (visit slot i) (arrival_of r)
+
+shared : (p : Instructions) (c : CertificateView) (slot : ℕ) (i : Insn) (r : Reaching) (s' : AbstractState) (alive refused unpaid enters returns exits : Bool) (cost : Option ℤ) → p.order ≡ Little → alive ≡ true → outcome_told (Ok alive) s' ≡ transfer Little i c.len r.state → cost ≡ cost_after c slot i (arrival_of r) → enters ≡ enters_wrongly c (visit slot i) (arrival_of r) → returns ≡ returns_wrongly c (visit slot i) (arrival_of r) i → exits ≡ exits_unpaid (visit slot i) (arrival_of r) cost i → refused ≡ list_any (is_refused_by c) (edges_of c slot i s') → unpaid ≡ list_any (unpaid_from c (label_view r.label.now) cost) (edges_of c slot i s') → IsShared p c slot i r s' refused unpaid enters returns exits cost
+shared p c slot i r s' alive refused unpaid enters returns exits cost order is_alive told spent en re ex rf un =
+    let both = transfer_live i c.len r.state s' alive is_alive told in
+    let there = in_order p i r.state (Some s') order both.1 in
+    let same = edges_live p c slot i (arrival_of r) s' there in
+    record {
+      no_fault = both.0;
+      next = next_live p c slot i r.state s' there;
+      not_entailed = ap₂ (λ x y. x || y) (ap₂ (λ x y. x || y) (rf ∙ ap (list_any (is_refused_by c)) (sym same)) en) re;
+      over_budget = ap₂ (λ x y. x || y) (un ∙ ap (λ o. list_any (unpaid_from c (label_view r.label.now) o) (edges_of c slot i s')) spent ∙ ap (list_any (is_unpaid c (visit slot i) (arrival_of r))) (sym same)) (ex ∙ ap (λ o. exits_unpaid (visit slot i) (arrival_of r) o i) spent);
+    }
+
+pub stop_judged : (p : Instructions) (c : CertificateView) (slot : ℕ) (i : Insn) (r : Reaching) (s' s'' : AbstractState) (alive refused unpaid enters returns exits goes : Bool) (cost : Option ℤ) → p.order ≡ Little → alive ≡ true → outcome_told (Ok alive) s' ≡ transfer Little i c.len r.state → cost ≡ cost_after c slot i (arrival_of r) → enters ≡ enters_wrongly c (visit slot i) (arrival_of r) → returns ≡ returns_wrongly c (visit slot i) (arrival_of r) i → exits ≡ exits_unpaid (visit slot i) (arrival_of r) cost i → refused ≡ list_any (is_refused_by c) (edges_of c slot i s') → unpaid ≡ list_any (unpaid_from c (label_view r.label.now) cost) (edges_of c slot i s') → edge_told goes s'' ≡ next_of c slot i s' → goes ≡ false → IsJudged p c slot i (arrival_of r) (record { passed = None; not_entailed = (refused || enters) || returns; over_budget = unpaid || exits; past_end = false })
+stop_judged p c slot i r s' s'' alive refused unpaid enters returns exits goes cost order is_alive told spent en re ex rf un leads stops =
+    let all = shared p c slot i r s' alive refused unpaid enters returns exits cost order is_alive told spent en re ex rf un in
+    let no_next : next_state p c slot i r.state ≡ None = all.next ∙ sym leads ∙ ap (λ b. edge_told b s'') stops in
+    record {
+      no_fault = all.no_fault;
+      passed = sym (ap (option_map (λ s. record (arrival_of r) { state = s; cost = cost_after c slot i (arrival_of r) })) no_next);
+      valid = tt;
+      not_entailed = all.not_entailed;
+      over_budget = all.over_budget;
+      past_end = and_false (slot + slot_count i == slots p.list) ∙ ap (λ o. (slot + slot_count i == slots p.list) && is_some o) (sym no_next);
+    }
+
+pub pass_judged : (p : Instructions) (c : CertificateView) (slot : ℕ) (i : Insn) (r : Reaching) (s' s'' : AbstractState) (alive refused unpaid enters returns exits goes last : Bool) (cost : Option ℤ) → p.order ≡ Little → alive ≡ true → outcome_told (Ok alive) s' ≡ transfer Little i c.len r.state → cost ≡ cost_after c slot i (arrival_of r) → enters ≡ enters_wrongly c (visit slot i) (arrival_of r) → returns ≡ returns_wrongly c (visit slot i) (arrival_of r) i → exits ≡ exits_unpaid (visit slot i) (arrival_of r) cost i → refused ≡ list_any (is_refused_by c) (edges_of c slot i s') → unpaid ≡ list_any (unpaid_from c (label_view r.label.now) cost) (edges_of c slot i s') → edge_told goes s'' ≡ next_of c slot i s' → goes ≡ true → last ≡ (slot + slot_count i == slots p.list) → IsReaching (slot + slot_count i) (record r { state = s''; cost = cost }) → IsJudged p c slot i (arrival_of r) (record { passed = Some (record { state = s''; label = r.label; cost = cost }); not_entailed = (refused || enters) || returns; over_budget = unpaid || exits; past_end = last })
+pass_judged p c slot i r s' s'' alive refused unpaid enters returns exits goes last cost order is_alive told spent en re ex rf un leads continues at_end valid =
+    let all = shared p c slot i r s' alive refused unpaid enters returns exits cost order is_alive told spent en re ex rf un in
+    let next : next_state p c slot i r.state ≡ Some s'' = all.next ∙ sym leads ∙ ap (λ b. edge_told b s'') continues in
+    record {
+      no_fault = all.no_fault;
+      passed = ap (λ o. Some (record (arrival_of r) { state = s''; cost = o })) spent ∙ sym (ap (option_map (λ s. record (arrival_of r) { state = s; cost = cost_after c slot i (arrival_of r) })) next);
+      valid = valid;
+      not_entailed = all.not_entailed;
+      over_budget = all.over_budget;
+      past_end = at_end ∙ and_true (slot + slot_count i == slots p.list) ∙ ap (λ o. (slot + slot_count i == slots p.list) && is_some o) (sym next);
+    }
+
+-- ---- the next slot
+
+one_slot : (i : Insn) → 1 ≤ slot_count i
+one_slot (Alu op width dst src) = lit≤ tt
+one_slot (Neg width dst) = lit≤ tt
+one_slot (MovSx width bits dst src) = lit≤ tt
+one_slot (End kind bits dst) = lit≤ tt
+one_slot (LoadImm64 dst value) = lit≤ tt
+one_slot (Load size dst src off) = lit≤ tt
+one_slot (LoadSx size dst src off) = lit≤ tt
+one_slot (Store size dst off src) = lit≤ tt
+one_slot (StoreImm size dst off imm) = lit≤ tt
+one_slot (Atomic wide op dst off src) = lit≤ tt
+one_slot (Ja off) = lit≤ tt
+one_slot (JaLong off) = lit≤ tt
+one_slot (JumpIf cond width dst src off) = lit≤ tt
+one_slot (CallLocal off) = lit≤ tt
+one_slot Exit = lit≤ tt
+
+wider : (slot n : ℕ) (z : ℤ) → 1 ≤ n → IsWithin ((slot + 1) * 2 ^ 94) z → IsWithin ((slot + n) * 2 ^ 94) z
+wider slot n z more w = let low = w.low in let high = w.high in record { low = omega (arith, ints); high = omega (arith, ints) }
+
+pub next_cost : (slot : ℕ) (i : Insn) (o : Option ℤ) → IfSome o (λ z. IsWithin ((slot + 1) * 2 ^ 94) z) → IfSome o (λ z. IsWithin ((slot + slot_count i) * 2 ^ 94) z)
+next_cost slot i o h = IfSome_then o h (λ z w. wider slot (slot_count i) z (one_slot i) w)

@@ -1,0 +1,40 @@
+use Rattle.std.proofs.Common.{◌≡◌, ℕ, ◌+◌, true, false, List, Option, Some, None, sym, subst, rules}
+use Rattle.std.proofs.lemmas.Bool.{true≢false, false≢true}
+use Rattle.std.specs.Prelude.{option_map, is_some, IfSome}
+use Rattle.bpf_insn.specs.declared.instruction.Insn.{Insn}
+use Rattle.bpf_insn.specs.Instruction.{Instructions, insn_at}
+use Rattle.bpf_cert.specs.View.{CertificateView}
+use Rattle.bpf_safety.specs.Flow.{Arrival, visits}
+use Rattle.std.specs.List.{flat_map}
+use Rattle.bpf_check.specs.declared.refusal.Refusal.{Refusal}
+use Rattle.bpf_check.specs.Arrivals.{arrival_of, IsReaching}
+use Rattle.bpf_check.specs.Least.{IsLeastIn}
+use Rattle.bpf_check.specs.RefusalNumbers.{flaw_of}
+use Rattle.bpf_check.specs.Visits.{visit_of}
+use Rattle.bpf_check.proofs.PassLemmas.{IsAt, flaws_of, at_next, at_flaw, at_last}
+use Rattle.bpf_check.proofs.pass.visit_flaw.Goals as goal
+
+refused_here : (p : Instructions) (c : CertificateView) (slot : ℕ) (o : Option Arrival) (i : Insn) (r : Option Refusal) → IsAt p c slot o → Some i ≡ insn_at p.list slot → is_some r ≡ true → IsLeastIn (flaws_of p c (visit_of c slot i o)) (option_map flaw_of r) → IsLeastIn (flat_map (flaws_of p c) (visits p c)) (option_map flaw_of r)
+refused_here p c slot o i None w stand some h = absurd (false≢true some)
+refused_here p c slot o i (Some r) w stand some h = at_flaw p c slot o i (flaw_of r) w stand h
+
+not_refused : (xs : List (ℕ × ℕ)) (r : Option Refusal) → is_some r ≡ false → IsLeastIn xs (option_map flaw_of r) → IsLeastIn xs None
+not_refused xs None none h = h
+not_refused xs (Some r) none h = absurd (true≢false none)
+
+pub returns-then-is_some : goal.returns-then-is_some
+returns-then-is_some g c =
+    let some : is_some c.visit-visited.result.refusal ≡ true = search rules in
+    refused_here (g.P.Code.program c.args.program.now) c.args.certificate.now c.visits.slot (option_map arrival_of c.visits.passed) c.in-Some.insn c.visit-visited.result.refusal c.visits.invariant.here c.in-Some.ensures some c.visit-visited.ensures.refusal
+
+pub visits-preserved : goal.visits-preserved
+visits-preserved g c =
+    let none : is_some c.visit-visited.result.refusal ≡ false = search rules in
+    let next = at_next (g.P.Code.program c.args.program.now) c.args.certificate.now c.visits.slot (option_map arrival_of c.visits.passed) (option_map arrival_of c.visit-visited.result.passed) c.in-Some.insn c.visits.invariant.here c.in-Some.ensures (not_refused _ c.visit-visited.result.refusal none c.visit-visited.ensures.refusal) c.visit-visited.ensures.passed in
+    record {
+      here = subst (λ n. IsAt (g.P.Code.program c.args.program.now) c.args.certificate.now (c.visits.slot + n) (option_map arrival_of c.visit-visited.result.passed)) (sym c.slots-slot.ensures) next;
+      valid = subst (λ n. IfSome c.visit-visited.result.passed (λ a. IsReaching (c.visits.slot + n) a)) (sym c.slots-slot.ensures) c.visit-visited.ensures.valid;
+    }
+
+pub returns : goal.returns
+returns g c = at_last (g.P.Code.program c.args.program.now) c.args.certificate.now c.visits.slot (option_map arrival_of c.visits.passed) c.visits.invariant.here c.in_default.ensures

@@ -1,0 +1,33 @@
+-- Visits and edges as code passes over them.
+use Rattle.std.specs.Prelude.{ℕ, ◌+◌, ℤ, Bool, false, List, ◌++◌, Option, Some, None, option_and_then, if◌then◌else◌}
+use Rattle.bpf_insn.specs.declared.instruction.Insn.{Insn}
+use Rattle.bpf_insn.specs.declared.instruction.Insn.TheVariants.{JumpIf, CallLocal}
+use Rattle.bpf_insn.specs.Instruction.{slot_count}
+use Rattle.bpf_state.specs.State.{AbstractState, left}
+use Rattle.bpf_state.specs.Transfer.{branch}
+use Rattle.bpf_state.specs.Fault.{some_passes}
+use Rattle.bpf_cert.specs.View.{LabelView, CertificateView}
+use Rattle.bpf_safety.specs.Labels.{label_at}
+use Rattle.bpf_safety.specs.Budget.{budget, least_slack}
+use Rattle.bpf_safety.specs.Flow.{Visit, callee, goes_on, jump_target, jump_state}
+use Rattle.bpf_safety.specs.Flaw.{Edge, edge_to, is_negative_if}
+use Rattle.bpf_check.specs.Slack.{at_label}
+
+-- a visit, of which the arrival isn't looked at
+abbrev pub visit : ℕ → Insn → Visit
+visit slot i = record { slot = slot; insn = i; arrival = None }
+
+-- the budget at a label doesn't cover the cost and the budget at the end of an edge
+abbrev pub unpaid_from : CertificateView → LabelView → Option ℤ → Edge → Bool
+unpaid_from c old cost e =
+    some_passes (λ new. is_negative_if (option_and_then (λ spent. least_slack (budget old) (at_label old) spent e.state (budget new)) cost)) (label_at c e.slot)
+
+-- the state on the edge to the next instruction, from the state after this one
+abbrev pub next_of : CertificateView → ℕ → Insn → AbstractState → Option AbstractState
+next_of c slot (JumpIf cond width dst src off) s = branch (JumpIf cond width dst src off) false s
+next_of c slot (CallLocal off) s = option_and_then (λ g. left g.ret s) (callee c slot (CallLocal off))
+next_of c slot i s = if goes_on i then Some s else None
+
+-- the live edges, from the state after an instruction
+abbrev pub edges_of : CertificateView → ℕ → Insn → AbstractState → List Edge
+edges_of c slot i s = edge_to (jump_target slot i) (jump_state slot i s) ++ edge_to (Some (slot + slot_count i)) (next_of c slot i s)

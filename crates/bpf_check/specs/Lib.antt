@@ -1,0 +1,10 @@
+pub mod Search
+pub mod Slack
+pub mod RefusalNumbers
+pub mod Least
+pub mod Edges
+pub mod Arrivals
+pub mod Visits
+pub mod CheckedProgram
+pub mod Runs
+pub mod Verdicts

@@ -1,0 +1,39 @@
+-- What a visit finds.
+use Rattle.std.specs.Prelude.{◌≡◌, ℕ, ◌+◌, option_map, option_and_then, List, ◌++◌, Bool, not, ◌&&◌, is_none, Option, None, IfSome}
+use Rattle.std.specs.Option.{option_to_list}
+use Rattle.bpf_insn.specs.declared.instruction.Insn.{Insn}
+use Rattle.bpf_insn.specs.Instruction.{Instructions, slot_count}
+use Rattle.bpf_state.specs.Fault.{fault_of, some_passes}
+use Rattle.bpf_state.specs.State.{tightened}
+use Rattle.bpf_safety.specs.Labels.{label_at}
+use Rattle.bpf_cert.specs.View.{CertificateView}
+use Rattle.bpf_safety.specs.Flow.{Arrival, Visit, arrives, passed_on, sound_arrival}
+use Rattle.bpf_safety.specs.Flaw.{numbers_of_arrival, is_not_entailed, is_over_budget, falls_past_end}
+use Rattle.bpf_check.specs.Arrivals.{arrival_of, IsReaching}
+use Rattle.bpf_check.specs.Edges.{visit}
+use Rattle.bpf_check.specs.declared.visit.Judged.{Judged}
+
+-- an instruction without fault, with what goes on from it and which conditions on its state fail
+pub record IsJudged (p : Instructions) (c : CertificateView) (slot : ℕ) (i : Insn) (a : Arrival) (j : Judged) : Type 0 where
+  pub no_fault : fault_of c.len a.state i ≡ None
+  pub passed : option_map arrival_of j.passed ≡ passed_on p c slot i a
+  pub valid : IfSome j.passed (λ r. IsReaching (slot + slot_count i) r)
+  pub not_entailed : j.not_entailed ≡ is_not_entailed p c (visit slot i) a
+  pub over_budget : j.over_budget ≡ is_over_budget p c (visit slot i) a
+  pub past_end : j.past_end ≡ falls_past_end p c (visit slot i) a
+
+-- the visit of an instruction that is reached by what was passed on
+abbrev pub visit_of : CertificateView → ℕ → Insn → Option Arrival → Visit
+visit_of c slot i passed = record { slot = slot; insn = i; arrival = arrives c slot passed }
+
+-- the numbers of an instruction that need a state
+abbrev pub numbers_with : Instructions → CertificateView → ℕ → Insn → Option Arrival → List ℕ
+numbers_with p c slot i o =
+    option_to_list (option_and_then (λ a. fault_of c.len a.state i) o) ++ numbers_of_arrival p c (visit slot i) (sound_arrival c i o)
+
+abbrev pub passed_with : Instructions → CertificateView → ℕ → Insn → Option Arrival → Option Arrival
+passed_with p c slot i o = option_and_then (passed_on p c slot i) (sound_arrival c i o)
+
+-- no state reaches the slot, and no label there is refused for itself
+abbrev pub never_reached : CertificateView → ℕ → Option Arrival → Bool
+never_reached c slot o = is_none (arrives c slot o) && not (some_passes (λ l. is_none (tightened l.state)) (label_at c slot))

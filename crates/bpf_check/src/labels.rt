@@ -1,0 +1,97 @@
+//! Which function and which label of a certificate stand at a slot.
+
+ghost use Rattle.std.specs.Prelude.{◌≡◌, ◌==◌, map, option_map, option_copied, IfSome, IsTrue, None};
+ghost use Rattle.bpf_cert.specs.Faults.{is_rising};
+ghost use Rattle.bpf_cert.specs.View.{label_view, function_view};
+ghost use Rattle.bpf_cert.specs.Limits.{slot_before, first_before, is_limited_label, is_limited_function};
+ghost use Rattle.bpf_safety.specs.Labels.{first_with, label_at, function_at, function_from};
+ghost use Rattle.bpf_check.specs.Search.{last_up_to};
+
+use bpf_cert::{Certificate, Function, Label};
+
+/// The last label that stands at a slot or before it.
+fn last_label(labels: &[Label], slot: u32) -> Option<&Label>
+    requires { IsTrue (is_rising slot_before (map label_view labels.now)) }
+    ensures { option_copied result ≡ last_up_to (λ l. l.slot) None slot labels.now }
+{
+    let mut rest = labels;
+    'rest: while rest.len() > 1 {
+        let (front, back) = rest.split_at(rest.len() / 2);
+        rest = if back[0].slot <= slot { back } else { front };
+    }
+    match rest.first() {
+        Some(label) if label.slot <= slot => Some(label),
+        _ => None,
+    }
+}
+
+/// The label at a slot among a function's labels.
+fn label_among(labels: &[Label], slot: u32) -> Option<&Label>
+    requires { IsTrue (is_rising slot_before (map label_view labels.now)) }
+    ensures { option_map label_view (option_copied result) ≡ first_with (λ l. l.slot == slot) (map label_view labels.now) }
+{
+    let Some(label) = last_label(labels, slot) else {
+        return None;
+    };
+    if label.slot == slot {
+        Some(label)
+    } else {
+        None
+    }
+}
+
+/// The label at a slot, of two the earlier.
+pub fn label_at(certificate: &Certificate, slot: u32) -> Option<&Label>
+    ensures value { option_map label_view (option_copied result) ≡ label_at certificate.now slot }
+    ensures limited { IfSome result (λ l. IsTrue (is_limited_label (label_view l.now))) }
+{
+    certificate.valid();
+    let functions = certificate.functions();
+    for function in functions {
+        if let Some(label) = label_among(&function.labels, slot) {
+            return Some(label);
+        }
+    }
+    None
+}
+
+/// The last function that begins at a slot or before it.
+fn last_function(functions: &[Function], slot: u32) -> Option<&Function>
+    requires { IsTrue (is_rising first_before (map function_view functions.now)) }
+    ensures { option_copied result ≡ last_up_to (λ f. f.first) None slot functions.now }
+{
+    let mut rest = functions;
+    'rest: while rest.len() > 1 {
+        let (front, back) = rest.split_at(rest.len() / 2);
+        rest = if back[0].first <= slot { back } else { front };
+    }
+    match rest.first() {
+        Some(function) if function.first <= slot => Some(function),
+        _ => None,
+    }
+}
+
+/// The function that a slot lies in.
+pub fn function_at(certificate: &Certificate, slot: u32) -> Option<&Function>
+    ensures value { option_map function_view (option_copied result) ≡ function_at certificate.now slot }
+    ensures limited { IfSome result (λ f. IsTrue (is_limited_function (function_view f.now))) }
+{
+    certificate.valid();
+    last_function(certificate.functions(), slot)
+}
+
+/// The function that begins at a slot.
+pub fn function_from(certificate: &Certificate, slot: u32) -> Option<&Function>
+    ensures value { option_map function_view (option_copied result) ≡ function_from certificate.now slot }
+    ensures limited { IfSome result (λ f. IsTrue (is_limited_function (function_view f.now))) }
+{
+    certificate.valid();
+    let Some(function) = function_at(certificate, slot) else {
+        return None;
+    };
+    if function.first == slot {
+        Some(function)
+    } else {
+        None
+    }
+}

@@ -1,0 +1,43 @@
+//! The least of refusals.
+
+ghost use Rattle.std.specs.Prelude.{◌≡◌, ℕ, ◌⊎◌, List, ◌++◌, Option, option_map};
+ghost use Rattle.bpf_safety.specs.Flaw.{at, number_if};
+ghost use Rattle.bpf_check.specs.Least.{IsAtMost, IsLeastIn};
+ghost use Rattle.bpf_check.specs.RefusalNumbers.{cause_number, flaw_of};
+
+use crate::refusal::{Cause, Refusal};
+
+/// The refusal for a condition at a slot, if it fails.
+pub fn refused_if(fails: bool, slot: u32, cause: Cause) -> Option<Refusal>
+    ensures { IsLeastIn (at slot (number_if (cause_number cause) fails)) (option_map flaw_of result) }
+{
+    if fails {
+        Some(Refusal { slot, cause })
+    } else {
+        None
+    }
+}
+
+/// The one at the lower slot, and at one slot the one with the lower number.
+fn lower(a: Refusal, b: Refusal) -> Refusal
+    ensures one { (result ≡ a) ⊎ (result ≡ b) }
+    ensures first { IsAtMost (flaw_of result) (flaw_of a) }
+    ensures second { IsAtMost (flaw_of result) (flaw_of b) }
+{
+    if b.slot < a.slot || (b.slot == a.slot && b.number() < a.number()) {
+        b
+    } else {
+        a
+    }
+}
+
+/// The least refusal of two lists of flaws, from the least of each.
+pub fn lesser(a: Option<Refusal>, b: Option<Refusal>) -> Option<Refusal>
+    ensures { (xs ys : List (ℕ × ℕ)) → IsLeastIn xs (option_map flaw_of a) → IsLeastIn ys (option_map flaw_of b) → IsLeastIn (xs ++ ys) (option_map flaw_of result) }
+{
+    match (a, b) {
+        (Some(a), Some(b)) => Some(lower(a, b)),
+        (Some(a), None) => Some(a),
+        (None, b) => b,
+    }
+}

@@ -1,0 +1,26 @@
+//! The checker of certificates.
+#![tactic(auto)]
+
+mod arrival;
+mod budget;
+mod checked;
+mod checker;
+mod edge;
+mod judge;
+#[cfg(test)]
+mod judgements;
+mod labels;
+mod least;
+mod pass;
+mod refusal;
+mod shape;
+mod start;
+#[cfg(test)]
+mod tests;
+mod verifier;
+mod visit;
+
+pub use checked::Checked;
+pub use checker::check;
+pub use refusal::{Cause, Refusal};
+pub use verifier::{Verdict, VerifyError, verify};

@@ -1,0 +1,32 @@
+//! One pass over a program's instructions.
+
+ghost use Rattle.std.specs.Prelude.{option_map};
+ghost use Rattle.std.specs.List.{flat_map};
+ghost use Rattle.bpf_safety.specs.Flow.{visits};
+ghost use Rattle.bpf_safety.specs.Flaw.{at, numbers_of_visit};
+ghost use Rattle.bpf_check.specs.Least.{IsLeastIn};
+ghost use Rattle.bpf_check.specs.RefusalNumbers.{flaw_of};
+
+use crate::arrival::Arrival;
+use crate::refusal::Refusal;
+use crate::visit::visit;
+use bpf_cert::Certificate;
+use bpf_insn::Code;
+
+/// The least refusal of a program's instructions: the slots are visited in their order, so the first is the least.
+pub fn visit_flaw<P: Code>(program: &P, certificate: &Certificate) -> Option<Refusal>
+    ensures { IsLeastIn (flat_map (λ v. at v.slot (numbers_of_visit (P.program program.now) certificate.now v)) (visits (P.program program.now) certificate.now)) (option_map flaw_of result) }
+{
+    let _ = program.slots();
+    let mut slot = 0;
+    let mut passed: Option<Arrival> = None;
+    'visits: while let Some(insn) = program.insn(slot) {
+        let visited = visit(program, certificate, slot, &insn, passed);
+        if visited.refusal.is_some() {
+            return visited.refusal;
+        }
+        passed = visited.passed;
+        slot += insn.slots();
+    }
+    None
+}

@@ -1,0 +1,68 @@
+//! Whether a certificate fits the start of a program.
+
+ghost use Rattle.std.specs.Prelude.{◌≡◌, ◌++◌, map, not, option_map};
+ghost use Rattle.bpf_cert.specs.View.{function_view};
+ghost use Rattle.bpf_state.specs.State.{start};
+ghost use Rattle.bpf_state.specs.Fault.{some_passes};
+ghost use Rattle.bpf_state.specs.Entails.{state_entails};
+ghost use Rattle.bpf_safety.specs.Labels.{label_at};
+ghost use Rattle.bpf_safety.specs.Flaw.{at, number_if, begins_elsewhere, begins_wrongly, starts_over_budget};
+ghost use Rattle.bpf_check.specs.Least.{IsLeastIn};
+ghost use Rattle.bpf_check.specs.RefusalNumbers.{flaw_of};
+
+use crate::budget::greatest_budget;
+use crate::labels::label_at;
+use crate::least::{lesser, refused_if};
+use crate::refusal::{Cause, Refusal};
+use bpf_cert::{Certificate, Function};
+use bpf_state::State;
+
+/// No function begins at slot 0.
+fn begins_elsewhere(functions: &[Function]) -> bool
+    ensures { result ≡ begins_elsewhere (map function_view functions.now) }
+{
+    match functions.first() {
+        Some(function) => function.first != 0,
+        None => true,
+    }
+}
+
+/// The state at the start doesn't lie in the label at slot 0.
+fn starts_outside(certificate: &Certificate) -> bool
+    ensures { result ≡ some_passes (λ l. not (state_entails (start certificate.now.len) l.state)) (label_at certificate.now 0) }
+{
+    let Some(label) = label_at(certificate, 0) else {
+        return false;
+    };
+    let start = State::start(certificate.len());
+    !start.entails(&label.state)
+}
+
+fn begins_wrongly(certificate: &Certificate) -> bool
+    ensures { result ≡ begins_wrongly certificate.now }
+{
+    begins_elsewhere(certificate.functions()) || starts_outside(certificate)
+}
+
+/// The budget at the start may be above the steps that are promised.
+fn starts_over_budget(certificate: &Certificate) -> bool
+    ensures { result ≡ starts_over_budget certificate.now }
+{
+    let Some(label) = label_at(certificate, 0) else {
+        return false;
+    };
+    let start = State::start(certificate.len());
+    match greatest_budget(label, &start) {
+        Some(most) => i128::from(certificate.steps()) < most,
+        None => false,
+    }
+}
+
+/// The least flaw at the start: C9 or C13 at slot 0.
+pub fn start_flaw(certificate: &Certificate) -> Option<Refusal>
+    ensures { IsLeastIn (at 0 (number_if 13 (begins_wrongly certificate.now) ++ number_if 9 (starts_over_budget certificate.now))) (option_map flaw_of result) }
+{
+    let misshapen = refused_if(begins_wrongly(certificate), 0, Cause::Misshapen);
+    let over = refused_if(starts_over_budget(certificate), 0, Cause::OverBudget);
+    lesser(misshapen, over)
+}
