@@ -1,0 +1,9 @@
+//! Tests of the checker over the crates that it joins: texts and certificates with their verdicts and runs.
+#![tactic(auto)]
+
+#[cfg(test)]
+mod examples;
+#[cfg(test)]
+mod flat;
+#[cfg(test)]
+mod verdicts;
