@@ -141,7 +141,7 @@ pub struct Budgets {
 }
 
 impl Visitor for Budgets {
-    fn edge(&mut self, edge: Edge, done: i128, state: &State) -> Result<(), InferError> {
+    fn edge(&mut self, edge: Edge, done: i128, state: &State) -> Result<(), AllocError> {
         let way = Way {
             from: edge.from,
             to: Some(edge.to),
@@ -152,12 +152,12 @@ impl Visitor for Budgets {
         Ok(())
     }
 
-    fn call(&mut self, callee: usize, state: &State) -> Result<(), InferError> {
+    fn call(&mut self, callee: usize, state: &State) -> Result<(), AllocError> {
         self.called = self.called.saturating_add(self.greatest(callee, state));
         Ok(())
     }
 
-    fn exit(&mut self, from: usize, done: i128) -> Result<(), InferError> {
+    fn exit(&mut self, from: usize, done: i128) -> Result<(), AllocError> {
         let way = Way {
             from,
             to: None,

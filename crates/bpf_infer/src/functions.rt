@@ -84,7 +84,7 @@ fn first_recursion(alloc: Global, calls: &[Call]) -> Result<Option<u32>, AllocEr
     let called = called(alloc, calls)?;
     for call in calls {
         if let Some(set) = called.get(call.callee as usize) {
-            if set[call.caller as usize] || call.caller == call.callee {
+            if set[call.caller as usize] {
                 return Ok(Some(call.slot));
             }
         }

@@ -55,7 +55,7 @@ fn labels_of(
     first: usize,
     end: usize,
 ) -> Result<Vec<Label>, AllocError> {
-    let mut labels = Vec::new(alloc);
+    let mut labels = Vec::with_capacity(alloc, end.saturating_sub(first))?;
     for block in first..end {
         if let Some(state) = taken(&mut rounds.states, block) {
             labels.push(Label {

@@ -148,7 +148,7 @@ fn taken_in(held: Option<Moves>, moves: &Moves) -> Moves {
 }
 
 impl Visitor for Search {
-    fn edge(&mut self, edge: Edge, _done: i128, state: &State) -> Result<(), InferError> {
+    fn edge(&mut self, edge: Edge, _done: i128, state: &State) -> Result<(), AllocError> {
         if edge.to < self.head || edge.to > self.last {
             return Ok(());
         }
@@ -167,11 +167,11 @@ impl Visitor for Search {
         Ok(())
     }
 
-    fn call(&mut self, _callee: usize, _state: &State) -> Result<(), InferError> {
+    fn call(&mut self, _callee: usize, _state: &State) -> Result<(), AllocError> {
         Ok(())
     }
 
-    fn exit(&mut self, _from: usize, _done: i128) -> Result<(), InferError> {
+    fn exit(&mut self, _from: usize, _done: i128) -> Result<(), AllocError> {
         Ok(())
     }
 }

@@ -71,7 +71,7 @@ fn no_states(alloc: Global, count: usize) -> Result<Vec<Option<State>>, AllocErr
 }
 
 impl Visitor for Rounds {
-    fn edge(&mut self, edge: Edge, _done: i128, state: &State) -> Result<(), InferError> {
+    fn edge(&mut self, edge: Edge, _done: i128, state: &State) -> Result<(), AllocError> {
         if edge.to <= edge.from {
             add_back(&mut self.backs, edge);
         }
@@ -79,14 +79,14 @@ impl Visitor for Rounds {
         Ok(())
     }
 
-    fn call(&mut self, callee: usize, state: &State) -> Result<(), InferError> {
+    fn call(&mut self, callee: usize, state: &State) -> Result<(), AllocError> {
         let mut entry = state.copy();
         enter(&mut entry);
         self.reach(callee, &entry, false);
         Ok(())
     }
 
-    fn exit(&mut self, _from: usize, _done: i128) -> Result<(), InferError> {
+    fn exit(&mut self, _from: usize, _done: i128) -> Result<(), AllocError> {
         Ok(())
     }
 }

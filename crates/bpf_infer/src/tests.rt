@@ -1,5 +1,7 @@
 //! Programs and what is proposed for them, worked out by hand.
 
+ghost use Rattle.std.specs.Prelude.{◌≤◌};
+
 use crate::{InferError, infer};
 use bpf_cert::{Certificate, Measure, Place};
 use bpf_insn::{AluOp, Cond, Insn, Operand, Program, Reg, Size, Width};
@@ -140,8 +142,9 @@ fn a_falling_loop(rt: HostRuntime) -> Result<(), Fail> {
     let certificate = proposed(alloc, &insns, 0)??;
     assert_eq!(rt; certificate.steps(), 23);
     assert_eq!(rt; certificate.len(), 0);
-    assert_eq!(rt; certificate.functions().len(), 1);
-    let labels = certificate.functions()[0].labels.as_slice();
+    let functions = certificate.functions();
+    assert_eq!(rt; functions.len(), 1);
+    let labels = functions[0].labels.as_slice();
     assert_eq!(rt; labels.len(), 2);
     let (first, second) = (&labels[0], &labels[1]);
     assert_eq!(rt; (first.slot, first.budget.base), (0, 23));

@@ -6,6 +6,7 @@ use crate::labels::Outline;
 use bpf_insn::{Insn, Program};
 use bpf_num::Num;
 use bpf_state::{State, branch, leave, transfer};
+use std::alloc::AllocError;
 
 /// An edge from one block to another, by their numbers.
 #[derive(Clone, Copy, Debug)]
@@ -17,13 +18,13 @@ pub struct Edge {
 /// What takes note of where a walk leads.
 pub trait Visitor {
     /// An edge into a label is reached in a state, after so many instructions.
-    fn edge(&mut self, edge: Edge, done: i128, state: &State) -> Result<(), InferError>;
+    fn edge(&mut self, edge: Edge, done: i128, state: &State) -> Result<(), AllocError>;
 
     /// A CALL of the function with this first block is reached in a state.
-    fn call(&mut self, callee: usize, state: &State) -> Result<(), InferError>;
+    fn call(&mut self, callee: usize, state: &State) -> Result<(), AllocError>;
 
     /// An EXIT of a block is reached after so many instructions.
-    fn exit(&mut self, from: usize, done: i128) -> Result<(), InferError>;
+    fn exit(&mut self, from: usize, done: i128) -> Result<(), AllocError>;
 }
 
 /// A program that is walked over, on contexts of `len` bytes.
