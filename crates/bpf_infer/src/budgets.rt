@@ -1,5 +1,8 @@
 //! Budgets: how many instructions may still be done from each label on.
 
+ghost use Rattle.std.specs.Prelude.{◌<◌, IfErr};
+ghost use Rattle.bpf_infer.specs.RefusalNumbers.{infer_slot};
+
 use crate::error::InferError;
 use crate::functions::Depths;
 use crate::loops::{Counter, Loop, Loops};
@@ -230,7 +233,10 @@ impl Budgets {
         Span::of(state, counter.number())
     }
 
-    fn walk_over(&mut self, walk: &Walk, rounds: &Rounds, block: usize) -> Result<(), InferError> {
+    fn walk_over(&mut self, walk: &Walk, rounds: &Rounds, block: usize) -> Result<(), InferError>
+        requires { 0 < walk.now.outline.now }
+        ensures { IfErr result (λ e. infer_slot e < walk.now.outline.now) }
+    {
         let Some(mut state) = rounds.state_at(block) else {
             return Ok(());
         };
@@ -254,7 +260,10 @@ impl Budgets {
         rounds: &Rounds,
         first: usize,
         end: usize,
-    ) -> Result<(), InferError> {
+    ) -> Result<(), InferError>
+        requires { 0 < walk.now.outline.now }
+        ensures { IfErr result (λ e. infer_slot e < walk.now.outline.now) }
+    {
         for block in first..end {
             self.walk_over(walk, rounds, block)?;
         }
@@ -278,7 +287,10 @@ impl Budgets {
     }
 
     /// I2 at the head of a loop with a weight above 2^20.
-    fn weigh(&mut self, alloc: Global, walk: &Walk, head: usize) -> Result<(), InferError> {
+    fn weigh(&mut self, alloc: Global, walk: &Walk, head: usize) -> Result<(), InferError>
+        requires { 0 < walk.now.outline.now }
+        ensures { IfErr result (λ e. infer_slot e < walk.now.outline.now) }
+    {
         let Some(found) = self.loops.at(head) else {
             return Ok(());
         };
@@ -288,7 +300,7 @@ impl Budgets {
         let weight = self.cost_around(alloc, found)?.max(1);
         if weight > MAX_WEIGHT {
             return Err(InferError::NoBudget {
-                slot: walk.outline.slot_of(head),
+                slot: walk.outline.label(head),
             });
         }
         let plan = self.plan(head);
@@ -302,7 +314,10 @@ impl Budgets {
         walk: &Walk,
         first: usize,
         end: usize,
-    ) -> Result<(), InferError> {
+    ) -> Result<(), InferError>
+        requires { 0 < walk.now.outline.now }
+        ensures { IfErr result (λ e. infer_slot e < walk.now.outline.now) }
+    {
         for block in first..end {
             self.weigh(alloc, walk, block)?;
         }
@@ -330,7 +345,10 @@ impl Budgets {
     }
 
     /// The least base that pays the ways from a label, of those that lead back only if wanted. I2 above 2^40.
-    fn pay(&mut self, walk: &Walk, block: usize, pays_back: bool) -> Result<(), InferError> {
+    fn pay(&mut self, walk: &Walk, block: usize, pays_back: bool) -> Result<(), InferError>
+        requires { 0 < walk.now.outline.now }
+        ensures { IfErr result (λ e. infer_slot e < walk.now.outline.now) }
+    {
         let plan = self.plan(block);
         let mut base = 0;
         for number in plan.ways_from..plan.ways_to {
@@ -343,7 +361,7 @@ impl Budgets {
         }
         if base > MAX_BASE {
             return Err(InferError::NoBudget {
-                slot: walk.outline.slot_of(block),
+                slot: walk.outline.label(block),
             });
         }
         put(&mut self.plans, block, Plan { base, ..plan });
@@ -351,7 +369,10 @@ impl Budgets {
     }
 
     /// Pays the ways from the labels of a loop, those back to its head too.
-    fn pay_back(&mut self, walk: &Walk, found: Loop) -> Result<(), InferError> {
+    fn pay_back(&mut self, walk: &Walk, found: Loop) -> Result<(), InferError>
+        requires { 0 < walk.now.outline.now }
+        ensures { IfErr result (λ e. infer_slot e < walk.now.outline.now) }
+    {
         for block in (found.head.saturating_add(1)..found.last.saturating_add(1)).rev() {
             self.pay(walk, block, true)?;
         }
@@ -359,7 +380,10 @@ impl Budgets {
     }
 
     /// From the highest label on; the ways in a loop are paid once its head is.
-    fn pay_all(&mut self, walk: &Walk, first: usize, end: usize) -> Result<(), InferError> {
+    fn pay_all(&mut self, walk: &Walk, first: usize, end: usize) -> Result<(), InferError>
+        requires { 0 < walk.now.outline.now }
+        ensures { IfErr result (λ e. infer_slot e < walk.now.outline.now) }
+    {
         for block in (first..end).rev() {
             self.pay(walk, block, false)?;
             if let Some(found) = self.loops.at(block) {
@@ -379,7 +403,10 @@ impl Budgets {
         walk: &Walk,
         rounds: &Rounds,
         function: usize,
-    ) -> Result<(), InferError> {
+    ) -> Result<(), InferError>
+        requires { 0 < walk.now.outline.now }
+        ensures { IfErr result (λ e. infer_slot e < walk.now.outline.now) }
+    {
         let first = walk.outline.first_block(function);
         let end = walk.outline.first_block(function.saturating_add(1));
         self.walk_over_all(walk, rounds, first, end)?;
@@ -394,8 +421,11 @@ impl Budgets {
         rounds: &Rounds,
         depths: &Depths,
         depth: u32,
-    ) -> Result<(), InferError> {
-        for function in 0..walk.outline.functions.len() {
+    ) -> Result<(), InferError>
+        requires { 0 < walk.now.outline.now }
+        ensures { IfErr result (λ e. infer_slot e < walk.now.outline.now) }
+    {
+        for function in 0..walk.outline.function_count() {
             if depths.get(function).copied().unwrap_or(0) == depth {
                 self.plan_function(alloc, walk, rounds, function)?;
             }
@@ -432,10 +462,13 @@ pub fn budgets_of(
     rounds: &Rounds,
     loops: Loops,
     depths: &Depths,
-) -> Result<Budgets, InferError> {
+) -> Result<Budgets, InferError>
+    requires { 0 < walk.now.outline.now }
+    ensures { IfErr result (λ e. infer_slot e < walk.now.outline.now) }
+{
     let mut budgets = Budgets {
         loops,
-        plans: vec![in alloc; Plan::NONE; walk.outline.blocks.len()]?,
+        plans: vec![in alloc; Plan::NONE; walk.outline.block_count()]?,
         ways: Vec::new(alloc),
         called: 0,
     };

@@ -1,18 +1,21 @@
 //! How deep the calls of a program go.
 
+ghost use Rattle.std.specs.Prelude.{◌≡◌, ◌<◌, IfOk, IfErr, IfSome};
+ghost use Rattle.bpf_insn.specs.Instruction.{slots};
+ghost use Rattle.bpf_infer.specs.RefusalNumbers.{infer_slot};
+
 use crate::error::InferError;
 use crate::flow::Flow;
 use crate::labels::Outline;
-use bpf_insn::Program;
+use bpf_insn::{Insn, Program};
 use std::alloc::{AllocError, Global};
 
 /// The deepest function in a certificate.
 const DEEPEST: u32 = 8;
 
-/// A CALL, with the numbers of the function that it is in and of the one that it calls.
+/// The numbers of a function and of one that it calls.
 #[derive(Clone, Copy, Debug)]
 struct Call {
-    slot: u32,
     caller: u8,
     callee: u8,
 }
@@ -30,7 +33,6 @@ fn calls_of(alloc: Global, program: &Program, outline: &Outline) -> Result<Vec<C
         if let Some(insn) = program.at(slot) {
             if let Flow::Call(target) = Flow::of(slot, insn) {
                 calls.push(Call {
-                    slot,
                     caller: outline.function_of(slot),
                     callee: outline.function_of(target),
                 })?;
@@ -80,16 +82,37 @@ fn called(alloc: Global, calls: &[Call]) -> Result<Vec<Set>, AllocError> {
 }
 
 /// The slot of the lowest call that leads back to its function.
-fn first_recursion(alloc: Global, calls: &[Call]) -> Result<Option<u32>, AllocError> {
+fn first_recursion(
+    alloc: Global,
+    program: &Program,
+    outline: &Outline,
+    calls: &[Call],
+) -> Result<Option<u32>, AllocError>
+    ensures { IfOk result (λ found. IfSome found (λ slot. slot < slots program.now.list)) }
+{
     let called = called(alloc, calls)?;
-    for call in calls {
-        if let Some(set) = called.get(call.callee as usize) {
-            if set[call.caller as usize] {
-                return Ok(Some(call.slot));
+    for slot in 0..program.slots() {
+        if let Some(insn) = program.at(slot) {
+            if let Flow::Call(target) = Flow::of(slot, insn) {
+                if is_called(
+                    &called,
+                    outline.function_of(target),
+                    outline.function_of(slot),
+                ) {
+                    return Ok(Some(slot));
+                }
             }
         }
     }
     Ok(None)
+}
+
+/// Whether a function calls another one.
+fn is_called(called: &[Set], caller: u8, callee: u8) -> bool {
+    match called.get(caller as usize) {
+        Some(set) => set[callee as usize],
+        None => false,
+    }
 }
 
 // ---- depths
@@ -104,10 +127,13 @@ fn deepen(depths: &mut Depths, calls: &[Call]) {
 }
 
 /// The first slot of the lowest function that is too deep.
-fn first_too_deep(depths: &Depths, outline: &Outline) -> Option<u32> {
-    for (function, depth) in outline.functions.iter().zip(depths.iter()) {
-        if *depth > DEEPEST {
-            return Some(function.first);
+fn first_too_deep(depths: &Depths, outline: &Outline) -> Option<u32>
+    requires { 0 < outline.now }
+    ensures { IfSome result (λ slot. slot < outline.now) }
+{
+    for function in 0..outline.function_count() {
+        if depths.get(function).copied().unwrap_or(0) > DEEPEST {
+            return Some(outline.label(outline.first_block(function)));
         }
     }
     None
@@ -115,11 +141,11 @@ fn first_too_deep(depths: &Depths, outline: &Outline) -> Option<u32> {
 
 /// The depth of each function: 1 plus the greatest depth of those that it calls. I3 at the lowest call of a recursion;
 /// I2 at the first of the lowest function with a depth above 8.
-pub fn depths_of(
-    alloc: Global,
-    program: &Program,
-    outline: &Outline,
-) -> Result<Depths, InferError> {
+pub fn depths_of(alloc: Global, program: &Program, outline: &Outline) -> Result<Depths, InferError>
+    requires some { 0 < outline.now }
+    requires same { outline.now ≡ slots program.now.list }
+    ensures { IfErr result (λ e. infer_slot e < outline.now) }
+{
     let calls = calls_of(alloc, program, outline)?;
     let mut depths = [1; 256];
     for _ in 0..DEEPEST {
@@ -128,24 +154,29 @@ pub fn depths_of(
     let Some(slot) = first_too_deep(&depths, outline) else {
         return Ok(depths);
     };
-    match first_recursion(alloc, &calls)? {
+    match first_recursion(alloc, program, outline, &calls)? {
         Some(slot) => Err(InferError::Recursion { slot }),
         None => Err(InferError::NoBudget { slot }),
     }
 }
 
+/// Whether the instruction at a slot jumps out of its function, or goes on into the next one.
+fn leaves_function(program: &Program, outline: &Outline, slot: u32, insn: &Insn) -> bool {
+    let flow = Flow::of(slot, insn);
+    let function = outline.function_of(slot);
+    let target = flow.jump().unwrap_or(slot);
+    let next = slot.saturating_add(insn.slots());
+    let goes_on = flow.goes_on() && next < program.slots();
+    outline.function_of(target) != function || goes_on && outline.function_of(next) != function
+}
+
 /// I4 (C12) at the lowest instruction that jumps out of its function, or goes on into the next one.
-pub fn check_bounds(program: &Program, outline: &Outline) -> Result<(), InferError> {
+pub fn check_bounds(program: &Program, outline: &Outline) -> Result<(), InferError>
+    ensures { IfErr result (λ e. infer_slot e < slots program.now.list) }
+{
     for slot in 0..program.slots() {
         if let Some(insn) = program.at(slot) {
-            let flow = Flow::of(slot, insn);
-            let target = flow.jump().unwrap_or(slot);
-            let next = slot.saturating_add(insn.slots());
-            let function = outline.function_of(slot);
-            let goes_on = flow.goes_on() && next < program.slots();
-            if outline.function_of(target) != function
-                || goes_on && outline.function_of(next) != function
-            {
+            if leaves_function(program, outline, slot, insn) {
                 return Err(InferError::Fault {
                     slot,
                     condition: 12,

@@ -1,6 +1,8 @@
 //! The inferrer.
 
-ghost use Rattle.std.specs.Prelude.{◌≡◌, ◌≤◌, IfOk};
+ghost use Rattle.std.specs.Prelude.{◌≡◌, ◌<◌, ◌≤◌, IfOk, IfErr};
+ghost use Rattle.bpf_insn.specs.Instruction.{slots};
+ghost use Rattle.bpf_infer.specs.RefusalNumbers.{infer_slot};
 ghost use Rattle.bpf_cert.specs.Limits.{IsCertificate};
 
 use crate::budgets::{Budgets, budgets_of};
@@ -54,12 +56,14 @@ fn labels_of(
     budgets: &Budgets,
     first: usize,
     end: usize,
-) -> Result<Vec<Label>, AllocError> {
+) -> Result<Vec<Label>, AllocError>
+    requires { 0 < outline.now }
+{
     let mut labels = Vec::with_capacity(alloc, end.saturating_sub(first))?;
     for block in first..end {
         if let Some(state) = taken(&mut rounds.states, block) {
             labels.push(Label {
-                slot: outline.slot_of(block),
+                slot: outline.label(block),
                 state,
                 budget: budget_of(budgets, block),
             })?;
@@ -74,13 +78,15 @@ fn functions_of(
     rounds: &mut Rounds,
     budgets: &Budgets,
     depths: &Depths,
-) -> Result<Vec<Function>, AllocError> {
+) -> Result<Vec<Function>, AllocError>
+    requires { 0 < outline.now }
+{
     let mut functions = Vec::new(alloc);
-    for number in 0..outline.functions.len() {
+    for number in 0..outline.function_count() {
         let first = outline.first_block(number);
         let end = outline.first_block(number.saturating_add(1));
         functions.push(Function {
-            first: outline.slot_of(first),
+            first: outline.label(first),
             depth: depths.get(number).copied().unwrap_or(0),
             ret: Num::top(),
             labels: labels_of(alloc, outline, rounds, budgets, first, end)?,
@@ -96,6 +102,7 @@ pub fn infer(alloc: Global, program: &Program, len: u32) -> Result<Certificate, 
     requires { len ≤ 4096 }
     ensures len { IfOk result (λ c. c.len ≡ len) }
     ensures certificate { IfOk result (λ c. IsCertificate c) }
+    ensures slot { IfErr result (λ e. infer_slot e < slots program.now.list) }
 {
     let outline = Outline::of(alloc, program)?;
     let depths = depths_of(alloc, program, &outline)?;

@@ -1,5 +1,8 @@
 //! The loops of a program, and what counts their rounds.
 
+ghost use Rattle.std.specs.Prelude.{◌<◌, IfErr};
+ghost use Rattle.bpf_infer.specs.RefusalNumbers.{infer_slot};
+
 use crate::error::InferError;
 use crate::places::{PLACES, number_at, place};
 use crate::rounds::{Rounds, put};
@@ -52,7 +55,10 @@ impl Loops {
     }
 
     /// I2 at the head of the lowest loop in which another one begins.
-    fn of(alloc: Global, walk: &Walk, rounds: &Rounds) -> Result<Loops, InferError> {
+    fn of(alloc: Global, walk: &Walk, rounds: &Rounds) -> Result<Loops, InferError>
+        requires { 0 < walk.now.outline.now }
+        ensures { IfErr result (λ e. infer_slot e < walk.now.outline.now) }
+    {
         let mut loops = Loops {
             loops: Vec::new(alloc),
             loop_of: Vec::new(alloc),
@@ -66,11 +72,14 @@ impl Loops {
         Ok(loops)
     }
 
-    fn begin(&mut self, walk: &Walk, head: usize, last: usize) -> Result<(), InferError> {
+    fn begin(&mut self, walk: &Walk, head: usize, last: usize) -> Result<(), InferError>
+        requires { 0 < walk.now.outline.now }
+        ensures { IfErr result (λ e. infer_slot e < walk.now.outline.now) }
+    {
         if let Some(open) = self.loops.last() {
             if head <= open.last {
                 return Err(InferError::NoBudget {
-                    slot: walk.outline.slot_of(open.head),
+                    slot: walk.outline.label(open.head),
                 });
             }
         }
@@ -211,7 +220,10 @@ impl Search {
         }
     }
 
-    fn walk_over(&mut self, walk: &Walk, rounds: &Rounds) -> Result<(), InferError> {
+    fn walk_over(&mut self, walk: &Walk, rounds: &Rounds) -> Result<(), InferError>
+        requires { 0 < walk.now.outline.now }
+        ensures { IfErr result (λ e. infer_slot e < walk.now.outline.now) }
+    {
         for block in self.head..self.last.saturating_add(1) {
             if let Some(mut state) = rounds.state_at(block) {
                 self.tag_all(&mut state);
@@ -254,7 +266,10 @@ fn counter_of(
     walk: &Walk,
     rounds: &Rounds,
     found: Loop,
-) -> Result<Option<Counter>, InferError> {
+) -> Result<Option<Counter>, InferError>
+    requires { 0 < walk.now.outline.now }
+    ensures { IfErr result (λ e. infer_slot e < walk.now.outline.now) }
+{
     let count = found.last.saturating_sub(found.head).saturating_add(1);
     let mut search = Search {
         head: found.head,
@@ -271,14 +286,17 @@ fn counter_of(
     match search.counter(rounds, &around) {
         Some(counter) => Ok(Some(counter)),
         None => Err(InferError::NoBudget {
-            slot: walk.outline.slot_of(found.head),
+            slot: walk.outline.label(found.head),
         }),
     }
 }
 
 /// The loops of a program with their counters. I2 at the head of the lowest loop in which another one begins, else of
 /// the lowest one without a counter.
-pub fn loops_of(alloc: Global, walk: &Walk, rounds: &Rounds) -> Result<Loops, InferError> {
+pub fn loops_of(alloc: Global, walk: &Walk, rounds: &Rounds) -> Result<Loops, InferError>
+    requires { 0 < walk.now.outline.now }
+    ensures { IfErr result (λ e. infer_slot e < walk.now.outline.now) }
+{
     let mut loops = Loops::of(alloc, walk, rounds)?;
     for number in 0..loops.loops.len() {
         if let Some(found) = loops.loops.get(number) {

@@ -1,5 +1,8 @@
 //! The states at the labels: rounds over each function until nothing changes, callers before callees.
 
+ghost use Rattle.std.specs.Prelude.{◌<◌, IfErr};
+ghost use Rattle.bpf_infer.specs.RefusalNumbers.{infer_slot};
+
 use crate::error::InferError;
 use crate::functions::Depths;
 use crate::join::join;
@@ -93,7 +96,7 @@ impl Visitor for Rounds {
 
 impl Rounds {
     fn new(alloc: Global, walk: &Walk) -> Result<Rounds, AllocError> {
-        let count = walk.outline.blocks.len();
+        let count = walk.outline.block_count();
         Ok(Rounds {
             states: no_states(alloc, count)?,
             backs: vec![in alloc; None; count]?,
@@ -133,18 +136,24 @@ impl Rounds {
         }
     }
 
-    fn walk_over(&mut self, walk: &Walk, block: usize) -> Result<(), InferError> {
+    fn walk_over(&mut self, walk: &Walk, block: usize) -> Result<(), InferError>
+        requires { 0 < walk.now.outline.now }
+        ensures { IfErr result (λ e. infer_slot e < walk.now.outline.now) }
+    {
         put(&mut self.changed, block, false);
         let reached = match self.state_at(block) {
             Some(state) => walk.over(block, state, self)?,
-            None => walk.outline.slot_of(block),
+            None => walk.outline.label(block),
         };
         put(&mut self.reached, block, reached);
         Ok(())
     }
 
     /// Goes over a function's blocks. Those whose states are as they were lead to the same states again.
-    fn round(&mut self, walk: &Walk, function: usize) -> Result<(), InferError> {
+    fn round(&mut self, walk: &Walk, function: usize) -> Result<(), InferError>
+        requires { 0 < walk.now.outline.now }
+        ensures { IfErr result (λ e. infer_slot e < walk.now.outline.now) }
+    {
         self.has_changed = false;
         let end = walk.outline.first_block(function.saturating_add(1));
         for block in walk.outline.first_block(function)..end {
@@ -156,7 +165,10 @@ impl Rounds {
     }
 
     /// Goes over a function until nothing changes: I1 if that takes more than 64 rounds.
-    fn settle(&mut self, walk: &Walk, function: usize) -> Result<(), InferError> {
+    fn settle(&mut self, walk: &Walk, function: usize) -> Result<(), InferError>
+        requires { 0 < walk.now.outline.now }
+        ensures { IfErr result (λ e. infer_slot e < walk.now.outline.now) }
+    {
         for round in 1..=ROUNDS {
             self.is_wide = round >= FIRST_WIDE_ROUND;
             self.round(walk, function)?;
@@ -166,12 +178,15 @@ impl Rounds {
         }
         let block = walk.outline.first_block(function);
         Err(InferError::Unstable {
-            slot: walk.outline.slot_of(block),
+            slot: walk.outline.label(block),
         })
     }
 
-    fn settle_depth(&mut self, walk: &Walk, depths: &Depths, depth: u32) -> Result<(), InferError> {
-        for function in 0..walk.outline.functions.len() {
+    fn settle_depth(&mut self, walk: &Walk, depths: &Depths, depth: u32) -> Result<(), InferError>
+        requires { 0 < walk.now.outline.now }
+        ensures { IfErr result (λ e. infer_slot e < walk.now.outline.now) }
+    {
+        for function in 0..walk.outline.function_count() {
             if depths.get(function).copied().unwrap_or(0) == depth {
                 self.settle(walk, function)?;
             }
@@ -180,12 +195,15 @@ impl Rounds {
     }
 
     /// I4 (C11) at the lowest instruction that isn't reached.
-    fn check_reached(&self, walk: &Walk) -> Result<(), InferError> {
+    fn check_reached(&self, walk: &Walk) -> Result<(), InferError>
+        requires { 0 < walk.now.outline.now }
+        ensures { IfErr result (λ e. infer_slot e < walk.now.outline.now) }
+    {
         for block in 0..self.reached.len() {
             let reached = self.reached.get(block).copied().unwrap_or(0);
-            if reached < walk.outline.slot_of(block.saturating_add(1)) {
+            if reached < walk.outline.end(block) {
                 return Err(InferError::Fault {
-                    slot: reached.max(walk.outline.slot_of(block)),
+                    slot: reached.max(walk.outline.label(block)),
                     condition: 11,
                 });
             }
@@ -196,7 +214,10 @@ impl Rounds {
 
 /// The states of a program's labels. I1 at a function whose states aren't stable after 64 rounds; I4 at an instruction
 /// that is refused or never reached.
-pub fn states_of(alloc: Global, walk: &Walk, depths: &Depths) -> Result<Rounds, InferError> {
+pub fn states_of(alloc: Global, walk: &Walk, depths: &Depths) -> Result<Rounds, InferError>
+    requires { 0 < walk.now.outline.now }
+    ensures { IfErr result (λ e. infer_slot e < walk.now.outline.now) }
+{
     let mut rounds = Rounds::new(alloc, walk)?;
     rounds.reach(0, &State::start(walk.len), false);
     for depth in (1..9).rev() {

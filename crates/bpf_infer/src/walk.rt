@@ -1,5 +1,8 @@
 //! A walk over the instructions of a block.
 
+ghost use Rattle.std.specs.Prelude.{◌<◌, IfErr};
+ghost use Rattle.bpf_infer.specs.RefusalNumbers.{infer_slot};
+
 use crate::error::InferError;
 use crate::flow::Flow;
 use crate::labels::Outline;
@@ -58,15 +61,18 @@ impl<'a> Walk<'a> {
         block: usize,
         state: State,
         visitor: &mut V,
-    ) -> Result<u32, InferError> {
+    ) -> Result<u32, InferError>
+        requires { 0 < self.now.outline.now }
+        ensures { IfErr result (λ e. infer_slot e < self.now.outline.now) }
+    {
         let mut state = state;
-        let end = self.outline.slot_of(block.saturating_add(1));
+        let end = self.outline.end(block);
         let mut spot = Spot {
             block,
-            slot: 0,
+            slot: self.outline.label(block),
             done: 0,
         };
-        for slot in self.outline.slot_of(block)..end {
+        for slot in self.outline.label(block)..end {
             if let Some(insn) = self.program.at(slot) {
                 spot.slot = slot;
                 spot.done = spot.done.saturating_add(1);
@@ -92,7 +98,10 @@ impl<'a> Walk<'a> {
         insn: &Insn,
         state: &mut State,
         visitor: &mut V,
-    ) -> Result<bool, InferError> {
+    ) -> Result<bool, InferError>
+        requires { spot.slot < self.now.outline.now }
+        ensures { IfErr result (λ e. infer_slot e < self.now.outline.now) }
+    {
         match transfer(insn, self.len, state) {
             Ok(true) => self.follow(spot, insn, state, visitor),
             Ok(false) => Ok(false),
@@ -110,7 +119,10 @@ impl<'a> Walk<'a> {
         insn: &Insn,
         state: &mut State,
         visitor: &mut V,
-    ) -> Result<bool, InferError> {
+    ) -> Result<bool, InferError>
+        requires { spot.slot < self.now.outline.now }
+        ensures { IfErr result (λ e. infer_slot e < self.now.outline.now) }
+    {
         match Flow::of(spot.slot, insn) {
             Flow::Next => Ok(true),
             Flow::Jump(target) => {
