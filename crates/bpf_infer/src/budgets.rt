@@ -243,7 +243,7 @@ impl Budgets {
         let span = self.tag_counter(block, &mut state);
         let ways_from = self.ways.len();
         self.called = 0;
-        walk.over(block, state, self)?;
+        walk.over(block, &mut state, self)?;
         let plan = Plan {
             span,
             ways_from,

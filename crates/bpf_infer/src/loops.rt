@@ -227,7 +227,7 @@ impl Search {
         for block in self.head..self.last.saturating_add(1) {
             if let Some(mut state) = rounds.state_at(block) {
                 self.tag_all(&mut state);
-                walk.over(block, state, self)?;
+                walk.over(block, &mut state, self)?;
             }
         }
         Ok(())

@@ -142,7 +142,7 @@ impl Rounds {
     {
         put(&mut self.changed, block, false);
         let reached = match self.state_at(block) {
-            Some(state) => walk.over(block, state, self)?,
+            Some(mut state) => walk.over(block, &mut state, self)?,
             None => walk.outline.label(block),
         };
         put(&mut self.reached, block, reached);

@@ -54,18 +54,17 @@ impl<'a> Walk<'a> {
         }
     }
 
-    /// Goes over a block from a state. The lowest slot of the block that isn't reached, else the end of the block. I4
+    /// Goes over a block from the state at its label. The lowest slot of the block that isn't reached, else the end of the block. I4
     /// at an instruction that is refused, or that can fall past the end of the program.
     pub fn over<V: Visitor>(
         &self,
         block: usize,
-        state: State,
+        state: &mut State,
         visitor: &mut V,
     ) -> Result<u32, InferError>
         requires { 0 < self.now.outline.now }
         ensures { IfErr result (λ e. infer_slot e < self.now.outline.now) }
     {
-        let mut state = state;
         let end = self.outline.end(block);
         let mut spot = Spot {
             block,
@@ -76,7 +75,7 @@ impl<'a> Walk<'a> {
             if let Some(insn) = self.program.at(slot) {
                 spot.slot = slot;
                 spot.done = spot.done.saturating_add(1);
-                if !self.step(spot, insn, &mut state, visitor)? {
+                if !self.step(spot, insn, state, visitor)? {
                     return Ok(slot.saturating_add(1));
                 }
             }
@@ -87,7 +86,7 @@ impl<'a> Walk<'a> {
                 condition: 11,
             });
         }
-        visitor.edge(self.edge_to(spot, end), spot.done, &state)?;
+        visitor.edge(self.edge_to(spot, end), spot.done, state)?;
         Ok(end)
     }
 
