@@ -228,6 +228,30 @@ fn rising_loops(rt: HostRuntime) -> Result<(), Fail> {
     Ok(())
 }
 
+// each byte of the context, from the last one on; r2 counts
+#[test]
+fn a_loop_down_the_context(rt: HostRuntime) -> Result<(), Fail> {
+    let alloc = rt.alloc();
+    let insns = [
+        set(Reg::R0, 0),
+        jump_if(Reg::R2, Cond::Eq, 0, 5),
+        add(Reg::R2, -1),
+        copy(Reg::R3, Reg::R1),
+        alu(AluOp::Add, Reg::R3, Operand::Reg(Reg::R2)),
+        load_byte(Reg::R0, Reg::R3, 0),
+        Insn::Ja { off: -6 },
+        Insn::Exit,
+    ];
+    assert_eq!(rt; bound(alloc, &insns, 4)?, 27);
+    assert_eq!(rt; bound(alloc, &insns, 4096)?, 24579);
+    let fault = InferError::Fault {
+        slot: 2,
+        condition: 11,
+    };
+    assert_eq!(rt; refusal(alloc, &insns, 0)?, fault);
+    Ok(())
+}
+
 #[test]
 fn loops_of_other_forms(rt: HostRuntime) -> Result<(), Fail> {
     let alloc = rt.alloc();
