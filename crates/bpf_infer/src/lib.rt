@@ -1,0 +1,20 @@
+//! The inferrer: it proposes certificates, and nobody relies on it.
+#![tactic(auto)]
+
+mod budgets;
+mod error;
+mod flow;
+mod functions;
+mod inferrer;
+mod join;
+mod labels;
+mod loops;
+mod places;
+mod rounds;
+#[cfg(test)]
+mod tests;
+mod walk;
+mod widen;
+
+pub use error::InferError;
+pub use inferrer::infer;
