@@ -1,12 +1,19 @@
 //! The commands, each a function from places to a status.
 
 mod asm;
+mod certificate;
+mod check;
 mod groups;
 mod image;
+mod infer;
 mod list;
 mod run;
+mod run_checked;
 
 pub use asm::assembled;
+pub use check::checked;
 pub use groups::grouped;
+pub use infer::inferred;
 pub use list::listed;
 pub use run::ran;
+pub use run_checked::ran_checked;

@@ -2,7 +2,7 @@
 
 ghost use Rattle.std.specs.Prelude.{◌≤◌, IfOk};
 
-use crate::commands::{assembled, grouped, listed, ran};
+use crate::commands::{assembled, checked, grouped, inferred, listed, ran, ran_checked};
 use crate::failure::{BAD_WORDS, FAILED, Failure, tell};
 use crate::places::Places;
 use crate::words::{Request, request_of};
@@ -23,6 +23,17 @@ fn perform<'a, P: Places, W: Write>(
         Request::Asm { input, output } => assembled(alloc, places, out, input, output),
         Request::List { input } => listed(alloc, places, out, input),
         Request::Run { input, hex, steps } => ran(alloc, places, out, input, hex, steps),
+        Request::Check { input, certificate } => checked(alloc, places, out, input, certificate),
+        Request::RunChecked {
+            input,
+            certificate,
+            hex,
+        } => ran_checked(alloc, places, out, input, certificate, hex),
+        Request::Infer {
+            input,
+            length,
+            output,
+        } => inferred(alloc, places, out, input, length, output),
     }
 }
 

@@ -49,12 +49,14 @@ impl Write for Paper {
     }
 }
 
-/// One place for reading.
+/// An image and a certificate, of which either may fail.
 #[derive(Drop)]
 struct Shelf<'a> {
     name: &'a str,
     bytes: &'a [u8],
     fails: bool,
+    certificate: &'a [u8],
+    certificate_fails: bool,
     made: u32,
     alloc: Global,
 }
@@ -69,6 +71,11 @@ impl<'a> Places for Shelf<'a> {
             Ok(Shelved {
                 left: self.bytes,
                 fails: self.fails,
+            })
+        } else if name == "c.cert" {
+            Ok(Shelved {
+                left: self.certificate,
+                fails: self.certificate_fails,
             })
         } else {
             Err(io::Error::from(ErrorKind::NotFound))
@@ -110,14 +117,24 @@ fn answer_to(
     bytes: &[u8],
     fails: bool,
 ) -> Result<Answer, AllocError> {
+    answer_on(
+        texts,
+        Shelf {
+            name: "i.img",
+            bytes,
+            fails,
+            certificate: b"",
+            certificate_fails: false,
+            made: 0,
+            alloc,
+        },
+    )
+}
+
+fn answer_on(texts: &[&str], shelf: Shelf<'_>) -> Result<Answer, AllocError> {
+    let mut places = shelf;
+    let alloc = places.alloc;
     let words = words_of(alloc, texts)?;
-    let mut places = Shelf {
-        name: "i.img",
-        bytes,
-        fails,
-        made: 0,
-        alloc,
-    };
     let mut out = Vec::new(alloc);
     let mut err = Vec::new(alloc);
     let status = respond(alloc, &words, &mut places, &mut out, &mut err);
@@ -200,6 +217,8 @@ fn output_fails(rt: HostRuntime) -> Result<(), Fail> {
             name: "i.img",
             bytes: &SMALLEST,
             fails: false,
+            certificate: b"",
+            certificate_fails: false,
             made: 0,
             alloc: rt.alloc(),
         };
@@ -361,5 +380,203 @@ fn contexts_have_a_limit(rt: HostRuntime) -> Result<(), Fail> {
         context_of(rt.alloc(), text.as_str()).err(),
         Some(ContextError::BadHex)
     );
+    Ok(())
+}
+
+const SMALLEST_CERT: &[u8] = b"bpfcert 1 0 2\nfn 0 1 *\nat 0 2\nend\n";
+
+const COUNTDOWN_CERT: &[u8] = b"bpfcert 1 0 23\nfn 0 1 *\nat 0 23\nat 1 2 +2*r6\nr6 u1..10\nend\n";
+
+const FIRST_BYTE_CERT: &[u8] = b"bpfcert 1 1 2\nfn 0 1 *\nat 0 2\nr1 ctx0..0\nend\n";
+
+/// An image, a certificate, the words for both and for the context, and what is answered.
+type Judged = (
+    &'static [u8],
+    &'static [u8],
+    &'static [&'static str],
+    u8,
+    &'static [u8],
+    &'static [u8],
+);
+
+#[test]
+fn certificates_are_judged(rt: HostRuntime) -> Result<(), Fail> {
+    let rows: [Judged; 16] = [
+        (
+            &SMALLEST,
+            SMALLEST_CERT,
+            &["check", "i.img", "c.cert"],
+            0,
+            b"yes length 0 bound 2\n",
+            b"",
+        ),
+        (
+            &COUNTDOWN,
+            COUNTDOWN_CERT,
+            &["check", "i.img", "c.cert"],
+            0,
+            b"yes length 0 bound 23\n",
+            b"",
+        ),
+        (
+            &SMALLEST,
+            b"bpfcert 1 0 1\nfn 0 1 *\nat 0 2\nend\n",
+            &["check", "i.img", "c.cert"],
+            1,
+            b"no C9 at slot 0\n",
+            b"",
+        ),
+        (
+            &SMALLEST,
+            b"bpfcert 1 0 2\nfn 0 1 *\nat 0 02\nend\n",
+            &["check", "i.img", "c.cert"],
+            1,
+            b"no K2 at line 3\n",
+            b"",
+        ),
+        (
+            &SMALLEST,
+            b"",
+            &["check", "i.img", "c.cert"],
+            1,
+            b"no K1 at line 1\n",
+            b"",
+        ),
+        // The image is judged before the certificate is opened.
+        (
+            &[0x95],
+            b"",
+            &["check", "i.img", "nowhere"],
+            1,
+            b"no E1 at slot 0\n",
+            b"",
+        ),
+        (
+            &SMALLEST,
+            b"",
+            &["check", "i.img", "nowhere"],
+            3,
+            b"",
+            b"cannot read nowhere\n",
+        ),
+        (
+            &SMALLEST,
+            b"",
+            &["check", "other", "c.cert"],
+            3,
+            b"",
+            b"cannot read other\n",
+        ),
+        (
+            &COUNTDOWN,
+            COUNTDOWN_CERT,
+            &["run-checked", "i.img", "c.cert", "none"],
+            0,
+            b"done 0\n",
+            b"",
+        ),
+        (
+            &FIRST_BYTE,
+            FIRST_BYTE_CERT,
+            &["run-checked", "i.img", "c.cert", "2A"],
+            0,
+            b"done 42\n",
+            b"",
+        ),
+        (
+            &FIRST_BYTE,
+            FIRST_BYTE_CERT,
+            &["run-checked", "i.img", "c.cert", "none"],
+            1,
+            b"no context of 0 bytes, want 1\n",
+            b"",
+        ),
+        // The context's word comes first, its length last.
+        (
+            &[0x95],
+            b"",
+            &["run-checked", "i.img", "nowhere", "zz"],
+            2,
+            b"",
+            b"bad hex\n",
+        ),
+        (
+            &[0x95],
+            b"",
+            &["run-checked", "i.img", "nowhere", "00"],
+            1,
+            b"no E1 at slot 0\n",
+            b"",
+        ),
+        (
+            &SMALLEST,
+            b"",
+            &["run-checked", "i.img", "nowhere", "00"],
+            3,
+            b"",
+            b"cannot read nowhere\n",
+        ),
+        (
+            &SMALLEST,
+            b"x",
+            &["run-checked", "i.img", "c.cert", "00"],
+            1,
+            b"no K1 at line 1\n",
+            b"",
+        ),
+        (
+            &FIRST_BYTE,
+            SMALLEST_CERT,
+            &["run-checked", "i.img", "c.cert", "00"],
+            1,
+            b"no C3 at slot 0\n",
+            b"",
+        ),
+    ];
+    for (bytes, certificate, words, status, out, err) in rows {
+        let mut texts = Vec::new(rt.alloc());
+        texts.push("bpf")?;
+        texts.extend_from_slice(words)?;
+        let got = answer_on(
+            &texts,
+            Shelf {
+                name: "i.img",
+                bytes,
+                fails: false,
+                certificate,
+                certificate_fails: false,
+                made: 0,
+                alloc: rt.alloc(),
+            },
+        )?;
+        assert_eq!(rt; got.status, status, "{words:?}");
+        assert_eq!(rt; got.out.as_slice(), out, "{words:?}");
+        assert_eq!(rt; got.err.as_slice(), err, "{words:?}");
+    }
+    Ok(())
+}
+
+#[test]
+fn a_certificate_that_fails_is_not_read(rt: HostRuntime) -> Result<(), Fail> {
+    let words: [&[&str]; 2] = [
+        &["bpf", "check", "i.img", "c.cert"],
+        &["bpf", "run-checked", "i.img", "c.cert", "none"],
+    ];
+    for texts in words {
+        let got = answer_on(
+            texts,
+            Shelf {
+                name: "i.img",
+                bytes: &SMALLEST,
+                fails: false,
+                certificate: b"bpfcert 1 0 2\n",
+                certificate_fails: true,
+                made: 0,
+                alloc: rt.alloc(),
+            },
+        )?;
+        assert_eq!(rt; got.status, 3);
+        assert_eq!(rt; got.err.as_slice(), b"cannot read c.cert\n".as_slice());
+    }
     Ok(())
 }

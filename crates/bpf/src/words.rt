@@ -3,7 +3,7 @@
 ghost use Rattle.std.specs.Prelude.{◌≡◌, IfOk, IfErr, map, unwrap_or, [], true, false};
 ghost use Rattle.std.specs.String.{string_bytes};
 ghost use Rattle.clap.specs.Words.{app_of, first_value, found_of, kind_of, rule_of, subcommand_of, takes};
-ghost use Rattle.bpf.specs.CommandLine.{IsAsked, bpf, place};
+ghost use Rattle.bpf.specs.CommandLine.{IsAsked, bpf, check, has_globals, infer, place, run_checked, without_certificates};
 ghost use Rattle.clap.specs.declared.error.ErrorKind.TheVariants.{OutOfMemory};
 
 use clap::{Arg, ArgMatches, Command, Error, value_parser};
@@ -31,6 +31,23 @@ pub enum Request<'a> {
         hex: &'a str,
         steps: u32,
     },
+    /// A certificate's verdict on an image.
+    Check {
+        input: &'a str,
+        certificate: &'a str,
+    },
+    /// A run of an image on a context, once its certificate certifies it.
+    RunChecked {
+        input: &'a str,
+        certificate: &'a str,
+        hex: &'a str,
+    },
+    /// A certificate for an image and contexts of so many bytes.
+    Infer {
+        input: &'a str,
+        length: u32,
+        output: &'a str,
+    },
 }
 
 fn place<'a>(alloc: Global, id: &'a str, help: &'a str) -> Arg<'a>
@@ -40,8 +57,9 @@ fn place<'a>(alloc: Global, id: &'a str, help: &'a str) -> Arg<'a>
     Arg::new(alloc, id).required(true).help(help)
 }
 
-fn command<'a>(alloc: Global) -> Result<Command<'a>, AllocError>
-    ensures { IfOk result (λ c. app_of c ≡ bpf) }
+/// `bpf` with the commands that take no certificate.
+fn first_commands<'a>(alloc: Global) -> Result<Command<'a>, AllocError>
+    ensures { IfOk result (λ c. app_of c ≡ without_certificates) }
 {
     let groups = Command::new(alloc, "groups")
         .about("Prints the conformance groups of which an instruction occurs")
@@ -75,6 +93,55 @@ fn command<'a>(alloc: Global) -> Result<Command<'a>, AllocError>
         .subcommand(run)
 }
 
+fn check_command<'a>(alloc: Global) -> Result<Command<'a>, AllocError>
+    ensures app { IfOk result (λ c. app_of c ≡ check) }
+    ensures local { IfOk result (λ c. has_globals c ≡ false) }
+{
+    Command::new(alloc, "check")
+        .about("Judges whether a certificate certifies an image")
+        .arg(place(alloc, "IN", "an image"))?
+        .arg(place(alloc, "CERT", "a certificate"))
+}
+
+fn run_checked_command<'a>(alloc: Global) -> Result<Command<'a>, AllocError>
+    ensures app { IfOk result (λ c. app_of c ≡ run_checked) }
+    ensures local { IfOk result (λ c. has_globals c ≡ false) }
+{
+    Command::new(alloc, "run-checked")
+        .about("Runs an image that its certificate certifies, and prints the result")
+        .arg(place(alloc, "IN", "an image"))?
+        .arg(place(alloc, "CERT", "a certificate"))?
+        .arg(place(alloc, "HEX", "the context in hexadecimal, or `none`"))
+}
+
+fn infer_command<'a>(alloc: Global) -> Result<Command<'a>, AllocError>
+    ensures app { IfOk result (λ c. app_of c ≡ infer) }
+    ensures local { IfOk result (λ c. has_globals c ≡ false) }
+{
+    Command::new(alloc, "infer")
+        .about("Proposes a certificate for an image")
+        .arg(place(alloc, "IN", "an image"))?
+        .arg(
+            Arg::new(alloc, "LEN")
+                .required(true)
+                .value_parser(value_parser!(u32).range(0..=4096))
+                .help("the length of the contexts in bytes, at most 4096"),
+        )?
+        .arg(place(alloc, "OUT", "where the certificate goes"))
+}
+
+fn command<'a>(alloc: Global) -> Result<Command<'a>, AllocError>
+    ensures { IfOk result (λ c. app_of c ≡ bpf) }
+{
+    let check = check_command(alloc)?;
+    let run_checked = run_checked_command(alloc)?;
+    let infer = infer_command(alloc)?;
+    first_commands(alloc)?
+        .subcommand(check)?
+        .subcommand(run_checked)?
+        .subcommand(infer)
+}
+
 /// The word of a required argument; the parse has made sure that it is there.
 fn word<'a>(matches: &ArgMatches<'a>, id: &str) -> &'a str
     ensures { result.now ≡ unwrap_or (first_value (found_of matches.now) id.now) [] }
@@ -103,6 +170,20 @@ pub fn request_of<'a>(alloc: Global, words: &'a [String]) -> Result<Request<'a>,
             input: word(run, "IN"),
             hex: word(run, "HEX"),
             steps: run.get_one::<u32>("steps").unwrap_or(0),
+        },
+        Some(("check", check)) => Request::Check {
+            input: word(check, "IN"),
+            certificate: word(check, "CERT"),
+        },
+        Some(("run-checked", checked)) => Request::RunChecked {
+            input: word(checked, "IN"),
+            certificate: word(checked, "CERT"),
+            hex: word(checked, "HEX"),
+        },
+        Some(("infer", infer)) => Request::Infer {
+            input: word(infer, "IN"),
+            length: infer.get_one::<u32>("LEN").unwrap_or(0),
+            output: word(infer, "OUT"),
         },
         Some((_, groups)) => Request::Groups {
             input: word(groups, "IN"),

@@ -1,0 +1,55 @@
+//! Certificates at a name, and why they and programs are refused.
+
+ghost use Rattle.std.specs.Prelude.{◌≡◌, IfOk};
+
+use crate::failure::{Failure, REFUSED, say};
+use crate::places::Places;
+use bpf_cert::{CertError, Certificate, read};
+use bpf_check::Refusal;
+use std::alloc::Global;
+use std::io::Write;
+
+/// The certificate at a name, or why it is refused.
+pub fn certificate_at<'a, P: Places>(
+    alloc: Global,
+    places: &mut P,
+    name: &'a str,
+) -> Result<Result<Certificate, CertError>, Failure<'a>> {
+    let Ok(reader) = places.open(name) else {
+        return Err(Failure::CannotRead(name));
+    };
+    match read(alloc, reader) {
+        Err(CertError::Read { .. }) => Err(Failure::CannotRead(name)),
+        answer => Ok(answer),
+    }
+}
+
+/// Prints why a certificate's text is refused.
+pub fn refuse_text<'a, W: Write>(
+    alloc: Global,
+    out: &mut W,
+    error: CertError,
+) -> Result<u8, Failure<'a>>
+    ensures { IfOk result (λ status. status ≡ REFUSED) }
+{
+    let number = error.number();
+    let at = error.line();
+    let line = format!(in alloc; "no K{number} at line {at}\n")?;
+    say(out, line.as_str())?;
+    Ok(REFUSED)
+}
+
+/// Prints why a certificate doesn't certify a program.
+pub fn refuse_program<'a, W: Write>(
+    alloc: Global,
+    out: &mut W,
+    refusal: Refusal,
+) -> Result<u8, Failure<'a>>
+    ensures { IfOk result (λ status. status ≡ REFUSED) }
+{
+    let number = refusal.number();
+    let slot = refusal.slot();
+    let line = format!(in alloc; "no C{number} at slot {slot}\n")?;
+    say(out, line.as_str())?;
+    Ok(REFUSED)
+}
