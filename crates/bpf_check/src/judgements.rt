@@ -34,7 +34,11 @@ fn jump_if(dst: Reg, cond: Cond, imm: i32, off: i16) -> Insn {
 
 fn between(lo: u64, hi: u64) -> State {
     let mut state = State::blank();
-    let bounds = if lo <= hi { Unsigned::new(lo, hi) } else { Num::top().unsigned() };
+    let bounds = if lo <= hi {
+        Unsigned::new(lo, hi)
+    } else {
+        Num::top().unsigned()
+    };
     state.set_reg(
         Reg::R6,
         RegState::Num(Num::of(Num::top().bits(), bounds, Num::top().signed())),
@@ -98,7 +102,11 @@ fn straight(rt: HostRuntime) -> Result<(), Fail> {
     let two = program(alloc, &[set(Reg::R0, 0), Insn::Exit])?;
     for (steps, base, flaw) in [(2, 2, None), (1, 2, Some((0, 9))), (2, 1, Some((1, 9)))] {
         let certificate = claim(alloc, 0, steps, label(0, State::blank(), base, None), None)?;
-        assert_eq!(rt; answer(&two, &certificate), flaw, "steps {steps}, base {base}");
+        assert_eq!(rt;
+            answer(&two, &certificate),
+            flaw,
+            "steps {steps}, base {base}"
+        );
     }
     let round = program(alloc, &[Insn::Ja { off: -1 }])?;
     let certificate = claim(alloc, 0, 5, label(0, State::blank(), 5, None), None)?;
@@ -156,7 +164,11 @@ fn loops(rt: HostRuntime) -> Result<(), Fail> {
         let inner = label(1, between(least, 10), 2, Some(term));
         let outer = label(0, State::blank(), u64::from(bound), None);
         let certificate = claim(alloc, 0, bound, outer, Some(inner))?;
-        assert_eq!(rt; answer(&falling, &certificate), flaw, "bound {bound}, from {least}");
+        assert_eq!(rt;
+            answer(&falling, &certificate),
+            flaw,
+            "bound {bound}, from {least}"
+        );
     }
     let rising = program(
         alloc,
@@ -174,7 +186,13 @@ fn loops(rt: HostRuntime) -> Result<(), Fail> {
             measure: Measure::Up(place, limit),
         };
         let inner = label(1, between(0, 4), 4, Some(term));
-        let certificate = claim(alloc, 0, 13, label(0, State::blank(), 13, None), Some(inner))?;
+        let certificate = claim(
+            alloc,
+            0,
+            13,
+            label(0, State::blank(), 13, None),
+            Some(inner),
+        )?;
         assert_eq!(rt; answer(&rising, &certificate), flaw, "limit {limit}");
     }
     Ok(())
