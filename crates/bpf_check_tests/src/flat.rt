@@ -339,7 +339,7 @@ impl Flat {
             } => {
                 let count = count_of(size);
                 let x = self.load(self.address(src, off), count);
-                self.set(dst, extended(x, 8 * count));
+                self.set(dst, extended(x, count.saturating_mul(8)));
             }
             Insn::Store {
                 size,
