@@ -6,4 +6,6 @@ mod examples;
 #[cfg(test)]
 mod flat;
 #[cfg(test)]
+mod proposals;
+#[cfg(test)]
 mod verdicts;
