@@ -11,8 +11,6 @@ mod labels;
 mod loops;
 mod places;
 mod rounds;
-#[cfg(test)]
-mod tests;
 mod walk;
 mod widen;
 

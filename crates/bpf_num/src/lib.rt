@@ -8,8 +8,6 @@ pub mod num;
 mod operation;
 mod refine;
 pub mod signed;
-#[cfg(test)]
-mod tests;
 pub mod unsigned;
 mod word;
 

@@ -10,8 +10,6 @@ mod lister;
 mod source;
 mod spelling;
 mod statement;
-#[cfg(test)]
-mod tests;
 mod token;
 
 pub use assembler::assemble;

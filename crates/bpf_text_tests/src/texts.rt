@@ -1,8 +1,7 @@
 //! Texts and what they are, worked out by hand.
 
-use crate::error::TextError;
-use crate::{assemble, list};
 use bpf_insn::BuildError;
+use bpf_text::{TextError, assemble, list};
 use std::alloc::Global;
 use std::io::{self, ErrorKind, Write};
 use std::test::Fail;

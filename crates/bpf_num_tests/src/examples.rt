@@ -3,11 +3,10 @@
 mod operations;
 mod refinements;
 
-use crate::domain::WordDomain;
-use crate::{KnownBits, Num, Signed, Unsigned};
 use bpf_insn::AluOp::{Add, Mov};
 use bpf_insn::Width::*;
 use bpf_insn::{EndBits, EndKind, Order, SignBits, Width};
+use bpf_num::{KnownBits, Num, Signed, Unsigned, WordDomain};
 use std::process::Abort;
 
 const TOP: u64 = u64::MAX;

@@ -2,10 +2,10 @@
 
 use super::Given::*;
 use super::{Given, HALF, LEAST, MOST, Parts, TOP, number, parts};
-use crate::Num;
 use bpf_insn::Cond::*;
 use bpf_insn::Width::*;
 use bpf_insn::{Cond, Width};
+use bpf_num::Num;
 
 static REFINEMENTS: [(Cond, Width, bool, Given, Given, Option<(Parts, Parts)>); 42] = [
     (

@@ -2,8 +2,8 @@
 
 ghost use Rattle.std.specs.Prelude.{◌≤◌};
 
-use crate::{InferError, infer};
 use bpf_cert::{Certificate, Measure, Place};
+use bpf_infer::{InferError, infer};
 use bpf_insn::{AluOp, Cond, Insn, Operand, Program, Reg, Size, Width};
 use std::alloc::Global;
 use std::test::Fail;
