@@ -1,4 +1,5 @@
 pub mod StateLemmas
+pub mod MaskedLemmas
 pub mod AccessLemmas
 pub mod ListLemmas
 pub mod SlotLemmas

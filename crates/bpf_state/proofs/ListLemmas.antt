@@ -1,7 +1,7 @@
 -- Lists that a loop goes through: pair by pair, or changed one element after another.
-use Rattle.std.proofs.Common.{◌≡◌, ℕ, zero, suc, ◌+◌, ◌-◌, ◌<◌, ◌≤◌, List, [], ◌∷◌, ◌++◌, length, get_or, take, drop, refl, sym, ◌∙◌, ap, ap₂, subst, arith, true, false, Bool, Option, Some, None}
-use Rattle.std.specs.Prelude.{◌&&◌, ◌||◌, set, option_map, option_and_then}
-use Rattle.std.proofs.lemmas.List.{drop_more, drop_all, drop-set-lt, take_more_set, append_assoc, append-nil, take_all, length-set}
+use Rattle.std.proofs.Common.{◌≡◌, ℕ, ◌+◌, ◌<◌, ◌≤◌, List, [], ◌∷◌, ◌++◌, length, get_or, take, drop, refl, sym, ◌∙◌, ap, ap₂, arith, true, Bool, Option, Some, None}
+use Rattle.std.specs.Prelude.{◌&&◌, set, option_map, option_and_then}
+use Rattle.std.proofs.lemmas.List.{drop_more, drop_all, drop-set-lt, take_more_set, append_assoc, append-nil, take_all, set-get_or}
 use Rattle.bpf_state.specs.State.{each_if}
 use Rattle.bpf_state.specs.Entails.{all_pairs}
 
@@ -36,6 +36,10 @@ done_more {A = A} f xs i d y h e =
     ∙ map_map (λ r. take i xs ++ r) (λ zs. y ∷ zs) (each_if f rest)
     ∙ same_map (λ zs. take i xs ++ (y ∷ zs)) (λ r. take (i + 1) (set xs i y) ++ r) (each_if f rest) (λ r. sym (ap (λ l. l ++ r) (take_more_set xs i y h) ∙ append_assoc (take i xs) (y ∷ []) r))
     ∙ ap (λ l. option_map (λ r. take (i + 1) (set xs i y) ++ r) (each_if f l)) (sym kept)
+
+-- an element that stays
+pub kept_more : {A : Type 0} (f : A → Option A) (xs : List A) (i : ℕ) (d : A) → i < length xs → f (get_or xs i d) ≡ Some (get_or xs i d) → done_to f i xs ≡ done_to f (i + 1) xs
+kept_more f xs i d h e = done_more f xs i d (get_or xs i d) h e ∙ ap (done_to f (i + 1)) (set-get_or xs i d)
 
 pub not_done : {A : Type 0} (f : A → Option A) (xs : List A) (i : ℕ) (d : A) → i < length xs → f (get_or xs i d) ≡ None → done_to f i xs ≡ None
 not_done f xs i d h e =

@@ -1,10 +1,11 @@
 -- What every state keeps.
-use Rattle.std.proofs.Common.{pos, List, [], ◌∷◌, replicate, refl, arith}
+use Rattle.std.proofs.Common.{◌≡◌, sym, subst, pos, List, [], ◌∷◌, replicate, refl, arith}
 use Rattle.std.specs.Prelude.{All}
 use Rattle.bpf_state.specs.declared.state.RegState.{RegState}
 use Rattle.std.proofs.lemmas.Int.{ints}
 use Rattle.std.proofs.lemmas.List.Elements.{All-nil, All-cons, All-replicate, All-append}
 use Rattle.bpf_state.specs.declared.state.RegState.TheVariants.{Any, Frame}
+use Rattle.bpf_state.specs.declared.state.SlotState.{SlotState}
 use Rattle.bpf_state.specs.declared.state.SlotState.TheVariants.{Bytes}
 use Rattle.bpf_state.specs.State.{IsState, IsRegister, IsSlot, blank}
 
@@ -18,6 +19,10 @@ blank_is_state =
       registers = All-append IsRegister (replicate 10 Any) (Frame (pos 0) (pos 0) ∷ []) (All-replicate IsRegister 10 Any tt) (All-cons IsRegister (Frame (pos 0) (pos 0)) [] (omega (arith, ints)) (All-nil IsRegister));
       slots = All-replicate IsSlot 64 (Bytes 0) (omega arith);
     }
+
+-- nothing is known of the slots
+pub unknown_is_state : (slots : List SlotState) → slots ≡ replicate 64 (Bytes 0) → IsState (record blank { slots = slots })
+unknown_is_state slots e = subst (λ l. IsState (record blank { slots = l })) (sym e) blank_is_state
 
 -- a callee's registers, of which five are the caller's
 abbrev pub callee_registers : RegState → RegState → RegState → RegState → RegState → List RegState
@@ -34,8 +39,8 @@ callee_rest_is =
     (All-cons IsRegister Any (Frame (pos 0) (pos 0) ∷ []) tt
     (All-cons IsRegister (Frame (pos 0) (pos 0)) [] (omega (arith, ints)) (All-nil IsRegister)))))
 
-pub entered_is_state : (a b c d e : RegState) → IsRegister a → IsRegister b → IsRegister c → IsRegister d → IsRegister e → IsState (record blank { registers = callee_registers a b c d e })
-entered_is_state a b c d e ha hb hc hd he =
+callee_is_state : (a b c d e : RegState) → IsRegister a → IsRegister b → IsRegister c → IsRegister d → IsRegister e → IsState (record blank { registers = callee_registers a b c d e })
+callee_is_state a b c d e ha hb hc hd he =
     record {
       register_count = refl;
       slot_count = refl;
@@ -50,3 +55,7 @@ entered_is_state a b c d e ha hb hc hd he =
           (All-cons IsRegister e callee_rest he callee_rest_is)))));
       slots = All-replicate IsSlot 64 (Bytes 0) (omega arith);
     }
+
+pub entered_is_state : (a b c d e : RegState) (slots : List SlotState) → IsRegister a → IsRegister b → IsRegister c → IsRegister d → IsRegister e → slots ≡ replicate 64 (Bytes 0) → IsState (record blank { registers = callee_registers a b c d e; slots = slots })
+entered_is_state a b c d e slots ha hb hc hd he is =
+    subst (λ l. IsState (record blank { registers = callee_registers a b c d e; slots = l })) (sym is) (callee_is_state a b c d e ha hb hc hd he)

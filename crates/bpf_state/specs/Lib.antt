@@ -1,4 +1,5 @@
 pub mod State
+pub mod Masked
 pub mod Access
 pub mod Fault
 pub mod Transfer

@@ -1,5 +1,6 @@
 //! Abstract states.
 
+use crate::masked::Slots;
 use crate::state::{Place, RegState, SlotState, Tag};
 use bpf_insn::{Operand, Reg};
 use bpf_num::Num;
@@ -9,7 +10,7 @@ use std::marker::Model;
 #[derive(Debug, Drop)]
 pub struct State {
     pub(crate) registers: [RegState; 11],
-    pub(crate) slots: [SlotState; 64],
+    pub(crate) slots: Slots,
     pub(crate) register_tags: [Option<Tag>; 11],
     pub(crate) slot_tags: [Option<Tag>; 64],
 }
@@ -39,7 +40,7 @@ impl State {
         registers[10] = RegState::Frame { lo: 0, hi: 0 };
         State {
             registers,
-            slots: [SlotState::Bytes(0); 64],
+            slots: Slots::blank(),
             register_tags: [None; 11],
             slot_tags: [None; 64],
         }
@@ -69,7 +70,7 @@ impl State {
         ensures ordered { IsSlot result }
     {
         let index = k as usize - 1;
-        self.slots[index]
+        self.slots.get(index)
     }
 
     /// The counter that a place holds. A slot's number is from 1 to 64.
@@ -99,7 +100,7 @@ impl State {
         requires value { IsSlot value }
         ensures { self.new ≡ with_slot self.old k value }
     {
-        self.slots[k as usize - 1] = value;
+        self.slots.set(k as usize - 1, value);
     }
 
     /// Makes this the counter that a place holds, or none. A slot's number is from 1 to 64.
@@ -130,10 +131,20 @@ impl State {
     {
         let mut state = State::blank();
         state.registers.copy_from_slice(&self.registers);
-        state.slots.copy_from_slice(&self.slots);
+        state.slots.copy_from(&self.slots);
         state.register_tags.copy_from_slice(&self.register_tags);
         state.slot_tags.copy_from_slice(&self.slot_tags);
         state
+    }
+
+    /// Makes this the same as another state.
+    pub fn copy_from(&mut self, other: &State)
+        ensures { self.new ≡ other.now }
+    {
+        self.registers.copy_from_slice(&other.registers);
+        self.slots.copy_from(&other.slots);
+        self.register_tags.copy_from_slice(&other.register_tags);
+        self.slot_tags.copy_from_slice(&other.slot_tags);
     }
 
     /// Forgets all counters.
@@ -186,7 +197,7 @@ impl State {
         requires mask { IsSlot value }
         ensures { self.new ≡ put_slot (suc index) value tag self.old }
     {
-        self.slots[index] = value;
+        self.slots.set(index, value);
         self.slot_tags[index] = tag;
     }
 }

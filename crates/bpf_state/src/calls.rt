@@ -6,7 +6,7 @@ ghost use Rattle.bpf_state.specs.declared.state.RegState.TheVariants.{Any, Num a
 ghost use Rattle.bpf_state.specs.Answer.{edge_told};
 
 use crate::abstract_state::State;
-use crate::state::{RegState, SlotState, Tag};
+use crate::state::{RegState, Tag};
 use bpf_num::Num;
 
 fn without_frame(held: RegState) -> RegState
@@ -38,12 +38,10 @@ pub fn enter(state: &mut State)
         RegState::Any,
         RegState::Frame { lo: 0, hi: 0 },
     ];
-    *state = State {
-        registers,
-        slots: [SlotState::Bytes(0); 64],
-        register_tags: [None; 11],
-        slot_tags: [None; 64],
-    };
+    state.registers = registers;
+    state.slots.clear();
+    state.register_tags = [None; 11];
+    state.slot_tags = [None; 64];
 }
 
 /// Puts a number into r0, and makes r1 to r5 unknown.

@@ -1,9 +1,11 @@
 //! Whether an abstract state lies in another. Tags aren't looked at.
 
-ghost use Rattle.std.specs.Prelude.{◌≡◌};
+ghost use Rattle.std.specs.Prelude.{◌≡◌, ◌<◌, get_or};
+ghost use Rattle.bpf_state.specs.declared.state.SlotState.TheVariants.{Bytes};
 ghost use Rattle.bpf_state.specs.Entails.{register_entails, slot_entails, all_pairs, state_entails};
 
 use crate::abstract_state::State;
+use crate::masked::Slots;
 use crate::state::{RegState, SlotState};
 
 impl RegState {
@@ -69,11 +71,30 @@ fn registers_entail(registers: &[RegState; 11], others: &[RegState; 11]) -> bool
     true
 }
 
-fn slots_entail(slots: &[SlotState; 64], others: &[SlotState; 64]) -> bool
+/// Whether the slot at a place lies in the other one there. The masks decide, unless all its bytes are initialised and some
+/// have to be.
+fn slot_entails(slots: &Slots, others: &Slots, index: usize) -> bool
+    requires { index < 64 }
+    ensures { result ≡ slot_entails (get_or slots.now index (Bytes 0)) (get_or others.now index (Bytes 0)) }
+{
+    let mask = slots.mask(index);
+    let other = others.mask(index);
+    if mask & other != other {
+        return false;
+    }
+    if mask != 255 || other == 0 {
+        return true;
+    }
+    slots.get(index).entails(others.get(index))
+}
+
+fn slots_entail(slots: &Slots, others: &Slots) -> bool
     ensures { result ≡ all_pairs slot_entails slots.now others.now }
 {
+    slots.valid();
+    others.valid();
     for i in 0..64 {
-        if !slots[i].entails(others[i]) {
+        if !slot_entails(slots, others, i) {
             return false;
         }
     }

@@ -7,10 +7,9 @@ mod branches;
 mod calls;
 mod entailment;
 pub mod fault;
+mod masked;
 mod slots;
 pub mod state;
-#[cfg(test)]
-mod tests;
 mod tightening;
 mod transfers;
 

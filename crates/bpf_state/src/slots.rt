@@ -7,6 +7,7 @@ ghost use Rattle.bpf_state.specs.Transfer.{slot_written, slot_maybe_written, eac
 
 use crate::abstract_state::State;
 use crate::access::Reach;
+use crate::masked::Slots;
 use crate::state::{SlotState, Tag};
 use bpf_num::Num;
 
@@ -52,22 +53,14 @@ fn is_pointer_slot(held: SlotState) -> bool
     }
 }
 
-fn are_known_bytes(bytes: u8, held: SlotState) -> bool
-    ensures { result ≡ are_known_bytes bytes held }
-{
-    match held {
-        SlotState::Bytes(mask) => bytes & mask == bytes,
-        SlotState::Word(_) | SlotState::Ptr(_) => true,
-    }
-}
-
 /// Whether a slot that may be touched holds a pointer.
-pub(crate) fn any_pointer(slots: &[SlotState; 64], reach: Reach) -> bool
+pub(crate) fn any_pointer(slots: &Slots, reach: Reach) -> bool
     ensures { result ≡ any_slot (λ k held. touches reach k && is_pointer_slot held) 1 slots.now }
 {
+    slots.valid();
     let (first, end) = reach.slots();
     for i in first..end {
-        if is_pointer_slot(slots[i]) {
+        if is_pointer_slot(slots.get(i)) {
             return true;
         }
     }
@@ -75,19 +68,20 @@ pub(crate) fn any_pointer(slots: &[SlotState; 64], reach: Reach) -> bool
 }
 
 /// Whether a byte that may be touched isn't known as initialised.
-pub(crate) fn any_unknown(slots: &[SlotState; 64], reach: Reach) -> bool
+pub(crate) fn any_unknown(slots: &Slots, reach: Reach) -> bool
     ensures { result ≡ any_slot (λ k held. touches reach k && not (are_known_bytes (touched_bytes reach k) held)) 1 slots.now }
 {
+    slots.valid();
     let (first, end) = reach.slots();
     for i in first..end {
-        if !are_known_bytes(reach.mask(i), slots[i]) {
+        if !slots.knows(i, reach.mask(i)) {
             return true;
         }
     }
     false
 }
 
-fn write_slots(slots: &mut [SlotState; 64], reach: Reach)
+fn write_slots(slots: &mut Slots, reach: Reach)
     requires known { is_known reach ≡ true }
     requires partial { is_slot reach ≡ false }
     requires masks { All IsSlot slots.old }
@@ -96,21 +90,23 @@ fn write_slots(slots: &mut [SlotState; 64], reach: Reach)
     ensures long { length slots.new ≡ 64 }
 {
     reach.valid();
+    slots.valid();
     let (first, end) = reach.slots();
     for i in first..end {
-        slots[i] = written(slots[i], reach.mask(i));
+        slots.set(i, written(slots.get(i), reach.mask(i)));
     }
 }
 
-fn maybe_write_slots(slots: &mut [SlotState; 64], reach: Reach)
+fn maybe_write_slots(slots: &mut Slots, reach: Reach)
     requires { All IsSlot slots.old }
     ensures value { slots.new ≡ each_slot (λ k held. if touches reach k then slot_maybe_written held else held) 1 slots.old }
     ensures masks { All IsSlot slots.new }
     ensures long { length slots.new ≡ 64 }
 {
+    slots.valid();
     let (first, end) = reach.slots();
     for i in first..end {
-        slots[i] = maybe_written(slots[i]);
+        slots.set(i, maybe_written(slots.get(i)));
     }
 }
 

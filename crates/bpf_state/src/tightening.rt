@@ -5,6 +5,7 @@ ghost use Rattle.bpf_state.specs.State.{IsRegister, IsSlot, tightened_register, 
 ghost use Rattle.bpf_state.specs.Answer.{list_told};
 
 use crate::abstract_state::State;
+use crate::masked::Slots;
 use crate::state::{RegState, SlotState};
 
 fn tightened_register(held: RegState) -> Option<RegState>
@@ -50,16 +51,19 @@ fn tighten_registers(registers: &mut [RegState; 11]) -> bool
     true
 }
 
-fn tighten_slots(slots: &mut [SlotState; 64]) -> bool
+fn tighten_slots(slots: &mut Slots) -> bool
     requires { All IsSlot slots.old }
     ensures value { list_told result slots.new ≡ each_if tightened_slot slots.old }
     ensures ordered { All IsSlot slots.new }
     ensures long { length slots.new ≡ 64 }
 {
+    slots.valid();
     for i in 0..64 {
-        match tightened_slot(slots[i]) {
-            Some(held) => slots[i] = held,
-            None => return false,
+        if slots.mask(i) == 255 {
+            match tightened_slot(slots.get(i)) {
+                Some(held) => slots.set(i, held),
+                None => return false,
+            }
         }
     }
     true

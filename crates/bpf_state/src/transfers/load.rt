@@ -63,7 +63,7 @@ pub(crate) fn loaded(state: &State, reach: Reach, size: Size) -> Option<RegState
     ensures ordered { IfSome result (λ v. IsRegister v) }
 {
     if reach.in_frame() && reach.is_slot() {
-        Some(state.slots[reach.place()].value())
+        Some(state.slots.get(reach.place()).value())
     } else {
         match any_number(size) {
             Some(n) => Some(RegState::Num(n)),

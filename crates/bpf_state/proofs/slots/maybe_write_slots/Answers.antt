@@ -7,4 +7,4 @@ pub returns-clause-value : goal.returns-clause-value
 returns-clause-value c =
     let are = c.slots-first.ensures in
     let ordered = are.ordered in
-    slots_changed (λ k held. slot_maybe_written held) c.args.reach _ _ c.loop-i.i c.args.slots.now c.loop-i.slots are c.loop-i.invariant.0 (omega (arith, c.loop-i.auto.i-end ordered)) c.told-slots
+    slots_changed (λ k held. slot_maybe_written held) c.args.reach _ _ c.loop-i.i c.args.slots.now c.loop-i.slots are c.loop-i.invariant.0 (omega (arith, c.loop-i.auto.i-end ordered)) c.valid.ensures

@@ -1,5 +1,4 @@
-use Rattle.std.proofs.Common.{sym, ◌∙◌, ap₂, arith, suc}
-use Rattle.std.proofs.lemmas.List.{get_or_default}
+use Rattle.std.proofs.Common.{◌∙◌, ap₂, arith, suc}
 use Rattle.std.proofs.lemmas.List.Elements.{All-set}
 use Rattle.bpf_state.specs.declared.state.SlotState.TheVariants.{Bytes}
 use Rattle.bpf_state.specs.State.{IsSlot}
@@ -19,10 +18,11 @@ loop-i-preserved c =
     let are = c.slots-first.ensures in
     let within = are.within in
     let below = c.loop-i-test.true in
-    let long = c.told-slots in
-    let same = c.loop-i.invariant.0.long in (
+    let long = c.valid-2.ensures in
+    let same = c.loop-i.invariant.0.long in
+    rw c.set.ensures (
       change_more (Bytes 0) (λ k held. slot_written (touched_bytes c.args.reach k) held) _ c.loop-i.i c.args.slots.now c.loop-i.slots c.written.result c.loop-i.invariant.0 c.loop-i.auto.i (omega arith)
-          (c.written.ensures.value ∙ ap₂ slot_written c.mask.ensures (get_or_default c.loop-i.slots c.loop-i.i c.index-slots-i.result (Bytes 0) (omega arith))),
+          (c.written.ensures.value ∙ ap₂ slot_written c.mask.ensures c.get.ensures),
       All-set IsSlot c.loop-i.slots c.loop-i.i c.written.result c.written.ensures.mask c.loop-i.invariant.1,
     )
 
@@ -30,4 +30,4 @@ pub returns-clause-value : goal.returns-clause-value
 returns-clause-value c =
     let are = c.slots-first.ensures in
     let ordered = are.ordered in
-    slots_changed (λ k held. slot_written (touched_bytes c.args.reach k) held) c.args.reach _ _ c.loop-i.i c.args.slots.now c.loop-i.slots are c.loop-i.invariant.0 (omega (arith, c.loop-i.auto.i-end ordered)) c.told-slots
+    slots_changed (λ k held. slot_written (touched_bytes c.args.reach k) held) c.args.reach _ _ c.loop-i.i c.args.slots.now c.loop-i.slots are c.loop-i.invariant.0 (omega (arith, c.loop-i.auto.i-end ordered)) c.valid-2.ensures

@@ -2,7 +2,6 @@
 
 ghost use Rattle.bpf_state.specs.State.{IsPlace, IsRegister};
 
-use crate::{Place, Pointer, RegState, SlotState, State, Tag, branch, enter, leave, transfer};
 use bpf_insn::AluOp::*;
 use bpf_insn::Reg::*;
 use bpf_insn::Size::*;
@@ -11,6 +10,7 @@ use bpf_insn::{
     AluOp, AtomicOp, Cond, EndBits, EndKind, Insn, Modify, Operand, Reg, SignBits, Size,
 };
 use bpf_num::{KnownBits, Num, Signed, Unsigned, WordDomain};
+use bpf_state::{Place, Pointer, RegState, SlotState, State, Tag, branch, enter, leave, transfer};
 use std::process::Abort;
 use std::rt::HostRuntime;
 
@@ -30,6 +30,14 @@ fn context_of(held: RegState) -> Option<(i64, i64)> {
     match held {
         RegState::Ctx { lo, hi } => Some((lo, hi)),
         RegState::Any | RegState::Num(_) | RegState::Frame { .. } => None,
+    }
+}
+
+// The bounds of the number that a slot holds as a whole.
+fn word_of(held: SlotState) -> (u64, u64) {
+    match held {
+        SlotState::Word(n) => number_of(RegState::Num(n)),
+        SlotState::Bytes(_) | SlotState::Ptr(_) => NOTHING,
     }
 }
 
@@ -234,7 +242,7 @@ fn bytes_gather_over_two_slots(rt: HostRuntime) {
     done(&rt, &mut state, load(DW, R3, R10, -12));
     assert_eq!(rt; answer(&mut state, load(H, R3, R10, -5)), 6);
     done(&rt, &mut state, store_imm(W, R10, -4));
-    assert!(rt; number_of(state.slot(1).value()) == (0, u64::MAX));
+    assert!(rt; word_of(state.slot(1)) == (0, u64::MAX));
     assert_eq!(rt; answer(&mut state, store_imm(B, R10, -513)), 5);
     assert_eq!(rt; answer(&mut state, store_imm(B, R10, 0)), 5);
     done(&rt, &mut state, store_imm(B, R10, -512));
@@ -257,13 +265,13 @@ fn at_several_offsets(rt: &impl Abort) -> State {
 fn stores_at_several_offsets(rt: HostRuntime) {
     let mut state = at_several_offsets(&rt);
     done(&rt, &mut state, store_imm(B, R3, 0));
-    assert!(rt; number_of(state.slot(1).value()) == (0, u64::MAX));
+    assert!(rt; word_of(state.slot(1)) == (0, u64::MAX));
     assert_eq!(rt; mask_of(state.slot(2)), 0);
     assert_eq!(rt; mask_of(state.slot(3)), 240);
     assert!(rt; tag_offset(&state, Place::Slot(1)) == None);
     let mut state = at_several_offsets(&rt);
     done(&rt, &mut state, store_imm(DW, R3, -8));
-    assert!(rt; number_of(state.slot(1).value()) == (7, 7));
+    assert!(rt; word_of(state.slot(1)) == (7, 7));
     assert_eq!(rt; mask_of(state.slot(2)), 0);
     assert!(rt; tag_offset(&state, Place::Slot(1)) == Some(5));
 }
@@ -299,7 +307,7 @@ fn atomics_change_words(rt: HostRuntime) {
     let mut state = counting(&rt, 1);
     done(&rt, &mut state, store(DW, R10, -8, R6));
     done(&rt, &mut state, atomic(true, ADDED, -8, R6));
-    assert!(rt; number_of(state.slot(1).value()) == (0, u64::MAX));
+    assert!(rt; word_of(state.slot(1)) == (0, u64::MAX));
     assert!(rt; tag_offset(&state, Place::Slot(1)) == None);
     assert!(rt; tag_offset(&state, Place::Register(R6)) == Some(0));
     done(&rt, &mut state, atomic(false, FETCHED, -4, R6));
@@ -443,7 +451,7 @@ fn calls(rt: HostRuntime) {
     enter(&mut state);
     assert!(rt; context_of(state.reg(R1)) == Some((0, 0)));
     assert!(rt; number_of(state.reg(R2)) == (8, 8));
-    assert!(rt; state.reg(R3).entails(RegState::Any) && !state.reg(R3).is_pointer());
+    assert!(rt; matches!(state.reg(R3), RegState::Any));
     assert!(rt; number_of(state.reg(R6)) == NOTHING);
     assert_eq!(rt; mask_of(state.slot(1)), 0);
     assert!(rt; leave(&mut caller, Num::constant(3)));
