@@ -12,6 +12,7 @@ use Rattle.bpf_cert.specs.Reading.{line_in}
 use Rattle.bpf_cert.specs.View.{label_view}
 use Rattle.bpf_cert.specs.Spelling.{is_unknown, contents, header_line, label_lines, label_line, lines_from, entry_lines, place_at, place_of, content_of}
 use Rattle.bpf_cert.specs.Standing.{Stands, IsEntry, ruled, stage_of, is_start, may_have_label, may_have_entry}
+use Rattle.bpf_cert.specs.Sound.{IsSound}
 use Rattle.bpf_cert.specs.Building.{IsBuilt, IsOpen, Closes, ClosesLabel, Puts, Takes, closed_lines, open_lines, lines_at, index_of, next_index, fault_at}
 use Rattle.bpf_cert.specs.declared.finding.Flaw.{Flaw}
 use Rattle.bpf_cert.specs.declared.finding.Flaw.TheVariants as flaws
@@ -32,7 +33,7 @@ use Rattle.bpf_cert.proofs.LineLaws.{line_spelled}
 use Rattle.bpf_cert.proofs.StandingLemmas.{stand_header, stand_function, stand_label, stand_entry, stand_end}
 use Rattle.bpf_cert.proofs.AfterLemmas.{ruled_fine}
 
-start_empty : (ls : List Line) → is_start (stage_of ls) ≡ true → ls ≡ []
+pub start_empty : (ls : List Line) → is_start (stage_of ls) ≡ true → ls ≡ []
 start_empty [] e = refl
 start_empty (Line.header _ _ ∷ ls) e = cc
 start_empty (Line.function _ _ _ ∷ ls) e = cc
@@ -58,14 +59,14 @@ going (Line.label _ _ _ ∷ ls) e f = tt
 going (Line.entry _ _ ∷ ls) e f = tt
 going (Line.end ∷ ls) e f = cc
 
-abbrev IsInFunction : Stage → Type 0
+abbrev pub IsInFunction : Stage → Type 0
 IsInFunction stage.Start = ⊥
 IsInFunction stage.Header = ⊥
 IsInFunction stage.Function = Unit {0}
 IsInFunction stage.Label = Unit {0}
 IsInFunction stage.Ended = ⊥
 
-in_function : (ls : List Line) → may_have_label (stage_of ls) ≡ true → is_ended ls ≡ false → IsInFunction (stage_of ls)
+pub in_function : (ls : List Line) → may_have_label (stage_of ls) ≡ true → is_ended ls ≡ false → IsInFunction (stage_of ls)
 in_function [] e f = cc
 in_function (Line.header _ _ ∷ ls) e f = cc
 in_function (Line.function _ _ _ ∷ ls) e f = tt
@@ -73,7 +74,7 @@ in_function (Line.label _ _ _ ∷ ls) e f = tt
 in_function (Line.entry _ _ ∷ ls) e f = tt
 in_function (Line.end ∷ ls) e f = cc
 
-in_label : (ls : List Line) → may_have_entry (stage_of ls) ≡ true → stage_of ls ≡ stage.Label
+pub in_label : (ls : List Line) → may_have_entry (stage_of ls) ≡ true → stage_of ls ≡ stage.Label
 in_label [] e = cc
 in_label (Line.header _ _ ∷ ls) e = cc
 in_label (Line.function _ _ _ ∷ ls) e = cc
@@ -82,8 +83,8 @@ in_label (Line.entry _ _ ∷ ls) e = refl
 in_label (Line.end ∷ ls) e = cc
 
 pub built_header : (lines : List Line) (old new : Builder) (l : Line) (len steps : ℕ) → IsBuilt lines old → ruled lines (Some l) ≡ Ok l → l ≡ header_line len steps → Stands (l ∷ lines) new.standing
-    → new.len ≡ len → new.steps ≡ steps → closed_lines new ≡ closed_lines old → IsBuilt (l ∷ lines) new
-built_header lines old new l len steps built fine e stands a b same =
+    → new.len ≡ len → new.steps ≡ steps → closed_lines new ≡ closed_lines old → IsSound new → IsBuilt (l ∷ lines) new
+built_header lines old new l len steps built fine e stands a b same sound =
     let is_header : is_start (stage_of lines) ≡ true = sym (stand_header lines (decimal len) (decimal steps)) ∙ ap (may_stand lines) (sym e) ∙ (ruled_fine lines l l fine).stands in
     let empty : lines ≡ [] = start_empty lines is_header in
     let at_start : old.standing.stage ≡ stage.Start = built.stands.stage ∙ ap stage_of empty in
@@ -91,6 +92,7 @@ built_header lines old new l len steps built fine e stands a b same =
     let now : new.standing.stage ≡ stage.Header = stands.stage ∙ ap (λ x. stage_of (x ∷ lines)) e in
     record {
       stands = stands;
+      sound = sound;
       spelled = subst (λ s. reverse (l ∷ lines) ≡ lines_at s new) (sym now) (ap (λ ls. reverse (l ∷ ls)) empty ∙ rw (a, b, same, none, e) refl);
       open_places = subst (λ s. IsOpen s new.standing.place new.label.state) (sym now) tt;
     }
@@ -103,26 +105,28 @@ closes_rest stage.Label old mid g e c = rw (c.keeps.len, c.keeps.steps) (ap (λ 
 closes_rest stage.Ended old mid g e c = absurd g
 
 pub built_function : (lines : List Line) (old mid new : Builder) (l : Line) (f d : List ℕ) (r : _) → IsBuilt lines old → is_ended lines ≡ false → ruled lines (Some l) ≡ Ok l → l ≡ Line.function f d r → Stands (l ∷ lines) new.standing
-    → Closes old mid → new.len ≡ mid.len → new.steps ≡ mid.steps → closed_lines new ≡ closed_lines mid → (labels : List Label) → open_lines new ≡ Line.function f d r ∷ flat_map label_lines (map label_view labels) → labels ≡ [] → IsBuilt (l ∷ lines) new
-built_function lines old mid new l f d r built more fine e stands closes a b same labels alone bare =
+    → Closes old mid → new.len ≡ mid.len → new.steps ≡ mid.steps → closed_lines new ≡ closed_lines mid → (labels : List Label) → open_lines new ≡ Line.function f d r ∷ flat_map label_lines (map label_view labels) → labels ≡ [] → IsSound new → IsBuilt (l ∷ lines) new
+built_function lines old mid new l f d r built more fine e stands closes a b same labels alone bare sound =
     let opened : open_lines new ≡ l ∷ [] = alone ∙ ap (λ ls. Line.function f d r ∷ flat_map label_lines (map label_view ls)) bare ∙ ap (λ x. x ∷ []) (sym e) in
     let may : not (is_start (stage_of lines)) ≡ true = sym (stand_function lines f d r) ∙ ap (may_stand lines) (sym e) ∙ (ruled_fine lines l l fine).stands in
     let now : new.standing.stage ≡ stage.Function = stands.stage ∙ ap (λ x. stage_of (x ∷ lines)) e in
     let before : reverse lines ≡ header_line mid.len mid.steps ∷ closed_lines mid = built.spelled ∙ ap (λ s. lines_at s old) built.stands.stage ∙ closes_rest (stage_of lines) old mid (going lines may more) built.stands.stage closes in
     record {
       stands = stands;
+      sound = sound;
       spelled = subst (λ s. reverse (l ∷ lines) ≡ lines_at s new) (sym now) (last_end l lines ∙ ap (λ ls. ls ++ l ∷ []) before ∙ rw (a, b, same, opened) refl);
       open_places = subst (λ s. IsOpen s new.standing.place new.label.state) (sym now) tt;
     }
 
 pub built_end : (lines : List Line) (old mid new : Builder) (l : Line) → IsBuilt lines old → is_ended lines ≡ false → ruled lines (Some l) ≡ Ok l → l ≡ Line.end → Stands (l ∷ lines) new.standing
-    → Closes old mid → new.len ≡ mid.len → new.steps ≡ mid.steps → closed_lines new ≡ closed_lines mid → IsBuilt (l ∷ lines) new
-built_end lines old mid new l built more fine e stands closes a b same =
+    → Closes old mid → new.len ≡ mid.len → new.steps ≡ mid.steps → closed_lines new ≡ closed_lines mid → IsSound new → IsBuilt (l ∷ lines) new
+built_end lines old mid new l built more fine e stands closes a b same sound =
     let may : not (is_start (stage_of lines)) ≡ true = sym (stand_end lines) ∙ ap (may_stand lines) (sym e) ∙ (ruled_fine lines l l fine).stands in
     let now : new.standing.stage ≡ stage.Ended = stands.stage ∙ ap (λ x. stage_of (x ∷ lines)) e in
     let before : reverse lines ≡ header_line mid.len mid.steps ∷ closed_lines mid = built.spelled ∙ ap (λ s. lines_at s old) built.stands.stage ∙ closes_rest (stage_of lines) old mid (going lines may more) built.stands.stage closes in
     record {
       stands = stands;
+      sound = sound;
       spelled = subst (λ s. reverse (l ∷ lines) ≡ lines_at s new) (sym now) (last_end l lines ∙ ap (λ ls. ls ++ l ∷ []) before ∙ rw (a, b, same, e) refl);
       open_places = subst (λ s. IsOpen s new.standing.place new.label.state) (sym now) tt;
     }
@@ -142,8 +146,8 @@ blank_open : list_all is_unknown (drop 0 (contents blank)) ≡ true
 blank_open = refl
 
 pub built_label : (lines : List Line) (old mid new : Builder) (l : Line) (at base : List ℕ) (ts : _) → IsBuilt lines old → is_ended lines ≡ false → ruled lines (Some l) ≡ Ok l → l ≡ Line.label at base ts → Stands (l ∷ lines) new.standing
-    → ClosesLabel old mid → new.len ≡ mid.len → new.steps ≡ mid.steps → closed_lines new ≡ closed_lines mid → open_lines new ≡ open_lines mid → new.label.state ≡ blank → label_line (label_view new.label) ≡ l → IsBuilt (l ∷ lines) new
-built_label lines old mid new l at base ts built more fine e stands closes a b same opened bare line =
+    → ClosesLabel old mid → new.len ≡ mid.len → new.steps ≡ mid.steps → closed_lines new ≡ closed_lines mid → open_lines new ≡ open_lines mid → new.label.state ≡ blank → label_line (label_view new.label) ≡ l → IsSound new → IsBuilt (l ∷ lines) new
+built_label lines old mid new l at base ts built more fine e stands closes a b same opened bare line sound =
     let may : may_have_label (stage_of lines) ≡ true = sym (stand_label lines at base ts) ∙ ap (may_stand lines) (sym e) ∙ (ruled_fine lines l l fine).stands in
     let now : new.standing.stage ≡ stage.Label = stands.stage ∙ ap (λ x. stage_of (x ∷ lines)) e in
     let before : reverse lines ≡ header_line mid.len mid.steps ∷ (closed_lines mid ++ open_lines mid) = built.spelled ∙ ap (λ s. lines_at s old) built.stands.stage ∙ closes_label_rest (stage_of lines) old mid (in_function lines may more) built.stands.stage closes in
@@ -151,6 +155,7 @@ built_label lines old mid new l at base ts built more fine e stands closes a b s
     let here : label_lines (label_view new.label) ≡ l ∷ [] = ap (λ x. x ∷ lines_from 0 (contents new.label.state)) line ∙ ap (λ s. l ∷ lines_from 0 (contents s)) bare in
     record {
       stands = stands;
+      sound = sound;
       spelled = subst (λ s. reverse (l ∷ lines) ≡ lines_at s new) (sym now) (last_end l lines ∙ ap (λ ls. ls ++ l ∷ []) before ∙ rw (a, b, same, opened, here) refl);
       open_places = subst (λ s. IsOpen s new.standing.place new.label.state) (sym now)
           (subst (λ o. IsOpen stage.Label o new.label.state) (sym none) (subst (λ s. IsOpen stage.Label None s) (sym bare) blank_open));
@@ -226,8 +231,8 @@ entry_more old mid p v next entry puts room bare_places =
     rw (puts.slot, puts.budget) (ap (λ ls. label_line (label_view old.label) ∷ ls) said)
 
 pub built_entry : (lines : List Line) (old mid new : Builder) (l : Line) (p : Place) (v : SlotState) → IsBuilt lines old → ruled lines (Some l) ≡ Ok l → l ≡ Line.entry (place_of p) (content_of v) → Stands (l ∷ lines) new.standing
-    → IsEntry p v → Puts p v old mid → new.standing.place ≡ Some p → new.len ≡ mid.len → new.steps ≡ mid.steps → closed_lines new ≡ closed_lines mid → open_lines new ≡ open_lines mid → new.label ≡ mid.label → IsBuilt (l ∷ lines) new
-built_entry lines old mid new l p v built fine e stands entry puts at a b same opened labels =
+    → IsEntry p v → Puts p v old mid → new.standing.place ≡ Some p → new.len ≡ mid.len → new.steps ≡ mid.steps → closed_lines new ≡ closed_lines mid → open_lines new ≡ open_lines mid → new.label ≡ mid.label → IsSound new → IsBuilt (l ∷ lines) new
+built_entry lines old mid new l p v built fine e stands entry puts at a b same opened labels sound =
     let f = ruled_fine lines l l fine in
     let may : may_have_entry (stage_of lines) ≡ true = sym (stand_entry lines (place_of p) (content_of v)) ∙ ap (may_stand lines) (sym e) ∙ f.stands in
     let was : old.standing.stage ≡ stage.Label = built.stands.stage ∙ in_label lines may in
@@ -240,6 +245,7 @@ built_entry lines old mid new l p v built fine e stands entry puts at a b same o
     let one_more : next_index old.standing.place ≤ index_of p + 1 = omega arith in
     record {
       stands = stands;
+      sound = sound;
       spelled = subst (λ s. reverse (l ∷ lines) ≡ lines_at s new) (sym now) (last_end l lines ∙ ap (λ ls. ls ++ l ∷ []) before
           ∙ ap (λ ls. header_line old.len old.steps ∷ ls) (append_assoc (closed_lines old ++ open_lines old) (label_lines (label_view old.label)) (l ∷ []))
           ∙ sym (rw (a, b, puts.keeps.len, puts.keeps.steps, same, puts.functions, opened, puts.function, here) refl));

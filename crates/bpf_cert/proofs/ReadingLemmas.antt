@@ -26,13 +26,13 @@ use Rattle.std.specs.Prelude.{IfOk, IfErr}
 abbrev pub pieces : List ℕ → List (List ℕ)
 pieces text = slice_split (λ c. eqb c 10) text
 
-abbrev NoEnd : List ℕ → Type 0
+abbrev pub NoEnd : List ℕ → Type 0
 NoEnd line = AllByRecursion (λ b. b ≢ 10) line
 
 no_end : (line : List ℕ) → IsOneLine line → NoEnd line
 no_end line one = recursion_from_All (λ b. b ≢ 10) line one
 
-pieces_some : (text : List ℕ) → (w : List ℕ) × (ws : List (List ℕ)) × (pieces text ≡ w ∷ ws)
+pub pieces_some : (text : List ℕ) → (w : List ℕ) × (ws : List (List ℕ)) × (pieces text ≡ w ∷ ws)
 pieces_some [] = ([], [], refl)
 pieces_some (x ∷ xs) = let s = pieces_some xs in
     elim (eqb x 10) as (λ b. (w : List ℕ) × (ws : List (List ℕ)) × (cond b ([] ∷ pieces xs) (onto_first x (pieces xs)) ≡ w ∷ ws)) [
@@ -40,11 +40,11 @@ pieces_some (x ∷ xs) = let s = pieces_some xs in
       | false ↦ (x ∷ s.0, s.1, ap (onto_first x) s.2)
     ]
 
-pieces_front : (line rest : List ℕ) → NoEnd line → (w : List ℕ) (ws : List (List ℕ)) → pieces rest ≡ w ∷ ws → pieces (line ++ rest) ≡ (line ++ w) ∷ ws
+pub pieces_front : (line rest : List ℕ) → NoEnd line → (w : List ℕ) (ws : List (List ℕ)) → pieces rest ≡ w ∷ ws → pieces (line ++ rest) ≡ (line ++ w) ∷ ws
 pieces_front [] rest clean w ws e = e
 pieces_front (x ∷ xs) rest clean w ws e = rw (ne_eqb x 10 clean.0) (ap (onto_first x) (pieces_front xs rest clean.1 w ws e))
 
-pieces_line : (line rest : List ℕ) → IsOneLine line → pieces (line ++ 10 ∷ rest) ≡ line ∷ pieces rest
+pub pieces_line : (line rest : List ℕ) → IsOneLine line → pieces (line ++ 10 ∷ rest) ≡ line ∷ pieces rest
 pieces_line line rest one = pieces_front line (10 ∷ rest) (no_end line one) [] (pieces rest) refl ∙ ap (λ z. z ∷ pieces rest) (append-nil line)
 
 pieces_one : (line : List ℕ) → IsOneLine line → pieces line ≡ line ∷ []
@@ -60,7 +60,7 @@ from_bad : (e : Ending) (n : ℕ) (before : List Line) (line w : List ℕ) (ws :
 unfolding fault_from
 from_bad e n before line w ws f going bad = rw (going, bad) refl
 
-next_fine : (e : Ending) (n : ℕ) (before : List Line) (line q : List ℕ) (l : Line)
+pub next_fine : (e : Ending) (n : ℕ) (before : List Line) (line q : List ℕ) (l : Line)
     → is_ended before ≡ false → judged n before line ≡ Ok l → fault_from e n before (line ∷ pieces q) ≡ fault_from e (n + 1) (l ∷ before) (pieces q)
 next_fine e n before line q l going fine = let s = pieces_some q in rw (s.2) (from_fine e n before line s.0 s.1 l going fine)
 
@@ -157,7 +157,7 @@ cut (Some text) (Some rest) (Some left) line n before p took one short going = (
 )
 
 -- a line that goes on behind 256 bytes
-long_piece : (e : Ending) (n : ℕ) (before : List Line) (w : List ℕ) (ws : List (List ℕ)) → is_ended before ≡ false → 256 < length w → fault_from e n before (w ∷ ws) ≡ Some (Limit n)
+pub long_piece : (e : Ending) (n : ℕ) (before : List Line) (w : List ℕ) (ws : List (List ℕ)) → is_ended before ≡ false → 256 < length w → fault_from e n before (w ∷ ws) ≡ Some (Limit n)
 unfolding fault_from rest_fault judged
 long_piece e n before w [] going long = rw (going, lt-ltb 256 (length w) long) refl
 long_piece e n before w (v ∷ vs) going long = rw (going, lt-ltb 256 (length w) long) refl
@@ -175,11 +175,11 @@ too_long (Some text) (Some rest) (Some left) line b n before p took one other fu
     ∙ long_piece complete n before (line ++ (b ∷ s.0)) s.1 going (omega (arith, length-append line (b ∷ s.0))))
 
 -- bytes behind `end`
-ended_more : (e : Ending) (n : ℕ) (before : List Line) (w v : List ℕ) (ws : List (List ℕ)) → is_ended before ≡ true → fault_from e n before (w ∷ v ∷ ws) ≡ Some (Syntax n)
+pub ended_more : (e : Ending) (n : ℕ) (before : List Line) (w v : List ℕ) (ws : List (List ℕ)) → is_ended before ≡ true → fault_from e n before (w ∷ v ∷ ws) ≡ Some (Syntax n)
 unfolding fault_from
 ended_more e n before w v ws ended = rw ended refl
 
-ended_byte : (e : Ending) (n : ℕ) (before : List Line) (b : ℕ) (w : List ℕ) (ws : List (List ℕ)) → is_ended before ≡ true → fault_from e n before ((b ∷ w) ∷ ws) ≡ Some (Syntax n)
+pub ended_byte : (e : Ending) (n : ℕ) (before : List Line) (b : ℕ) (w : List ℕ) (ws : List (List ℕ)) → is_ended before ≡ true → fault_from e n before ((b ∷ w) ∷ ws) ≡ Some (Syntax n)
 unfolding fault_from rest_fault
 ended_byte e n before b w [] ended = rw ended refl
 ended_byte e n before b w (v ∷ vs) ended = rw ended refl
@@ -242,7 +242,7 @@ cut_given (Some t) n h = h
 finished_given : (text : Option (List ℕ)) (before : List Line) (r : Result CertificateView CertError) → IfSome text (λ t. t ≡ lines_text (reverse before)) → Finishes before r → Gives text r
 finished_given None before r e h = tt
 finished_given (Some t) before (Ok c) e h = record { valid = h.valid; spelled = e ∙ ap lines_text h.same }
-finished_given (Some t) before (Err f) e h = rw h tt
+finished_given (Some t) before (Err f) e h = absurd h
 
 nothing : (old new : Option (List ℕ)) (line : List ℕ) → length line ≡ 0 → Consumes old new line → Consumes old new []
 nothing old new [] e took = took

@@ -10,6 +10,7 @@ use Rattle.bpf_cert.specs.Numeral.{is_from_to}
 use Rattle.bpf_cert.specs.Numeral.{is_numeral, is_plain, number}
 use Rattle.bpf_cert.specs.Line.{Place, Measure, Term, is_place, is_measure, is_term}
 use Rattle.bpf_cert.specs.Faults.{is_rising, place_before, place_of, comes_after, is_plain_place, is_plain_measure, is_limited_place, is_limited_measure, is_limited_term}
+use Rattle.bpf_cert.specs.Limits as limits
 use Rattle.bpf_cert.specs.Findings.{tested, found, joined, valued}
 use Rattle.bpf_cert.specs.Spelling.{term_of, place_of as spelled_place}
 use Rattle.bpf_cert.specs.Seen.{place_seen, measure_seen, term_seen}
@@ -158,14 +159,15 @@ limited_end ts t room e = ap (λ r. are_limited_terms ts && (ltb 0 r && is_limit
 pub sum_more : (done : List Term) (t : Term) (old new : Terms) (canonical limited : Bool) (next : Result (Unit {0}) Flaw) → IsTermSum done old → is_term t ≡ true
     → (IfSome (option_map place_seen old.last) IsPlainPlace → canonical ≡ (is_plain_term t && comes_after place_before (option_map place_seen old.last) (place_of t)))
     → limited ≡ (ltb 0 old.room && is_limited_term t) → next ≡ tested canonical limited → new.found ≡ joined old.found next → option_map place_seen new.last ≡ Some (place_of t) → new.room ≡ old.room - 1
-    → (new.found ≡ Ok tt → map term_of new.terms.items ≡ map term_of old.terms.items ++ t ∷ []) → IsTermSum (done ++ t ∷ []) new
-sum_more done t old new canonical limited next sum form c l n all last_is room pushed = record {
+    → list_all limits.is_limited_term new.terms.items ≡ true → (new.found ≡ Ok tt → map term_of new.terms.items ≡ map term_of old.terms.items ++ t ∷ []) → IsTermSum (done ++ t ∷ []) new
+sum_more done t old new canonical limited next sum form c l n all last_is room few pushed = record {
   flaws = all ∙ ap (λ x. joined x next) sum.flaws ∙ ap (joined (tested (are_canonical_terms done) (are_limited_terms done))) n ∙ joined_tested (are_canonical_terms done) (are_limited_terms done) canonical limited
       ∙ ap (λ b. tested b (are_limited_terms done && limited)) (canonical_end done t (option_map place_seen old.last) canonical sum.forms sum.last c)
       ∙ ap (λ b. tested (are_canonical_terms (done ++ t ∷ [])) (are_limited_terms done && b)) l ∙ ap (tested (are_canonical_terms (done ++ t ∷ []))) (limited_end done t old.room sum.room);
   last = last_is ∙ ap (option_map place_of) (sym (last_end done t));
   forms = list_all_end is_term done t ∙ rw (sum.forms, form) refl;
   room = let n : length (done ++ t ∷ []) ≡ length done + 1 = length_end done t in let r : old.room ≡ 4 - length done = sum.room in omega arith;
+  limited = few;
   says = λ fine. let before = joined_ok old.found next tt (sym all ∙ fine) in pushed fine ∙ ap (λ xs. xs ++ t ∷ []) (sum.says before.0);
 }
 
@@ -216,3 +218,30 @@ found_last t = ap Some (sym (place_of_seen t.limit t.place t.weight.now))
 
 pub pushed : (old new : List TermValue) (v : TermValue) (t : Term) → new ≡ old ++ v ∷ [] → term_of v ≡ t → map term_of new ≡ map term_of old ++ t ∷ []
 pushed old new v t e f = ap (map term_of) e ∙ map-append term_of old (v ∷ []) ∙ ap (λ x. map term_of old ++ x ∷ []) f
+
+-- all terms are within the limits, and one more is
+pub limited_more : (old new : List TermValue) (v : TermValue) → new ≡ old ++ v ∷ [] → list_all limits.is_limited_term old ≡ true → limits.is_limited_term v ≡ true → list_all limits.is_limited_term new ≡ true
+limited_more old new v e all one = ap (list_all limits.is_limited_term) e ∙ list_all_end limits.is_limited_term old v ∙ rw (all, one) refl
+
+-- the value's limits are the text's
+limited_weight : (t : TermForm) (n : ℕ) → n ≡ min (number t.weight.now) (2 ^ 64) → is_limited_term (term_seen t) ≡ true → is_from_to 1 (2 ^ 20) n ≡ true
+limited_weight t n e limited =
+    let limits = both_true (is_from_to 1 (2 ^ 20) (number t.weight.now)) (is_limited_measure (measure_seen t.limit t.place)) limited in
+    let ends = both_true (leb 1 (number t.weight.now)) (leb (number t.weight.now) (2 ^ 20)) limits.0 in
+    let some : 1 ≤ number t.weight.now = leb-true 1 (number t.weight.now) ends.0 in
+    let few : number t.weight.now ≤ 2 ^ 20 = leb-true (number t.weight.now) (2 ^ 20) ends.1 in
+    let same : n ≡ number t.weight.now = omega arith in
+    ap (is_from_to 1 (2 ^ 20)) same ∙ limits.0
+
+pub limited_down : (t : TermForm) (n : ℕ) (p : PlaceValue) → n ≡ min (number t.weight.now) (2 ^ 64) → is_limited_term (term_seen t) ≡ true → limits.is_limited_place p ≡ true → limits.is_limited_term (record { weight = n; measure = Down p }) ≡ true
+limited_down t n p e limited f = rw (limited_weight t n e limited, f) refl
+
+pub limited_up : (t : TermForm) (n m : ℕ) (p : PlaceValue) (limit : Bor (List ℕ)) → t.limit ≡ Some limit → n ≡ min (number t.weight.now) (2 ^ 64) → m ≡ min (number limit.now) (2 ^ 64) → is_limited_term (term_seen t) ≡ true
+    → limits.is_limited_place p ≡ true → limits.is_limited_term (record { weight = n; measure = Up p m }) ≡ true
+limited_up t n m p limit g e h limited f =
+    let both = both_true (is_from_to 1 (2 ^ 20) (number t.weight.now)) (is_limited_measure (measure_seen t.limit t.place)) limited in
+    let measure = rw g at both.1 in
+    let parts = both_true (ltb (number limit.now) (2 ^ 64)) (is_limited_place (place_seen t.place)) measure in
+    let small : number limit.now < 2 ^ 64 = ltb-true (number limit.now) (2 ^ 64) parts.0 in
+    let fits : ltb m (2 ^ 64) ≡ true = lt-ltb m (2 ^ 64) (omega arith) in
+    rw (limited_weight t n e limited, fits, f) refl

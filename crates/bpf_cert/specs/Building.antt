@@ -1,5 +1,5 @@
 -- A certificate in the making, and the lines that it was made of.
-use Rattle.std.specs.Prelude.{◌≡◌, ℕ, ◌+◌, true, List, length, [], ◌∷◌, ◌++◌, reverse, map, flat_map, drop, Option, Some, None, slice_set, Result, Ok, Err}
+use Rattle.std.specs.Prelude.{◌≡◌, ℕ, ◌+◌, true, List, length, [], ◌∷◌, ◌++◌, reverse, flat_map, drop, Option, Some, None, slice_set, Result, Ok, Err}
 use Rattle.std.specs.List.{list_all}
 use Rattle.bpf_cert.specs.Line.{Line, line_text}
 use Rattle.bpf_cert.specs.Faults.{judged}
@@ -11,6 +11,7 @@ use Rattle.bpf_cert.specs.declared.error.CertError.TheVariants as errors
 use Rattle.bpf_cert.specs.View.{CertificateView, label_view, function_view}
 use Rattle.bpf_cert.specs.Spelling.{is_unknown, contents, header_line, function_lines, label_lines, certificate_lines}
 use Rattle.bpf_cert.specs.Standing.{Stands}
+use Rattle.bpf_cert.specs.Sound.{IsLabelState, IsSound, closed, function_at, functions_at}
 use Rattle.bpf_insn.specs.Instruction.{register_number}
 use Rattle.bpf_state.specs.State.{AbstractState, IsSlot}
 use Rattle.bpf_state.specs.declared.state.Place.{Place}
@@ -28,7 +29,7 @@ IsRegisterContent s = IsSlot s
 
 -- the lines of all functions but the last
 abbrev pub closed_lines : Builder → List Line
-closed_lines b = flat_map function_lines (map function_view b.functions.items)
+closed_lines b = flat_map function_lines (closed b)
 
 -- the lines of the last function, but for its last label
 abbrev pub open_lines : Builder → List Line
@@ -70,6 +71,7 @@ pub record IsBuilt (lines : List Line) (b : Builder) : Type 0 where
   pub stands : Stands lines b.standing
   pub spelled : reverse lines ≡ lines_at b.standing.stage b
   pub open_places : IsOpen b.standing.stage b.standing.place b.label.state
+  pub sound : IsSound b
 
 -- nothing changed but where the parts lie
 pub record Keeps (old new : Builder) : Type 0 where
@@ -80,6 +82,8 @@ pub record Keeps (old new : Builder) : Type 0 where
 -- all labels are in functions
 pub record ClosesLabel (old new : Builder) : Type 0 where
   pub keeps : Keeps old new
+  pub list : closed new ≡ closed old
+  pub last : function_view new.function ≡ function_at old.standing.stage old
   pub header : old.standing.stage ≡ stage.Header → rest_at stage.Header old ≡ closed_lines new
   pub function : old.standing.stage ≡ stage.Function → rest_at stage.Function old ≡ closed_lines new ++ open_lines new
   pub label : old.standing.stage ≡ stage.Label → rest_at stage.Label old ≡ closed_lines new ++ open_lines new
@@ -87,6 +91,7 @@ pub record ClosesLabel (old new : Builder) : Type 0 where
 -- all functions are in the list
 pub record Closes (old new : Builder) : Type 0 where
   pub keeps : Keeps old new
+  pub list : closed new ≡ functions_at old.standing.stage old
   pub header : old.standing.stage ≡ stage.Header → rest_at stage.Header old ≡ closed_lines new
   pub function : old.standing.stage ≡ stage.Function → rest_at stage.Function old ≡ closed_lines new
   pub label : old.standing.stage ≡ stage.Label → rest_at stage.Label old ≡ closed_lines new
@@ -94,12 +99,15 @@ pub record Closes (old new : Builder) : Type 0 where
 -- the content was put where the place is
 pub record Puts (place : Place) (content : SlotState) (old new : Builder) : Type 0 where
   pub keeps : Keeps old new
+  pub list : closed new ≡ closed old
+  pub last : function_view new.function ≡ function_view old.function
   pub functions : closed_lines new ≡ closed_lines old
   pub function : open_lines new ≡ open_lines old
   pub slot : new.label.slot ≡ old.label.slot
   pub budget : new.label.budget ≡ old.label.budget
   pub said : contents new.label.state ≡ slice_set (contents old.label.state) (index_of place) content
   pub long : length (contents old.label.state) ≡ 74
+  pub sound : IsLabelState old.label.state → IsLabelState new.label.state
 
 abbrev pub fault_at : ℕ → Flaw → CertError
 fault_at n flaws.Syntax = errors.Syntax n
@@ -118,7 +126,7 @@ pub record AreLinesOf (lines : List Line) (c : CertificateView) : Type 0 where
   pub valid : IsCertificate c
   pub same : reverse lines ≡ certificate_lines c
 
--- the certificate whose lines these are, unless memory ran out
+-- the certificate whose lines these are
 abbrev pub Finishes : List Line → Result CertificateView CertError → Type 0
 Finishes lines (Ok c) = AreLinesOf lines c
-Finishes lines (Err e) = e ≡ errors.Memory
+Finishes lines (Err e) = ⊥

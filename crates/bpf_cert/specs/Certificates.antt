@@ -1,5 +1,5 @@
 -- Which text is which certificate's.
-use Rattle.std.specs.Prelude.{◌≡◌, ◌<◌, ℕ, List, ◌++◌, All, Some, None}
+use Rattle.std.specs.Prelude.{◌≡◌, ℕ, List, ◌++◌, Some, None}
 use Rattle.bpf_cert.specs.View.{CertificateView}
 use Rattle.bpf_cert.specs.Spelling.{certificate_text}
 use Rattle.bpf_cert.specs.Limits.{IsCertificate}
@@ -11,15 +11,9 @@ pub record Spells (text : List ℕ) (c : CertificateView) : Type 0 where
   pub valid : IsCertificate c
   pub spelled : text ≡ certificate_text c
 
-abbrev pub IsBytes : List ℕ → Type 0
-IsBytes text = All (λ b. b < 256) text
-
 -- Laws above the definitions.
 
--- A text of bytes is without fault exactly if it is some certificate's.
-abbrev pub FaultlessIsSpelled : Type 0
-FaultlessIsSpelled = (text : List ℕ) → IsBytes text → fault_of complete text ≡ None → (c : CertificateView) × Spells text c
-
+-- The text of a certificate has no fault.
 abbrev pub SpelledIsFaultless : Type 0
 SpelledIsFaultless = (text : List ℕ) (c : CertificateView) → Spells text c → fault_of complete text ≡ None
 
@@ -27,7 +21,10 @@ SpelledIsFaultless = (text : List ℕ) (c : CertificateView) → Spells text c �
 abbrev pub SpelledOnce : Type 0
 SpelledOnce = (text : List ℕ) (c d : CertificateView) → Spells text c → Spells text d → c ≡ d
 
--- A fault that is known before the text has ended stays, however the text goes on and ends.
+-- A text without fault is a certificate's.
+abbrev pub FaultlessIsSpelled : Type 0
+FaultlessIsSpelled = (text : List ℕ) → fault_of complete text ≡ None → (c : CertificateView) × Spells text c
+
+-- A fault that shows before all bytes came stays, whatever comes behind them and however the text stops.
 abbrev pub FaultStays : Type 0
-FaultStays = (text more : List ℕ) (f : CertError) → fault_of unknown text ≡ Some f
-    → (fault_of complete (text ++ more) ≡ Some f) × (fault_of failed (text ++ more) ≡ Some f)
+FaultStays = (text more : List ℕ) (f : CertError) → fault_of unknown text ≡ Some f → (fault_of complete (text ++ more) ≡ Some f) × (fault_of failed (text ++ more) ≡ Some f)

@@ -17,6 +17,7 @@ pub mod PartSums
 pub mod Contents
 pub mod TermSums
 pub mod Standing
+pub mod Sound
 pub mod Building
 pub mod ReadAnswers
 pub mod Behind

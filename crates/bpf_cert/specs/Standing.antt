@@ -1,6 +1,6 @@
 -- A line that was read: what it says, and what is kept of the lines before it.
 use Rattle.std.specs.Prelude.{◌≡◌, ◌≤◌, ◌<◌, ◌^◌, ℕ, Bool, true, false, not, ◌&&◌, ◌==◌, List, [], ◌∷◌, count_by, Option, Some, None, option_map, IfSome, Result, Ok, Err, map, if◌then◌else◌, decimal}
-use Rattle.std.specs.List.{slice_split}
+use Rattle.std.specs.List.{list_all, slice_split}
 use Rattle.bpf_cert.specs.Line.{Line, Place, is_place, is_content}
 use Rattle.bpf_state.specs.declared.state.Place.{Place as PlaceValue}
 use Rattle.bpf_state.specs.declared.state.SlotState.{SlotState}
@@ -8,7 +8,7 @@ use Rattle.bpf_cert.specs.Numeral.{is_numeral}
 use Rattle.bpf_cert.specs.Reading.{number_in, content_in, header_in, function_in, label_in, entry_in}
 use Rattle.bpf_cert.specs.TermSums.{terms_in}
 use Rattle.bpf_cert.specs.Faults.{is_canonical, is_limited, may_stand, is_in_order, has_room, last_first, last_slot, last_place, is_function, is_label}
-use Rattle.bpf_cert.specs.Limits.{is_limited_place}
+use Rattle.bpf_cert.specs.Limits.{is_limited_place, is_limited_term}
 use Rattle.bpf_cert.specs.Spelling.{place_of, term_of, number_of, content_of, header_line}
 use Rattle.bpf_cert.specs.Contents.{IsContent}
 use Rattle.bpf_cert.specs.declared.finding.Flaw.{Flaw}
@@ -36,7 +36,7 @@ pub record IsEntry (place : PlaceValue) (content : SlotState) : Type 0 where
 abbrev pub IsValue : LineValue → Type 0
 IsValue (value.Entry place content) = IsEntry place content
 IsValue (value.Function first depth ret) = first < 2 ^ 32
-IsValue (value.Label slot base terms) = slot < 2 ^ 32
+IsValue (value.Label slot base terms) = (slot < 2 ^ 32) × (list_all is_limited_term terms.items ≡ true)
 IsValue (value.Header len steps) = Unit {0}
 IsValue value.End = Unit {0}
 

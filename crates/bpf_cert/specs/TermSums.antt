@@ -5,6 +5,7 @@ use Rattle.bpf_cert.specs.Reading.{all_there, term_in}
 use Rattle.bpf_cert.specs.Numeral.{is_plain}
 use Rattle.bpf_cert.specs.Line.{Place, Term, is_place, is_term}
 use Rattle.bpf_cert.specs.Faults.{is_rising, place_before, place_of, is_plain_place, is_plain_measure, is_limited_term}
+use Rattle.bpf_cert.specs.Limits as limits
 use Rattle.bpf_cert.specs.Findings.{tested}
 use Rattle.bpf_cert.specs.Spelling.{term_of}
 use Rattle.bpf_cert.specs.Seen.{place_seen}
@@ -40,4 +41,5 @@ pub record IsTermSum (done : List Term) (s : Terms) : Type 0 where
   pub last : option_map place_seen s.last ≡ option_map place_of (last done)
   pub forms : list_all is_term done ≡ true
   pub room : s.room ≡ 4 - length done
+  pub limited : list_all limits.is_limited_term s.terms.items ≡ true
   pub says : s.found ≡ Ok tt → map term_of s.terms.items ≡ done

@@ -3,7 +3,7 @@
 ghost use Rattle.std.specs.Prelude.{◌≡◌, ◌≤◌, ◌∷◌, [], List, length, true, false, IfOk, Some, Ok};
 ghost use Rattle.bpf_cert.specs.Line.{Line};
 ghost use Rattle.bpf_cert.specs.Standing.{IsValue, IsEntry, value_line, ruled};
-ghost use Rattle.bpf_cert.specs.Building.{IsBuilt, IsRegisterContent, ClosesLabel, Closes, Puts, fault_at, Takes, Finishes};
+ghost use Rattle.bpf_cert.specs.Building.{IsBuilt, IsRegisterContent, ClosesLabel, Closes, Puts, fault_at, Takes, AreLinesOf};
 ghost use Rattle.bpf_cert.specs.Faults.{is_ended};
 ghost use Rattle.bpf_state.specs.State.{value_slot, IsRegister};
 
@@ -151,6 +151,7 @@ impl Builder {
                 self.steps = steps;
             }
             LineValue::Function { first, depth, ret } => {
+                ret.valid();
                 self.close()?;
                 self.function = Function {
                     first,
@@ -201,13 +202,10 @@ impl Builder {
     }
 
     /// The certificate whose lines these are.
-    pub fn finish(self) -> Result<Certificate, CertError>
-        ensures { (lines : List Line) → IsBuilt lines self → is_ended lines ≡ true → Finishes lines result }
+    pub fn finish(self) -> Certificate
+        requires { (lines : List Line) × IsBuilt lines self × (is_ended lines ≡ true) }
+        ensures { (lines : List Line) → IsBuilt lines self → is_ended lines ≡ true → AreLinesOf lines result }
     {
-        match Certificate::new(self.len, self.steps, self.functions) {
-            Ok(certificate) => Ok(certificate),
-            // Lines that are at no fault are a certificate's, so it isn't refused.
-            Err(_) => Err(CertError::Memory),
-        }
+        Certificate::of_parts(self.len, self.steps, self.functions)
     }
 }

@@ -117,6 +117,18 @@ impl Certificate {
         })
     }
 
+    /// The certificate of parts that are in their order and within the limits.
+    pub(crate) fn of_parts(len: u32, steps: u32, functions: Vec<Function>) -> Certificate
+        requires { IsCertificate (certificate_view len steps functions.items) }
+        ensures { result ≡ certificate_view len steps functions.items }
+    {
+        Certificate {
+            len,
+            steps,
+            functions,
+        }
+    }
+
     /// The length in bytes of the contexts that it speaks of, from 0 to 4,096.
     pub fn len(&self) -> u32
         ensures { result ≡ self.now.len }

@@ -23,10 +23,8 @@ mod writing;
 pub use bpf_state::Place;
 pub use certificate::{Budget, Certificate, Function, Label, Measure, Term};
 pub use error::CertError;
+pub use laws::{
+    each_form_has_one_line, fault_stays, faultless_is_spelled, spelled_is_faultless, spelled_once,
+};
 pub use reading::read;
 pub use writing::write;
-
-#[cfg(test)]
-mod reading_tests;
-#[cfg(test)]
-mod tests;

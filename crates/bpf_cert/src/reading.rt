@@ -1,12 +1,13 @@
 //! Reading a certificate.
 
-ghost use Rattle.std.specs.Prelude.{◌≡◌, List, IfOk, IfErr, IfSome, true};
+ghost use Rattle.std.specs.Prelude.{◌≡◌, List, IfOk, IfErr, IfSome, MatchResult, true};
 ghost use Rattle.bpf_cert.specs.Line.{Line};
 ghost use Rattle.bpf_cert.specs.Faults.{is_ended};
+ghost use Rattle.bpf_cert.specs.View.{CertificateView};
 ghost use Rattle.bpf_cert.specs.Certificates.{Spells};
 ghost use Rattle.bpf_cert.specs.Building.{IsBuilt};
 ghost use Rattle.bpf_cert.specs.Behind.{AnswersBehindEnd};
-ghost use Rattle.bpf_cert.specs.ReadAnswers.{IsFaultOf};
+ghost use Rattle.bpf_cert.specs.ReadAnswers.{IsFaultOf, IsFromOutside};
 
 use crate::building::Builder;
 use crate::certificate::Certificate;
@@ -23,10 +24,11 @@ fn behind_end(
     is_empty: bool,
     line: usize,
 ) -> Result<Certificate, CertError>
+    requires { (lines : List Line) × IsBuilt lines builder × (is_ended lines ≡ true) }
     ensures { (lines : List Line) → IsBuilt lines builder → is_ended lines ≡ true → AnswersBehindEnd stop is_empty line lines result }
 {
     match (stop, is_empty) {
-        (Stop::End, true) => builder.finish(),
+        (Stop::End, true) => Ok(builder.finish()),
         (Stop::Failed, true) => Err(CertError::Read { line }),
         (_, _) => Err(CertError::Syntax { line }),
     }
@@ -37,6 +39,7 @@ fn behind_end(
 pub fn read<R: Read + Drop>(alloc: Global, reader: R) -> Result<Certificate, CertError>
     ensures ok { IfOk result (λ c. IfSome (R.remaining reader) (λ text. Spells text c)) }
     ensures err { IfErr result (λ e. IfSome (R.remaining reader) (λ text. IsFaultOf text e)) }
+    ensures accepts { IfSome (R.remaining reader) (λ text. (c : CertificateView) → Spells text c → MatchResult result (λ d. d ≡ c) IsFromOutside) }
 {
     let mut source = Source::new(reader);
     let mut builder = Builder::new(alloc);

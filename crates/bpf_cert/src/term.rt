@@ -1,9 +1,11 @@
 //! The terms of a budget, from their text.
 
-ghost use Rattle.std.specs.Prelude.{◌≡◌, ◌++◌, ◌∷◌, ◌&&◌, [], List, nat_lt, map, true, option_map, Some, IfSome};
+ghost use Rattle.std.specs.Prelude.{◌≡◌, ◌++◌, ◌∷◌, ◌&&◌, [], List, nat_lt, map, true, option_map, Some, IfSome, IfOk};
+ghost use Rattle.std.specs.List.{list_all};
 ghost use Rattle.bpf_cert.specs.Line.{Term as TermText, is_term};
 ghost use Rattle.bpf_cert.specs.Reading.{measure_in, term_in};
 ghost use Rattle.bpf_cert.specs.Faults.{is_limited_term, comes_after, place_before, place_of};
+ghost use Rattle.bpf_cert.specs.Limits as limits;
 ghost use Rattle.bpf_cert.specs.Findings.{found, valued};
 ghost use Rattle.bpf_cert.specs.Spelling.{term_of};
 ghost use Rattle.bpf_cert.specs.Seen.{place_seen, measure_seen, term_seen};
@@ -86,7 +88,8 @@ fn term_value(term: TermForm<'_>) -> Term
     requires form { is_term (term_seen term) ≡ true }
     requires plain { is_plain_term (term_seen term) ≡ true }
     requires limited { is_limited_term (term_seen term) ≡ true }
-    ensures { term_of result ≡ term_seen term.entry }
+    ensures spelled { term_of result ≡ term_seen term.entry }
+    ensures value { limits.is_limited_term result ≡ true }
 {
     let place = place_value(term.place);
     let measure = match term.limit {
@@ -159,7 +162,8 @@ impl<'a> Terms<'a> {
     }
 
     fn value(self) -> Result<ArrayVec<Term, 4>, Flaw>
-        ensures { (done : List TermText) → IsTermSum done self.entry → valued (λ v. map term_of v.items) result ≡ found are_canonical_terms are_limited_terms (Some done) }
+        ensures value { (done : List TermText) → IsTermSum done self.entry → valued (λ v. map term_of v.items) result ≡ found are_canonical_terms are_limited_terms (Some done) }
+        ensures kept { (done : List TermText) → IsTermSum done self.entry → IfOk result (λ v. list_all limits.is_limited_term v.items ≡ true) }
     {
         match self.found {
             Ok(()) => Ok(self.terms),
@@ -169,7 +173,8 @@ impl<'a> Terms<'a> {
 }
 
 fn terms_of(text: &[u8]) -> Result<ArrayVec<Term, 4>, Flaw>
-    ensures { valued (λ v. map term_of v.items) result ≡ found are_canonical_terms are_limited_terms (terms_in (Some text.now)) }
+    ensures value { valued (λ v. map term_of v.items) result ≡ found are_canonical_terms are_limited_terms (terms_in (Some text.now)) }
+    ensures kept { IfOk result (λ v. list_all limits.is_limited_term v.items ≡ true) }
 {
     let mut terms = Terms::new();
     let mut rest = text;
@@ -189,7 +194,8 @@ fn terms_of(text: &[u8]) -> Result<ArrayVec<Term, 4>, Flaw>
 
 /// The terms in the text behind a label's base, if there is one.
 pub fn all_terms(rest: Option<&[u8]>) -> Result<ArrayVec<Term, 4>, Flaw>
-    ensures { valued (λ v. map term_of v.items) result ≡ found are_canonical_terms are_limited_terms (terms_in (option_map (λ x. x.now) rest.entry)) }
+    ensures value { valued (λ v. map term_of v.items) result ≡ found are_canonical_terms are_limited_terms (terms_in (option_map (λ x. x.now) rest.entry)) }
+    ensures kept { IfOk result (λ v. list_all limits.is_limited_term v.items ≡ true) }
 {
     match rest {
         None => Ok(ArrayVec::new()),

@@ -8,4 +8,4 @@ returns-in-Function-clause-stands c = rw c.in-Function.is (λ before st e. let f
 
 pub returns-in-Label-clause-stands : goal.returns-in-Label-clause-stands
 returns-in-Label-clause-stands c = rw c.in-Label.is (λ before st e. let few = few_labels before c.args.self _ _ _ _ st e in
-    stands_label before c.args.self c.in-Label.slot _ _ _ c.saturating_add-in-Label.result (rw c.in-Label.is at c.requires) st e (omega (arith, few, c.saturating_add-in-Label.ensures)))
+    stands_label before c.args.self c.in-Label.slot _ _ _ c.saturating_add-in-Label.result (rw c.in-Label.is at c.requires).0 st e (omega (arith, few, c.saturating_add-in-Label.ensures)))

@@ -1,7 +1,7 @@
 //! Worked certificates and their texts.
 
-use crate::{Budget, CertError, Certificate, Function, Label, Measure, Place, Term, write};
 use arrayvec::ArrayVec;
+use bpf_cert::{Budget, CertError, Certificate, Function, Label, Measure, Place, Term, write};
 use bpf_insn::Reg;
 use bpf_num::{Num, Unsigned};
 use bpf_state::{Pointer, RegState, SlotState, State, Tag};

@@ -1,6 +1,6 @@
 //! Texts that are read, and why texts are refused.
 
-use crate::{read, write};
+use bpf_cert::{read, write};
 use std::alloc::{AllocError, Global};
 use std::io::{self, ErrorKind, Read};
 use std::test::Fail;
@@ -265,5 +265,17 @@ fn many_functions(rt: HostRuntime) -> Result<(), Fail> {
     }
     let error = answer(rt.alloc(), text.as_bytes(), 4096, false)?;
     assert_eq!(rt; error, (3, 514));
+    Ok(())
+}
+
+#[test]
+fn many_labels(rt: HostRuntime) -> Result<(), Fail> {
+    let mut text = format!(in rt.alloc(); "bpfcert 1 0 2\nfn 0 1 *\n")?;
+    for slot in 0..65_536u32 {
+        text.push_str(&format!(in rt.alloc(); "at {slot} 2\n")?)?;
+    }
+    text.push_str("fn 1 1 *\nat 0 2\n")?;
+    let error = answer(rt.alloc(), text.as_bytes(), 4096, false)?;
+    assert_eq!(rt; error, (3, 65_540));
     Ok(())
 }

@@ -1,0 +1,5 @@
+use Rattle.bpf_cert.proofs.SoundBuilder.{ended_sound}
+use Rattle.bpf_cert.proofs.building.Builder.finish.Goals as goal
+
+pub of_parts-requires : goal.of_parts-requires
+of_parts-requires c = ended_sound c.requires.0 c.args.self c.requires.1 c.requires.2

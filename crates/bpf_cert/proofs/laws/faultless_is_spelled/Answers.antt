@@ -1,0 +1,5 @@
+use Rattle.bpf_cert.proofs.FaultlessLines.{spelled}
+use Rattle.bpf_cert.proofs.laws.faultless_is_spelled.Goals as goal
+
+pub returns : goal.returns
+returns c = spelled
