@@ -1,12 +1,11 @@
 -- What a check that says yes promises.
-use Rattle.std.proofs.Common.{◌≡◌, ℕ, ◌≤◌, List, length, refl, sym, ◌∙◌, ap, subst, Bool, true, false, IfSome, Option, Some, None}
+use Rattle.std.proofs.Common.{◌≡◌, ℕ, ◌≤◌, List, length, sym, ◌∙◌, ap, subst, Bool, true, false, IfSome, Option, Some, None}
 use Rattle.std.proofs.lemmas.Bool.{false≢true}
 use Rattle.bpf_insn.specs.Instruction.{Instructions}
-use Rattle.bpf_insn.specs.Image.{image, IsImage, IsProgram}
-use Rattle.bpf_insn.specs.Laws.{AreBytes, IsImageOfProgram, ImageIsInjective}
+use Rattle.bpf_insn.specs.Image.{IsImage, IsProgram}
+use Rattle.bpf_insn.specs.Laws.{AreBytes, ImageIsInjective}
 use Rattle.bpf_insn.specs.Run.{IsDone}
 use Rattle.bpf_insn.specs.declared.order.Order.TheVariants.{Little}
-use Rattle.bpf_insn.specs.declared.instruction.Insn.{Insn}
 use Rattle.bpf_machine.specs.Answers.{IsRun}
 use Rattle.bpf_machine.specs.declared.outcome.Outcome.{Outcome}
 use Rattle.bpf_machine.specs.declared.outcome.Outcome.TheVariants.{Done, Fault, OutOfFuel}
@@ -14,8 +13,8 @@ use Rattle.bpf_insn.specs.declared.state.Reason.{Reason}
 use Rattle.bpf_cert.specs.View.{CertificateView}
 use Rattle.bpf_cert.specs.Certificates.{Spells}
 use Rattle.bpf_safety.specs.Certified.{Certified, IsLeastFlaw}
-use Rattle.bpf_safety.specs.Theorems.{IsContext, IsSafe, IsFlatSafe, CertifiedIsSafe, CertifiedIsFlatSafe}
-use Rattle.bpf_check.specs.CheckedProgram.{CheckedProgram, IsCertifiedBy, checked}
+use Rattle.bpf_safety.specs.Theorems.{IsSafe, IsFlatSafe, CertifiedIsSafe, CertifiedIsFlatSafe}
+use Rattle.bpf_check.specs.CheckedProgram.{IsCertifiedBy}
 use Rattle.bpf_check.specs.Runs.{RunsTo}
 use Rattle.bpf_check.specs.Verdicts.{Verified, HasFlaw, Certifies, little}
 use Rattle.bpf_check.specs.RefusalNumbers.{refusal_slot, refusal_number}

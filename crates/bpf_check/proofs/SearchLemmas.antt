@@ -1,12 +1,12 @@
 -- Searches in lists that rise by a key.
-use Rattle.std.proofs.Common.{◌≡◌, ℕ, zero, suc, ◌<◌, ◌≤◌, Bool, true, false, cond, ◌&&◌, List, [], ◌∷◌, ◌++◌, length, map, take, drop, get_or, Option, Some, None, refl, sym, ap, subst, ◌∙◌, arith}
+use Rattle.std.proofs.Common.{◌≡◌, ℕ, zero, suc, ◌-◌, ◌<◌, ◌≤◌, Bool, true, false, cond, ◌&&◌, List, [], ◌∷◌, ◌++◌, length, map, take, drop, get_or, Option, Some, None, refl, sym, ap, subst, ◌∙◌, arith}
 use Rattle.std.specs.Prelude.{nat_lt, nat_le, ◌==◌}
 use Rattle.std.specs.List.{list_all}
 use Rattle.std.specs.Prelude.{option_map}
 use Rattle.std.proofs.lemmas.Option.{none-some, same_Some}
 use Rattle.std.proofs.lemmas.List.{get_or-drop}
 use Rattle.std.proofs.Common.{add-zero}
-use Rattle.std.proofs.lemmas.Bool.{leb-true, eq-eqb, and_parts, and_from, ltb-true, leb-false, le-leb, lt-leb, ne_eqb, cond-true, cond-false}
+use Rattle.std.proofs.lemmas.Bool.{true≢false, leb-true, eq-eqb, and_parts, and_from, ltb-true, leb-false, le-leb, lt-leb, ne_eqb, cond-true, cond-false}
 use Rattle.bpf_cert.specs.Faults.{is_rising}
 use Rattle.bpf_safety.specs.Labels.{first_with}
 use Rattle.bpf_check.specs.Search.{last_up_to, with_key}
@@ -140,6 +140,32 @@ among_other key view n xs x r e differs = sym (among key view n xs (Some x) r e 
 
 pub among_none : {A B : Type 0} (key : B → ℕ) (view : A → B) (n : ℕ) (xs : List A) → rises (λ x. key (view x)) xs ≡ true → None ≡ last_up_to (λ x. key (view x)) None n xs → None ≡ first_with (λ y. key y == n) (map view xs)
 among_none key view n xs r e = sym (among key view n xs None r e)
+
+-- nothing is there
+pub among_empty : {A B : Type 0} (key : B → ℕ) (view : A → B) (n : ℕ) (xs : List A) → true ≡ (length xs == 0) → None ≡ first_with (λ z. key z == n) (map view xs)
+among_empty key view n [] e = refl
+among_empty key view n (x ∷ xs) e = absurd (true≢false (e ∙ ne_eqb (length (x ∷ xs)) 0 (λ same. absurd (omega arith))))
+
+-- the first is above the number
+pub among_above : {A B : Type 0} (key : B → ℕ) (view : A → B) (n : ℕ) (xs : List A) (y : A) → rises (λ x. key (view x)) xs ≡ true → n < key (view (get_or xs 0 y)) → None ≡ first_with (λ z. key z == n) (map view xs)
+among_above key view n [] y r lt = refl
+among_above key view n (x ∷ xs) y r lt = sym (first_with-map (λ z. key z == n) view (x ∷ xs) ∙ ap (option_map view) (none_above (λ z. key (view z)) n x xs r lt))
+
+-- the last is below it
+none_below : {A : Type 0} (key : A → ℕ) (n : ℕ) (xs : List A) (m : ℕ) (y : A) → rises key xs ≡ true → suc m ≡ length xs → y ≡ get_or xs m y → key y < n → first_with (λ x. key x == n) xs ≡ None
+none_below key n [] m y r h e lt = refl
+none_below key n (x ∷ []) zero y r h e lt = cond-false _ _ _ (ne_eqb (key x) n (λ same. absurd (omega (arith, subst (λ w. key w < n) e lt, same))))
+none_below key n (x ∷ []) (suc m) y r h e lt = absurd (omega arith)
+none_below key n (x ∷ z ∷ zs) zero y r h e lt = absurd (omega arith)
+none_below key n (x ∷ z ∷ zs) (suc m) y r h e lt =
+    let lower = below key x (z ∷ zs) m y r (omega arith) e in
+    cond-false _ _ _ (ne_eqb (key x) n (λ same. absurd (omega (arith, lower, lt, same))))
+    ∙ none_below key n (z ∷ zs) m y (rises_tail key x (z ∷ zs) r) (omega arith) e lt
+
+pub among_below : {A B : Type 0} (key : B → ℕ) (view : A → B) (n : ℕ) (xs : List A) (y : A) → rises (λ x. key (view x)) xs ≡ true → y ≡ get_or xs (length xs - 1) y → key (view (get_or xs (length xs - 1) y)) < n → None ≡ first_with (λ z. key z == n) (map view xs)
+among_below key view n [] y r e lt = refl
+among_below key view n (x ∷ xs) y r e lt =
+    sym (first_with-map (λ z. key z == n) view (x ∷ xs) ∙ ap (option_map view) (none_below (λ z. key (view z)) n (x ∷ xs) (length (x ∷ xs) - 1) y r (omega arith) e (subst (λ z. key (view z) < n) (sym e) lt)))
 
 -- ---- in lists joined
 

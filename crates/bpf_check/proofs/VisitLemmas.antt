@@ -21,7 +21,7 @@ use Rattle.bpf_check.specs.Slack.{IsWithin}
 use Rattle.bpf_check.specs.Arrivals.{arrival_of, IsReaching}
 use Rattle.bpf_check.specs.Edges.{visit, next_of, edges_of, unpaid_from}
 use Rattle.bpf_check.specs.Visits.{IsJudged}
-use Rattle.bpf_check.specs.declared.arrival.Arrival.{Arrival as Reaching}
+use Rattle.bpf_check.specs.declared.arrival.Here.{Here}
 use Rattle.bpf_check.proofs.EdgeLemmas.{edges_live, edges_dead, next_live, next_dead}
 
 -- a cost at the next slot fits
@@ -69,60 +69,60 @@ and_true false = refl
 
 -- ---- the three ends of a visit
 
-pub dead_judged : (p : Instructions) (c : CertificateView) (slot : ℕ) (i : Insn) (r : Reaching) (s' : AbstractState) (alive enters returns exits : Bool) (cost : Option ℤ) → p.order ≡ Little → alive ≡ false → outcome_told (Ok alive) s' ≡ transfer Little i c.len r.state → cost ≡ cost_after c slot i (arrival_of r) → enters ≡ enters_wrongly c (visit slot i) (arrival_of r) → returns ≡ returns_wrongly c (visit slot i) (arrival_of r) i → exits ≡ exits_unpaid (visit slot i) (arrival_of r) cost i → IsJudged p c slot i (arrival_of r) (record { passed = None; not_entailed = enters || returns; over_budget = exits; past_end = false })
-dead_judged p c slot i r s' alive enters returns exits cost order dead told spent en re ex =
-    let both = transfer_dead i c.len r.state s' alive dead told in
-    let none = in_order p i r.state None order both.1 in
-    let no_next = next_dead p c slot i r.state none in
-    let no_edge = edges_dead p c slot i (arrival_of r) none in
+pub dead_judged : (p : Instructions) (c : CertificateView) (slot : ℕ) (i : Insn) (s : AbstractState) (h : Here) (s' t aside : AbstractState) (alive enters returns exits : Bool) (cost : Option ℤ) → p.order ≡ Little → alive ≡ false → outcome_told (Ok alive) s' ≡ transfer Little i c.len s → cost ≡ cost_after c slot i (arrival_of s h) → enters ≡ enters_wrongly c (visit slot i) (arrival_of s h) → returns ≡ returns_wrongly c (visit slot i) (arrival_of s h) i → exits ≡ exits_unpaid (visit slot i) (arrival_of s h) cost i → IsJudged p c slot i (arrival_of s h) (record { state = t; aside = aside; here = None }) (record { not_entailed = enters || returns; over_budget = exits; past_end = false })
+dead_judged p c slot i s h s' t aside alive enters returns exits cost order dead told spent en re ex =
+    let both = transfer_dead i c.len s s' alive dead told in
+    let none = in_order p i s None order both.1 in
+    let no_next = next_dead p c slot i s none in
+    let no_edge = edges_dead p c slot i (arrival_of s h) none in
     record {
       no_fault = both.0;
-      passed = sym (ap (option_map (λ s. record (arrival_of r) { state = s; cost = cost_after c slot i (arrival_of r) })) no_next);
+      passed = sym (ap (option_map (λ t. record (arrival_of s h) { state = t; cost = cost_after c slot i (arrival_of s h) })) no_next);
       valid = tt;
-      not_entailed = ap₂ (λ x y. x || y) en re ∙ sym (ap (λ es. (list_any (is_refused_by c) es || enters_wrongly c (visit slot i) (arrival_of r)) || returns_wrongly c (visit slot i) (arrival_of r) i) no_edge);
-      over_budget = ex ∙ ap (λ o. exits_unpaid (visit slot i) (arrival_of r) o i) spent ∙ sym (ap (λ es. list_any (is_unpaid c (visit slot i) (arrival_of r)) es || exits_unpaid (visit slot i) (arrival_of r) (cost_after c slot i (arrival_of r)) i) no_edge);
+      not_entailed = ap₂ (λ x y. x || y) en re ∙ sym (ap (λ es. (list_any (is_refused_by c) es || enters_wrongly c (visit slot i) (arrival_of s h)) || returns_wrongly c (visit slot i) (arrival_of s h) i) no_edge);
+      over_budget = ex ∙ ap (λ o. exits_unpaid (visit slot i) (arrival_of s h) o i) spent ∙ sym (ap (λ es. list_any (is_unpaid c (visit slot i) (arrival_of s h)) es || exits_unpaid (visit slot i) (arrival_of s h) (cost_after c slot i (arrival_of s h)) i) no_edge);
       past_end = and_false (slot + slot_count i == slots p.list) ∙ ap (λ o. (slot + slot_count i == slots p.list) && is_some o) (sym no_next);
     }
 
 -- what both ends of a live state share
-record IsShared (p : Instructions) (c : CertificateView) (slot : ℕ) (i : Insn) (r : Reaching) (s' : AbstractState) (refused unpaid enters returns exits : Bool) (cost : Option ℤ) : Type 0 where
-  no_fault : fault_of c.len r.state i ≡ None
-  next : next_state p c slot i r.state ≡ next_of c slot i s'
-  not_entailed : ((refused || enters) || returns) ≡ is_not_entailed p c (visit slot i) (arrival_of r)
-  over_budget : (unpaid || exits) ≡ is_over_budget p c (visit slot i) (arrival_of r)
+record IsShared (p : Instructions) (c : CertificateView) (slot : ℕ) (i : Insn) (s : AbstractState) (h : Here) (s' : AbstractState) (refused unpaid enters returns exits : Bool) (cost : Option ℤ) : Type 0 where
+  no_fault : fault_of c.len s i ≡ None
+  next : next_state p c slot i s ≡ next_of c slot i s'
+  not_entailed : ((refused || enters) || returns) ≡ is_not_entailed p c (visit slot i) (arrival_of s h)
+  over_budget : (unpaid || exits) ≡ is_over_budget p c (visit slot i) (arrival_of s h)
 
-shared : (p : Instructions) (c : CertificateView) (slot : ℕ) (i : Insn) (r : Reaching) (s' : AbstractState) (alive refused unpaid enters returns exits : Bool) (cost : Option ℤ) → p.order ≡ Little → alive ≡ true → outcome_told (Ok alive) s' ≡ transfer Little i c.len r.state → cost ≡ cost_after c slot i (arrival_of r) → enters ≡ enters_wrongly c (visit slot i) (arrival_of r) → returns ≡ returns_wrongly c (visit slot i) (arrival_of r) i → exits ≡ exits_unpaid (visit slot i) (arrival_of r) cost i → refused ≡ list_any (is_refused_by c) (edges_of c slot i s') → unpaid ≡ list_any (unpaid_from c (label_view r.label.now) cost) (edges_of c slot i s') → IsShared p c slot i r s' refused unpaid enters returns exits cost
-shared p c slot i r s' alive refused unpaid enters returns exits cost order is_alive told spent en re ex rf un =
-    let both = transfer_live i c.len r.state s' alive is_alive told in
-    let there = in_order p i r.state (Some s') order both.1 in
-    let same = edges_live p c slot i (arrival_of r) s' there in
+shared : (p : Instructions) (c : CertificateView) (slot : ℕ) (i : Insn) (s : AbstractState) (h : Here) (s' : AbstractState) (alive refused unpaid enters returns exits : Bool) (cost : Option ℤ) → p.order ≡ Little → alive ≡ true → outcome_told (Ok alive) s' ≡ transfer Little i c.len s → cost ≡ cost_after c slot i (arrival_of s h) → enters ≡ enters_wrongly c (visit slot i) (arrival_of s h) → returns ≡ returns_wrongly c (visit slot i) (arrival_of s h) i → exits ≡ exits_unpaid (visit slot i) (arrival_of s h) cost i → refused ≡ list_any (is_refused_by c) (edges_of c slot i s') → unpaid ≡ list_any (unpaid_from c (label_view h.label.now) cost) (edges_of c slot i s') → IsShared p c slot i s h s' refused unpaid enters returns exits cost
+shared p c slot i s h s' alive refused unpaid enters returns exits cost order is_alive told spent en re ex rf un =
+    let both = transfer_live i c.len s s' alive is_alive told in
+    let there = in_order p i s (Some s') order both.1 in
+    let same = edges_live p c slot i (arrival_of s h) s' there in
     record {
       no_fault = both.0;
-      next = next_live p c slot i r.state s' there;
+      next = next_live p c slot i s s' there;
       not_entailed = ap₂ (λ x y. x || y) (ap₂ (λ x y. x || y) (rf ∙ ap (list_any (is_refused_by c)) (sym same)) en) re;
-      over_budget = ap₂ (λ x y. x || y) (un ∙ ap (λ o. list_any (unpaid_from c (label_view r.label.now) o) (edges_of c slot i s')) spent ∙ ap (list_any (is_unpaid c (visit slot i) (arrival_of r))) (sym same)) (ex ∙ ap (λ o. exits_unpaid (visit slot i) (arrival_of r) o i) spent);
+      over_budget = ap₂ (λ x y. x || y) (un ∙ ap (λ o. list_any (unpaid_from c (label_view h.label.now) o) (edges_of c slot i s')) spent ∙ ap (list_any (is_unpaid c (visit slot i) (arrival_of s h))) (sym same)) (ex ∙ ap (λ o. exits_unpaid (visit slot i) (arrival_of s h) o i) spent);
     }
 
-pub stop_judged : (p : Instructions) (c : CertificateView) (slot : ℕ) (i : Insn) (r : Reaching) (s' s'' : AbstractState) (alive refused unpaid enters returns exits goes : Bool) (cost : Option ℤ) → p.order ≡ Little → alive ≡ true → outcome_told (Ok alive) s' ≡ transfer Little i c.len r.state → cost ≡ cost_after c slot i (arrival_of r) → enters ≡ enters_wrongly c (visit slot i) (arrival_of r) → returns ≡ returns_wrongly c (visit slot i) (arrival_of r) i → exits ≡ exits_unpaid (visit slot i) (arrival_of r) cost i → refused ≡ list_any (is_refused_by c) (edges_of c slot i s') → unpaid ≡ list_any (unpaid_from c (label_view r.label.now) cost) (edges_of c slot i s') → edge_told goes s'' ≡ next_of c slot i s' → goes ≡ false → IsJudged p c slot i (arrival_of r) (record { passed = None; not_entailed = (refused || enters) || returns; over_budget = unpaid || exits; past_end = false })
-stop_judged p c slot i r s' s'' alive refused unpaid enters returns exits goes cost order is_alive told spent en re ex rf un leads stops =
-    let all = shared p c slot i r s' alive refused unpaid enters returns exits cost order is_alive told spent en re ex rf un in
-    let no_next : next_state p c slot i r.state ≡ None = all.next ∙ sym leads ∙ ap (λ b. edge_told b s'') stops in
+pub stop_judged : (p : Instructions) (c : CertificateView) (slot : ℕ) (i : Insn) (s : AbstractState) (h : Here) (s' s'' t aside : AbstractState) (alive refused unpaid enters returns exits goes : Bool) (cost : Option ℤ) → p.order ≡ Little → alive ≡ true → outcome_told (Ok alive) s' ≡ transfer Little i c.len s → cost ≡ cost_after c slot i (arrival_of s h) → enters ≡ enters_wrongly c (visit slot i) (arrival_of s h) → returns ≡ returns_wrongly c (visit slot i) (arrival_of s h) i → exits ≡ exits_unpaid (visit slot i) (arrival_of s h) cost i → refused ≡ list_any (is_refused_by c) (edges_of c slot i s') → unpaid ≡ list_any (unpaid_from c (label_view h.label.now) cost) (edges_of c slot i s') → edge_told goes s'' ≡ next_of c slot i s' → goes ≡ false → IsJudged p c slot i (arrival_of s h) (record { state = t; aside = aside; here = None }) (record { not_entailed = (refused || enters) || returns; over_budget = unpaid || exits; past_end = false })
+stop_judged p c slot i s h s' s'' t aside alive refused unpaid enters returns exits goes cost order is_alive told spent en re ex rf un leads stops =
+    let all = shared p c slot i s h s' alive refused unpaid enters returns exits cost order is_alive told spent en re ex rf un in
+    let no_next : next_state p c slot i s ≡ None = all.next ∙ sym leads ∙ ap (λ b. edge_told b s'') stops in
     record {
       no_fault = all.no_fault;
-      passed = sym (ap (option_map (λ s. record (arrival_of r) { state = s; cost = cost_after c slot i (arrival_of r) })) no_next);
+      passed = sym (ap (option_map (λ t. record (arrival_of s h) { state = t; cost = cost_after c slot i (arrival_of s h) })) no_next);
       valid = tt;
       not_entailed = all.not_entailed;
       over_budget = all.over_budget;
       past_end = and_false (slot + slot_count i == slots p.list) ∙ ap (λ o. (slot + slot_count i == slots p.list) && is_some o) (sym no_next);
     }
 
-pub pass_judged : (p : Instructions) (c : CertificateView) (slot : ℕ) (i : Insn) (r : Reaching) (s' s'' : AbstractState) (alive refused unpaid enters returns exits goes last : Bool) (cost : Option ℤ) → p.order ≡ Little → alive ≡ true → outcome_told (Ok alive) s' ≡ transfer Little i c.len r.state → cost ≡ cost_after c slot i (arrival_of r) → enters ≡ enters_wrongly c (visit slot i) (arrival_of r) → returns ≡ returns_wrongly c (visit slot i) (arrival_of r) i → exits ≡ exits_unpaid (visit slot i) (arrival_of r) cost i → refused ≡ list_any (is_refused_by c) (edges_of c slot i s') → unpaid ≡ list_any (unpaid_from c (label_view r.label.now) cost) (edges_of c slot i s') → edge_told goes s'' ≡ next_of c slot i s' → goes ≡ true → last ≡ (slot + slot_count i == slots p.list) → IsReaching (slot + slot_count i) (record r { state = s''; cost = cost }) → IsJudged p c slot i (arrival_of r) (record { passed = Some (record { state = s''; label = r.label; cost = cost }); not_entailed = (refused || enters) || returns; over_budget = unpaid || exits; past_end = last })
-pass_judged p c slot i r s' s'' alive refused unpaid enters returns exits goes last cost order is_alive told spent en re ex rf un leads continues at_end valid =
-    let all = shared p c slot i r s' alive refused unpaid enters returns exits cost order is_alive told spent en re ex rf un in
-    let next : next_state p c slot i r.state ≡ Some s'' = all.next ∙ sym leads ∙ ap (λ b. edge_told b s'') continues in
+pub pass_judged : (p : Instructions) (c : CertificateView) (slot : ℕ) (i : Insn) (s : AbstractState) (h : Here) (s' s'' aside : AbstractState) (alive refused unpaid enters returns exits goes last : Bool) (cost : Option ℤ) → p.order ≡ Little → alive ≡ true → outcome_told (Ok alive) s' ≡ transfer Little i c.len s → cost ≡ cost_after c slot i (arrival_of s h) → enters ≡ enters_wrongly c (visit slot i) (arrival_of s h) → returns ≡ returns_wrongly c (visit slot i) (arrival_of s h) i → exits ≡ exits_unpaid (visit slot i) (arrival_of s h) cost i → refused ≡ list_any (is_refused_by c) (edges_of c slot i s') → unpaid ≡ list_any (unpaid_from c (label_view h.label.now) cost) (edges_of c slot i s') → edge_told goes s'' ≡ next_of c slot i s' → goes ≡ true → last ≡ (slot + slot_count i == slots p.list) → IsReaching (slot + slot_count i) (record h { cost = cost }) → IsJudged p c slot i (arrival_of s h) (record { state = s''; aside = aside; here = Some (record h { cost = cost }) }) (record { not_entailed = (refused || enters) || returns; over_budget = unpaid || exits; past_end = last })
+pass_judged p c slot i s h s' s'' aside alive refused unpaid enters returns exits goes last cost order is_alive told spent en re ex rf un leads continues at_end valid =
+    let all = shared p c slot i s h s' alive refused unpaid enters returns exits cost order is_alive told spent en re ex rf un in
+    let next : next_state p c slot i s ≡ Some s'' = all.next ∙ sym leads ∙ ap (λ b. edge_told b s'') continues in
     record {
       no_fault = all.no_fault;
-      passed = ap (λ o. Some (record (arrival_of r) { state = s''; cost = o })) spent ∙ sym (ap (option_map (λ s. record (arrival_of r) { state = s; cost = cost_after c slot i (arrival_of r) })) next);
+      passed = ap (λ o. Some (record (arrival_of s h) { state = s''; cost = o })) spent ∙ sym (ap (option_map (λ t. record (arrival_of s h) { state = t; cost = cost_after c slot i (arrival_of s h) })) next);
       valid = valid;
       not_entailed = all.not_entailed;
       over_budget = all.over_budget;

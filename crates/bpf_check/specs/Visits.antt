@@ -1,5 +1,5 @@
 -- What a visit finds.
-use Rattle.std.specs.Prelude.{◌≡◌, ℕ, ◌+◌, option_map, option_and_then, List, ◌++◌, Bool, not, ◌&&◌, is_none, Option, None, IfSome}
+use Rattle.std.specs.Prelude.{◌≡◌, ℕ, ◌+◌, option_and_then, List, ◌++◌, Bool, not, ◌&&◌, is_none, Option, None, IfSome}
 use Rattle.std.specs.Option.{option_to_list}
 use Rattle.bpf_insn.specs.declared.instruction.Insn.{Insn}
 use Rattle.bpf_insn.specs.Instruction.{Instructions, slot_count}
@@ -9,15 +9,16 @@ use Rattle.bpf_safety.specs.Labels.{label_at}
 use Rattle.bpf_cert.specs.View.{CertificateView}
 use Rattle.bpf_safety.specs.Flow.{Arrival, Visit, arrives, passed_on, sound_arrival}
 use Rattle.bpf_safety.specs.Flaw.{numbers_of_arrival, is_not_entailed, is_over_budget, falls_past_end}
-use Rattle.bpf_check.specs.Arrivals.{arrival_of, IsReaching}
+use Rattle.bpf_check.specs.Arrivals.{walk_of, IsReaching}
 use Rattle.bpf_check.specs.Edges.{visit}
+use Rattle.bpf_check.specs.declared.arrival.Walk.{Walk}
 use Rattle.bpf_check.specs.declared.visit.Judged.{Judged}
 
 -- an instruction without fault, with what goes on from it and which conditions on its state fail
-pub record IsJudged (p : Instructions) (c : CertificateView) (slot : ℕ) (i : Insn) (a : Arrival) (j : Judged) : Type 0 where
+pub record IsJudged (p : Instructions) (c : CertificateView) (slot : ℕ) (i : Insn) (a : Arrival) (w : Walk) (j : Judged) : Type 0 where
   pub no_fault : fault_of c.len a.state i ≡ None
-  pub passed : option_map arrival_of j.passed ≡ passed_on p c slot i a
-  pub valid : IfSome j.passed (λ r. IsReaching (slot + slot_count i) r)
+  pub passed : walk_of w ≡ passed_on p c slot i a
+  pub valid : IfSome w.here (λ h. IsReaching (slot + slot_count i) h)
   pub not_entailed : j.not_entailed ≡ is_not_entailed p c (visit slot i) a
   pub over_budget : j.over_budget ≡ is_over_budget p c (visit slot i) a
   pub past_end : j.past_end ≡ falls_past_end p c (visit slot i) a

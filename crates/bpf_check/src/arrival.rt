@@ -1,11 +1,12 @@
 //! What reaches an instruction.
 
-ghost use Rattle.std.specs.Prelude.{◌≡◌, ℕ, ◌+◌, ◌*◌, ◌^◌, ◌≤◌, option_map, option_copied, IfSome, IsTrue, pos, ◌+ℤ◌};
+ghost use Rattle.std.specs.Prelude.{◌≡◌, ℕ, ◌+◌, ◌*◌, ◌^◌, ◌≤◌, None, option_map, option_copied, IfSome, IsTrue, pos, ◌+ℤ◌};
 ghost use Rattle.bpf_cert.specs.View.{label_view, function_view};
 ghost use Rattle.bpf_cert.specs.Limits.{is_limited_label};
+ghost use Rattle.bpf_state.specs.Answer.{edge_told};
 ghost use Rattle.bpf_safety.specs.Flow.{label_state, at_label_arrival, call_cost, cost_after};
 ghost use Rattle.bpf_check.specs.Slack.{IsWithin};
-ghost use Rattle.bpf_check.specs.Arrivals.{arrival_of, IsReaching};
+ghost use Rattle.bpf_check.specs.Arrivals.{arrival_of, walk_of, IsReaching};
 
 use crate::budget::{greatest_budget, place_of};
 use crate::edge::callee;
@@ -14,22 +15,46 @@ use bpf_cert::{Certificate, Function, Label};
 use bpf_insn::Insn;
 use bpf_state::{State, Tag};
 
-/// The state that reaches an instruction, the label before it, and the cost since that label, if it is known.
-#[derive(Drop)]
-pub struct Arrival<'a> {
-    pub state: State,
+/// The label before an instruction, and the cost since that label, if it is known.
+#[derive(Clone, Copy)]
+pub struct Here<'a> {
     pub label: &'a Label,
     pub cost: Option<i128>,
 }
 
-/// The state at a label: each number tightened, and a tag for each term.
-fn label_state(label: &Label) -> Option<State>
+/// What goes on from instruction to instruction. The states stand in one place, since they are large.
+#[derive(Drop)]
+pub struct Walk<'a> {
+    /// The state that reaches an instruction, if one does.
+    pub state: State,
+    /// Room for the state on another edge.
+    pub aside: State,
+    /// None where no state reaches.
+    pub here: Option<Here<'a>>,
+}
+
+impl<'a> Walk<'a> {
+    /// Nothing reaches.
+    pub fn new() -> Self
+        ensures { result.here ≡ None }
+    {
+        Walk {
+            state: State::blank(),
+            aside: State::blank(),
+            here: None,
+        }
+    }
+}
+
+/// Makes a state the one at a label: each number tightened, and a tag for each term. False if a number has no member.
+fn set_label_state(label: &Label, state: &mut State) -> bool
     requires { IsTrue (is_limited_label (label_view label.now)) }
-    ensures { result ≡ label_state (label_view label.now) }
+    ensures { edge_told result state.new ≡ label_state (label_view label.now) }
 {
-    let Some(mut state) = label.state.tightened() else {
-        return None;
-    };
+    state.copy_from(&label.state);
+    if !state.tighten() {
+        return false;
+    }
     state.clear_tags();
     let terms = label.budget.terms.as_slice();
     let mut j = terms.len();
@@ -41,23 +66,23 @@ fn label_state(label: &Label) -> Option<State>
         };
         state.set_tag(place_of(&terms[j]), Some(tag));
     }
-    Some(state)
+    true
 }
 
-/// What reaches a label.
-pub fn arrival_at(label: &Label) -> Option<Arrival<'_>>
+/// Makes the walk what reaches a label: its own state, if that has a member.
+pub fn start_at<'a>(label: &'a Label, walk: &mut Walk<'a>)
     requires { IsTrue (is_limited_label (label_view label.now)) }
-    ensures value { option_map arrival_of result ≡ at_label_arrival (label_view label.now) }
-    ensures valid { (slot : ℕ) → IfSome result (λ a. IsReaching slot a) }
+    ensures value { walk_of walk.new ≡ at_label_arrival (label_view label.now) }
+    ensures valid { (slot : ℕ) → IfSome walk.new.here (λ h. IsReaching slot h) }
 {
-    match label_state(label) {
-        Some(state) => Some(Arrival {
-            state,
-            label,
-            cost: Some(0),
-        }),
-        None => None,
+    if !set_label_state(label, &mut walk.state) {
+        walk.here = None;
+        return;
     }
+    walk.here = Some(Here {
+        label,
+        cost: Some(0),
+    });
 }
 
 /// What a call costs beside itself: the callee's budget at its entry, at its greatest.
@@ -90,20 +115,21 @@ pub fn cost_after(
     certificate: &Certificate,
     slot: u32,
     insn: &Insn,
-    arrival: &Arrival,
+    here: &Here,
+    state: &State,
 ) -> Option<i128>
     requires here { slot ≤ 65535 }
-    requires valid { IsReaching slot arrival.now }
-    ensures value { result ≡ cost_after certificate.now slot insn.now (arrival_of arrival.now) }
+    requires valid { IsReaching slot here.now }
+    ensures value { result ≡ cost_after certificate.now slot insn.now (arrival_of state.now here.now) }
     ensures small { IfSome result (λ z. IsWithin ((slot + 1) * 2 ^ 94) z) }
 {
-    let Some(spent) = arrival.cost else {
+    let Some(spent) = here.cost else {
         return None;
     };
     let Insn::CallLocal { off: _off } = *insn else {
         return Some(with_more(slot, spent, 0));
     };
-    match call_cost(certificate, callee(certificate, slot, insn), &arrival.state) {
+    match call_cost(certificate, callee(certificate, slot, insn), state) {
         Some(more) => Some(with_more(slot, spent, more)),
         None => None,
     }

@@ -84,11 +84,11 @@ pub fn calls_no_deeper(certificate: &Certificate, slot: u32, insn: &Insn) -> boo
     requires { slot ≤ 65536 }
     ensures { result ≡ calls_no_deeper certificate.now (visit slot insn.now) }
 {
-    let Some(caller) = function_at(certificate, slot) else {
+    let Some(callee) = callee(certificate, slot, insn) else {
         return false;
     };
-    match callee(certificate, slot, insn) {
-        Some(callee) => caller.depth <= callee.depth,
+    match function_at(certificate, slot) {
+        Some(caller) => caller.depth <= callee.depth,
         None => false,
     }
 }

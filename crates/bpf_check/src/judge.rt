@@ -4,15 +4,16 @@ ghost use Rattle.std.specs.Prelude.{◌≡◌, ◌+◌, ◌*◌, ◌^◌, ◌≤
 ghost use Rattle.std.specs.List.{list_any};
 ghost use Rattle.bpf_cert.specs.View.{label_view};
 ghost use Rattle.bpf_cert.specs.Limits.{is_limited_label};
+ghost use Rattle.bpf_state.specs.State.{AbstractState};
 ghost use Rattle.bpf_state.specs.Answer.{edge_told};
 ghost use Rattle.bpf_safety.specs.Budget.{budget, least_slack};
-ghost use Rattle.bpf_safety.specs.Flow.{label_state, jump_target, jump_state};
+ghost use Rattle.bpf_safety.specs.Flow.{Arrival, label_state, jump_target, jump_state};
 ghost use Rattle.bpf_safety.specs.Flaw.{is_negative_if, is_refused_by, edge_to, enters_wrongly, returns_wrongly, exits_unpaid};
 ghost use Rattle.bpf_check.specs.Slack.{at_label, IsWithin};
 ghost use Rattle.bpf_check.specs.Arrivals.{arrival_of, IsReaching};
 ghost use Rattle.bpf_check.specs.Edges.{visit, unpaid_from, next_of, edges_of};
 
-use crate::arrival::Arrival;
+use crate::arrival::Here;
 use crate::budget::{least_budget, least_slack};
 use crate::edge::{callee, goes_on, jump_target};
 use crate::labels::{function_at, label_at};
@@ -73,44 +74,47 @@ pub fn judge_edge(
 }
 
 /// Whether the state at a callee's entry doesn't lie in the label at its first slot.
-pub fn enters_wrongly(certificate: &Certificate, slot: u32, insn: &Insn, arrival: &Arrival) -> bool
+pub fn enters_wrongly(
+    certificate: &Certificate,
+    slot: u32,
+    insn: &Insn,
+    state: &State,
+    aside: &mut State,
+) -> bool
     requires { slot ≤ 65535 }
-    ensures { result ≡ enters_wrongly certificate.now (visit slot insn.now) (arrival_of arrival.now) }
+    ensures { (a : Arrival) → a.state ≡ state.now → result ≡ enters_wrongly certificate.now (visit slot insn.now) a }
 {
     let Some(function) = callee(certificate, slot, insn) else {
         return false;
     };
     match label_at(certificate, function.first) {
         Some(label) => {
-            let mut entry = arrival.state.copy();
-            enter(&mut entry);
-            !entry.entails(&label.state)
+            aside.copy_from(state);
+            enter(aside);
+            !aside.entails(&label.state)
         }
         None => false,
     }
 }
 
 /// Whether the result at EXIT doesn't lie in what the function returns.
-pub fn returns_wrongly(certificate: &Certificate, slot: u32, insn: &Insn, arrival: &Arrival) -> bool
-    ensures { result ≡ returns_wrongly certificate.now (visit slot insn.now) (arrival_of arrival.now) insn.now }
+pub fn returns_wrongly(certificate: &Certificate, slot: u32, insn: &Insn, state: &State) -> bool
+    ensures { (a : Arrival) → a.state ≡ state.now → result ≡ returns_wrongly certificate.now (visit slot insn.now) a insn.now }
 {
     let Insn::Exit = *insn else {
         return false;
     };
     match function_at(certificate, slot) {
-        Some(function) => !arrival
-            .state
-            .reg(Reg::R0)
-            .entails(RegState::Num(function.ret)),
+        Some(function) => !state.reg(Reg::R0).entails(RegState::Num(function.ret)),
         None => false,
     }
 }
 
 /// Whether the budget at the last label doesn't cover the cost at EXIT.
-pub fn exits_unpaid(slot: u32, insn: &Insn, arrival: &Arrival, cost: Option<i128>) -> bool
-    requires valid { IsReaching slot arrival.now }
+pub fn exits_unpaid(slot: u32, insn: &Insn, here: &Here, cost: Option<i128>) -> bool
+    requires valid { IsReaching slot here.now }
     requires cost { IfSome cost (λ z. IsWithin (2 ^ 112) z) }
-    ensures { result ≡ exits_unpaid (visit slot insn.now) (arrival_of arrival.now) cost insn.now }
+    ensures { (s : AbstractState) → result ≡ exits_unpaid (visit slot insn.now) (arrival_of s here.now) cost insn.now }
 {
     let Insn::Exit = *insn else {
         return false;
@@ -118,7 +122,7 @@ pub fn exits_unpaid(slot: u32, insn: &Insn, arrival: &Arrival, cost: Option<i128
     let Some(spent) = cost else {
         return false;
     };
-    match least_budget(arrival.label) {
+    match least_budget(here.label) {
         Some(least) => least - spent < 0,
         None => false,
     }
@@ -130,6 +134,7 @@ pub fn judge_jump(
     slot: u32,
     insn: &Insn,
     state: &State,
+    aside: &mut State,
     old: &Label,
     cost: Option<i128>,
 ) -> EdgeFlaws
@@ -150,9 +155,9 @@ pub fn judge_jump(
     let Insn::JumpIf { .. } = *insn else {
         return judge_edge(certificate, to, state, old, cost);
     };
-    let mut taken = state.copy();
-    if branch(insn, true, &mut taken) {
-        judge_edge(certificate, to, &taken, old, cost)
+    aside.copy_from(state);
+    if branch(insn, true, aside) {
+        judge_edge(certificate, to, aside, old, cost)
     } else {
         none
     }
@@ -180,6 +185,7 @@ pub fn judge_edges(
     slot: u32,
     insn: &Insn,
     state: &mut State,
+    aside: &mut State,
     old: &Label,
     cost: Option<i128>,
 ) -> (EdgeFlaws, bool)
@@ -191,7 +197,7 @@ pub fn judge_edges(
     ensures unpaid { result.0.unpaid ≡ list_any (unpaid_from certificate.now (label_view old.now) cost) (edges_of certificate.now slot insn.now state.old) }
     ensures goes { edge_told result.1 state.new ≡ next_of certificate.now slot insn.now state.old }
 {
-    let jump = judge_jump(certificate, slot, insn, state, old, cost);
+    let jump = judge_jump(certificate, slot, insn, state, aside, old, cost);
     if !go_to_next(certificate, slot, insn, state) {
         return (jump, false);
     }

@@ -30,6 +30,10 @@ fn label_among(labels: &[Label], slot: u32) -> Option<&Label>
     requires { IsTrue (is_rising slot_before (map label_view labels.now)) }
     ensures { option_map label_view (option_copied result) ≡ first_with (λ l. l.slot == slot) (map label_view labels.now) }
 {
+    // Most functions' labels lie all below the slot or all above it.
+    if labels.is_empty() || slot < labels[0].slot || labels[labels.len() - 1].slot < slot {
+        return None;
+    }
     let Some(label) = last_label(labels, slot) else {
         return None;
     };

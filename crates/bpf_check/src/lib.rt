@@ -7,16 +7,12 @@ mod checked;
 mod checker;
 mod edge;
 mod judge;
-#[cfg(test)]
-mod judgements;
 mod labels;
 mod least;
 mod pass;
 mod refusal;
 mod shape;
 mod start;
-#[cfg(test)]
-mod tests;
 mod verifier;
 mod visit;
 

@@ -7,7 +7,7 @@ ghost use Rattle.bpf_safety.specs.Flaw.{at, numbers_of_visit};
 ghost use Rattle.bpf_check.specs.Least.{IsLeastIn};
 ghost use Rattle.bpf_check.specs.RefusalNumbers.{flaw_of};
 
-use crate::arrival::Arrival;
+use crate::arrival::Walk;
 use crate::refusal::Refusal;
 use crate::visit::visit;
 use bpf_cert::Certificate;
@@ -19,13 +19,12 @@ pub fn visit_flaw<P: Code>(program: &P, certificate: &Certificate) -> Option<Ref
 {
     let _ = program.slots();
     let mut slot = 0;
-    let mut passed: Option<Arrival> = None;
+    let mut walk = Walk::new();
     'visits: while let Some(insn) = program.insn(slot) {
-        let visited = visit(program, certificate, slot, &insn, passed);
-        if visited.refusal.is_some() {
-            return visited.refusal;
+        let refusal = visit(program, certificate, slot, &insn, &mut walk);
+        if refusal.is_some() {
+            return refusal;
         }
-        passed = visited.passed;
         slot += insn.slots();
     }
     None

@@ -1,6 +1,6 @@
 //! Whether a certificate's functions and labels fit each other and the program.
 
-ghost use Rattle.std.specs.Prelude.{◌≡◌, ◌||◌, flat_map, option_map, is_none, IsTrue};
+ghost use Rattle.std.specs.Prelude.{◌≡◌, ◌||◌, flat_map, option_map, option_copied, is_none, IsTrue};
 ghost use Rattle.std.specs.List.{list_any};
 ghost use Rattle.bpf_state.specs.State.{tightened};
 ghost use Rattle.bpf_cert.specs.View.{label_view, function_view};
@@ -18,9 +18,9 @@ use bpf_insn::Code;
 use bpf_state::State;
 
 /// In a label's state the number that a term counts up may be above its limit.
-fn is_bad_limit(tight: &Option<State>, term: &Term) -> bool
+fn is_bad_limit(tight: Option<&State>, term: &Term) -> bool
     requires { IsTrue (is_limited_term term.now) }
-    ensures { result ≡ is_bad_limit tight.now term.now.measure term.now }
+    ensures { result ≡ is_bad_limit (option_copied tight.entry) term.now.measure term.now }
 {
     let Some(state) = tight else {
         return false;
@@ -35,17 +35,17 @@ fn is_bad_limit(tight: &Option<State>, term: &Term) -> bool
 }
 
 /// A term's place is no number, or may be above the term's limit.
-fn is_bad_term(label: &Label, tight: &Option<State>, term: &Term) -> bool
+fn is_bad_term(label: &Label, tight: Option<&State>, term: &Term) -> bool
     requires limited { IsTrue (is_limited_term term.now) }
-    requires state { tight.now ≡ tightened label.now.state }
+    requires state { option_copied tight ≡ tightened label.now.state }
     ensures { result ≡ is_bad_term (label_view label.now) term.now }
 {
     bounds(&label.state, term).is_none() || is_bad_limit(tight, term)
 }
 
-fn has_bad_term(label: &Label, tight: &Option<State>) -> bool
+fn has_bad_term(label: &Label, tight: Option<&State>) -> bool
     requires limited { IsTrue (is_limited_label (label_view label.now)) }
-    requires state { tight.now ≡ tightened label.now.state }
+    requires state { option_copied tight ≡ tightened label.now.state }
     ensures { result ≡ list_any (is_bad_term (label_view label.now)) (label_view label.now).terms }
 {
     let terms = label.budget.terms.as_slice();
@@ -72,9 +72,9 @@ fn is_misshapen(
     certificate: &Certificate,
     function: &Function,
     label: &Label,
-    tight: &Option<State>,
+    tight: Option<&State>,
 ) -> bool
-    requires { tight.now ≡ tightened label.now.state }
+    requires { option_copied tight ≡ tightened label.now.state }
     ensures { result ≡ (is_outside certificate.now (function_view function.now) (label_view label.now) || is_none (tightened label.now.state)) }
 {
     is_outside(certificate, function, label) || tight.is_none()
@@ -90,24 +90,44 @@ fn is_first_label(function: &Function) -> bool
     }
 }
 
-/// The least flaw of a label: C2, C9 or C13 at its slot.
+/// The least flaw of a label, from its state tightened: C2, C9 or C13 at its slot.
 fn flaw_of_label<C: Code>(
     program: &C,
     certificate: &Certificate,
     function: &Function,
     label: &Label,
+    tight: Option<&State>,
 ) -> Option<Refusal>
-    requires { IsTrue (is_limited_label (label_view label.now)) }
+    requires limited { IsTrue (is_limited_label (label_view label.now)) }
+    requires state { option_copied tight ≡ tightened label.now.state }
     ensures { IsLeastIn (at label.now.slot (numbers_of_label (C.program program.now) certificate.now (function_view function.now) (label_view label.now))) (option_map flaw_of result) }
 {
-    let tight = label.state.tightened();
     let is_misplaced = program.insn(label.slot).is_none();
-    let is_bad = has_bad_term(label, &tight);
-    let is_misshapen = is_misshapen(certificate, function, label, &tight);
+    let is_bad = has_bad_term(label, tight);
+    let is_misshapen = is_misshapen(certificate, function, label, tight);
     let misplaced = refused_if(is_misplaced, label.slot, Cause::MisplacedLabel);
     let bad = refused_if(is_bad, label.slot, Cause::OverBudget);
     let misshapen = refused_if(is_misshapen, label.slot, Cause::Misshapen);
     lesser(lesser(misplaced, bad), misshapen)
+}
+
+/// The least flaw of a label, with room for its state tightened.
+fn judge_label<C: Code>(
+    program: &C,
+    certificate: &Certificate,
+    function: &Function,
+    label: &Label,
+    room: &mut State,
+) -> Option<Refusal>
+    requires { IsTrue (is_limited_label (label_view label.now)) }
+    ensures { IsLeastIn (at label.now.slot (numbers_of_label (C.program program.now) certificate.now (function_view function.now) (label_view label.now))) (option_map flaw_of result) }
+{
+    room.copy_from(&label.state);
+    if room.tighten() {
+        flaw_of_label(program, certificate, function, label, Some(room))
+    } else {
+        flaw_of_label(program, certificate, function, label, None)
+    }
 }
 
 /// The least flaw of a function's labels.
@@ -115,6 +135,7 @@ fn flaw_of_labels<C: Code>(
     program: &C,
     certificate: &Certificate,
     function: &Function,
+    room: &mut State,
 ) -> Option<Refusal>
     requires { IsTrue (is_limited_function (function_view function.now)) }
     ensures { IsLeastIn (flat_map (λ l. at l.slot (numbers_of_label (C.program program.now) certificate.now (function_view function.now) l)) (function_view function.now).labels) (option_map flaw_of result) }
@@ -122,7 +143,8 @@ fn flaw_of_labels<C: Code>(
     let mut least = None;
     let labels = function.labels.as_slice();
     for label in labels {
-        least = lesser(least, flaw_of_label(program, certificate, function, label));
+        let flaw = judge_label(program, certificate, function, label, room);
+        least = lesser(least, flaw);
     }
     least
 }
@@ -132,12 +154,16 @@ fn flaw_of_function<C: Code>(
     program: &C,
     certificate: &Certificate,
     function: &Function,
+    room: &mut State,
 ) -> Option<Refusal>
     requires { IsTrue (is_limited_function (function_view function.now)) }
     ensures { IsLeastIn (function_flaws (C.program program.now) certificate.now (function_view function.now)) (option_map flaw_of result) }
 {
     let misshapen = refused_if(!is_first_label(function), function.first, Cause::Misshapen);
-    lesser(misshapen, flaw_of_labels(program, certificate, function))
+    lesser(
+        misshapen,
+        flaw_of_labels(program, certificate, function, room),
+    )
 }
 
 /// The least flaw of functions and labels: C2, C9 or C13 at a label, or C13 where a function begins.
@@ -145,10 +171,12 @@ pub fn label_flaw<C: Code>(program: &C, certificate: &Certificate) -> Option<Ref
     ensures { IsLeastIn (flat_map (function_flaws (C.program program.now) certificate.now) certificate.now.functions) (option_map flaw_of result) }
 {
     certificate.valid();
+    let mut room = State::blank();
     let mut least = None;
     let functions = certificate.functions();
     for function in functions {
-        least = lesser(least, flaw_of_function(program, certificate, function));
+        let flaw = flaw_of_function(program, certificate, function, &mut room);
+        least = lesser(least, flaw);
     }
     least
 }

@@ -1,7 +1,8 @@
 //! Images and certificates from outside.
 
-ghost use Rattle.std.specs.Prelude.{◌≡◌, IfOk, IfErr, IfSome};
-ghost use Rattle.bpf_check.specs.Verdicts.{Verified, Promises, IsRefusedBy};
+ghost use Rattle.std.specs.Prelude.{◌≡◌, IfOk, IfErr, IfSome, MatchResult};
+ghost use Rattle.bpf_cert.specs.View.{CertificateView};
+ghost use Rattle.bpf_check.specs.Verdicts.{Verified, Promises, IsRefusedBy, Certifies, IsUnread};
 
 use crate::checker::check;
 use crate::refusal::Refusal;
@@ -49,6 +50,7 @@ pub fn verify<R: Read + Drop>(
     ensures ok { IfOk result (λ v. Verified image.now v.length v.bound) }
     ensures promised { IfOk result (λ v. IfSome (R.remaining certificate) (λ text. Promises text v.length v.bound)) }
     ensures err { IfErr result (λ e. IfSome (R.remaining certificate) (λ text. IsRefusedBy image.now text e)) }
+    ensures accepts { IfSome (R.remaining certificate) (λ text. (c : CertificateView) → Certifies image.now text c → MatchResult result (λ v. (v.length ≡ c.len) × (v.bound ≡ c.steps)) IsUnread) }
 {
     image_is_injective();
     never_both();

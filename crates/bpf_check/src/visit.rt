@@ -1,6 +1,6 @@
 //! Visits: each instruction with what reaches it.
 
-ghost use Rattle.std.specs.Prelude.{◌≡◌, ◌+◌, ◌≤◌, option_map, IfSome, IfOk, IfErr, Some};
+ghost use Rattle.std.specs.Prelude.{◌≡◌, ◌+◌, ◌≤◌, option_map, IfSome, IfOk, IfErr, Some, None};
 ghost use Rattle.bpf_insn.specs.Instruction.{slot_count};
 ghost use Rattle.bpf_state.specs.Fault.{fault_of};
 ghost use Rattle.bpf_state.specs.Answer.{fault_number};
@@ -8,10 +8,10 @@ ghost use Rattle.bpf_safety.specs.Flow.{arrives};
 ghost use Rattle.bpf_safety.specs.Flaw.{at, numbers_of_visit};
 ghost use Rattle.bpf_check.specs.Least.{IsLeastIn};
 ghost use Rattle.bpf_check.specs.RefusalNumbers.{cause_number, flaw_of};
-ghost use Rattle.bpf_check.specs.Arrivals.{arrival_of, IsReaching};
+ghost use Rattle.bpf_check.specs.Arrivals.{arrival_of, walk_of, IsReaching};
 ghost use Rattle.bpf_check.specs.Visits.{IsJudged, numbers_with, passed_with, never_reached, visit_of};
 
-use crate::arrival::{Arrival, arrival_at, cost_after};
+use crate::arrival::{Here, Walk, cost_after, start_at};
 use crate::edge::{calls_no_deeper, lacks_label, leaves_function};
 use crate::judge::{enters_wrongly, exits_unpaid, judge_edges, returns_wrongly};
 use crate::labels::label_at;
@@ -21,72 +21,71 @@ use bpf_cert::Certificate;
 use bpf_insn::{Code, Insn};
 use bpf_state::{StateFault, transfer};
 
-/// What is found of an instruction that a state reaches, and what goes on to the next instruction.
-#[derive(Drop)]
-pub struct Judged<'a> {
-    pub passed: Option<Arrival<'a>>,
+/// What is found of an instruction that a state reaches.
+#[derive(Clone, Copy)]
+pub struct Judged {
     pub not_entailed: bool,
     pub over_budget: bool,
     pub past_end: bool,
 }
 
-/// Judges an instruction that a state reaches: C3 to C7 if it isn't allowed there.
+/// Judges an instruction that a state reaches, and makes the walk what goes on from it: C3 to C7 if it isn't allowed there.
 fn judge<'a, P: Code>(
     program: &P,
     certificate: &'a Certificate,
     slot: u32,
     insn: &Insn,
-    arrival: Arrival<'a>,
-) -> Result<Judged<'a>, StateFault>
-    requires here { slot ≤ 65535 }
-    requires valid { IsReaching slot arrival }
-    ensures ok { IfOk result (λ j. IsJudged (P.program program.now) certificate.now slot insn.now (arrival_of arrival.entry) j) }
-    ensures err { IfErr result (λ e. fault_of certificate.now.len arrival.entry.state insn.now ≡ Some (fault_number e)) }
+    here: Here<'a>,
+    walk: &mut Walk<'a>,
+) -> Result<Judged, StateFault>
+    requires slot { slot ≤ 65535 }
+    requires valid { IsReaching slot here }
+    ensures ok { IfOk result (λ j. IsJudged (P.program program.now) certificate.now slot insn.now (arrival_of walk.old.state here.entry) walk.new j) }
+    ensures err { IfErr result (λ e. fault_of certificate.now.len walk.old.state insn.now ≡ Some (fault_number e)) }
+    ensures stops { IfErr result (λ e. walk.new.here ≡ None) }
 {
     let last = slot + insn.slots() == program.slots();
-    let cost = cost_after(certificate, slot, insn, &arrival);
-    let exits = exits_unpaid(slot, insn, &arrival, cost);
-    let enters = enters_wrongly(certificate, slot, insn, &arrival);
-    let returns = returns_wrongly(certificate, slot, insn, &arrival);
-    let Arrival {
-        mut state,
-        label,
-        cost: _,
-    } = arrival;
-    let alive = match transfer(insn, certificate.len(), &mut state) {
+    let cost = cost_after(certificate, slot, insn, &here, &walk.state);
+    let exits = exits_unpaid(slot, insn, &here, cost);
+    let enters = enters_wrongly(certificate, slot, insn, &walk.state, &mut walk.aside);
+    let returns = returns_wrongly(certificate, slot, insn, &walk.state);
+    walk.here = None;
+    let alive = match transfer(insn, certificate.len(), &mut walk.state) {
         Ok(alive) => alive,
         Err(fault) => return Err(fault),
     };
     if !alive {
         return Ok(Judged {
-            passed: None,
             not_entailed: enters | returns,
             over_budget: exits,
             past_end: false,
         });
     }
-    let (flaws, goes) = judge_edges(certificate, slot, insn, &mut state, label, cost);
+    let (flaws, goes) = judge_edges(
+        certificate,
+        slot,
+        insn,
+        &mut walk.state,
+        &mut walk.aside,
+        here.label,
+        cost,
+    );
     if !goes {
         return Ok(Judged {
-            passed: None,
             not_entailed: flaws.refused | enters | returns,
             over_budget: flaws.unpaid | exits,
             past_end: false,
         });
     }
+    walk.here = Some(Here {
+        label: here.label,
+        cost,
+    });
     Ok(Judged {
-        passed: Some(Arrival { state, label, cost }),
         not_entailed: flaws.refused | enters | returns,
         over_budget: flaws.unpaid | exits,
         past_end: last,
     })
-}
-
-/// What is found of an instruction, and what goes on to the next one.
-#[derive(Drop)]
-pub struct Visited<'a> {
-    pub refusal: Option<Refusal>,
-    pub passed: Option<Arrival<'a>>,
 }
 
 /// The cause that a fault of registers and memory is.
@@ -102,90 +101,68 @@ fn cause_of(fault: StateFault) -> Cause
     }
 }
 
-/// Visits an instruction with what reaches it, as far as a state is judged.
+/// Visits an instruction with what reaches it, as far as a state is judged, and makes the walk what goes on from it.
 fn visit_arrival<'a, P: Code>(
     program: &P,
     certificate: &'a Certificate,
     slot: u32,
     insn: &Insn,
-    here: Option<Arrival<'a>>,
-) -> Visited<'a>
+    walk: &mut Walk<'a>,
+) -> Option<Refusal>
     requires slot { slot ≤ 65535 }
-    requires valid { IfSome here (λ a. IsReaching slot a) }
-    ensures refusal { IsLeastIn (at slot (numbers_with (P.program program.now) certificate.now slot insn.now (option_map arrival_of here.entry))) (option_map flaw_of result.refusal) }
-    ensures passed { option_map arrival_of result.passed ≡ passed_with (P.program program.now) certificate.now slot insn.now (option_map arrival_of here.entry) }
-    ensures valid { IfSome result.passed (λ a. IsReaching (slot + slot_count insn.now) a) }
+    requires valid { IfSome walk.old.here (λ h. IsReaching slot h) }
+    ensures refusal { IsLeastIn (at slot (numbers_with (P.program program.now) certificate.now slot insn.now (walk_of walk.old))) (option_map flaw_of result) }
+    ensures passed { walk_of walk.new ≡ passed_with (P.program program.now) certificate.now slot insn.now (walk_of walk.old) }
+    ensures valid { IfSome walk.new.here (λ h. IsReaching (slot + slot_count insn.now) h) }
 {
-    let Some(arrival) = here else {
-        return Visited {
-            refusal: None,
-            passed: None,
-        };
+    let Some(here) = walk.here else {
+        return None;
     };
-    match judge(program, certificate, slot, insn, arrival) {
-        Err(fault) => Visited {
-            refusal: refused_if(true, slot, cause_of(fault)),
-            passed: None,
-        },
+    match judge(program, certificate, slot, insn, here, walk) {
+        Err(fault) => refused_if(true, slot, cause_of(fault)),
         Ok(judged) => {
             let state = refused_if(judged.not_entailed, slot, Cause::NotEntailed);
             let budget = refused_if(judged.over_budget, slot, Cause::OverBudget);
             let end = refused_if(judged.past_end, slot, Cause::FallsOff);
-            Visited {
-                refusal: lesser(lesser(state, budget), end),
-                passed: judged.passed,
-            }
+            lesser(lesser(state, budget), end)
         }
     }
 }
 
-/// What reaches an instruction, and whether nothing does and nothing else is wrong with it.
-#[derive(Drop)]
-struct Reached<'a> {
-    arrival: Option<Arrival<'a>>,
-    is_never: bool,
-}
-
-/// What reaches a slot: a label's own state, or what goes on from the instruction before.
-fn arrive<'a>(certificate: &'a Certificate, slot: u32, passed: Option<Arrival<'a>>) -> Reached<'a>
-    requires { IfSome passed (λ a. IsReaching slot a) }
-    ensures arrival { option_map arrival_of result.arrival ≡ arrives certificate.now slot (option_map arrival_of passed.entry) }
-    ensures valid { IfSome result.arrival (λ a. IsReaching slot a) }
-    ensures never { result.is_never ≡ never_reached certificate.now slot (option_map arrival_of passed.entry) }
+/// Makes the walk what reaches a slot: a label's own state, or what goes on from the instruction before. True if nothing
+/// does and no label stands there.
+fn arrive<'a>(certificate: &'a Certificate, slot: u32, walk: &mut Walk<'a>) -> bool
+    requires { IfSome walk.old.here (λ h. IsReaching slot h) }
+    ensures arrival { walk_of walk.new ≡ arrives certificate.now slot (walk_of walk.old) }
+    ensures valid { IfSome walk.new.here (λ h. IsReaching slot h) }
+    ensures never { result ≡ never_reached certificate.now slot (walk_of walk.old) }
 {
     match label_at(certificate, slot) {
-        Some(label) => Reached {
-            arrival: arrival_at(label),
-            is_never: false,
-        },
-        None => {
-            let is_never = passed.is_none();
-            Reached {
-                arrival: passed,
-                is_never,
-            }
+        Some(label) => {
+            start_at(label, walk);
+            false
         }
+        None => walk.here.is_none(),
     }
 }
 
-/// Visits an instruction with what goes on to it from the one before.
+/// Visits an instruction with what goes on to it from the one before, and makes the walk what goes on from it.
 pub fn visit<'a, P: Code>(
     program: &P,
     certificate: &'a Certificate,
     slot: u32,
     insn: &Insn,
-    passed: Option<Arrival<'a>>,
-) -> Visited<'a>
+    walk: &mut Walk<'a>,
+) -> Option<Refusal>
     requires slot { slot ≤ 65535 }
-    requires valid { IfSome passed (λ a. IsReaching slot a) }
-    ensures refusal { IsLeastIn (at slot (numbers_of_visit (P.program program.now) certificate.now (visit_of certificate.now slot insn.now (option_map arrival_of passed.entry)))) (option_map flaw_of result.refusal) }
-    ensures passed { option_map arrival_of result.passed ≡ passed_with (P.program program.now) certificate.now slot insn.now (arrives certificate.now slot (option_map arrival_of passed.entry)) }
-    ensures valid { IfSome result.passed (λ a. IsReaching (slot + slot_count insn.now) a) }
+    requires valid { IfSome walk.old.here (λ h. IsReaching slot h) }
+    ensures refusal { IsLeastIn (at slot (numbers_of_visit (P.program program.now) certificate.now (visit_of certificate.now slot insn.now (walk_of walk.old)))) (option_map flaw_of result) }
+    ensures passed { walk_of walk.new ≡ passed_with (P.program program.now) certificate.now slot insn.now (arrives certificate.now slot (walk_of walk.old)) }
+    ensures valid { IfSome walk.new.here (λ h. IsReaching (slot + slot_count insn.now) h) }
 {
-    let reached = arrive(certificate, slot, passed);
-    let Reached { arrival, is_never } = reached;
+    let is_never = arrive(certificate, slot, walk);
     let label = refused_if(lacks_label(certificate, slot, insn), slot, Cause::NoLabel);
-    let visited = visit_arrival(program, certificate, slot, insn, arrival);
+    let refusal = visit_arrival(program, certificate, slot, insn, walk);
     let depth = refused_if(
         calls_no_deeper(certificate, slot, insn),
         slot,
@@ -194,12 +171,8 @@ pub fn visit<'a, P: Code>(
     let never = refused_if(is_never, slot, Cause::FallsOff);
     let leaves = leaves_function(program, certificate, slot, insn);
     let elsewhere = refused_if(leaves, slot, Cause::LeavesFunction);
-    let Visited { refusal, passed } = visited;
-    Visited {
-        refusal: lesser(
-            lesser(lesser(lesser(label, refusal), depth), never),
-            elsewhere,
-        ),
-        passed,
-    }
+    lesser(
+        lesser(lesser(lesser(label, refusal), depth), never),
+        elsewhere,
+    )
 }

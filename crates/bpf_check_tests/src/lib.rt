@@ -8,4 +8,6 @@ mod flat;
 #[cfg(test)]
 mod proposals;
 #[cfg(test)]
+mod refused;
+#[cfg(test)]
 mod verdicts;

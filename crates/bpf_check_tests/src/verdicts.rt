@@ -1,12 +1,14 @@
 //! What `verify` and `check` answer, and how the accepted programs run.
 
-use crate::examples::{ACCEPTED, REFUSED};
+use crate::examples::{Answer, Example, Run, tables};
 use crate::flat::{Placement, run_flat};
 use bpf_cert::{Certificate, read};
-use bpf_check::{VerifyError, check, verify};
+use bpf_check::{Checked, VerifyError, check, verify};
 use bpf_insn::{Code, Program, ProgramView, encode};
+use bpf_machine::{Outcome, run};
 use bpf_text::assemble;
 use std::alloc::Global;
+use std::process::Abort;
 use std::test::Fail;
 
 /// The refusal's number and slot; 0 and the bound where there is none.
@@ -27,7 +29,8 @@ fn verdict_of_image(alloc: Global, image: &[u8], certificate: &[u8]) -> Verdict 
     }
 }
 
-fn image_of(alloc: Global, program: &Program) -> Result<Vec<u8>, Fail> {
+/// The image of a program.
+pub fn image_of(alloc: Global, program: &Program) -> Result<Vec<u8>, Fail> {
     let mut image = Vec::new(alloc);
     encode(program, &mut image)?;
     Ok(image)
@@ -46,24 +49,45 @@ fn verdicts_on(alloc: Global, text: &str, certificate: &str) -> Result<[Verdict;
     ])
 }
 
-#[test]
-fn certified_programs_are_accepted(rt: HostRuntime) -> Result<(), Fail> {
-    for (text, certificate, bound, _, _) in ACCEPTED {
+fn assert_answers(rt: &(impl Abort + Alloc<A = Global>), table: &[Example]) -> Result<(), Fail> {
+    for (shows, text, certificate, answer, _) in table {
+        let want = match *answer {
+            Answer::Yes(bound) => (0, bound),
+            Answer::No(number, slot) => (number, slot),
+        };
         for verdict in verdicts_on(rt.alloc(), text, certificate)? {
-            assert_eq!(rt; verdict, (0, bound), "{text}{certificate}");
+            assert_eq!(rt; verdict, want, "{shows}");
         }
     }
     Ok(())
 }
 
 #[test]
-fn others_are_refused_at_the_slot(rt: HostRuntime) -> Result<(), Fail> {
-    for (text, certificate, number, slot) in REFUSED {
-        for verdict in verdicts_on(rt.alloc(), text, certificate)? {
-            assert_eq!(rt; verdict, (number, slot), "{text}{certificate}");
-        }
+fn answers_are_as_worked_out(rt: HostRuntime) -> Result<(), Fail> {
+    for table in tables() {
+        assert_answers(&rt, table)?;
     }
     Ok(())
+}
+
+/// The result of a run, and the instructions done.
+pub fn counted<C: Code>(program: &C, context: &[u8], fuel: u64) -> Option<(u64, u64)> {
+    if context.len() > 4096 {
+        return None;
+    }
+    match run(program, context, fuel) {
+        Outcome::Done { value, steps } => Some((value, steps)),
+        Outcome::Fault { .. } | Outcome::OutOfFuel => None,
+    }
+}
+
+/// The number of a checked run, if the context is as long as it must be.
+pub fn result_of<C: Code>(checked: &Checked<'_, C>, context: &[u8]) -> Option<u64> {
+    if checked.length() as usize == context.len() {
+        Some(checked.run(context))
+    } else {
+        None
+    }
 }
 
 /// The context at address 0, and the frames far above; and the context near the end, the frames side by side.
@@ -72,29 +96,63 @@ const PLACES: [(u64, u64, u64); 2] = [
     (0xffff_ffff_ffff_0000, 0x7fff_ffff_ffff_f000, 512),
 ];
 
+/// Whether the machine on plain addresses ends with the value too, wherever all lies and whatever is free there.
+fn is_flat_result(
+    alloc: Global,
+    program: &Program,
+    context: &[u8],
+    value: u64,
+    steps: u64,
+) -> Result<bool, Fail> {
+    let bound = u32::try_from(steps).unwrap_or(u32::MAX);
+    for (at, frames, apart) in PLACES {
+        for fill in [0x00, 0xff] {
+            let place = Placement {
+                context: at,
+                frames,
+                apart,
+                fill,
+            };
+            if run_flat(alloc, program, place, context, bound)? != Some(value) {
+                return Ok(false);
+            }
+        }
+    }
+    Ok(true)
+}
+
+/// A checked run, the machine within the bound, and the flat machines end with the row's number.
+fn assert_run(rt: &(impl Abort + Alloc<A = Global>), row: &Example, run: &Run) -> Result<(), Fail> {
+    let (shows, text, certificate, _, _) = *row;
+    let (context, value, steps) = *run;
+    let program = assemble(rt.alloc(), text)?;
+    let read = read(rt.alloc(), certificate.as_bytes())?;
+    match check(&program, &read) {
+        Ok(checked) => {
+            assert_eq!(rt; result_of(&checked, context), Some(value), "{shows}");
+            let counted = counted(&program, context, u64::from(checked.bound()));
+            assert_eq!(rt; counted, Some((value, steps)), "{shows}");
+        }
+        Err(_) => panic!(rt; "{shows}"),
+    }
+    let flat = is_flat_result(rt.alloc(), &program, context, value, steps)?;
+    assert!(rt; flat, "{shows}");
+    Ok(())
+}
+
+fn assert_runs(rt: &(impl Abort + Alloc<A = Global>), table: &[Example]) -> Result<(), Fail> {
+    for row in table {
+        for run in row.4 {
+            assert_run(rt, row, run)?;
+        }
+    }
+    Ok(())
+}
+
 #[test]
 fn all_machines_give_the_number(rt: HostRuntime) -> Result<(), Fail> {
-    for (text, certificate, bound, context, value) in ACCEPTED {
-        let program = assemble(rt.alloc(), text)?;
-        let read = read(rt.alloc(), certificate.as_bytes())?;
-        match check(&program, &read) {
-            Ok(checked) if checked.length() as usize == context.len() => {
-                assert_eq!(rt; checked.run(context), value, "{text}");
-            }
-            _ => panic!(rt; "{text}"),
-        }
-        for (at, frames, apart) in PLACES {
-            for fill in [0x00, 0xff] {
-                let place = Placement {
-                    context: at,
-                    frames,
-                    apart,
-                    fill,
-                };
-                let flat = run_flat(rt.alloc(), &program, place, context, bound.min(1000))?;
-                assert_eq!(rt; flat, Some(value), "{text}");
-            }
-        }
+    for table in tables() {
+        assert_runs(&rt, table)?;
     }
     Ok(())
 }

@@ -1,4 +1,4 @@
-use Rattle.std.proofs.Common.{◌≡◌, rules, sym, subst, ◌≤◌, arith, ◌∙◌, inl, inr, ℕ, ◌⊎◌}
+use Rattle.std.proofs.Common.{◌≡◌, sym, subst, ◌≤◌, arith, ◌∙◌, inl, inr}
 use Rattle.bpf_machine.specs.declared.outcome.Outcome.{Outcome}
 use Rattle.bpf_machine.specs.Answers.{IsRun}
 use Rattle.bpf_check.proofs.Promise.{ends, runs_to, not_fault, not_out}

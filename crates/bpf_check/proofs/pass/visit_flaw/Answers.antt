@@ -7,7 +7,7 @@ use Rattle.bpf_cert.specs.View.{CertificateView}
 use Rattle.bpf_safety.specs.Flow.{Arrival, visits}
 use Rattle.std.specs.List.{flat_map}
 use Rattle.bpf_check.specs.declared.refusal.Refusal.{Refusal}
-use Rattle.bpf_check.specs.Arrivals.{arrival_of, IsReaching}
+use Rattle.bpf_check.specs.Arrivals.{walk_of, IsReaching}
 use Rattle.bpf_check.specs.Least.{IsLeastIn}
 use Rattle.bpf_check.specs.RefusalNumbers.{flaw_of}
 use Rattle.bpf_check.specs.Visits.{visit_of}
@@ -24,17 +24,17 @@ not_refused xs (Some r) none h = absurd (true≢false none)
 
 pub returns-then-is_some : goal.returns-then-is_some
 returns-then-is_some g c =
-    let some : is_some c.visit-visited.result.refusal ≡ true = search rules in
-    refused_here (g.P.Code.program c.args.program.now) c.args.certificate.now c.visits.slot (option_map arrival_of c.visits.passed) c.in-Some.insn c.visit-visited.result.refusal c.visits.invariant.here c.in-Some.ensures some c.visit-visited.ensures.refusal
+    let some : is_some c.visit-refusal.result ≡ true = search rules in
+    refused_here (g.P.Code.program c.args.program.now) c.args.certificate.now c.visits.slot (walk_of c.visits.walk) c.in-Some.insn c.visit-refusal.result c.visits.invariant.here c.in-Some.ensures some c.visit-refusal.ensures.refusal
 
 pub visits-preserved : goal.visits-preserved
 visits-preserved g c =
-    let none : is_some c.visit-visited.result.refusal ≡ false = search rules in
-    let next = at_next (g.P.Code.program c.args.program.now) c.args.certificate.now c.visits.slot (option_map arrival_of c.visits.passed) (option_map arrival_of c.visit-visited.result.passed) c.in-Some.insn c.visits.invariant.here c.in-Some.ensures (not_refused _ c.visit-visited.result.refusal none c.visit-visited.ensures.refusal) c.visit-visited.ensures.passed in
+    let none : is_some c.visit-refusal.result ≡ false = search rules in
+    let next = at_next (g.P.Code.program c.args.program.now) c.args.certificate.now c.visits.slot (walk_of c.visits.walk) (walk_of c.visit-refusal.new.walk) c.in-Some.insn c.visits.invariant.here c.in-Some.ensures (not_refused _ c.visit-refusal.result none c.visit-refusal.ensures.refusal) c.visit-refusal.ensures.passed in
     record {
-      here = subst (λ n. IsAt (g.P.Code.program c.args.program.now) c.args.certificate.now (c.visits.slot + n) (option_map arrival_of c.visit-visited.result.passed)) (sym c.slots-slot.ensures) next;
-      valid = subst (λ n. IfSome c.visit-visited.result.passed (λ a. IsReaching (c.visits.slot + n) a)) (sym c.slots-slot.ensures) c.visit-visited.ensures.valid;
+      here = subst (λ n. IsAt (g.P.Code.program c.args.program.now) c.args.certificate.now (c.visits.slot + n) (walk_of c.visit-refusal.new.walk)) (sym c.slots-slot.ensures) next;
+      valid = subst (λ n. IfSome c.visit-refusal.new.walk.here (λ h. IsReaching (c.visits.slot + n) h)) (sym c.slots-slot.ensures) c.visit-refusal.ensures.valid;
     }
 
 pub returns : goal.returns
-returns g c = at_last (g.P.Code.program c.args.program.now) c.args.certificate.now c.visits.slot (option_map arrival_of c.visits.passed) c.visits.invariant.here c.in_default.ensures
+returns g c = at_last (g.P.Code.program c.args.program.now) c.args.certificate.now c.visits.slot (walk_of c.visits.walk) c.visits.invariant.here c.in_default.ensures

@@ -1,14 +1,14 @@
 use Rattle.std.proofs.Common.{◌-◌}
-use Rattle.std.specs.Prelude.{option_map, IfSome}
+use Rattle.std.specs.Prelude.{IfSome}
 use Rattle.bpf_insn.specs.Instruction.{slots}
-use Rattle.bpf_check.specs.Arrivals.{arrival_of, IsReaching}
+use Rattle.bpf_check.specs.Arrivals.{walk_of, IsReaching}
 use Rattle.bpf_check.proofs.PassLemmas.{IsAt}
 use Rattle.bpf_check.proofs.pass.visit_flaw.Given as goal
 
 abbrev pub invariant-visits : goal.invariant-visits
 invariant-visits g l = record {
-  here : IsAt (g.P.Code.program l.program) l.certificate l.slot (option_map arrival_of l.passed);
-  valid : IfSome l.passed (λ a. IsReaching l.slot a);
+  here : IsAt (g.P.Code.program l.program) l.certificate l.slot (walk_of l.walk);
+  valid : IfSome l.walk.here (λ h. IsReaching l.slot h);
 }
 
 abbrev pub decreases-visits : goal.decreases-visits

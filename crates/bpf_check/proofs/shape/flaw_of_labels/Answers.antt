@@ -5,13 +5,13 @@ use Rattle.bpf_check.proofs.LoopLimits.{label_limited}
 use Rattle.bpf_check.proofs.LeastLemmas.{least_more, least_of_all}
 use Rattle.bpf_check.proofs.shape.flaw_of_labels.Goals as goal
 
-pub flaw_of_label-requires : goal.flaw_of_label-requires
-flaw_of_label-requires g c = label_limited c.args.function.now c.as_slice-labels.result.now c.loop-label.label-index _ c.requires c.as_slice-labels.ensures.value c.loop-label-test.true c.label-item.is
+pub judge_label-flaw-requires : goal.judge_label-flaw-requires
+judge_label-flaw-requires g c = label_limited c.args.function.now c.as_slice-labels.result.now c.loop-label.label-index _ c.requires c.as_slice-labels.ensures.value c.loop-label-test.true c.label-item.is
 
 pub loop-label-preserved : goal.loop-label-preserved
 loop-label-preserved g c =
     least_more (λ x. at x.slot (numbers_of_label (g.C.Code.program c.args.program.now) c.args.certificate.now (function_view c.args.function.now) x)) label_view c.as_slice-labels.result.now c.loop-label.label-index _ _ c.loop-label-test.true c.label-item.is
-    (c.lesser-least.ensures _ _ c.loop-label.invariant c.flaw_of_label.ensures)
+    (c.lesser-least.ensures _ _ c.loop-label.invariant c.judge_label-flaw.ensures)
 
 pub returns : goal.returns
 returns g c =

@@ -1,7 +1,7 @@
-use Rattle.std.proofs.Common.{◌≡◌, rules, sym, subst, ap, ◌∙◌, arith}
+use Rattle.std.proofs.Common.{sym, subst, ap, ◌∙◌}
 use Rattle.bpf_check.specs.CheckedProgram.{IsCertifiedBy}
 use Rattle.bpf_check.specs.Verdicts.{Verified}
-use Rattle.bpf_check.proofs.Promise.{verified, has_flaw, if_some}
+use Rattle.bpf_check.proofs.Promise.{verified, has_flaw, if_some, not_both}
 use Rattle.bpf_check.proofs.verifier.verify.Goals as goal
 
 pub returns-in-Ok-check-clause-ok : goal.returns-in-Ok-check-clause-ok
@@ -16,3 +16,7 @@ returns-in-Ok-check-clause-ok g c =
 pub returns-clause-err : goal.returns-clause-err
 returns-clause-err g c =
     if_some (g.R.Read.remaining c.args.certificate) (λ text spelled. has_flaw c.args.image.now text c.in-Ok.program c.in-Ok-read.certificate c.in-Err-check.refusal c.in-Ok.ensures.ok.0 c.in-Ok.ensures.ok.1 c.in-Ok.ensures.program spelled c.in-Err-check.ensures.err) c.in-Ok-read.ensures.ok
+
+pub returns-clause-accepts : goal.returns-clause-accepts
+returns-clause-accepts g c =
+    if_some (g.R.Read.remaining c.args.certificate) (λ text same d theirs. not_both c.image_is_injective.ensures c.args.image.now text c.in-Ok.program c.in-Ok-read.certificate d c.in-Err-check.refusal c.in-Ok.ensures.ok.0 c.in-Ok.ensures.ok.1 c.in-Err-check.ensures.err (same d theirs.spelled) theirs) c.in-Ok-read.ensures.accepts

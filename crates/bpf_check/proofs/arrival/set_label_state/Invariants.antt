@@ -1,6 +1,6 @@
 use Rattle.std.proofs.Common.{◌≡◌, ◌≤◌, drop, length}
 use Rattle.bpf_safety.specs.Flow.{with_tags}
-use Rattle.bpf_check.proofs.arrival.label_state.Given as goal
+use Rattle.bpf_check.proofs.arrival.set_label_state.Given as goal
 
 abbrev pub invariant-terms : goal.invariant-terms
 invariant-terms l = record {

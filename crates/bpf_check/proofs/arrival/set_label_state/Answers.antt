@@ -1,7 +1,7 @@
 use Rattle.std.proofs.Common.{◌-◌, ◌<◌, length, arith}
 use Rattle.bpf_cert.specs.View.{label_view}
 use Rattle.bpf_check.proofs.EdgeLemmas.{tagged_place}
-use Rattle.bpf_check.proofs.arrival.label_state.Goals as goal
+use Rattle.bpf_check.proofs.arrival.set_label_state.Goals as goal
 
 pub set_tag-requires : goal.set_tag-requires
 set_tag-requires c =
