@@ -1,8 +1,28 @@
--- What is read of an image at a name.
-use Rattle.std.specs.Prelude.{ℕ, List, Option}
-use Rattle.bpf_insn.specs.Reading.{FailsAfter}
+-- What opening a name gives, and what is read there.
+use Rattle.std.specs.Prelude.{◌≡◌, ◌⊎◌, ℕ, List, Option, Some, None}
+use Rattle.bpf_insn.specs.Reading.{ReadsImage, FailsAfter}
 use Rattle.bpf_insn.specs.declared.refusal.DecodeError.{DecodeError}
 
 -- the reader fails
 abbrev pub Fails : Option (List ℕ) → Type 0
 Fails known = (e : DecodeError) × FailsAfter known e
+
+-- From places, a name leads to the bytes of a reader, as far as they are known, or to None where it can't be opened; and
+-- to the places after it.
+abbrev pub Opening : Type 0 → Type 1
+Opening S = S → List ℕ → Option (Option (List ℕ)) → S → Type 0
+
+-- the same, by what is said of readers
+abbrev pub opening : {S R : Type 0} → (S → List ℕ → Option R → S → Type 0) → (R → Option (List ℕ)) → S → List ℕ → Option (Option (List ℕ)) → S → Type 0
+opening opens remaining old name None new = opens old name None new
+opening {S} {R} opens remaining old name (Some known) new = (reader : R) × opens old name (Some reader) new × (known ≡ remaining reader)
+
+-- an image is read at the name: all its bytes, or the first of too many
+pub record ReadsAt {S : Type 0} (opening : Opening S) (old : S) (name bytes : List ℕ) (new : S) : Type 0 where
+  pub known : Option (List ℕ)
+  pub opened : opening old name (Some known) new
+  pub bytes_are : ReadsImage known bytes
+
+-- the name can't be opened, or its reader fails
+abbrev pub Unreadable : {S : Type 0} → Opening S → S → List ℕ → S → Type 0
+Unreadable opening old name new = opening old name None new ⊎ ((known : Option (List ℕ)) × opening old name (Some known) new × Fails known)

@@ -1,5 +1,5 @@
 -- The line of a failure.
-use Rattle.std.specs.Prelude.{◌≡◌, ◌⊎◌, ◌++◌, ℕ, List, codes}
+use Rattle.std.specs.Prelude.{◌≡◌, ◌⊎◌, ◌++◌, ℕ, List, codes, ⊤}
 use Rattle.bpf.specs.declared.context.ContextError.{ContextError}
 use Rattle.bpf.specs.declared.context.ContextError.TheVariants.{BadHex, TooLong, Memory}
 use Rattle.bpf.specs.declared.failure.Failure.{Failure}
@@ -22,3 +22,10 @@ failure_line failure = failure_text failure ++ codes "\n"
 -- the failure's line, or that there is no memory for it
 abbrev pub IsTold : Failure → List ℕ → Type 0
 IsTold failure line = (line ≡ failure_line failure) ⊎ (line ≡ codes "no memory\n")
+
+-- what a line on standard output can fail of
+abbrev pub OutputFails : Failure → Type 0
+OutputFails (CannotWrite name) = name.now ≡ codes "standard output"
+OutputFails NoMemory = ⊤
+OutputFails (CannotRead name) = ⊥
+OutputFails (BadContext error) = ⊥

@@ -1,9 +1,9 @@
 //! What ends a command before it has an answer, and the statuses.
 
-ghost use Rattle.std.specs.Prelude.{◌≡◌, ◌≤◌, ℕ, List, IfOk, OnOk};
+ghost use Rattle.std.specs.Prelude.{◌≡◌, ◌≤◌, ℕ, List, IfOk, IfErr, OnOk};
 ghost use Rattle.std.specs.String.{string_bytes};
 ghost use Rattle.bpf_insn.specs.Written.{AppendsBeginning};
-ghost use Rattle.bpf.specs.Told.{IsTold, failure_line};
+ghost use Rattle.bpf.specs.Told.{IsTold, OutputFails, failure_line};
 ghost use Rattle.std.specs.Io.KnownBytes.{Appends};
 
 use crate::context::ContextError;
@@ -44,6 +44,11 @@ impl<'a> Failure<'a> {
 }
 
 impl<'a> From<AllocError> for Failure<'a> {
+    ghost use Rattle.std.specs.Prelude.{◌≡◌};
+    ghost use Rattle.bpf.specs.declared.failure.Failure.TheVariants.{NoMemory};
+
+    ghost from_gives = { λ _ failure. failure ≡ NoMemory };
+
     fn from(_error: AllocError) -> Self {
         Failure::NoMemory
     }
@@ -51,7 +56,8 @@ impl<'a> From<AllocError> for Failure<'a> {
 
 /// Writes a line to standard output.
 pub fn say<'a, W: Write>(out: &mut W, line: &str) -> Result<(), Failure<'a>>
-    ensures { OnOk result (Appends (W.contents out.old) (W.contents out.new) line.now) }
+    ensures ok { OnOk result (Appends (W.contents out.old) (W.contents out.new) line.now) }
+    ensures err { IfErr result OutputFails }
 {
     match write_bytes(out, line.as_bytes()) {
         Ok(()) => Ok(()),

@@ -1,6 +1,10 @@
 //! `bpf asm IN OUT`.
 
-ghost use Rattle.std.specs.Prelude.{◌≡◌, ◌≤◌, IfOk};
+ghost use Rattle.std.specs.Prelude.{◌≡◌, ◌≤◌, IfOk, IfErr};
+ghost use Rattle.std.specs.String.{string_bytes};
+ghost use Rattle.bpf.specs.Answer.{Says, text_of};
+ghost use Rattle.bpf.specs.Answer.Answer.{NoText};
+ghost use Rattle.bpf.specs.Told.{OutputFails};
 
 use crate::failure::{DONE, Failure, REFUSED, say};
 use crate::places::Places;
@@ -26,24 +30,35 @@ fn read_all<R: Read>(alloc: Global, reader: &mut R) -> Result<Option<Vec<u8>>, A
     Ok(None)
 }
 
+/// The line of a refusal.
+fn line_of(alloc: Global, error: TextError) -> Result<String, AllocError>
+    ensures { IfOk result (λ line. string_bytes line ≡ text_of (NoText error)) }
+{
+    match error {
+        TextError::Form { line } => format!(in alloc; "no A1 at line {line}\n"),
+        TextError::Range { line } => format!(in alloc; "no A2 at line {line}\n"),
+        TextError::DefinedAgain { line } => format!(in alloc; "no A3 at line {line}\n"),
+        TextError::Undefined { line } => format!(in alloc; "no A4 at line {line}\n"),
+        TextError::TooFar { line } => format!(in alloc; "no A5 at line {line}\n"),
+        TextError::Program { line, error } => {
+            let cause = error.number();
+            let slot = error.slot();
+            format!(in alloc; "no A6 at line {line} (E{cause} at slot {slot})\n")
+        }
+        TextError::Memory => String::from_str(alloc, "no A7 at line 0\n"),
+    }
+}
+
 /// Prints why a text is refused.
 fn refuse_text<'a, W: Write>(
     alloc: Global,
     out: &mut W,
     error: TextError,
 ) -> Result<u8, Failure<'a>>
-    ensures { IfOk result (λ status. status ≡ REFUSED) }
+    ensures ok { IfOk result (λ status. Says (NoText error) status (W.contents out.old) (W.contents out.new)) }
+    ensures err { IfErr result OutputFails }
 {
-    let number = error.number();
-    let at = error.line();
-    let line = match error {
-        TextError::Program { error, .. } => {
-            let cause = error.number();
-            let slot = error.slot();
-            format!(in alloc; "no A{number} at line {at} (E{cause} at slot {slot})\n")?
-        }
-        _ => format!(in alloc; "no A{number} at line {at}\n")?,
-    };
+    let line = line_of(alloc, error)?;
     say(out, line.as_str())?;
     Ok(REFUSED)
 }

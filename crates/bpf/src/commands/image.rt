@@ -4,6 +4,9 @@ ghost use Rattle.std.specs.Prelude.{◌≡◌, ◌⊎◌, IfOk, IfErr, OnErr, Ma
 ghost use Rattle.bpf_insn.specs.Reading.{ReadsImage};
 ghost use Rattle.bpf_insn.specs.declared.refusal.DecodeError.TheVariants.{Memory};
 ghost use Rattle.bpf.specs.Opened.{Fails};
+ghost use Rattle.bpf.specs.Answer.{Says};
+ghost use Rattle.bpf.specs.Answer.Answer.{NoImage};
+ghost use Rattle.bpf.specs.Told.{OutputFails};
 ghost use Rattle.bpf.specs.declared.failure.Failure.TheVariants.{CannotRead};
 
 use crate::failure::{Failure, REFUSED, say};
@@ -38,7 +41,8 @@ pub fn refuse<'a, W: Write>(
     out: &mut W,
     error: DecodeError,
 ) -> Result<u8, Failure<'a>>
-    ensures { IfOk result (λ status. status ≡ REFUSED) }
+    ensures ok { IfOk result (λ status. Says (NoImage error) status (W.contents out.old) (W.contents out.new)) }
+    ensures err { IfErr result OutputFails }
 {
     let number = error.number();
     let slot = error.slot();

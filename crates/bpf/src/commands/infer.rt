@@ -1,6 +1,10 @@
 //! `bpf infer IN LEN OUT`.
 
-ghost use Rattle.std.specs.Prelude.{◌≡◌, ◌≤◌, IfOk};
+ghost use Rattle.std.specs.Prelude.{◌≡◌, ◌≤◌, IfOk, IfErr};
+ghost use Rattle.std.specs.String.{string_bytes};
+ghost use Rattle.bpf.specs.Answer.{Says, text_of};
+ghost use Rattle.bpf.specs.Answer.Answer.{NotProposed};
+ghost use Rattle.bpf.specs.Told.{OutputFails};
 
 use crate::commands::image::{image_at, refuse};
 use crate::context::MAX_CONTEXT;
@@ -9,8 +13,23 @@ use crate::places::Places;
 use bpf_cert::write;
 use bpf_infer::{InferError, infer};
 use bpf_insn::decode;
-use std::alloc::Global;
+use std::alloc::{AllocError, Global};
 use std::io::Write;
+
+/// The line of a refusal.
+fn line_of(alloc: Global, error: InferError) -> Result<String, AllocError>
+    ensures { IfOk result (λ line. string_bytes line ≡ text_of (NotProposed error)) }
+{
+    match error {
+        InferError::Unstable { slot } => format!(in alloc; "no I1 at slot {slot}\n"),
+        InferError::NoBudget { slot } => format!(in alloc; "no I2 at slot {slot}\n"),
+        InferError::Recursion { slot } => format!(in alloc; "no I3 at slot {slot}\n"),
+        InferError::Fault { slot, condition } => {
+            format!(in alloc; "no I4 (C{condition}) at slot {slot}\n")
+        }
+        InferError::Memory => String::from_str(alloc, "no I5 at slot 0\n"),
+    }
+}
 
 /// Prints why no certificate is proposed.
 fn refuse_inference<'a, W: Write>(
@@ -18,16 +37,10 @@ fn refuse_inference<'a, W: Write>(
     out: &mut W,
     error: InferError,
 ) -> Result<u8, Failure<'a>>
-    ensures { IfOk result (λ status. status ≡ REFUSED) }
+    ensures ok { IfOk result (λ status. Says (NotProposed error) status (W.contents out.old) (W.contents out.new)) }
+    ensures err { IfErr result OutputFails }
 {
-    let number = error.number();
-    let slot = error.slot();
-    let line = match error {
-        InferError::Fault { condition, .. } => {
-            format!(in alloc; "no I{number} (C{condition}) at slot {slot}\n")?
-        }
-        _ => format!(in alloc; "no I{number} at slot {slot}\n")?,
-    };
+    let line = line_of(alloc, error)?;
     say(out, line.as_str())?;
     Ok(REFUSED)
 }

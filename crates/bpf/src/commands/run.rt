@@ -1,6 +1,9 @@
 //! `bpf run IN HEX --steps N`.
 
-ghost use Rattle.std.specs.Prelude.{◌≤◌, IfOk};
+ghost use Rattle.std.specs.Prelude.{◌≡◌, ◌≤◌, IfOk};
+ghost use Rattle.std.specs.String.{string_bytes};
+ghost use Rattle.bpf.specs.Answer.{status_of, text_of};
+ghost use Rattle.bpf.specs.Answer.Answer.{Ran};
 
 use crate::commands::image::{image_at, refuse};
 use crate::context::context_of;
@@ -13,7 +16,8 @@ use std::io::Write;
 
 /// The line of an outcome, and its status.
 fn line_of(alloc: Global, outcome: Outcome) -> Result<(String, u8), AllocError>
-    ensures { IfOk result (λ told. told.1 ≤ 1) }
+    ensures line { IfOk result (λ told. string_bytes told.0 ≡ text_of (Ran outcome)) }
+    ensures status { IfOk result (λ told. told.1 ≡ status_of (Ran outcome)) }
 {
     Ok(match outcome {
         Outcome::Done { value, steps } => (

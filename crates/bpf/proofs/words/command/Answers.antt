@@ -1,7 +1,7 @@
 use Rattle.std.proofs.Common.{ap, ap₂, ◌≡◌, ◌∙◌}
 use Rattle.std.proofs.lemmas.Result.{IfOk-weaker}
 use Rattle.clap.specs.Words.{App, app_of, with_subcommand}
-use Rattle.bpf.specs.CommandLine.{without_certificates, check, run_checked, infer}
+use Rattle.bpf.specs.CommandLine.{without_certificates, check, run_checked}
 use Rattle.bpf.proofs.words.command.Goals as goal
 
 pub returns : goal.returns

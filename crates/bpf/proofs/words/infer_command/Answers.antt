@@ -1,9 +1,8 @@
-use Rattle.std.proofs.Common.{ap, ap₂, rules, Bool, ◌||◌, ◌≡◌, ◌∙◌}
-use Rattle.std.specs.Prelude.{false, Some, pos}
+use Rattle.std.proofs.Common.{ap, ap₂, rules, ◌≡◌, ◌∙◌}
+use Rattle.std.specs.Prelude.{false}
 use Rattle.std.proofs.lemmas.Result.{IfOk-weaker}
 use Rattle.clap.specs.Words.{rule_of, with_rule}
 use Rattle.clap.specs.Simple.{app_of_fields}
-use Rattle.clap.specs.declared.builder.value_parser.ValueParser.TheVariants as parser
 use Rattle.bpf.specs.CommandLine.{context_length}
 use Rattle.bpf.proofs.CommandLemmas.{globals_of, neither}
 use Rattle.bpf.proofs.words.infer_command.Goals as goal

@@ -1,7 +1,6 @@
-use Rattle.std.proofs.Common.{ap, ap₂, rules, Bool, ◌||◌, ◌≡◌, ◌∙◌}
-use Rattle.std.specs.Prelude.{false}
+use Rattle.std.proofs.Common.{ap, ap₂, ◌∙◌}
 use Rattle.std.proofs.lemmas.Result.{IfOk-weaker}
-use Rattle.clap.specs.Words.{rule_of, with_rule}
+use Rattle.clap.specs.Words.{with_rule}
 use Rattle.clap.specs.Simple.{app_of_fields}
 use Rattle.bpf.proofs.CommandLemmas.{globals_of, neither}
 use Rattle.bpf.proofs.words.run_checked_command.Goals as goal

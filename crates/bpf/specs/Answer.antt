@@ -1,0 +1,130 @@
+-- What a command answers on standard output, with its status.
+use Rattle.std.specs.Prelude.{◌≡◌, ◌++◌, ℕ, List, [], ◌∷◌, Option, Bool, true, false, codes, decimal}
+use Rattle.std.specs.Io.KnownBytes.{Appends}
+use Rattle.std.specs.List.{concat, join_with_byte}
+use Rattle.bpf_insn.specs.ReasonNumbers.{reason_number}
+use Rattle.bpf_insn.specs.RefusalNumbers.{decode_number, decode_slot, build_number, build_slot}
+use Rattle.bpf_insn.specs.declared.instruction.Groups.{Groups}
+use Rattle.bpf_insn.specs.declared.instruction.Insn.{Insn}
+use Rattle.bpf_insn.specs.declared.refusal.DecodeError.{DecodeError}
+use Rattle.bpf_text.specs.Listing.{listing}
+use Rattle.bpf_text.specs.declared.error.TextError.{TextError}
+use Rattle.bpf_text.specs.declared.error.TextError.TheVariants.{Form, Range, DefinedAgain, Undefined, TooFar, Program, Memory as TextMemory}
+use Rattle.bpf_cert.specs.RefusalNumbers.{refusal_number as cert_number, refusal_line as cert_line}
+use Rattle.bpf_cert.specs.declared.error.CertError.{CertError}
+use Rattle.bpf_check.specs.RefusalNumbers.{refusal_number as check_number, refusal_slot as check_slot}
+use Rattle.bpf_check.specs.declared.refusal.Refusal.{Refusal}
+use Rattle.bpf_infer.specs.declared.error.InferError.{InferError}
+use Rattle.bpf_infer.specs.declared.error.InferError.TheVariants.{Unstable, NoBudget, Recursion, Fault as NoState, Memory as InferMemory}
+use Rattle.bpf_machine.specs.declared.outcome.Outcome.{Outcome}
+use Rattle.bpf_machine.specs.declared.outcome.Outcome.TheVariants.{Done as DoneRun, Fault as FaultRun, OutOfFuel}
+
+pub data Answer : Type 0 where
+  -- a certificate certifies the image's program: for contexts of this length, within this bound
+  Yes : (length bound : ℕ) → Answer
+  -- what is at a name is no image, no text, no certificate; or the certificate doesn't certify, or none is proposed
+  NoImage : (error : DecodeError) → Answer
+  NoText : (error : TextError) → Answer
+  NoCertificate : (error : CertError) → Answer
+  NotCertified : (refusal : Refusal) → Answer
+  NotProposed : (error : InferError) → Answer
+  -- a context of so many bytes, where the certificate speaks of others
+  NoContext : (count want : ℕ) → Answer
+  -- a checked program ends with this number
+  Ends : (value : ℕ) → Answer
+  -- how a run of any program ends
+  Ran : (outcome : Outcome) → Answer
+  -- the conformance groups, and the instructions, of an image
+  Occur : (groups : Groups) → Answer
+  Lists : (is : List Insn) → Answer
+  -- what was asked for was written at a name
+  Written : Answer
+
+-- ---- the status: 0 done, yes or written; 1 a refusal, a fault of the program, out of fuel
+
+abbrev pub status_of_run : Outcome → ℕ
+status_of_run (DoneRun value steps) = 0
+status_of_run (FaultRun slot reason steps) = 1
+status_of_run OutOfFuel = 1
+
+abbrev pub status_of : Answer → ℕ
+status_of (Yes length bound) = 0
+status_of (NoImage error) = 1
+status_of (NoText error) = 1
+status_of (NoCertificate error) = 1
+status_of (NotCertified refusal) = 1
+status_of (NotProposed error) = 1
+status_of (NoContext count want) = 1
+status_of (Ends value) = 0
+status_of (Ran outcome) = status_of_run outcome
+status_of (Occur groups) = 0
+status_of (Lists is) = 0
+status_of Written = 0
+
+-- ---- the text
+
+-- `no E4 at slot 0`: the kind of refusal, its number, the slot
+abbrev pub refusal_line : List ℕ → ℕ → List ℕ → ℕ → List ℕ
+refusal_line kind number place at = concat (codes "no " ∷ kind ∷ decimal number ∷ place ∷ decimal at ∷ codes "\n" ∷ [])
+
+abbrev pub at_slot : List ℕ
+at_slot = codes " at slot "
+
+abbrev pub at_line : List ℕ
+at_line = codes " at line "
+
+-- `no A3 at line 2`, `no A6 at line 1 (E8 at slot 0)`
+abbrev pub text_refusal_line : TextError → List ℕ
+text_refusal_line (Form line) = concat (codes "no A1 at line " ∷ decimal line ∷ codes "\n" ∷ [])
+text_refusal_line (Range line) = concat (codes "no A2 at line " ∷ decimal line ∷ codes "\n" ∷ [])
+text_refusal_line (DefinedAgain line) = concat (codes "no A3 at line " ∷ decimal line ∷ codes "\n" ∷ [])
+text_refusal_line (Undefined line) = concat (codes "no A4 at line " ∷ decimal line ∷ codes "\n" ∷ [])
+text_refusal_line (TooFar line) = concat (codes "no A5 at line " ∷ decimal line ∷ codes "\n" ∷ [])
+text_refusal_line (Program line error) =
+    concat (codes "no A6 at line " ∷ decimal line ∷ codes " (E" ∷ decimal (build_number error) ∷ codes " at slot " ∷ decimal (build_slot error) ∷ codes ")\n" ∷ [])
+text_refusal_line TextMemory = codes "no A7 at line 0\n"
+
+-- `no I2 at slot 1`, `no I4 (C5) at slot 0`
+abbrev pub infer_refusal_line : InferError → List ℕ
+infer_refusal_line (Unstable slot) = concat (codes "no I1 at slot " ∷ decimal slot ∷ codes "\n" ∷ [])
+infer_refusal_line (NoBudget slot) = concat (codes "no I2 at slot " ∷ decimal slot ∷ codes "\n" ∷ [])
+infer_refusal_line (Recursion slot) = concat (codes "no I3 at slot " ∷ decimal slot ∷ codes "\n" ∷ [])
+infer_refusal_line (NoState slot condition) = concat (codes "no I4 (C" ∷ decimal condition ∷ codes ") at slot " ∷ decimal slot ∷ codes "\n" ∷ [])
+infer_refusal_line InferMemory = codes "no I5 at slot 0\n"
+
+-- `done 0 steps 23`, `fault F1 at slot 2 steps 4`, `out of fuel`
+abbrev pub run_line : Outcome → List ℕ
+run_line (DoneRun value steps) = concat (codes "done " ∷ decimal value ∷ codes " steps " ∷ decimal steps ∷ codes "\n" ∷ [])
+run_line (FaultRun slot reason steps) =
+    concat (codes "fault F" ∷ decimal (reason_number reason) ∷ codes " at slot " ∷ decimal slot ∷ codes " steps " ∷ decimal steps ∷ codes "\n" ∷ [])
+run_line OutOfFuel = codes "out of fuel\n"
+
+-- a word where it is true
+abbrev pub word_if : Bool → List ℕ → List (List ℕ)
+word_if true word = word ∷ []
+word_if false word = []
+
+-- `base divmul atomic`: those that occur, in this order
+abbrev pub groups_line : Groups → List ℕ
+groups_line g = join_with_byte 32 (word_if g.base (codes "base") ++ word_if g.divmul (codes "divmul") ++ word_if g.atomic (codes "atomic")) ++ codes "\n"
+
+abbrev pub text_of : Answer → List ℕ
+text_of (Yes length bound) = concat (codes "yes length " ∷ decimal length ∷ codes " bound " ∷ decimal bound ∷ codes "\n" ∷ [])
+text_of (NoImage error) = refusal_line (codes "E") (decode_number error) at_slot (decode_slot error)
+text_of (NoText error) = text_refusal_line error
+text_of (NoCertificate error) = refusal_line (codes "K") (cert_number error) at_line (cert_line error)
+text_of (NotCertified refusal) = refusal_line (codes "C") (check_number refusal) at_slot (check_slot refusal)
+text_of (NotProposed error) = infer_refusal_line error
+text_of (NoContext count want) = concat (codes "no context of " ∷ decimal count ∷ codes " bytes, want " ∷ decimal want ∷ codes "\n" ∷ [])
+text_of (Ends value) = concat (codes "done " ∷ decimal value ∷ codes "\n" ∷ [])
+text_of (Ran outcome) = run_line outcome
+text_of (Occur groups) = groups_line groups
+text_of (Lists is) = listing is
+text_of Written = []
+
+-- ---- both
+
+-- this is the answer's status, and its text was printed
+pub record Says (answer : Answer) (status : ℕ) (old new : Option (List ℕ)) : Type 0 where
+  pub status_is : status ≡ status_of answer
+  pub printed : Appends old new (text_of answer)
