@@ -3,11 +3,7 @@
 # Usage: bench/certificate.sh [ROUNDS], 5 if not said. BPF names another command than ./bpf.
 set -eu
 rounds=${1:-5}
-root=$(cd "$(dirname "${BASH_SOURCE[0]}")/.." && pwd)
-bpf=${BPF:-$root/bpf}
-
-dir=$(mktemp -d)
-trap 'rm -rf "$dir"' EXIT
+. "$(dirname "${BASH_SOURCE[0]}")/common.sh"
 
 # The same certificate, and the same with a line behind its end, so that it is read whole and then refused.
 python3 - "$dir" <<'END'

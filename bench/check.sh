@@ -4,11 +4,7 @@
 set -eu
 runs=${1:-20}
 rounds=${2:-5}
-root=$(cd "$(dirname "${BASH_SOURCE[0]}")/.." && pwd)
-bpf=${BPF:-$root/bpf}
-
-dir=$(mktemp -d)
-trap 'rm -rf "$dir"' EXIT
+. "$(dirname "${BASH_SOURCE[0]}")/common.sh"
 
 python3 - "$dir" <<'END'
 import pathlib

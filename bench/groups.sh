@@ -4,12 +4,8 @@
 set -eu
 runs=${1:-200}
 rounds=${2:-5}
-root=$(cd "$(dirname "${BASH_SOURCE[0]}")/.." && pwd)
-bpf=${BPF:-$root/bpf}
+. "$(dirname "${BASH_SOURCE[0]}")/common.sh"
 empty=$(type -P true)
-
-dir=$(mktemp -d)
-trap 'rm -rf "$dir"' EXIT
 
 python3 - "$dir" <<'END'
 import pathlib

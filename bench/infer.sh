@@ -3,11 +3,7 @@
 # Usage: bench/infer.sh [ROUNDS], 5 if not said. BPF names another command than ./bpf.
 set -eu
 rounds=${1:-5}
-root=$(cd "$(dirname "${BASH_SOURCE[0]}")/.." && pwd)
-bpf=${BPF:-$root/bpf}
-
-dir=$(mktemp -d)
-trap 'rm -rf "$dir"' EXIT
+. "$(dirname "${BASH_SOURCE[0]}")/common.sh"
 
 python3 - "$dir" <<'END'
 import pathlib

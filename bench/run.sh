@@ -3,11 +3,7 @@
 # Usage: bench/run.sh [ROUNDS], 5 if not said. BPF names another command than ./bpf.
 set -eu
 rounds=${1:-5}
-root=$(cd "$(dirname "${BASH_SOURCE[0]}")/.." && pwd)
-bpf=${BPF:-$root/bpf}
-
-dir=$(mktemp -d)
-trap 'rm -rf "$dir"' EXIT
+. "$(dirname "${BASH_SOURCE[0]}")/common.sh"
 cc -O2 -o "$dir/c" "$root/bench/interpreter.c"
 # r6 = 25000000; r6 += -1; if r6 != 0 goto -2; r0 = 0; exit
 python3 - "$dir/loop.img" <<'END'
