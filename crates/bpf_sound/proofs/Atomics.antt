@@ -30,7 +30,7 @@ use Rattle.bpf_state.specs.Access.{Span, span_from, any_slot, is_pointer_slot, a
 use Rattle.bpf_state.specs.Fault.{have_right_kinds, reads_part, some_passes, is_number, is_pointer, atomic_kinds}
 use Rattle.bpf_state.specs.Transfer.{after, fetched, loaded, modified_by, slot_maybe_written, with_touched}
 use Rattle.bpf_sound.specs.Describes.{Describes, DescribesRegister}
-use Rattle.bpf_sound.specs.Laws.{Leads, IsJudged, IsAbstract, IsRegister}
+use Rattle.bpf_sound.specs.Laws.{Leads, IsJudged, IsAbstract, IsAbstractRegister}
 use Rattle.bpf_sound.proofs.Judged.{NoFault, no_fault_is, step_is, leads_at, top_frame}
 use Rattle.bpf_sound.proofs.Registers.{reg_top, put_is, register_put}
 use Rattle.bpf_sound.proofs.ReadCells.{ReadBytes, no_slot}
@@ -122,7 +122,7 @@ module _ (p : Instructions) (len : ℕ) (x : List ℕ) (s : AbstractState) (m : 
   }
 
   -- a register is changed too: it and the slots as each would be by itself
-  register_changed : (r : Reg) (v : Value) (value : RegState) → DescribesRegister (machine.depth m) value (Some v) → IsRegister value → Leads p len x (Some (put_register r value None changed)) (reg_top next_state sl r v)
+  register_changed : (r : Reg) (v : Value) (value : RegState) → DescribesRegister (machine.depth m) value (Some v) → IsAbstractRegister value → Leads p len x (Some (put_register r value None changed)) (reg_top next_state sl r v)
   unfolding changed next_state slots_changed
   register_changed r v value is ok =
       let put : AbstractState = put_register r value None s in

@@ -25,7 +25,7 @@ use Rattle.bpf_state.specs.State.{AbstractState, register, register_tag}
 use Rattle.bpf_state.specs.Fault.{operand}
 use Rattle.bpf_state.specs.Transfer.{refined, is_register, refine_register, refine_operand}
 use Rattle.bpf_sound.specs.Describes.{Describes, DescribesRegister, TaggedRegister}
-use Rattle.bpf_sound.specs.Laws.{IsAbstract, IsRegister, Leads, Tests, BranchKeeps}
+use Rattle.bpf_sound.specs.Laws.{IsAbstract, IsAbstractRegister, Leads, Tests, BranchKeeps}
 use Rattle.bpf_sound.proofs.Judged.{step_is, leads_at}
 use Rattle.bpf_sound.proofs.Lists.{Given}
 use Rattle.bpf_sound.proofs.Registers.{below_eleven}
@@ -73,7 +73,7 @@ module _ (order : Order) (len : ℕ) (x : List ℕ) (m : machine.State) where
           slots_are = ok.slots_are;
           eleven_tags = ap length same ∙ ok.eleven_tags;
           slot_tags_are = ok.slot_tags_are;
-          registers = λ q. one_set (λ R j. IsRegister R) s.registers k (register_number q) (Num n) Any (omega arith) valid (ok.registers q);
+          registers = λ q. one_set (λ R j. IsAbstractRegister R) s.registers k (register_number q) (Num n) Any (omega arith) valid (ok.registers q);
           slots = ok.slots;
         },
         record {
@@ -106,7 +106,7 @@ module _ (order : Order) (len : ℕ) (x : List ℕ) (m : machine.State) where
   unchanged : (s : AbstractState) → Is order len x m s → Given (Some s) (Is order len x m)
   unchanged s is = record { value = s; is_there = refl; good = is }
 
-  by_kinds : RefineKeeps → (s : AbstractState) (test : Cond) (width : Width) (dst : Reg) (src : Operand) (off : ℤ) (taken : Bool) (A B : RegState) → Is order len x m s → IsRegister A → DescribesRegister (machine.depth m) A (machine.register m dst) → IsRegister B → DescribesRegister (machine.depth m) B (machine_operand m src) → Tests m (JumpIf test width dst src off) taken → Given (refined (JumpIf test width dst src off) taken A B s) (Is order len x m)
+  by_kinds : RefineKeeps → (s : AbstractState) (test : Cond) (width : Width) (dst : Reg) (src : Operand) (off : ℤ) (taken : Bool) (A B : RegState) → Is order len x m s → IsAbstractRegister A → DescribesRegister (machine.depth m) A (machine.register m dst) → IsAbstractRegister B → DescribesRegister (machine.depth m) B (machine_operand m src) → Tests m (JumpIf test width dst src off) taken → Given (refined (JumpIf test width dst src off) taken A B s) (Is order len x m)
   by_kinds law s test width dst src off taken (Num a) (Num b) is ok d ok' d' tests = by_registers (is_register dst src)
     where
       by_registers : (same : Bool) → Given (cond same (Some s) (option_map (λ p. refine_operand src p.1 (refine_register dst p.0 s)) (refine test width taken a b))) (Is order len x m)

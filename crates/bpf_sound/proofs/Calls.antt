@@ -23,7 +23,7 @@ use Rattle.bpf_state.specs.declared.state.RegState.TheVariants.{Any, Num, Ctx, F
 use Rattle.bpf_state.specs.declared.state.SlotState.TheVariants.{Bytes}
 use Rattle.bpf_state.specs.State.{AbstractState, entered, left, without_frame, each_without_frame, no_tags}
 use Rattle.bpf_sound.specs.Describes.{Describes, DescribesRegister, DescribesSlot, TaggedRegister, TaggedSlot, slot_cell}
-use Rattle.bpf_sound.specs.Laws.{EnterKeeps, LeaveKeeps, Leads, IsAbstract, IsRegister, IsSlot}
+use Rattle.bpf_sound.specs.Laws.{EnterKeeps, LeaveKeeps, Leads, IsAbstract, IsAbstractRegister, IsAbstractSlot}
 use Rattle.bpf_sound.proofs.Judged.{step_is, leads_at, top_frame}
 use Rattle.bpf_sound.proofs.TouchedCells.{zero_or_one}
 
@@ -65,7 +65,7 @@ return_keeps tightens p len x returned s m v sl context valid frame d all ok has
         slots_are = valid.slots_are;
         eleven_tags = let l = length-drop 6 s.register_tags in omega arith;
         slot_tags_are = valid.slot_tags_are;
-        registers = returned_places (λ a b. IsRegister a) s.registers s.registers (Num h.set) Any Any Any h.valid tt valid.registers;
+        registers = returned_places (λ a b. IsAbstractRegister a) s.registers s.registers (Num h.set) Any Any Any h.valid tt valid.registers;
         slots = valid.slots;
       };
       describes = record {
@@ -85,7 +85,7 @@ without_frame_describes depth (Num n) v d = d
 without_frame_describes depth (Ctx lo hi) v d = d
 without_frame_describes depth (Frame lo hi) v d = tt
 
-without_frame_valid : (value : RegState) → IsRegister value → IsRegister (without_frame value)
+without_frame_valid : (value : RegState) → IsAbstractRegister value → IsAbstractRegister (without_frame value)
 without_frame_valid Any d = tt
 without_frame_valid (Num n) d = d
 without_frame_valid (Ctx lo hi) d = d
@@ -138,12 +138,12 @@ enter_places depth xs ys f g d r =
     places d R9 = tt
     places d R10 = (pos 0, ap (λ n. Some (PointerValue (FrameAt n) (pos 0))) (omega arith), omega (arith, ints), omega (arith, ints))
 
-enter_valid : (xs : List RegState) → Five xs → ((r : Reg) → IsRegister (get_or xs (register_number r) Any)) → (length (entered_registers xs) ≡ 11) × ((r : Reg) → IsRegister (get_or (entered_registers xs) (register_number r) Any))
+enter_valid : (xs : List RegState) → Five xs → ((r : Reg) → IsAbstractRegister (get_or xs (register_number r) Any)) → (length (entered_registers xs) ≡ 11) × ((r : Reg) → IsAbstractRegister (get_or (entered_registers xs) (register_number r) Any))
 enter_valid xs f v =
     let xs' : List RegState = f.first ∷ f.x1 ∷ f.x2 ∷ f.x3 ∷ f.x4 ∷ f.x5 ∷ f.rest in
-    subst (λ us. (length (entered_registers us) ≡ 11) × ((r : Reg) → IsRegister (get_or (entered_registers us) (register_number r) Any))) (sym f.are) (refl, places (λ r. subst (λ us. IsRegister (get_or us (register_number r) Any)) f.are (v r)))
+    subst (λ us. (length (entered_registers us) ≡ 11) × ((r : Reg) → IsAbstractRegister (get_or (entered_registers us) (register_number r) Any))) (sym f.are) (refl, places (λ r. subst (λ us. IsAbstractRegister (get_or us (register_number r) Any)) f.are (v r)))
   where
-    places : ((r : Reg) → IsRegister (get_or (f.first ∷ f.x1 ∷ f.x2 ∷ f.x3 ∷ f.x4 ∷ f.x5 ∷ f.rest) (register_number r) Any)) → (r : Reg) → IsRegister (get_or (entered_registers (f.first ∷ f.x1 ∷ f.x2 ∷ f.x3 ∷ f.x4 ∷ f.x5 ∷ f.rest)) (register_number r) Any)
+    places : ((r : Reg) → IsAbstractRegister (get_or (f.first ∷ f.x1 ∷ f.x2 ∷ f.x3 ∷ f.x4 ∷ f.x5 ∷ f.rest) (register_number r) Any)) → (r : Reg) → IsAbstractRegister (get_or (entered_registers (f.first ∷ f.x1 ∷ f.x2 ∷ f.x3 ∷ f.x4 ∷ f.x5 ∷ f.rest)) (register_number r) Any)
     places d R0 = tt
     places d R1 = without_frame_valid f.x1 (d R1)
     places d R2 = without_frame_valid f.x2 (d R2)
@@ -154,7 +154,7 @@ enter_valid xs f v =
     places d R7 = tt
     places d R8 = tt
     places d R9 = tt
-    places d R10 = record { above = omega (arith, ints); ordered = omega (arith, ints); below = omega (arith, ints) }
+    places d R10 = omega (arith, ints)
 
 none_at : (n j : ℕ) → get_or (no_tags n) j None ≡ None
 none_at zero j = refl
@@ -180,7 +180,7 @@ enter_describes p len x s m sl valid frame d =
         eleven_tags = refl;
         slot_tags_are = refl;
         registers = v.1;
-        slots = λ k low high. subst IsSlot (sym (bytes_at_none 64 (k - 1))) (omega arith);
+        slots = λ k low high. subst IsAbstractSlot (sym (bytes_at_none 64 (k - 1))) (omega arith);
       };
       describes = record {
         length_is = d.length_is;

@@ -36,7 +36,7 @@ use Rattle.bpf_state.specs.Access.{Span, span_from, span_of, is_inside, is_known
 use Rattle.bpf_state.specs.Fault.{reads_part, some_passes, is_pointer}
 use Rattle.bpf_state.specs.Transfer.{after, loaded, loaded_tag, any_number}
 use Rattle.bpf_sound.specs.Describes.{DescribesRegister, DescribesSlot, TaggedRegister, TaggedSlot, IsSpilled}
-use Rattle.bpf_sound.specs.Laws.{Leads, IsJudged, IsRegister}
+use Rattle.bpf_sound.specs.Laws.{Leads, IsJudged, IsAbstractRegister}
 use Rattle.bpf_sound.proofs.Judged.{NoFault, no_fault_is, step_is, leads_at, top_frame}
 use Rattle.bpf_sound.proofs.Registers.{reg_top, put_is, register_put}
 use Rattle.bpf_sound.proofs.ReadCells.{no_slot}
@@ -93,7 +93,7 @@ record Loaded (p : Instructions) (x : List ℕ) (s : AbstractState) (m : machine
   pub is_there : loaded s (span_of s (Load size dst src off)) size ≡ Some state
   pub describes : DescribesRegister (machine.depth m) state (Some value)
   pub tagged : TaggedRegister x (loaded_tag s (span_of s (Load size dst src off))) (Some value)
-  pub valid : IsRegister state
+  pub valid : IsAbstractRegister state
 
 module _ (p : Instructions) (len : ℕ) (x : List ℕ) (size : Size) (dst src : Reg) (off : ℤ) (s : AbstractState) (m : machine.State) (j : IsJudged p len x (Load size dst src off) s m) where
   other : (register_number dst == 10) ≡ false

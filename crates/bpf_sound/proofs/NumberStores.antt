@@ -33,7 +33,7 @@ use Rattle.bpf_state.specs.State.{AbstractState, slot, slot_tag, put_slot, value
 use Rattle.bpf_state.specs.Access.{Span, span_end, place_in, is_known, is_slot, slot_number, touches, touched_bytes}
 use Rattle.bpf_state.specs.Transfer.{slot_written, slot_maybe_written, with_touched, stored}
 use Rattle.bpf_sound.specs.Describes.{Describes, DescribesRegister, DescribesSlot, TaggedRegister, TaggedSlot, IsStored}
-use Rattle.bpf_sound.specs.Laws.{Leads, IsAbstract, IsRegister, IsSlot}
+use Rattle.bpf_sound.specs.Laws.{Leads, IsAbstract, IsAbstractRegister, IsAbstractSlot}
 use Rattle.bpf_sound.proofs.StoredCells.{whole_slot, other_slot}
 use Rattle.bpf_sound.proofs.TouchedCells.{place_is, LiesAt, zero_or_one, apart}
 use Rattle.bpf_sound.proofs.ByteStores.{Write, cells_of, same_slot, same_slot_tag, known_slot, unknown_slot, touched_tag, slot_of_each, tag_of_each, length-each_slot, length-each_slot_tag}
@@ -75,16 +75,16 @@ is_number_top = record {
   signed = record { above = omega (arith, ints); ordered = omega (arith, ints); below = omega (arith, ints) };
 }
 
-is_slot_written : (mask : ℕ) (held : SlotState) → mask ≤ 254 → IsSlot held → IsSlot (slot_written mask held)
+is_slot_written : (mask : ℕ) (held : SlotState) → mask ≤ 254 → IsAbstractSlot held → IsAbstractSlot (slot_written mask held)
 is_slot_written mask (Ptr p) small ok = small
 is_slot_written mask (Word n) small ok = is_number_top
 is_slot_written mask (Bytes m) small ok = by_test (bit_or m mask == 255) refl
   where
-    by_test : (t : Bool) → (bit_or m mask == 255) ≡ t → IsSlot (cond t (Word top) (Bytes (bit_or m mask)))
+    by_test : (t : Bool) → (bit_or m mask == 255) ≡ t → IsAbstractSlot (cond t (Word top) (Bytes (bit_or m mask)))
     by_test true e = is_number_top
     by_test false e = let b = or_of_8 m mask (omega arith) (omega arith) in grind (arith, nat_tests)
 
-pub is_slot_maybe_written : (held : SlotState) → IsSlot held → IsSlot (slot_maybe_written held)
+pub is_slot_maybe_written : (held : SlotState) → IsAbstractSlot held → IsAbstractSlot (slot_maybe_written held)
 is_slot_maybe_written (Ptr p) ok = omega arith
 is_slot_maybe_written (Word n) ok = is_number_top
 is_slot_maybe_written (Bytes m) ok = ok
@@ -106,7 +106,7 @@ module _ (order : Order) (len : ℕ) (x : List ℕ) (s : AbstractState) (m : mac
         (touched_tag m.top p c bytes w k low high order x (slot_tag s k) (d.slot_tags k low high));
   }
 
-  pub touched_valid : ((k : ℕ) → 1 ≤ k → k ≤ 64 → IsSlot (slot s k) → IsSlot (change k (slot s k))) → IsAbstract (with_touched p change s)
+  pub touched_valid : ((k : ℕ) → 1 ≤ k → k ≤ 64 → IsAbstractSlot (slot s k) → IsAbstractSlot (change k (slot s k))) → IsAbstract (with_touched p change s)
   touched_valid law = record {
     eleven = valid.eleven;
     slots_are = length-each_slot (λ k held. cond (touches p k) (change k held) held) 1 s.slots ∙ valid.slots_are;
@@ -114,11 +114,11 @@ module _ (order : Order) (len : ℕ) (x : List ℕ) (s : AbstractState) (m : mac
     slot_tags_are = length-each_slot_tag (λ k tag. cond (touches p k) None tag) 1 s.slot_tags ∙ valid.slot_tags_are;
     registers = valid.registers;
     slots = λ k low high.
-        subst IsSlot (sym (slot_of_each (λ k held. cond (touches p k) (change k held) held) k s.slots valid.slots_are low high))
+        subst IsAbstractSlot (sym (slot_of_each (λ k held. cond (touches p k) (change k held) held) k s.slots valid.slots_are low high))
         (either (touches p k) (change k (slot s k)) (slot s k) (law k low high (valid.slots k low high)) (valid.slots k low high));
   }
     where
-      either : (t : Bool) (a b : SlotState) → IsSlot a → IsSlot b → IsSlot (cond t a b)
+      either : (t : Bool) (a b : SlotState) → IsAbstractSlot a → IsAbstractSlot b → IsAbstractSlot (cond t a b)
       either true a b h g = h
       either false a b h g = g
 
@@ -209,13 +209,13 @@ set_at P ss k j v d all low high low' high' same other =
       ]
     ]
 
-pub value_slot_valid : (value : RegState) → IsRegister value → IsSlot (value_slot value)
+pub value_slot_valid : (value : RegState) → IsAbstractRegister value → IsAbstractSlot (value_slot value)
 value_slot_valid Any ok = omega arith
 value_slot_valid (Num n) ok = ok
 value_slot_valid (Ctx lo hi) ok = ok
 value_slot_valid (Frame lo hi) ok = ok
 
-module _ (order : Order) (len : ℕ) (x : List ℕ) (s : AbstractState) (m : machine.State) (p : Span) (c sl y : ℕ) (value : RegState) (tag : Option Tag) (valid : IsAbstract s) (frame : IsFrame m.top) (lies : LiesAt p c) (few : p.count ≤ 8) (d : Describes order len x s m) (small : y < M) (is : DescribesRegister (machine.depth m) value (Some (NumberValue y))) (tagged : TaggedRegister x tag (Some (NumberValue y))) (ok : IsRegister value) where
+module _ (order : Order) (len : ℕ) (x : List ℕ) (s : AbstractState) (m : machine.State) (p : Span) (c sl y : ℕ) (value : RegState) (tag : Option Tag) (valid : IsAbstract s) (frame : IsFrame m.top) (lies : LiesAt p c) (few : p.count ≤ 8) (d : Describes order len x s m) (small : y < M) (is : DescribesRegister (machine.depth m) value (Some (NumberValue y))) (tagged : TaggedRegister x tag (Some (NumberValue y))) (ok : IsAbstractRegister value) where
   write : Write m.top p c (bytes_of order p.count y)
   write = record { frame = frame; lies = lies; count = length-bytes_of order p.count y; fit = are_bytes_of order p.count y }
 
@@ -256,7 +256,7 @@ module _ (order : Order) (len : ℕ) (x : List ℕ) (s : AbstractState) (m : mac
         eleven_tags = valid.eleven_tags;
         slot_tags_are = length-set s.slot_tags (slot_number p - 1) tag ∙ valid.slot_tags_are;
         registers = valid.registers;
-        slots = λ k low high. set_at IsSlot s.slots (slot_number p) k (value_slot value) (Bytes 0) valid.slots_are t.low t.high low high (λ e. value_slot_valid value ok) (λ apart. valid.slots k low high);
+        slots = λ k low high. set_at IsAbstractSlot s.slots (slot_number p) k (value_slot value) (Bytes 0) valid.slots_are t.low t.high low high (λ e. value_slot_valid value ok) (λ apart. valid.slots k low high);
       }
 
   -- a store of a number

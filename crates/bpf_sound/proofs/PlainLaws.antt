@@ -31,7 +31,7 @@ use Rattle.bpf_state.specs.State.{AbstractState, register, put_register}
 use Rattle.bpf_state.specs.Fault.{operand, have_right_kinds, reads_part, makes_far_pointer, is_number}
 use Rattle.bpf_state.specs.Transfer.{after, alu_tag, number_state, set_number}
 use Rattle.bpf_sound.specs.Describes.{Describes, DescribesRegister}
-use Rattle.bpf_sound.specs.Laws.{IsAbstract, IsRegister, IsJudged, Leads}
+use Rattle.bpf_sound.specs.Laws.{IsAbstract, IsAbstractRegister, IsJudged, Leads}
 use Rattle.bpf_sound.proofs.Judged.{NoFault, no_fault_is, step_is, leads_at}
 use Rattle.bpf_sound.proofs.Constants.{constant_describes}
 use Rattle.bpf_sound.proofs.Operands.{operand_describes, operand_valid}
@@ -96,7 +96,7 @@ record HoldsNumber (R : RegState) (v : Option Value) : Type 0 where
   value_is : v ≡ Some (NumberValue number)
   member : Member set number
 
-holds_number : (depth : ℕ) (R : RegState) (v : Option Value) → is_number R ≡ true → IsRegister R → DescribesRegister depth R v → HoldsNumber R v
+holds_number : (depth : ℕ) (R : RegState) (v : Option Value) → is_number R ≡ true → IsAbstractRegister R → DescribesRegister depth R v → HoldsNumber R v
 holds_number depth (Num n) v h ok d = record { set = n; number = d.0; state_is = refl; value_is = d.1; member = (ok, d.2) }
 holds_number depth R v h ok d = absurd (false≢true h)
 

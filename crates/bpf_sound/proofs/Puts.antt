@@ -15,11 +15,11 @@ use Rattle.bpf_state.specs.declared.state.RegState.{RegState}
 use Rattle.bpf_state.specs.declared.state.Tag.{Tag}
 use Rattle.bpf_state.specs.State.{AbstractState, put_register}
 use Rattle.bpf_sound.specs.Describes.{DescribesRegister, TaggedRegister}
-use Rattle.bpf_sound.specs.Laws.{IsJudged, IsRegister, Leads}
+use Rattle.bpf_sound.specs.Laws.{IsJudged, IsAbstractRegister, Leads}
 use Rattle.bpf_sound.proofs.Judged.{not_protected, step_is, leads_at, top_frame}
 use Rattle.bpf_sound.proofs.Registers.{reg_top, put_is, register_put}
 
-pub put_keeps : (p : Instructions) (len : ℕ) (x : List ℕ) (i : Insn) (s : AbstractState) (m m' : machine.State) (dst : Reg) (v : Value) (value : RegState) (tag : Option Tag) → IsJudged p len x i s m → Step p m m' → register_written i ≡ Some dst → does p.order i m ≡ put dst v (next i m) → DescribesRegister (machine.depth m) value (Some v) → IsRegister value → TaggedRegister x tag (Some v) → Leads p len x (Some (put_register dst value tag s)) m'
+pub put_keeps : (p : Instructions) (len : ℕ) (x : List ℕ) (i : Insn) (s : AbstractState) (m m' : machine.State) (dst : Reg) (v : Value) (value : RegState) (tag : Option Tag) → IsJudged p len x i s m → Step p m m' → register_written i ≡ Some dst → does p.order i m ≡ put dst v (next i m) → DescribesRegister (machine.depth m) value (Some v) → IsAbstractRegister value → TaggedRegister x tag (Some v) → Leads p len x (Some (put_register dst value tag s)) m'
 put_keeps p len x i s m m' dst v value tag j step written puts is ok tagged =
     let slot : ℕ = m.top.slot + slot_count i in
     let other : (register_number dst == 10) ≡ false = sym (ap (λ o. option_map_or is_frame_pointer o false) written) ∙ not_protected len s i j.no_fault in

@@ -37,7 +37,7 @@ use Rattle.bpf_state.specs.Fault.{can_store, have_right_kinds, is_pointer, is_an
 use Rattle.bpf_state.specs.Transfer.{after, slot_written, slot_maybe_written, with_touched, stored}
 use Rattle.bpf_state.specs.State.{AbstractState, register, register_tag, slot, slot_tag, put_slot, value_slot}
 use Rattle.bpf_sound.specs.Describes.{Describes, DescribesRegister, DescribesSlot, TaggedRegister, TaggedSlot, IsSpilled}
-use Rattle.bpf_sound.specs.Laws.{Leads, IsJudged, IsAbstract, IsSlot}
+use Rattle.bpf_sound.specs.Laws.{Leads, IsJudged, IsAbstract, IsAbstractSlot}
 use Rattle.bpf_sound.proofs.StoredCells.{each_cell_at, outside, within}
 use Rattle.bpf_sound.proofs.TouchedCells.{apart}
 use Rattle.bpf_sound.proofs.FrameStores.{InTop, store_access, in_top, stack_top, with_top_stack, does_store_number, byte_count_few}
@@ -78,7 +78,7 @@ module _ (order : Order) (len : ℕ) (x : List ℕ) (s : AbstractState) (m : mac
         (λ apart. same_slot_tag order x (slot_tag s k) (cells_of m.top.stack k) (cells_of cells k) (elsewhere k low high apart) (d.slot_tags k low high));
   }
 
-  replaced_valid : IsSlot held → IsAbstract (put_slot k0 held tag s)
+  replaced_valid : IsAbstractSlot held → IsAbstract (put_slot k0 held tag s)
   replaced_valid ok =
       record {
         eleven = valid.eleven;
@@ -86,7 +86,7 @@ module _ (order : Order) (len : ℕ) (x : List ℕ) (s : AbstractState) (m : mac
         eleven_tags = valid.eleven_tags;
         slot_tags_are = length-set s.slot_tags (k0 - 1) tag ∙ valid.slot_tags_are;
         registers = valid.registers;
-        slots = λ k low high. set_at IsSlot s.slots k0 k held (Bytes 0) valid.slots_are low0 high0 low high (λ e. ok) (λ apart. valid.slots k low high);
+        slots = λ k low high. set_at IsAbstractSlot s.slots k0 k held (Bytes 0) valid.slots_are low0 high0 low high (λ e. ok) (λ apart. valid.slots k low high);
       }
 
 -- ---- a pointer into a slot

@@ -11,15 +11,15 @@ use Rattle.bpf_state.specs.declared.state.SlotState.{SlotState}
 use Rattle.bpf_state.specs.declared.state.SlotState.TheVariants.{Bytes}
 use Rattle.bpf_state.specs.State.{start, register, register_tag}
 use Rattle.bpf_sound.specs.Describes.{DescribesRegister, DescribesSlot, TaggedRegister, TaggedSlot, slot_cell}
-use Rattle.bpf_sound.specs.Laws.{IsRegister, IsSlot, StartIsAbstract, StartDescribes}
+use Rattle.bpf_sound.specs.Laws.{IsAbstractRegister, IsAbstractSlot, StartIsAbstract, StartDescribes}
 
 -- a slot of which nothing is known, and a place without a tag
 blank_slot : (P : SlotState → Type 0) (k : ℕ) → 1 ≤ k → k ≤ 64 → P (Bytes 0) → P (get_or (replicate 64 (Bytes 0)) (k - 1) (Bytes 0))
 blank_slot P k low high h = subst P (sym (get_or-replicate 64 (k - 1) (Bytes 0) (Bytes 0) (omega arith))) h
 
-start_register : ConstantHas → (len : ℕ) → len ≤ 4096 → (r : Reg) → IsRegister (register (start len) r)
+start_register : ConstantHas → (len : ℕ) → len ≤ 4096 → (r : Reg) → IsAbstractRegister (register (start len) r)
 start_register law len fits R0 = tt
-start_register law len fits R1 = record { above = omega (arith, ints); ordered = omega (arith, ints); below = omega (arith, ints) }
+start_register law len fits R1 = omega (arith, ints)
 start_register law len fits R2 = (law len (omega arith)).0
 start_register law len fits R3 = tt
 start_register law len fits R4 = tt
@@ -28,7 +28,7 @@ start_register law len fits R6 = tt
 start_register law len fits R7 = tt
 start_register law len fits R8 = tt
 start_register law len fits R9 = tt
-start_register law len fits R10 = record { above = omega (arith, ints); ordered = omega (arith, ints); below = omega (arith, ints) }
+start_register law len fits R10 = omega (arith, ints)
 
 pub start_is_abstract : ConstantHas → StartIsAbstract
 start_is_abstract law len fits = record {
@@ -37,7 +37,7 @@ start_is_abstract law len fits = record {
   eleven_tags = refl;
   slot_tags_are = refl;
   registers = start_register law len fits;
-  slots = λ k low high. blank_slot IsSlot k low high (omega arith);
+  slots = λ k low high. blank_slot IsAbstractSlot k low high (omega arith);
 }
 
 start_describes_register : ConstantHas → (context : List ℕ) → length context ≤ 4096 → (r : Reg) → DescribesRegister 0 (register (start (length context)) r) (machine.register (machine.start context) r)

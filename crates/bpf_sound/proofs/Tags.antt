@@ -28,7 +28,7 @@ use Rattle.bpf_state.specs.State.{AbstractState, register, register_tag}
 use Rattle.bpf_state.specs.Fault.{operand}
 use Rattle.bpf_state.specs.Transfer.{alu_tag, added, constant_of, tag_after, never_wraps, shifted_tag, max_offset}
 use Rattle.bpf_sound.specs.Describes.{Describes, DescribesRegister, IsTagged, TaggedRegister}
-use Rattle.bpf_sound.specs.Laws.{IsAbstract, IsRegister}
+use Rattle.bpf_sound.specs.Laws.{IsAbstract, IsAbstractRegister}
 use Rattle.bpf_sound.proofs.Operands.{operand_describes, operand_valid}
 
 -- ---- sums that don't wrap
@@ -147,7 +147,7 @@ result_of_numbers Mov y z v h e = cc
 result_of_numbers op y z v h e = same_Some (NumberValue (alu W64 op y z)) v e
 
 -- of any operation but a move, by what is known of its operands
-tag_of_kinds : ConstantIs → (x : List ℕ) (depth : ℕ) (op : AluOp) (A B : RegState) (tag : Option Tag) (a : Option Value) (b v : Value) → is_mov op ≡ false → DescribesRegister depth A a → IsRegister B → DescribesRegister depth B (Some b) → TaggedRegister x tag a → alu_result W64 op a b ≡ Some v → TaggedRegister x (tag_after A (added op B) tag) (Some v)
+tag_of_kinds : ConstantIs → (x : List ℕ) (depth : ℕ) (op : AluOp) (A B : RegState) (tag : Option Tag) (a : Option Value) (b v : Value) → is_mov op ≡ false → DescribesRegister depth A a → IsAbstractRegister B → DescribesRegister depth B (Some b) → TaggedRegister x tag a → alu_result W64 op a b ≡ Some v → TaggedRegister x (tag_after A (added op B) tag) (Some v)
 tag_of_kinds law x depth op (Num n) (Num k) tag a b v kind d ok d' tagged e =
     let y : ℕ = d.0 in
     let z : ℕ = d'.0 in

@@ -1,5 +1,5 @@
 -- What the abstract steps promise of the machine's steps.
-use Rattle.std.specs.Prelude.{◌≡◌, ℕ, ◌≤◌, ◌^◌, ℤ, pos, neg_ℤ, ◌≤ℤ◌, Bool, IsTrue, List, length, Option, Some, None, ⊤}
+use Rattle.std.specs.Prelude.{◌≡◌, ℕ, ◌≤◌, ℤ, Bool, IsTrue, List, length, Option, Some, None, ⊤}
 use Rattle.bpf_insn.specs.declared.order.Order.{Order}
 use Rattle.bpf_insn.specs.declared.instruction.Reg.{Reg}
 use Rattle.bpf_insn.specs.declared.instruction.Reg.TheVariants.{R0}
@@ -14,41 +14,33 @@ use Rattle.bpf_insn.specs.Step.{Step, test_of_values, operand, ◌>>=◌}
 use Rattle.bpf_insn.specs.Stuck.{reason_of}
 use Rattle.bpf_num.specs.Number.{Number, IsNumber, Has}
 use Rattle.bpf_state.specs.declared.state.RegState.{RegState}
-use Rattle.bpf_state.specs.declared.state.RegState.TheVariants.{Any, Num, Ctx, Frame}
+use Rattle.bpf_state.specs.declared.state.RegState.TheVariants.{Num}
 use Rattle.bpf_state.specs.declared.state.SlotState.{SlotState}
-use Rattle.bpf_state.specs.declared.state.SlotState.TheVariants.{Bytes, Word, Ptr}
-use Rattle.bpf_state.specs.State.{AbstractState, register, slot, pointer_register, start, entered, left, tightened}
+use Rattle.bpf_state.specs.declared.state.SlotState.TheVariants.{Word}
+use Rattle.bpf_state.specs.State.{AbstractState, IsRegister, IsSlot, register, slot, start, entered, left, tightened}
 use Rattle.bpf_state.specs.Fault.{fault_of}
 use Rattle.bpf_state.specs.Transfer.{after, branch}
 use Rattle.bpf_state.specs.Entails.{state_entails}
 use Rattle.bpf_sound.specs.Describes.{Describes}
 
--- ---- abstract states as an accepted certificate makes them
+-- ---- abstract states: what each value of its types keeps
 
--- the bounds of a pointer
-pub record IsPointerRange (lo hi : ℤ) : Type 0 where
-  pub above : neg_ℤ (pos (2 ^ 31)) ≤ℤ lo
-  pub ordered : lo ≤ℤ hi
-  pub below : hi ≤ℤ pos (2 ^ 31)
+-- a number is one, and a pointer's bounds are in order
+abbrev pub IsAbstractRegister : RegState → Type 0
+IsAbstractRegister (Num n) = IsNumber n
+IsAbstractRegister value = IsRegister value
 
-abbrev pub IsRegister : RegState → Type 0
-IsRegister Any = ⊤
-IsRegister (Num n) = IsNumber n
-IsRegister (Ctx lo hi) = IsPointerRange lo hi
-IsRegister (Frame lo hi) = IsPointerRange lo hi
-
-abbrev pub IsSlot : SlotState → Type 0
-IsSlot (Bytes mask) = mask ≤ 254
-IsSlot (Word n) = IsNumber n
-IsSlot (Ptr p) = IsRegister (pointer_register p)
+abbrev pub IsAbstractSlot : SlotState → Type 0
+IsAbstractSlot (Word n) = IsNumber n
+IsAbstractSlot held = IsSlot held
 
 pub record IsAbstract (s : AbstractState) : Type 0 where
   pub eleven : length s.registers ≡ 11
   pub slots_are : length s.slots ≡ 64
   pub eleven_tags : length s.register_tags ≡ 11
   pub slot_tags_are : length s.slot_tags ≡ 64
-  pub registers : (r : Reg) → IsRegister (register s r)
-  pub slots : (k : ℕ) → 1 ≤ k → k ≤ 64 → IsSlot (slot s k)
+  pub registers : (r : Reg) → IsAbstractRegister (register s r)
+  pub slots : (k : ℕ) → 1 ≤ k → k ≤ 64 → IsAbstractSlot (slot s k)
 
 -- ---- a machine at an instruction, described by an abstract state without fault
 
