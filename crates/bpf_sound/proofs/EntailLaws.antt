@@ -61,14 +61,14 @@ slot_included law order depth (Word a) (Ptr q) cell ok h d = absurd (false≢tru
 slot_included law order depth (Ptr p) (Word b) cell ok h d = absurd (false≢true h)
 
 pub entails_describes : EntailsIncludes → EntailsDescribes
-entails_describes law order len x s t m ok ok' test d =
+entails_describes law order least most x s t m ok ok' test d =
     let h = and_parts (all_pairs register_entails s.registers t.registers) (all_pairs slot_entails s.slots t.slots) test in
     let eleven = ok.eleven in
     let eleven' = ok'.eleven in
     let all = ok.slots_are in
     let all' = ok'.slots_are in
     record {
-      length_is = d.length_is;
+      length_within = d.length_within;
       registers = λ r.
           let lt = below_eleven r in
           register_included law (machine.depth m) (register s r) (register t r) (machine.register m r) (ok'.registers r) (pair_passes register_entails s.registers t.registers (register_number r) Any Any h.0 (omega arith) (omega arith)) (d.registers r);

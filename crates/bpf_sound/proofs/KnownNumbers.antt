@@ -97,7 +97,7 @@ slot_value_valid (Word n) ok = ok
 slot_value_valid (Ptr (CtxIn lo hi)) ok = ok
 slot_value_valid (Ptr (FrameIn lo hi)) ok = ok
 
-module _ (tightens : TightenKeeps) (order : Order) (len : ℕ) (x : List ℕ) (s : AbstractState) (m : machine.State) (a : Access) (value : RegState) (valid : IsAbstract s) (d : Describes order len x s m) (t : InTop m a value) (r : ReadBytes (byte_count a.size) t.first m.top.stack) where
+module _ (tightens : TightenKeeps) (order : Order) (least most : ℕ) (x : List ℕ) (s : AbstractState) (m : machine.State) (a : Access) (value : RegState) (valid : IsAbstract s) (d : Describes order least most x s m) (t : InTop m a value) (r : ReadBytes (byte_count a.size) t.first m.top.stack) where
   -- a whole slot of bytes
   word_known : is_slot t.span ≡ true → is_pointer_slot (slot s (slot_number t.span)) ≡ false → Known x s m t.span a.size (number_of order (byte_count a.size) r.bytes)
   word_known whole plain =

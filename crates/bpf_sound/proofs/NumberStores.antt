@@ -91,10 +91,10 @@ is_slot_maybe_written (Bytes m) ok = ok
 
 -- ---- the slots that may be touched
 
-module _ (order : Order) (len : ℕ) (x : List ℕ) (s : AbstractState) (m : machine.State) (p : Span) (c sl : ℕ) (bytes : List ℕ) (change : ℕ → SlotState → SlotState) (valid : IsAbstract s) (w : Write m.top p c bytes) (d : Describes order len x s m) where
-  pub touched_describes : ((k : ℕ) → 1 ≤ k → k ≤ 64 → DescribesSlot order (machine.depth m) (cond (touches p k) (change k (slot s k)) (slot s k)) (cells_of (with_bytes bytes c m.top.stack) k)) → Describes order len x (with_touched p change s) (at_top m sl (with_bytes bytes c m.top.stack))
+module _ (order : Order) (least most : ℕ) (x : List ℕ) (s : AbstractState) (m : machine.State) (p : Span) (c sl : ℕ) (bytes : List ℕ) (change : ℕ → SlotState → SlotState) (valid : IsAbstract s) (w : Write m.top p c bytes) (d : Describes order least most x s m) where
+  pub touched_describes : ((k : ℕ) → 1 ≤ k → k ≤ 64 → DescribesSlot order (machine.depth m) (cond (touches p k) (change k (slot s k)) (slot s k)) (cells_of (with_bytes bytes c m.top.stack) k)) → Describes order least most x (with_touched p change s) (at_top m sl (with_bytes bytes c m.top.stack))
   touched_describes law = record {
-    length_is = d.length_is;
+    length_within = d.length_within;
     registers = d.registers;
     slots = λ k low high.
         subst (λ h. DescribesSlot order (machine.depth m) h (cells_of (with_bytes bytes c m.top.stack) k))
@@ -215,13 +215,13 @@ value_slot_valid (Num n) ok = ok
 value_slot_valid (Ctx lo hi) ok = ok
 value_slot_valid (Frame lo hi) ok = ok
 
-module _ (order : Order) (len : ℕ) (x : List ℕ) (s : AbstractState) (m : machine.State) (p : Span) (c sl y : ℕ) (value : RegState) (tag : Option Tag) (valid : IsAbstract s) (frame : IsFrame m.top) (lies : LiesAt p c) (few : p.count ≤ 8) (d : Describes order len x s m) (small : y < M) (is : DescribesRegister (machine.depth m) value (Some (NumberValue y))) (tagged : TaggedRegister x tag (Some (NumberValue y))) (ok : IsAbstractRegister value) where
+module _ (order : Order) (least most : ℕ) (x : List ℕ) (s : AbstractState) (m : machine.State) (p : Span) (c sl y : ℕ) (value : RegState) (tag : Option Tag) (valid : IsAbstract s) (frame : IsFrame m.top) (lies : LiesAt p c) (few : p.count ≤ 8) (d : Describes order least most x s m) (small : y < M) (is : DescribesRegister (machine.depth m) value (Some (NumberValue y))) (tagged : TaggedRegister x tag (Some (NumberValue y))) (ok : IsAbstractRegister value) where
   write : Write m.top p c (bytes_of order p.count y)
   write = record { frame = frame; lies = lies; count = length-bytes_of order p.count y; fit = are_bytes_of order p.count y }
 
-  whole_describes : is_slot p ≡ true → Describes order len x (put_slot (slot_number p) (value_slot value) tag s) (at_top m sl (with_bytes (bytes_of order p.count y) c m.top.stack))
+  whole_describes : is_slot p ≡ true → Describes order least most x (put_slot (slot_number p) (value_slot value) tag s) (at_top m sl (with_bytes (bytes_of order p.count y) c m.top.stack))
   whole_describes whole = record {
-    length_is = d.length_is;
+    length_within = d.length_within;
     registers = d.registers;
     slots = λ k low high. set_at (λ h. DescribesSlot order (machine.depth m) h (cells_of (with_bytes (bytes_of order p.count y) c m.top.stack) k)) s.slots (slot_number p) k (value_slot value) (Bytes 0) valid.slots_are t.low t.high low high
         (λ e. stored_value order (machine.depth m) y value (cells_of (with_bytes (bytes_of order p.count y) c m.top.stack) k) is (at_slot k e))
@@ -260,30 +260,30 @@ module _ (order : Order) (len : ℕ) (x : List ℕ) (s : AbstractState) (m : mac
       }
 
   -- a store of a number
-  pub number_stored : (q : Instructions) → q.order ≡ order → Leads q len x (stored (Some p) value tag s) (at_top m sl (with_bytes (bytes_of order p.count y) c m.top.stack))
+  pub number_stored : (q : Instructions) → q.order ≡ order → Leads q least most x (stored (Some p) value tag s) (at_top m sl (with_bytes (bytes_of order p.count y) c m.top.stack))
   number_stored q e = by_slot (is_slot p) refl
     where
-      by_known : (t : Bool) → is_known p ≡ t → is_slot p ≡ false → Leads q len x (Some (cond t (with_touched p (λ k held. slot_written (touched_bytes p k) held) s) (with_touched p (λ k held. slot_maybe_written held) s))) (at_top m sl (with_bytes (bytes_of order p.count y) c m.top.stack))
+      by_known : (t : Bool) → is_known p ≡ t → is_slot p ≡ false → Leads q least most x (Some (cond t (with_touched p (λ k held. slot_written (touched_bytes p k) held) s) (with_touched p (λ k held. slot_maybe_written held) s))) (at_top m sl (with_bytes (bytes_of order p.count y) c m.top.stack))
       by_known true known part = record {
         state = with_touched p (λ k held. slot_written (touched_bytes p k) held) s;
         is_there = refl;
-        valid = touched_valid order len x s m p c sl (bytes_of order p.count y) (λ k held. slot_written (touched_bytes p k) held) valid write d (λ k low high h. is_slot_written (touched_bytes p k) (slot s k) (mask_small p c k lies few ((Decides-int_eq p.lowest p.highest).0 known) part low high) h);
-        describes = subst (λ o. Describes o len x (with_touched p (λ k held. slot_written (touched_bytes p k) held) s) (at_top m sl (with_bytes (bytes_of order p.count y) c m.top.stack))) (sym e)
-            (touched_describes order len x s m p c sl (bytes_of order p.count y) (λ k held. slot_written (touched_bytes p k) held) valid write d (λ k low high. known_slot m.top p c (bytes_of order p.count y) write k low high order (machine.depth m) (slot s k) ((Decides-int_eq p.lowest p.highest).0 known) (d.slots k low high)));
+        valid = touched_valid order least most x s m p c sl (bytes_of order p.count y) (λ k held. slot_written (touched_bytes p k) held) valid write d (λ k low high h. is_slot_written (touched_bytes p k) (slot s k) (mask_small p c k lies few ((Decides-int_eq p.lowest p.highest).0 known) part low high) h);
+        describes = subst (λ o. Describes o least most x (with_touched p (λ k held. slot_written (touched_bytes p k) held) s) (at_top m sl (with_bytes (bytes_of order p.count y) c m.top.stack))) (sym e)
+            (touched_describes order least most x s m p c sl (bytes_of order p.count y) (λ k held. slot_written (touched_bytes p k) held) valid write d (λ k low high. known_slot m.top p c (bytes_of order p.count y) write k low high order (machine.depth m) (slot s k) ((Decides-int_eq p.lowest p.highest).0 known) (d.slots k low high)));
       }
       by_known false known part = record {
         state = with_touched p (λ k held. slot_maybe_written held) s;
         is_there = refl;
-        valid = touched_valid order len x s m p c sl (bytes_of order p.count y) (λ k held. slot_maybe_written held) valid write d (λ k low high h. is_slot_maybe_written (slot s k) h);
-        describes = subst (λ o. Describes o len x (with_touched p (λ k held. slot_maybe_written held) s) (at_top m sl (with_bytes (bytes_of order p.count y) c m.top.stack))) (sym e)
-            (touched_describes order len x s m p c sl (bytes_of order p.count y) (λ k held. slot_maybe_written held) valid write d (λ k low high. unknown_slot m.top p c (bytes_of order p.count y) write k low high order (machine.depth m) (slot s k) (d.slots k low high)));
+        valid = touched_valid order least most x s m p c sl (bytes_of order p.count y) (λ k held. slot_maybe_written held) valid write d (λ k low high h. is_slot_maybe_written (slot s k) h);
+        describes = subst (λ o. Describes o least most x (with_touched p (λ k held. slot_maybe_written held) s) (at_top m sl (with_bytes (bytes_of order p.count y) c m.top.stack))) (sym e)
+            (touched_describes order least most x s m p c sl (bytes_of order p.count y) (λ k held. slot_maybe_written held) valid write d (λ k low high. unknown_slot m.top p c (bytes_of order p.count y) write k low high order (machine.depth m) (slot s k) (d.slots k low high)));
       }
 
-      by_slot : (t : Bool) → is_slot p ≡ t → Leads q len x (Some (cond t (put_slot (slot_number p) (value_slot value) tag s) (cond (is_known p) (with_touched p (λ k held. slot_written (touched_bytes p k) held) s) (with_touched p (λ k held. slot_maybe_written held) s)))) (at_top m sl (with_bytes (bytes_of order p.count y) c m.top.stack))
+      by_slot : (t : Bool) → is_slot p ≡ t → Leads q least most x (Some (cond t (put_slot (slot_number p) (value_slot value) tag s) (cond (is_known p) (with_touched p (λ k held. slot_written (touched_bytes p k) held) s) (with_touched p (λ k held. slot_maybe_written held) s)))) (at_top m sl (with_bytes (bytes_of order p.count y) c m.top.stack))
       by_slot true whole = record {
         state = put_slot (slot_number p) (value_slot value) tag s;
         is_there = refl;
         valid = whole_valid whole;
-        describes = subst (λ o. Describes o len x (put_slot (slot_number p) (value_slot value) tag s) (at_top m sl (with_bytes (bytes_of order p.count y) c m.top.stack))) (sym e) (whole_describes whole);
+        describes = subst (λ o. Describes o least most x (put_slot (slot_number p) (value_slot value) tag s) (at_top m sl (with_bytes (bytes_of order p.count y) c m.top.stack))) (sym e) (whole_describes whole);
       }
       by_slot false part = by_known (is_known p) refl part

@@ -51,8 +51,8 @@ pub put_is : (r : Reg) (v : Value) (sl : ℕ) (m : machine.State) → (register_
 put_is r v sl m other = ap (λ b. cond b None (Some (reg_top m sl r v))) other
 
 -- a value is put into a register
-pub register_put : (p : Instructions) (len : ℕ) (x : List ℕ) (s : AbstractState) (m : machine.State) (r : Reg) (v : Value) (sl : ℕ) (value : RegState) (tag : Option Tag) → IsAbstract s → IsFrame m.top → Describes p.order len x s m → DescribesRegister (machine.depth m) value (Some v) → TaggedRegister x tag (Some v) → IsAbstractRegister value → Leads p len x (Some (put_register r value tag s)) (reg_top m sl r v)
-register_put p len x s m r v sl value tag valid frame d is tagged ok =
+pub register_put : (p : Instructions) (least most : ℕ) (x : List ℕ) (s : AbstractState) (m : machine.State) (r : Reg) (v : Value) (sl : ℕ) (value : RegState) (tag : Option Tag) → IsAbstract s → IsFrame m.top → Describes p.order least most x s m → DescribesRegister (machine.depth m) value (Some v) → TaggedRegister x tag (Some v) → IsAbstractRegister value → Leads p least most x (Some (put_register r value tag s)) (reg_top m sl r v)
+register_put p least most x s m r v sl value tag valid frame d is tagged ok =
     let eleven = frame.eleven in
     let lt = below_eleven r in
     let here = valid.eleven in
@@ -69,7 +69,7 @@ register_put p len x s m r v sl value tag valid frame d is tagged ok =
         slots = valid.slots;
       };
       describes = record {
-        length_is = d.length_is;
+        length_within = d.length_within;
         registers = λ q. both_set (DescribesRegister (machine.depth m)) s.registers m.top.registers (register_number r) (register_number q) value Any (Some v) None (omega arith) (omega arith) is (d.registers q);
         slots = d.slots;
         register_tags = λ q. both_set (TaggedRegister x) s.register_tags m.top.registers (register_number r) (register_number q) tag None (Some v) None (omega arith) (omega arith) tagged (d.register_tags q);

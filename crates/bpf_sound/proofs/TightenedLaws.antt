@@ -41,7 +41,7 @@ to_slots : (P : ℕ → ℕ → Type 0) → ((n : ℕ) → n < 64 → P n (suc n
 to_slots P h k low high = subst (P (k - 1)) (omega arith) (h (k - 1) (omega arith))
 
 pub tightened_describes : TightenKeeps → TightenedDescribes
-tightened_describes law p len x s m ok d =
+tightened_describes law p least most x s m ok d =
     let eleven = ok.eleven in
     let all = ok.slots_are in
     let depth : ℕ = machine.depth m in
@@ -65,7 +65,7 @@ tightened_describes law p len x s m ok d =
         slots = λ k low high. (good' k low high).0;
       };
       describes = record {
-        length_is = d.length_is;
+        length_within = d.length_within;
         registers = λ r. (good r).1;
         slots = λ k low high. (good' k low high).1;
         register_tags = d.register_tags;
