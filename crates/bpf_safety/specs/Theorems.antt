@@ -1,6 +1,6 @@
 -- The promises of an accepted certificate, over the machine's definitions.
-use Rattle.std.specs.Prelude.{◌≡◌, ℕ, suc, ◌+◌, ◌*◌, ◌≤◌, ◌<◌, ◌↔◌, ℤ, pos, ◌≤ℤ◌, List, length, sum_by, Some}
-use Rattle.bpf_insn.specs.Instruction.{Instructions}
+use Rattle.std.specs.Prelude.{◌≡◌, ℕ, zero, suc, ◌+◌, ◌*◌, ◌≤◌, ◌<◌, ◌↔◌, ℤ, pos, ◌≤ℤ◌, List, length, take, slice_get, sum_by, Option, Some, None, option_and_then}
+use Rattle.bpf_insn.specs.Instruction.{Instructions, slots}
 use Rattle.bpf_insn.specs.Image.{IsProgram}
 use Rattle.bpf_insn.specs.Laws.{AreBytes}
 use Rattle.bpf_insn.specs.State as machine
@@ -16,7 +16,7 @@ use Rattle.bpf_cert.specs.View.{CertificateView}
 use Rattle.bpf_cert.specs.Limits.{IsCertificate}
 use Rattle.bpf_safety.specs.Budget.{Budget, least_slack, Pays, HaveTagsOf}
 use Rattle.bpf_safety.specs.Certified.{Certified}
-use Rattle.bpf_safety.specs.Flow.{visits}
+use Rattle.bpf_safety.specs.Flow.{Arrival, Visit, visits, arrives, sound_arrival, passed_on}
 use Rattle.bpf_safety.specs.Work.{transfers, comparisons, transferred_at, compared_at_start, compared_at}
 
 -- a context of `least` to `most` bytes
@@ -86,3 +86,21 @@ CertifiedWork = (p : Instructions) (c : CertificateView) → IsCertificate c →
 -- at most two comparisons an instruction, and one
 abbrev pub ComparisonsAreFew : Type 0
 ComparisonsAreFew = (p : Instructions) (c : CertificateView) → comparisons p c ≤ 2 * transfers p + 1
+
+-- ---- the visits: one at each instruction, with its label's state or with what the visit before passes on
+
+abbrev pub passes : Instructions → CertificateView → Visit → Option Arrival
+passes p c v = option_and_then (passed_on p c v.slot v.insn) (sound_arrival c v.insn v.arrival)
+
+abbrev pub passed_before : Instructions → CertificateView → ℕ → Option Arrival
+passed_before p c zero = None
+passed_before p c (suc k) = option_and_then (passes p c) (slice_get (visits p c) k)
+
+-- the visit of the instruction k
+pub record IsVisit (p : Instructions) (c : CertificateView) (k : ℕ) (v : Visit) : Type 0 where
+  pub insn_is : slice_get p.list k ≡ Some v.insn
+  pub slot_is : v.slot ≡ slots (take k p.list)
+  pub arrival_is : v.arrival ≡ arrives c v.slot (passed_before p c k)
+
+abbrev pub VisitsAreAssigned : Type 0
+VisitsAreAssigned = (p : Instructions) (c : CertificateView) → (length (visits p c) ≡ length p.list) × ((k : ℕ) (v : Visit) → slice_get (visits p c) k ≡ Some v → IsVisit p c k v)

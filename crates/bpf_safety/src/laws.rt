@@ -1,6 +1,6 @@
 //! Laws of the definitions, each as the contract of a function.
 
-ghost use Rattle.bpf_safety.specs.Theorems.{SlackIsLeast, CertifiedIsSafe, SafeHasNoFault, SafeEnds, ProgramIsFlatSafe, CertifiedIsFlatSafe, CertifiedWork, ComparisonsAreFew};
+ghost use Rattle.bpf_safety.specs.Theorems.{SlackIsLeast, CertifiedIsSafe, SafeHasNoFault, SafeEnds, ProgramIsFlatSafe, CertifiedIsFlatSafe, CertifiedWork, ComparisonsAreFew, VisitsAreAssigned};
 
 use bpf_insn::{
     finish_is_last, flat_finishes, flat_follows, runs_keep_states, start_is_state,
@@ -78,4 +78,9 @@ pub fn certified_work()
 /// A program's comparisons are at most two for each instruction, and one.
 pub fn comparisons_are_few()
     ensures { ComparisonsAreFew }
+{}
+
+/// The visits are one at each instruction, with its label's own state or with what the visit before passes on.
+pub fn visits_are_assigned()
+    ensures { VisitsAreAssigned }
 {}
