@@ -1,6 +1,6 @@
 //! Laws of the definitions, each as the contract of a function.
 
-ghost use Rattle.bpf_safety.specs.Theorems.{SlackIsLeast, CertifiedIsSafe, SafeHasNoFault, SafeEnds, ProgramIsFlatSafe, CertifiedIsFlatSafe, CertifiedWork, ComparisonsAreFew, VisitsAreAssigned};
+ghost use Rattle.bpf_safety.specs.Theorems.{SlackIsLeast, CertifiedIsSafe, SafeHasNoFault, SafeEnds, ProgramIsFlatSafe, CertifiedIsFlatSafe, VersionIsFree, OtherRange, CertifiedWork, ComparisonsAreFew, VisitsAreAssigned};
 
 use bpf_insn::{
     finish_is_last, flat_finishes, flat_follows, runs_keep_states, start_is_state,
@@ -52,6 +52,16 @@ pub fn safe_ends()
 {
     finish_is_last();
 }
+
+/// A certificate's version doesn't change what it certifies.
+pub fn version_is_free()
+    ensures { VersionIsFree }
+{}
+
+/// A program that is certified for a range of lengths is certified for another whose least is no smaller, if its start fits.
+pub fn other_range()
+    ensures { OtherRange }
+{}
 
 /// The flat machine follows each run of a program that ends, and stays inside.
 pub fn program_is_flat_safe()
