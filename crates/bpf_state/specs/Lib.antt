@@ -1,9 +1,11 @@
 pub mod State
 pub mod Masked
+pub mod Covers
 pub mod Access
 pub mod Fault
 pub mod Transfer
 pub mod Entails
 pub mod Answer
+pub mod Work
 pub mod Parts
 pub mod Results
