@@ -9,7 +9,7 @@ use Rattle.bpf_insn.specs.Instruction.{Instructions, insn_at, slots}
 use Rattle.bpf_insn.specs.State as machine
 use Rattle.bpf_insn.specs.Run.{Steps}
 use Rattle.bpf_state.specs.State.{AbstractState}
-use Rattle.bpf_sound.specs.Describes.{Describes, IsStored, slot_cell}
+use Rattle.bpf_sound.specs.Describes.{Describes, LengthWithin, IsStored, slot_cell}
 use Rattle.bpf_sound.specs.Laws.{IsAbstract}
 use Rattle.bpf_state.specs.Fault.{fault_of}
 use Rattle.bpf_state.specs.declared.state.Place.{Place}
@@ -19,15 +19,16 @@ use Rattle.bpf_safety.specs.Labels.{label_at, function_at}
 use Rattle.bpf_state.specs.declared.state.Place.TheVariants.{Register, Slot}
 use Rattle.bpf_num.specs.Interval.{Interval}
 use Rattle.bpf_num.specs.Number.{Has, IsNumber}
-use Rattle.bpf_state.specs.State.{IsPlace}
+use Rattle.bpf_state.specs.State.{IsPlace, tightened}
 use Rattle.bpf_safety.specs.Budget.{place_of, budget as budget_of, budget_value, InBox, bounds}
 use Rattle.bpf_safety.specs.Flow.{Arrival, Visit, visits, visits_from, arrives, label_state}
-use Rattle.bpf_safety.specs.Flaw.{lacks_label, is_not_entailed, is_over_budget, falls_past_end, is_bad_term, calls_no_deeper, leaves_function}
+use Rattle.bpf_safety.specs.Flaw.{lacks_label, is_not_entailed, is_over_budget, falls_past_end, is_bad_term, calls_no_deeper, is_never_reached, leaves_function}
 
 -- ---- what a certificate keeps, and what a certified program has
 
 pub record IsWellFormed (c : CertificateView) : Type 0 where
-  pub short_context : c.len ≤ 4096
+  pub short_context : c.most ≤ 4096
+  pub ordered : c.least ≤ c.most
   pub states : (l : LabelView) (slot : ℕ) → label_at c slot ≡ Some l → IsAbstract l.state
   pub depths : (f : FunctionView) → Contains c.functions f → (1 ≤ f.depth) × (f.depth ≤ 8)
   pub returns : (f : FunctionView) → Contains c.functions f → IsNumber f.ret
@@ -39,15 +40,17 @@ pub record IsRight (p : Instructions) (c : CertificateView) (v : Visit) : Type 0
   pub has_label : lacks_label c v ≡ false
   pub deeper : calls_no_deeper c v ≡ false
   pub stays : leaves_function p c v ≡ false
-  pub no_fault : (a : Arrival) → v.arrival ≡ Some a → fault_of c.len a.state v.insn ≡ None
+  pub no_fault : (a : Arrival) → v.arrival ≡ Some a → fault_of c.least a.state v.insn ≡ None
   pub entailed : (a : Arrival) → v.arrival ≡ Some a → is_not_entailed p c v a ≡ false
   pub paid : (a : Arrival) → v.arrival ≡ Some a → is_over_budget p c v a ≡ false
   pub not_past : (a : Arrival) → v.arrival ≡ Some a → falls_past_end p c v a ≡ false
+  pub reached : is_never_reached c v ≡ false
 
 -- no condition fails at a label
 pub record IsRightLabel (p : Instructions) (l : LabelView) : Type 0 where
   pub stands : is_none (insn_at p.list l.slot) ≡ false
   pub terms : (j : ℕ) (t : Term) → slice_get l.terms j ≡ Some t → is_bad_term l t ≡ false
+  pub tightens : is_none (tightened l.state) ≡ false
 
 -- ---- visits: what the instructions from a slot on become is a part of all visits
 
@@ -96,7 +99,7 @@ pub record Here (p : Instructions) (c : CertificateView) (m : machine.State) (bu
   pub shallow : machine.depth m + function.depth ≤ 8
   pub state : machine.IsState m
   pub valid : IsAbstract arrival.state
-  pub described : Describes p.order c.len x arrival.state m
+  pub described : Describes p.order c.least c.most x arrival.state m
   pub block : IsBlock c arrival x budget spent
 
 -- a step keeps it, the rest of the budget falls, and the run comes nearer to the block's end or to a lower budget
@@ -121,6 +124,6 @@ pub record ReachesExit (p : Instructions) (c : CertificateView) (m : machine.Sta
   pub value : ℕ
   pub value_is : machine.number_of_register state R0 ≡ Some value
   pub state_is : machine.IsState state
-  pub context_is : length state.context ≡ c.len
+  pub context_is : LengthWithin c.least c.most state.context
   pub returns : Has function.ret value
   pub in_time : suc (steps + spent) ≤ budget

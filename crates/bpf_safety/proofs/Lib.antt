@@ -17,3 +17,6 @@ mod Safe
 mod SafetyLaw
 mod FlatRuns
 mod WellFormedLaw
+mod WorkLaws
+mod FirstLines
+mod Assigned

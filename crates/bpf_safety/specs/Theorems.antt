@@ -1,6 +1,6 @@
 -- The promises of an accepted certificate, over the machine's definitions.
-use Rattle.std.specs.Prelude.{◌≡◌, ℕ, suc, ◌≤◌, ◌<◌, ◌↔◌, ℤ, pos, ◌≤ℤ◌, List, length, Some}
-use Rattle.bpf_insn.specs.Instruction.{Instructions}
+use Rattle.std.specs.Prelude.{◌≡◌, ℕ, zero, suc, ◌+◌, ◌*◌, ◌≤◌, ◌<◌, ◌↔◌, ℤ, pos, ◌≤ℤ◌, false, List, length, take, slice_get, sum_by, Option, Some, None, option_and_then}
+use Rattle.bpf_insn.specs.Instruction.{Instructions, slots}
 use Rattle.bpf_insn.specs.Image.{IsProgram}
 use Rattle.bpf_insn.specs.Laws.{AreBytes}
 use Rattle.bpf_insn.specs.State as machine
@@ -10,16 +10,20 @@ use Rattle.bpf_insn.specs.Run.{Steps, IsDone, IsFault, CanMake}
 use Rattle.bpf_insn.specs.Flat.{Placement, FlatState, FlatStep, FlatFinish, FlatSteps}
 use Rattle.bpf_insn.specs.Placement.{IsPlacement, IsFlatStart, StaysInside}
 use Rattle.bpf_state.specs.State.{AbstractState}
+use Rattle.bpf_sound.specs.Describes.{LengthWithin}
 use Rattle.bpf_sound.specs.Laws.{IsAbstract}
 use Rattle.bpf_cert.specs.View.{CertificateView}
 use Rattle.bpf_cert.specs.Limits.{IsCertificate}
 use Rattle.bpf_safety.specs.Budget.{Budget, least_slack, Pays, HaveTagsOf}
 use Rattle.bpf_safety.specs.Certified.{Certified}
+use Rattle.bpf_safety.specs.Flow.{Arrival, Visit, visits, arrives, sound_arrival, passed_on}
+use Rattle.bpf_safety.specs.Flaw.{begins_wrongly, starts_over_budget}
+use Rattle.bpf_safety.specs.Work.{transfers, comparisons, transferred_at, compared_at_start, compared_at}
 
--- a context of `len` bytes
-pub record IsContext (len : ℕ) (context : List ℕ) : Type 0 where
+-- a context of `least` to `most` bytes
+pub record IsContext (least most : ℕ) (context : List ℕ) : Type 0 where
   pub bytes : AreBytes context
-  pub length_is : length context ≡ len
+  pub length_within : LengthWithin least most context
 
 -- ---- the machine never gets stuck, and ends in time
 
@@ -29,43 +33,88 @@ pub record EndsWithin (p : Instructions) (context : List ℕ) (bound : ℕ) : Ty
   pub in_time : steps ≤ bound
   pub done : IsDone p context value steps
 
-pub record IsSafe (p : Instructions) (len bound : ℕ) : Type 0 where
-  pub never_stuck : (context : List ℕ) (k : ℕ) (s : machine.State) → IsContext len context → Steps p k (machine.start context) s → IsStuck p s → ⊥
-  pub ends : (context : List ℕ) → IsContext len context → EndsWithin p context bound
+pub record IsSafe (p : Instructions) (least most bound : ℕ) : Type 0 where
+  pub never_stuck : (context : List ℕ) (k : ℕ) (s : machine.State) → IsContext least most context → Steps p k (machine.start context) s → IsStuck p s → ⊥
+  pub ends : (context : List ℕ) → IsContext least most context → EndsWithin p context bound
 
 -- No run of a safe program is at fault, and none goes on for as many steps as its bound: it ends before.
 abbrev pub SafeHasNoFault : Type 0
-SafeHasNoFault = (p : Instructions) (len bound : ℕ) (context : List ℕ) (slot : ℕ) (reason : Reason) (k : ℕ) → IsProgram p.list → IsSafe p len bound → IsContext len context → IsFault p context slot reason k → ⊥
+SafeHasNoFault = (p : Instructions) (least most bound : ℕ) (context : List ℕ) (slot : ℕ) (reason : Reason) (k : ℕ) → IsProgram p.list → IsSafe p least most bound → IsContext least most context → IsFault p context slot reason k → ⊥
 
 abbrev pub SafeEnds : Type 0
-SafeEnds = (p : Instructions) (len bound fuel : ℕ) (context : List ℕ) → IsSafe p len bound → IsContext len context → bound ≤ fuel → CanMake p context fuel → ⊥
+SafeEnds = (p : Instructions) (least most bound fuel : ℕ) (context : List ℕ) → IsSafe p least most bound → IsContext least most context → bound ≤ fuel → CanMake p context fuel → ⊥
 
 abbrev pub CertifiedIsSafe : Type 0
-CertifiedIsSafe = (p : Instructions) (c : CertificateView) → IsProgram p.list → IsCertificate c → Certified p c → IsSafe p c.len c.steps
+CertifiedIsSafe = (p : Instructions) (c : CertificateView) → IsProgram p.list → IsCertificate c → Certified p c → IsSafe p c.least c.most c.steps
+
+-- ---- certificates that differ in their first line alone
+
+-- the version isn't looked at
+abbrev pub VersionIsFree : Type 0
+VersionIsFree = (p : Instructions) (c : CertificateView) (version : ℕ) → Certified p c ↔ Certified p (record c { version = version })
+
+-- what is certified for a range is certified, with the same bound, for another with no smaller least, if its start fits
+abbrev pub OtherRange : Type 0
+OtherRange =
+    (p : Instructions) (c : CertificateView) (least most : ℕ) → Certified p c → c.least ≤ least
+    → begins_wrongly (record c { least = least; most = most }) ≡ false → starts_over_budget (record c { least = least; most = most }) ≡ false
+    → Certified p (record c { least = least; most = most })
 
 -- ---- the flat machine follows
 
 -- a run of the flat machine from a start that fits, on a context on which the machine ends with v after k instructions
-pub record FlatFollowsRun (p : Instructions) (len : ℕ) (place : Placement) (context : List ℕ) (v k j : ℕ) (g : FlatState) : Type 0 where
+pub record FlatFollowsRun (p : Instructions) (place : Placement) (context : List ℕ) (v k j : ℕ) (g : FlatState) : Type 0 where
   pub not_past : j < k
-  pub inside : StaysInside place len p g
+  pub inside : StaysInside place (length context) p g
   pub visits_same : (s : machine.State) × Steps p j (machine.start context) s × (g.slot ≡ s.top.slot)
   pub goes_on : suc j < k → (h : FlatState) × FlatStep place p g h
   pub ends : suc j ≡ k → FlatFinish p g v × ((h : FlatState) → FlatStep place p g h → ⊥)
 
-abbrev pub IsFlatSafe : Instructions → ℕ → Type 0
-IsFlatSafe p len =
-    (context : List ℕ) (place : Placement) (f g : FlatState) (v k j : ℕ) → IsContext len context → IsPlacement len place → IsFlatStart p.order place context f
-    → IsDone p context v k → FlatSteps place p j f g → FlatFollowsRun p len place context v k j g
+abbrev pub IsFlatSafe : Instructions → ℕ → ℕ → Type 0
+IsFlatSafe p least most =
+    (context : List ℕ) (place : Placement) (f g : FlatState) (v k j : ℕ) → IsContext least most context → IsPlacement (length context) place → IsFlatStart p.order place context f
+    → IsDone p context v k → FlatSteps place p j f g → FlatFollowsRun p place context v k j g
 
 -- for every program: the flat machine follows wherever the machine ends
 abbrev pub ProgramIsFlatSafe : Type 0
-ProgramIsFlatSafe = (p : Instructions) (len : ℕ) → IsProgram p.list → IsFlatSafe p len
+ProgramIsFlatSafe = (p : Instructions) (least most : ℕ) → IsProgram p.list → IsFlatSafe p least most
 
 abbrev pub CertifiedIsFlatSafe : Type 0
-CertifiedIsFlatSafe = (p : Instructions) (c : CertificateView) → IsProgram p.list → IsCertificate c → Certified p c → IsFlatSafe p c.len
+CertifiedIsFlatSafe = (p : Instructions) (c : CertificateView) → IsProgram p.list → IsCertificate c → Certified p c → IsFlatSafe p c.least c.most
 
 -- ---- budgets: the least slack is at the ends of the intervals
 
 abbrev pub SlackIsLeast : Type 0
 SlackIsLeast = (old new : Budget) (at_label edge : AbstractState) (cost slack : ℤ) → IsAbstract at_label → IsAbstract edge → HaveTagsOf (length old.terms) edge new.terms → least_slack old at_label cost edge new ≡ Some slack → (pos 0 ≤ℤ slack) ↔ Pays old at_label cost edge new
+
+-- ---- work
+
+-- of a certified program the visits make a transfer each, and the start and the visits make its comparisons
+pub record WorkIs (p : Instructions) (c : CertificateView) : Type 0 where
+  pub transferred : sum_by transferred_at (visits p c) ≡ transfers p
+  pub compared : compared_at_start c + sum_by (compared_at p c) (visits p c) ≡ comparisons p c
+
+abbrev pub CertifiedWork : Type 0
+CertifiedWork = (p : Instructions) (c : CertificateView) → IsCertificate c → Certified p c → WorkIs p c
+
+-- at most two comparisons an instruction, and one
+abbrev pub ComparisonsAreFew : Type 0
+ComparisonsAreFew = (p : Instructions) (c : CertificateView) → comparisons p c ≤ 2 * transfers p + 1
+
+-- ---- the visits: one at each instruction, with its label's state or with what the visit before passes on
+
+abbrev pub passes : Instructions → CertificateView → Visit → Option Arrival
+passes p c v = option_and_then (passed_on p c v.slot v.insn) (sound_arrival c v.insn v.arrival)
+
+abbrev pub passed_before : Instructions → CertificateView → ℕ → Option Arrival
+passed_before p c zero = None
+passed_before p c (suc k) = option_and_then (passes p c) (slice_get (visits p c) k)
+
+-- the visit of the instruction k
+pub record IsVisit (p : Instructions) (c : CertificateView) (k : ℕ) (v : Visit) : Type 0 where
+  pub insn_is : slice_get p.list k ≡ Some v.insn
+  pub slot_is : v.slot ≡ slots (take k p.list)
+  pub arrival_is : v.arrival ≡ arrives c v.slot (passed_before p c k)
+
+abbrev pub VisitsAreAssigned : Type 0
+VisitsAreAssigned = (p : Instructions) (c : CertificateView) → (length (visits p c) ≡ length p.list) × ((k : ℕ) (v : Visit) → slice_get (visits p c) k ≡ Some v → IsVisit p c k v)
