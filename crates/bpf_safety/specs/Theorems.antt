@@ -38,7 +38,9 @@ pub record IsSafe (p : Instructions) (least most bound : ℕ) : Type 0 where
 
 -- No run of a safe program is at fault, and none goes on for as many steps as its bound: it ends before.
 abbrev pub SafeHasNoFault : Type 0
-SafeHasNoFault = (p : Instructions) (least most bound : ℕ) (context : List ℕ) (slot : ℕ) (reason : Reason) (k : ℕ) → IsProgram p.list → IsSafe p least most bound → IsContext least most context → IsFault p context slot reason k → ⊥
+SafeHasNoFault =
+    (p : Instructions) (least most bound : ℕ) (context : List ℕ) (slot : ℕ) (reason : Reason) (k : ℕ)
+    → IsProgram p.list → IsSafe p least most bound → IsContext least most context → IsFault p context slot reason k → ⊥
 
 abbrev pub SafeEnds : Type 0
 SafeEnds = (p : Instructions) (least most bound fuel : ℕ) (context : List ℕ) → IsSafe p least most bound → IsContext least most context → bound ≤ fuel → CanMake p context fuel → ⊥
@@ -83,7 +85,11 @@ CertifiedIsFlatSafe = (p : Instructions) (c : CertificateView) → IsProgram p.l
 -- ---- budgets: the least slack is at the ends of the intervals
 
 abbrev pub SlackIsLeast : Type 0
-SlackIsLeast = (old new : Budget) (at_label edge : AbstractState) (cost slack : ℤ) → IsAbstract at_label → IsAbstract edge → HaveTagsOf (length old.terms) edge new.terms → least_slack old at_label cost edge new ≡ Some slack → (pos 0 ≤ℤ slack) ↔ Pays old at_label cost edge new
+SlackIsLeast =
+    (old new : Budget) (at_label edge : AbstractState) (cost slack : ℤ)
+    → IsAbstract at_label → IsAbstract edge → HaveTagsOf (length old.terms) edge new.terms
+    → least_slack old at_label cost edge new ≡ Some slack
+    → (pos 0 ≤ℤ slack) ↔ Pays old at_label cost edge new
 
 -- ---- work
 
