@@ -16,7 +16,7 @@ use Rattle.bpf_safety.specs.Certified.{Certified, IsLeastFlaw}
 use Rattle.bpf_safety.specs.Theorems.{IsSafe, IsFlatSafe, CertifiedIsSafe, CertifiedIsFlatSafe}
 use Rattle.bpf_check.specs.CheckedProgram.{IsCertifiedBy}
 use Rattle.bpf_check.specs.Runs.{RunsTo}
-use Rattle.bpf_check.specs.Verdicts.{Verified, HasFlaw, Certifies, little}
+use Rattle.bpf_check.specs.Verdicts.{Verified, Promises, HasFlaw, Certifies, little}
 use Rattle.bpf_check.specs.RefusalNumbers.{refusal_slot, refusal_number}
 use Rattle.bpf_check.specs.declared.refusal.Refusal.{Refusal}
 
@@ -64,6 +64,20 @@ verified one safe flat bytes p c im e by =
       safe = subst (λ q. IsSafe q c.len c.steps) is_little (safe p c by.program by.certificate by.certified);
       flat = subst (λ q. IsFlatSafe q c.len) is_little (flat p c by.program by.certificate by.certified);
     }
+
+-- the text that was read certifies the image's program, and tells what is promised
+pub promises : (bytes text : List ℕ) (p : Instructions) (c : CertificateView) (len bound : ℕ) → IsImage Little p.list bytes → p.order ≡ Little → IsCertifiedBy p c → Spells text c → len ≡ c.len → bound ≡ c.steps → Promises bytes text len bound
+promises bytes text p c len bound im e by spelled is_len is_bound = record {
+  certificate = c;
+  certifies = record {
+    program = p.list;
+    is_image = record { program = by.program; bytes_are = im.bytes_are };
+    spelled = spelled;
+    certified = subst (λ q. Certified q c) (little_is p e) by.certified;
+  };
+  length_is = is_len;
+  bound_is = is_bound;
+}
 
 -- of a value that may be unknown
 pub if_some : {A : Type 0} {P Q : A → Type 0} (o : Option A) → ((x : A) → P x → Q x) → IfSome o P → IfSome o Q

@@ -27,10 +27,17 @@ pub record Verified (bytes : List ℕ) (length bound : ℕ) : Type 0 where
   pub safe : IsSafe (little program) length bound
   pub flat : IsFlatSafe (little program) length
 
--- the text spells a certificate of this length and bound
-pub record Promises (text : List ℕ) (length bound : ℕ) : Type 0 where
+-- an image, and a text that spells a certificate which certifies its program
+pub record Certifies (image text : List ℕ) (c : CertificateView) : Type 0 where
+  pub program : List Insn
+  pub is_image : IsImageOfProgram Little image program
+  pub spelled : Spells text c
+  pub certified : Certified (little program) c
+
+-- the text spells a certificate of this length and bound, which certifies the image's program
+pub record Promises (image text : List ℕ) (length bound : ℕ) : Type 0 where
   pub certificate : CertificateView
-  pub spelled : Spells text certificate
+  pub certifies : Certifies image text certificate
   pub length_is : length ≡ certificate.len
   pub bound_is : bound ≡ certificate.steps
 
@@ -48,12 +55,11 @@ IsRefusedBy image text (InImage e) = IsRefused Little image e
 IsRefusedBy image text (InCert e) = ((is : List Insn) × IsImageOfProgram Little image is) × IsFaultOf text e
 IsRefusedBy image text (InCheck r) = HasFlaw image text r
 
--- an image and a text that certify one another
-pub record Certifies (image text : List ℕ) (c : CertificateView) : Type 0 where
-  pub program : List Insn
-  pub is_image : IsImageOfProgram Little image program
-  pub spelled : Spells text c
-  pub certified : Certified (little program) c
+-- the image is at fault where it is refused, and is that of a program where anything else is
+abbrev pub IsImageJudged : List ℕ → VerifyError → Type 0
+IsImageJudged image (InImage e) = IsRefused Little image e
+IsImageJudged image (InCert e) = (is : List Insn) × IsImageOfProgram Little image is
+IsImageJudged image (InCheck r) = (is : List Insn) × IsImageOfProgram Little image is
 
 -- the certificate could not be read: want of memory, or a fault of the reader
 abbrev pub IsUnread : VerifyError → Type 0

@@ -2,7 +2,7 @@
 
 ghost use Rattle.std.specs.Prelude.{◌≡◌, IfOk, IfErr};
 ghost use Rattle.bpf_safety.specs.Certified.{IsLeastFlaw};
-ghost use Rattle.bpf_check.specs.CheckedProgram.{checked};
+ghost use Rattle.bpf_check.specs.CheckedProgram.{IsCertifiedBy, checked};
 ghost use Rattle.bpf_check.specs.RefusalNumbers.{refusal_number, refusal_slot};
 
 use crate::checked::Checked;
@@ -21,6 +21,7 @@ pub fn check<'a, C: Code>(
     certificate: &'a Certificate,
 ) -> Result<Checked<'a, C>, Refusal>
     ensures ok { IfOk result (λ c. c ≡ checked (C.program program.now) certificate.now) }
+    ensures certified { IfOk result (λ c. IsCertifiedBy (C.program program.now) certificate.now) }
     ensures err { IfErr result (λ r. IsLeastFlaw (C.program program.now) certificate.now (refusal_slot r) (refusal_number r)) }
 {
     // A program and a certificate are valid by themselves.

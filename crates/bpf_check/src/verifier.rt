@@ -2,7 +2,7 @@
 
 ghost use Rattle.std.specs.Prelude.{◌≡◌, IfOk, IfErr, IfSome, MatchResult};
 ghost use Rattle.bpf_cert.specs.View.{CertificateView};
-ghost use Rattle.bpf_check.specs.Verdicts.{Verified, Promises, IsRefusedBy, Certifies, IsUnread};
+ghost use Rattle.bpf_check.specs.Verdicts.{Verified, Promises, IsImageJudged, IsRefusedBy, Certifies, IsUnread};
 
 use crate::checker::check;
 use crate::refusal::Refusal;
@@ -36,9 +36,9 @@ pub enum VerifyError {
     Check(Refusal),
 }
 
-/// Judges whether a certificate certifies the program of an image, and answers what it promises: the image is that of
-/// exactly one program, and on every context of `length` bytes the machine is never stuck on it, and comes to its end
-/// with a number within `bound` instructions.
+/// Judges whether a certificate certifies the program of an image: yes exactly where it does, want of memory and faults
+/// of the reader aside. A yes promises that the image is that of exactly one program, and that on every context of
+/// `length` bytes the machine is never stuck on it, and comes to its end with a number within `bound` instructions.
 ///
 /// Refused is the image first (E1 to E8), then the certificate (K1 to K5), then the one by the other (C1 to C13). The
 /// program takes no memory.
@@ -48,7 +48,8 @@ pub fn verify<R: Read + Drop>(
     certificate: R,
 ) -> Result<Verdict, VerifyError>
     ensures ok { IfOk result (λ v. Verified image.now v.length v.bound) }
-    ensures promised { IfOk result (λ v. IfSome (R.remaining certificate) (λ text. Promises text v.length v.bound)) }
+    ensures promised { IfOk result (λ v. IfSome (R.remaining certificate) (λ text. Promises image.now text v.length v.bound)) }
+    ensures err_image { IfErr result (λ e. IsImageJudged image.now e) }
     ensures err { IfErr result (λ e. IfSome (R.remaining certificate) (λ text. IsRefusedBy image.now text e)) }
     ensures accepts { IfSome (R.remaining certificate) (λ text. (c : CertificateView) → Certifies image.now text c → MatchResult result (λ v. (v.length ≡ c.len) × (v.bound ≡ c.steps)) IsUnread) }
 {
@@ -66,7 +67,6 @@ pub fn verify<R: Read + Drop>(
     };
     match check(&program, &certificate) {
         Ok(checked) => {
-            checked.valid();
             Ok(Verdict {
                 length: checked.length(),
                 bound: checked.bound(),
