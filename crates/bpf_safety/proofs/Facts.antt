@@ -155,6 +155,7 @@ module _ (p : Instructions) (c : CertificateView) (certified : Certified p c) wh
         entailed = λ a e. number-none 8 (is_not_entailed p c v a) (λ g. numbers_arrived v a h e 8 (Contains-append_left (number_if 8 (is_not_entailed p c v a) ++ number_if 9 (is_over_budget p c v a)) (number_if 11 (falls_past_end p c v a)) 8 (Contains-append_left (number_if 8 (is_not_entailed p c v a)) (number_if 9 (is_over_budget p c v a)) 8 g)));
         paid = λ a e. number-none 9 (is_over_budget p c v a) (λ g. numbers_arrived v a h e 9 (Contains-append_left (number_if 8 (is_not_entailed p c v a) ++ number_if 9 (is_over_budget p c v a)) (number_if 11 (falls_past_end p c v a)) 9 (Contains-append_right (number_if 8 (is_not_entailed p c v a)) (number_if 9 (is_over_budget p c v a)) 9 g)));
         not_past = λ a e. number-none 11 (falls_past_end p c v a) (λ g. numbers_arrived v a h e 11 (Contains-append_right (number_if 8 (is_not_entailed p c v a) ++ number_if 9 (is_over_budget p c v a)) (number_if 11 (falls_past_end p c v a)) 11 g));
+        reached = number-none 11 (is_never_reached c v) (λ g. no_number v h 11 (Contains-append_left (front ++ number_if 10 (calls_no_deeper c v) ++ number_if 11 (is_never_reached c v)) (number_if 12 (leaves_function p c v)) 11 (Contains-append_right (front ++ number_if 10 (calls_no_deeper c v)) (number_if 11 (is_never_reached c v)) 11 g)));
       }
 
   -- ---- labels
@@ -181,6 +182,7 @@ module _ (p : Instructions) (c : CertificateView) (certified : Certified p c) wh
       record {
         stands = number-none 2 (is_none (insn_at p.list l.slot)) (λ g. none 2 (Contains-append_left (first ++ bad) last 2 (Contains-append_left first bad 2 g)));
         terms = λ j t h. any_none (is_bad_term l) l.terms j t (number-none 9 (list_any (is_bad_term l) l.terms) (λ g. none 9 (Contains-append_left (first ++ bad) last 9 (Contains-append_right first bad 9 g)))) h;
+        tightens = (or_parts (is_outside c f.from l) (is_none (tightened l.state)) (number-none 13 (is_outside c f.from l || is_none (tightened l.state)) (λ g. none 13 (Contains-append_right (first ++ bad) last 13 g)))).1;
       }
 
   pub slot_of_label : (slot : ℕ) (l : LabelView) → label_at c slot ≡ Some l → l.slot ≡ slot

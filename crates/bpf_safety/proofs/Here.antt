@@ -19,10 +19,10 @@ use Rattle.bpf_safety.specs.Labels.{label_at, function_at}
 use Rattle.bpf_state.specs.declared.state.Place.TheVariants.{Register, Slot}
 use Rattle.bpf_num.specs.Interval.{Interval}
 use Rattle.bpf_num.specs.Number.{Has, IsNumber}
-use Rattle.bpf_state.specs.State.{IsPlace}
+use Rattle.bpf_state.specs.State.{IsPlace, tightened}
 use Rattle.bpf_safety.specs.Budget.{place_of, budget as budget_of, budget_value, InBox, bounds}
 use Rattle.bpf_safety.specs.Flow.{Arrival, Visit, visits, visits_from, arrives, label_state}
-use Rattle.bpf_safety.specs.Flaw.{lacks_label, is_not_entailed, is_over_budget, falls_past_end, is_bad_term, calls_no_deeper, leaves_function}
+use Rattle.bpf_safety.specs.Flaw.{lacks_label, is_not_entailed, is_over_budget, falls_past_end, is_bad_term, calls_no_deeper, is_never_reached, leaves_function}
 
 -- ---- what a certificate keeps, and what a certified program has
 
@@ -43,11 +43,13 @@ pub record IsRight (p : Instructions) (c : CertificateView) (v : Visit) : Type 0
   pub entailed : (a : Arrival) → v.arrival ≡ Some a → is_not_entailed p c v a ≡ false
   pub paid : (a : Arrival) → v.arrival ≡ Some a → is_over_budget p c v a ≡ false
   pub not_past : (a : Arrival) → v.arrival ≡ Some a → falls_past_end p c v a ≡ false
+  pub reached : is_never_reached c v ≡ false
 
 -- no condition fails at a label
 pub record IsRightLabel (p : Instructions) (l : LabelView) : Type 0 where
   pub stands : is_none (insn_at p.list l.slot) ≡ false
   pub terms : (j : ℕ) (t : Term) → slice_get l.terms j ≡ Some t → is_bad_term l t ≡ false
+  pub tightens : is_none (tightened l.state) ≡ false
 
 -- ---- visits: what the instructions from a slot on become is a part of all visits
 

@@ -17,3 +17,4 @@ mod Safe
 mod SafetyLaw
 mod FlatRuns
 mod WellFormedLaw
+mod WorkLaws

@@ -14,7 +14,7 @@ use Rattle.bpf_state.specs.declared.state.Place.{Place}
 use Rattle.bpf_state.specs.declared.state.Place.TheVariants.{Register, Slot}
 use Rattle.bpf_state.specs.declared.state.Tag.{Tag}
 use Rattle.bpf_state.specs.State.{AbstractState, register, slot, slot_value}
-use Rattle.bpf_sound.specs.Laws.{IsAbstract, IsRegister, IsSlot}
+use Rattle.bpf_sound.specs.Laws.{IsAbstract, IsAbstractRegister, IsAbstractSlot}
 use Rattle.bpf_cert.specs.declared.certificate.Term.{Term}
 use Rattle.bpf_safety.specs.Budget.{Budget, held, unsigned_bounds, place_of, tag_of, bounds, term_value, terms_value, budget_value, least_at_ends, greatest_at_ends, sum_if, shares, free_part, least_slack, AllowedBy, InBox, OnEdge, HaveTagsOf, Pays}
 use Rattle.bpf_safety.specs.Theorems.{SlackIsLeast}
@@ -23,13 +23,13 @@ use Rattle.bpf_safety.proofs.SlackLaws.{parts, from_bounds, all_shares, all_shar
 
 -- ---- the bounds of a state are intervals
 
-register_ordered : (v : RegState) (r : Interval) → IsRegister v → unsigned_bounds v ≡ Some r → r.lo ≤ r.hi
+register_ordered : (v : RegState) (r : Interval) → IsAbstractRegister v → unsigned_bounds v ≡ Some r → r.lo ≤ r.hi
 register_ordered (Num n) r is e = subst (λ i. i.lo ≤ i.hi) (some_is n.unsigned r e) is.unsigned.ordered
 register_ordered Any r is e = absurd (false≢true (ap is_some e))
 register_ordered (Ctx lo hi) r is e = absurd (false≢true (ap is_some e))
 register_ordered (Frame lo hi) r is e = absurd (false≢true (ap is_some e))
 
-slot_ordered : (v : SlotState) (r : Interval) → IsSlot v → unsigned_bounds (slot_value v) ≡ Some r → r.lo ≤ r.hi
+slot_ordered : (v : SlotState) (r : Interval) → IsAbstractSlot v → unsigned_bounds (slot_value v) ≡ Some r → r.lo ≤ r.hi
 slot_ordered (Word n) r is e = register_ordered (Num n) r is e
 slot_ordered (Bytes mask) r is e = absurd (false≢true (ap is_some e))
 slot_ordered (Ptr (CtxIn lo hi)) r is e = absurd (false≢true (ap is_some e))

@@ -14,7 +14,7 @@ use Rattle.bpf_state.specs.declared.state.Pointer.TheVariants.{Ctx as CtxIn, Fra
 use Rattle.bpf_state.specs.declared.state.Place.{Place}
 use Rattle.bpf_state.specs.declared.state.Place.TheVariants.{Register, Slot}
 use Rattle.bpf_state.specs.State.{AbstractState, IsPlace}
-use Rattle.bpf_sound.specs.Laws.{IsAbstract, IsRegister, IsSlot, IsPointerRange}
+use Rattle.bpf_sound.specs.Laws.{IsAbstract, IsAbstractRegister, IsAbstractSlot}
 use Rattle.bpf_cert.specs.declared.certificate.Measure.{Measure}
 use Rattle.bpf_cert.specs.declared.certificate.Measure.TheVariants.{Down, Up}
 use Rattle.bpf_cert.specs.declared.certificate.Term.{Term}
@@ -91,18 +91,17 @@ number_fits n e =
     below_end : (h : ℕ) → h ≤ 2 ^ 64 - 1 → h < 2 ^ 64
     below_end h le = omega arith
 
-pointer_fits : (lo hi : ℤ) → is_pointer_range lo hi ≡ true → IsPointerRange lo hi
+pointer_fits : (lo hi : ℤ) → is_pointer_range lo hi ≡ true → lo ≤ℤ hi
 pointer_fits lo hi e =
-    let h = three (int_le (neg_ℤ (pos (2 ^ 31))) lo) (int_le hi (pos (2 ^ 31))) (int_le lo hi) e in
-    record { above = int_at_most (neg_ℤ (pos (2 ^ 31))) lo h.0; ordered = int_at_most lo hi h.2; below = int_at_most hi (pos (2 ^ 31)) h.1 }
+    int_at_most lo hi (three (int_le (neg_ℤ (pos (2 ^ 31))) lo) (int_le hi (pos (2 ^ 31))) (int_le lo hi) e).2
 
-register_fits : (v : RegState) → is_limited_register v ≡ true → IsRegister v
+register_fits : (v : RegState) → is_limited_register v ≡ true → IsAbstractRegister v
 register_fits Any e = tt
 register_fits (Num n) e = number_fits n e
 register_fits (Ctx lo hi) e = pointer_fits lo hi e
 register_fits (Frame lo hi) e = pointer_fits lo hi e
 
-slot_fits : (v : SlotState) → is_limited_slot v ≡ true → IsSlot v
+slot_fits : (v : SlotState) → is_limited_slot v ≡ true → IsAbstractSlot v
 slot_fits (Bytes mask) e = at_most mask 254 e
 slot_fits (Word n) e = number_fits n e
 slot_fits (Ptr (CtxIn lo hi)) e = pointer_fits lo hi e

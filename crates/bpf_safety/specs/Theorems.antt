@@ -1,5 +1,5 @@
 -- The promises of an accepted certificate, over the machine's definitions.
-use Rattle.std.specs.Prelude.{◌≡◌, ℕ, suc, ◌≤◌, ◌<◌, ◌↔◌, ℤ, pos, ◌≤ℤ◌, List, length, Some}
+use Rattle.std.specs.Prelude.{◌≡◌, ℕ, suc, ◌+◌, ◌*◌, ◌≤◌, ◌<◌, ◌↔◌, ℤ, pos, ◌≤ℤ◌, List, length, sum_by, Some}
 use Rattle.bpf_insn.specs.Instruction.{Instructions}
 use Rattle.bpf_insn.specs.Image.{IsProgram}
 use Rattle.bpf_insn.specs.Laws.{AreBytes}
@@ -15,6 +15,8 @@ use Rattle.bpf_cert.specs.View.{CertificateView}
 use Rattle.bpf_cert.specs.Limits.{IsCertificate}
 use Rattle.bpf_safety.specs.Budget.{Budget, least_slack, Pays, HaveTagsOf}
 use Rattle.bpf_safety.specs.Certified.{Certified}
+use Rattle.bpf_safety.specs.Flow.{visits}
+use Rattle.bpf_safety.specs.Work.{transfers, comparisons, transferred_at, compared_at_start, compared_at}
 
 -- a context of `len` bytes
 pub record IsContext (len : ℕ) (context : List ℕ) : Type 0 where
@@ -69,3 +71,17 @@ CertifiedIsFlatSafe = (p : Instructions) (c : CertificateView) → IsProgram p.l
 
 abbrev pub SlackIsLeast : Type 0
 SlackIsLeast = (old new : Budget) (at_label edge : AbstractState) (cost slack : ℤ) → IsAbstract at_label → IsAbstract edge → HaveTagsOf (length old.terms) edge new.terms → least_slack old at_label cost edge new ≡ Some slack → (pos 0 ≤ℤ slack) ↔ Pays old at_label cost edge new
+
+-- ---- work
+
+-- of a certified program the visits make a transfer each, and the start and the visits make its comparisons
+pub record WorkIs (p : Instructions) (c : CertificateView) : Type 0 where
+  pub transferred : sum_by transferred_at (visits p c) ≡ transfers p
+  pub compared : compared_at_start c + sum_by (compared_at p c) (visits p c) ≡ comparisons p c
+
+abbrev pub CertifiedWork : Type 0
+CertifiedWork = (p : Instructions) (c : CertificateView) → IsCertificate c → Certified p c → WorkIs p c
+
+-- at most two comparisons an instruction, and one
+abbrev pub ComparisonsAreFew : Type 0
+ComparisonsAreFew = (p : Instructions) (c : CertificateView) → comparisons p c ≤ 2 * transfers p + 1

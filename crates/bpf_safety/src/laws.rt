@@ -1,6 +1,6 @@
 //! Laws of the definitions, each as the contract of a function.
 
-ghost use Rattle.bpf_safety.specs.Theorems.{SlackIsLeast, CertifiedIsSafe, SafeHasNoFault, SafeEnds, ProgramIsFlatSafe, CertifiedIsFlatSafe};
+ghost use Rattle.bpf_safety.specs.Theorems.{SlackIsLeast, CertifiedIsSafe, SafeHasNoFault, SafeEnds, ProgramIsFlatSafe, CertifiedIsFlatSafe, CertifiedWork, ComparisonsAreFew};
 
 use bpf_insn::{
     finish_is_last, flat_finishes, flat_follows, runs_keep_states, start_is_state,
@@ -69,3 +69,13 @@ pub fn certified_is_flat_safe()
 {
     program_is_flat_safe();
 }
+
+/// The check of a certified program makes a transfer for each instruction, and its comparisons at the start and at its visits.
+pub fn certified_work()
+    ensures { CertifiedWork }
+{}
+
+/// A program's comparisons are at most two for each instruction, and one.
+pub fn comparisons_are_few()
+    ensures { ComparisonsAreFew }
+{}

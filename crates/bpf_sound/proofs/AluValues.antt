@@ -1,5 +1,5 @@
 -- Arithmetic on what is known of two values: the result describes the machine's.
-use Rattle.std.proofs.Common.{◌≡◌, ℕ, ℤ, ◌+ℤ◌, ◌-ℤ◌, ◌^◌, refl, sym, ◌∙◌, ap, subst, arith, Option, Some, None, Bool, true, false, cond}
+use Rattle.std.proofs.Common.{◌≡◌, ℕ, ℤ, ◌+ℤ◌, ◌-ℤ◌, ◌≤ℤ◌, ◌^◌, refl, sym, ◌∙◌, ap, subst, arith, Option, Some, None, Bool, true, false, cond}
 use Rattle.std.specs.Prelude.{◌&&◌, not, is_some, pos, neg_ℤ, int_le, option_map, option_and_then}
 use Rattle.std.proofs.lemmas.Int.{ints}
 use Rattle.std.proofs.lemmas.Bool.{false≢true, eq-eqb}
@@ -21,7 +21,7 @@ use Rattle.bpf_state.specs.declared.state.RegState.{RegState}
 use Rattle.bpf_state.specs.declared.state.RegState.TheVariants.{Num, Ctx, Frame}
 use Rattle.bpf_state.specs.Fault.{alu_of_kinds, difference, leaves_bounds, some_passes}
 use Rattle.bpf_sound.specs.Describes.{DescribesRegister, PointsInto}
-use Rattle.bpf_sound.specs.Laws.{IsRegister, IsPointerRange}
+use Rattle.bpf_sound.specs.Laws.{IsAbstractRegister}
 use Rattle.bpf_sound.proofs.Lists.{Given}
 use Rattle.bpf_sound.proofs.Tags.{is_mov}
 use Rattle.bpf_sound.proofs.Offsets.{in_range, pointer_plus, pointer_minus, difference_holds}
@@ -35,7 +35,7 @@ leaves width op A B = some_passes leaves_bounds (result_of_kinds width op A B)
 
 -- a result describes a value
 abbrev pub IsResult : ℕ → Value → RegState → Type 0
-IsResult depth v R = IsRegister R × DescribesRegister depth R (Some v)
+IsResult depth v R = IsAbstractRegister R × DescribesRegister depth R (Some v)
 
 -- the operands' values, and the result
 at_values : (width : Width) (op : AluOp) (a : Option Value) (b a' b' v : Value) → a ≡ Some a' → Some b ≡ Some b' → alu_result width op a b ≡ Some v → alu_result width op (Some a') b' ≡ Some v
@@ -51,50 +51,47 @@ number_given depth o y v h e = record {
 -- bounds of a sum or a difference of a pointer and a number, and of the offset
 module _ (v : Value) (region : Region) (lo hi : ℤ) (n : Number) where
   abbrev Points : ℤ → ℤ → Type 0
-  Points low high = IsPointerRange low high × PointsInto region low high (Some v)
+  Points low high = (low ≤ℤ high) × PointsInto region low high (Some v)
 
   abbrev leaves_range : ℤ → ℤ → Bool
   leaves_range low high = not (int_le (neg_ℤ (pos (2 ^ 31))) low && int_le high (pos (2 ^ 31)))
 
-  plus : (a : Option Value) (b : Value) → IsPointerRange lo hi → PointsInto region lo hi a → IsNumber n → DescribesRegister 0 (Num n) (Some b) → leaves_range (lo +ℤ n.signed.lo) (hi +ℤ n.signed.hi) ≡ false → alu_result W64 Add a b ≡ Some v → Points (lo +ℤ n.signed.lo) (hi +ℤ n.signed.hi)
+  plus : (a : Option Value) (b : Value) → lo ≤ℤ hi → PointsInto region lo hi a → IsNumber n → DescribesRegister 0 (Num n) (Some b) → leaves_range (lo +ℤ n.signed.lo) (hi +ℤ n.signed.hi) ≡ false → alu_result W64 Add a b ≡ Some v → Points (lo +ℤ n.signed.lo) (hi +ℤ n.signed.hi)
   plus a b ok d ok' d' near e =
-      let r = ok.ordered in
       let q = ok'.signed.ordered in
-      let range = in_range (lo +ℤ n.signed.lo) (hi +ℤ n.signed.hi) (omega (arith, ints)) near in
+      let range = in_range (lo +ℤ n.signed.lo) (hi +ℤ n.signed.hi) near in
       let is = at_values W64 Add a b (PointerValue region d.0) (NumberValue d'.0) v d.1 d'.1 e in
-      (range, subst (λ o. PointsInto region (lo +ℤ n.signed.lo) (hi +ℤ n.signed.hi) o) is (pointer_plus region lo hi d.0 n d'.0 d'.2 d.2 d.3 range))
+      (omega (arith, ints), subst (λ o. PointsInto region (lo +ℤ n.signed.lo) (hi +ℤ n.signed.hi) o) is (pointer_plus region lo hi d.0 n d'.0 d'.2 d.2 d.3 range))
 
-  plus_left : (a : Option Value) (b : Value) → IsNumber n → DescribesRegister 0 (Num n) a → IsPointerRange lo hi → PointsInto region lo hi (Some b) → leaves_range (lo +ℤ n.signed.lo) (hi +ℤ n.signed.hi) ≡ false → alu_result W64 Add a b ≡ Some v → Points (lo +ℤ n.signed.lo) (hi +ℤ n.signed.hi)
+  plus_left : (a : Option Value) (b : Value) → IsNumber n → DescribesRegister 0 (Num n) a → lo ≤ℤ hi → PointsInto region lo hi (Some b) → leaves_range (lo +ℤ n.signed.lo) (hi +ℤ n.signed.hi) ≡ false → alu_result W64 Add a b ≡ Some v → Points (lo +ℤ n.signed.lo) (hi +ℤ n.signed.hi)
   plus_left a b ok d ok' d' near e =
-      let r = ok'.ordered in
       let q = ok.signed.ordered in
-      let range = in_range (lo +ℤ n.signed.lo) (hi +ℤ n.signed.hi) (omega (arith, ints)) near in
+      let range = in_range (lo +ℤ n.signed.lo) (hi +ℤ n.signed.hi) near in
       let is = at_values W64 Add a b (NumberValue d.0) (PointerValue region d'.0) v d.1 d'.1 e in
-      (range, subst (λ o. PointsInto region (lo +ℤ n.signed.lo) (hi +ℤ n.signed.hi) o) is (pointer_plus region lo hi d'.0 n d.0 d.2 d'.2 d'.3 range))
+      (omega (arith, ints), subst (λ o. PointsInto region (lo +ℤ n.signed.lo) (hi +ℤ n.signed.hi) o) is (pointer_plus region lo hi d'.0 n d.0 d.2 d'.2 d'.3 range))
 
-  minus : (a : Option Value) (b : Value) → IsPointerRange lo hi → PointsInto region lo hi a → IsNumber n → DescribesRegister 0 (Num n) (Some b) → leaves_range (lo -ℤ n.signed.hi) (hi -ℤ n.signed.lo) ≡ false → alu_result W64 Sub a b ≡ Some v → Points (lo -ℤ n.signed.hi) (hi -ℤ n.signed.lo)
+  minus : (a : Option Value) (b : Value) → lo ≤ℤ hi → PointsInto region lo hi a → IsNumber n → DescribesRegister 0 (Num n) (Some b) → leaves_range (lo -ℤ n.signed.hi) (hi -ℤ n.signed.lo) ≡ false → alu_result W64 Sub a b ≡ Some v → Points (lo -ℤ n.signed.hi) (hi -ℤ n.signed.lo)
   minus a b ok d ok' d' near e =
-      let r = ok.ordered in
       let q = ok'.signed.ordered in
-      let range = in_range (lo -ℤ n.signed.hi) (hi -ℤ n.signed.lo) (omega (arith, ints)) near in
+      let range = in_range (lo -ℤ n.signed.hi) (hi -ℤ n.signed.lo) near in
       let is = at_values W64 Sub a b (PointerValue region d.0) (NumberValue d'.0) v d.1 d'.1 e in
-      (range, subst (λ o. PointsInto region (lo -ℤ n.signed.hi) (hi -ℤ n.signed.lo) o) is (pointer_minus region lo hi d.0 n d'.0 d'.2 d.2 d.3 range))
+      (omega (arith, ints), subst (λ o. PointsInto region (lo -ℤ n.signed.hi) (hi -ℤ n.signed.lo) o) is (pointer_minus region lo hi d.0 n d'.0 d'.2 d.2 d.3 range))
 
 same_as_itself : (region : Region) → same_region region region ≡ true
 same_as_itself Context = refl
 same_as_itself (FrameAt n) = eq-eqb n n refl
 
-between : TightenKeeps → (depth : ℕ) (region : Region) (c C d D : ℤ) (a : Option Value) (b v : Value) → IsPointerRange c C → PointsInto region c C a → IsPointerRange d D → PointsInto region d D (Some b) → alu_result W64 Sub a b ≡ Some v → Given (difference c C d D) (IsResult depth v)
-between law depth region c C d D a b v ok is ok' is' e =
+between : TightenKeeps → (depth : ℕ) (region : Region) (c C d D : ℤ) (a : Option Value) (b v : Value) → PointsInto region c C a → PointsInto region d D (Some b) → alu_result W64 Sub a b ≡ Some v → Given (difference c C d D) (IsResult depth v)
+between law depth region c C d D a b v is is' e =
     let z : ℕ = modulo (is.0 -ℤ is'.0) (2 ^ 64) in
-    number_given depth _ z v (difference_holds law c C d D is.0 is'.0 ok ok' is.2 is.3 is'.2 is'.3)
+    number_given depth _ z v (difference_holds law c C d D is.0 is'.0 is.2 is.3 is'.2 is'.3)
     (sym (ap (λ t. cond t (Some (NumberValue z)) None) (same_as_itself region)) ∙ at_values W64 Sub a b (PointerValue region is.0) (PointerValue region is'.0) v is.1 is'.1 e)
 
 there : (depth : ℕ) (v : Value) (R : RegState) → IsResult depth v R → Given (Some R) (IsResult depth v)
 there depth v R is = record { value = R; is_there = refl; good = is }
 
 module _ (law : AluKeeps) (tightens : TightenKeeps) (depth : ℕ) (a : Option Value) (b v : Value) where
-  pub alu_value : (width : Width) (op : AluOp) (A B : RegState) → IsRegister A → DescribesRegister depth A a → IsRegister B → DescribesRegister depth B (Some b) → is_some (alu_of_kinds width op A B) ≡ true → (is_mov op ≡ false → leaves width op A B ≡ false) → alu_result width op a b ≡ Some v → Given (result_of_kinds width op A B) (IsResult depth v)
+  pub alu_value : (width : Width) (op : AluOp) (A B : RegState) → IsAbstractRegister A → DescribesRegister depth A a → IsAbstractRegister B → DescribesRegister depth B (Some b) → is_some (alu_of_kinds width op A B) ≡ true → (is_mov op ≡ false → leaves width op A B ≡ false) → alu_result width op a b ≡ Some v → Given (result_of_kinds width op A B) (IsResult depth v)
   alu_value W64 Mov A B ok d ok' d' kinds near e = there depth v B (ok', subst (λ o. DescribesRegister depth B o) e d')
   alu_value W32 Mov A (Num n) ok d ok' d' kinds near e =
       let z : ℕ = d'.0 in
@@ -107,6 +104,6 @@ module _ (law : AluKeeps) (tightens : TightenKeeps) (depth : ℕ) (a : Option Va
   alu_value W64 Add (Num n) (Frame lo hi) ok d ok' d' kinds near e = there depth v _ (plus_left v (FrameAt depth) lo hi n a b ok d ok' d' (near refl) e)
   alu_value W64 Sub (Ctx lo hi) (Num n) ok d ok' d' kinds near e = there depth v _ (minus v Context lo hi n a b ok d ok' d' (near refl) e)
   alu_value W64 Sub (Frame lo hi) (Num n) ok d ok' d' kinds near e = there depth v _ (minus v (FrameAt depth) lo hi n a b ok d ok' d' (near refl) e)
-  alu_value W64 Sub (Ctx c C) (Ctx k K) ok d ok' d' kinds near e = between tightens depth Context c C k K a b v ok d ok' d' e
-  alu_value W64 Sub (Frame c C) (Frame k K) ok d ok' d' kinds near e = between tightens depth (FrameAt depth) c C k K a b v ok d ok' d' e
+  alu_value W64 Sub (Ctx c C) (Ctx k K) ok d ok' d' kinds near e = between tightens depth Context c C k K a b v d d' e
+  alu_value W64 Sub (Frame c C) (Frame k K) ok d ok' d' kinds near e = between tightens depth (FrameAt depth) c C k K a b v d d' e
   alu_value width op A B ok d ok' d' kinds near e = absurd (false≢true kinds)

@@ -30,7 +30,7 @@ use Rattle.bpf_state.specs.Access.{Span, span_from, any_slot, is_pointer_slot, a
 use Rattle.bpf_state.specs.Fault.{have_right_kinds, reads_part, some_passes, is_number, is_pointer, atomic_kinds}
 use Rattle.bpf_state.specs.Transfer.{after, fetched, loaded, modified_by, slot_maybe_written, with_touched}
 use Rattle.bpf_sound.specs.Describes.{Describes, DescribesRegister}
-use Rattle.bpf_sound.specs.Laws.{Leads, IsJudged, IsAbstract, IsRegister}
+use Rattle.bpf_sound.specs.Laws.{Leads, IsJudged, IsAbstract, IsAbstractRegister}
 use Rattle.bpf_sound.proofs.Judged.{NoFault, no_fault_is, step_is, leads_at, top_frame}
 use Rattle.bpf_sound.proofs.Registers.{reg_top, put_is, register_put}
 use Rattle.bpf_sound.proofs.ReadCells.{ReadBytes, no_slot}
@@ -105,42 +105,42 @@ module _ (m : machine.State) (wide : Bool) (op : AtomicOp) (dst src : Reg) (off 
 
 -- ---- the state after it
 
-module _ (p : Instructions) (len : ℕ) (x : List ℕ) (s : AbstractState) (m : machine.State) (span : Span) (c sl : ℕ) (bytes : List ℕ) (valid : IsAbstract s) (frame : IsFrame m.top) (w : Write m.top span c bytes) (d : Describes p.order len x s m) where
+module _ (p : Instructions) (least most : ℕ) (x : List ℕ) (s : AbstractState) (m : machine.State) (span : Span) (c sl : ℕ) (bytes : List ℕ) (valid : IsAbstract s) (frame : IsFrame m.top) (w : Write m.top span c bytes) (d : Describes p.order least most x s m) where
   changed : AbstractState
   changed = with_touched span (λ k held. slot_maybe_written held) s
 
   next_state : machine.State
   next_state = at_top m sl (with_bytes bytes c m.top.stack)
 
-  slots_changed : Leads p len x (Some changed) next_state
+  slots_changed : Leads p least most x (Some changed) next_state
   unfolding changed next_state
   slots_changed = record {
     state = changed;
     is_there = refl;
-    valid = touched_valid p.order len x s m span c sl bytes (λ k held. slot_maybe_written held) valid w d (λ k low high h. is_slot_maybe_written (slot s k) h);
-    describes = touched_describes p.order len x s m span c sl bytes (λ k held. slot_maybe_written held) valid w d (λ k low high. unknown_slot m.top span c bytes w k low high p.order (machine.depth m) (slot s k) (d.slots k low high));
+    valid = touched_valid p.order least most x s m span c sl bytes (λ k held. slot_maybe_written held) valid w d (λ k low high h. is_slot_maybe_written (slot s k) h);
+    describes = touched_describes p.order least most x s m span c sl bytes (λ k held. slot_maybe_written held) valid w d (λ k low high. unknown_slot m.top span c bytes w k low high p.order (machine.depth m) (slot s k) (d.slots k low high));
   }
 
   -- a register is changed too: it and the slots as each would be by itself
-  register_changed : (r : Reg) (v : Value) (value : RegState) → DescribesRegister (machine.depth m) value (Some v) → IsRegister value → Leads p len x (Some (put_register r value None changed)) (reg_top next_state sl r v)
+  register_changed : (r : Reg) (v : Value) (value : RegState) → DescribesRegister (machine.depth m) value (Some v) → IsAbstractRegister value → Leads p least most x (Some (put_register r value None changed)) (reg_top next_state sl r v)
   unfolding changed next_state slots_changed
   register_changed r v value is ok =
       let put : AbstractState = put_register r value None s in
-      let l = register_put p len x s m r v sl value None valid frame d is tt ok in
+      let l = register_put p least most x s m r v sl value None valid frame d is tt ok in
       let e = same_Some put l.state l.is_there in
       let ok' : IsAbstract put = subst IsAbstract (sym e) l.valid in
-      let d' : Describes p.order len x put (reg_top m sl r v) = subst (λ t. Describes p.order len x t (reg_top m sl r v)) (sym e) l.describes in
+      let d' : Describes p.order least most x put (reg_top m sl r v) = subst (λ t. Describes p.order least most x t (reg_top m sl r v)) (sym e) l.describes in
       let t = slots_changed in
       record {
         state = put_register r value None changed;
         is_there = refl;
         valid = record { eleven = ok'.eleven; slots_are = t.valid.slots_are; eleven_tags = ok'.eleven_tags; slot_tags_are = t.valid.slot_tags_are; registers = ok'.registers; slots = t.valid.slots };
-        describes = record { length_is = d.length_is; registers = d'.registers; slots = t.describes.slots; register_tags = d'.register_tags; slot_tags = t.describes.slot_tags };
+        describes = record { length_within = d.length_within; registers = d'.registers; slots = t.describes.slots; register_tags = d'.register_tags; slot_tags = t.describes.slot_tags };
       }
 
-module _ (p : Instructions) (len : ℕ) (x : List ℕ) (wide : Bool) (op : AtomicOp) (dst src : Reg) (off : ℤ) (s : AbstractState) (m : machine.State) (j : IsJudged p len x (Atomic wide op dst off src) s m) where
-  fault : NoFault len s (Atomic wide op dst off src)
-  fault = no_fault_is len s (Atomic wide op dst off src) j.no_fault
+module _ (p : Instructions) (least most : ℕ) (x : List ℕ) (wide : Bool) (op : AtomicOp) (dst src : Reg) (off : ℤ) (s : AbstractState) (m : machine.State) (j : IsJudged p least most x (Atomic wide op dst off src) s m) where
+  fault : NoFault least s (Atomic wide op dst off src)
+  fault = no_fault_is least s (Atomic wide op dst off src) j.no_fault
 
   kinds : (is_pointer (register s dst) ≡ true) × (is_number (register s src) ≡ true) × (atomic_kinds op s ≡ true)
   kinds = and3_true (is_pointer (register s dst)) (is_number (register s src)) (atomic_kinds op s) (not-false (have_right_kinds s (Atomic wide op dst off src)) (or_parts (not (have_right_kinds s (Atomic wide op dst off src))) (reads_part s (Atomic wide op dst off src)) fault.kinds).0)
@@ -149,7 +149,7 @@ module _ (p : Instructions) (len : ℕ) (x : List ℕ) (wide : Bool) (op : Atomi
   protected = or_parts (option_map_or is_frame_pointer (fetch_register op src) false) (some_passes (λ p. not p.in_frame) (span_from (atomic_access wide dst off) (register s dst))) fault.protected
 
   pub atomic_base : InTop m (atomic_access wide dst off) (register s dst)
-  atomic_base = in_top m len (atomic_access wide dst off) (register s dst) kinds.0 protected.1 fault.bounds (j.described.registers dst)
+  atomic_base = in_top m least (atomic_access wide dst off) (register s dst) kinds.0 protected.1 fault.bounds (j.described.registers dst)
 
   source : (y : ℕ) × (machine.register m src ≡ Some (NumberValue y))
   source = number_held (machine.depth m) (register s src) (machine.register m src) kinds.1 (j.described.registers src)
@@ -165,7 +165,7 @@ module _ (p : Instructions) (len : ℕ) (x : List ℕ) (wide : Bool) (op : Atomi
 
     old_bytes : ReadBytes (byte_count (word_size wide)) t.first m.top.stack
     old_bytes =
-        frame_bytes p.order len x s m (atomic_access wide dst off) (register s dst) j.valid j.state j.described t plain
+        frame_bytes p.order least most x s m (atomic_access wide dst off) (register s dst) j.valid j.state j.described t plain
         (subst (λ o. some_passes (λ p. any_slot (λ k held. touches p k && not (are_known_bytes (touched_bytes p k) held)) 1 s.slots) o ≡ false) t.span_is fault.bytes)
 
     write : Write m.top t.span t.first (bytes_of p.order (byte_count (word_size wide)) (written m wide op dst src off (register s dst) t source.0 source.1 zero old_bytes p.order))
@@ -174,10 +174,10 @@ module _ (p : Instructions) (len : ℕ) (x : List ℕ) (wide : Bool) (op : Atomi
         let new : ℕ = written m wide op dst src off (register s dst) t source.0 source.1 zero old_bytes p.order in
         record { frame = top_frame m j.state; lies = t.lies; count = length-bytes_of p.order n new ∙ sym t.count; fit = are_bytes_of p.order n new }
 
-    atomic_leads : TightenKeeps → (m' : machine.State) → Step p m m' → Leads p len x (after p.order (Atomic wide op dst off src) s) m'
+    atomic_leads : TightenKeeps → (m' : machine.State) → Step p m m' → Leads p least most x (after p.order (Atomic wide op dst off src) s) m'
     unfolding changed next_state cells
     atomic_leads tightens m' goes =
-        subst (λ o. Leads p len x (option_and_then (fetched (fetch_register op src) (loaded s o (word_size wide))) (modified_by o s)) m') (sym t.span_is)
+        subst (λ o. Leads p least most x (option_and_then (fetched (fetch_register op src) (loaded s o (word_size wide))) (modified_by o s)) m') (sym t.span_is)
         (by_register (fetch_register op src) protected.0 (sym (does_atomic m wide op dst src off (register s dst) t source.0 source.1 zero old_bytes p.order) ∙ step_is p m m' (Atomic wide op dst off src) j.stands goes))
       where
         sl : ℕ
@@ -196,19 +196,19 @@ module _ (p : Instructions) (len : ℕ) (x : List ℕ) (wide : Bool) (op : Atomi
         new_machine = at_top m sl (with_bytes bytes t.first m.top.stack)
 
         known : Known x s m t.span (word_size wide) old
-        known = frame_known tightens p.order len x s m (atomic_access wide dst off) (register s dst) j.valid j.described t old_bytes plain
+        known = frame_known tightens p.order least most x s m (atomic_access wide dst off) (register s dst) j.valid j.described t old_bytes plain
 
-        by_register : (f : Option Reg) → option_map_or is_frame_pointer f false ≡ false → machine_fetched f old new_machine ≡ Some m' → Leads p len x (fetched f (loaded s (Some t.span) (word_size wide)) new_state) m'
+        by_register : (f : Option Reg) → option_map_or is_frame_pointer f false ≡ false → machine_fetched f old new_machine ≡ Some m' → Leads p least most x (fetched f (loaded s (Some t.span) (word_size wide)) new_state) m'
         by_register None other did =
-            leads_at p len x (Some new_state) new_machine m' (same_Some new_machine m' did)
-            (slots_changed p len x s m t.span t.first sl bytes j.valid (top_frame m j.state) write j.described)
+            leads_at p least most x (Some new_state) new_machine m' (same_Some new_machine m' did)
+            (slots_changed p least most x s m t.span t.first sl bytes j.valid (top_frame m j.state) write j.described)
         by_register (Some r) other did =
-            subst (λ o. Leads p len x (option_map (λ v. put_register r v None new_state) o) m') (sym known.is_there)
-            (leads_at p len x (Some (put_register r known.state None new_state)) (reg_top new_machine sl r (NumberValue old)) m' (same_Some (reg_top new_machine sl r (NumberValue old)) m' (sym (put_is r (NumberValue old) sl new_machine other) ∙ did))
-            (register_changed p len x s m t.span t.first sl bytes j.valid (top_frame m j.state) write j.described r (NumberValue old) known.state known.describes known.valid))
+            subst (λ o. Leads p least most x (option_map (λ v. put_register r v None new_state) o) m') (sym known.is_there)
+            (leads_at p least most x (Some (put_register r known.state None new_state)) (reg_top new_machine sl r (NumberValue old)) m' (same_Some (reg_top new_machine sl r (NumberValue old)) m' (sym (put_is r (NumberValue old) sl new_machine other) ∙ did))
+            (register_changed p least most x s m t.span t.first sl bytes j.valid (top_frame m j.state) write j.described r (NumberValue old) known.state known.describes known.valid))
 
   pub atomic_reason : reason_at m (Atomic wide op dst off src) ≡ None
   atomic_reason = atomic_has_none m wide op dst src off (register s dst) atomic_base source.0 source.1 zero (old_bytes atomic_base) protected.0
 
-pub atomic_keeps : TightenKeeps → (p : Instructions) (len : ℕ) (x : List ℕ) (wide : Bool) (op : AtomicOp) (dst src : Reg) (off : ℤ) (s : AbstractState) (m m' : machine.State) → IsJudged p len x (Atomic wide op dst off src) s m → Step p m m' → Leads p len x (after p.order (Atomic wide op dst off src) s) m'
-atomic_keeps tightens p len x wide op dst src off s m m' j goes = atomic_leads p len x wide op dst src off s m j (atomic_base p len x wide op dst src off s m j) tightens m' goes
+pub atomic_keeps : TightenKeeps → (p : Instructions) (least most : ℕ) (x : List ℕ) (wide : Bool) (op : AtomicOp) (dst src : Reg) (off : ℤ) (s : AbstractState) (m m' : machine.State) → IsJudged p least most x (Atomic wide op dst off src) s m → Step p m m' → Leads p least most x (after p.order (Atomic wide op dst off src) s) m'
+atomic_keeps tightens p least most x wide op dst src off s m m' j goes = atomic_leads p least most x wide op dst src off s m j (atomic_base p least most x wide op dst src off s m j) tightens m' goes

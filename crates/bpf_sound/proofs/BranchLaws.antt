@@ -25,7 +25,7 @@ use Rattle.bpf_state.specs.State.{AbstractState, register, register_tag}
 use Rattle.bpf_state.specs.Fault.{operand}
 use Rattle.bpf_state.specs.Transfer.{refined, is_register, refine_register, refine_operand}
 use Rattle.bpf_sound.specs.Describes.{Describes, DescribesRegister, TaggedRegister}
-use Rattle.bpf_sound.specs.Laws.{IsAbstract, IsRegister, Leads, Tests, BranchKeeps}
+use Rattle.bpf_sound.specs.Laws.{IsAbstract, IsAbstractRegister, Leads, Tests, BranchKeeps}
 use Rattle.bpf_sound.proofs.Judged.{step_is, leads_at}
 use Rattle.bpf_sound.proofs.Lists.{Given}
 use Rattle.bpf_sound.proofs.Registers.{below_eleven}
@@ -56,11 +56,11 @@ one_set P xs k j a d fits new old =
     ]
 
 -- the machine is described by a state
-abbrev Is : Order → ℕ → List ℕ → machine.State → AbstractState → Type 0
-Is order len x m s = IsAbstract s × Describes order len x s m
+abbrev Is : Order → ℕ → ℕ → List ℕ → machine.State → AbstractState → Type 0
+Is order least most x m s = IsAbstract s × Describes order least most x s m
 
-module _ (order : Order) (len : ℕ) (x : List ℕ) (m : machine.State) where
-  register_refined : (s : AbstractState) (r : Reg) (n : Number) (y : ℕ) → Is order len x m s → machine.register m r ≡ Some (NumberValue y) → IsNumber n → Has n y → Is order len x m (refine_register r n s)
+module _ (order : Order) (least most : ℕ) (x : List ℕ) (m : machine.State) where
+  register_refined : (s : AbstractState) (r : Reg) (n : Number) (y : ℕ) → Is order least most x m s → machine.register m r ≡ Some (NumberValue y) → IsNumber n → Has n y → Is order least most x m (refine_register r n s)
   register_refined s r n y is e valid has =
       let ok = is.0 in
       let d = is.1 in
@@ -73,11 +73,11 @@ module _ (order : Order) (len : ℕ) (x : List ℕ) (m : machine.State) where
           slots_are = ok.slots_are;
           eleven_tags = ap length same ∙ ok.eleven_tags;
           slot_tags_are = ok.slot_tags_are;
-          registers = λ q. one_set (λ R j. IsRegister R) s.registers k (register_number q) (Num n) Any (omega arith) valid (ok.registers q);
+          registers = λ q. one_set (λ R j. IsAbstractRegister R) s.registers k (register_number q) (Num n) Any (omega arith) valid (ok.registers q);
           slots = ok.slots;
         },
         record {
-          length_is = d.length_is;
+          length_within = d.length_within;
           registers = λ q. one_set (λ R j. DescribesRegister (machine.depth m) R (get_or m.top.registers j None)) s.registers k (register_number q) (Num n) Any (omega arith) (y, e, has) (d.registers q);
           slots = d.slots;
           register_tags = λ q. subst (λ ts. TaggedRegister x (get_or ts (register_number q) None) (machine.register m q)) (sym same) (d.register_tags q);
@@ -85,12 +85,12 @@ module _ (order : Order) (len : ℕ) (x : List ℕ) (m : machine.State) where
         },
       )
 
-  operand_refined : (s : AbstractState) (src : Operand) (n : Number) (y : ℕ) → Is order len x m s → machine_operand m src ≡ Some (NumberValue y) → IsNumber n → Has n y → Is order len x m (refine_operand src n s)
+  operand_refined : (s : AbstractState) (src : Operand) (n : Number) (y : ℕ) → Is order least most x m s → machine_operand m src ≡ Some (NumberValue y) → IsNumber n → Has n y → Is order least most x m (refine_operand src n s)
   operand_refined s (FromReg r) n y is e valid has = register_refined s r n y is e valid has
   operand_refined s (Imm imm) n y is e valid has = is
 
   -- both operands hold numbers
-  numbers_refined : RefineKeeps → (s : AbstractState) (test : Cond) (width : Width) (dst : Reg) (src : Operand) (taken : Bool) (a b : Number) → Is order len x m s → IsNumber a → DescribesRegister (machine.depth m) (Num a) (machine.register m dst) → IsNumber b → DescribesRegister (machine.depth m) (Num b) (machine_operand m src) → option_and_then (λ a. option_and_then (λ b. test_of_values width test a b) (machine_operand m src)) (machine.register m dst) ≡ Some taken → Given (option_map (λ p. refine_operand src p.1 (refine_register dst p.0 s)) (refine test width taken a b)) (Is order len x m)
+  numbers_refined : RefineKeeps → (s : AbstractState) (test : Cond) (width : Width) (dst : Reg) (src : Operand) (taken : Bool) (a b : Number) → Is order least most x m s → IsNumber a → DescribesRegister (machine.depth m) (Num a) (machine.register m dst) → IsNumber b → DescribesRegister (machine.depth m) (Num b) (machine_operand m src) → option_and_then (λ a. option_and_then (λ b. test_of_values width test a b) (machine_operand m src)) (machine.register m dst) ≡ Some taken → Given (option_map (λ p. refine_operand src p.1 (refine_register dst p.0 s)) (refine test width taken a b)) (Is order least most x m)
   numbers_refined law s test width dst src taken a b is ok d ok' d' tests =
       let y : ℕ = d.0 in
       let z : ℕ = d'.0 in
@@ -103,23 +103,23 @@ module _ (order : Order) (len : ℕ) (x : List ℕ) (m : machine.State) where
         good = operand_refined (refine_register dst h.sets.0 s) src h.sets.1 z (register_refined s dst h.sets.0 y is d.1 h.valid.0 h.have.0) d'.1 h.valid.1 h.have.1;
       }
 
-  unchanged : (s : AbstractState) → Is order len x m s → Given (Some s) (Is order len x m)
+  unchanged : (s : AbstractState) → Is order least most x m s → Given (Some s) (Is order least most x m)
   unchanged s is = record { value = s; is_there = refl; good = is }
 
-  by_kinds : RefineKeeps → (s : AbstractState) (test : Cond) (width : Width) (dst : Reg) (src : Operand) (off : ℤ) (taken : Bool) (A B : RegState) → Is order len x m s → IsRegister A → DescribesRegister (machine.depth m) A (machine.register m dst) → IsRegister B → DescribesRegister (machine.depth m) B (machine_operand m src) → Tests m (JumpIf test width dst src off) taken → Given (refined (JumpIf test width dst src off) taken A B s) (Is order len x m)
+  by_kinds : RefineKeeps → (s : AbstractState) (test : Cond) (width : Width) (dst : Reg) (src : Operand) (off : ℤ) (taken : Bool) (A B : RegState) → Is order least most x m s → IsAbstractRegister A → DescribesRegister (machine.depth m) A (machine.register m dst) → IsAbstractRegister B → DescribesRegister (machine.depth m) B (machine_operand m src) → Tests m (JumpIf test width dst src off) taken → Given (refined (JumpIf test width dst src off) taken A B s) (Is order least most x m)
   by_kinds law s test width dst src off taken (Num a) (Num b) is ok d ok' d' tests = by_registers (is_register dst src)
     where
-      by_registers : (same : Bool) → Given (cond same (Some s) (option_map (λ p. refine_operand src p.1 (refine_register dst p.0 s)) (refine test width taken a b))) (Is order len x m)
+      by_registers : (same : Bool) → Given (cond same (Some s) (option_map (λ p. refine_operand src p.1 (refine_register dst p.0 s)) (refine test width taken a b))) (Is order least most x m)
       by_registers true = unchanged s is
       by_registers false = numbers_refined law s test width dst src taken a b is ok d ok' d' tests
   by_kinds law s test width dst src off taken A B is ok d ok' d' tests = unchanged s is
 
 pub branch_keeps : ConstantHas → RefineKeeps → BranchKeeps
-branch_keeps constants law p len x (JumpIf test width dst src off) s m m' taken j tests step =
+branch_keeps constants law p least most x (JumpIf test width dst src off) s m m' taken j tests step =
     let d = j.described in
     let given =
-    by_kinds p.order len x m law s test width dst src off taken (register s dst) (operand s src) (j.valid, d) (j.valid.registers dst) (d.registers dst) (operand_valid constants s src j.valid) (operand_describes constants p.order len x s m src d) tests in
+    by_kinds p.order least most x m law s test width dst src off taken (register s dst) (operand s src) (j.valid, d) (j.valid.registers dst) (d.registers dst) (operand_valid constants s src j.valid) (operand_describes constants p.order least most x s m src d) tests in
     let to = branch_slot p.order test width dst src off m m' (step_is p m m' (JumpIf test width dst src off) j.stands step) in
-    subst (λ o. Leads p len x o m') (sym given.is_there)
-    (leads_at p len x (Some given.value) (machine.at_slot to.0 m) m' to.1 (at_slot_keeps p len x given.value m to.0 given.good.0 given.good.1))
-branch_keeps constants law p len x i s m m' taken j tests step = absurd tests
+    subst (λ o. Leads p least most x o m') (sym given.is_there)
+    (leads_at p least most x (Some given.value) (machine.at_slot to.0 m) m' to.1 (at_slot_keeps p least most x given.value m to.0 given.good.0 given.good.1))
+branch_keeps constants law p least most x i s m m' taken j tests step = absurd tests

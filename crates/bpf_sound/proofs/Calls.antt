@@ -22,8 +22,8 @@ use Rattle.bpf_state.specs.declared.state.RegState.{RegState}
 use Rattle.bpf_state.specs.declared.state.RegState.TheVariants.{Any, Num, Ctx, Frame}
 use Rattle.bpf_state.specs.declared.state.SlotState.TheVariants.{Bytes}
 use Rattle.bpf_state.specs.State.{AbstractState, entered, left, without_frame, each_without_frame, no_tags}
-use Rattle.bpf_sound.specs.Describes.{Describes, DescribesRegister, DescribesSlot, TaggedRegister, TaggedSlot, slot_cell}
-use Rattle.bpf_sound.specs.Laws.{EnterKeeps, LeaveKeeps, Leads, IsAbstract, IsRegister, IsSlot}
+use Rattle.bpf_sound.specs.Describes.{Describes, DescribesRegister, DescribesSlot, TaggedRegister, TaggedSlot, LengthWithin, slot_cell}
+use Rattle.bpf_sound.specs.Laws.{EnterKeeps, LeaveKeeps, Leads, IsAbstract, IsAbstractRegister, IsAbstractSlot}
 use Rattle.bpf_sound.proofs.Judged.{step_is, leads_at, top_frame}
 use Rattle.bpf_sound.proofs.TouchedCells.{zero_or_one}
 
@@ -52,8 +52,8 @@ abbrev resumed : machine.State → ℕ → ℕ → List ℕ → machine.State
 resumed m v sl context = record { top = record { slot = sl; registers = Some (NumberValue v) ∷ drop 1 (step.saved m.top.registers); stack = m.top.stack }; waiting = m.waiting; context = context }
 
 -- what is known before a call, and of the number that is returned, describes the state after the call
-return_keeps : TightenKeeps → (p : Instructions) (len : ℕ) (x : List ℕ) (returned : Number) (s : AbstractState) (m : machine.State) (v sl : ℕ) (context : List ℕ) → IsAbstract s → IsFrame m.top → Describes p.order len x s m → length context ≡ len → IsNumber returned → Has returned v → Leads p len x (left returned s) (resumed m v sl context)
-return_keeps tightens p len x returned s m v sl context valid frame d all ok has =
+return_keeps : TightenKeeps → (p : Instructions) (least most : ℕ) (x : List ℕ) (returned : Number) (s : AbstractState) (m : machine.State) (v sl : ℕ) (context : List ℕ) → IsAbstract s → IsFrame m.top → Describes p.order least most x s m → LengthWithin least most context → IsNumber returned → Has returned v → Leads p least most x (left returned s) (resumed m v sl context)
+return_keeps tightens p least most x returned s m v sl context valid frame d all ok has =
     let h = tightens returned v (ok, has) in
     let eleven = valid.eleven in
     let tags = valid.eleven_tags in
@@ -65,11 +65,11 @@ return_keeps tightens p len x returned s m v sl context valid frame d all ok has
         slots_are = valid.slots_are;
         eleven_tags = let l = length-drop 6 s.register_tags in omega arith;
         slot_tags_are = valid.slot_tags_are;
-        registers = returned_places (λ a b. IsRegister a) s.registers s.registers (Num h.set) Any Any Any h.valid tt valid.registers;
+        registers = returned_places (λ a b. IsAbstractRegister a) s.registers s.registers (Num h.set) Any Any Any h.valid tt valid.registers;
         slots = valid.slots;
       };
       describes = record {
-        length_is = all;
+        length_within = all;
         registers = returned_places (DescribesRegister (machine.depth m)) s.registers m.top.registers (Num h.set) Any (Some (NumberValue v)) None (v, refl, h.has) tt d.registers;
         slots = d.slots;
         register_tags = returned_places (TaggedRegister x) s.register_tags m.top.registers None None (Some (NumberValue v)) None tt tt d.register_tags;
@@ -85,7 +85,7 @@ without_frame_describes depth (Num n) v d = d
 without_frame_describes depth (Ctx lo hi) v d = d
 without_frame_describes depth (Frame lo hi) v d = tt
 
-without_frame_valid : (value : RegState) → IsRegister value → IsRegister (without_frame value)
+without_frame_valid : (value : RegState) → IsAbstractRegister value → IsAbstractRegister (without_frame value)
 without_frame_valid Any d = tt
 without_frame_valid (Num n) d = d
 without_frame_valid (Ctx lo hi) d = d
@@ -138,12 +138,12 @@ enter_places depth xs ys f g d r =
     places d R9 = tt
     places d R10 = (pos 0, ap (λ n. Some (PointerValue (FrameAt n) (pos 0))) (omega arith), omega (arith, ints), omega (arith, ints))
 
-enter_valid : (xs : List RegState) → Five xs → ((r : Reg) → IsRegister (get_or xs (register_number r) Any)) → (length (entered_registers xs) ≡ 11) × ((r : Reg) → IsRegister (get_or (entered_registers xs) (register_number r) Any))
+enter_valid : (xs : List RegState) → Five xs → ((r : Reg) → IsAbstractRegister (get_or xs (register_number r) Any)) → (length (entered_registers xs) ≡ 11) × ((r : Reg) → IsAbstractRegister (get_or (entered_registers xs) (register_number r) Any))
 enter_valid xs f v =
     let xs' : List RegState = f.first ∷ f.x1 ∷ f.x2 ∷ f.x3 ∷ f.x4 ∷ f.x5 ∷ f.rest in
-    subst (λ us. (length (entered_registers us) ≡ 11) × ((r : Reg) → IsRegister (get_or (entered_registers us) (register_number r) Any))) (sym f.are) (refl, places (λ r. subst (λ us. IsRegister (get_or us (register_number r) Any)) f.are (v r)))
+    subst (λ us. (length (entered_registers us) ≡ 11) × ((r : Reg) → IsAbstractRegister (get_or (entered_registers us) (register_number r) Any))) (sym f.are) (refl, places (λ r. subst (λ us. IsAbstractRegister (get_or us (register_number r) Any)) f.are (v r)))
   where
-    places : ((r : Reg) → IsRegister (get_or (f.first ∷ f.x1 ∷ f.x2 ∷ f.x3 ∷ f.x4 ∷ f.x5 ∷ f.rest) (register_number r) Any)) → (r : Reg) → IsRegister (get_or (entered_registers (f.first ∷ f.x1 ∷ f.x2 ∷ f.x3 ∷ f.x4 ∷ f.x5 ∷ f.rest)) (register_number r) Any)
+    places : ((r : Reg) → IsAbstractRegister (get_or (f.first ∷ f.x1 ∷ f.x2 ∷ f.x3 ∷ f.x4 ∷ f.x5 ∷ f.rest) (register_number r) Any)) → (r : Reg) → IsAbstractRegister (get_or (entered_registers (f.first ∷ f.x1 ∷ f.x2 ∷ f.x3 ∷ f.x4 ∷ f.x5 ∷ f.rest)) (register_number r) Any)
     places d R0 = tt
     places d R1 = without_frame_valid f.x1 (d R1)
     places d R2 = without_frame_valid f.x2 (d R2)
@@ -154,7 +154,7 @@ enter_valid xs f v =
     places d R7 = tt
     places d R8 = tt
     places d R9 = tt
-    places d R10 = record { above = omega (arith, ints); ordered = omega (arith, ints); below = omega (arith, ints) }
+    places d R10 = omega (arith, ints)
 
 none_at : (n j : ℕ) → get_or (no_tags n) j None ≡ None
 none_at zero j = refl
@@ -166,8 +166,8 @@ bytes_at_none zero j = refl
 bytes_at_none (suc n) zero = refl
 bytes_at_none (suc n) (suc j) = bytes_at_none n j
 
-enter_describes : (p : Instructions) (len : ℕ) (x : List ℕ) (s : AbstractState) (m : machine.State) (sl : ℕ) → IsAbstract s → IsFrame m.top → Describes p.order len x s m → Leads p len x (Some (entered s)) (step.entered m sl)
-enter_describes p len x s m sl valid frame d =
+enter_describes : (p : Instructions) (least most : ℕ) (x : List ℕ) (s : AbstractState) (m : machine.State) (sl : ℕ) → IsAbstract s → IsFrame m.top → Describes p.order least most x s m → Leads p least most x (Some (entered s)) (step.entered m sl)
+enter_describes p least most x s m sl valid frame d =
     let f = five s.registers valid.eleven in
     let g = five m.top.registers frame.eleven in
     let v = enter_valid s.registers f valid.registers in
@@ -180,10 +180,10 @@ enter_describes p len x s m sl valid frame d =
         eleven_tags = refl;
         slot_tags_are = refl;
         registers = v.1;
-        slots = λ k low high. subst IsSlot (sym (bytes_at_none 64 (k - 1))) (omega arith);
+        slots = λ k low high. subst IsAbstractSlot (sym (bytes_at_none 64 (k - 1))) (omega arith);
       };
       describes = record {
-        length_is = d.length_is;
+        length_within = d.length_within;
         registers = enter_places (machine.depth m) s.registers m.top.registers f g d.registers;
         slots = λ k low high. subst (λ h. DescribesSlot p.order (suc (machine.depth m)) h (slot_cell (step.entered m sl) k)) (sym (bytes_at_none 64 (k - 1))) (λ i lt set. zero_or_one (sym (bit_at-zero i) ∙ set));
         register_tags = λ r. subst (λ t. TaggedRegister x t (machine.register (step.entered m sl) r)) (sym (none_at 11 (register_number r))) tt;
@@ -204,18 +204,18 @@ unfolding does
 call_is p off m m' stands step = entered_is m m' (nat_lt (machine.depth m + 1) machine.max_frames) (target m.top.slot off) (step_is p m m' (CallLocal off) stands step)
 
 pub enter_keeps : EnterKeeps
-enter_keeps p len x off s m m' j goes =
+enter_keeps p least most x off s m m' j goes =
     let e = call_is p off m m' j.stands goes in
-    leads_at p len x (Some (entered s)) (step.entered m e.0) m' e.1 (enter_describes p len x s m e.0 j.valid (top_frame m j.state) j.described)
+    leads_at p least most x (Some (entered s)) (step.entered m e.0) m' e.1 (enter_describes p least most x s m e.0 j.valid (top_frame m j.state) j.described)
 
 exit_is : (p : Instructions) (m m' : machine.State) (v : ℕ) → insn_at p.list m.top.slot ≡ Some Exit → machine.number_of_register m R0 ≡ Some v → Step p m m' → step.left m.waiting v m.context ≡ Some m'
 unfolding does
 exit_is p m m' v stands is goes = ap (λ o. option_and_then (λ v. step.left m.waiting v m.context) o) (sym is) ∙ step_is p m m' Exit stands goes
 
 pub leave_keeps : TightenKeeps → LeaveKeeps
-leave_keeps tightens p len x off s m m1 m2 m3 returned v j goes waits all stands is ok has goes' =
+leave_keeps tightens p least most x off s m m1 m2 m3 returned v j goes waits all stands is ok has goes' =
     let e = call_is p off m m1 j.stands goes in
     let back : machine.State = resumed m v (m.top.slot + 1) m2.context in
     let waiting : m2.waiting ≡ (step.entered m e.0).waiting = waits ∙ ap (λ n. n.waiting) (sym e.1) in
     let f : back ≡ m3 = same_Some back m3 (ap (λ w. step.left w v m2.context) (sym waiting) ∙ exit_is p m2 m3 v stands is goes') in
-    leads_at p len x (left returned s) back m3 f (return_keeps tightens p len x returned s m v (m.top.slot + 1) m2.context j.valid (top_frame m j.state) j.described all ok has)
+    leads_at p least most x (left returned s) back m3 f (return_keeps tightens p least most x returned s m v (m.top.slot + 1) m2.context j.valid (top_frame m j.state) j.described all ok has)

@@ -19,7 +19,7 @@ use Rattle.bpf_state.specs.declared.state.SlotState.TheVariants.{Bytes, Word, Pt
 use Rattle.bpf_state.specs.State.{register, slot}
 use Rattle.bpf_state.specs.Entails.{register_entails, slot_entails, all_pairs}
 use Rattle.bpf_sound.specs.Describes.{DescribesRegister, DescribesSlot, slot_cell}
-use Rattle.bpf_sound.specs.Laws.{IsRegister, IsSlot, EntailsDescribes}
+use Rattle.bpf_sound.specs.Laws.{IsAbstractRegister, IsAbstractSlot, EntailsDescribes}
 use Rattle.bpf_sound.proofs.Registers.{below_eleven}
 use Rattle.bpf_sound.proofs.Lists.{pair_passes}
 
@@ -31,7 +31,7 @@ wider a A b B z h l u =
     let u' = t.1 in
     (omega (arith, ints), omega (arith, ints))
 
-register_included : EntailsIncludes → (depth : ℕ) (a b : RegState) (v : Option Value) → IsRegister b → register_entails a b ≡ true → DescribesRegister depth a v → DescribesRegister depth b v
+register_included : EntailsIncludes → (depth : ℕ) (a b : RegState) (v : Option Value) → IsAbstractRegister b → register_entails a b ≡ true → DescribesRegister depth a v → DescribesRegister depth b v
 register_included law depth a Any v ok h d = tt
 register_included law depth (Num a) (Num b) v ok h d = (d.0, d.1, law a b d.0 ok h d.2)
 register_included law depth (Ctx a A) (Ctx b B) v ok h d = let w = wider a A b B d.0 h d.2 d.3 in (d.0, d.1, w.0, w.1)
@@ -46,7 +46,7 @@ bit_of_part m n i h set =
     let lt = bit_at-lt m i in
     omega arith
 
-slot_included : EntailsIncludes → (order : Order) (depth : ℕ) (a b : SlotState) (cell : ℕ → Option Cell) → IsSlot b → slot_entails a b ≡ true → DescribesSlot order depth a cell → DescribesSlot order depth b cell
+slot_included : EntailsIncludes → (order : Order) (depth : ℕ) (a b : SlotState) (cell : ℕ → Option Cell) → IsAbstractSlot b → slot_entails a b ≡ true → DescribesSlot order depth a cell → DescribesSlot order depth b cell
 slot_included law order depth (Bytes m) (Bytes n) cell ok h d = λ i lt set. d i lt (bit_of_part m n i h set)
 slot_included law order depth (Word a) (Bytes n) cell ok h d = λ i lt set. (slice_index d.1.0 i, d.1.2 i lt)
 slot_included law order depth (Ptr p) (Bytes n) cell ok h d = λ i lt set. absurd (omega (arith, sym (ap (λ v. bit_at v i) (eqb-true n 0 h) ∙ bit_at-zero i) ∙ set))
@@ -61,14 +61,14 @@ slot_included law order depth (Word a) (Ptr q) cell ok h d = absurd (false≢tru
 slot_included law order depth (Ptr p) (Word b) cell ok h d = absurd (false≢true h)
 
 pub entails_describes : EntailsIncludes → EntailsDescribes
-entails_describes law order len x s t m ok ok' test d =
+entails_describes law order least most x s t m ok ok' test d =
     let h = and_parts (all_pairs register_entails s.registers t.registers) (all_pairs slot_entails s.slots t.slots) test in
     let eleven = ok.eleven in
     let eleven' = ok'.eleven in
     let all = ok.slots_are in
     let all' = ok'.slots_are in
     record {
-      length_is = d.length_is;
+      length_within = d.length_within;
       registers = λ r.
           let lt = below_eleven r in
           register_included law (machine.depth m) (register s r) (register t r) (machine.register m r) (ok'.registers r) (pair_passes register_entails s.registers t.registers (register_number r) Any Any h.0 (omega arith) (omega arith)) (d.registers r);

@@ -83,15 +83,15 @@ module _ (m : machine.State) (size : Size) (dst src : Reg) (off : ℤ) (bytes : 
   unfolding reason_at
   load_sx_has_none other = rw (other, r.base, r.at, r.readable)
 
-module _ (p : Instructions) (len : ℕ) (x : List ℕ) (size : Size) (dst src : Reg) (off : ℤ) (s : AbstractState) (m : machine.State) (j : IsJudged p len x (LoadSx size dst src off) s m) where
-  fault : NoFault len s (LoadSx size dst src off)
-  fault = no_fault_is len s (LoadSx size dst src off) j.no_fault
+module _ (p : Instructions) (least most : ℕ) (x : List ℕ) (size : Size) (dst src : Reg) (off : ℤ) (s : AbstractState) (m : machine.State) (j : IsJudged p least most x (LoadSx size dst src off) s m) where
+  fault : NoFault least s (LoadSx size dst src off)
+  fault = no_fault_is least s (LoadSx size dst src off) j.no_fault
 
   frame_is_read : InTop m (load_access size src off) (register s src) → (bytes : List ℕ) × Read m (load_access size src off) bytes
   frame_is_read t =
       let known = subst (λ o. some_passes (λ p. any_slot (λ k held. touches p k && not (are_known_bytes (touched_bytes p k) held)) 1 s.slots) o ≡ false) t.span_is fault.bytes in
       let none = subst (λ o. some_passes (λ p. any_slot (λ k held. touches p k && is_pointer_slot held) 1 s.slots) o ≡ false) t.span_is (or_parts (not (is_pointer (register s src))) (reads_part s (LoadSx size dst src off)) fault.kinds).1 in
-      let r = frame_bytes p.order len x s m (load_access size src off) (register s src) j.valid j.state j.described t
+      let r = frame_bytes p.order least most x s m (load_access size src off) (register s src) j.valid j.state j.described t
       (λ k low high touched. and_at (touches t.span k) (is_pointer_slot (slot s k)) (no_slot (λ k held. touches t.span k && is_pointer_slot held) k s.slots none j.valid.slots_are low high) touched) known in
       (r.bytes, frame_read m (load_access size src off) (register s src) t r)
 
@@ -105,20 +105,20 @@ module _ (p : Instructions) (len : ℕ) (x : List ℕ) (size : Size) (dst src : 
       by_base Any e = absurd (false≢true (sym (ap is_pointer e) ∙ pointer))
       by_base (Num n) e = absurd (false≢true (sym (ap is_pointer e) ∙ pointer))
       by_base (Ctx lo hi) e =
-          context_read m len (load_access size src off) lo hi j.state j.described.length_is
-          (subst (λ r. some_passes (λ p. not (is_inside len p)) (span_from (load_access size src off) r) ≡ false) e fault.bounds)
+          context_read m least (load_access size src off) lo hi j.state j.described.length_within.0
+          (subst (λ r. some_passes (λ p. not (is_inside least p)) (span_from (load_access size src off) r) ≡ false) e fault.bounds)
           (subst (λ r. DescribesRegister (machine.depth m) r (machine.register m src)) e (j.described.registers src))
       by_base (Frame lo hi) e =
-          frame_is_read (in_top m len (load_access size src off) (register s src) pointer (subst (λ r. some_passes (λ p. not p.in_frame) (span_from (load_access size src off) r) ≡ false) (sym e) refl) fault.bounds (j.described.registers src))
+          frame_is_read (in_top m least (load_access size src off) (register s src) pointer (subst (λ r. some_passes (λ p. not p.in_frame) (span_from (load_access size src off) r) ≡ false) (sym e) refl) fault.bounds (j.described.registers src))
 
   pub load_sx_reason : reason_at m (LoadSx size dst src off) ≡ None
-  load_sx_reason = load_sx_has_none m size dst src off is_read.0 is_read.1 (not_protected len s (LoadSx size dst src off) j.no_fault)
+  load_sx_reason = load_sx_has_none m size dst src off is_read.0 is_read.1 (not_protected least s (LoadSx size dst src off) j.no_fault)
 
-pub load_sx_keeps : TightenKeeps → (p : Instructions) (len : ℕ) (x : List ℕ) (size : Size) (dst src : Reg) (off : ℤ) (s : AbstractState) (m m' : machine.State) → IsJudged p len x (LoadSx size dst src off) s m → Step p m m' → Leads p len x (after p.order (LoadSx size dst src off) s) m'
-load_sx_keeps tightens p len x size dst src off s m m' j goes =
-    let r = is_read p len x size dst src off s m j in
+pub load_sx_keeps : TightenKeeps → (p : Instructions) (least most : ℕ) (x : List ℕ) (size : Size) (dst src : Reg) (off : ℤ) (s : AbstractState) (m m' : machine.State) → IsJudged p least most x (LoadSx size dst src off) s m → Step p m m' → Leads p least most x (after p.order (LoadSx size dst src off) s) m'
+load_sx_keeps tightens p least most x size dst src off s m m' j goes =
+    let r = is_read p least most x size dst src off s m j in
     let y : ℕ = number_of p.order (byte_count size) r.0 in
     let z : ℕ = modulo (cast_signed (size_type size) y) (2 ^ 64) in
     let h = any_signed_holds tightens size dst src off y j.encoding (number_fits p.order (byte_count size) r.0 r.1.fit) in
-    subst (λ o. Leads p len x (option_map (λ n. put_register dst (Num n) None s) o) m') (sym h.is_there)
-    (put_keeps p len x (LoadSx size dst src off) s m m' dst (NumberValue z) (Num h.set) None j goes refl (does_load_sx m size dst src off r.0 r.1 p.order) (z, refl, h.has) h.valid tt)
+    subst (λ o. Leads p least most x (option_map (λ n. put_register dst (Num n) None s) o) m') (sym h.is_there)
+    (put_keeps p least most x (LoadSx size dst src off) s m m' dst (NumberValue z) (Num h.set) None j goes refl (does_load_sx m size dst src off r.0 r.1 p.order) (z, refl, h.has) h.valid tt)

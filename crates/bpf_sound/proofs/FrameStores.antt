@@ -60,11 +60,11 @@ pub record InTop (m : machine.State) (a : Access) (value : RegState) : Type 0 wh
   pub count : span.count ≡ byte_count a.size
   pub lies : LiesAt span first
 
-pub in_top : (m : machine.State) (len : ℕ) (a : Access) (value : RegState) → is_pointer value ≡ true → some_passes (λ p. not p.in_frame) (span_from a value) ≡ false → some_passes (λ p. not (is_inside len p)) (span_from a value) ≡ false → DescribesRegister (machine.depth m) value (machine.register m a.base) → InTop m a value
-in_top m len a Any h p q d = absurd (false≢true h)
-in_top m len a (Num n) h p q d = absurd (false≢true h)
-in_top m len a (Ctx lo hi) h p q d = absurd (false≢true (sym p))
-in_top m len a (Frame lo hi) h p q d =
+pub in_top : (m : machine.State) (least : ℕ) (a : Access) (value : RegState) → is_pointer value ≡ true → some_passes (λ p. not p.in_frame) (span_from a value) ≡ false → some_passes (λ p. not (is_inside least p)) (span_from a value) ≡ false → DescribesRegister (machine.depth m) value (machine.register m a.base) → InTop m a value
+in_top m least a Any h p q d = absurd (false≢true h)
+in_top m least a (Num n) h p q d = absurd (false≢true h)
+in_top m least a (Ctx lo hi) h p q d = absurd (false≢true (sym p))
+in_top m least a (Frame lo hi) h p q d =
     let z : ℤ = (d.0 +ℤ a.offset) +ℤ pos 512 in
     let low : Bool = int_le (neg_ℤ (pos 512)) (lo +ℤ a.offset) in
     let high : Bool = int_le ((hi +ℤ a.offset) +ℤ pos (byte_count a.size)) (pos 0) in
@@ -116,26 +116,26 @@ byte_count_few DW = omega arith
 
 -- ---- a store of a constant
 
-pub store_imm_base : (p : Instructions) (len : ℕ) (x : List ℕ) (size : Size) (dst : Reg) (off imm : ℤ) (s : AbstractState) (m : machine.State) → IsJudged p len x (StoreImm size dst off imm) s m → InTop m (store_access size dst off) (register s dst)
-store_imm_base p len x size dst off imm s m j =
-    let f = no_fault_is len s (StoreImm size dst off imm) j.no_fault in
-    in_top m len (store_access size dst off) (register s dst)
+pub store_imm_base : (p : Instructions) (least most : ℕ) (x : List ℕ) (size : Size) (dst : Reg) (off imm : ℤ) (s : AbstractState) (m : machine.State) → IsJudged p least most x (StoreImm size dst off imm) s m → InTop m (store_access size dst off) (register s dst)
+store_imm_base p least most x size dst off imm s m j =
+    let f = no_fault_is least s (StoreImm size dst off imm) j.no_fault in
+    in_top m least (store_access size dst off) (register s dst)
     (not-false (is_pointer (register s dst)) (or_parts (not (is_pointer (register s dst))) false f.kinds).0) f.protected f.bounds (j.described.registers dst)
 
-pub store_imm_keeps : ConstantHas → (p : Instructions) (len : ℕ) (x : List ℕ) (size : Size) (dst : Reg) (off imm : ℤ) (s : AbstractState) (m m' : machine.State) → IsJudged p len x (StoreImm size dst off imm) s m → Step p m m' → Leads p len x (after p.order (StoreImm size dst off imm) s) m'
-store_imm_keeps constants p len x size dst off imm s m m' j step =
-    let t = store_imm_base p len x size dst off imm s m j in
+pub store_imm_keeps : ConstantHas → (p : Instructions) (least most : ℕ) (x : List ℕ) (size : Size) (dst : Reg) (off imm : ℤ) (s : AbstractState) (m m' : machine.State) → IsJudged p least most x (StoreImm size dst off imm) s m → Step p m m' → Leads p least most x (after p.order (StoreImm size dst off imm) s) m'
+store_imm_keeps constants p least most x size dst off imm s m m' j step =
+    let t = store_imm_base p least most x size dst off imm s m j in
     let y : ℕ = extended imm in
     let small = extended_fits imm in
     let few : t.span.count ≤ 8 = subst (λ n. n ≤ 8) (sym t.count) (byte_count_few size) in
     let stack' : ℕ → List (Option Cell) = λ n. with_bytes (bytes_of p.order n y) t.first m.top.stack in
-    let l : Leads p len x (stored (Some t.span) (Num (constant y)) None s) (at_top m (m.top.slot + 1) (stack' t.span.count)) = number_stored p.order len x s m t.span t.first (m.top.slot + 1) y (Num (constant y)) None j.valid (top_frame m j.state) t.lies few j.described small (constant_describes constants (machine.depth m) y small) tt (constants y small).0 p refl in
+    let l : Leads p least most x (stored (Some t.span) (Num (constant y)) None s) (at_top m (m.top.slot + 1) (stack' t.span.count)) = number_stored p.order least most x s m t.span t.first (m.top.slot + 1) y (Num (constant y)) None j.valid (top_frame m j.state) t.lies few j.described small (constant_describes constants (machine.depth m) y small) tt (constants y small).0 p refl in
     let e : at_top m (m.top.slot + 1) (stack' t.span.count) ≡ m' = ap (λ n. at_top m (m.top.slot + 1) (stack' n)) t.count ∙ same_Some (at_top m (m.top.slot + 1) (stack' (byte_count size))) m' (sym (does_store_imm p.order size dst off imm m (register s dst) t) ∙ step_is p m m' (StoreImm size dst off imm) j.stands step) in
-    subst (λ o. Leads p len x (stored o (Num (constant y)) None s) m') (sym t.span_is)
-    (leads_at p len x (stored (Some t.span) (Num (constant y)) None s) (at_top m (m.top.slot + 1) (stack' t.span.count)) m' e l)
+    subst (λ o. Leads p least most x (stored o (Num (constant y)) None s) m') (sym t.span_is)
+    (leads_at p least most x (stored (Some t.span) (Num (constant y)) None s) (at_top m (m.top.slot + 1) (stack' t.span.count)) m' e l)
 
-pub store_imm_reason : (p : Instructions) (len : ℕ) (x : List ℕ) (size : Size) (dst : Reg) (off imm : ℤ) (s : AbstractState) (m : machine.State) → IsJudged p len x (StoreImm size dst off imm) s m → reason_at m (StoreImm size dst off imm) ≡ None
+pub store_imm_reason : (p : Instructions) (least most : ℕ) (x : List ℕ) (size : Size) (dst : Reg) (off imm : ℤ) (s : AbstractState) (m : machine.State) → IsJudged p least most x (StoreImm size dst off imm) s m → reason_at m (StoreImm size dst off imm) ≡ None
 unfolding reason_at
-store_imm_reason p len x size dst off imm s m j =
-    let t = store_imm_base p len x size dst off imm s m j in
+store_imm_reason p least most x size dst off imm s m j =
+    let t = store_imm_base p least most x size dst off imm s m j in
     rw (t.base, t.place)

@@ -21,6 +21,7 @@ use Rattle.bpf_num.specs.Interval.{interval, IsInterval}
 use Rattle.bpf_num.specs.SignedInterval.{signed_top}
 use Rattle.bpf_state.specs.declared.state.RegState.{RegState}
 use Rattle.bpf_state.specs.declared.state.RegState.TheVariants.{Num}
+use Rattle.bpf_state.specs.declared.state.Pointer.TheVariants.{Ctx as CtxIn, Frame as FrameIn}
 use Rattle.bpf_state.specs.declared.state.SlotState.{SlotState}
 use Rattle.bpf_state.specs.declared.state.SlotState.TheVariants.{Bytes, Word, Ptr}
 use Rattle.bpf_state.specs.declared.state.Tag.{Tag}
@@ -28,7 +29,7 @@ use Rattle.bpf_state.specs.State.{slot_value, AbstractState, slot, slot_tag}
 use Rattle.bpf_state.specs.Access.{Span, is_slot, slot_number, is_pointer_slot, touches}
 use Rattle.bpf_state.specs.Transfer.{loaded, loaded_tag, any_number}
 use Rattle.bpf_sound.specs.Describes.{Describes, DescribesRegister, DescribesSlot, TaggedRegister, TaggedSlot, IsStored, IsTagged}
-use Rattle.bpf_sound.specs.Laws.{IsAbstract, IsRegister, IsSlot}
+use Rattle.bpf_sound.specs.Laws.{IsAbstract, IsAbstractRegister, IsAbstractSlot}
 use Rattle.bpf_sound.proofs.ReadCells.{ReadBytes, is_touched, stored_once}
 use Rattle.bpf_sound.proofs.FrameStores.{InTop}
 use Rattle.bpf_sound.proofs.NumberStores.{WholeSlot, whole_slot_is, is_number_top}
@@ -67,7 +68,7 @@ pub record Known (x : List ℕ) (s : AbstractState) (m : machine.State) (p : Spa
   pub is_there : loaded s (Some p) size ≡ Some state
   pub describes : DescribesRegister (machine.depth m) state (Some (NumberValue y))
   pub tagged : TaggedRegister x (loaded_tag s (Some p)) (Some (NumberValue y))
-  pub valid : IsRegister state
+  pub valid : IsAbstractRegister state
 
 -- no whole slot of the frame: any number of the size
 pub part_known : TightenKeeps → (x : List ℕ) (s : AbstractState) (m : machine.State) (p : Span) (size : Size) (y : ℕ) → (p.in_frame && is_slot p) ≡ false → y < 256 ^ byte_count size → Known x s m p size y
@@ -90,12 +91,13 @@ whole_tag : (order : Order) (x : List ℕ) (y : ℕ) (tag : Option Tag) (cell : 
 whole_tag order x y None cell st d = tt
 whole_tag order x y (Some t) cell st d = (y, refl, subst (λ z. IsTagged x t z) (stored_once order d.0 y cell d.1 st) d.2)
 
-pub slot_value_valid : (held : SlotState) → IsSlot held → IsRegister (slot_value held)
+pub slot_value_valid : (held : SlotState) → IsAbstractSlot held → IsAbstractRegister (slot_value held)
 slot_value_valid (Bytes mask) ok = tt
 slot_value_valid (Word n) ok = ok
-slot_value_valid (Ptr q) ok = ok
+slot_value_valid (Ptr (CtxIn lo hi)) ok = ok
+slot_value_valid (Ptr (FrameIn lo hi)) ok = ok
 
-module _ (tightens : TightenKeeps) (order : Order) (len : ℕ) (x : List ℕ) (s : AbstractState) (m : machine.State) (a : Access) (value : RegState) (valid : IsAbstract s) (d : Describes order len x s m) (t : InTop m a value) (r : ReadBytes (byte_count a.size) t.first m.top.stack) where
+module _ (tightens : TightenKeeps) (order : Order) (least most : ℕ) (x : List ℕ) (s : AbstractState) (m : machine.State) (a : Access) (value : RegState) (valid : IsAbstract s) (d : Describes order least most x s m) (t : InTop m a value) (r : ReadBytes (byte_count a.size) t.first m.top.stack) where
   -- a whole slot of bytes
   word_known : is_slot t.span ≡ true → is_pointer_slot (slot s (slot_number t.span)) ≡ false → Known x s m t.span a.size (number_of order (byte_count a.size) r.bytes)
   word_known whole plain =

@@ -36,7 +36,7 @@ use Rattle.bpf_state.specs.Access.{Span, span_from, span_of, is_inside, is_known
 use Rattle.bpf_state.specs.Fault.{reads_part, some_passes, is_pointer}
 use Rattle.bpf_state.specs.Transfer.{after, loaded, loaded_tag, any_number}
 use Rattle.bpf_sound.specs.Describes.{DescribesRegister, DescribesSlot, TaggedRegister, TaggedSlot, IsSpilled}
-use Rattle.bpf_sound.specs.Laws.{Leads, IsJudged, IsRegister}
+use Rattle.bpf_sound.specs.Laws.{Leads, IsJudged, IsAbstractRegister}
 use Rattle.bpf_sound.proofs.Judged.{NoFault, no_fault_is, step_is, leads_at, top_frame}
 use Rattle.bpf_sound.proofs.Registers.{reg_top, put_is, register_put}
 use Rattle.bpf_sound.proofs.ReadCells.{no_slot}
@@ -93,19 +93,19 @@ record Loaded (p : Instructions) (x : List ℕ) (s : AbstractState) (m : machine
   pub is_there : loaded s (span_of s (Load size dst src off)) size ≡ Some state
   pub describes : DescribesRegister (machine.depth m) state (Some value)
   pub tagged : TaggedRegister x (loaded_tag s (span_of s (Load size dst src off))) (Some value)
-  pub valid : IsRegister state
+  pub valid : IsAbstractRegister state
 
-module _ (p : Instructions) (len : ℕ) (x : List ℕ) (size : Size) (dst src : Reg) (off : ℤ) (s : AbstractState) (m : machine.State) (j : IsJudged p len x (Load size dst src off) s m) where
+module _ (p : Instructions) (least most : ℕ) (x : List ℕ) (size : Size) (dst src : Reg) (off : ℤ) (s : AbstractState) (m : machine.State) (j : IsJudged p least most x (Load size dst src off) s m) where
   other : (register_number dst == 10) ≡ false
-  other = (or_parts (register_number dst == 10) false (no_fault_is len s (Load size dst src off) j.no_fault).protected).0
+  other = (or_parts (register_number dst == 10) false (no_fault_is least s (Load size dst src off) j.no_fault).protected).0
 
-  loaded_keeps : Loaded p x s m size dst src off → (m' : machine.State) → Step p m m' → Leads p len x (after p.order (Load size dst src off) s) m'
+  loaded_keeps : Loaded p x s m size dst src off → (m' : machine.State) → Step p m m' → Leads p least most x (after p.order (Load size dst src off) s) m'
   loaded_keeps l m' step =
       let tag : Option Tag = loaded_tag s (span_of s (Load size dst src off)) in
       let is : reg_top m (m.top.slot + 1) dst l.value ≡ m' = same_Some (reg_top m (m.top.slot + 1) dst l.value) m' (sym (does_load p.order m size dst src off (PointerValue l.region l.offset) l.value l.place l.base l.at l.loads other) ∙ step_is p m m' (Load size dst src off) j.stands step) in
-      subst (λ o. Leads p len x (option_map (λ v. put_register dst v tag s) o) m') (sym l.is_there)
-      (leads_at p len x (Some (put_register dst l.state tag s)) (reg_top m (m.top.slot + 1) dst l.value) m' is
-      (register_put p len x s m dst l.value (m.top.slot + 1) l.state tag j.valid (top_frame m j.state) j.described l.describes l.tagged l.valid))
+      subst (λ o. Leads p least most x (option_map (λ v. put_register dst v tag s) o) m') (sym l.is_there)
+      (leads_at p least most x (Some (put_register dst l.state tag s)) (reg_top m (m.top.slot + 1) dst l.value) m' is
+      (register_put p least most x s m dst l.value (m.top.slot + 1) l.state tag j.valid (top_frame m j.state) j.described l.describes l.tagged l.valid))
 
 -- ---- a number
 
@@ -133,9 +133,9 @@ spilled_tag : (order : Order) (x : List ℕ) (region : Region) (lo hi : ℤ) (ta
 spilled_tag order x region lo hi None cell v sp d = tt
 spilled_tag order x region lo hi (Some t) cell v sp d = absurd (subst (λ c. IsPartCell c) (sym (sp.1 0 (omega arith)) ∙ d.1.2 0 (omega arith)) tt)
 
-module _ (tightens : TightenKeeps) (p : Instructions) (len : ℕ) (x : List ℕ) (size : Size) (dst src : Reg) (off : ℤ) (s : AbstractState) (m : machine.State) (j : IsJudged p len x (Load size dst src off) s m) where
-  fault : NoFault len s (Load size dst src off)
-  fault = no_fault_is len s (Load size dst src off) j.no_fault
+module _ (tightens : TightenKeeps) (p : Instructions) (least most : ℕ) (x : List ℕ) (size : Size) (dst src : Reg) (off : ℤ) (s : AbstractState) (m : machine.State) (j : IsJudged p least most x (Load size dst src off) s m) where
+  fault : NoFault least s (Load size dst src off)
+  fault = no_fault_is least s (Load size dst src off) j.no_fault
 
   module _ (t : InTop m (load_access size src off) (register s src)) where
     known_bytes : any_slot (λ k held. touches t.span k && not (are_known_bytes (touched_bytes t.span k) held)) 1 s.slots ≡ false
@@ -146,9 +146,9 @@ module _ (tightens : TightenKeeps) (p : Instructions) (len : ℕ) (x : List ℕ)
 
     plain_loaded : ((k : ℕ) → 1 ≤ k → k ≤ 64 → touches t.span k ≡ true → is_pointer_slot (slot s k) ≡ false) → Loaded p x s m size dst src off
     plain_loaded plain =
-        let r = frame_bytes p.order len x s m (load_access size src off) (register s src) j.valid j.state j.described t plain known_bytes in
+        let r = frame_bytes p.order least most x s m (load_access size src off) (register s src) j.valid j.state j.described t plain known_bytes in
         number_loaded p x s m size dst src off r.bytes (frame_read m (load_access size src off) (register s src) t r) t.span t.span_is
-        (frame_known tightens p.order len x s m (load_access size src off) (register s src) j.valid j.described t r plain)
+        (frame_known tightens p.order least most x s m (load_access size src off) (register s src) j.valid j.described t r plain)
 
     part_loaded : is_slot t.span ≡ false → Loaded p x s m size dst src off
     part_loaded part =
@@ -159,7 +159,7 @@ module _ (tightens : TightenKeeps) (p : Instructions) (len : ℕ) (x : List ℕ)
     word_loaded whole plain =
         let w = whole_slot_is t.span t.first t.lies whole in
         let known = (Decides-int_eq t.span.lowest t.span.highest).0 (and3_true (is_known t.span) (t.span.count == 8) (unsigned_abs t.span.lowest % 8 == 0) whole).0 in
-        plain_loaded (λ k low high touched. subst (λ n. is_pointer_slot (slot s n) ≡ false) (sym (only_slot p.order len x s m t.span t.first j.valid (top_frame m j.state) j.described t.lies w known k low high touched)) plain)
+        plain_loaded (λ k low high touched. subst (λ n. is_pointer_slot (slot s n) ≡ false) (sym (only_slot p.order least most x s m t.span t.first j.valid (top_frame m j.state) j.described t.lies w known k low high touched)) plain)
 
     -- a whole slot with a pointer
     spilled_loaded : is_slot t.span ≡ true → (region : Region) (lo hi : ℤ) → IsSpilled region lo hi (cells_of m.top.stack (slot_number t.span)) → ((off : ℤ) → lo ≤ℤ off → off ≤ℤ hi → DescribesRegister (machine.depth m) (slot_value (slot s (slot_number t.span))) (Some (PointerValue region off))) → Loaded p x s m size dst src off
@@ -229,15 +229,15 @@ module _ (tightens : TightenKeeps) (p : Instructions) (len : ℕ) (x : List ℕ)
       by_base Any e = absurd (false≢true (sym (ap is_pointer e) ∙ pointer))
       by_base (Num n) e = absurd (false≢true (sym (ap is_pointer e) ∙ pointer))
       by_base (Ctx lo hi) e =
-          let r = context_read m len (load_access size src off) lo hi j.state j.described.length_is (subst (λ r. some_passes (λ p. not (is_inside len p)) (span_from (load_access size src off) r) ≡ false) e fault.bounds) (subst (λ r. DescribesRegister (machine.depth m) r (machine.register m src)) e (j.described.registers src)) in
+          let r = context_read m least (load_access size src off) lo hi j.state j.described.length_within.0 (subst (λ r. some_passes (λ p. not (is_inside least p)) (span_from (load_access size src off) r) ≡ false) e fault.bounds) (subst (λ r. DescribesRegister (machine.depth m) r (machine.register m src)) e (j.described.registers src)) in
           let span : Span = record { in_frame = false; lowest = lo +ℤ off; highest = hi +ℤ off; count = byte_count size } in
           number_loaded p x s m size dst src off r.0 r.1 span (ap (λ r. span_from (load_access size src off) r) e)
           (part_known tightens x s m span size (number_of p.order (byte_count size) r.0) refl (number_fits p.order (byte_count size) r.0 r.1.fit))
       by_base (Frame lo hi) e =
-          frame_loaded (in_top m len (load_access size src off) (register s src) pointer (subst (λ r. some_passes (λ p. not p.in_frame) (span_from (load_access size src off) r) ≡ false) (sym e) refl) fault.bounds (j.described.registers src))
+          frame_loaded (in_top m least (load_access size src off) (register s src) pointer (subst (λ r. some_passes (λ p. not p.in_frame) (span_from (load_access size src off) r) ≡ false) (sym e) refl) fault.bounds (j.described.registers src))
 
   pub load_reason : reason_at m (Load size dst src off) ≡ None
-  load_reason = let l = load_is in load_has_none m size dst src off l.offset l.region l.place l.base l.at l.readable (other p len x size dst src off s m j)
+  load_reason = let l = load_is in load_has_none m size dst src off l.offset l.region l.place l.base l.at l.readable (other p least most x size dst src off s m j)
 
-pub load_keeps : TightenKeeps → (p : Instructions) (len : ℕ) (x : List ℕ) (size : Size) (dst src : Reg) (off : ℤ) (s : AbstractState) (m m' : machine.State) → IsJudged p len x (Load size dst src off) s m → Step p m m' → Leads p len x (after p.order (Load size dst src off) s) m'
-load_keeps tightens p len x size dst src off s m m' j step = loaded_keeps p len x size dst src off s m j (load_is tightens p len x size dst src off s m j) m' step
+pub load_keeps : TightenKeeps → (p : Instructions) (least most : ℕ) (x : List ℕ) (size : Size) (dst src : Reg) (off : ℤ) (s : AbstractState) (m m' : machine.State) → IsJudged p least most x (Load size dst src off) s m → Step p m m' → Leads p least most x (after p.order (Load size dst src off) s) m'
+load_keeps tightens p least most x size dst src off s m m' j step = loaded_keeps p least most x size dst src off s m j (load_is tightens p least most x size dst src off s m j) m' step

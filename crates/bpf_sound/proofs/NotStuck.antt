@@ -122,41 +122,41 @@ source_read op width dst src s known = (or_parts (is_any (register s dst)) (list
 
 -- ---- the instructions
 
-module _ (constants : ConstantHas) (tightens : TightenKeeps) (p : Instructions) (len : ℕ) (x : List ℕ) where
+module _ (constants : ConstantHas) (tightens : TightenKeeps) (p : Instructions) (least most : ℕ) (x : List ℕ) where
   -- without access to memory: what is left to show is that the kinds of its operands are right
-  by_kinds : (i : Insn) (s : AbstractState) (m : machine.State) (why : Reason) → is_past m i ≡ false → writes_context m i ≡ false → unreadable m i ≡ None → has_wrong_kind m i ≡ false → exits_with_pointer m i ≡ false → IsJudged p len x i s m → reason_of p m ≡ Some why → why ≡ TooManyFrames
+  by_kinds : (i : Insn) (s : AbstractState) (m : machine.State) (why : Reason) → is_past m i ≡ false → writes_context m i ≡ false → unreadable m i ≡ None → has_wrong_kind m i ≡ false → exits_with_pointer m i ≡ false → IsJudged p least most x i s m → reason_of p m ≡ Some why → why ≡ TooManyFrames
   by_kinds i s m why past context readable kind exits j is =
-      only_frames m i why (not_protected len s i j.no_fault) (all_set s m (registers_read i) j.described.registers (no_fault_is len s i j.no_fault).reads) kind past context readable exits (reason_is p m i why j.stands is)
+      only_frames m i why (not_protected least s i j.no_fault) (all_set s m (registers_read i) j.described.registers (no_fault_is least s i j.no_fault).reads) kind past context readable exits (reason_is p m i why j.stands is)
 
-  by_none : (i : Insn) (s : AbstractState) (m : machine.State) (why : Reason) → reason_at m i ≡ None → IsJudged p len x i s m → reason_of p m ≡ Some why → why ≡ TooManyFrames
+  by_none : (i : Insn) (s : AbstractState) (m : machine.State) (why : Reason) → reason_at m i ≡ None → IsJudged p least most x i s m → reason_of p m ≡ Some why → why ≡ TooManyFrames
   by_none i s m why none j is = no_reason why (reason_at m i) none (reason_is p m i why j.stands is)
 
-  right_kinds : (i : Insn) (s : AbstractState) (m : machine.State) → IsJudged p len x i s m → have_right_kinds s i ≡ true
-  right_kinds i s m j = not-false (have_right_kinds s i) (or_parts (not (have_right_kinds s i)) (reads_part s i) (no_fault_is len s i j.no_fault).kinds).0
+  right_kinds : (i : Insn) (s : AbstractState) (m : machine.State) → IsJudged p least most x i s m → have_right_kinds s i ≡ true
+  right_kinds i s m j = not-false (have_right_kinds s i) (or_parts (not (have_right_kinds s i)) (reads_part s i) (no_fault_is least s i j.no_fault).kinds).0
 
-  one_reason : (i : Insn) (s : AbstractState) (m : machine.State) (why : Reason) → IsJudged p len x i s m → reason_of p m ≡ Some why → why ≡ TooManyFrames
+  one_reason : (i : Insn) (s : AbstractState) (m : machine.State) (why : Reason) → IsJudged p least most x i s m → reason_of p m ≡ Some why → why ≡ TooManyFrames
   one_reason (Alu op width dst src) s m why j is =
       by_kinds (Alu op width dst src) s m why refl refl refl
       (alu_allowed (machine.depth m) width op (register s dst) (operand s src) (machine.register m dst) (machine_operand m src) (right_kinds (Alu op width dst src) s m j)
-      (operand_known s src (source_read op width dst src s (no_fault_is len s (Alu op width dst src) j.no_fault).reads)) (j.described.registers dst) (operand_describes constants p.order len x s m src j.described))
+      (operand_known s src (source_read op width dst src s (no_fault_is least s (Alu op width dst src) j.no_fault).reads)) (j.described.registers dst) (operand_describes constants p.order least most x s m src j.described))
       refl j is
   one_reason (Neg width dst) s m why j is = by_kinds (Neg width dst) s m why refl refl refl (no_pointer (machine.depth m) (register s dst) (machine.register m dst) (right_kinds (Neg width dst) s m j) (j.described.registers dst)) refl j is
   one_reason (MovSx width bits dst src) s m why j is = by_kinds (MovSx width bits dst src) s m why refl refl refl (no_pointer (machine.depth m) (register s src) (machine.register m src) (right_kinds (MovSx width bits dst src) s m j) (j.described.registers src)) refl j is
   one_reason (End kind bits dst) s m why j is = by_kinds (End kind bits dst) s m why refl refl refl (no_pointer (machine.depth m) (register s dst) (machine.register m dst) (right_kinds (End kind bits dst) s m j) (j.described.registers dst)) refl j is
   one_reason (LoadImm64 dst value) s m why j is = by_kinds (LoadImm64 dst value) s m why refl refl refl refl refl j is
-  one_reason (Load size dst src off) s m why j is = by_none (Load size dst src off) s m why (load_reason tightens p len x size dst src off s m j) j is
-  one_reason (LoadSx size dst src off) s m why j is = by_none (LoadSx size dst src off) s m why (load_sx_reason p len x size dst src off s m j) j is
-  one_reason (Store size dst off src) s m why j is = by_none (Store size dst off src) s m why (store_reason p len x size dst src off s m j) j is
-  one_reason (StoreImm size dst off imm) s m why j is = by_none (StoreImm size dst off imm) s m why (store_imm_reason p len x size dst off imm s m j) j is
-  one_reason (Atomic wide op dst off src) s m why j is = by_none (Atomic wide op dst off src) s m why (atomic_reason p len x wide op dst src off s m j) j is
+  one_reason (Load size dst src off) s m why j is = by_none (Load size dst src off) s m why (load_reason tightens p least most x size dst src off s m j) j is
+  one_reason (LoadSx size dst src off) s m why j is = by_none (LoadSx size dst src off) s m why (load_sx_reason p least most x size dst src off s m j) j is
+  one_reason (Store size dst off src) s m why j is = by_none (Store size dst off src) s m why (store_reason p least most x size dst src off s m j) j is
+  one_reason (StoreImm size dst off imm) s m why j is = by_none (StoreImm size dst off imm) s m why (store_imm_reason p least most x size dst off imm s m j) j is
+  one_reason (Atomic wide op dst off src) s m why j is = by_none (Atomic wide op dst off src) s m why (atomic_reason p least most x wide op dst src off s m j) j is
   one_reason (Ja off) s m why j is = by_kinds (Ja off) s m why refl refl refl refl refl j is
   one_reason (JaLong off) s m why j is = by_kinds (JaLong off) s m why refl refl refl refl refl j is
   one_reason (JumpIf cond width dst src off) s m why j is =
       by_kinds (JumpIf cond width dst src off) s m why refl refl refl
-      (test_allowed (machine.depth m) width cond (register s dst) (operand s src) (machine.register m dst) (machine_operand m src) (right_kinds (JumpIf cond width dst src off) s m j) (j.described.registers dst) (operand_describes constants p.order len x s m src j.described))
+      (test_allowed (machine.depth m) width cond (register s dst) (operand s src) (machine.register m dst) (machine_operand m src) (right_kinds (JumpIf cond width dst src off) s m j) (j.described.registers dst) (operand_describes constants p.order least most x s m src j.described))
       refl j is
   one_reason (CallLocal off) s m why j is = by_kinds (CallLocal off) s m why refl refl refl refl refl j is
   one_reason Exit s m why j is = by_kinds Exit s m why refl refl refl refl (no_pointer (machine.depth m) (register s R0) (machine.register m R0) (right_kinds Exit s m j) (j.described.registers R0)) j is
 
 pub not_stuck_inside : ConstantHas → TightenKeeps → NotStuckInside
-not_stuck_inside constants tightens p len x i s m why j is = one_reason constants tightens p len x i s m why j is
+not_stuck_inside constants tightens p least most x i s m why j is = one_reason constants tightens p least most x i s m why j is

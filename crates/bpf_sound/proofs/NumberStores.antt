@@ -33,7 +33,7 @@ use Rattle.bpf_state.specs.State.{AbstractState, slot, slot_tag, put_slot, value
 use Rattle.bpf_state.specs.Access.{Span, span_end, place_in, is_known, is_slot, slot_number, touches, touched_bytes}
 use Rattle.bpf_state.specs.Transfer.{slot_written, slot_maybe_written, with_touched, stored}
 use Rattle.bpf_sound.specs.Describes.{Describes, DescribesRegister, DescribesSlot, TaggedRegister, TaggedSlot, IsStored}
-use Rattle.bpf_sound.specs.Laws.{Leads, IsAbstract, IsRegister, IsSlot}
+use Rattle.bpf_sound.specs.Laws.{Leads, IsAbstract, IsAbstractRegister, IsAbstractSlot}
 use Rattle.bpf_sound.proofs.StoredCells.{whole_slot, other_slot}
 use Rattle.bpf_sound.proofs.TouchedCells.{place_is, LiesAt, zero_or_one, apart}
 use Rattle.bpf_sound.proofs.ByteStores.{Write, cells_of, same_slot, same_slot_tag, known_slot, unknown_slot, touched_tag, slot_of_each, tag_of_each, length-each_slot, length-each_slot_tag}
@@ -75,26 +75,26 @@ is_number_top = record {
   signed = record { above = omega (arith, ints); ordered = omega (arith, ints); below = omega (arith, ints) };
 }
 
-is_slot_written : (mask : ℕ) (held : SlotState) → mask ≤ 254 → IsSlot held → IsSlot (slot_written mask held)
+is_slot_written : (mask : ℕ) (held : SlotState) → mask ≤ 254 → IsAbstractSlot held → IsAbstractSlot (slot_written mask held)
 is_slot_written mask (Ptr p) small ok = small
 is_slot_written mask (Word n) small ok = is_number_top
 is_slot_written mask (Bytes m) small ok = by_test (bit_or m mask == 255) refl
   where
-    by_test : (t : Bool) → (bit_or m mask == 255) ≡ t → IsSlot (cond t (Word top) (Bytes (bit_or m mask)))
+    by_test : (t : Bool) → (bit_or m mask == 255) ≡ t → IsAbstractSlot (cond t (Word top) (Bytes (bit_or m mask)))
     by_test true e = is_number_top
     by_test false e = let b = or_of_8 m mask (omega arith) (omega arith) in grind (arith, nat_tests)
 
-pub is_slot_maybe_written : (held : SlotState) → IsSlot held → IsSlot (slot_maybe_written held)
+pub is_slot_maybe_written : (held : SlotState) → IsAbstractSlot held → IsAbstractSlot (slot_maybe_written held)
 is_slot_maybe_written (Ptr p) ok = omega arith
 is_slot_maybe_written (Word n) ok = is_number_top
 is_slot_maybe_written (Bytes m) ok = ok
 
 -- ---- the slots that may be touched
 
-module _ (order : Order) (len : ℕ) (x : List ℕ) (s : AbstractState) (m : machine.State) (p : Span) (c sl : ℕ) (bytes : List ℕ) (change : ℕ → SlotState → SlotState) (valid : IsAbstract s) (w : Write m.top p c bytes) (d : Describes order len x s m) where
-  pub touched_describes : ((k : ℕ) → 1 ≤ k → k ≤ 64 → DescribesSlot order (machine.depth m) (cond (touches p k) (change k (slot s k)) (slot s k)) (cells_of (with_bytes bytes c m.top.stack) k)) → Describes order len x (with_touched p change s) (at_top m sl (with_bytes bytes c m.top.stack))
+module _ (order : Order) (least most : ℕ) (x : List ℕ) (s : AbstractState) (m : machine.State) (p : Span) (c sl : ℕ) (bytes : List ℕ) (change : ℕ → SlotState → SlotState) (valid : IsAbstract s) (w : Write m.top p c bytes) (d : Describes order least most x s m) where
+  pub touched_describes : ((k : ℕ) → 1 ≤ k → k ≤ 64 → DescribesSlot order (machine.depth m) (cond (touches p k) (change k (slot s k)) (slot s k)) (cells_of (with_bytes bytes c m.top.stack) k)) → Describes order least most x (with_touched p change s) (at_top m sl (with_bytes bytes c m.top.stack))
   touched_describes law = record {
-    length_is = d.length_is;
+    length_within = d.length_within;
     registers = d.registers;
     slots = λ k low high.
         subst (λ h. DescribesSlot order (machine.depth m) h (cells_of (with_bytes bytes c m.top.stack) k))
@@ -106,7 +106,7 @@ module _ (order : Order) (len : ℕ) (x : List ℕ) (s : AbstractState) (m : mac
         (touched_tag m.top p c bytes w k low high order x (slot_tag s k) (d.slot_tags k low high));
   }
 
-  pub touched_valid : ((k : ℕ) → 1 ≤ k → k ≤ 64 → IsSlot (slot s k) → IsSlot (change k (slot s k))) → IsAbstract (with_touched p change s)
+  pub touched_valid : ((k : ℕ) → 1 ≤ k → k ≤ 64 → IsAbstractSlot (slot s k) → IsAbstractSlot (change k (slot s k))) → IsAbstract (with_touched p change s)
   touched_valid law = record {
     eleven = valid.eleven;
     slots_are = length-each_slot (λ k held. cond (touches p k) (change k held) held) 1 s.slots ∙ valid.slots_are;
@@ -114,11 +114,11 @@ module _ (order : Order) (len : ℕ) (x : List ℕ) (s : AbstractState) (m : mac
     slot_tags_are = length-each_slot_tag (λ k tag. cond (touches p k) None tag) 1 s.slot_tags ∙ valid.slot_tags_are;
     registers = valid.registers;
     slots = λ k low high.
-        subst IsSlot (sym (slot_of_each (λ k held. cond (touches p k) (change k held) held) k s.slots valid.slots_are low high))
+        subst IsAbstractSlot (sym (slot_of_each (λ k held. cond (touches p k) (change k held) held) k s.slots valid.slots_are low high))
         (either (touches p k) (change k (slot s k)) (slot s k) (law k low high (valid.slots k low high)) (valid.slots k low high));
   }
     where
-      either : (t : Bool) (a b : SlotState) → IsSlot a → IsSlot b → IsSlot (cond t a b)
+      either : (t : Bool) (a b : SlotState) → IsAbstractSlot a → IsAbstractSlot b → IsAbstractSlot (cond t a b)
       either true a b h g = h
       either false a b h g = g
 
@@ -209,19 +209,19 @@ set_at P ss k j v d all low high low' high' same other =
       ]
     ]
 
-pub value_slot_valid : (value : RegState) → IsRegister value → IsSlot (value_slot value)
+pub value_slot_valid : (value : RegState) → IsAbstractRegister value → IsAbstractSlot (value_slot value)
 value_slot_valid Any ok = omega arith
 value_slot_valid (Num n) ok = ok
 value_slot_valid (Ctx lo hi) ok = ok
 value_slot_valid (Frame lo hi) ok = ok
 
-module _ (order : Order) (len : ℕ) (x : List ℕ) (s : AbstractState) (m : machine.State) (p : Span) (c sl y : ℕ) (value : RegState) (tag : Option Tag) (valid : IsAbstract s) (frame : IsFrame m.top) (lies : LiesAt p c) (few : p.count ≤ 8) (d : Describes order len x s m) (small : y < M) (is : DescribesRegister (machine.depth m) value (Some (NumberValue y))) (tagged : TaggedRegister x tag (Some (NumberValue y))) (ok : IsRegister value) where
+module _ (order : Order) (least most : ℕ) (x : List ℕ) (s : AbstractState) (m : machine.State) (p : Span) (c sl y : ℕ) (value : RegState) (tag : Option Tag) (valid : IsAbstract s) (frame : IsFrame m.top) (lies : LiesAt p c) (few : p.count ≤ 8) (d : Describes order least most x s m) (small : y < M) (is : DescribesRegister (machine.depth m) value (Some (NumberValue y))) (tagged : TaggedRegister x tag (Some (NumberValue y))) (ok : IsAbstractRegister value) where
   write : Write m.top p c (bytes_of order p.count y)
   write = record { frame = frame; lies = lies; count = length-bytes_of order p.count y; fit = are_bytes_of order p.count y }
 
-  whole_describes : is_slot p ≡ true → Describes order len x (put_slot (slot_number p) (value_slot value) tag s) (at_top m sl (with_bytes (bytes_of order p.count y) c m.top.stack))
+  whole_describes : is_slot p ≡ true → Describes order least most x (put_slot (slot_number p) (value_slot value) tag s) (at_top m sl (with_bytes (bytes_of order p.count y) c m.top.stack))
   whole_describes whole = record {
-    length_is = d.length_is;
+    length_within = d.length_within;
     registers = d.registers;
     slots = λ k low high. set_at (λ h. DescribesSlot order (machine.depth m) h (cells_of (with_bytes (bytes_of order p.count y) c m.top.stack) k)) s.slots (slot_number p) k (value_slot value) (Bytes 0) valid.slots_are t.low t.high low high
         (λ e. stored_value order (machine.depth m) y value (cells_of (with_bytes (bytes_of order p.count y) c m.top.stack) k) is (at_slot k e))
@@ -256,34 +256,34 @@ module _ (order : Order) (len : ℕ) (x : List ℕ) (s : AbstractState) (m : mac
         eleven_tags = valid.eleven_tags;
         slot_tags_are = length-set s.slot_tags (slot_number p - 1) tag ∙ valid.slot_tags_are;
         registers = valid.registers;
-        slots = λ k low high. set_at IsSlot s.slots (slot_number p) k (value_slot value) (Bytes 0) valid.slots_are t.low t.high low high (λ e. value_slot_valid value ok) (λ apart. valid.slots k low high);
+        slots = λ k low high. set_at IsAbstractSlot s.slots (slot_number p) k (value_slot value) (Bytes 0) valid.slots_are t.low t.high low high (λ e. value_slot_valid value ok) (λ apart. valid.slots k low high);
       }
 
   -- a store of a number
-  pub number_stored : (q : Instructions) → q.order ≡ order → Leads q len x (stored (Some p) value tag s) (at_top m sl (with_bytes (bytes_of order p.count y) c m.top.stack))
+  pub number_stored : (q : Instructions) → q.order ≡ order → Leads q least most x (stored (Some p) value tag s) (at_top m sl (with_bytes (bytes_of order p.count y) c m.top.stack))
   number_stored q e = by_slot (is_slot p) refl
     where
-      by_known : (t : Bool) → is_known p ≡ t → is_slot p ≡ false → Leads q len x (Some (cond t (with_touched p (λ k held. slot_written (touched_bytes p k) held) s) (with_touched p (λ k held. slot_maybe_written held) s))) (at_top m sl (with_bytes (bytes_of order p.count y) c m.top.stack))
+      by_known : (t : Bool) → is_known p ≡ t → is_slot p ≡ false → Leads q least most x (Some (cond t (with_touched p (λ k held. slot_written (touched_bytes p k) held) s) (with_touched p (λ k held. slot_maybe_written held) s))) (at_top m sl (with_bytes (bytes_of order p.count y) c m.top.stack))
       by_known true known part = record {
         state = with_touched p (λ k held. slot_written (touched_bytes p k) held) s;
         is_there = refl;
-        valid = touched_valid order len x s m p c sl (bytes_of order p.count y) (λ k held. slot_written (touched_bytes p k) held) valid write d (λ k low high h. is_slot_written (touched_bytes p k) (slot s k) (mask_small p c k lies few ((Decides-int_eq p.lowest p.highest).0 known) part low high) h);
-        describes = subst (λ o. Describes o len x (with_touched p (λ k held. slot_written (touched_bytes p k) held) s) (at_top m sl (with_bytes (bytes_of order p.count y) c m.top.stack))) (sym e)
-            (touched_describes order len x s m p c sl (bytes_of order p.count y) (λ k held. slot_written (touched_bytes p k) held) valid write d (λ k low high. known_slot m.top p c (bytes_of order p.count y) write k low high order (machine.depth m) (slot s k) ((Decides-int_eq p.lowest p.highest).0 known) (d.slots k low high)));
+        valid = touched_valid order least most x s m p c sl (bytes_of order p.count y) (λ k held. slot_written (touched_bytes p k) held) valid write d (λ k low high h. is_slot_written (touched_bytes p k) (slot s k) (mask_small p c k lies few ((Decides-int_eq p.lowest p.highest).0 known) part low high) h);
+        describes = subst (λ o. Describes o least most x (with_touched p (λ k held. slot_written (touched_bytes p k) held) s) (at_top m sl (with_bytes (bytes_of order p.count y) c m.top.stack))) (sym e)
+            (touched_describes order least most x s m p c sl (bytes_of order p.count y) (λ k held. slot_written (touched_bytes p k) held) valid write d (λ k low high. known_slot m.top p c (bytes_of order p.count y) write k low high order (machine.depth m) (slot s k) ((Decides-int_eq p.lowest p.highest).0 known) (d.slots k low high)));
       }
       by_known false known part = record {
         state = with_touched p (λ k held. slot_maybe_written held) s;
         is_there = refl;
-        valid = touched_valid order len x s m p c sl (bytes_of order p.count y) (λ k held. slot_maybe_written held) valid write d (λ k low high h. is_slot_maybe_written (slot s k) h);
-        describes = subst (λ o. Describes o len x (with_touched p (λ k held. slot_maybe_written held) s) (at_top m sl (with_bytes (bytes_of order p.count y) c m.top.stack))) (sym e)
-            (touched_describes order len x s m p c sl (bytes_of order p.count y) (λ k held. slot_maybe_written held) valid write d (λ k low high. unknown_slot m.top p c (bytes_of order p.count y) write k low high order (machine.depth m) (slot s k) (d.slots k low high)));
+        valid = touched_valid order least most x s m p c sl (bytes_of order p.count y) (λ k held. slot_maybe_written held) valid write d (λ k low high h. is_slot_maybe_written (slot s k) h);
+        describes = subst (λ o. Describes o least most x (with_touched p (λ k held. slot_maybe_written held) s) (at_top m sl (with_bytes (bytes_of order p.count y) c m.top.stack))) (sym e)
+            (touched_describes order least most x s m p c sl (bytes_of order p.count y) (λ k held. slot_maybe_written held) valid write d (λ k low high. unknown_slot m.top p c (bytes_of order p.count y) write k low high order (machine.depth m) (slot s k) (d.slots k low high)));
       }
 
-      by_slot : (t : Bool) → is_slot p ≡ t → Leads q len x (Some (cond t (put_slot (slot_number p) (value_slot value) tag s) (cond (is_known p) (with_touched p (λ k held. slot_written (touched_bytes p k) held) s) (with_touched p (λ k held. slot_maybe_written held) s)))) (at_top m sl (with_bytes (bytes_of order p.count y) c m.top.stack))
+      by_slot : (t : Bool) → is_slot p ≡ t → Leads q least most x (Some (cond t (put_slot (slot_number p) (value_slot value) tag s) (cond (is_known p) (with_touched p (λ k held. slot_written (touched_bytes p k) held) s) (with_touched p (λ k held. slot_maybe_written held) s)))) (at_top m sl (with_bytes (bytes_of order p.count y) c m.top.stack))
       by_slot true whole = record {
         state = put_slot (slot_number p) (value_slot value) tag s;
         is_there = refl;
         valid = whole_valid whole;
-        describes = subst (λ o. Describes o len x (put_slot (slot_number p) (value_slot value) tag s) (at_top m sl (with_bytes (bytes_of order p.count y) c m.top.stack))) (sym e) (whole_describes whole);
+        describes = subst (λ o. Describes o least most x (put_slot (slot_number p) (value_slot value) tag s) (at_top m sl (with_bytes (bytes_of order p.count y) c m.top.stack))) (sym e) (whole_describes whole);
       }
       by_slot false part = by_known (is_known p) refl part

@@ -20,7 +20,6 @@ use Rattle.bpf_num.specs.SignedKeeps.{signed_modulo}
 use Rattle.bpf_num.specs.Number.{Number, Has, number, tighten}
 use Rattle.bpf_num.specs.Laws.{Holds, TightenKeeps}
 use Rattle.bpf_sound.specs.Describes.{PointsInto}
-use Rattle.bpf_sound.specs.Laws.{IsPointerRange}
 
 -- ---- the machine's sums and differences, without wrapping
 
@@ -40,19 +39,23 @@ difference_of_offset off b fits fits' = wrapped_is_wrap (off -ℤ pos b) ∙ sym
 
 -- ---- a pointer plus or minus a number
 
--- bounds that aren't left
-pub in_range : (lo hi : ℤ) → lo ≤ℤ hi → not (int_le (neg_ℤ (pos (2 ^ 31))) lo && int_le hi (pos (2 ^ 31))) ≡ false → IsPointerRange lo hi
-in_range lo hi ordered h =
+-- the bounds of a result without fault
+pub record IsNear (lo hi : ℤ) : Type 0 where
+  pub above : neg_ℤ (pos (2 ^ 31)) ≤ℤ lo
+  pub below : hi ≤ℤ pos (2 ^ 31)
+
+pub in_range : (lo hi : ℤ) → not (int_le (neg_ℤ (pos (2 ^ 31))) lo && int_le hi (pos (2 ^ 31))) ≡ false → IsNear lo hi
+in_range lo hi h =
     let t = and_parts (int_le (neg_ℤ (pos (2 ^ 31))) lo) (int_le hi (pos (2 ^ 31))) (not-false (int_le (neg_ℤ (pos (2 ^ 31))) lo && int_le hi (pos (2 ^ 31))) h) in
     let l = t.0 in
     let u = t.1 in
-    record { above = omega (arith, ints); ordered = ordered; below = omega (arith, ints) }
+    record { above = omega (arith, ints); below = omega (arith, ints) }
 
 -- an offset within such bounds
-near : (lo hi z : ℤ) → IsPointerRange lo hi → lo ≤ℤ z → z ≤ℤ hi → FitsSigned w64 z
+near : (lo hi z : ℤ) → IsNear lo hi → lo ≤ℤ z → z ≤ℤ hi → FitsSigned w64 z
 near lo hi z range l u = fits_64 z (omega (arith, ints)) (omega (arith, ints))
 
-pub pointer_plus : (region : Region) (lo hi off : ℤ) (n : Number) (b : ℕ) → Has n b → lo ≤ℤ off → off ≤ℤ hi → IsPointerRange (lo +ℤ n.signed.lo) (hi +ℤ n.signed.hi) → PointsInto region (lo +ℤ n.signed.lo) (hi +ℤ n.signed.hi) (Some (PointerValue region (wrapped (off +ℤ pos b))))
+pub pointer_plus : (region : Region) (lo hi off : ℤ) (n : Number) (b : ℕ) → Has n b → lo ≤ℤ off → off ≤ℤ hi → IsNear (lo +ℤ n.signed.lo) (hi +ℤ n.signed.hi) → PointsInto region (lo +ℤ n.signed.lo) (hi +ℤ n.signed.hi) (Some (PointerValue region (wrapped (off +ℤ pos b))))
 pointer_plus region lo hi off n b has l u range =
     let above = has.signed.above in
     let below = has.signed.below in
@@ -60,7 +63,7 @@ pointer_plus region lo hi off n b has l u range =
     let u' : (off +ℤ signed b) ≤ℤ (hi +ℤ n.signed.hi) = omega (arith, ints) in
     (off +ℤ signed b, ap (λ z. Some (PointerValue region z)) (sum_of_offset off b has.bits.fits (near (lo +ℤ n.signed.lo) (hi +ℤ n.signed.hi) (off +ℤ signed b) range l' u')), l', u')
 
-pub pointer_minus : (region : Region) (lo hi off : ℤ) (n : Number) (b : ℕ) → Has n b → lo ≤ℤ off → off ≤ℤ hi → IsPointerRange (lo -ℤ n.signed.hi) (hi -ℤ n.signed.lo) → PointsInto region (lo -ℤ n.signed.hi) (hi -ℤ n.signed.lo) (Some (PointerValue region (wrapped (off -ℤ pos b))))
+pub pointer_minus : (region : Region) (lo hi off : ℤ) (n : Number) (b : ℕ) → Has n b → lo ≤ℤ off → off ≤ℤ hi → IsNear (lo -ℤ n.signed.hi) (hi -ℤ n.signed.lo) → PointsInto region (lo -ℤ n.signed.hi) (hi -ℤ n.signed.lo) (Some (PointerValue region (wrapped (off -ℤ pos b))))
 pointer_minus region lo hi off n b has l u range =
     let above = has.signed.above in
     let below = has.signed.below in
@@ -70,18 +73,29 @@ pointer_minus region lo hi off n b has l u range =
 
 -- ---- the difference of two pointers
 
-pub difference_holds : TightenKeeps → (a A b B off off' : ℤ) → IsPointerRange a A → IsPointerRange b B → a ≤ℤ off → off ≤ℤ A → b ≤ℤ off' → off' ≤ℤ B → Holds (tighten (number bits_top unsigned_top (signed_sub (signed_interval a A) (signed_interval b B)))) (modulo (off -ℤ off') (2 ^ 64))
-difference_holds law a A b B off off' range range' l u l' u' =
+pub difference_holds : TightenKeeps → (a A b B off off' : ℤ) → a ≤ℤ off → off ≤ℤ A → b ≤ℤ off' → off' ≤ℤ B → Holds (tighten (number bits_top unsigned_top (signed_sub (signed_interval a A) (signed_interval b B)))) (modulo (off -ℤ off') (2 ^ 64))
+difference_holds law a A b B off off' l u l' u' =
     let z : ℤ = off -ℤ off' in
     let y : ℕ = modulo z (2 ^ 64) in
     let fits = modulo_fits z in
-    let is : signed y ≡ z = signed_modulo z (omega (arith, ints)) (omega (arith, ints)) in
+    let low : (a -ℤ B) ≤ℤ z = omega (arith, ints) in
+    let high : z ≤ℤ (A -ℤ b) = omega (arith, ints) in
     let whole : SignedInterval = signed_interval (a -ℤ B) (A -ℤ b) in
+    let t = int_le least (a -ℤ B) && int_le (A -ℤ b) most in
     let ok : IsSignedInterval (signed_sub (signed_interval a A) (signed_interval b B)) =
-    cond_both (int_le least (a -ℤ B) && int_le (A -ℤ b) most) whole signed_top IsSignedInterval
-    (λ e. record { above = omega (arith, ints); ordered = omega (arith, ints); below = omega (arith, ints) })
+    cond_both t whole signed_top IsSignedInterval
+    (λ e. let h = and_parts (int_le least (a -ℤ B)) (int_le (A -ℤ b) most) e in
+    let below = h.0 in
+    let above = h.1 in
+    record { above = omega (arith, ints); ordered = omega (arith, ints); below = omega (arith, ints) })
     (λ e. record { above = omega (arith, ints); ordered = omega (arith, ints); below = omega (arith, ints) }) in
     law (number bits_top unsigned_top (signed_sub (signed_interval a A) (signed_interval b B))) y (
       record { bits = record { value_fits = omega arith; mask_fits = omega arith; disjoint = refl }; unsigned = record { ordered = omega arith; fits = omega arith }; signed = ok },
-      record { bits = in_bits_top y fits; unsigned = in_unsigned_top y fits; signed = if_fits_keeps whole y fits (λ low high. record { fits = fits; above = subst (λ w. (a -ℤ B) ≤ℤ w) (sym is) (omega (arith, ints)); below = subst (λ w. w ≤ℤ (A -ℤ b)) (sym is) (omega (arith, ints)) }) },
+      record {
+        bits = in_bits_top y fits;
+        unsigned = in_unsigned_top y fits;
+        signed = if_fits_keeps whole y fits (λ above below.
+            let is : signed y ≡ z = signed_modulo z (omega (arith, ints)) (omega (arith, ints)) in
+            record { fits = fits; above = subst (λ w. (a -ℤ B) ≤ℤ w) (sym is) low; below = subst (λ w. w ≤ℤ (A -ℤ b)) (sym is) high });
+      },
     )

@@ -10,13 +10,13 @@ use Rattle.bpf_num.specs.Laws.{ConstantHas}
 use Rattle.bpf_state.specs.State.{AbstractState}
 use Rattle.bpf_state.specs.Fault.{operand}
 use Rattle.bpf_sound.specs.Describes.{Describes, DescribesRegister}
-use Rattle.bpf_sound.specs.Laws.{IsAbstract, IsRegister}
+use Rattle.bpf_sound.specs.Laws.{IsAbstract, IsAbstractRegister}
 use Rattle.bpf_sound.proofs.Constants.{extended_fits, constant_describes}
 
-pub operand_describes : ConstantHas → (order : Order) (len : ℕ) (x : List ℕ) (s : AbstractState) (m : machine.State) (src : Operand) → Describes order len x s m → DescribesRegister (machine.depth m) (operand s src) (machine_operand m src)
-operand_describes law order len x s m (Imm imm) d = constant_describes law (machine.depth m) (extended imm) (extended_fits imm)
-operand_describes law order len x s m (FromReg r) d = d.registers r
+pub operand_describes : ConstantHas → (order : Order) (least most : ℕ) (x : List ℕ) (s : AbstractState) (m : machine.State) (src : Operand) → Describes order least most x s m → DescribesRegister (machine.depth m) (operand s src) (machine_operand m src)
+operand_describes law order least most x s m (Imm imm) d = constant_describes law (machine.depth m) (extended imm) (extended_fits imm)
+operand_describes law order least most x s m (FromReg r) d = d.registers r
 
-pub operand_valid : ConstantHas → (s : AbstractState) (src : Operand) → IsAbstract s → IsRegister (operand s src)
+pub operand_valid : ConstantHas → (s : AbstractState) (src : Operand) → IsAbstract s → IsAbstractRegister (operand s src)
 operand_valid law s (Imm imm) ok = (law (extended imm) (extended_fits imm)).0
 operand_valid law s (FromReg r) ok = ok.registers r

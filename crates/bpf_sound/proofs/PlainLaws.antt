@@ -31,7 +31,7 @@ use Rattle.bpf_state.specs.State.{AbstractState, register, put_register}
 use Rattle.bpf_state.specs.Fault.{operand, have_right_kinds, reads_part, makes_far_pointer, is_number}
 use Rattle.bpf_state.specs.Transfer.{after, alu_tag, number_state, set_number}
 use Rattle.bpf_sound.specs.Describes.{Describes, DescribesRegister}
-use Rattle.bpf_sound.specs.Laws.{IsAbstract, IsRegister, IsJudged, Leads}
+use Rattle.bpf_sound.specs.Laws.{IsAbstract, IsAbstractRegister, IsJudged, Leads}
 use Rattle.bpf_sound.proofs.Judged.{NoFault, no_fault_is, step_is, leads_at}
 use Rattle.bpf_sound.proofs.Constants.{constant_describes}
 use Rattle.bpf_sound.proofs.Operands.{operand_describes, operand_valid}
@@ -40,8 +40,8 @@ use Rattle.bpf_sound.proofs.Puts.{put_keeps}
 use Rattle.bpf_sound.proofs.AluValues.{leaves, alu_value}
 
 -- the kinds are right in a state without fault
-kinds_are_right : (len : ℕ) (s : AbstractState) (i : Insn) → NoFault len s i → have_right_kinds s i ≡ true
-kinds_are_right len s i ok = not-false (have_right_kinds s i) (or_parts (not (have_right_kinds s i)) (reads_part s i) ok.kinds).0
+kinds_are_right : (least : ℕ) (s : AbstractState) (i : Insn) → NoFault least s i → have_right_kinds s i ≡ true
+kinds_are_right least s i ok = not-false (have_right_kinds s i) (or_parts (not (have_right_kinds s i)) (reads_part s i) ok.kinds).0
 
 -- ---- arithmetic
 
@@ -62,20 +62,20 @@ stays_near : (s : AbstractState) (op : AluOp) (width : Width) (dst : Reg) (src :
 stays_near s Mov width dst src h kind = absurd (false≢true (sym kind))
 stays_near s op width dst src h kind = h
 
-pub alu_keeps : ConstantHas → ConstantIs → TightenKeeps → AluKeeps → (p : Instructions) (len : ℕ) (x : List ℕ) (op : AluOp) (width : Width) (dst : Reg) (src : Operand) (s : AbstractState) (m m' : machine.State) → IsJudged p len x (Alu op width dst src) s m → Step p m m' → Leads p len x (after p.order (Alu op width dst src) s) m'
-alu_keeps constants is_constant tightens law p len x op width dst src s m m' j step =
+pub alu_keeps : ConstantHas → ConstantIs → TightenKeeps → AluKeeps → (p : Instructions) (least most : ℕ) (x : List ℕ) (op : AluOp) (width : Width) (dst : Reg) (src : Operand) (s : AbstractState) (m m' : machine.State) → IsJudged p least most x (Alu op width dst src) s m → Step p m m' → Leads p least most x (after p.order (Alu op width dst src) s) m'
+alu_keeps constants is_constant tightens law p least most x op width dst src s m m' j step =
     let i : Insn = Alu op width dst src in
-    let ok = no_fault_is len s i j.no_fault in
+    let ok = no_fault_is least s i j.no_fault in
     let depth : ℕ = machine.depth m in
     alu_parts p.order op width dst src m m' (step_is p m m' i j.stands step)
     (λ b v e f.
     let given =
     alu_value law tightens depth (machine.register m dst) b v width op (register s dst) (operand s src) (j.valid.registers dst) (j.described.registers dst) (operand_valid constants s src j.valid)
-    (subst (λ o. DescribesRegister depth (operand s src) o) e (operand_describes constants p.order len x s m src j.described))
-    (kinds_are_right len s i ok) (stays_near s op width dst src (or_parts (makes_far_pointer s i) _ ok.bounds).0) f in
-    let tag = alu_tag_keeps constants is_constant p.order len x s m width op dst src b v j.valid j.described e f in
-    subst (λ o. Leads p len x o m') (sym (ap (λ o. option_map (λ r. put_register dst r (alu_tag s width op dst src) s) o) given.is_there))
-    (put_keeps p len x i s m m' dst v given.value (alu_tag s width op dst src) j step refl (does_alu p.order op width dst src m b v e f) given.good.1 given.good.0 tag))
+    (subst (λ o. DescribesRegister depth (operand s src) o) e (operand_describes constants p.order least most x s m src j.described))
+    (kinds_are_right least s i ok) (stays_near s op width dst src (or_parts (makes_far_pointer s i) _ ok.bounds).0) f in
+    let tag = alu_tag_keeps constants is_constant p.order least most x s m width op dst src b v j.valid j.described e f in
+    subst (λ o. Leads p least most x o m') (sym (ap (λ o. option_map (λ r. put_register dst r (alu_tag s width op dst src) s) o) given.is_there))
+    (put_keeps p least most x i s m m' dst v given.value (alu_tag s width op dst src) j step refl (does_alu p.order op width dst src m b v e f) given.good.1 given.good.0 tag))
 
 -- ---- jumps
 
@@ -96,61 +96,61 @@ record HoldsNumber (R : RegState) (v : Option Value) : Type 0 where
   value_is : v ≡ Some (NumberValue number)
   member : Member set number
 
-holds_number : (depth : ℕ) (R : RegState) (v : Option Value) → is_number R ≡ true → IsRegister R → DescribesRegister depth R v → HoldsNumber R v
+holds_number : (depth : ℕ) (R : RegState) (v : Option Value) → is_number R ≡ true → IsAbstractRegister R → DescribesRegister depth R v → HoldsNumber R v
 holds_number depth (Num n) v h ok d = record { set = n; number = d.0; state_is = refl; value_is = d.1; member = (ok, d.2) }
 holds_number depth R v h ok d = absurd (false≢true h)
 
 -- an instruction that puts an operation's result on the number in a register
-module _ (p : Instructions) (len : ℕ) (x : List ℕ) (i : Insn) (dst src : Reg) (f : Number → Option Number) (g : ℕ → ℕ) (s : AbstractState) (m m' : machine.State) where
-  computes : IsJudged p len x i s m → Step p m m' → register_written i ≡ Some dst → have_right_kinds s i ≡ is_number (register s src) → does p.order i m ≡ option_and_then (λ a. put dst (NumberValue (g a)) (next i m)) (machine.number_of_register m src) → ((n : Number) (y : ℕ) → Member n y → Holds (f n) (g y)) → Leads p len x (set_number dst (option_and_then f (number_state (register s src))) s) m'
+module _ (p : Instructions) (least most : ℕ) (x : List ℕ) (i : Insn) (dst src : Reg) (f : Number → Option Number) (g : ℕ → ℕ) (s : AbstractState) (m m' : machine.State) where
+  computes : IsJudged p least most x i s m → Step p m m' → register_written i ≡ Some dst → have_right_kinds s i ≡ is_number (register s src) → does p.order i m ≡ option_and_then (λ a. put dst (NumberValue (g a)) (next i m)) (machine.number_of_register m src) → ((n : Number) (y : ℕ) → Member n y → Holds (f n) (g y)) → Leads p least most x (set_number dst (option_and_then f (number_state (register s src))) s) m'
   computes j step written kind done law =
-      let held = holds_number (machine.depth m) (register s src) (machine.register m src) (sym kind ∙ kinds_are_right len s i (no_fault_is len s i j.no_fault)) (j.valid.registers src) (j.described.registers src) in
+      let held = holds_number (machine.depth m) (register s src) (machine.register m src) (sym kind ∙ kinds_are_right least s i (no_fault_is least s i j.no_fault)) (j.valid.registers src) (j.described.registers src) in
       let result = law held.set held.number held.member in
       let puts : does p.order i m ≡ put dst (NumberValue (g held.number)) (next i m) = done ∙ ap (λ o. option_and_then (λ a. put dst (NumberValue (g a)) (next i m)) (option_and_then number_in o)) held.value_is in
       let there : set_number dst (option_and_then f (number_state (register s src))) s ≡ Some (put_register dst (Num result.set) None s) =
       ap (λ R. set_number dst (option_and_then f (number_state R)) s) held.state_is ∙ ap (λ o. set_number dst o s) result.is_there in
-      subst (λ o. Leads p len x o m') (sym there)
-      (put_keeps p len x i s m m' dst (NumberValue (g held.number)) (Num result.set) None j step written puts (g held.number, refl, result.has) result.valid tt)
+      subst (λ o. Leads p least most x o m') (sym there)
+      (put_keeps p least most x i s m m' dst (NumberValue (g held.number)) (Num result.set) None j step written puts (g held.number, refl, result.has) result.valid tt)
 
-module _ (p : Instructions) (len : ℕ) (x : List ℕ) where
-  pub neg_keeps : NegKeeps → (width : Width) (dst : Reg) (s : AbstractState) (m m' : machine.State) → IsJudged p len x (Neg width dst) s m → Step p m m' → Leads p len x (after p.order (Neg width dst) s) m'
+module _ (p : Instructions) (least most : ℕ) (x : List ℕ) where
+  pub neg_keeps : NegKeeps → (width : Width) (dst : Reg) (s : AbstractState) (m m' : machine.State) → IsJudged p least most x (Neg width dst) s m → Step p m m' → Leads p least most x (after p.order (Neg width dst) s) m'
   unfolding does
-  neg_keeps law width dst s m m' j step = computes p len x (Neg width dst) dst dst (num_neg width) (alu width Sub 0) s m m' j step refl refl refl (law width)
+  neg_keeps law width dst s m m' j step = computes p least most x (Neg width dst) dst dst (num_neg width) (alu width Sub 0) s m m' j step refl refl refl (law width)
 
-  pub movsx_keeps : MovsxKeeps → (width : Width) (bits : SignBits) (dst src : Reg) (s : AbstractState) (m m' : machine.State) → IsJudged p len x (MovSx width bits dst src) s m → Step p m m' → Leads p len x (after p.order (MovSx width bits dst src) s) m'
+  pub movsx_keeps : MovsxKeeps → (width : Width) (bits : SignBits) (dst src : Reg) (s : AbstractState) (m m' : machine.State) → IsJudged p least most x (MovSx width bits dst src) s m → Step p m m' → Leads p least most x (after p.order (MovSx width bits dst src) s) m'
   unfolding does
-  movsx_keeps law width bits dst src s m m' j step = computes p len x (MovSx width bits dst src) dst src (num_movsx width bits) (sign_extend bits width) s m m' j step refl refl refl (law width bits)
+  movsx_keeps law width bits dst src s m m' j step = computes p least most x (MovSx width bits dst src) dst src (num_movsx width bits) (sign_extend bits width) s m m' j step refl refl refl (law width bits)
 
-  pub end_keeps : EndKeeps → (kind : EndKind) (bits : EndBits) (dst : Reg) (s : AbstractState) (m m' : machine.State) → IsJudged p len x (End kind bits dst) s m → Step p m m' → Leads p len x (after p.order (End kind bits dst) s) m'
+  pub end_keeps : EndKeeps → (kind : EndKind) (bits : EndBits) (dst : Reg) (s : AbstractState) (m m' : machine.State) → IsJudged p least most x (End kind bits dst) s m → Step p m m' → Leads p least most x (after p.order (End kind bits dst) s) m'
   unfolding does
-  end_keeps law kind bits dst s m m' j step = computes p len x (End kind bits dst) dst dst (num_end p.order kind bits) (swapped p.order kind bits) s m m' j step refl refl refl (law p.order kind bits)
+  end_keeps law kind bits dst s m m' j step = computes p least most x (End kind bits dst) dst dst (num_end p.order kind bits) (swapped p.order kind bits) s m m' j step refl refl refl (law p.order kind bits)
 
   -- ---- constants
 
-  pub load_imm_keeps : ConstantHas → (dst : Reg) (value : ℕ) (s : AbstractState) (m m' : machine.State) → IsJudged p len x (LoadImm64 dst value) s m → Step p m m' → Leads p len x (after p.order (LoadImm64 dst value) s) m'
+  pub load_imm_keeps : ConstantHas → (dst : Reg) (value : ℕ) (s : AbstractState) (m m' : machine.State) → IsJudged p least most x (LoadImm64 dst value) s m → Step p m m' → Leads p least most x (after p.order (LoadImm64 dst value) s) m'
   unfolding does
-  load_imm_keeps law dst value s m m' j step = put_keeps p len x (LoadImm64 dst value) s m m' dst (NumberValue value) (Num (constant value)) None j step refl refl (constant_describes law (machine.depth m) value j.encoding) (law value j.encoding).0 tt
+  load_imm_keeps law dst value s m m' j step = put_keeps p least most x (LoadImm64 dst value) s m m' dst (NumberValue value) (Num (constant value)) None j step refl refl (constant_describes law (machine.depth m) value j.encoding) (law value j.encoding).0 tt
 
   -- ---- jumps
 
   -- another slot changes nothing that is described
-  pub at_slot_keeps : (s : AbstractState) (m : machine.State) (sl : ℕ) → IsAbstract s → Describes p.order len x s m → Leads p len x (Some s) (machine.at_slot sl m)
+  pub at_slot_keeps : (s : AbstractState) (m : machine.State) (sl : ℕ) → IsAbstract s → Describes p.order least most x s m → Leads p least most x (Some s) (machine.at_slot sl m)
   at_slot_keeps s m sl ok d = record {
     state = s;
     is_there = refl;
     valid = ok;
-    describes = record { length_is = d.length_is; registers = d.registers; slots = d.slots; register_tags = d.register_tags; slot_tags = d.slot_tags };
+    describes = record { length_within = d.length_within; registers = d.registers; slots = d.slots; register_tags = d.register_tags; slot_tags = d.slot_tags };
   }
 
-  jump_keeps : (off : ℤ) (s : AbstractState) (m m' : machine.State) → IsAbstract s → Describes p.order len x s m → jump m off ≡ Some m' → Leads p len x (Some s) m'
+  jump_keeps : (off : ℤ) (s : AbstractState) (m m' : machine.State) → IsAbstract s → Describes p.order least most x s m → jump m off ≡ Some m' → Leads p least most x (Some s) m'
   jump_keeps off s m m' ok d did =
       let to = jump_slot off m m' did in
-      leads_at p len x (Some s) (machine.at_slot to.0 m) m' to.1 (at_slot_keeps s m to.0 ok d)
+      leads_at p least most x (Some s) (machine.at_slot to.0 m) m' to.1 (at_slot_keeps s m to.0 ok d)
 
-  pub ja_keeps : (off : ℤ) (s : AbstractState) (m m' : machine.State) → IsJudged p len x (Ja off) s m → Step p m m' → Leads p len x (after p.order (Ja off) s) m'
+  pub ja_keeps : (off : ℤ) (s : AbstractState) (m m' : machine.State) → IsJudged p least most x (Ja off) s m → Step p m m' → Leads p least most x (after p.order (Ja off) s) m'
   unfolding does
   ja_keeps off s m m' j step = jump_keeps off s m m' j.valid j.described (step_is p m m' (Ja off) j.stands step)
 
-  pub ja_long_keeps : (off : ℤ) (s : AbstractState) (m m' : machine.State) → IsJudged p len x (JaLong off) s m → Step p m m' → Leads p len x (after p.order (JaLong off) s) m'
+  pub ja_long_keeps : (off : ℤ) (s : AbstractState) (m m' : machine.State) → IsJudged p least most x (JaLong off) s m → Step p m m' → Leads p least most x (after p.order (JaLong off) s) m'
   unfolding does
   ja_long_keeps off s m m' j step = jump_keeps off s m m' j.valid j.described (step_is p m m' (JaLong off) j.stands step)

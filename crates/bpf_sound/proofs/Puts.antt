@@ -15,14 +15,14 @@ use Rattle.bpf_state.specs.declared.state.RegState.{RegState}
 use Rattle.bpf_state.specs.declared.state.Tag.{Tag}
 use Rattle.bpf_state.specs.State.{AbstractState, put_register}
 use Rattle.bpf_sound.specs.Describes.{DescribesRegister, TaggedRegister}
-use Rattle.bpf_sound.specs.Laws.{IsJudged, IsRegister, Leads}
+use Rattle.bpf_sound.specs.Laws.{IsJudged, IsAbstractRegister, Leads}
 use Rattle.bpf_sound.proofs.Judged.{not_protected, step_is, leads_at, top_frame}
 use Rattle.bpf_sound.proofs.Registers.{reg_top, put_is, register_put}
 
-pub put_keeps : (p : Instructions) (len : ℕ) (x : List ℕ) (i : Insn) (s : AbstractState) (m m' : machine.State) (dst : Reg) (v : Value) (value : RegState) (tag : Option Tag) → IsJudged p len x i s m → Step p m m' → register_written i ≡ Some dst → does p.order i m ≡ put dst v (next i m) → DescribesRegister (machine.depth m) value (Some v) → IsRegister value → TaggedRegister x tag (Some v) → Leads p len x (Some (put_register dst value tag s)) m'
-put_keeps p len x i s m m' dst v value tag j step written puts is ok tagged =
+pub put_keeps : (p : Instructions) (least most : ℕ) (x : List ℕ) (i : Insn) (s : AbstractState) (m m' : machine.State) (dst : Reg) (v : Value) (value : RegState) (tag : Option Tag) → IsJudged p least most x i s m → Step p m m' → register_written i ≡ Some dst → does p.order i m ≡ put dst v (next i m) → DescribesRegister (machine.depth m) value (Some v) → IsAbstractRegister value → TaggedRegister x tag (Some v) → Leads p least most x (Some (put_register dst value tag s)) m'
+put_keeps p least most x i s m m' dst v value tag j step written puts is ok tagged =
     let slot : ℕ = m.top.slot + slot_count i in
-    let other : (register_number dst == 10) ≡ false = sym (ap (λ o. option_map_or is_frame_pointer o false) written) ∙ not_protected len s i j.no_fault in
+    let other : (register_number dst == 10) ≡ false = sym (ap (λ o. option_map_or is_frame_pointer o false) written) ∙ not_protected least s i j.no_fault in
     let there = same_Some (reg_top m slot dst v) m' (sym (puts ∙ put_is dst v slot m other) ∙ step_is p m m' i j.stands step) in
-    leads_at p len x (Some (put_register dst value tag s)) (reg_top m slot dst v) m' there
-    (register_put p len x s m dst v slot value tag j.valid (top_frame m j.state) j.described is tagged ok)
+    leads_at p least most x (Some (put_register dst value tag s)) (reg_top m slot dst v) m' there
+    (register_put p least most x s m dst v slot value tag j.valid (top_frame m j.state) j.described is tagged ok)

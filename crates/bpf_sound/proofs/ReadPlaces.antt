@@ -56,11 +56,11 @@ part_bytes n c bytes fit i =
       | inr more ↦ subst (λ v. v < 256) (sym (get_or_past (take n (drop c bytes)) i 0 (let l = length-take n (drop c bytes) in omega arith))) (omega arith)
     ]
 
-pub context_read : (m : machine.State) (len : ℕ) (a : Access) (lo hi : ℤ) → machine.IsState m → length m.context ≡ len → some_passes (λ p. not (is_inside len p)) (span_from a (Ctx lo hi)) ≡ false → PointsInto Context lo hi (machine.register m a.base) → (bytes : List ℕ) × Read m a bytes
-context_read m len a lo hi ok all q d =
+pub context_read : (m : machine.State) (least : ℕ) (a : Access) (lo hi : ℤ) → machine.IsState m → least ≤ length m.context → some_passes (λ p. not (is_inside least p)) (span_from a (Ctx lo hi)) ≡ false → PointsInto Context lo hi (machine.register m a.base) → (bytes : List ℕ) × Read m a bytes
+context_read m least a lo hi ok all q d =
     let z : ℤ = d.0 +ℤ a.offset in
     let low : Bool = int_le (pos 0) (lo +ℤ a.offset) in
-    let high : Bool = int_le ((hi +ℤ a.offset) +ℤ pos (byte_count a.size)) (pos len) in
+    let high : Bool = int_le ((hi +ℤ a.offset) +ℤ pos (byte_count a.size)) (pos least) in
     let t = and_parts low high (not-false (low && high) q) in
     let l = d.2 in
     let u = d.3 in
@@ -68,7 +68,7 @@ context_read m len a lo hi ok all q d =
     let e = t.1 in
     let c : ℕ = unsigned_abs z in
     let is_c : z ≡ pos c = omega (arith, ints, clamps) in
-    let room : c + byte_count a.size ≤ len = omega (arith, ints, clamps) in
+    let room : c + byte_count a.size ≤ least = omega (arith, ints, clamps) in
     let room' : c + byte_count a.size ≤ length m.context = omega arith in (
       take (byte_count a.size) (drop c m.context),
       record {
@@ -86,7 +86,7 @@ context_read m len a lo hi ok all q d =
 
 -- ---- in the top frame
 
-module _ (order : Order) (len : ℕ) (x : List ℕ) (s : AbstractState) (m : machine.State) (p : Span) (c : ℕ) (valid : IsAbstract s) (frame : IsFrame m.top) (d : Describes order len x s m) (lies : LiesAt p c) where
+module _ (order : Order) (least most : ℕ) (x : List ℕ) (s : AbstractState) (m : machine.State) (p : Span) (c : ℕ) (valid : IsAbstract s) (frame : IsFrame m.top) (d : Describes order least most x s m) (lies : LiesAt p c) where
   -- no touched slot holds a pointer, and each touched byte is known
   each_byte : ((k : ℕ) → 1 ≤ k → k ≤ 64 → touches p k ≡ true → is_pointer_slot (slot s k) ≡ false) → any_slot (λ k held. touches p k && not (are_known_bytes (touched_bytes p k) held)) 1 s.slots ≡ false → (i : ℕ) → i < p.count → IsByte (get_or m.top.stack (c + i) None)
   each_byte plain known i lt =
@@ -115,14 +115,14 @@ module _ (order : Order) (len : ℕ) (x : List ℕ) (s : AbstractState) (m : mac
       let h = lies.highest in
       omega (arith, ints)
 
-module _ (order : Order) (len : ℕ) (x : List ℕ) (s : AbstractState) (m : machine.State) (a : Access) (value : RegState) (valid : IsAbstract s) (ok : machine.IsState m) (d : Describes order len x s m) (t : InTop m a value) where
+module _ (order : Order) (least most : ℕ) (x : List ℕ) (s : AbstractState) (m : machine.State) (a : Access) (value : RegState) (valid : IsAbstract s) (ok : machine.IsState m) (d : Describes order least most x s m) (t : InTop m a value) where
   -- the bytes of the frame, where the tests on its slots find none that isn't known
   pub frame_bytes : ((k : ℕ) → 1 ≤ k → k ≤ 64 → touches t.span k ≡ true → is_pointer_slot (slot s k) ≡ false) → any_slot (λ k held. touches t.span k && not (are_known_bytes (touched_bytes t.span k) held)) 1 s.slots ≡ false → ReadBytes (byte_count a.size) t.first m.top.stack
   frame_bytes plain known =
       let all = (top_frame m ok).cells in
       let fits = t.lies.fits in
       let n = t.count in
-      read_bytes (byte_count a.size) t.first m.top.stack (omega arith) (λ i lt. each_byte order len x s m t.span t.first valid (top_frame m ok) d t.lies plain known i (omega arith))
+      read_bytes (byte_count a.size) t.first m.top.stack (omega arith) (λ i lt. each_byte order least most x s m t.span t.first valid (top_frame m ok) d t.lies plain known i (omega arith))
 
 pub stack_here : (m : machine.State) → stack_of m (machine.depth m) ≡ m.top.stack
 stack_here m = stack_top m.top.slot m

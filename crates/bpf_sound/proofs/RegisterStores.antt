@@ -37,7 +37,7 @@ use Rattle.bpf_state.specs.Fault.{can_store, have_right_kinds, is_pointer, is_an
 use Rattle.bpf_state.specs.Transfer.{after, slot_written, slot_maybe_written, with_touched, stored}
 use Rattle.bpf_state.specs.State.{AbstractState, register, register_tag, slot, slot_tag, put_slot, value_slot}
 use Rattle.bpf_sound.specs.Describes.{Describes, DescribesRegister, DescribesSlot, TaggedRegister, TaggedSlot, IsSpilled}
-use Rattle.bpf_sound.specs.Laws.{Leads, IsJudged, IsAbstract, IsSlot}
+use Rattle.bpf_sound.specs.Laws.{Leads, IsJudged, IsAbstract, IsAbstractSlot}
 use Rattle.bpf_sound.proofs.StoredCells.{each_cell_at, outside, within}
 use Rattle.bpf_sound.proofs.TouchedCells.{apart}
 use Rattle.bpf_sound.proofs.FrameStores.{InTop, store_access, in_top, stack_top, with_top_stack, does_store_number, byte_count_few}
@@ -64,10 +64,10 @@ kept_part region off i j cells apart fits =
 
 -- ---- one slot is replaced
 
-module _ (order : Order) (len : ℕ) (x : List ℕ) (s : AbstractState) (m : machine.State) (k0 sl : ℕ) (cells : List (Option Cell)) (held : SlotState) (tag : Option Tag) (valid : IsAbstract s) (d : Describes order len x s m) (low0 : 1 ≤ k0) (high0 : k0 ≤ 64) where
-  slot_replaced : DescribesSlot order (machine.depth m) held (cells_of cells k0) → TaggedSlot order x tag (cells_of cells k0) → ((k : ℕ) → 1 ≤ k → k ≤ 64 → (k0 < k) ⊎ (k < k0) → (i : ℕ) → i < 8 → cells_of cells k i ≡ cells_of m.top.stack k i) → Describes order len x (put_slot k0 held tag s) (at_top m sl cells)
+module _ (order : Order) (least most : ℕ) (x : List ℕ) (s : AbstractState) (m : machine.State) (k0 sl : ℕ) (cells : List (Option Cell)) (held : SlotState) (tag : Option Tag) (valid : IsAbstract s) (d : Describes order least most x s m) (low0 : 1 ≤ k0) (high0 : k0 ≤ 64) where
+  slot_replaced : DescribesSlot order (machine.depth m) held (cells_of cells k0) → TaggedSlot order x tag (cells_of cells k0) → ((k : ℕ) → 1 ≤ k → k ≤ 64 → (k0 < k) ⊎ (k < k0) → (i : ℕ) → i < 8 → cells_of cells k i ≡ cells_of m.top.stack k i) → Describes order least most x (put_slot k0 held tag s) (at_top m sl cells)
   slot_replaced here tagged elsewhere = record {
-    length_is = d.length_is;
+    length_within = d.length_within;
     registers = d.registers;
     slots = λ k low high. set_at (λ h. DescribesSlot order (machine.depth m) h (cells_of cells k)) s.slots k0 k held (Bytes 0) valid.slots_are low0 high0 low high
         (λ e. subst (λ k. DescribesSlot order (machine.depth m) held (cells_of cells k)) e here)
@@ -78,7 +78,7 @@ module _ (order : Order) (len : ℕ) (x : List ℕ) (s : AbstractState) (m : mac
         (λ apart. same_slot_tag order x (slot_tag s k) (cells_of m.top.stack k) (cells_of cells k) (elsewhere k low high apart) (d.slot_tags k low high));
   }
 
-  replaced_valid : IsSlot held → IsAbstract (put_slot k0 held tag s)
+  replaced_valid : IsAbstractSlot held → IsAbstract (put_slot k0 held tag s)
   replaced_valid ok =
       record {
         eleven = valid.eleven;
@@ -86,7 +86,7 @@ module _ (order : Order) (len : ℕ) (x : List ℕ) (s : AbstractState) (m : mac
         eleven_tags = valid.eleven_tags;
         slot_tags_are = length-set s.slot_tags (k0 - 1) tag ∙ valid.slot_tags_are;
         registers = valid.registers;
-        slots = λ k low high. set_at IsSlot s.slots k0 k held (Bytes 0) valid.slots_are low0 high0 low high (λ e. ok) (λ apart. valid.slots k low high);
+        slots = λ k low high. set_at IsAbstractSlot s.slots k0 k held (Bytes 0) valid.slots_are low0 high0 low high (λ e. ok) (λ apart. valid.slots k low high);
       }
 
 -- ---- a pointer into a slot
@@ -109,11 +109,11 @@ store_pointer_top region off c sl m even =
 
 -- ---- the instruction
 
-pub store_base : (p : Instructions) (len : ℕ) (x : List ℕ) (size : Size) (dst src : Reg) (off : ℤ) (s : AbstractState) (m : machine.State) → IsJudged p len x (Store size dst off src) s m → InTop m (store_access size dst off) (register s dst)
-store_base p len x size dst src off s m j =
-    let f = no_fault_is len s (Store size dst off src) j.no_fault in
+pub store_base : (p : Instructions) (least most : ℕ) (x : List ℕ) (size : Size) (dst src : Reg) (off : ℤ) (s : AbstractState) (m : machine.State) → IsJudged p least most x (Store size dst off src) s m → InTop m (store_access size dst off) (register s dst)
+store_base p least most x size dst src off s m j =
+    let f = no_fault_is least s (Store size dst off src) j.no_fault in
     let k = not-false (have_right_kinds s (Store size dst off src)) (or_parts (not (have_right_kinds s (Store size dst off src))) false f.kinds).0 in
-    in_top m len (store_access size dst off) (register s dst)
+    in_top m least (store_access size dst off) (register s dst)
     (and_parts (is_pointer (register s dst)) (can_store (span_of s (Store size dst off src)) (register s src)) k).0 f.protected f.bounds (j.described.registers dst)
 
 -- what a register that is stored is: a number, or a pointer whose slot is known
@@ -154,13 +154,13 @@ store_pointer_reason : (dst src : Reg) (off at off' : ℤ) (region region' : Reg
 unfolding reason_at
 store_pointer_reason dst src off at off' region region' c m base e place even = rw (base, e, place, even)
 
-module _ (p : Instructions) (len : ℕ) (x : List ℕ) (size : Size) (dst src : Reg) (off : ℤ) (s : AbstractState) (m : machine.State) (j : IsJudged p len x (Store size dst off src) s m) where
+module _ (p : Instructions) (least most : ℕ) (x : List ℕ) (size : Size) (dst src : Reg) (off : ℤ) (s : AbstractState) (m : machine.State) (j : IsJudged p least most x (Store size dst off src) s m) where
   t : InTop m (store_access size dst off) (register s dst)
-  t = store_base p len x size dst src off s m j
+  t = store_base p least most x size dst src off s m j
 
   what : (t : InTop m (store_access size dst off) (register s dst)) → Stored m src t.span size (register s src)
   what t =
-      let f = no_fault_is len s (Store size dst off src) j.no_fault in
+      let f = no_fault_is least s (Store size dst off src) j.no_fault in
       let k = not-false (have_right_kinds s (Store size dst off src)) (or_parts (not (have_right_kinds s (Store size dst off src))) false f.kinds).0 in
       let can = (and_parts (is_pointer (register s dst)) (can_store (span_of s (Store size dst off src)) (register s src)) k).1 in
       let r = or_parts (is_any (register s dst)) (list_any (λ r. is_any (register s r)) (src ∷ [])) f.reads in
@@ -182,17 +182,17 @@ module _ (p : Instructions) (len : ℕ) (x : List ℕ) (size : Size) (dst src : 
           subst (λ sz. reason_at m (Store sz dst off src) ≡ None) (sym is_dw)
           (store_pointer_reason dst src off t.offset off' region (FrameAt (machine.depth m)) t.first m t.base e place (whole_place (t.offset +ℤ off) t.first t.at (omega arith) even))
 
-  store_leads : (m' : machine.State) → Step p m m' → Leads p len x (after p.order (Store size dst off src) s) m'
+  store_leads : (m' : machine.State) → Step p m m' → Leads p least most x (after p.order (Store size dst off src) s) m'
   store_leads m' step =
-      subst (λ o. Leads p len x (stored o (register s src) (register_tag s src) s) m') (sym t.span_is) (leads t (what t))
+      subst (λ o. Leads p least most x (stored o (register s src) (register_tag s src) s) m') (sym t.span_is) (leads t (what t))
     where
-      leads : (t : InTop m (store_access size dst off) (register s dst)) → Stored m src t.span size (register s src) → Leads p len x (stored (Some t.span) (register s src) (register_tag s src) s) m'
+      leads : (t : InTop m (store_access size dst off) (register s dst)) → Stored m src t.span size (register s src) → Leads p least most x (stored (Some t.span) (register s src) (register_tag s src) s) m'
       leads t (number y small e) =
           let few : t.span.count ≤ 8 = subst (λ n. n ≤ 8) (sym t.count) (byte_count_few size) in
           let stack' : ℕ → List (Option Cell) = λ n. with_bytes (bytes_of p.order n y) t.first m.top.stack in
-          let l : Leads p len x (stored (Some t.span) (register s src) (register_tag s src) s) (at_top m (m.top.slot + 1) (stack' t.span.count)) = number_stored p.order len x s m t.span t.first (m.top.slot + 1) y (register s src) (register_tag s src) j.valid (top_frame m j.state) t.lies few j.described small (subst (λ v. DescribesRegister (machine.depth m) (register s src) v) e (j.described.registers src)) (subst (λ v. TaggedRegister x (register_tag s src) v) e (j.described.register_tags src)) (j.valid.registers src) p refl in
+          let l : Leads p least most x (stored (Some t.span) (register s src) (register_tag s src) s) (at_top m (m.top.slot + 1) (stack' t.span.count)) = number_stored p.order least most x s m t.span t.first (m.top.slot + 1) y (register s src) (register_tag s src) j.valid (top_frame m j.state) t.lies few j.described small (subst (λ v. DescribesRegister (machine.depth m) (register s src) v) e (j.described.registers src)) (subst (λ v. TaggedRegister x (register_tag s src) v) e (j.described.register_tags src)) (j.valid.registers src) p refl in
           let e' : at_top m (m.top.slot + 1) (stack' t.span.count) ≡ m' = ap (λ n. at_top m (m.top.slot + 1) (stack' n)) t.count ∙ same_Some (at_top m (m.top.slot + 1) (stack' (byte_count size))) m' (sym (does_store_number p.order size dst src off y m (register s dst) t e) ∙ step_is p m m' (Store size dst off src) j.stands step) in
-          leads_at p len x (stored (Some t.span) (register s src) (register_tag s src) s) (at_top m (m.top.slot + 1) (stack' t.span.count)) m' e' l
+          leads_at p least most x (stored (Some t.span) (register s src) (register_tag s src) s) (at_top m (m.top.slot + 1) (stack' t.span.count)) m' e' l
       leads t (pointer region off' lo hi e whole is_dw law l h) =
           let w = whole_slot_is t.span t.first t.lies whole in
           let low = w.low in
@@ -206,16 +206,16 @@ module _ (p : Instructions) (len : ℕ) (x : List ℕ) (size : Size) (dst src : 
           let did = subst (λ sz. does p.order (Store sz dst off src) m ≡ Some m') is_dw (step_is p m m' (Store size dst off src) j.stands step) in
           let cells : List (Option Cell) = with_parts region off' t.first m.top.stack in
           let is : at_top m (m.top.slot + 1) cells ≡ m' = same_Some (at_top m (m.top.slot + 1) cells) m' (sym does_it ∙ did) in
-          leads_at p len x (stored (Some t.span) (register s src) (register_tag s src) s) (at_top m (m.top.slot + 1) cells) m' is
+          leads_at p least most x (stored (Some t.span) (register s src) (register_tag s src) s) (at_top m (m.top.slot + 1) cells) m' is
           (record {
             state = put_slot k0 (value_slot (register s src)) (register_tag s src) s;
             is_there = ap (λ b. Some (cond b (put_slot k0 (value_slot (register s src)) (register_tag s src) s) (cond (is_known t.span) (with_touched t.span (λ k held. slot_written (touched_bytes t.span k) held) s) (with_touched t.span (λ k held. slot_maybe_written held) s)))) whole;
-            valid = replaced_valid p.order len x s m k0 (m.top.slot + 1) cells (value_slot (register s src)) (register_tag s src) j.valid j.described low high (value_slot_valid (register s src) (j.valid.registers src));
-            describes = slot_replaced p.order len x s m k0 (m.top.slot + 1) cells (value_slot (register s src)) (register_tag s src) j.valid j.described low high
+            valid = replaced_valid p.order least most x s m k0 (m.top.slot + 1) cells (value_slot (register s src)) (register_tag s src) j.valid j.described low high (value_slot_valid (register s src) (j.valid.registers src));
+            describes = slot_replaced p.order least most x s m k0 (m.top.slot + 1) cells (value_slot (register s src)) (register_tag s src) j.valid j.described low high
                 (law (cells_of cells k0) p.order (spilled region lo hi off' t.first k0 m.top.stack all at low high l h))
                 (pointer_tag p.order x (register_tag s src) region off' (machine.register m src) (cells_of cells k0) e (j.described.register_tags src))
                 (λ k low' high' apart i lt. kept_part region off' t.first (512 - 8 * k + i) m.top.stack (elim apart [ inl b ↦ inl (omega arith) | inr b ↦ inr (omega arith) ]) (omega arith));
           })
 
-pub store_keeps : (p : Instructions) (len : ℕ) (x : List ℕ) (size : Size) (dst : Reg) (off : ℤ) (src : Reg) (s : AbstractState) (m m' : machine.State) → IsJudged p len x (Store size dst off src) s m → Step p m m' → Leads p len x (after p.order (Store size dst off src) s) m'
-store_keeps p len x size dst off src s m m' j step = store_leads p len x size dst src off s m j m' step
+pub store_keeps : (p : Instructions) (least most : ℕ) (x : List ℕ) (size : Size) (dst : Reg) (off : ℤ) (src : Reg) (s : AbstractState) (m m' : machine.State) → IsJudged p least most x (Store size dst off src) s m → Step p m m' → Leads p least most x (after p.order (Store size dst off src) s) m'
+store_keeps p least most x size dst off src s m m' j step = store_leads p least most x size dst src off s m j m' step

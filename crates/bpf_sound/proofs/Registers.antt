@@ -14,7 +14,7 @@ use Rattle.bpf_state.specs.declared.state.RegState.TheVariants.{Any}
 use Rattle.bpf_state.specs.declared.state.Tag.{Tag}
 use Rattle.bpf_state.specs.State.{AbstractState, put_register}
 use Rattle.bpf_sound.specs.Describes.{Describes, DescribesRegister, TaggedRegister}
-use Rattle.bpf_sound.specs.Laws.{Leads, IsAbstract, IsRegister}
+use Rattle.bpf_sound.specs.Laws.{Leads, IsAbstract, IsAbstractRegister}
 
 pub below_eleven : (r : Reg) → register_number r < 11
 below_eleven R0 = omega arith
@@ -51,8 +51,8 @@ pub put_is : (r : Reg) (v : Value) (sl : ℕ) (m : machine.State) → (register_
 put_is r v sl m other = ap (λ b. cond b None (Some (reg_top m sl r v))) other
 
 -- a value is put into a register
-pub register_put : (p : Instructions) (len : ℕ) (x : List ℕ) (s : AbstractState) (m : machine.State) (r : Reg) (v : Value) (sl : ℕ) (value : RegState) (tag : Option Tag) → IsAbstract s → IsFrame m.top → Describes p.order len x s m → DescribesRegister (machine.depth m) value (Some v) → TaggedRegister x tag (Some v) → IsRegister value → Leads p len x (Some (put_register r value tag s)) (reg_top m sl r v)
-register_put p len x s m r v sl value tag valid frame d is tagged ok =
+pub register_put : (p : Instructions) (least most : ℕ) (x : List ℕ) (s : AbstractState) (m : machine.State) (r : Reg) (v : Value) (sl : ℕ) (value : RegState) (tag : Option Tag) → IsAbstract s → IsFrame m.top → Describes p.order least most x s m → DescribesRegister (machine.depth m) value (Some v) → TaggedRegister x tag (Some v) → IsAbstractRegister value → Leads p least most x (Some (put_register r value tag s)) (reg_top m sl r v)
+register_put p least most x s m r v sl value tag valid frame d is tagged ok =
     let eleven = frame.eleven in
     let lt = below_eleven r in
     let here = valid.eleven in
@@ -65,11 +65,11 @@ register_put p len x s m r v sl value tag valid frame d is tagged ok =
         slots_are = valid.slots_are;
         eleven_tags = length-set s.register_tags (register_number r) tag ∙ valid.eleven_tags;
         slot_tags_are = valid.slot_tags_are;
-        registers = λ q. both_set (λ a b. IsRegister a) s.registers s.registers (register_number r) (register_number q) value Any value Any (omega arith) (omega arith) ok (valid.registers q);
+        registers = λ q. both_set (λ a b. IsAbstractRegister a) s.registers s.registers (register_number r) (register_number q) value Any value Any (omega arith) (omega arith) ok (valid.registers q);
         slots = valid.slots;
       };
       describes = record {
-        length_is = d.length_is;
+        length_within = d.length_within;
         registers = λ q. both_set (DescribesRegister (machine.depth m)) s.registers m.top.registers (register_number r) (register_number q) value Any (Some v) None (omega arith) (omega arith) is (d.registers q);
         slots = d.slots;
         register_tags = λ q. both_set (TaggedRegister x) s.register_tags m.top.registers (register_number r) (register_number q) tag None (Some v) None (omega arith) (omega arith) tagged (d.register_tags q);

@@ -28,7 +28,7 @@ use Rattle.bpf_state.specs.State.{AbstractState, register, register_tag}
 use Rattle.bpf_state.specs.Fault.{operand}
 use Rattle.bpf_state.specs.Transfer.{alu_tag, added, constant_of, tag_after, never_wraps, shifted_tag, max_offset}
 use Rattle.bpf_sound.specs.Describes.{Describes, DescribesRegister, IsTagged, TaggedRegister}
-use Rattle.bpf_sound.specs.Laws.{IsAbstract, IsRegister}
+use Rattle.bpf_sound.specs.Laws.{IsAbstract, IsAbstractRegister}
 use Rattle.bpf_sound.proofs.Operands.{operand_describes, operand_valid}
 
 -- ---- sums that don't wrap
@@ -147,7 +147,7 @@ result_of_numbers Mov y z v h e = cc
 result_of_numbers op y z v h e = same_Some (NumberValue (alu W64 op y z)) v e
 
 -- of any operation but a move, by what is known of its operands
-tag_of_kinds : ConstantIs → (x : List ℕ) (depth : ℕ) (op : AluOp) (A B : RegState) (tag : Option Tag) (a : Option Value) (b v : Value) → is_mov op ≡ false → DescribesRegister depth A a → IsRegister B → DescribesRegister depth B (Some b) → TaggedRegister x tag a → alu_result W64 op a b ≡ Some v → TaggedRegister x (tag_after A (added op B) tag) (Some v)
+tag_of_kinds : ConstantIs → (x : List ℕ) (depth : ℕ) (op : AluOp) (A B : RegState) (tag : Option Tag) (a : Option Value) (b v : Value) → is_mov op ≡ false → DescribesRegister depth A a → IsAbstractRegister B → DescribesRegister depth B (Some b) → TaggedRegister x tag a → alu_result W64 op a b ≡ Some v → TaggedRegister x (tag_after A (added op B) tag) (Some v)
 tag_of_kinds law x depth op (Num n) (Num k) tag a b v kind d ok d' tagged e =
     let y : ℕ = d.0 in
     let z : ℕ = d'.0 in
@@ -159,10 +159,10 @@ tag_of_kinds law x depth op (Num n) (Ctx lo hi) tag a b v kind d ok d' tagged e 
 tag_of_kinds law x depth op (Num n) (Frame lo hi) tag a b v kind d ok d' tagged e = no_tag x n op (Frame lo hi) tag v refl
 tag_of_kinds law x depth op A B tag a b v kind d ok d' tagged e = tt
 
-pub alu_tag_keeps : ConstantHas → ConstantIs → (order : Order) (len : ℕ) (x : List ℕ) (s : AbstractState) (m : machine.State) (width : Width) (op : AluOp) (dst : Reg) (src : Operand) (b v : Value) → IsAbstract s → Describes order len x s m → machine_operand m src ≡ Some b → alu_result width op (machine.register m dst) b ≡ Some v → TaggedRegister x (alu_tag s width op dst src) (Some v)
-alu_tag_keeps has is order len x s m W64 Mov dst (Imm imm) b v ok d e f = tt
-alu_tag_keeps has is order len x s m W64 Mov dst (FromReg r) b v ok d e f = subst (λ o. TaggedRegister x (register_tag s r) o) (e ∙ f) (d.register_tags r)
-alu_tag_keeps has is order len x s m W64 op dst src b v ok d e f =
+pub alu_tag_keeps : ConstantHas → ConstantIs → (order : Order) (least most : ℕ) (x : List ℕ) (s : AbstractState) (m : machine.State) (width : Width) (op : AluOp) (dst : Reg) (src : Operand) (b v : Value) → IsAbstract s → Describes order least most x s m → machine_operand m src ≡ Some b → alu_result width op (machine.register m dst) b ≡ Some v → TaggedRegister x (alu_tag s width op dst src) (Some v)
+alu_tag_keeps has is order least most x s m W64 Mov dst (Imm imm) b v ok d e f = tt
+alu_tag_keeps has is order least most x s m W64 Mov dst (FromReg r) b v ok d e f = subst (λ o. TaggedRegister x (register_tag s r) o) (e ∙ f) (d.register_tags r)
+alu_tag_keeps has is order least most x s m W64 op dst src b v ok d e f =
     tag_of_kinds is x (machine.depth m) op (register s dst) (operand s src) (register_tag s dst) (machine.register m dst) b v refl (d.registers dst) (operand_valid has s src ok)
-    (subst (λ o. DescribesRegister (machine.depth m) (operand s src) o) e (operand_describes has order len x s m src d)) (d.register_tags dst) f
-alu_tag_keeps has is order len x s m W32 op dst src b v ok d e f = tt
+    (subst (λ o. DescribesRegister (machine.depth m) (operand s src) o) e (operand_describes has order least most x s m src d)) (d.register_tags dst) f
+alu_tag_keeps has is order least most x s m W32 op dst src b v ok d e f = tt

@@ -14,11 +14,11 @@ use Rattle.bpf_state.specs.declared.state.SlotState.{SlotState}
 use Rattle.bpf_state.specs.declared.state.SlotState.TheVariants.{Bytes, Word, Ptr}
 use Rattle.bpf_state.specs.State.{register, slot, tightened_register, tightened_slot, each_if}
 use Rattle.bpf_sound.specs.Describes.{DescribesRegister, DescribesSlot, slot_cell}
-use Rattle.bpf_sound.specs.Laws.{IsRegister, IsSlot, TightenedDescribes}
+use Rattle.bpf_sound.specs.Laws.{IsAbstractRegister, IsAbstractSlot, TightenedDescribes}
 use Rattle.bpf_sound.proofs.Registers.{below_eleven}
 use Rattle.bpf_sound.proofs.Lists.{each_register, Given, each_given}
 
-tighten_register : TightenKeeps → (depth : ℕ) (value : RegState) (v : Option Value) → IsRegister value → DescribesRegister depth value v → Given (tightened_register value) (λ t. IsRegister t × DescribesRegister depth t v)
+tighten_register : TightenKeeps → (depth : ℕ) (value : RegState) (v : Option Value) → IsAbstractRegister value → DescribesRegister depth value v → Given (tightened_register value) (λ t. IsAbstractRegister t × DescribesRegister depth t v)
 tighten_register law depth Any v ok d = record { value = Any; is_there = refl; good = (tt, tt) }
 tighten_register law depth (Num n) v ok d =
     let h = law n d.0 (ok, d.2) in
@@ -26,7 +26,7 @@ tighten_register law depth (Num n) v ok d =
 tighten_register law depth (Ctx lo hi) v ok d = record { value = Ctx lo hi; is_there = refl; good = (ok, d) }
 tighten_register law depth (Frame lo hi) v ok d = record { value = Frame lo hi; is_there = refl; good = (ok, d) }
 
-tighten_slot : TightenKeeps → (order : Order) (depth : ℕ) (held : SlotState) (cell : ℕ → Option Cell) → IsSlot held → DescribesSlot order depth held cell → Given (tightened_slot held) (λ t. IsSlot t × DescribesSlot order depth t cell)
+tighten_slot : TightenKeeps → (order : Order) (depth : ℕ) (held : SlotState) (cell : ℕ → Option Cell) → IsAbstractSlot held → DescribesSlot order depth held cell → Given (tightened_slot held) (λ t. IsAbstractSlot t × DescribesSlot order depth t cell)
 tighten_slot law order depth (Bytes mask) cell ok d = record { value = Bytes mask; is_there = refl; good = (ok, d) }
 tighten_slot law order depth (Word n) cell ok d =
     let h = law n d.0 (ok, d.2) in
@@ -41,12 +41,12 @@ to_slots : (P : ℕ → ℕ → Type 0) → ((n : ℕ) → n < 64 → P n (suc n
 to_slots P h k low high = subst (P (k - 1)) (omega arith) (h (k - 1) (omega arith))
 
 pub tightened_describes : TightenKeeps → TightenedDescribes
-tightened_describes law p len x s m ok d =
+tightened_describes law p least most x s m ok d =
     let eleven = ok.eleven in
     let all = ok.slots_are in
     let depth : ℕ = machine.depth m in
-    let GoodRegister : ℕ → RegState → Type 0 = λ k t. IsRegister t × DescribesRegister depth t (get_or m.top.registers k None) in
-    let GoodSlot : ℕ → SlotState → Type 0 = λ k t. IsSlot t × DescribesSlot p.order depth t (slot_cell m k) in
+    let GoodRegister : ℕ → RegState → Type 0 = λ k t. IsAbstractRegister t × DescribesRegister depth t (get_or m.top.registers k None) in
+    let GoodSlot : ℕ → SlotState → Type 0 = λ k t. IsAbstractSlot t × DescribesSlot p.order depth t (slot_cell m k) in
     let registers = each_given tightened_register GoodRegister Any s.registers (λ k lt. each_register (λ k. Given (tightened_register (get_or s.registers k Any)) (GoodRegister k)) (λ r. tighten_register law depth (register s r) (machine.register m r) (ok.registers r) (d.registers r)) k (omega arith)) in
     let slots = each_given tightened_slot (λ n. GoodSlot (suc n)) (Bytes 0) s.slots (λ n lt. from_slots (λ n k. Given (tightened_slot (get_or s.slots n (Bytes 0))) (GoodSlot k)) (λ k low high. tighten_slot law p.order depth (slot s k) (slot_cell m k) (ok.slots k low high) (d.slots k low high)) n (omega arith)) in
     let good : (r : Reg) → GoodRegister (register_number r) (get_or registers.list (register_number r) Any) = λ r. let lt = below_eleven r in registers.good (register_number r) (omega arith) in
@@ -65,7 +65,7 @@ tightened_describes law p len x s m ok d =
         slots = λ k low high. (good' k low high).0;
       };
       describes = record {
-        length_is = d.length_is;
+        length_within = d.length_within;
         registers = λ r. (good r).1;
         slots = λ k low high. (good' k low high).1;
         register_tags = d.register_tags;

@@ -80,7 +80,7 @@ fetched_stays : (r : Option Reg) (old : ℕ) (s : machine.State) → Stays s.wai
 fetched_stays None old s = stays_some s
 fetched_stays (Some r) old s = put_stays r (NumberValue old) s
 
-module _ (p : Instructions) (len : ℕ) (x : List ℕ) where
+module _ (p : Instructions) (least most : ℕ) (x : List ℕ) where
   store_waits : (size : Size) (dst src : Reg) (off : ℤ) (s : AbstractState) (m : machine.State) → InTop m (store_access size dst off) (register s dst) → Stays m.waiting (does p.order (Store size dst off src) m)
   unfolding does
   store_waits size dst src off s m t =
@@ -102,7 +102,7 @@ module _ (p : Instructions) (len : ℕ) (x : List ℕ) where
       subst (λ o. Stays m.waiting (option_and_then (λ after. fetched (fetch_register op src) old after) o)) (sym (store_top p.order n new t.first (m.top.slot + 1) m))
       (fetched_stays (fetch_register op src) old (at_top m (m.top.slot + 1) (with_bytes (bytes_of p.order n new) t.first m.top.stack))))))))
 
-  waits : (i : Insn) (s : AbstractState) (m : machine.State) → IsJudged p len x i s m → (IsCallOrExit i → ⊥) → Stays m.waiting (does p.order i m)
+  waits : (i : Insn) (s : AbstractState) (m : machine.State) → IsJudged p least most x i s m → (IsCallOrExit i → ⊥) → Stays m.waiting (does p.order i m)
   unfolding does
   waits (Alu op width dst src) s m j plain =
       stays_after m.waiting (operand m src) _ (λ b. stays_after m.waiting (alu_result width op (machine.register m dst) b) _ (λ v. put_stays dst v (next (Alu op width dst src) m)))
@@ -116,9 +116,9 @@ module _ (p : Instructions) (len : ℕ) (x : List ℕ) where
   waits (LoadSx size dst src off) s m j plain =
       stays_after m.waiting (machine.register m src) _ (λ base. stays_after m.waiting (place_of m (byte_count size) off base) _ (λ place.
       stays_after m.waiting (load_extended p.order m size place) _ (λ v. put_stays dst v (next (LoadSx size dst src off) m))))
-  waits (Store size dst off src) s m j plain = store_waits size dst src off s m (store_base p len x size dst src off s m j)
-  waits (StoreImm size dst off imm) s m j plain = store_imm_waits size dst off imm s m (store_imm_base p len x size dst off imm s m j)
-  waits (Atomic wide op dst off src) s m j plain = atomic_waits wide op dst src off s m (atomic_base p len x wide op dst src off s m j)
+  waits (Store size dst off src) s m j plain = store_waits size dst src off s m (store_base p least most x size dst src off s m j)
+  waits (StoreImm size dst off imm) s m j plain = store_imm_waits size dst off imm s m (store_imm_base p least most x size dst off imm s m j)
+  waits (Atomic wide op dst off src) s m j plain = atomic_waits wide op dst src off s m (atomic_base p least most x wide op dst src off s m j)
   waits (Ja off) s m j plain = jump_stays m off
   waits (JaLong off) s m j plain = jump_stays m off
   waits (JumpIf cond width dst src off) s m j plain =
@@ -128,4 +128,4 @@ module _ (p : Instructions) (len : ℕ) (x : List ℕ) where
   waits Exit s m j plain = absurd (plain tt)
 
 pub waiting_frames_stay : WaitingFramesStay
-waiting_frames_stay p len x i s m m' j plain goes = waits p len x i s m j plain m' (step_is p m m' i j.stands goes)
+waiting_frames_stay p least most x i s m m' j plain goes = waits p least most x i s m j plain m' (step_is p m m' i j.stands goes)

@@ -63,10 +63,14 @@ abbrev pub TaggedSlot : Order → List ℕ → Option Tag → (ℕ → Option Ce
 TaggedSlot order at_label None cell = ⊤
 TaggedSlot order at_label (Some t) cell = (x : ℕ) × IsStored order x cell × IsTagged at_label t x
 
--- The machine's context has `len` bytes, and its top frame holds what the abstract state says;
+-- a list of at least and at most so many bytes
+abbrev pub LengthWithin : ℕ → ℕ → List ℕ → Type 0
+LengthWithin least most context = (least ≤ length context) × (length context ≤ most)
+
+-- The machine's context has `least` to `most` bytes, and its top frame holds what the abstract state says;
 -- `at_label` is what the place of each term held at the label.
-pub record Describes (order : Order) (len : ℕ) (at_label : List ℕ) (s : AbstractState) (m : machine.State) : Type 0 where
-  pub length_is : length m.context ≡ len
+pub record Describes (order : Order) (least most : ℕ) (at_label : List ℕ) (s : AbstractState) (m : machine.State) : Type 0 where
+  pub length_within : LengthWithin least most m.context
   pub registers : (r : Reg) → DescribesRegister (machine.depth m) (register s r) (machine.register m r)
   pub slots : (k : ℕ) → 1 ≤ k → k ≤ 64 → DescribesSlot order (machine.depth m) (slot s k) (slot_cell m k)
   pub register_tags : (r : Reg) → TaggedRegister at_label (register_tag s r) (machine.register m r)

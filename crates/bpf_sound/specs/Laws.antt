@@ -1,5 +1,5 @@
 -- What the abstract steps promise of the machine's steps.
-use Rattle.std.specs.Prelude.{◌≡◌, ℕ, ◌≤◌, ◌^◌, ℤ, pos, neg_ℤ, ◌≤ℤ◌, Bool, IsTrue, List, length, Option, Some, None, ⊤}
+use Rattle.std.specs.Prelude.{◌≡◌, ℕ, ◌≤◌, ℤ, Bool, IsTrue, List, length, Option, Some, None, ⊤}
 use Rattle.bpf_insn.specs.declared.order.Order.{Order}
 use Rattle.bpf_insn.specs.declared.instruction.Reg.{Reg}
 use Rattle.bpf_insn.specs.declared.instruction.Reg.TheVariants.{R0}
@@ -14,55 +14,47 @@ use Rattle.bpf_insn.specs.Step.{Step, test_of_values, operand, ◌>>=◌}
 use Rattle.bpf_insn.specs.Stuck.{reason_of}
 use Rattle.bpf_num.specs.Number.{Number, IsNumber, Has}
 use Rattle.bpf_state.specs.declared.state.RegState.{RegState}
-use Rattle.bpf_state.specs.declared.state.RegState.TheVariants.{Any, Num, Ctx, Frame}
+use Rattle.bpf_state.specs.declared.state.RegState.TheVariants.{Num}
 use Rattle.bpf_state.specs.declared.state.SlotState.{SlotState}
-use Rattle.bpf_state.specs.declared.state.SlotState.TheVariants.{Bytes, Word, Ptr}
-use Rattle.bpf_state.specs.State.{AbstractState, register, slot, pointer_register, start, entered, left, tightened}
+use Rattle.bpf_state.specs.declared.state.SlotState.TheVariants.{Word}
+use Rattle.bpf_state.specs.State.{AbstractState, IsRegister, IsSlot, register, slot, start, entered, left, tightened}
 use Rattle.bpf_state.specs.Fault.{fault_of}
 use Rattle.bpf_state.specs.Transfer.{after, branch}
 use Rattle.bpf_state.specs.Entails.{state_entails}
-use Rattle.bpf_sound.specs.Describes.{Describes}
+use Rattle.bpf_sound.specs.Describes.{Describes, LengthWithin}
 
--- ---- abstract states as an accepted certificate makes them
+-- ---- abstract states: what each value of its types keeps
 
--- the bounds of a pointer
-pub record IsPointerRange (lo hi : ℤ) : Type 0 where
-  pub above : neg_ℤ (pos (2 ^ 31)) ≤ℤ lo
-  pub ordered : lo ≤ℤ hi
-  pub below : hi ≤ℤ pos (2 ^ 31)
+-- a number is one, and a pointer's bounds are in order
+abbrev pub IsAbstractRegister : RegState → Type 0
+IsAbstractRegister (Num n) = IsNumber n
+IsAbstractRegister value = IsRegister value
 
-abbrev pub IsRegister : RegState → Type 0
-IsRegister Any = ⊤
-IsRegister (Num n) = IsNumber n
-IsRegister (Ctx lo hi) = IsPointerRange lo hi
-IsRegister (Frame lo hi) = IsPointerRange lo hi
-
-abbrev pub IsSlot : SlotState → Type 0
-IsSlot (Bytes mask) = mask ≤ 254
-IsSlot (Word n) = IsNumber n
-IsSlot (Ptr p) = IsRegister (pointer_register p)
+abbrev pub IsAbstractSlot : SlotState → Type 0
+IsAbstractSlot (Word n) = IsNumber n
+IsAbstractSlot held = IsSlot held
 
 pub record IsAbstract (s : AbstractState) : Type 0 where
   pub eleven : length s.registers ≡ 11
   pub slots_are : length s.slots ≡ 64
   pub eleven_tags : length s.register_tags ≡ 11
   pub slot_tags_are : length s.slot_tags ≡ 64
-  pub registers : (r : Reg) → IsRegister (register s r)
-  pub slots : (k : ℕ) → 1 ≤ k → k ≤ 64 → IsSlot (slot s k)
+  pub registers : (r : Reg) → IsAbstractRegister (register s r)
+  pub slots : (k : ℕ) → 1 ≤ k → k ≤ 64 → IsAbstractSlot (slot s k)
 
 -- ---- a machine at an instruction, described by an abstract state without fault
 
-pub record IsJudged (p : Instructions) (len : ℕ) (x : List ℕ) (i : Insn) (s : AbstractState) (m : machine.State) : Type 0 where
+pub record IsJudged (p : Instructions) (least most : ℕ) (x : List ℕ) (i : Insn) (s : AbstractState) (m : machine.State) : Type 0 where
   pub valid : IsAbstract s
   pub state : machine.IsState m
   pub stands : insn_at p.list m.top.slot ≡ Some i
   pub encoding : HasEncoding i
-  pub described : Describes p.order len x s m
-  pub no_fault : fault_of len s i ≡ None
+  pub described : Describes p.order least most x s m
+  pub no_fault : fault_of least s i ≡ None
 
 -- it isn't stuck for a reason of registers or memory: only for too many frames
 abbrev pub NotStuckInside : Type 0
-NotStuckInside = (p : Instructions) (len : ℕ) (x : List ℕ) (i : Insn) (s : AbstractState) (m : machine.State) (why : Reason) → IsJudged p len x i s m → reason_of p m ≡ Some why → why ≡ TooManyFrames
+NotStuckInside = (p : Instructions) (least most : ℕ) (x : List ℕ) (i : Insn) (s : AbstractState) (m : machine.State) (why : Reason) → IsJudged p least most x i s m → reason_of p m ≡ Some why → why ≡ TooManyFrames
 
 -- an instruction that neither branches nor enters or leaves a function
 abbrev pub IsPlain : Insn → Type 0
@@ -72,14 +64,14 @@ IsPlain Exit = ⊥
 IsPlain i = ⊤
 
 -- the abstract state after it is there and describes the machine's next state
-pub record Leads (p : Instructions) (len : ℕ) (x : List ℕ) (s' : Option AbstractState) (m' : machine.State) : Type 0 where
+pub record Leads (p : Instructions) (least most : ℕ) (x : List ℕ) (s' : Option AbstractState) (m' : machine.State) : Type 0 where
   pub state : AbstractState
   pub is_there : s' ≡ Some state
   pub valid : IsAbstract state
-  pub describes : Describes p.order len x state m'
+  pub describes : Describes p.order least most x state m'
 
 abbrev pub StepKeeps : Type 0
-StepKeeps = (p : Instructions) (len : ℕ) (x : List ℕ) (i : Insn) (s : AbstractState) (m m' : machine.State) → IsJudged p len x i s m → IsPlain i → Step p m m' → Leads p len x (after p.order i s) m'
+StepKeeps = (p : Instructions) (least most : ℕ) (x : List ℕ) (i : Insn) (s : AbstractState) (m m' : machine.State) → IsJudged p least most x i s m → IsPlain i → Step p m m' → Leads p least most x (after p.order i s) m'
 
 -- whether the test of a conditional jump holds
 abbrev pub Tests : machine.State → Insn → Bool → Type 0
@@ -87,15 +79,15 @@ Tests m (JumpIf cond width dst src off) taken = (machine.register m dst >>= λ a
 Tests m i taken = ⊥
 
 abbrev pub BranchKeeps : Type 0
-BranchKeeps = (p : Instructions) (len : ℕ) (x : List ℕ) (i : Insn) (s : AbstractState) (m m' : machine.State) (taken : Bool) → IsJudged p len x i s m → Tests m i taken → Step p m m' → Leads p len x (branch i taken s) m'
+BranchKeeps = (p : Instructions) (least most : ℕ) (x : List ℕ) (i : Insn) (s : AbstractState) (m m' : machine.State) (taken : Bool) → IsJudged p least most x i s m → Tests m i taken → Step p m m' → Leads p least most x (branch i taken s) m'
 
 abbrev pub EnterKeeps : Type 0
-EnterKeeps = (p : Instructions) (len : ℕ) (x : List ℕ) (off : ℤ) (s : AbstractState) (m m' : machine.State) → IsJudged p len x (CallLocal off) s m → Step p m m' → Leads p len x (Some (entered s)) m'
+EnterKeeps = (p : Instructions) (least most : ℕ) (x : List ℕ) (off : ℤ) (s : AbstractState) (m m' : machine.State) → IsJudged p least most x (CallLocal off) s m → Step p m m' → Leads p least most x (Some (entered s)) m'
 
 -- A callee that comes to its EXIT gives its number to the frame that waits, whose state is what the CALL left of it: m stands at
 -- the CALL, m1 at the callee's entry, m2 at its EXIT, m3 behind the CALL.
 abbrev pub LeaveKeeps : Type 0
-LeaveKeeps = (p : Instructions) (len : ℕ) (x : List ℕ) (off : ℤ) (s : AbstractState) (m m1 m2 m3 : machine.State) (returned : Number) (v : ℕ) → IsJudged p len x (CallLocal off) s m → Step p m m1 → m2.waiting ≡ m1.waiting → length m2.context ≡ len → insn_at p.list m2.top.slot ≡ Some Exit → machine.number_of_register m2 R0 ≡ Some v → IsNumber returned → Has returned v → Step p m2 m3 → Leads p len x (left returned s) m3
+LeaveKeeps = (p : Instructions) (least most : ℕ) (x : List ℕ) (off : ℤ) (s : AbstractState) (m m1 m2 m3 : machine.State) (returned : Number) (v : ℕ) → IsJudged p least most x (CallLocal off) s m → Step p m m1 → m2.waiting ≡ m1.waiting → LengthWithin least most m2.context → insn_at p.list m2.top.slot ≡ Some Exit → machine.number_of_register m2 R0 ≡ Some v → IsNumber returned → Has returned v → Step p m2 m3 → Leads p least most x (left returned s) m3
 
 -- neither changes a waiting frame
 abbrev pub IsCallOrExit : Insn → Type 0
@@ -104,17 +96,17 @@ IsCallOrExit Exit = ⊤
 IsCallOrExit i = ⊥
 
 abbrev pub WaitingFramesStay : Type 0
-WaitingFramesStay = (p : Instructions) (len : ℕ) (x : List ℕ) (i : Insn) (s : AbstractState) (m m' : machine.State) → IsJudged p len x i s m → (IsCallOrExit i → ⊥) → Step p m m' → m'.waiting ≡ m.waiting
+WaitingFramesStay = (p : Instructions) (least most : ℕ) (x : List ℕ) (i : Insn) (s : AbstractState) (m m' : machine.State) → IsJudged p least most x i s m → (IsCallOrExit i → ⊥) → Step p m m' → m'.waiting ≡ m.waiting
 
 abbrev pub StartDescribes : Type 0
-StartDescribes = (order : Order) (context : List ℕ) (x : List ℕ) → length context ≤ 4096 → Describes order (length context) x (start (length context)) (machine.start context)
+StartDescribes = (order : Order) (least most : ℕ) (context : List ℕ) (x : List ℕ) → LengthWithin least most context → most ≤ 4096 → Describes order least most x (start least most) (machine.start context)
 
 abbrev pub StartIsAbstract : Type 0
-StartIsAbstract = (len : ℕ) → len ≤ 4096 → IsAbstract (start len)
+StartIsAbstract = (least most : ℕ) → least ≤ most → most ≤ 4096 → IsAbstract (start least most)
 
 abbrev pub TightenedDescribes : Type 0
-TightenedDescribes = (p : Instructions) (len : ℕ) (x : List ℕ) (s : AbstractState) (m : machine.State) → IsAbstract s → Describes p.order len x s m → Leads p len x (tightened s) m
+TightenedDescribes = (p : Instructions) (least most : ℕ) (x : List ℕ) (s : AbstractState) (m : machine.State) → IsAbstract s → Describes p.order least most x s m → Leads p least most x (tightened s) m
 
 -- tags aside: what the first describes, the second describes with any tags of which the equations hold
 abbrev pub EntailsDescribes : Type 0
-EntailsDescribes = (order : Order) (len : ℕ) (x : List ℕ) (s t : AbstractState) (m : machine.State) → IsAbstract s → IsAbstract t → IsTrue (state_entails s t) → Describes order len x s m → Describes order len x (record t { register_tags = s.register_tags; slot_tags = s.slot_tags }) m
+EntailsDescribes = (order : Order) (least most : ℕ) (x : List ℕ) (s t : AbstractState) (m : machine.State) → IsAbstract s → IsAbstract t → IsTrue (state_entails s t) → Describes order least most x s m → Describes order least most x (record t { register_tags = s.register_tags; slot_tags = s.slot_tags }) m

@@ -11,14 +11,14 @@ use bpf_num::laws::{
 pub fn start_is_abstract()
     ensures { StartIsAbstract }
 {
-    constant_has();
+    tighten_keeps();
 }
 
-/// The state to begin with describes the machine's start, on every context of its length.
+/// The state to begin with describes the machine's start, on every context of a length in its range.
 pub fn start_describes()
     ensures { StartDescribes }
 {
-    constant_has();
+    tighten_keeps();
 }
 
 /// A described state without fault isn't stuck, but for a CALL with eight live frames.

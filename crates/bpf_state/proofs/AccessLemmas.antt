@@ -1,6 +1,6 @@
 -- Which slots an access may touch, and which of their bytes.
-use Rattle.std.proofs.Common.{◌≡◌, ℕ, zero, suc, ℤ, pos, negsuc, ◌+ℤ◌, ◌-ℤ◌, ◌≤ℤ◌, ◌<ℤ◌, neg_ℤ, ◌+◌, ◌-◌, ◌*◌, ◌/◌, ◌%◌, ◌^◌, ◌<◌, ◌≤◌, refl, sym, ◌∙◌, ap, ap₂, subst, arith, true, false, Bool, inl, inr}
-use Rattle.std.specs.Prelude.{nat_eq, nat_lt, nat_le, int_le, int_lt, unsigned_abs, IsTrue, ◌&&◌}
+use Rattle.std.proofs.Common.{◌≡◌, ℕ, zero, suc, ℤ, pos, negsuc, ◌+ℤ◌, ◌-ℤ◌, ◌≤ℤ◌, ◌<ℤ◌, neg_ℤ, ◌+◌, ◌-◌, ◌*◌, ◌/◌, ◌%◌, ◌^◌, ◌<◌, ◌≤◌, refl, sym, ◌∙◌, ap, ap₂, arith, true, false, Bool, inl, inr}
+use Rattle.std.specs.Prelude.{nat_lt, nat_le, int_lt, unsigned_abs, ◌&&◌}
 use Rattle.std.specs.Int.{int_min, int_max, w128, cast_signed, cast_unsigned}
 use Rattle.std.proofs.lemmas.Bool.{leb-true, ltb-true, lt-ltb, le-leb, cases_lt}
 use Rattle.std.proofs.lemmas.Bool.Decides.{nat_tests}
@@ -10,7 +10,7 @@ use Rattle.std.proofs.Math.Pow.{pow_mono}
 use Rattle.bpf_insn.specs.Instruction.{byte_count}
 use Rattle.bpf_insn.specs.declared.instruction.Size.{Size}
 use Rattle.bpf_insn.specs.declared.instruction.Size.TheVariants.{B, H, W, DW}
-use Rattle.bpf_state.specs.Access.{Span, touches, first_byte, span_end, place_in, touched_bytes}
+use Rattle.bpf_state.specs.Access.{Span, first_byte, span_end, place_in}
 use Rattle.bpf_state.specs.Parts.{IsSpan, AreTouched, depth_of}
 
 same_tests : (a b : Bool) → (a ≡ true → b ≡ true) → (b ≡ true → a ≡ true) → a ≡ b

@@ -4,7 +4,7 @@ use Rattle.std.specs.Prelude.{FitsSigned, ◌||◌, not, is_some, Ok, Err, optio
 use Rattle.std.specs.Int.{w64, w128}
 use Rattle.std.proofs.lemmas.Int.{ints, to_z-of_z}
 use Rattle.bpf_insn.specs.Stuck.{is_frame_pointer}
-use Rattle.bpf_insn.specs.declared.order.Order.TheVariants.{Little}
+use Rattle.bpf_insn.specs.declared.order.Order.{Order}
 use Rattle.bpf_insn.specs.declared.instruction.Reg.{Reg}
 use Rattle.bpf_insn.specs.declared.instruction.Operand.{Operand}
 use Rattle.bpf_insn.specs.declared.instruction.Width.{Width}
@@ -129,9 +129,9 @@ told op unset kinds dst tag s =
     else None)
     (live (option_map (λ v. put_register dst v tag s) (option_and_then (λ r. r) kinds)))
 
-alu_told : (op : AluOp) (width : Width) (dst : Reg) (src : Operand) (len : ℕ) (s : AbstractState) → transfer Little (Alu op width dst src) len s ≡ told op (reads_any s (Alu op width dst src)) (alu_of_kinds width op (register s dst) (operand s src)) dst (alu_tag s width op dst src) s
-alu_told Mov width dst src len s = refl
-alu_told op width dst src len s = refl
+alu_told : (order : Order) (op : AluOp) (width : Width) (dst : Reg) (src : Operand) (least : ℕ) (s : AbstractState) → transfer order (Alu op width dst src) least s ≡ told op (reads_any s (Alu op width dst src)) (alu_of_kinds width op (register s dst) (operand s src)) dst (alu_tag s width op dst src) s
+alu_told order Mov width dst src least s = refl
+alu_told order op width dst src least s = refl
 
 abbrev pub judged : Known → Reg → Option Tag → AbstractState → Outcome
 judged (Err fault) dst tag s = Faulty (fault_number fault)
@@ -152,9 +152,9 @@ judged_is op (Some None) dst tag s = protected_told (is_frame_pointer dst) (live
 judged_is Mov (Some (Some v)) dst tag s = protected_told (is_frame_pointer dst) (live (Some (put_register dst v tag s)))
 judged_is op (Some (Some v)) dst tag s = near_told (leaves_bounds v) v dst tag s
 
-pub alu_known : (op : AluOp) (width : Width) (dst : Reg) (src : Operand) (len : ℕ) (s : AbstractState) (k : Known) → reads_any s (Alu op width dst src) ≡ false → k ≡ result_of width op (register s dst) (operand s src) → judged k dst (alu_tag s width op dst src) s ≡ transfer Little (Alu op width dst src) len s
-alu_known op width dst src len s k e f =
+pub alu_known : (order : Order) (op : AluOp) (width : Width) (dst : Reg) (src : Operand) (least : ℕ) (s : AbstractState) (k : Known) → reads_any s (Alu op width dst src) ≡ false → k ≡ result_of width op (register s dst) (operand s src) → judged k dst (alu_tag s width op dst src) s ≡ transfer order (Alu op width dst src) least s
+alu_known order op width dst src least s k e f =
     let kinds = alu_of_kinds width op (register s dst) (operand s src) in
     let tag = alu_tag s width op dst src in
     ap (λ x. judged x dst tag s) f
-    ∙ sym (alu_told op width dst src len s ∙ ap (λ unset. told op unset kinds dst tag s) e ∙ judged_is op kinds dst tag s)
+    ∙ sym (alu_told order op width dst src least s ∙ ap (λ unset. told op unset kinds dst tag s) e ∙ judged_is op kinds dst tag s)

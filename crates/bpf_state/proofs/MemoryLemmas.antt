@@ -1,7 +1,6 @@
 -- Why instructions that access memory are refused, and what they leave.
 use Rattle.std.proofs.Common.{◌≡◌, ℕ, ℤ, refl, sym, ◌∙◌, ap, ap₂, Bool, true, false, cond, Option, Some, None}
-use Rattle.std.specs.Prelude.{◌-◌, ◌*◌, ◌^◌, not, ◌&&◌, ◌||◌, option_map, option_and_then, if◌then◌else◌}
-use Rattle.std.proofs.lemmas.Bool.{false≢true}
+use Rattle.std.specs.Prelude.{◌-◌, ◌*◌, ◌^◌, not, ◌&&◌, ◌||◌, option_map, option_and_then}
 use Rattle.std.proofs.lemmas.Option.{none-some}
 use Rattle.bpf_insn.specs.Instruction.{byte_count, word_size}
 use Rattle.bpf_insn.specs.Step.{fetch_register}
@@ -25,8 +24,8 @@ use Rattle.bpf_state.specs.declared.state.RegState.TheVariants.{Any, Num, Ctx, F
 use Rattle.bpf_state.specs.State.{AbstractState, register, register_tag, put_register}
 use Rattle.bpf_state.specs.Access.{Span, span_at, is_slot, is_inside, touches, touched_bytes, is_pointer_slot, are_known_bytes, any_slot}
 use Rattle.bpf_state.specs.Fault.{is_any, is_number, is_pointer, can_store, have_right_kinds, reads_part, some_passes, fault_of, reads_any, has_wrong_kinds, is_out_of_bounds, reads_unknown_byte, writes_protected}
-use Rattle.bpf_state.specs.Transfer.{Outcome, transfer, unless, live, after, loaded, loaded_tag, any_number, any_signed, set_number, stored, fetched, modified_by}
-use Rattle.bpf_state.specs.Transfer.Outcome.{Faulty, Dead, Live}
+use Rattle.bpf_state.specs.Transfer.{transfer, unless, live, after, loaded, loaded_tag, any_number, any_signed, set_number, stored, fetched, modified_by}
+use Rattle.bpf_state.specs.Transfer.Outcome.{Faulty}
 use Rattle.bpf_state.specs.Parts.{read_fault, or_protected, load_outcome, load_sx_outcome, store_fault, store_outcome, compares, atomic_operands, atomic_outcome}
 
 -- ---- from a fault to an outcome

@@ -1,17 +1,16 @@
 -- The slots that an access may touch: a test of some of them, and a change of each.
-use Rattle.std.proofs.Common.{◌≡◌, ℕ, zero, suc, ◌+◌, ◌-◌, ◌^◌, ◌<◌, ◌≤◌, List, [], ◌∷◌, length, get_or, refl, sym, ◌∙◌, ap, ap₂, subst, arith, true, false, Bool, Option, Some, None, inl, inr, ◌⊎◌, negsuc, min, ◌*◌, ◌%◌}
-use Rattle.std.specs.Prelude.{◌&&◌, ◌||◌, not, set, cond, nat_le, nat_lt, nat_eq, unsigned_abs, All, bit_or, ℤ, pos, neg_ℤ, ◌+ℤ◌, ◌-ℤ◌, ◌≤ℤ◌, if◌then◌else◌}
+use Rattle.std.proofs.Common.{◌≡◌, ℕ, zero, suc, ◌+◌, ◌<◌, ◌≤◌, List, [], ◌∷◌, length, get_or, refl, sym, ◌∙◌, ap, subst, arith, true, false, Bool, Option, None, inl, inr, ◌⊎◌, negsuc, min, ◌*◌, ◌%◌}
+use Rattle.std.specs.Prelude.{◌&&◌, set, unsigned_abs, ℤ, pos, neg_ℤ, ◌-ℤ◌, ◌≤ℤ◌, if◌then◌else◌}
 use Rattle.std.proofs.lemmas.Bool.{and_from, and_left, and_right, or_left, or_right, or_from, le-leb, lt-leb, lt-ltb, le-ltb, cases_lt, cases_eq, cond-true, cond-false, eq-eqb, false≢true}
 use Rattle.std.proofs.lemmas.Bool.Decides.{nat_tests, Decides-int_eq}
 use Rattle.std.proofs.Math.Pow.{pow_mono}
 use Rattle.std.specs.Int.{int_min, int_max}
 use Rattle.bpf_state.proofs.AccessLemmas.{place_small}
-use Rattle.std.proofs.lemmas.Int.{ints, clamps}
+use Rattle.std.proofs.lemmas.Int.{ints}
 use Rattle.std.proofs.lemmas.List.{get_or-set_same, get_or-set_other, length-set, ext_get_or}
 use Rattle.bpf_state.specs.declared.state.SlotState.{SlotState}
-use Rattle.bpf_state.specs.declared.state.SlotState.TheVariants.{Bytes, Word, Ptr}
+use Rattle.bpf_state.specs.declared.state.SlotState.TheVariants.{Bytes}
 use Rattle.bpf_state.specs.declared.state.Tag.{Tag}
-use Rattle.bpf_state.specs.State.{IsSlot}
 use Rattle.bpf_state.specs.Access.{Span, touches, touched_bytes, any_slot, is_known, is_slot, place_in, first_byte, span_end}
 use Rattle.bpf_state.specs.Transfer.{each_slot, each_slot_tag}
 use Rattle.bpf_state.specs.Parts.{IsSpan, AreTouched}

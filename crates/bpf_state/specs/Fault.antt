@@ -1,10 +1,8 @@
 -- Why an instruction is refused in an abstract state: the conditions on registers and memory, each by itself.
-use Rattle.std.specs.Prelude.{ℕ, ◌+◌, ◌==◌, ℤ, pos, neg_ℤ, ◌+ℤ◌, ◌-ℤ◌, int_le, ◌^◌, Bool, true, false, not, ◌&&◌, ◌||◌, List, [], ◌∷◌, Option, Some, None, is_none, is_some, option_map, option_and_then, if◌then◌else◌}
+use Rattle.std.specs.Prelude.{ℕ, ℤ, pos, neg_ℤ, ◌+ℤ◌, ◌-ℤ◌, int_le, ◌^◌, Bool, true, false, not, ◌&&◌, ◌||◌, Option, Some, None, is_some, option_map, option_and_then, if◌then◌else◌}
 use Rattle.std.specs.List.{list_any}
 use Rattle.bpf_insn.specs.Arithmetic.{extended}
-use Rattle.bpf_insn.specs.Instruction.{register_number}
 use Rattle.bpf_insn.specs.Stuck.{registers_read, access_of, writes_frame_pointer}
-use Rattle.bpf_insn.specs.declared.instruction.Reg.{Reg}
 use Rattle.bpf_insn.specs.declared.instruction.Reg.TheVariants.{R0}
 use Rattle.bpf_insn.specs.declared.instruction.Operand.{Operand}
 use Rattle.bpf_insn.specs.declared.instruction.Operand.TheVariants.{Imm, Reg as FromReg}
@@ -17,15 +15,15 @@ use Rattle.bpf_insn.specs.declared.instruction.Cond.TheVariants.{Eq, Ne}
 use Rattle.bpf_insn.specs.declared.instruction.AtomicOp.{AtomicOp}
 use Rattle.bpf_insn.specs.declared.instruction.AtomicOp.TheVariants.{CmpXchg}
 use Rattle.bpf_insn.specs.declared.instruction.Insn.{Insn}
-use Rattle.bpf_insn.specs.declared.instruction.Insn.TheVariants.{Alu, Neg, MovSx, End, LoadImm64, Load, LoadSx, Store, StoreImm, Atomic, Ja, JaLong, JumpIf, CallLocal, Exit}
+use Rattle.bpf_insn.specs.declared.instruction.Insn.TheVariants.{Alu, Neg, MovSx, End, Load, LoadSx, Store, StoreImm, Atomic, JumpIf, Exit}
 use Rattle.bpf_num.specs.Tristate.{bits_top}
 use Rattle.bpf_num.specs.Interval.{unsigned_top}
 use Rattle.bpf_num.specs.SignedInterval.{signed_interval, signed_sub}
-use Rattle.bpf_num.specs.Number.{Number, number, constant, tighten}
+use Rattle.bpf_num.specs.Number.{number, constant, tighten}
 use Rattle.bpf_num.specs.Operation.{num_alu}
 use Rattle.bpf_state.specs.declared.state.RegState.{RegState}
 use Rattle.bpf_state.specs.declared.state.RegState.TheVariants.{Any, Num, Ctx, Frame}
-use Rattle.bpf_state.specs.State.{AbstractState, register, slot}
+use Rattle.bpf_state.specs.State.{AbstractState, register}
 use Rattle.bpf_state.specs.Access.{Span, span_of, is_slot, is_inside, touches, touched_bytes, is_pointer_slot, are_known_bytes, any_slot}
 
 -- the second operand: a constant, sign-extended, or what is known of a register
@@ -150,9 +148,9 @@ makes_far_pointer s (Alu op width dst src) =
     some_passes leaves_bounds (option_and_then (λ r. r) (alu_of_kinds width op (register s dst) (operand s src)))
 makes_far_pointer s _ = false
 
--- 5: an access may leave the context or the frame, or a pointer its bounds
+-- 5: an access may leave the shortest context or the frame, or a pointer its bounds
 abbrev pub is_out_of_bounds : ℕ → AbstractState → Insn → Bool
-is_out_of_bounds len s i = makes_far_pointer s i || on_span s i (λ p. not (is_inside len p))
+is_out_of_bounds least s i = makes_far_pointer s i || on_span s i (λ p. not (is_inside least p))
 
 -- 6: a byte that may be read isn't known as initialised
 abbrev pub reads_unknown_byte : AbstractState → Insn → Bool
@@ -164,12 +162,12 @@ reads_unknown_byte s i =
 abbrev pub writes_protected : AbstractState → Insn → Bool
 writes_protected s i = writes_frame_pointer i || (writes_memory i && on_span s i (λ p. not p.in_frame))
 
--- the lowest number whose condition holds
+-- the lowest number whose condition holds; `least` is the least length of the context
 abbrev pub fault_of : ℕ → AbstractState → Insn → Option ℕ
-fault_of len s i =
+fault_of least s i =
     if reads_any s i then Some 3
     else if has_wrong_kinds s i then Some 4
-    else if is_out_of_bounds len s i then Some 5
+    else if is_out_of_bounds least s i then Some 5
     else if reads_unknown_byte s i then Some 6
     else if writes_protected s i then Some 7
     else None

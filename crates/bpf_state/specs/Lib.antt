@@ -5,5 +5,6 @@ pub mod Fault
 pub mod Transfer
 pub mod Entails
 pub mod Answer
+pub mod Work
 pub mod Parts
 pub mod Results

@@ -3,7 +3,11 @@ use Rattle.std.specs.Prelude.{◌≡◌, ℕ, ◌-◌, ◌≤◌, pos, ◌≤ℤ
 use Rattle.bpf_insn.specs.declared.instruction.Reg.{Reg}
 use Rattle.bpf_insn.specs.declared.instruction.Reg.TheVariants.{R1, R2}
 use Rattle.bpf_insn.specs.Instruction.{register_number}
-use Rattle.bpf_num.specs.Number.{Number, constant, tighten}
+use Rattle.std.specs.Option.{option_map_or}
+use Rattle.bpf_num.specs.Tristate.{bits_top}
+use Rattle.bpf_num.specs.Interval.{interval}
+use Rattle.bpf_num.specs.SignedInterval.{signed_top}
+use Rattle.bpf_num.specs.Number.{Number, number, tighten}
 use Rattle.bpf_state.specs.declared.state.RegState.{RegState}
 use Rattle.bpf_state.specs.declared.state.RegState.TheVariants.{Any, Num, Ctx, Frame}
 use Rattle.bpf_state.specs.declared.state.Pointer.{Pointer}
@@ -125,9 +129,13 @@ blank =
       slot_tags = no_tags 64;
     }
 
--- a run begins with the context in r1 and its length in r2
-abbrev pub start : ℕ → AbstractState
-start len = put_register R1 (Ctx (pos 0) (pos 0)) None (put_register R2 (Num (constant len)) None blank)
+-- a number from one to another; the first isn't above the second, so there is one
+abbrev pub from_to : ℕ → ℕ → RegState
+from_to least most = option_map_or Num (tighten (number bits_top (interval least most) signed_top)) Any
+
+-- a run begins with the context in r1 and its length, from `least` to `most`, in r2
+abbrev pub start : ℕ → ℕ → AbstractState
+start least most = put_register R1 (Ctx (pos 0) (pos 0)) None (put_register R2 (from_to least most) None blank)
 
 -- ---- calls
 

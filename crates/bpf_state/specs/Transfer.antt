@@ -1,5 +1,5 @@
 -- The abstract state after each instruction.
-use Rattle.std.specs.Prelude.{ℕ, suc, ◌+◌, ◌-◌, ◌*◌, ◌^◌, ◌==◌, ℤ, pos, neg_ℤ, ◌+ℤ◌, ◌-ℤ◌, int_le, Bool, true, false, not, ◌&&◌, ◌||◌, List, [], ◌∷◌, Option, Some, None, option_map, option_and_then, if◌then◌else◌, bit_or}
+use Rattle.std.specs.Prelude.{ℕ, suc, ◌-◌, ◌*◌, ◌^◌, ◌==◌, ℤ, pos, neg_ℤ, ◌+ℤ◌, int_le, Bool, false, ◌&&◌, List, [], ◌∷◌, Option, Some, None, option_map, option_and_then, if◌then◌else◌, bit_or}
 use Rattle.bpf_insn.specs.Instruction.{register_number, byte_count, word_size}
 use Rattle.bpf_insn.specs.Step.{fetch_register}
 use Rattle.bpf_insn.specs.declared.order.Order.{Order}
@@ -12,7 +12,7 @@ use Rattle.bpf_insn.specs.declared.instruction.Size.{Size}
 use Rattle.bpf_insn.specs.declared.instruction.AluOp.{AluOp}
 use Rattle.bpf_insn.specs.declared.instruction.AluOp.TheVariants.{Add, Sub, Mov}
 use Rattle.bpf_insn.specs.declared.instruction.Insn.{Insn}
-use Rattle.bpf_insn.specs.declared.instruction.Insn.TheVariants.{Alu, Neg, MovSx, End, LoadImm64, Load, LoadSx, Store, StoreImm, Atomic, Ja, JaLong, JumpIf, CallLocal, Exit}
+use Rattle.bpf_insn.specs.declared.instruction.Insn.TheVariants.{Alu, Neg, MovSx, End, LoadImm64, Load, LoadSx, Store, StoreImm, Atomic, JumpIf}
 use Rattle.bpf_insn.specs.Arithmetic.{extended}
 use Rattle.bpf_num.specs.Word.{M, signed}
 use Rattle.bpf_num.specs.Tristate.{bits_top}
@@ -22,7 +22,7 @@ use Rattle.bpf_num.specs.Number.{Number, number, top, constant, is_constant, tig
 use Rattle.bpf_num.specs.Operation.{num_neg, num_movsx, num_end}
 use Rattle.bpf_num.specs.Refine.{refine}
 use Rattle.bpf_state.specs.declared.state.RegState.{RegState}
-use Rattle.bpf_state.specs.declared.state.RegState.TheVariants.{Any, Num, Ctx, Frame}
+use Rattle.bpf_state.specs.declared.state.RegState.TheVariants.{Num}
 use Rattle.bpf_state.specs.declared.state.SlotState.{SlotState}
 use Rattle.bpf_state.specs.declared.state.SlotState.TheVariants.{Bytes, Word, Ptr}
 use Rattle.bpf_state.specs.declared.state.Tag.{Tag}
@@ -184,9 +184,9 @@ abbrev pub unless : Option ℕ → Outcome → Outcome
 unless (Some fault) outcome = Faulty fault
 unless None outcome = outcome
 
--- `len` is the length of the context
+-- `least` is the least length of the context
 abbrev pub transfer : Order → Insn → ℕ → AbstractState → Outcome
-transfer order i len s = unless (fault_of len s i) (live (after order i s))
+transfer order i least s = unless (fault_of least s i) (live (after order i s))
 
 -- ---- the edges of a conditional jump
 

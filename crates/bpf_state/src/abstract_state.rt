@@ -1,9 +1,12 @@
 //! Abstract states.
 
+ghost use Rattle.std.specs.Prelude.{◌≡◌, ◌≤◌};
+ghost use Rattle.bpf_state.specs.State.{IsRegister, from_to};
+
 use crate::masked::Slots;
 use crate::state::{Place, RegState, SlotState, Tag};
 use bpf_insn::{Operand, Reg};
-use bpf_num::Num;
+use bpf_num::{KnownBits, Num, Signed, Unsigned, WordDomain};
 use std::marker::Model;
 
 /// What is known of the registers and of the slots of the top frame, and which places hold counters.
@@ -23,6 +26,19 @@ impl Model for State {
     ghost view = { λ s. record { registers = s.registers; slots = s.slots; register_tags = s.register_tags; slot_tags = s.slot_tags } };
 
     ghost invariant = { λ s. IsState (record { registers = s.registers; slots = s.slots; register_tags = s.register_tags; slot_tags = s.slot_tags }) };
+}
+
+/// What is known of a length from `least` to `most`.
+fn length_between(least: u32, most: u32) -> RegState
+    requires { least ≤ most }
+    ensures value { result ≡ from_to least most }
+    ensures ordered { IsRegister result }
+{
+    let length = Unsigned::new(least as u64, most as u64);
+    match Num::of(KnownBits::top(), length, Signed::top()).tighten() {
+        Some(n) => RegState::Num(n),
+        None => RegState::Any,
+    }
 }
 
 impl State {
@@ -114,14 +130,15 @@ impl State {
         }
     }
 
-    /// The state at the start of a program: r1 points to the context, r2 is its length in bytes, and r10 points to the
-    /// frame's end.
-    pub fn start(len: u32) -> Self
-        ensures { result ≡ start len }
+    /// The state at the start of a program: r1 points to the context, r2 is its length, from `least` to `most` bytes, and
+    /// r10 points to the frame's end.
+    pub fn start(least: u32, most: u32) -> Self
+        requires { least ≤ most }
+        ensures { result ≡ start least most }
     {
         let mut state = State::blank();
         state.registers[1] = RegState::Ctx { lo: 0, hi: 0 };
-        state.registers[2] = RegState::Num(Num::constant(len as u64));
+        state.registers[2] = length_between(least, most);
         state
     }
 

@@ -12,6 +12,7 @@ mod slots;
 pub mod state;
 mod tightening;
 mod transfers;
+mod work;
 
 pub use abstract_state::State;
 pub use branches::branch;
@@ -19,3 +20,4 @@ pub use calls::{enter, leave};
 pub use fault::StateFault;
 pub use state::{Place, Pointer, RegState, SlotState, Tag};
 pub use transfers::transfer;
+pub use work::Work;

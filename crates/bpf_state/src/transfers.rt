@@ -7,7 +7,7 @@ mod store;
 
 ghost use Rattle.std.specs.Prelude.{◌≡◌, ℕ, ℤ};
 ghost use Rattle.bpf_insn.specs.declared.instruction.Insn.TheVariants.{JumpIf, Exit};
-ghost use Rattle.bpf_insn.specs.declared.order.Order.TheVariants.{Little};
+ghost use Rattle.bpf_insn.specs.declared.order.Order.{Order};
 ghost use Rattle.bpf_state.specs.Fault.{can_test};
 ghost use Rattle.bpf_state.specs.Transfer.{transfer};
 ghost use Rattle.bpf_state.specs.Answer.{outcome_told, KeepsUnlessDone};
@@ -15,13 +15,18 @@ ghost use Rattle.bpf_state.specs.Answer.{outcome_told, KeepsUnlessDone};
 use crate::abstract_state::State;
 use crate::fault::StateFault;
 use crate::state::RegState;
-use bpf_insn::{Cond, Insn, Operand, Reg, Width};
+use bpf_insn::{Cond, Insn, Operand, Order, Reg, Width};
 
-/// Makes the state at an instruction the one after it, in a context of `len` bytes. False if that state has no member.
-/// C3 to C7, the lowest that applies, if the instruction isn't allowed. After a fault and after false the state is as it
-/// was, and so it is after jumps, calls and exits.
-pub fn transfer(insn: &Insn, len: u32, state: &mut State) -> Result<bool, StateFault>
-    ensures outcome { outcome_told result state.new ≡ transfer Little insn.now len state.old }
+/// Makes the state at an instruction the one after it, in every context of at least `least` bytes. False if that state
+/// has no member. C3 to C7, the lowest that applies, if the instruction isn't allowed. After a fault and after false the
+/// state is as it was, and so it is after jumps, calls and exits.
+pub fn transfer(
+    insn: &Insn,
+    least: u32,
+    order: Order,
+    state: &mut State,
+) -> Result<bool, StateFault>
+    ensures outcome { outcome_told result state.new ≡ transfer order insn.now least state.old }
     ensures kept { KeepsUnlessDone result state.old state.new }
 {
     match *insn {
@@ -38,39 +43,39 @@ pub fn transfer(insn: &Insn, len: u32, state: &mut State) -> Result<bool, StateF
             dst,
             src,
         } => alu::mov_sx(width, bits, dst, src, state),
-        Insn::End { kind, bits, dst } => alu::end(kind, bits, dst, state),
+        Insn::End { kind, bits, dst } => alu::end(kind, bits, dst, order, state),
         Insn::LoadImm64 { dst, value } => load::load_imm64(dst, value, state),
         Insn::Load {
             size,
             dst,
             src,
             off,
-        } => load::load(size, dst, src, off, len, state),
+        } => load::load(size, dst, src, off, least, state),
         Insn::LoadSx {
             size,
             dst,
             src,
             off,
-        } => load::load_sx(size, dst, src, off, len, state),
+        } => load::load_sx(size, dst, src, off, least, state),
         Insn::Store {
             size,
             dst,
             off,
             src,
-        } => store::store(size, dst, off, src, len, state),
+        } => store::store(size, dst, off, src, least, state),
         Insn::StoreImm {
             size,
             dst,
             off,
             imm,
-        } => store::store_imm(size, dst, off, imm, len, state),
+        } => store::store_imm(size, dst, off, imm, least, state),
         Insn::Atomic {
             wide,
             op,
             dst,
             off,
             src,
-        } => atomic::atomic(wide, op, dst, off, src, len, state),
+        } => atomic::atomic(wide, op, dst, off, src, least, state),
         Insn::Ja { off: _off } => Ok(true),
         Insn::JaLong { off: _off } => Ok(true),
         Insn::JumpIf {
@@ -106,8 +111,8 @@ fn jump_if(
     src: Operand,
     state: &State,
 ) -> Result<bool, StateFault>
-    ensures outcome { (off : ℤ) → (len : ℕ) → outcome_told result state.now
-        ≡ transfer Little (JumpIf cond width dst src off) len state.now }
+    ensures outcome { (order : Order) → (off : ℤ) → (least : ℕ) → outcome_told result state.now
+        ≡ transfer order (JumpIf cond width dst src off) least state.now }
     ensures kept { KeepsUnlessDone result state.now state.now }
 {
     if state.reg(dst).is_any() || state.operand(src).is_any() {
@@ -120,7 +125,8 @@ fn jump_if(
 }
 
 fn exit(state: &State) -> Result<bool, StateFault>
-    ensures outcome { (len : ℕ) → outcome_told result state.now ≡ transfer Little Exit len state.now }
+    ensures outcome { (order : Order) → (least : ℕ) → outcome_told result state.now
+        ≡ transfer order Exit least state.now }
     ensures kept { KeepsUnlessDone result state.now state.now }
 {
     match state.reg(Reg::R0) {

@@ -7,7 +7,7 @@ use bpf_insn::Reg::*;
 use bpf_insn::Size::*;
 use bpf_insn::Width::*;
 use bpf_insn::{
-    AluOp, AtomicOp, Cond, EndBits, EndKind, Insn, Modify, Operand, Reg, SignBits, Size,
+    AluOp, AtomicOp, Cond, EndBits, EndKind, Insn, Modify, Operand, Order, Reg, SignBits, Size,
 };
 use bpf_num::{KnownBits, Num, Signed, Unsigned, WordDomain};
 use bpf_state::{Place, Pointer, RegState, SlotState, State, Tag, branch, enter, leave, transfer};
@@ -23,6 +23,13 @@ fn number_of(held: RegState) -> (u64, u64) {
     match held {
         RegState::Num(n) => (n.unsigned().lo(), n.unsigned().hi()),
         RegState::Any | RegState::Ctx { .. } | RegState::Frame { .. } => NOTHING,
+    }
+}
+
+fn is_number(held: RegState, number: Num) -> bool {
+    match held {
+        RegState::Num(n) => n == number,
+        RegState::Any | RegState::Ctx { .. } | RegState::Frame { .. } => false,
     }
 }
 
@@ -138,7 +145,7 @@ fn test(cond: Cond, dst: Reg, src: Reg) -> Insn {
 
 // What an instruction answers in a context of 8 bytes: 1 if it is done, 0 if the edge is dead, else the fault's number.
 fn answer(state: &mut State, insn: Insn) -> u8 {
-    match transfer(&insn, 8, state) {
+    match transfer(&insn, 8, Order::Little, state) {
         Ok(true) => 1,
         Ok(false) => 0,
         Err(fault) => fault.number(),
@@ -151,7 +158,7 @@ fn done(rt: &impl Abort, state: &mut State, insn: Insn) {
 
 // r1 points to the context, and r6 is a number from lo to 10 with counter 0.
 fn counting(rt: &impl Abort, lo: u64) -> State {
-    let mut state = State::start(8);
+    let mut state = State::start(8, 8);
     state.set_reg(R6, between(rt, lo, 10));
     state.set_tag(Place::Register(R6), Some(Tag { term: 0, offset: 0 }));
     state
@@ -168,11 +175,30 @@ fn tag_offset(state: &State, place: Place) -> Option<i64>
 
 #[test]
 fn the_start(rt: HostRuntime) {
-    let state = State::start(8);
+    let state = State::start(8, 8);
     assert!(rt; context_of(state.reg(R1)) == Some((0, 0)));
-    assert!(rt; number_of(state.reg(R2)) == (8, 8));
+    assert!(rt; is_number(state.reg(R2), Num::constant(8)));
     assert!(rt; number_of(state.reg(R0)) == NOTHING);
     assert_eq!(rt; mask_of(state.slot(64)), 0);
+    for length in [0, 1, 4095, 4096] {
+        let state = State::start(length, length);
+        assert!(rt; is_number(state.reg(R2), Num::constant(length as u64)));
+    }
+}
+
+#[test]
+fn starts_with_several_lengths(rt: HostRuntime) {
+    let whole = Num::of(
+        KnownBits::new(0, 8191),
+        Unsigned::new(0, 4096),
+        Signed::new(0, 4096),
+    );
+    let state = State::start(0, 4096);
+    assert!(rt; is_number(state.reg(R2), whole));
+    assert!(rt; context_of(state.reg(R1)) == Some((0, 0)));
+    let few = Num::of(KnownBits::new(4, 3), Unsigned::new(4, 7), Signed::new(4, 7));
+    let state = State::start(4, 7);
+    assert!(rt; is_number(state.reg(R2), few));
 }
 
 #[test]
@@ -218,7 +244,7 @@ fn counters_that_may_wrap_or_go_far_are_lost(rt: HostRuntime) {
 
 #[test]
 fn pointers_are_spilled_whole(rt: HostRuntime) {
-    let mut state = State::start(8);
+    let mut state = State::start(8, 8);
     done(&rt, &mut state, store(DW, R10, -8, R1));
     assert_eq!(rt; mask_of(state.slot(1)), 256);
     done(&rt, &mut state, load(DW, R3, R10, -8));
@@ -235,7 +261,7 @@ fn pointers_are_spilled_whole(rt: HostRuntime) {
 
 #[test]
 fn bytes_gather_over_two_slots(rt: HostRuntime) {
-    let mut state = State::start(8);
+    let mut state = State::start(8, 8);
     done(&rt, &mut state, store_imm(DW, R10, -12));
     assert_eq!(rt; mask_of(state.slot(1)), 0x0f);
     assert_eq!(rt; mask_of(state.slot(2)), 0xf0);
@@ -251,7 +277,7 @@ fn bytes_gather_over_two_slots(rt: HostRuntime) {
 
 // The pointer r3 to the frame's offset -16 or -8 or any between, slot 1 a number, slot 2 a pointer, slot 3 its upper four bytes.
 fn at_several_offsets(rt: &impl Abort) -> State {
-    let mut state = State::start(8);
+    let mut state = State::start(8, 8);
     state.set_reg(R3, RegState::Frame { lo: -16, hi: -8 });
     state.set_slot(1, SlotState::Word(Num::constant(7)));
     state.set_slot(2, SlotState::Ptr(Pointer::Ctx { lo: 0, hi: 0 }));
@@ -291,7 +317,7 @@ fn loads_at_several_offsets(rt: HostRuntime) {
 
 #[test]
 fn the_context_is_read_only(rt: HostRuntime) {
-    let mut state = State::start(8);
+    let mut state = State::start(8, 8);
     done(&rt, &mut state, load(W, R0, R1, 4));
     assert_eq!(rt; answer(&mut state, load(W, R0, R1, 5)), 5);
     assert_eq!(rt; answer(&mut state, load(W, R0, R1, -1)), 5);
@@ -329,7 +355,7 @@ fn atomics_change_words(rt: HostRuntime) {
 
 #[test]
 fn pointers_stay_near(rt: HostRuntime) {
-    let mut state = State::start(8);
+    let mut state = State::start(8, 8);
     done(
         &rt,
         &mut state,
@@ -408,7 +434,7 @@ fn single_numbers(rt: HostRuntime) {
 
 #[test]
 fn tests_of_pointers(rt: HostRuntime) {
-    let mut state = State::start(8);
+    let mut state = State::start(8, 8);
     done(&rt, &mut state, mov(R3, R1));
     assert_eq!(rt; answer(&mut state, test(Cond::Ne, R1, R3)), 1);
     assert_eq!(rt; answer(&mut state, test(Cond::Gt, R1, R3)), 4);

@@ -2,7 +2,7 @@
 
 ghost use Rattle.std.specs.Prelude.{◌≡◌, ℕ, ◌^◌, pos, neg_ℤ, ◌+ℤ◌, ◌-ℤ◌, ◌≤ℤ◌, None, IfSome, option_map};
 ghost use Rattle.bpf_insn.specs.Stuck.{is_frame_pointer};
-ghost use Rattle.bpf_insn.specs.declared.order.Order.TheVariants.{Little};
+ghost use Rattle.bpf_insn.specs.declared.order.Order.{Order};
 ghost use Rattle.bpf_insn.specs.declared.instruction.Width.{Width};
 ghost use Rattle.bpf_insn.specs.declared.instruction.Width.TheVariants.{W64};
 ghost use Rattle.bpf_insn.specs.declared.instruction.AluOp.TheVariants.{Add, Sub, Mov};
@@ -415,8 +415,8 @@ pub(crate) fn alu(
     src: Operand,
     state: &mut State,
 ) -> Result<bool, StateFault>
-    ensures outcome { (len : ℕ) → outcome_told result state.new
-        ≡ transfer Little (Alu op width dst src) len state.old }
+    ensures outcome { (order : Order) → (least : ℕ) → outcome_told result state.new
+        ≡ transfer order (Alu op width dst src) least state.old }
     ensures kept { KeepsUnlessDone result state.old state.new }
 {
     if reads_any(op, dst, src, state) {
@@ -432,8 +432,8 @@ pub(crate) fn alu(
 }
 
 pub(crate) fn neg(width: Width, dst: Reg, state: &mut State) -> Result<bool, StateFault>
-    ensures outcome { (len : ℕ) → outcome_told result state.new
-        ≡ transfer Little (Neg width dst) len state.old }
+    ensures outcome { (order : Order) → (least : ℕ) → outcome_told result state.new
+        ≡ transfer order (Neg width dst) least state.old }
     ensures kept { KeepsUnlessDone result state.old state.new }
 {
     match state.reg(dst) {
@@ -450,8 +450,8 @@ pub(crate) fn mov_sx(
     src: Reg,
     state: &mut State,
 ) -> Result<bool, StateFault>
-    ensures outcome { (len : ℕ) → outcome_told result state.new
-        ≡ transfer Little (MovSx width bits dst src) len state.old }
+    ensures outcome { (order : Order) → (least : ℕ) → outcome_told result state.new
+        ≡ transfer order (MovSx width bits dst src) least state.old }
     ensures kept { KeepsUnlessDone result state.old state.new }
 {
     match state.reg(src) {
@@ -465,15 +465,16 @@ pub(crate) fn end(
     kind: EndKind,
     bits: EndBits,
     dst: Reg,
+    order: Order,
     state: &mut State,
 ) -> Result<bool, StateFault>
-    ensures outcome { (len : ℕ) → outcome_told result state.new
-        ≡ transfer Little (End kind bits dst) len state.old }
+    ensures outcome { (least : ℕ) → outcome_told result state.new
+        ≡ transfer order (End kind bits dst) least state.old }
     ensures kept { KeepsUnlessDone result state.old state.new }
 {
     match state.reg(dst) {
         RegState::Any => Err(StateFault::UnsetRegister),
-        RegState::Num(n) => put_number(dst, n.swap(Order::Little, kind, bits), state),
+        RegState::Num(n) => put_number(dst, n.swap(order, kind, bits), state),
         RegState::Ctx { .. } | RegState::Frame { .. } => Err(StateFault::WrongKinds),
     }
 }

@@ -3,7 +3,7 @@
 ghost use Rattle.std.specs.Prelude.{◌≡◌, IsTrue, true, false, Some, option_map, option_and_then};
 ghost use Rattle.bpf_insn.specs.Instruction.{word_size};
 ghost use Rattle.bpf_insn.specs.Step.{fetch_register};
-ghost use Rattle.bpf_insn.specs.declared.order.Order.TheVariants.{Little};
+ghost use Rattle.bpf_insn.specs.declared.order.Order.{Order};
 ghost use Rattle.bpf_insn.specs.declared.instruction.Insn.TheVariants.{Atomic};
 ghost use Rattle.bpf_state.specs.Access.{is_inside};
 ghost use Rattle.bpf_state.specs.Transfer.{transfer, loaded, fetched, modified_by};
@@ -83,13 +83,13 @@ fn atomic_at(
     fetch: Option<Reg>,
     size: Size,
     reach: Reach,
-    len: u32,
+    least: u32,
     state: &mut State,
 ) -> Result<bool, StateFault>
-    ensures outcome { outcome_told result state.new ≡ atomic_outcome fetch size len reach state.old }
+    ensures outcome { outcome_told result state.new ≡ atomic_outcome fetch size least reach state.old }
     ensures kept { KeepsUnlessDone result state.old state.new }
 {
-    if let Some(fault) = read_fault(state, reach, false, len) {
+    if let Some(fault) = read_fault(state, reach, false, least) {
         return Err(fault);
     }
     if fetch == Some(Reg::R10) || !reach.in_frame() {
@@ -105,10 +105,11 @@ pub(crate) fn atomic(
     dst: Reg,
     off: i16,
     src: Reg,
-    len: u32,
+    least: u32,
     state: &mut State,
 ) -> Result<bool, StateFault>
-    ensures outcome { outcome_told result state.new ≡ transfer Little (Atomic wide op dst off src) len state.old }
+    ensures outcome { (order : Order) → outcome_told result state.new
+        ≡ transfer order (Atomic wide op dst off src) least state.old }
     ensures kept { KeepsUnlessDone result state.old state.new }
 {
     if let Some(fault) = operand_fault(op, dst, src, state) {
@@ -120,7 +121,7 @@ pub(crate) fn atomic(
         fetch,
         size,
         Reach::of(state.reg(dst), off, size),
-        len,
+        least,
         state,
     )
 }

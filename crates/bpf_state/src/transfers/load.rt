@@ -2,7 +2,7 @@
 
 ghost use Rattle.std.specs.Prelude.{◌≡◌, ℕ, IsTrue, IfSome, true, Some, option_map};
 ghost use Rattle.bpf_insn.specs.Instruction.{byte_count};
-ghost use Rattle.bpf_insn.specs.declared.order.Order.TheVariants.{Little};
+ghost use Rattle.bpf_insn.specs.declared.order.Order.{Order};
 ghost use Rattle.bpf_insn.specs.declared.instruction.Insn.TheVariants.{Load, LoadSx, LoadImm64};
 ghost use Rattle.bpf_state.specs.State.{IsRegister};
 ghost use Rattle.bpf_state.specs.Access.{is_inside};
@@ -20,7 +20,8 @@ use bpf_num::{KnownBits, Num, Signed, Unsigned, WordDomain};
 
 /// Loads a constant of 64 bits.
 pub(crate) fn load_imm64(dst: Reg, value: u64, state: &mut State) -> Result<bool, StateFault>
-    ensures outcome { (len : ℕ) → outcome_told result state.new ≡ transfer Little (LoadImm64 dst value) len state.old }
+    ensures outcome { (order : Order) → (least : ℕ) → outcome_told result state.new
+        ≡ transfer order (LoadImm64 dst value) least state.old }
     ensures kept { KeepsUnlessDone result state.old state.new }
 {
     if dst == Reg::R10 {
@@ -88,21 +89,21 @@ pub(crate) fn read_fault(
     state: &State,
     reach: Reach,
     is_whole: bool,
-    len: u32,
+    least: u32,
 ) -> Option<StateFault>
-    ensures { option_map fault_number result ≡ read_fault is_whole len state.now reach }
+    ensures { option_map fault_number result ≡ read_fault is_whole least state.now reach }
 {
     if !is_whole && any_pointer(&state.slots, reach) {
         return Some(StateFault::WrongKinds);
     }
-    byte_fault(state, reach, len)
+    byte_fault(state, reach, least)
 }
 
 /// Why the bytes of an access may not be read, pointers aside.
-fn byte_fault(state: &State, reach: Reach, len: u32) -> Option<StateFault>
-    ensures { option_map fault_number result ≡ byte_fault len state.now reach }
+fn byte_fault(state: &State, reach: Reach, least: u32) -> Option<StateFault>
+    ensures { option_map fault_number result ≡ byte_fault least state.now reach }
 {
-    if !reach.is_inside(len) {
+    if !reach.is_inside(least) {
         return Some(StateFault::OutOfBounds);
     }
     if any_unknown(&state.slots, reach) {
@@ -116,13 +117,13 @@ fn load_at(
     dst: Reg,
     size: Size,
     reach: Reach,
-    len: u32,
+    least: u32,
     state: &mut State,
 ) -> Result<bool, StateFault>
-    ensures outcome { outcome_told result state.new ≡ load_outcome dst size len reach state.old }
+    ensures outcome { outcome_told result state.new ≡ load_outcome dst size least reach state.old }
     ensures kept { KeepsUnlessDone result state.old state.new }
 {
-    if let Some(fault) = read_fault(state, reach, reach.is_slot(), len) {
+    if let Some(fault) = read_fault(state, reach, reach.is_slot(), least) {
         return Err(fault);
     }
     if dst == Reg::R10 {
@@ -142,10 +143,11 @@ pub(crate) fn load(
     dst: Reg,
     src: Reg,
     off: i16,
-    len: u32,
+    least: u32,
     state: &mut State,
 ) -> Result<bool, StateFault>
-    ensures outcome { outcome_told result state.new ≡ transfer Little (Load size dst src off) len state.old }
+    ensures outcome { (order : Order) → outcome_told result state.new
+        ≡ transfer order (Load size dst src off) least state.old }
     ensures kept { KeepsUnlessDone result state.old state.new }
 {
     if state.reg(src).is_any() {
@@ -154,7 +156,13 @@ pub(crate) fn load(
     if !state.reg(src).is_pointer() {
         return Err(StateFault::WrongKinds);
     }
-    load_at(dst, size, Reach::of(state.reg(src), off, size), len, state)
+    load_at(
+        dst,
+        size,
+        Reach::of(state.reg(src), off, size),
+        least,
+        state,
+    )
 }
 
 /// A load of bytes that lie so, sign-extended.
@@ -162,13 +170,13 @@ fn load_sx_at(
     dst: Reg,
     size: Size,
     reach: Reach,
-    len: u32,
+    least: u32,
     state: &mut State,
 ) -> Result<bool, StateFault>
-    ensures outcome { outcome_told result state.new ≡ load_sx_outcome dst size len reach state.old }
+    ensures outcome { outcome_told result state.new ≡ load_sx_outcome dst size least reach state.old }
     ensures kept { KeepsUnlessDone result state.old state.new }
 {
-    if let Some(fault) = read_fault(state, reach, false, len) {
+    if let Some(fault) = read_fault(state, reach, false, least) {
         return Err(fault);
     }
     if dst == Reg::R10 {
@@ -187,10 +195,11 @@ pub(crate) fn load_sx(
     dst: Reg,
     src: Reg,
     off: i16,
-    len: u32,
+    least: u32,
     state: &mut State,
 ) -> Result<bool, StateFault>
-    ensures outcome { outcome_told result state.new ≡ transfer Little (LoadSx size dst src off) len state.old }
+    ensures outcome { (order : Order) → outcome_told result state.new
+        ≡ transfer order (LoadSx size dst src off) least state.old }
     ensures kept { KeepsUnlessDone result state.old state.new }
 {
     if state.reg(src).is_any() {
@@ -199,5 +208,11 @@ pub(crate) fn load_sx(
     if !state.reg(src).is_pointer() {
         return Err(StateFault::WrongKinds);
     }
-    load_sx_at(dst, size, Reach::of(state.reg(src), off, size), len, state)
+    load_sx_at(
+        dst,
+        size,
+        Reach::of(state.reg(src), off, size),
+        least,
+        state,
+    )
 }

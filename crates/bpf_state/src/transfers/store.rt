@@ -1,7 +1,7 @@
 //! Stores.
 
 ghost use Rattle.std.specs.Prelude.{◌≡◌, IsTrue, true, Some, option_map};
-ghost use Rattle.bpf_insn.specs.declared.order.Order.TheVariants.{Little};
+ghost use Rattle.bpf_insn.specs.declared.order.Order.{Order};
 ghost use Rattle.bpf_insn.specs.declared.instruction.Insn.TheVariants.{Store, StoreImm};
 ghost use Rattle.bpf_state.specs.State.{IsRegister, IsSlot, value_slot};
 ghost use Rattle.bpf_state.specs.Access.{is_inside};
@@ -47,13 +47,13 @@ fn put(reach: Reach, value: RegState, tag: Option<Tag>, state: &mut State)
 }
 
 /// Why a value, which is a pointer or isn't, may not be written to bytes that lie so.
-fn store_fault(pointer: bool, reach: Reach, len: u32) -> Option<StateFault>
-    ensures { option_map fault_number result ≡ store_fault pointer len reach }
+fn store_fault(pointer: bool, reach: Reach, least: u32) -> Option<StateFault>
+    ensures { option_map fault_number result ≡ store_fault pointer least reach }
 {
     if pointer && !reach.is_slot() {
         return Some(StateFault::WrongKinds);
     }
-    if !reach.is_inside(len) {
+    if !reach.is_inside(least) {
         return Some(StateFault::OutOfBounds);
     }
     if !reach.in_frame() {
@@ -68,14 +68,14 @@ fn store_at(
     pointer: bool,
     value: RegState,
     tag: Option<Tag>,
-    len: u32,
+    least: u32,
     state: &mut State,
 ) -> Result<bool, StateFault>
     requires ordered { IsRegister value }
-    ensures outcome { outcome_told result state.new ≡ store_outcome pointer value tag len reach state.old }
+    ensures outcome { outcome_told result state.new ≡ store_outcome pointer value tag least reach state.old }
     ensures kept { KeepsUnlessDone result state.old state.new }
 {
-    if let Some(fault) = store_fault(pointer, reach, len) {
+    if let Some(fault) = store_fault(pointer, reach, least) {
         return Err(fault);
     }
     put(reach, value, tag, state);
@@ -88,10 +88,11 @@ pub(crate) fn store(
     dst: Reg,
     off: i16,
     src: Reg,
-    len: u32,
+    least: u32,
     state: &mut State,
 ) -> Result<bool, StateFault>
-    ensures outcome { outcome_told result state.new ≡ transfer Little (Store size dst off src) len state.old }
+    ensures outcome { (order : Order) → outcome_told result state.new
+        ≡ transfer order (Store size dst off src) least state.old }
     ensures kept { KeepsUnlessDone result state.old state.new }
 {
     if state.reg(dst).is_any() || state.reg(src).is_any() {
@@ -103,7 +104,7 @@ pub(crate) fn store(
     let tag = state.register_tag(src);
     let reach = Reach::of(state.reg(dst), off, size);
     let pointer = state.reg(src).is_pointer();
-    store_at(reach, pointer, state.reg(src), tag, len, state)
+    store_at(reach, pointer, state.reg(src), tag, least, state)
 }
 
 /// A store of a constant.
@@ -112,10 +113,11 @@ pub(crate) fn store_imm(
     dst: Reg,
     off: i16,
     imm: i32,
-    len: u32,
+    least: u32,
     state: &mut State,
 ) -> Result<bool, StateFault>
-    ensures outcome { outcome_told result state.new ≡ transfer Little (StoreImm size dst off imm) len state.old }
+    ensures outcome { (order : Order) → outcome_told result state.new
+        ≡ transfer order (StoreImm size dst off imm) least state.old }
     ensures kept { KeepsUnlessDone result state.old state.new }
 {
     if state.reg(dst).is_any() {
@@ -130,7 +132,7 @@ pub(crate) fn store_imm(
         false,
         state.operand(Operand::Imm(imm)),
         None,
-        len,
+        least,
         state,
     )
 }

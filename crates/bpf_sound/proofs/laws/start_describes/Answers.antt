@@ -2,4 +2,4 @@ use Rattle.bpf_sound.proofs.StartLaws.{start_describes}
 use Rattle.bpf_sound.proofs.laws.start_describes.Goals as goal
 
 pub returns : goal.returns
-returns c = start_describes c.constant_has.ensures
+returns c = start_describes c.tighten_keeps.ensures

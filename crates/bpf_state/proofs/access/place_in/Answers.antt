@@ -1,6 +1,6 @@
-use Rattle.std.proofs.Common.{arith, ◌∙◌}
+use Rattle.std.proofs.Common.{arith}
 use Rattle.std.proofs.lemmas.Int.{ints}
-use Rattle.bpf_state.proofs.AccessLemmas.{place_is, held, held_is}
+use Rattle.bpf_state.proofs.AccessLemmas.{place_is, held}
 use Rattle.bpf_state.proofs.access.place_in.Goals as goal
 
 pub returns : goal.returns

@@ -2,7 +2,7 @@ use Rattle.std.proofs.Common.{sym, ◌∙◌, arith}
 use Rattle.std.proofs.lemmas.List.{length-set}
 use Rattle.std.proofs.lemmas.List.Elements.{All-set}
 use Rattle.bpf_state.specs.State.{IsRegister, tightened_register}
-use Rattle.bpf_state.proofs.ListLemmas.{start_done, done_more, not_done, all_done}
+use Rattle.bpf_state.proofs.ListLemmas.{start_done, done_more, all_done}
 use Rattle.bpf_state.proofs.tightening.tighten_registers.Goals as goal
 
 pub loop-i-init : goal.loop-i-init

@@ -1,4 +1,4 @@
-use Rattle.std.proofs.Common.{ap, sym, ◌∙◌, arith, suc}
+use Rattle.std.proofs.Common.{ap, ◌∙◌, arith, suc}
 use Rattle.std.proofs.lemmas.Int.{ints}
 use Rattle.bpf_state.specs.Access.{Span, place_in}
 use Rattle.bpf_state.proofs.AccessLemmas.{mask_fits, mask_is, held_is}

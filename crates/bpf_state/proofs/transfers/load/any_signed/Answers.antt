@@ -1,4 +1,4 @@
-use Rattle.std.proofs.Common.{◌∙◌, refl}
+use Rattle.std.proofs.Common.{◌∙◌}
 use Rattle.bpf_insn.specs.declared.instruction.Size.TheVariants.{B, H, W, DW}
 use Rattle.bpf_state.proofs.MemoryLemmas.{any_signed_is}
 use Rattle.bpf_state.proofs.transfers.load.any_signed.Goals as goal
