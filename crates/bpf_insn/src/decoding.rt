@@ -2,13 +2,12 @@
 
 ghost use Rattle.std.specs.Prelude.{◌≡◌, ◌≤◌, ◌<◌, length};
 ghost use Rattle.bpf_insn.specs.Decoding.{register_in, operand_in, divide_in, remainder_in, move_in, end_bits_in, atomic_in, insn_of_form, high_in, insn_in_bytes};
-ghost use Rattle.bpf_insn.specs.declared.order.Order.TheVariants.{Little};
 
-use crate::bytes::fields_from;
+use crate::bytes::{fields_from, u32_in};
 use crate::fields::Fields;
 use crate::form::{Form, Source, form_of};
 use crate::instruction::{AluOp, AtomicOp, EndBits, Insn, Modify, Operand, Reg, SignBits, Width};
-use byteorder::{ByteOrder, LittleEndian};
+use crate::order::Order;
 
 /// The registers by the four bits of a register field.
 pub static REGISTERS: [Option<Reg>; 16] = [
@@ -189,25 +188,25 @@ fn insn_of(form: Form, dst: Reg, src: Reg, f: &Fields, high: u32) -> Insn
 }
 
 /// The imm of a second slot, or 0 where the bytes end before it.
-fn high_of(bytes: &[u8]) -> u32
-    ensures { result ≡ high_in Little bytes.now }
+fn high_of(order: Order, bytes: &[u8]) -> u32
+    ensures { result ≡ high_in order bytes.now }
 {
     if bytes.len() < 16 {
         0
     } else {
-        LittleEndian::read_u32(&bytes[12..])
+        u32_in(order, &bytes[12..])
     }
 }
 
 /// The instruction that begins in these bytes of an image; None in the second slot of a wide one.
 #[tactic(auto, unfolding(crate::specs::Decoding::insn_in_bytes))]
-pub fn insn_from(bytes: &[u8]) -> Option<Insn>
+pub fn insn_from(order: Order, bytes: &[u8]) -> Option<Insn>
     requires { 8 ≤ length bytes.now }
-    ensures { result ≡ insn_in_bytes Little bytes.now }
+    ensures { result ≡ insn_in_bytes order bytes.now }
 {
-    let f = fields_from(bytes);
+    let f = fields_from(order, bytes);
     let form = form_of(f.opcode)?;
     let dst = REGISTERS[f.dst as usize]?;
     let src = REGISTERS[f.src as usize]?;
-    Some(insn_of(form, dst, src, &f, high_of(bytes)))
+    Some(insn_of(form, dst, src, &f, high_of(order, bytes)))
 }

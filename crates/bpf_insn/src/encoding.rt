@@ -4,37 +4,36 @@ ghost use Rattle.std.specs.Prelude.{◌≡◌, ℕ, OnOk, OnErr, length, ◌∷�
 ghost use Rattle.std.specs.Io.KnownBytes.{Appends};
 ghost use Rattle.bpf_insn.specs.Written.{AppendsBeginning};
 ghost use Rattle.bpf_insn.specs.Image.{image, instruction_bytes, second_slot, fields};
-ghost use Rattle.byteorder.specs.Endian.{little_bytes};
-ghost use Rattle.bpf_insn.specs.declared.order.Order.TheVariants.{Little};
+ghost use Rattle.bpf_insn.specs.Order.{bytes_of};
 
-use crate::bytes::slot_bytes_of;
+use crate::bytes::{put_u32, slot_bytes_of};
 use crate::code::Code;
 use crate::fields::fields_of;
 use crate::instruction::Insn;
+use crate::order::Order;
 use crate::written::write_bytes;
-use byteorder::{ByteOrder, LittleEndian};
 use std::io::{self, Write};
 
 /// The second slot of a 64-bit constant.
-fn second_slot_of(value: u64) -> [u8; 8]
-    ensures { result ≡ 0 ∷ 0 ∷ 0 ∷ 0 ∷ [] ++ little_bytes 4 (value / 2 ^ 32) }
+fn second_slot_of(order: Order, value: u64) -> [u8; 8]
+    ensures { result ≡ 0 ∷ 0 ∷ 0 ∷ 0 ∷ [] ++ bytes_of order 4 (value / 2 ^ 32) }
 {
     let mut bytes = [0; 8];
-    LittleEndian::write_u32(&mut bytes[4..8], (value >> 32) as u32);
+    put_u32(order, &mut bytes[4..8], (value >> 32) as u32);
     bytes
 }
 
 /// Writes the bytes of an instruction.
-fn write_insn<W: Write>(out: &mut W, insn: &Insn) -> io::Result<()>
-    ensures ok { OnOk result (Appends (W.contents out.old) (W.contents out.new) (instruction_bytes Little insn.now)) }
-    ensures err { OnErr result (AppendsBeginning (W.contents out.old) (W.contents out.new) (instruction_bytes Little insn.now)) }
+fn write_insn<W: Write>(out: &mut W, order: Order, insn: &Insn) -> io::Result<()>
+    ensures ok { OnOk result (Appends (W.contents out.old) (W.contents out.new) (instruction_bytes order insn.now)) }
+    ensures err { OnErr result (AppendsBeginning (W.contents out.old) (W.contents out.new) (instruction_bytes order insn.now)) }
 {
-    let first = slot_bytes_of(&fields_of(insn));
+    let first = slot_bytes_of(order, &fields_of(insn));
     match *insn {
         Insn::LoadImm64 { value, .. } => {
             let mut bytes = [0; 16];
             bytes[..8].copy_from_slice(&first);
-            bytes[8..].copy_from_slice(&second_slot_of(value));
+            bytes[8..].copy_from_slice(&second_slot_of(order, value));
             write_bytes(out, &bytes)
         }
         _ => write_bytes(out, &first),
@@ -44,12 +43,13 @@ fn write_insn<W: Write>(out: &mut W, insn: &Insn) -> io::Result<()>
 /// Writes the image of a program, slot by slot. A fault of the writer, or a write of no bytes, ends it; what went out by
 /// then is a beginning of the image.
 pub fn encode<C: Code, W: Write>(code: &C, out: &mut W) -> io::Result<()>
-    ensures ok { OnOk result (Appends (W.contents out.old) (W.contents out.new) (image Little (C.program code.now).list)) }
-    ensures err { OnErr result (AppendsBeginning (W.contents out.old) (W.contents out.new) (image Little (C.program code.now).list)) }
+    ensures ok { OnOk result (Appends (W.contents out.old) (W.contents out.new) (image (C.program code.now).order (C.program code.now).list)) }
+    ensures err { OnErr result (AppendsBeginning (W.contents out.old) (W.contents out.new) (image (C.program code.now).order (C.program code.now).list)) }
 {
+    let order = code.order();
     for slot in 0..code.slots() {
         if let Some(insn) = code.insn(slot) {
-            match write_insn(out, &insn) {
+            match write_insn(out, order, &insn) {
                 Ok(()) => {}
                 Err(error) => return Err(error),
             }

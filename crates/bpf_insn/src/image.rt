@@ -5,9 +5,9 @@ ghost use Rattle.bpf_insn.specs.Image.{image, IsImage, IsProgram};
 ghost use Rattle.bpf_insn.specs.Refusal.{IsRefused};
 ghost use Rattle.bpf_insn.specs.Reading.{max_read, ReadsImage, FailsAfter};
 ghost use Rattle.bpf_insn.specs.declared.instruction.Insn.{Insn};
-ghost use Rattle.bpf_insn.specs.declared.order.Order.TheVariants.{Little};
 ghost use Rattle.bpf_insn.specs.declared.refusal.DecodeError.TheVariants.{Memory};
 
+use crate::order::Order;
 use crate::program::{MAX_SLOTS, Program};
 use crate::refusal::DecodeError;
 use crate::view::ProgramView;
@@ -19,13 +19,13 @@ const MAX_READ: usize = 8 * MAX_SLOTS + 1;
 
 /// The program whose image these bytes are, with memory of its own. It is refused as by [`ProgramView::of`], and with E9
 /// if memory runs out.
-pub fn decode(alloc: Global, bytes: &[u8]) -> Result<Program, DecodeError>
-    ensures ok { IfOk result (λ p. IsImage Little p.list bytes.now × (p.order ≡ Little)) }
+pub fn decode(alloc: Global, bytes: &[u8], order: Order) -> Result<Program, DecodeError>
+    ensures ok { IfOk result (λ p. IsImage order p.list bytes.now × (p.order ≡ order)) }
     ensures program { IfOk result (λ p. IsProgram p.list) }
-    ensures err { IfErr result (λ e. (e ≡ Memory) ⊎ IsRefused Little bytes.now e) }
-    ensures accepts { (is : List Insn) → IsProgram is → bytes.now ≡ image Little is → MatchResult result (λ p. p.list ≡ is) (λ e. e ≡ Memory) }
+    ensures err { IfErr result (λ e. (e ≡ Memory) ⊎ IsRefused order bytes.now e) }
+    ensures accepts { (is : List Insn) → IsProgram is → bytes.now ≡ image order is → MatchResult result (λ p. p.list ≡ is) (λ e. e ≡ Memory) }
 {
-    match ProgramView::of(bytes) {
+    match ProgramView::of(bytes, order) {
         Ok(view) => match view.to_program(alloc) {
             Ok(program) => Ok(program),
             Err(_) => Err(DecodeError::Memory),
@@ -60,14 +60,18 @@ pub fn read_image<R: Read>(alloc: Global, reader: &mut R) -> Result<Vec<u8>, Dec
 
 /// The program whose image a reader gives, in whatever pieces. It reads to the end or to 524,289 bytes, and answers as
 /// [`decode`] on those, or E10 at the first fault of the reader, with the slot in which that came.
-pub fn decode_from<R: Read + Drop>(alloc: Global, reader: R) -> Result<Program, DecodeError>
-    ensures ok { IfOk result (λ p. IfSome (R.remaining reader) (λ bytes. IsImage Little p.list (take max_read bytes))) }
-    ensures program { IfOk result (λ p. IsProgram p.list × (p.order ≡ Little)) }
-    ensures err { IfErr result (λ e. (e ≡ Memory) ⊎ FailsAfter (R.remaining reader) e ⊎ IfSome (R.remaining reader) (λ bytes. IsRefused Little (take max_read bytes) e)) }
+pub fn decode_from<R: Read + Drop>(
+    alloc: Global,
+    reader: R,
+    order: Order,
+) -> Result<Program, DecodeError>
+    ensures ok { IfOk result (λ p. IfSome (R.remaining reader) (λ bytes. IsImage order p.list (take max_read bytes))) }
+    ensures program { IfOk result (λ p. IsProgram p.list × (p.order ≡ order)) }
+    ensures err { IfErr result (λ e. (e ≡ Memory) ⊎ FailsAfter (R.remaining reader) e ⊎ IfSome (R.remaining reader) (λ bytes. IsRefused order (take max_read bytes) e)) }
 {
     let mut reader = reader;
     match read_image(alloc, &mut reader) {
-        Ok(bytes) => decode(alloc, &bytes),
+        Ok(bytes) => decode(alloc, &bytes, order),
         Err(error) => Err(error),
     }
 }

@@ -3,12 +3,12 @@
 ghost use Rattle.std.specs.Prelude.{◌≡◌, ◌≤◌, length, option_map};
 ghost use Rattle.bpf_insn.specs.Form.{uses_of, is_other_zero};
 ghost use Rattle.bpf_insn.specs.Refusal.{is_left_out, each_field, is_selected, is_zero_if_unused, reserved_is_zero, refusal_by_uses, refusal_here};
-ghost use Rattle.bpf_insn.specs.declared.order.Order.TheVariants.{Little};
 
 use crate::bytes::fields_from;
 use crate::fields::Fields;
 use crate::form::{Form, Source, form_of};
 use crate::instruction::Width;
+use crate::order::Order;
 use crate::refusal::SlotFault;
 
 /// Whether this profile leaves the instruction out: packet access, other 64-bit constants, helper calls.
@@ -103,11 +103,11 @@ fn fault_of(form: Option<Form>, f: &Fields, bytes: &[u8]) -> Option<SlotFault>
 }
 
 /// Why no instruction begins in these bytes; None if one does. The faults come in the order E7, E2, E3, E5, E4, E6.
-pub fn fault_in(bytes: &[u8]) -> Option<SlotFault>
+pub fn fault_in(order: Order, bytes: &[u8]) -> Option<SlotFault>
     requires { 8 ≤ length bytes.now }
-    ensures { result ≡ refusal_here Little bytes.now }
+    ensures { result ≡ refusal_here order bytes.now }
 {
-    let f = fields_from(bytes);
+    let f = fields_from(order, bytes);
     if is_left_out_here(&f) {
         Some(SlotFault::LeftOut)
     } else {

@@ -1,9 +1,9 @@
 use Rattle.std.proofs.Common.{◌≡◌, ◌≤◌, ◌+◌, ◌<◌, sym, ◌∙◌, subst, arith, drop, None}
 use Rattle.std.specs.Io.KnownBytes.{Appends}
 use Rattle.bpf_insn.specs.Instruction.{slots, layout, insn_at}
-use Rattle.bpf_insn.specs.Image.{image}
+use Rattle.bpf_insn.specs.Image.{image, instruction_bytes}
+use Rattle.bpf_insn.specs.Written.{AppendsBeginning}
 use Rattle.bpf_insn.specs.Layout.{instructions_in}
-use Rattle.bpf_insn.specs.declared.order.Order.TheVariants.{Little}
 use Rattle.bpf_insn.proofs.LayoutLemmas.{insns_below, below_insn, below_second, below_all, below_rest}
 use Rattle.bpf_insn.proofs.WriteLemmas.{appends_more, begins_more}
 use Rattle.bpf_insn.proofs.encoding.encode.Goals as goal
@@ -12,28 +12,33 @@ use Rattle.bpf_insn.proofs.encoding.encode.Goals.{in-Some+in-Ok, in_default}
 pub returns-in-Err-clause-err : goal.returns-in-Err-clause-err
 returns-in-Err-clause-err g c =
     let is = (g.C.Code.program c.args.code.now).list in
+    let order = (g.C.Code.program c.args.code.now).order in
     let slot = c.loop-slot.slot in
     let inside : slot < slots is = omega arith in
-    begins_more _ _ _ is (insns_below slot is) c.in-Some.insn (instructions_in (drop (slot + 1) (layout is))) (below_rest slot is c.in-Some.insn inside (sym c.insn.ensures ∙ c.in-Some.is)) c.loop-slot.invariant c.in-Err.ensures.err
+    begins_more order _ _ _ is (insns_below slot is) c.in-Some.insn (instructions_in (drop (slot + 1) (layout is))) (below_rest slot is c.in-Some.insn inside (sym c.insn.ensures ∙ c.in-Some.is)) c.loop-slot.invariant
+    (subst (λ o. AppendsBeginning (g.W.Write.contents c.loop-slot.out) (g.W.Write.contents c.write_insn.new.out) (instruction_bytes o c.in-Some.insn)) c.order-order.ensures c.in-Err.ensures.err)
 
 pub loop-slot-preserved : goal.loop-slot-preserved
 loop-slot-preserved g c =
     let is = (g.C.Code.program c.args.code.now).list in
+    let order = (g.C.Code.program c.args.code.now).order in
     let slot = c.loop-slot.slot in
     let inside : slot < slots is = omega arith in
-    let grown : Appends (g.W.Write.contents c.args.out.now) (g.W.Write.contents c.match-insn.out) (image Little (insns_below (slot + 1) is)) = elim c.match-insn.branch [
+    let grown : Appends (g.W.Write.contents c.args.out.now) (g.W.Write.contents c.match-insn.out) (image order (insns_below (slot + 1) is)) = elim c.match-insn.branch [
       | in-Some+in-Ok w ↦
+          let written = subst (λ o. Appends (g.W.Write.contents c.loop-slot.out) (g.W.Write.contents w.write_insn.new.out) (instruction_bytes o w.in-Some.insn)) c.order-order.ensures w.in-Ok.ensures.ok in
           let here = below_insn slot is w.in-Some.insn inside (sym c.insn.ensures ∙ w.in-Some.is) in
-          subst (λ out. Appends (g.W.Write.contents c.args.out.now) (g.W.Write.contents out) (image Little (insns_below (slot + 1) is))) (sym w.out-is) (appends_more _ _ _ (insns_below slot is) _ w.in-Some.insn here c.loop-slot.invariant w.in-Ok.ensures.ok)
+          subst (λ out. Appends (g.W.Write.contents c.args.out.now) (g.W.Write.contents out) (image order (insns_below (slot + 1) is))) (sym w.out-is) (appends_more order _ _ _ (insns_below slot is) _ w.in-Some.insn here c.loop-slot.invariant written)
       | in_default w ↦
           let none : insn_at is slot ≡ None = sym c.insn.ensures ∙ w.in_default.is in
           let here = below_second slot is inside none in
-          subst (λ out. Appends (g.W.Write.contents c.args.out.now) (g.W.Write.contents out) (image Little (insns_below (slot + 1) is))) (sym w.out-is) (subst (λ js. Appends (g.W.Write.contents c.args.out.now) (g.W.Write.contents c.loop-slot.out) (image Little js)) (sym here) c.loop-slot.invariant)
+          subst (λ out. Appends (g.W.Write.contents c.args.out.now) (g.W.Write.contents out) (image order (insns_below (slot + 1) is))) (sym w.out-is) (subst (λ js. Appends (g.W.Write.contents c.args.out.now) (g.W.Write.contents c.loop-slot.out) (image order js)) (sym here) c.loop-slot.invariant)
     ] in
     grown
 
 pub returns-clause-ok : goal.returns-clause-ok
 returns-clause-ok g c =
     let is = (g.C.Code.program c.args.code.now).list in
+    let order = (g.C.Code.program c.args.code.now).order in
     let all : slots is ≤ c.loop-slot.slot = omega arith in
-    subst (λ js. Appends (g.W.Write.contents c.args.out.now) (g.W.Write.contents c.loop-slot.out) (image Little js)) (below_all c.loop-slot.slot is all) c.loop-slot.invariant
+    subst (λ js. Appends (g.W.Write.contents c.args.out.now) (g.W.Write.contents c.loop-slot.out) (image order js)) (below_all c.loop-slot.slot is all) c.loop-slot.invariant
