@@ -14,7 +14,8 @@ use Rattle.bpf_insn.specs.Flat.{addresses, frame_start, Placement, FlatState, Fl
 use Rattle.bpf_insn.specs.FlatLaws.{FlatFollows, FlatFinishes, Follows}
 use Rattle.bpf_insn.specs.State.{frame_bytes}
 use Rattle.bpf_insn.specs.Placement.{AreApart, IsPlacement, IsFlatStart, Fits, StaysInside}
-use Rattle.bpf_safety.specs.Theorems.{IsContext, FlatFollowsRun, ProgramIsFlatSafe}
+use Rattle.bpf_insn.specs.Laws.{AreBytes}
+use Rattle.bpf_safety.specs.Theorems.{FlatFollowsRun, ProgramIsFlatSafe}
 use Rattle.bpf_safety.proofs.Basics.{some_is}
 use Rattle.bpf_safety.proofs.Runs.{same_run, goes_on, same_context}
 
@@ -51,7 +52,7 @@ exit_stays place len p f stands =
     no_access : (i : Insn) (a : Access) → Exit ≡ i → access_of i ≡ Some a → ⊥
     no_access i a is access = false≢true (ap is_some (ap access_of is ∙ access))
 
-module _ (laws : FlatLaws) (p : Instructions) (len : ℕ) (program : IsProgram p.list) (context : List ℕ) (place : Placement) (f : FlatState) (v n : ℕ) (is_context : IsContext len context) (placed : IsPlacement len place) (starts : IsFlatStart p.order place context f) (last : machine.State) (run : Steps p n (machine.start context) last) (end : Finish p last v) where
+module _ (laws : FlatLaws) (p : Instructions) (program : IsProgram p.list) (context : List ℕ) (place : Placement) (f : FlatState) (v n : ℕ) (bytes : AreBytes context) (placed : IsPlacement (length context) place) (starts : IsFlatStart p.order place context f) (last : machine.State) (run : Steps p n (machine.start context) last) (end : Finish p last v) where
   -- the flat state fits the machine's state after as many steps
   record FitsAt (j : ℕ) (g : FlatState) : Type 0 where
     pub not_past : j ≤ n
@@ -59,16 +60,15 @@ module _ (laws : FlatLaws) (p : Instructions) (len : ℕ) (program : IsProgram p
     pub steps : Steps p j (machine.start context) state
     pub fits : Fits p.order place state g
 
-  length_at : (j : ℕ) (g : FlatState) (h : FitsAt j g) → length h.state.context ≡ len
-  length_at j g h = ap length (same_context laws.keeps_context p j (machine.start context) h.state h.steps) ∙ is_context.length_is
+  length_at : (j : ℕ) (g : FlatState) (h : FitsAt j g) → length h.state.context ≡ length context
+  length_at j g h = ap length (same_context laws.keeps_context p j (machine.start context) h.state h.steps)
 
   -- before the end the machine steps, and the flat machine follows
   follows_at : (j : ℕ) (g : FlatState) (h : FitsAt j g) → j < n → (t : machine.State) × Step p h.state t × Follows place p h.state t g
   follows_at j g h lt =
       let s = goes_on p j n (machine.start context) h.state last h.steps run lt in
-      let short = placed_short len place placed in
-      let long = is_context.length_is in
-      let state = laws.keep_states p context j h.state program is_context.bytes (omega arith) h.steps in
+      let short = placed_short (length context) place placed in
+      let state = laws.keep_states p context j h.state program bytes (omega arith) h.steps in
       (s.0, s.1, laws.follows place p h.state s.0 g program state (subst (λ k. IsPlacement k place) (sym (length_at j g h)) placed) h.fits s.1)
 
   -- at the end both end
@@ -87,21 +87,21 @@ module _ (laws : FlatLaws) (p : Instructions) (len : ℕ) (program : IsProgram p
           by_end (inr (inl less)) = let t = follows_at j steps.0 h less in record { not_past = less; state = t.0; steps = (h.state, h.steps, t.1); fits = t.2.fits g steps.2 }
           by_end (inr (inr more)) = let past = h.not_past in absurd (omega arith)
 
-  follows_run : (g : FlatState) (j : ℕ) → FlatSteps place p j f g → FlatFollowsRun p len place context v (suc n) j g
+  follows_run : (g : FlatState) (j : ℕ) → FlatSteps place p j f g → FlatFollowsRun p place context v (suc n) j g
   follows_run g j steps = by_end (cases_order j n)
     where
       h : FitsAt j g
       h = fits_at j g steps
 
-      by_end : (j ≡ n) ⊎ ((j < n) ⊎ (n < j)) → FlatFollowsRun p len place context v (suc n) j g
+      by_end : (j ≡ n) ⊎ ((j < n) ⊎ (n < j)) → FlatFollowsRun p place context v (suc n) j g
       by_end (inl e) =
           let finish = finishes_at g (subst (λ k. FitsAt k g) e h) in
-          record { not_past = omega arith; inside = exit_stays place len p g finish.0.stands; visits_same = (h.state, h.steps, h.fits.slot_is); goes_on = λ lt. absurd (omega arith); ends = λ at. finish }
+          record { not_past = omega arith; inside = exit_stays place (length context) p g finish.0.stands; visits_same = (h.state, h.steps, h.fits.slot_is); goes_on = λ lt. absurd (omega arith); ends = λ at. finish }
       by_end (inr (inl less)) =
           let t = follows_at j g h less in
           record { not_past = omega arith; inside = subst (λ k. StaysInside place k p g) (length_at j g h) t.2.inside; visits_same = (h.state, h.steps, h.fits.slot_is); goes_on = λ lt. t.2.has_step; ends = λ at. absurd (omega arith) }
       by_end (inr (inr more)) = let past = h.not_past in absurd (omega arith)
 
 pub program_is_flat_safe : FlatLaws → ProgramIsFlatSafe
-program_is_flat_safe laws p len program context place f g v zero j is_context placed starts done steps = absurd done
-program_is_flat_safe laws p len program context place f g v (suc n) j is_context placed starts done steps = follows_run laws p len program context place f v n is_context placed starts done.0 done.1 done.2 g j steps
+program_is_flat_safe laws p least most program context place f g v zero j is_context placed starts done steps = absurd done
+program_is_flat_safe laws p least most program context place f g v (suc n) j is_context placed starts done steps = follows_run laws p program context place f v n is_context.bytes placed starts done.0 done.1 done.2 g j steps

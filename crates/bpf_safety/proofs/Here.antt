@@ -9,7 +9,7 @@ use Rattle.bpf_insn.specs.Instruction.{Instructions, insn_at, slots}
 use Rattle.bpf_insn.specs.State as machine
 use Rattle.bpf_insn.specs.Run.{Steps}
 use Rattle.bpf_state.specs.State.{AbstractState}
-use Rattle.bpf_sound.specs.Describes.{Describes, IsStored, slot_cell}
+use Rattle.bpf_sound.specs.Describes.{Describes, LengthWithin, IsStored, slot_cell}
 use Rattle.bpf_sound.specs.Laws.{IsAbstract}
 use Rattle.bpf_state.specs.Fault.{fault_of}
 use Rattle.bpf_state.specs.declared.state.Place.{Place}
@@ -28,6 +28,7 @@ use Rattle.bpf_safety.specs.Flaw.{lacks_label, is_not_entailed, is_over_budget, 
 
 pub record IsWellFormed (c : CertificateView) : Type 0 where
   pub short_context : c.len ≤ 4096
+  pub ordered : c.len ≤ c.len
   pub states : (l : LabelView) (slot : ℕ) → label_at c slot ≡ Some l → IsAbstract l.state
   pub depths : (f : FunctionView) → Contains c.functions f → (1 ≤ f.depth) × (f.depth ≤ 8)
   pub returns : (f : FunctionView) → Contains c.functions f → IsNumber f.ret
@@ -98,7 +99,7 @@ pub record Here (p : Instructions) (c : CertificateView) (m : machine.State) (bu
   pub shallow : machine.depth m + function.depth ≤ 8
   pub state : machine.IsState m
   pub valid : IsAbstract arrival.state
-  pub described : Describes p.order c.len x arrival.state m
+  pub described : Describes p.order c.len c.len x arrival.state m
   pub block : IsBlock c arrival x budget spent
 
 -- a step keeps it, the rest of the budget falls, and the run comes nearer to the block's end or to a lower budget
@@ -123,6 +124,6 @@ pub record ReachesExit (p : Instructions) (c : CertificateView) (m : machine.Sta
   pub value : ℕ
   pub value_is : machine.number_of_register state R0 ≡ Some value
   pub state_is : machine.IsState state
-  pub context_is : length state.context ≡ c.len
+  pub context_is : LengthWithin c.len c.len state.context
   pub returns : Has function.ret value
   pub in_time : suc (steps + spent) ≤ budget

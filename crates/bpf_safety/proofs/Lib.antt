@@ -18,3 +18,4 @@ mod SafetyLaw
 mod FlatRuns
 mod WellFormedLaw
 mod WorkLaws
+mod FirstLines

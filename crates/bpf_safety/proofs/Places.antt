@@ -63,7 +63,7 @@ pub record HoldsTagged (order : Order) (m : machine.State) (place : Place) (x : 
   pub holds : HoldsNumber order m place value
   pub tagged : IsTagged x tag value
 
-module _ (order : Order) (len : ℕ) (x : List ℕ) (s : AbstractState) (m : machine.State) (d : Describes order len x s m) where
+module _ (order : Order) (least most : ℕ) (x : List ℕ) (s : AbstractState) (m : machine.State) (d : Describes order least most x s m) where
   in_register : (r : Reg) (v : RegState) (b : Interval) → register s r ≡ v → unsigned_bounds v ≡ Some b → HoldsWithin order m (Register r) b
   in_register r (Num n) b e f =
       let h = subst (λ v. DescribesRegister (machine.depth m) v (machine.register m r)) e (d.registers r) in
@@ -216,10 +216,10 @@ none_in zero i = refl
 none_in (suc n) zero = refl
 none_in (suc n) (suc i) = none_in n i
 
-pub untagged_describes : (order : Order) (len : ℕ) (x y : List ℕ) (s : AbstractState) (m : machine.State) → Describes order len x s m → Describes order len y (untagged s) m
-untagged_describes order len x y s m d =
+pub untagged_describes : (order : Order) (least most : ℕ) (x y : List ℕ) (s : AbstractState) (m : machine.State) → Describes order least most x s m → Describes order least most y (untagged s) m
+untagged_describes order least most x y s m d =
     record {
-      length_is = d.length_is;
+      length_within = d.length_within;
       registers = d.registers;
       slots = d.slots;
       register_tags = λ r. subst (λ o. TaggedRegister y o (machine.register m r)) (sym (none_in 11 (register_number r))) tt;
@@ -271,19 +271,19 @@ pub record HoldsValue (order : Order) (m : machine.State) (place : Place) (y : L
   pub is_there : slice_get y j ≡ Some value
   pub holds : HoldsNumber order m place value
 
-tag_describes : (order : Order) (len : ℕ) (y : List ℕ) (j : ℕ) (at : Place) (s : AbstractState) (m : machine.State) → HoldsValue order m at y j → Describes order len y s m → Describes order len y (with_tag j at s) m
-tag_describes order len y j (Register r) s m h d =
+tag_describes : (order : Order) (least most : ℕ) (y : List ℕ) (j : ℕ) (at : Place) (s : AbstractState) (m : machine.State) → HoldsValue order m at y j → Describes order least most y s m → Describes order least most y (with_tag j at s) m
+tag_describes order least most y j (Register r) s m h d =
     record {
-      length_is = d.length_is;
+      length_within = d.length_within;
       registers = d.registers;
       slots = d.slots;
       register_tags = λ q. set_either (λ o. TaggedRegister y o (machine.register m q)) s.register_tags (register_number r) (register_number q) (Some (record { term = j; offset = pos 0 })) None (d.register_tags q)
           (λ e. (h.value, ap (λ n. get_or m.top.registers n None) (sym e) ∙ h.holds, (h.value, h.is_there, omega (arith, ints))));
       slot_tags = d.slot_tags;
     }
-tag_describes order len y j (Slot k) s m h d =
+tag_describes order least most y j (Slot k) s m h d =
     record {
-      length_is = d.length_is;
+      length_within = d.length_within;
       registers = d.registers;
       slots = d.slots;
       register_tags = d.register_tags;
@@ -291,11 +291,11 @@ tag_describes order len y j (Slot k) s m h d =
           (λ e. let low' = h.holds.0 in let same : k ≡ i = omega arith in (h.value, subst (λ n. IsStored order h.value (slot_cell m n)) same h.holds.2, (h.value, h.is_there, omega (arith, ints))));
     }
 
-pub tags_describe : (order : Order) (len : ℕ) (y : List ℕ) (j : ℕ) (ts : List Term) (s : AbstractState) (m : machine.State) → ((i : ℕ) (t : Term) → slice_get ts i ≡ Some t → HoldsValue order m (place_of t) y (j + i)) → Describes order len y s m → Describes order len y (with_tags j ts s) m
-tags_describe order len y j [] s m h d = d
-tags_describe order len y j (t ∷ ts) s m h d =
-    tag_describes order len y j (place_of t) (with_tags (suc j) ts s) m (subst (λ n. HoldsValue order m (place_of t) y n) (omega arith) (h 0 t refl))
-    (tags_describe order len y (suc j) ts s m (λ i u e. subst (λ n. HoldsValue order m (place_of u) y n) (omega arith) (h (suc i) u e)) d)
+pub tags_describe : (order : Order) (least most : ℕ) (y : List ℕ) (j : ℕ) (ts : List Term) (s : AbstractState) (m : machine.State) → ((i : ℕ) (t : Term) → slice_get ts i ≡ Some t → HoldsValue order m (place_of t) y (j + i)) → Describes order least most y s m → Describes order least most y (with_tags j ts s) m
+tags_describe order least most y j [] s m h d = d
+tags_describe order least most y j (t ∷ ts) s m h d =
+    tag_describes order least most y j (place_of t) (with_tags (suc j) ts s) m (subst (λ n. HoldsValue order m (place_of t) y n) (omega arith) (h 0 t refl))
+    (tags_describe order least most y (suc j) ts s m (λ i u e. subst (λ n. HoldsValue order m (place_of u) y n) (omega arith) (h (suc i) u e)) d)
 
 -- ---- the values of places
 

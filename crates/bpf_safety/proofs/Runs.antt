@@ -53,10 +53,10 @@ same_context keeps p (suc k) s t run = keeps p run.0 t run.2 ∙ same_context ke
 -- ---- runs of a safe program
 
 pub safe_has_no_fault : StuckHasReason → SafeHasNoFault
-safe_has_no_fault has p len bound context slot reason k program safe is_context fault = safe.never_stuck context k fault.state is_context fault.steps ((has p fault.state program).1 (ap is_some fault.reason_is))
+safe_has_no_fault has p least most bound context slot reason k program safe is_context fault = safe.never_stuck context k fault.state is_context fault.steps ((has p fault.state program).1 (ap is_some fault.reason_is))
 
 pub safe_ends : FinishIsLast → SafeEnds
-safe_ends last p len bound fuel context safe is_context enough can = let e = safe.ends context is_context in by_steps e.value e.steps e.in_time e.done
+safe_ends last p least most bound fuel context safe is_context enough can = let e = safe.ends context is_context in by_steps e.value e.steps e.in_time e.done
   where
     by_steps : (v n : ℕ) → n ≤ bound → IsDone p context v n → ⊥
     by_steps v zero le done = done

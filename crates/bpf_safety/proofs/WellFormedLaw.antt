@@ -183,6 +183,7 @@ module _ (c : CertificateView) (certificate : IsCertificate c) where
   well_formed =
       record {
         short_context = at_most c.len 4096 limits.0;
+        ordered = omega arith;
         states = λ l slot e. state_fits l.state (label_limits l slot e).1;
         depths = λ f h. from_to 1 8 f.depth (function_limits f h).1;
         returns = λ f h. number_fits f.ret (function_limits f h).2;

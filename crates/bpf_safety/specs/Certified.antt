@@ -1,5 +1,5 @@
 -- Certified programs, and the refusal of the others.
-use Rattle.std.specs.Prelude.{◌≡◌, ℕ, ◌<◌, ◌≤◌, ◌⊎◌, ◌<◌, List, Contains, Option, Some, None, ◌==◌, nat_lt, ◌&&◌, ◌||◌, Bool, if◌then◌else◌, [], ◌∷◌}
+use Rattle.std.specs.Prelude.{◌≡◌, ℕ, ◌<◌, ◌≤◌, ◌⊎◌, Contains}
 use Rattle.bpf_insn.specs.Instruction.{Instructions}
 use Rattle.bpf_cert.specs.View.{CertificateView}
 use Rattle.bpf_safety.specs.Flaw.{flaws}
@@ -16,15 +16,3 @@ Certified p c = (slot number : ℕ) → Flaw p c slot number → ⊥
 pub record IsLeastFlaw (p : Instructions) (c : CertificateView) (slot number : ℕ) : Type 0 where
   pub is_flaw : Flaw p c slot number
   pub is_least : (slot' number' : ℕ) → Flaw p c slot' number' → (slot < slot') ⊎ ((slot ≡ slot') × (number ≤ number'))
-
--- the same, computed
-abbrev pub is_before : ℕ × ℕ → ℕ × ℕ → Bool
-is_before a b = nat_lt a.0 b.0 || (a.0 == b.0 && nat_lt a.1 b.1)
-
-abbrev pub least_of : ℕ × ℕ → List (ℕ × ℕ) → ℕ × ℕ
-least_of a [] = a
-least_of a (b ∷ bs) = least_of (if is_before b a then b else a) bs
-
-abbrev pub least_flaw : List (ℕ × ℕ) → Option (ℕ × ℕ)
-least_flaw [] = None
-least_flaw (a ∷ as') = Some (least_of a as')

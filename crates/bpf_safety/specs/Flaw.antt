@@ -175,12 +175,12 @@ begins_elsewhere [] = true
 begins_elsewhere (f ∷ fs) = not (f.first == 0)
 
 abbrev pub begins_wrongly : CertificateView → Bool
-begins_wrongly c = begins_elsewhere c.functions || some_passes (λ l. not (state_entails (start c.len) l.state)) (label_at c 0)
+begins_wrongly c = begins_elsewhere c.functions || some_passes (λ l. not (state_entails (start c.len c.len) l.state)) (label_at c 0)
 
 -- the budget at the start may be above the steps that are promised
 abbrev pub starts_over_budget : CertificateView → Bool
 starts_over_budget c =
-    some_passes (λ l. some_passes (λ most. int_lt (pos c.steps) most) (greatest_budget (budget l) (start c.len))) (label_at c 0)
+    some_passes (λ l. some_passes (λ most. int_lt (pos c.steps) most) (greatest_budget (budget l) (start c.len c.len))) (label_at c 0)
 
 -- ---- all flaws
 

@@ -10,6 +10,7 @@ use Rattle.bpf_insn.specs.Run.{Steps, IsDone, IsFault, CanMake}
 use Rattle.bpf_insn.specs.Flat.{Placement, FlatState, FlatStep, FlatFinish, FlatSteps}
 use Rattle.bpf_insn.specs.Placement.{IsPlacement, IsFlatStart, StaysInside}
 use Rattle.bpf_state.specs.State.{AbstractState}
+use Rattle.bpf_sound.specs.Describes.{LengthWithin}
 use Rattle.bpf_sound.specs.Laws.{IsAbstract}
 use Rattle.bpf_cert.specs.View.{CertificateView}
 use Rattle.bpf_cert.specs.Limits.{IsCertificate}
@@ -18,10 +19,10 @@ use Rattle.bpf_safety.specs.Certified.{Certified}
 use Rattle.bpf_safety.specs.Flow.{visits}
 use Rattle.bpf_safety.specs.Work.{transfers, comparisons, transferred_at, compared_at_start, compared_at}
 
--- a context of `len` bytes
-pub record IsContext (len : ℕ) (context : List ℕ) : Type 0 where
+-- a context of `least` to `most` bytes
+pub record IsContext (least most : ℕ) (context : List ℕ) : Type 0 where
   pub bytes : AreBytes context
-  pub length_is : length context ≡ len
+  pub length_within : LengthWithin least most context
 
 -- ---- the machine never gets stuck, and ends in time
 
@@ -31,41 +32,41 @@ pub record EndsWithin (p : Instructions) (context : List ℕ) (bound : ℕ) : Ty
   pub in_time : steps ≤ bound
   pub done : IsDone p context value steps
 
-pub record IsSafe (p : Instructions) (len bound : ℕ) : Type 0 where
-  pub never_stuck : (context : List ℕ) (k : ℕ) (s : machine.State) → IsContext len context → Steps p k (machine.start context) s → IsStuck p s → ⊥
-  pub ends : (context : List ℕ) → IsContext len context → EndsWithin p context bound
+pub record IsSafe (p : Instructions) (least most bound : ℕ) : Type 0 where
+  pub never_stuck : (context : List ℕ) (k : ℕ) (s : machine.State) → IsContext least most context → Steps p k (machine.start context) s → IsStuck p s → ⊥
+  pub ends : (context : List ℕ) → IsContext least most context → EndsWithin p context bound
 
 -- No run of a safe program is at fault, and none goes on for as many steps as its bound: it ends before.
 abbrev pub SafeHasNoFault : Type 0
-SafeHasNoFault = (p : Instructions) (len bound : ℕ) (context : List ℕ) (slot : ℕ) (reason : Reason) (k : ℕ) → IsProgram p.list → IsSafe p len bound → IsContext len context → IsFault p context slot reason k → ⊥
+SafeHasNoFault = (p : Instructions) (least most bound : ℕ) (context : List ℕ) (slot : ℕ) (reason : Reason) (k : ℕ) → IsProgram p.list → IsSafe p least most bound → IsContext least most context → IsFault p context slot reason k → ⊥
 
 abbrev pub SafeEnds : Type 0
-SafeEnds = (p : Instructions) (len bound fuel : ℕ) (context : List ℕ) → IsSafe p len bound → IsContext len context → bound ≤ fuel → CanMake p context fuel → ⊥
+SafeEnds = (p : Instructions) (least most bound fuel : ℕ) (context : List ℕ) → IsSafe p least most bound → IsContext least most context → bound ≤ fuel → CanMake p context fuel → ⊥
 
 abbrev pub CertifiedIsSafe : Type 0
-CertifiedIsSafe = (p : Instructions) (c : CertificateView) → IsProgram p.list → IsCertificate c → Certified p c → IsSafe p c.len c.steps
+CertifiedIsSafe = (p : Instructions) (c : CertificateView) → IsProgram p.list → IsCertificate c → Certified p c → IsSafe p c.len c.len c.steps
 
 -- ---- the flat machine follows
 
 -- a run of the flat machine from a start that fits, on a context on which the machine ends with v after k instructions
-pub record FlatFollowsRun (p : Instructions) (len : ℕ) (place : Placement) (context : List ℕ) (v k j : ℕ) (g : FlatState) : Type 0 where
+pub record FlatFollowsRun (p : Instructions) (place : Placement) (context : List ℕ) (v k j : ℕ) (g : FlatState) : Type 0 where
   pub not_past : j < k
-  pub inside : StaysInside place len p g
+  pub inside : StaysInside place (length context) p g
   pub visits_same : (s : machine.State) × Steps p j (machine.start context) s × (g.slot ≡ s.top.slot)
   pub goes_on : suc j < k → (h : FlatState) × FlatStep place p g h
   pub ends : suc j ≡ k → FlatFinish p g v × ((h : FlatState) → FlatStep place p g h → ⊥)
 
-abbrev pub IsFlatSafe : Instructions → ℕ → Type 0
-IsFlatSafe p len =
-    (context : List ℕ) (place : Placement) (f g : FlatState) (v k j : ℕ) → IsContext len context → IsPlacement len place → IsFlatStart p.order place context f
-    → IsDone p context v k → FlatSteps place p j f g → FlatFollowsRun p len place context v k j g
+abbrev pub IsFlatSafe : Instructions → ℕ → ℕ → Type 0
+IsFlatSafe p least most =
+    (context : List ℕ) (place : Placement) (f g : FlatState) (v k j : ℕ) → IsContext least most context → IsPlacement (length context) place → IsFlatStart p.order place context f
+    → IsDone p context v k → FlatSteps place p j f g → FlatFollowsRun p place context v k j g
 
 -- for every program: the flat machine follows wherever the machine ends
 abbrev pub ProgramIsFlatSafe : Type 0
-ProgramIsFlatSafe = (p : Instructions) (len : ℕ) → IsProgram p.list → IsFlatSafe p len
+ProgramIsFlatSafe = (p : Instructions) (least most : ℕ) → IsProgram p.list → IsFlatSafe p least most
 
 abbrev pub CertifiedIsFlatSafe : Type 0
-CertifiedIsFlatSafe = (p : Instructions) (c : CertificateView) → IsProgram p.list → IsCertificate c → Certified p c → IsFlatSafe p c.len
+CertifiedIsFlatSafe = (p : Instructions) (c : CertificateView) → IsProgram p.list → IsCertificate c → Certified p c → IsFlatSafe p c.len c.len
 
 -- ---- budgets: the least slack is at the ends of the intervals
 
