@@ -10,7 +10,7 @@ use Rattle.bpf_cert.specs.Standing.{Stands, ruled}
 use Rattle.bpf_cert.specs.declared.finding.Flaw.TheVariants.{Syntax, NotCanonical, Limit}
 use Rattle.bpf_cert.specs.declared.standing.Stage.TheVariants as stage
 use Rattle.bpf_cert.specs.declared.standing.Standing.{Standing}
-use Rattle.bpf_cert.proofs.NumLemmas.{both_true}
+use Rattle.bpf_cert.proofs.Bools.{both_true}
 use Rattle.bpf_cert.proofs.NumeralLaws.{numeral-decimal}
 
 -- what is known of a line that is refused for nothing

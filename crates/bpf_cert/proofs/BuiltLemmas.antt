@@ -22,12 +22,13 @@ use Rattle.bpf_cert.specs.Limits.{is_limited_place}
 use Rattle.bpf_cert.specs.declared.standing.Stage.{Stage}
 use Rattle.bpf_cert.specs.declared.standing.Stage.TheVariants as stage
 use Rattle.bpf_cert.specs.declared.building.Builder.{Builder}
+use Rattle.bpf_cert.specs.declared.header.Header.{Header}
 use Rattle.bpf_insn.specs.Instruction.{register_number}
 use Rattle.bpf_state.specs.State.{blank}
 use Rattle.bpf_state.specs.declared.state.Place.{Place}
 use Rattle.bpf_state.specs.declared.state.Place.TheVariants as place
 use Rattle.bpf_state.specs.declared.state.SlotState.{SlotState}
-use Rattle.bpf_cert.proofs.NumLemmas.{both_true}
+use Rattle.bpf_cert.proofs.Bools.{both_true}
 use Rattle.bpf_cert.proofs.NumeralLaws.{numeral-decimal}
 use Rattle.bpf_cert.proofs.LineLaws.{line_spelled}
 use Rattle.bpf_cert.proofs.StandingLemmas.{stand_header, stand_function, stand_label, stand_entry, stand_end}
@@ -82,10 +83,10 @@ in_label (Line.label _ _ _ ∷ ls) e = refl
 in_label (Line.entry _ _ ∷ ls) e = refl
 in_label (Line.end ∷ ls) e = cc
 
-pub built_header : (lines : List Line) (old new : Builder) (l : Line) (len steps : ℕ) → IsBuilt lines old → ruled lines (Some l) ≡ Ok l → l ≡ header_line len steps → Stands (l ∷ lines) new.standing
-    → new.len ≡ len → new.steps ≡ steps → closed_lines new ≡ closed_lines old → IsSound new → IsBuilt (l ∷ lines) new
-built_header lines old new l len steps built fine e stands a b same sound =
-    let is_header : is_start (stage_of lines) ≡ true = sym (stand_header lines (decimal len) (decimal steps)) ∙ ap (may_stand lines) (sym e) ∙ (ruled_fine lines l l fine).stands in
+pub built_header : (lines : List Line) (old new : Builder) (l : Line) (head : Header) → IsBuilt lines old → ruled lines (Some l) ≡ Ok l → l ≡ header_line head → Stands (l ∷ lines) new.standing
+    → new.header ≡ head → closed_lines new ≡ closed_lines old → IsSound new → IsBuilt (l ∷ lines) new
+built_header lines old new l head built fine e stands a same sound =
+    let is_header : is_start (stage_of lines) ≡ true = sym (stand_header lines _ _) ∙ ap (may_stand lines) (sym e) ∙ (ruled_fine lines l l fine).stands in
     let empty : lines ≡ [] = start_empty lines is_header in
     let at_start : old.standing.stage ≡ stage.Start = built.stands.stage ∙ ap stage_of empty in
     let none : closed_lines old ≡ [] = sym (sym (ap reverse empty) ∙ built.spelled ∙ ap (λ s. lines_at s old) at_start) in
@@ -93,49 +94,49 @@ built_header lines old new l len steps built fine e stands a b same sound =
     record {
       stands = stands;
       sound = sound;
-      spelled = subst (λ s. reverse (l ∷ lines) ≡ lines_at s new) (sym now) (ap (λ ls. reverse (l ∷ ls)) empty ∙ rw (a, b, same, none, e) refl);
+      spelled = subst (λ s. reverse (l ∷ lines) ≡ lines_at s new) (sym now) (ap (λ ls. reverse (l ∷ ls)) empty ∙ rw (a, same, none, e) refl);
       open_places = subst (λ s. IsOpen s new.standing.place new.label.state) (sym now) tt;
     }
 
-closes_rest : (s : Stage) (old mid : Builder) → IsGoing s → old.standing.stage ≡ s → Closes old mid → lines_at s old ≡ header_line mid.len mid.steps ∷ closed_lines mid
+closes_rest : (s : Stage) (old mid : Builder) → IsGoing s → old.standing.stage ≡ s → Closes old mid → lines_at s old ≡ header_line mid.header ∷ closed_lines mid
 closes_rest stage.Start old mid g e c = absurd g
-closes_rest stage.Header old mid g e c = rw (c.keeps.len, c.keeps.steps) (ap (λ r. header_line old.len old.steps ∷ r) (c.header e))
-closes_rest stage.Function old mid g e c = rw (c.keeps.len, c.keeps.steps) (ap (λ r. header_line old.len old.steps ∷ r) (c.function e))
-closes_rest stage.Label old mid g e c = rw (c.keeps.len, c.keeps.steps) (ap (λ r. header_line old.len old.steps ∷ r) (c.label e))
+closes_rest stage.Header old mid g e c = rw c.keeps.header (ap (λ r. header_line old.header ∷ r) (c.header e))
+closes_rest stage.Function old mid g e c = rw c.keeps.header (ap (λ r. header_line old.header ∷ r) (c.function e))
+closes_rest stage.Label old mid g e c = rw c.keeps.header (ap (λ r. header_line old.header ∷ r) (c.label e))
 closes_rest stage.Ended old mid g e c = absurd g
 
 pub built_function : (lines : List Line) (old mid new : Builder) (l : Line) (f d : List ℕ) (r : _) → IsBuilt lines old → is_ended lines ≡ false → ruled lines (Some l) ≡ Ok l → l ≡ Line.function f d r → Stands (l ∷ lines) new.standing
-    → Closes old mid → new.len ≡ mid.len → new.steps ≡ mid.steps → closed_lines new ≡ closed_lines mid → (labels : List Label) → open_lines new ≡ Line.function f d r ∷ flat_map label_lines (map label_view labels) → labels ≡ [] → IsSound new → IsBuilt (l ∷ lines) new
-built_function lines old mid new l f d r built more fine e stands closes a b same labels alone bare sound =
+    → Closes old mid → new.header ≡ mid.header → closed_lines new ≡ closed_lines mid → (labels : List Label) → open_lines new ≡ Line.function f d r ∷ flat_map label_lines (map label_view labels) → labels ≡ [] → IsSound new → IsBuilt (l ∷ lines) new
+built_function lines old mid new l f d r built more fine e stands closes a same labels alone bare sound =
     let opened : open_lines new ≡ l ∷ [] = alone ∙ ap (λ ls. Line.function f d r ∷ flat_map label_lines (map label_view ls)) bare ∙ ap (λ x. x ∷ []) (sym e) in
     let may : not (is_start (stage_of lines)) ≡ true = sym (stand_function lines f d r) ∙ ap (may_stand lines) (sym e) ∙ (ruled_fine lines l l fine).stands in
     let now : new.standing.stage ≡ stage.Function = stands.stage ∙ ap (λ x. stage_of (x ∷ lines)) e in
-    let before : reverse lines ≡ header_line mid.len mid.steps ∷ closed_lines mid = built.spelled ∙ ap (λ s. lines_at s old) built.stands.stage ∙ closes_rest (stage_of lines) old mid (going lines may more) built.stands.stage closes in
+    let before : reverse lines ≡ header_line mid.header ∷ closed_lines mid = built.spelled ∙ ap (λ s. lines_at s old) built.stands.stage ∙ closes_rest (stage_of lines) old mid (going lines may more) built.stands.stage closes in
     record {
       stands = stands;
       sound = sound;
-      spelled = subst (λ s. reverse (l ∷ lines) ≡ lines_at s new) (sym now) (last_end l lines ∙ ap (λ ls. ls ++ l ∷ []) before ∙ rw (a, b, same, opened) refl);
+      spelled = subst (λ s. reverse (l ∷ lines) ≡ lines_at s new) (sym now) (last_end l lines ∙ ap (λ ls. ls ++ l ∷ []) before ∙ rw (a, same, opened) refl);
       open_places = subst (λ s. IsOpen s new.standing.place new.label.state) (sym now) tt;
     }
 
 pub built_end : (lines : List Line) (old mid new : Builder) (l : Line) → IsBuilt lines old → is_ended lines ≡ false → ruled lines (Some l) ≡ Ok l → l ≡ Line.end → Stands (l ∷ lines) new.standing
-    → Closes old mid → new.len ≡ mid.len → new.steps ≡ mid.steps → closed_lines new ≡ closed_lines mid → IsSound new → IsBuilt (l ∷ lines) new
-built_end lines old mid new l built more fine e stands closes a b same sound =
+    → Closes old mid → new.header ≡ mid.header → closed_lines new ≡ closed_lines mid → IsSound new → IsBuilt (l ∷ lines) new
+built_end lines old mid new l built more fine e stands closes a same sound =
     let may : not (is_start (stage_of lines)) ≡ true = sym (stand_end lines) ∙ ap (may_stand lines) (sym e) ∙ (ruled_fine lines l l fine).stands in
     let now : new.standing.stage ≡ stage.Ended = stands.stage ∙ ap (λ x. stage_of (x ∷ lines)) e in
-    let before : reverse lines ≡ header_line mid.len mid.steps ∷ closed_lines mid = built.spelled ∙ ap (λ s. lines_at s old) built.stands.stage ∙ closes_rest (stage_of lines) old mid (going lines may more) built.stands.stage closes in
+    let before : reverse lines ≡ header_line mid.header ∷ closed_lines mid = built.spelled ∙ ap (λ s. lines_at s old) built.stands.stage ∙ closes_rest (stage_of lines) old mid (going lines may more) built.stands.stage closes in
     record {
       stands = stands;
       sound = sound;
-      spelled = subst (λ s. reverse (l ∷ lines) ≡ lines_at s new) (sym now) (last_end l lines ∙ ap (λ ls. ls ++ l ∷ []) before ∙ rw (a, b, same, e) refl);
+      spelled = subst (λ s. reverse (l ∷ lines) ≡ lines_at s new) (sym now) (last_end l lines ∙ ap (λ ls. ls ++ l ∷ []) before ∙ rw (a, same, e) refl);
       open_places = subst (λ s. IsOpen s new.standing.place new.label.state) (sym now) tt;
     }
 
-closes_label_rest : (s : Stage) (old mid : Builder) → IsInFunction s → old.standing.stage ≡ s → ClosesLabel old mid → lines_at s old ≡ header_line mid.len mid.steps ∷ (closed_lines mid ++ open_lines mid)
+closes_label_rest : (s : Stage) (old mid : Builder) → IsInFunction s → old.standing.stage ≡ s → ClosesLabel old mid → lines_at s old ≡ header_line mid.header ∷ (closed_lines mid ++ open_lines mid)
 closes_label_rest stage.Start old mid g e c = absurd g
 closes_label_rest stage.Header old mid g e c = absurd g
-closes_label_rest stage.Function old mid g e c = rw (c.keeps.len, c.keeps.steps) (ap (λ r. header_line old.len old.steps ∷ r) (c.function e))
-closes_label_rest stage.Label old mid g e c = rw (c.keeps.len, c.keeps.steps) (ap (λ r. header_line old.len old.steps ∷ r) (c.label e))
+closes_label_rest stage.Function old mid g e c = rw c.keeps.header (ap (λ r. header_line old.header ∷ r) (c.function e))
+closes_label_rest stage.Label old mid g e c = rw c.keeps.header (ap (λ r. header_line old.header ∷ r) (c.label e))
 closes_label_rest stage.Ended old mid g e c = absurd g
 
 no_place : (o : Option Place) → option_map place_of o ≡ None → o ≡ None
@@ -146,17 +147,17 @@ blank_open : list_all is_unknown (drop 0 (contents blank)) ≡ true
 blank_open = refl
 
 pub built_label : (lines : List Line) (old mid new : Builder) (l : Line) (at base : List ℕ) (ts : _) → IsBuilt lines old → is_ended lines ≡ false → ruled lines (Some l) ≡ Ok l → l ≡ Line.label at base ts → Stands (l ∷ lines) new.standing
-    → ClosesLabel old mid → new.len ≡ mid.len → new.steps ≡ mid.steps → closed_lines new ≡ closed_lines mid → open_lines new ≡ open_lines mid → new.label.state ≡ blank → label_line (label_view new.label) ≡ l → IsSound new → IsBuilt (l ∷ lines) new
-built_label lines old mid new l at base ts built more fine e stands closes a b same opened bare line sound =
+    → ClosesLabel old mid → new.header ≡ mid.header → closed_lines new ≡ closed_lines mid → open_lines new ≡ open_lines mid → new.label.state ≡ blank → label_line (label_view new.label) ≡ l → IsSound new → IsBuilt (l ∷ lines) new
+built_label lines old mid new l at base ts built more fine e stands closes a same opened bare line sound =
     let may : may_have_label (stage_of lines) ≡ true = sym (stand_label lines at base ts) ∙ ap (may_stand lines) (sym e) ∙ (ruled_fine lines l l fine).stands in
     let now : new.standing.stage ≡ stage.Label = stands.stage ∙ ap (λ x. stage_of (x ∷ lines)) e in
-    let before : reverse lines ≡ header_line mid.len mid.steps ∷ (closed_lines mid ++ open_lines mid) = built.spelled ∙ ap (λ s. lines_at s old) built.stands.stage ∙ closes_label_rest (stage_of lines) old mid (in_function lines may more) built.stands.stage closes in
+    let before : reverse lines ≡ header_line mid.header ∷ (closed_lines mid ++ open_lines mid) = built.spelled ∙ ap (λ s. lines_at s old) built.stands.stage ∙ closes_label_rest (stage_of lines) old mid (in_function lines may more) built.stands.stage closes in
     let none : new.standing.place ≡ None = no_place new.standing.place (stands.place ∙ ap (λ x. last_place (x ∷ lines)) e) in
     let here : label_lines (label_view new.label) ≡ l ∷ [] = ap (λ x. x ∷ lines_from 0 (contents new.label.state)) line ∙ ap (λ s. l ∷ lines_from 0 (contents s)) bare in
     record {
       stands = stands;
       sound = sound;
-      spelled = subst (λ s. reverse (l ∷ lines) ≡ lines_at s new) (sym now) (last_end l lines ∙ ap (λ ls. ls ++ l ∷ []) before ∙ rw (a, b, same, opened, here) refl);
+      spelled = subst (λ s. reverse (l ∷ lines) ≡ lines_at s new) (sym now) (last_end l lines ∙ ap (λ ls. ls ++ l ∷ []) before ∙ rw (a, same, opened, here) refl);
       open_places = subst (λ s. IsOpen s new.standing.place new.label.state) (sym now)
           (subst (λ o. IsOpen stage.Label o new.label.state) (sym none) (subst (λ s. IsOpen stage.Label None s) (sym bare) blank_open));
     }
@@ -231,8 +232,8 @@ entry_more old mid p v next entry puts room bare_places =
     rw (puts.slot, puts.budget) (ap (λ ls. label_line (label_view old.label) ∷ ls) said)
 
 pub built_entry : (lines : List Line) (old mid new : Builder) (l : Line) (p : Place) (v : SlotState) → IsBuilt lines old → ruled lines (Some l) ≡ Ok l → l ≡ Line.entry (place_of p) (content_of v) → Stands (l ∷ lines) new.standing
-    → IsEntry p v → Puts p v old mid → new.standing.place ≡ Some p → new.len ≡ mid.len → new.steps ≡ mid.steps → closed_lines new ≡ closed_lines mid → open_lines new ≡ open_lines mid → new.label ≡ mid.label → IsSound new → IsBuilt (l ∷ lines) new
-built_entry lines old mid new l p v built fine e stands entry puts at a b same opened labels sound =
+    → IsEntry p v → Puts p v old mid → new.standing.place ≡ Some p → new.header ≡ mid.header → closed_lines new ≡ closed_lines mid → open_lines new ≡ open_lines mid → new.label ≡ mid.label → IsSound new → IsBuilt (l ∷ lines) new
+built_entry lines old mid new l p v built fine e stands entry puts at a same opened labels sound =
     let f = ruled_fine lines l l fine in
     let may : may_have_entry (stage_of lines) ≡ true = sym (stand_entry lines (place_of p) (content_of v)) ∙ ap (may_stand lines) (sym e) ∙ f.stands in
     let was : old.standing.stage ≡ stage.Label = built.stands.stage ∙ in_label lines may in
@@ -241,14 +242,14 @@ built_entry lines old mid new l p v built fine e stands entry puts at a b same o
     let room : next_index old.standing.place ≤ index_of p = index_rises old.standing.place p built.stands.low_place entry.limited order in
     let bare_places : list_all is_unknown (drop (next_index old.standing.place) (contents old.label.state)) ≡ true = subst (λ s. IsOpen s old.standing.place old.label.state) was built.open_places in
     let here : label_lines (label_view new.label) ≡ label_lines (label_view old.label) ++ l ∷ [] = ap (λ x. label_lines (label_view x)) labels ∙ entry_more old mid p v (next_index old.standing.place) entry puts room bare_places ∙ ap (λ x. label_lines (label_view old.label) ++ x ∷ []) (sym e) in
-    let before : reverse lines ≡ header_line old.len old.steps ∷ ((closed_lines old ++ open_lines old) ++ label_lines (label_view old.label)) = built.spelled ∙ ap (λ s. lines_at s old) was in
+    let before : reverse lines ≡ header_line old.header ∷ ((closed_lines old ++ open_lines old) ++ label_lines (label_view old.label)) = built.spelled ∙ ap (λ s. lines_at s old) was in
     let one_more : next_index old.standing.place ≤ index_of p + 1 = omega arith in
     record {
       stands = stands;
       sound = sound;
       spelled = subst (λ s. reverse (l ∷ lines) ≡ lines_at s new) (sym now) (last_end l lines ∙ ap (λ ls. ls ++ l ∷ []) before
-          ∙ ap (λ ls. header_line old.len old.steps ∷ ls) (append_assoc (closed_lines old ++ open_lines old) (label_lines (label_view old.label)) (l ∷ []))
-          ∙ sym (rw (a, b, puts.keeps.len, puts.keeps.steps, same, puts.functions, opened, puts.function, here) refl));
+          ∙ ap (λ ls. header_line old.header ∷ ls) (append_assoc (closed_lines old ++ open_lines old) (label_lines (label_view old.label)) (l ∷ []))
+          ∙ sym (rw (a, puts.keeps.header, same, puts.functions, opened, puts.function, here) refl));
       open_places = subst (λ s. IsOpen s new.standing.place new.label.state) (sym now) (subst (λ o. IsOpen stage.Label o new.label.state) (sym at)
           (ap (λ s. list_all is_unknown (drop (index_of p + 1) (contents s))) (ap (λ x. x.state) labels) ∙ ap (λ xs. list_all is_unknown (drop (index_of p + 1) xs)) puts.said
           ∙ ap (list_all is_unknown) (behind_put (index_of p) (contents old.label.state) v) ∙ later (next_index old.standing.place) (index_of p + 1) (contents old.label.state) one_more bare_places));

@@ -7,17 +7,19 @@ use Rattle.std.proofs.lemmas.List.Sums.{sum_by-cons}
 use Rattle.bpf_cert.specs.Numeral.{is_from_to}
 use Rattle.bpf_cert.specs.Line.{Line}
 use Rattle.bpf_cert.specs.Faults.{is_rising, comes_after, is_function}
-use Rattle.bpf_cert.specs.View.{LabelView, FunctionView, CertificateView}
+use Rattle.bpf_cert.specs.View.{LabelView, FunctionView, CertificateView, header_of}
 use Rattle.bpf_cert.specs.Limits.{IsCertificate, is_canonical, is_limited, is_canonical_function, is_canonical_label, is_limited_function, is_limited_label, is_limited_num, slot_before, first_before, label_count}
 use Rattle.bpf_cert.specs.Spelling.{label_lines, function_line, function_lines, header_line, certificate_lines, number_of}
 use Rattle.bpf_cert.specs.Standing.{is_start, may_have_label}
+use Rattle.bpf_cert.specs.declared.header.Header.{Header}
 use Rattle.bpf_cert.specs.declared.standing.Stage.{Stage}
 use Rattle.bpf_cert.specs.declared.standing.Stage.TheVariants as stage
-use Rattle.bpf_cert.proofs.NumLemmas.{both_true}
+use Rattle.bpf_cert.proofs.Bools.{both_true}
 use Rattle.bpf_cert.proofs.AfterLemmas.{IsFine}
 use Rattle.bpf_cert.proofs.FineLines.{AreFine}
 use Rattle.bpf_cert.proofs.StandingLemmas.{stand_function, stand_end}
 use Rattle.bpf_cert.proofs.FineParts.{decimal_writes, number_good}
+use Rattle.bpf_cert.proofs.HeaderValues.{header_fine}
 use Rattle.bpf_cert.proofs.FineOrder.{Tells, Runs, back, runs_none, runs_one, runs_append, is_end_stage, ended_is, is_bare_stage, bare_is, label_runs}
 
 -- the labels of a function, one at least, and what they tell but for the last one's slot
@@ -140,16 +142,8 @@ end_fine before first at functions labels t some = record {
   room = rw (t.functions, lt-ltb 0 functions some, bare_is before, t.stage) refl;
 }
 
-header_fine : (len steps : ℕ) → leb len 4096 ≡ true → is_from_to 1 (2 ^ 32 - 1) steps ≡ true → IsFine [] (header_line len steps)
-header_fine len steps e f =
-    let low : len ≤ 4096 = leb-true len 4096 e in
-    let few : steps ≤ 2 ^ 32 - 1 = leb-true steps (2 ^ 32 - 1) (both_true (leb 1 steps) (leb steps (2 ^ 32 - 1)) f).1 in
-    let x = decimal_writes len (omega arith) in
-    let y = decimal_writes steps (omega arith) in
-    record { stands = refl; canonical = rw (x.plain, y.plain) refl; order = refl; limited = rw (x.same, y.same, e, f) refl; room = refl }
-
-header_tells : (len steps : ℕ) → Tells (header_line len steps ∷ []) stage.Header None None 0 0
-header_tells len steps = record { stage = refl; first = refl; at = refl; functions = refl; labels = refl }
+header_tells : (h : Header) → Tells (header_line h ∷ []) stage.Header None None 0 0
+header_tells h = record { stage = refl; first = refl; at = refl; functions = refl; labels = refl }
 
 -- the functions behind the header, and the end behind them
 ended : (fs : List FunctionView) (before : List Line) → Tells before stage.Header None None 0 0 → is_from_to 1 256 (length fs) ≡ true → sum_by label_count fs ≤ 65536
@@ -172,5 +166,4 @@ certificate_fine c e =
     let x = both_true _ (list_all is_limited_function c.functions) both.1 in
     let y = both_true _ (leb (sum_by label_count c.functions) 65536) x.0 in
     let z = both_true _ (is_from_to 1 256 (length c.functions)) y.0 in
-    let head = both_true (leb c.len 4096) (is_from_to 1 (2 ^ 32 - 1) c.steps) z.0 in
-    (refl, header_fine c.len c.steps head.0 head.1, ended c.functions (header_line c.len c.steps ∷ []) (header_tells c.len c.steps) z.1 (leb-true (sum_by label_count c.functions) 65536 y.1) order.0 order.1 x.1)
+    (refl, header_fine (header_of c) z.0, ended c.functions (header_line (header_of c) ∷ []) (header_tells (header_of c)) z.1 (leb-true (sum_by label_count c.functions) 65536 y.1) order.0 order.1 x.1)

@@ -12,7 +12,8 @@ use Rattle.bpf_cert.specs.Reading.{◌>>=◌, or_else, pointer_in, bytes_in, num
 use Rattle.bpf_cert.specs.Seen.{capped_signed}
 use Rattle.bpf_cert.specs.Contents.{digits_of_bounds, are_plain_bounds, are_limited_bounds}
 use Rattle.bpf_cert.proofs.NumeralLaws.{plain_decimal}
-use Rattle.bpf_cert.proofs.NumLemmas.{both_true, not_true, tested_ok, AreBounds, capped_range, in_range, signed_again}
+use Rattle.bpf_cert.proofs.Bools.{both_true}
+use Rattle.bpf_cert.proofs.NumLemmas.{not_true, tested_ok, AreBounds, capped_range, in_range, signed_again}
 use Rattle.bpf_cert.proofs.FindingLemmas.{found_tested}
 use Rattle.bpf_cert.proofs.LineForms.{pointer_is, bytes_is, content_is}
 use Rattle.bpf_cert.specs.declared.finding.Flaw.{Flaw}

@@ -1,7 +1,7 @@
 -- Texts, and what is wrong with them: each line of the table is computed.
 use Rattle.std.proofs.Common.{◌≡◌, ℕ, List, [], ◌∷◌, ◌++◌, take, Some, None, refl}
 use Rattle.std.specs.Prelude.{codes, replicate}
-use Rattle.bpf_cert.specs.Reading.{◌>>=◌, or_else, all_there, cut, behind, numeral_in, end_in, signed_in, range_in, part_in, number_in, pointer_in, bytes_in, content_in, place_in, place_closed_in, measure_in, term_in, header_in, function_in, label_in, entry_in, line_of_fields, line_in}
+use Rattle.bpf_cert.specs.Reading.{◌>>=◌, or_else, all_there, cut, behind, numeral_in, end_in, signed_in, range_in, part_in, number_in, pointer_in, bytes_in, content_in, place_in, place_closed_in, measure_in, term_in, one_length_in, two_lengths_in, header_in, function_in, label_in, entry_in, line_of_fields, line_in}
 use Rattle.bpf_cert.specs.Faults.{judged, rest_fault, fault_from, fault_of, complete, failed, unknown}
 use Rattle.bpf_cert.specs.declared.error.CertError.TheVariants.{Syntax, NotCanonical, Limit, Read}
 
@@ -12,7 +12,7 @@ lines (l ∷ ls) = l ++ 10 ∷ lines ls
 
 -- what the examples compute with
 unfoldable all_words : Unit {0}
-unfolding ◌>>=◌ or_else all_there cut behind numeral_in end_in signed_in range_in part_in number_in pointer_in bytes_in content_in place_in place_closed_in measure_in term_in header_in function_in label_in entry_in line_of_fields line_in judged rest_fault fault_from fault_of
+unfolding ◌>>=◌ or_else all_there cut behind numeral_in end_in signed_in range_in part_in number_in pointer_in bytes_in content_in place_in place_closed_in measure_in term_in one_length_in two_lengths_in header_in function_in label_in entry_in line_of_fields line_in judged rest_fault fault_from fault_of
 all_words = tt
 
 smallest : fault_of complete (lines (codes "bpfcert 1 0 2" ∷ codes "fn 0 1 *" ∷ codes "at 0 2" ∷ codes "end" ∷ [])) ≡ None

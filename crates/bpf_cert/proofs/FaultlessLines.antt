@@ -10,7 +10,7 @@ use Rattle.bpf_cert.specs.Faults.{is_canonical, is_limited, may_stand, is_in_ord
 use Rattle.bpf_cert.specs.declared.error.CertError.{CertError}
 use Rattle.bpf_cert.specs.declared.error.CertError.TheVariants.{Syntax, NotCanonical, Limit}
 use Rattle.bpf_cert.specs.Certificates.{FaultlessIsSpelled}
-use Rattle.bpf_cert.proofs.NumLemmas.{both_true}
+use Rattle.bpf_cert.proofs.Bools.{both_true}
 use Rattle.bpf_cert.proofs.LineForms.{line_exactly}
 use Rattle.bpf_cert.proofs.AfterLemmas.{IsFine}
 use Rattle.bpf_cert.proofs.FineLines.{AreFine}

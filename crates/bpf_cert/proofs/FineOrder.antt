@@ -18,7 +18,7 @@ use Rattle.bpf_state.specs.State.{AbstractState, value_slot}
 use Rattle.bpf_state.specs.declared.state.RegState.{RegState}
 use Rattle.bpf_state.specs.declared.state.RegState.TheVariants as reg
 use Rattle.bpf_state.specs.declared.state.SlotState.{SlotState}
-use Rattle.bpf_cert.proofs.NumLemmas.{both_true}
+use Rattle.bpf_cert.proofs.Bools.{both_true}
 use Rattle.bpf_cert.proofs.AfterLemmas.{IsFine}
 use Rattle.bpf_cert.proofs.FineLines.{AreFine}
 use Rattle.bpf_cert.proofs.StandingLemmas.{stand_label, stand_entry}

@@ -8,7 +8,8 @@ use Rattle.bpf_cert.specs.Line.{Part}
 use Rattle.bpf_cert.specs.Faults.{is_range, is_bits, is_int_range, is_plain_part, is_top, is_limited_part, is_canonical_number, is_limited_number}
 use Rattle.bpf_cert.specs.Limits.{is_limited_num}
 use Rattle.bpf_cert.specs.Spelling.{of_parts, number_of}
-use Rattle.bpf_cert.proofs.NumLemmas.{both_true, in_range}
+use Rattle.bpf_cert.proofs.Bools.{both_true}
+use Rattle.bpf_cert.proofs.NumLemmas.{in_range}
 use Rattle.bpf_cert.proofs.NumeralLaws.{numeral-decimal, is_plain-decimal}
 use Rattle.bpf_num.specs.Number.{Number as AbstractNumber}
 

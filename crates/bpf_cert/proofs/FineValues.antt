@@ -19,7 +19,8 @@ use Rattle.bpf_state.specs.declared.state.SlotState.{SlotState}
 use Rattle.bpf_state.specs.declared.state.SlotState.TheVariants as slot
 use Rattle.bpf_state.specs.declared.state.Place.{Place as PlaceValue}
 use Rattle.bpf_state.specs.declared.state.Place.TheVariants as place
-use Rattle.bpf_cert.proofs.NumLemmas.{both_true, in_range}
+use Rattle.bpf_cert.proofs.Bools.{both_true}
+use Rattle.bpf_cert.proofs.NumLemmas.{in_range}
 use Rattle.bpf_cert.proofs.FineParts.{decimal_writes, digits_write, number_good}
 
 bounds_good : (lo hi : ℤ) → is_pointer_range lo hi ≡ true

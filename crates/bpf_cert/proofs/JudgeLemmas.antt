@@ -4,17 +4,21 @@ use Rattle.std.specs.Prelude.{◌&&◌, option_map, decimal, codes, count_by}
 use Rattle.std.specs.List.{list_all, slice_split}
 use Rattle.std.specs.Str.{bytes_eq}
 use Rattle.bpf_cert.specs.Numeral.{is_numeral, is_plain, number, is_from_to}
-use Rattle.bpf_cert.specs.Line.{Line, Place, Number, Content, Term}
+use Rattle.bpf_cert.specs.Line.{Line, Place, Number, Content, Term, Lengths}
 use Rattle.bpf_cert.specs.Faults.{is_canonical, is_limited, comes_after, place_before, last_first, last_slot, is_function, ends_bare, is_canonical_number, is_limited_number, is_canonical_content, is_limited_content, is_plain_place, is_limited_place, is_rising, is_limited_term}
 use Rattle.bpf_cert.specs.Reading.{number_in, content_in, header_in, function_in, label_in, entry_in, end_in, line_in, line_of_fields}
 use Rattle.bpf_cert.specs.Findings.{tested, found, joined, valued}
 use Rattle.bpf_cert.specs.TermSums.{terms_in, are_canonical_terms, are_limited_terms, is_plain_term, term_before}
 use Rattle.bpf_cert.specs.Spelling.{place_of}
 use Rattle.bpf_cert.specs.Standing.{Stands, HeaderIs, FunctionIs, LabelIs, EntryIs, stage_of, is_start, may_have_label, may_have_entry, ruled, fields_in, uncons}
+use Rattle.bpf_cert.specs.Seen.{header_seen}
+use Rattle.bpf_cert.specs.declared.header.HeaderForm.{HeaderForm}
+use Rattle.bpf_cert.specs.declared.header.HeaderForm.TheVariants as header
 use Rattle.bpf_cert.specs.declared.finding.Flaw.{Flaw}
 use Rattle.bpf_cert.specs.declared.finding.Flaw.TheVariants.{Syntax}
 use Rattle.bpf_cert.specs.declared.standing.Standing.{Standing}
-use Rattle.bpf_cert.proofs.NumLemmas.{both_true, tested_ok}
+use Rattle.bpf_cert.proofs.Bools.{both_true}
+use Rattle.bpf_cert.proofs.NumLemmas.{tested_ok}
 use Rattle.bpf_cert.proofs.FindingLemmas.{joined_ok, found_tested}
 use Rattle.bpf_cert.proofs.StandingLemmas.{stand_header, stand_function, stand_label, stand_entry, stand_end, ruled_never, judged_line, capped_most, capped_between, capped_rises, spelled_again, uncons_none, uncons_some}
 
@@ -22,34 +26,23 @@ and_true : (b : Bool) → (b && true) ≡ b
 and_true true = refl
 and_true false = refl
 
-pub header_ok : (bytes most : List ℕ) (len steps : ℕ) (plain mid limited : Bool) (u : Unit {0}) → is_numeral bytes ≡ true → is_numeral most ≡ true → len ≡ min (number bytes) (2 ^ 64) → steps ≡ min (number most) (2 ^ 64)
-    → plain ≡ (is_plain bytes && is_plain most) → mid ≡ is_from_to 1 4294967295 steps → limited ≡ (leb len 4096 && mid) → tested plain limited ≡ Ok u
-    → Ok (Line.header (decimal len) (decimal steps)) ≡ found is_canonical is_limited (Some (Line.header bytes most))
-header_ok bytes most len steps plain mid limited u digits_b digits_m e f p m l ok =
-    let t = tested_ok plain limited u ok in
-    let plains = both_true (is_plain bytes) (is_plain most) (sym p ∙ t.0) in
-    let limits = both_true (leb len 4096) mid (sym l ∙ t.1) in
-    let low : leb (number bytes) 4096 ≡ true = sym (capped_most (number bytes) 4096 (omega arith)) ∙ ap (λ n. leb n 4096) (sym e) ∙ limits.0 in
-    let range : is_from_to 1 4294967295 (number most) ≡ true = sym (capped_between 1 4294967295 (number most) (omega arith)) ∙ ap (is_from_to 1 4294967295) (sym f) ∙ sym m ∙ limits.1 in
-    let ends = both_true (leb 1 (number most)) (leb (number most) 4294967295) range in
-    let len_again : decimal len ≡ bytes = spelled_again bytes len 4096 digits_b plains.0 e low (omega arith) in
-    let steps_again : decimal steps ≡ most = spelled_again most steps 4294967295 digits_m plains.1 f ends.1 (omega arith) in
-    rw (plains.0, plains.1, low, range, len_again, steps_again) refl
+pub header_never : (before : List Line) (fs : List (List ℕ)) (f : HeaderForm) (b : Bool) → HeaderIs (header_in fs) (Some (header_seen f)) → b ≡ is_start (stage_of before) → b ≡ false → Err Syntax ≡ ruled before (header_in fs)
+header_never before fs f b form e g = rw form.1 (by_form f)
+  where
+    by_form : (f : HeaderForm) → Err Syntax ≡ ruled before (Some (header_seen f))
+    by_form (header.One len steps) = rw (stand_header before (Lengths.one len.now) steps.now ∙ sym e ∙ g) refl
+    by_form (header.Range least most steps) = rw (stand_header before (Lengths.range least.now most.now) steps.now ∙ sym e ∙ g) refl
 
-pub header_err : (bytes most : List ℕ) (len steps : ℕ) (plain mid limited : Bool) (flaw : Flaw) → len ≡ min (number bytes) (2 ^ 64) → steps ≡ min (number most) (2 ^ 64)
-    → plain ≡ (is_plain bytes && is_plain most) → mid ≡ is_from_to 1 4294967295 steps → limited ≡ (leb len 4096 && mid) → tested plain limited ≡ Err flaw
-    → Err flaw ≡ found is_canonical is_limited (Some (Line.header bytes most))
-header_err bytes most len steps plain mid limited flaw e f p m l bad =
-    let keeps : limited ≡ is_limited (Line.header bytes most) = l ∙ ap (λ b. leb len 4096 && b) m ∙ ap (λ n. leb n 4096 && is_from_to 1 4294967295 steps) e ∙ ap (λ b. b && is_from_to 1 4294967295 steps) (capped_most (number bytes) 4096 (omega arith))
-    ∙ ap (λ n. leb (number bytes) 4096 && is_from_to 1 4294967295 n) f ∙ ap (λ b. leb (number bytes) 4096 && b) (capped_between 1 4294967295 (number most) (omega arith)) in
-    ap (valued (λ (u : Unit {0}). Line.header bytes most)) (sym bad ∙ ap (λ b. tested b limited) p ∙ ap (tested (is_canonical (Line.header bytes most))) keeps)
-    ∙ sym (found_tested (is_canonical (Line.header bytes most)) (is_limited (Line.header bytes most)) (Line.header bytes most))
+pub header_ruled : (before : List Line) (fs : List (List ℕ)) (f : HeaderForm) (b : Bool) → HeaderIs (header_in fs) (Some (header_seen f)) → b ≡ is_start (stage_of before) → b ≡ true
+    → found is_canonical is_limited (Some (header_seen f)) ≡ ruled before (header_in fs)
+header_ruled before fs f b form e g = rw form.1 (by_form f)
+  where
+    by_lengths : (l : Lengths) (s : List ℕ) → found is_canonical is_limited (Some (Line.header l s)) ≡ ruled before (Some (Line.header l s))
+    by_lengths l s = rw (stand_header before l s ∙ sym e ∙ g, and_true (is_canonical (Line.header l s)), and_true (is_limited (Line.header l s))) refl
 
-pub header_never : (before : List Line) (fs : List (List ℕ)) (l s : List ℕ) (b : Bool) → HeaderIs fs (Some (l, s)) → b ≡ is_start (stage_of before) → b ≡ false → Err Syntax ≡ ruled before (header_in fs)
-header_never before fs l s b form e f = rw (form.2, stand_header before l s ∙ sym e ∙ f) refl
-
-pub header_ruled : (before : List Line) (fs : List (List ℕ)) (l s : List ℕ) (b : Bool) → HeaderIs fs (Some (l, s)) → b ≡ is_start (stage_of before) → b ≡ true → found is_canonical is_limited (Some (Line.header l s)) ≡ ruled before (header_in fs)
-header_ruled before fs l s b form e f = rw (form.2, stand_header before l s ∙ sym e ∙ f, and_true (is_canonical (Line.header l s)), and_true (is_limited (Line.header l s))) refl
+    by_form : (f : HeaderForm) → found is_canonical is_limited (Some (header_seen f)) ≡ ruled before (Some (header_seen f))
+    by_form (header.One len steps) = by_lengths (Lengths.one len.now) steps.now
+    by_form (header.Range least most steps) = by_lengths (Lengths.range least.now most.now) steps.now
 
 -- what is computed of a function's own fields
 pub record FunctionFacts (before : List Line) (s : Standing) (fs : List (List ℕ)) (first depth text : List ℕ) (slot deep : ℕ) (plain rise canonical mid limited room all : Bool) (own : Result (Unit {0}) Flaw) : Type 0 where

@@ -10,6 +10,9 @@ pub mod CutLemmas
 pub mod NumberLemmas
 pub mod NumLemmas
 pub mod FindingLemmas
+pub mod Bools
+pub mod HeaderForms
+pub mod HeaderValues
 pub mod PieceLemmas
 pub mod PartLemmas
 pub mod ContentLemmas

@@ -5,12 +5,9 @@ use Rattle.std.specs.List.{slice_split, onto_first, join_with_byte, list_all}
 use Rattle.std.specs.Str.{bytes_eq}
 use Rattle.std.proofs.lemmas.Bool.{eq-eqb, ne_eqb, leb-true}
 use Rattle.bpf_cert.specs.Numeral.{is_numeral, is_decimal_digit, SignedDigits}
-use Rattle.bpf_cert.specs.Line.{Part, Number, Content, Place, Measure, Term, Line, signed_text, range_text, part_text, number_text, content_text, place_text, measure_text, term_text, fields, line_text, is_part, is_number, is_content, is_place, is_measure, is_term, is_line}
-use Rattle.bpf_cert.specs.Reading.{◌>>=◌, or_else, all_there, cut, behind, numeral_in, end_in, signed_in, range_in, part_in, number_in, pointer_in, bytes_in, content_in, place_in, place_closed_in, measure_in, term_in, header_in, function_in, label_in, entry_in, line_of_fields, line_in}
-
-both_true : (a b : Bool) → (a && b) ≡ true → (a ≡ true) × (b ≡ true)
-both_true true b e = (refl, e)
-both_true false b e = cc
+use Rattle.bpf_cert.specs.Line.{Part, Number, Content, Place, Measure, Term, Lengths, Line, signed_text, range_text, part_text, number_text, content_text, place_text, measure_text, term_text, fields, line_text, is_part, is_number, is_content, is_place, is_measure, is_term, is_line}
+use Rattle.bpf_cert.specs.Reading.{◌>>=◌, or_else, all_there, cut, behind, numeral_in, end_in, signed_in, range_in, part_in, number_in, pointer_in, bytes_in, content_in, place_in, place_closed_in, measure_in, term_in, one_length_in, two_lengths_in, header_in, function_in, label_in, entry_in, line_of_fields, line_in}
+use Rattle.bpf_cert.proofs.Bools.{both_true}
 
 -- c is not among the bytes
 abbrev Free : ℕ → List ℕ → Type 0
@@ -242,8 +239,11 @@ term_free t e = let both = both_true (is_numeral t.weight) (is_measure t.measure
 -- the fields of a line
 
 fields_again : (l : Line) → is_line l ≡ true → line_of_fields (fields l) ≡ Some l
-unfolding line_of_fields header_in function_in label_in entry_in end_in ◌>>=◌
-fields_again (Line.header len steps) e = let both = both_true (is_numeral len) (is_numeral steps) e in rw (numeral_again len both.0, numeral_again steps both.1) refl
+unfolding line_of_fields one_length_in two_lengths_in header_in function_in label_in entry_in end_in ◌>>=◌
+fields_again (Line.header (Lengths.one len) steps) e = let both = both_true (is_numeral len) (is_numeral steps) e in rw (numeral_again len both.0, numeral_again steps both.1) refl
+fields_again (Line.header (Lengths.range least most) steps) e =
+    let all = both_true (is_numeral least && is_numeral most) (is_numeral steps) e in let both = both_true (is_numeral least) (is_numeral most) all.0 in
+    rw (numeral_again least both.0, numeral_again most both.1, numeral_again steps all.1) refl
 fields_again (Line.function first depth ret) e =
     let most = both_true (is_numeral first && is_numeral depth) (is_number ret) e in let both = both_true (is_numeral first) (is_numeral depth) most.0 in
     rw (numeral_again first both.0, numeral_again depth both.1, number_again ret most.1) refl
@@ -259,9 +259,14 @@ fields_again Line.end e = refl
 -- what is spelled as a line is read as that line
 pub line_again : (l : Line) → is_line l ≡ true → line_in (line_text l) ≡ Some l
 unfolding line_in AllFree
-line_again (Line.header len steps) e = let both = both_true (is_numeral len) (is_numeral steps) e in
+line_again (Line.header (Lengths.one len) steps) e = let both = both_true (is_numeral len) (is_numeral steps) e in
     ap line_of_fields (split_again 32 (codes "bpfcert") (codes "1" ∷ len ∷ steps ∷ [])
-    ((refl, (refl, (refl, (refl, (refl, (refl, (refl, tt))))))), ((refl, tt), (numeral_free 32 len space.digits both.0, (numeral_free 32 steps space.digits both.1, tt))))) ∙ fields_again (Line.header len steps) e
+    ((refl, (refl, (refl, (refl, (refl, (refl, (refl, tt))))))), ((refl, tt), (numeral_free 32 len space.digits both.0, (numeral_free 32 steps space.digits both.1, tt))))) ∙ fields_again (Line.header (Lengths.one len) steps) e
+line_again (Line.header (Lengths.range least most) steps) e =
+    let all = both_true (is_numeral least && is_numeral most) (is_numeral steps) e in let both = both_true (is_numeral least) (is_numeral most) all.0 in
+    ap line_of_fields (split_again 32 (codes "bpfcert") (codes "2" ∷ least ∷ most ∷ steps ∷ [])
+    ((refl, (refl, (refl, (refl, (refl, (refl, (refl, tt))))))), ((refl, tt), (numeral_free 32 least space.digits both.0, (numeral_free 32 most space.digits both.1, (numeral_free 32 steps space.digits all.1, tt))))))
+    ∙ fields_again (Line.header (Lengths.range least most) steps) e
 line_again (Line.function first depth ret) e =
     let most = both_true (is_numeral first && is_numeral depth) (is_number ret) e in let both = both_true (is_numeral first) (is_numeral depth) most.0 in
     ap line_of_fields (split_again 32 (codes "fn") (first ∷ depth ∷ number_text ret ∷ [])

@@ -4,8 +4,8 @@ use Rattle.std.specs.Prelude.{codes, ◌&&◌, ◌↔◌}
 use Rattle.std.specs.List.{slice_split, onto_first, list_all}
 use Rattle.std.specs.Str.{bytes_eq}
 use Rattle.bpf_cert.specs.Numeral.{is_numeral}
-use Rattle.bpf_cert.specs.Line.{Part, Number, Content, Place, Measure, Line, part_text, line_text, is_part, is_number, is_content, is_place, is_measure, is_term, is_line}
-use Rattle.bpf_cert.specs.Reading.{all_there, cut, behind, numeral_in, end_in, signed_in, range_in, part_in, number_in, pointer_in, bytes_in, content_in, place_in, place_closed_in, measure_in, term_in, header_in, function_in, label_in, entry_in, line_of_fields, line_in}
+use Rattle.bpf_cert.specs.Line.{Part, Number, Content, Place, Measure, Lengths, Line, part_text, line_text, is_part, is_number, is_content, is_place, is_measure, is_term, is_line}
+use Rattle.bpf_cert.specs.Reading.{all_there, cut, behind, numeral_in, end_in, signed_in, range_in, part_in, number_in, pointer_in, bytes_in, content_in, place_in, place_closed_in, measure_in, term_in, one_length_in, two_lengths_in, header_in, function_in, label_in, entry_in, line_of_fields, line_in}
 use Rattle.bpf_cert.proofs.LineLaws.{Gives, none_gives, some_gives, bind_gives, or_gives, if_gives, choice_gives, all_gives, part_gives, line_spelled}
 use Rattle.bpf_cert.proofs.LineAgain.{line_again}
 
@@ -106,13 +106,25 @@ term_is text = bind_gives (any (behind (codes "+") text)) (λ product u. bind_gi
 IsLine : Line → Type 0
 IsLine l = is_line l ≡ true
 
+one_length_is : (rest : List (List ℕ)) → Gives (one_length_in rest) IsLine
+unfolding one_length_in IsLine
+one_length_is [] = none_gives
+one_length_is (len ∷ []) = none_gives
+one_length_is (len ∷ steps ∷ []) = bind_gives (numeral_is len) (λ l h. bind_gives (numeral_is steps) (λ s k. some_gives (Line.header (Lengths.one l) s) (both h k)))
+one_length_is (len ∷ steps ∷ x ∷ more) = none_gives
+
+two_lengths_are : (rest : List (List ℕ)) → Gives (two_lengths_in rest) IsLine
+unfolding two_lengths_in IsLine
+two_lengths_are [] = none_gives
+two_lengths_are (least ∷ []) = none_gives
+two_lengths_are (least ∷ most ∷ []) = none_gives
+two_lengths_are (least ∷ most ∷ steps ∷ []) = bind_gives (numeral_is least) (λ l g. bind_gives (numeral_is most) (λ m h. bind_gives (numeral_is steps) (λ s k. some_gives (Line.header (Lengths.range l m) s) (both (both g h) k))))
+two_lengths_are (least ∷ most ∷ steps ∷ x ∷ more) = none_gives
+
 header_is : (rest : List (List ℕ)) → Gives (header_in rest) IsLine
-unfolding header_in IsLine
+unfolding header_in
 header_is [] = none_gives
-header_is (v ∷ []) = none_gives
-header_is (v ∷ len ∷ []) = none_gives
-header_is (v ∷ len ∷ steps ∷ []) = if_gives (bytes_eq v (codes "1")) (λ e. bind_gives (numeral_is len) (λ l h. bind_gives (numeral_is steps) (λ s k. some_gives (Line.header l s) (both h k))))
-header_is (v ∷ len ∷ steps ∷ x ∷ more) = none_gives
+header_is (v ∷ rest) = choice_gives (bytes_eq v (codes "1")) (λ e. one_length_is rest) (λ _. choice_gives (bytes_eq v (codes "2")) (λ e. two_lengths_are rest) (λ _. none_gives))
 
 function_is : (rest : List (List ℕ)) → Gives (function_in rest) IsLine
 unfolding function_in IsLine

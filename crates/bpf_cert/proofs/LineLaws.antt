@@ -6,8 +6,9 @@ use Rattle.std.specs.Str.{bytes_eq}
 use Rattle.std.proofs.lemmas.Bool.{eqb-true}
 use Rattle.std.proofs.lemmas.List.Splits.{join_with_byte-slice_split}
 use Rattle.bpf_cert.specs.Numeral.{is_numeral}
-use Rattle.bpf_cert.specs.Line.{Part, Number, Content, Place, Measure, Line, signed_text, range_text, part_text, number_text, content_text, place_text, measure_text, term_text, fields, line_text}
-use Rattle.bpf_cert.specs.Reading.{◌>>=◌, or_else, all_there, cut, behind, numeral_in, end_in, signed_in, range_in, part_in, number_in, pointer_in, bytes_in, content_in, place_in, place_closed_in, measure_in, term_in, header_in, function_in, label_in, entry_in, line_of_fields, line_in}
+use Rattle.bpf_cert.specs.Line.{Part, Number, Content, Place, Measure, Lengths, Line, signed_text, range_text, part_text, number_text, content_text, place_text, measure_text, term_text, fields, line_text}
+use Rattle.bpf_cert.specs.Reading.{◌>>=◌, or_else, all_there, cut, behind, numeral_in, end_in, signed_in, range_in, part_in, number_in, pointer_in, bytes_in, content_in, place_in, place_closed_in, measure_in, term_in, one_length_in, two_lengths_in, header_in, function_in, label_in, entry_in, line_of_fields, line_in}
+use Rattle.bpf_cert.proofs.Bools.{both_true}
 
 -- what is there has the property
 pub record Gives {A : Type 0} (o : Option A) (P : A → Type 0) : Type 0 where
@@ -100,10 +101,6 @@ all_gives read text_of each [] = some_gives [] refl
 all_gives read text_of each (t ∷ ts) = bind_gives (each t) (λ x h. bind_gives (all_gives read text_of each ts) (λ xs k.
     some_gives (x ∷ xs) (ap (λ z. z ∷ ts) h ∙ ap (λ z. text_of x ∷ z) k)))
 
-both_true : (a b : Bool) → (a && b) ≡ true → (a ≡ true) × (b ≡ true)
-both_true true b e = (refl, e)
-both_true false b e = cc
-
 equal_texts : (a b : List ℕ) → bytes_eq a b ≡ true → a ≡ b
 equal_texts [] [] e = refl
 equal_texts [] (y ∷ b) e = cc
@@ -164,15 +161,33 @@ term_gives text = bind_gives (behind_gives (codes "+") text) (λ product h. bind
 abbrev HasFields : List ℕ → List (List ℕ) → Line → Type 0
 HasFields name rest l = name ∷ rest ≡ fields l
 
+one_length_gives : (rest : List (List ℕ)) → Gives (one_length_in rest) (HasFields (codes "bpfcert") (codes "1" ∷ rest))
+unfolding one_length_in
+one_length_gives [] = none_gives
+one_length_gives (len ∷ []) = none_gives
+one_length_gives (len ∷ steps ∷ []) = bind_gives (numeral_gives len) (λ l h. bind_gives (numeral_gives steps) (λ s k.
+    some_gives (Line.header (Lengths.one l) s) (ap (λ z. codes "bpfcert" ∷ codes "1" ∷ z ∷ steps ∷ []) h ∙ ap (λ z. codes "bpfcert" ∷ codes "1" ∷ l ∷ z ∷ []) k)))
+one_length_gives (len ∷ steps ∷ x ∷ more) = none_gives
+
+two_lengths_give : (rest : List (List ℕ)) → Gives (two_lengths_in rest) (HasFields (codes "bpfcert") (codes "2" ∷ rest))
+unfolding two_lengths_in
+two_lengths_give [] = none_gives
+two_lengths_give (least ∷ []) = none_gives
+two_lengths_give (least ∷ most ∷ []) = none_gives
+two_lengths_give (least ∷ most ∷ steps ∷ []) = bind_gives (numeral_gives least) (λ l g. bind_gives (numeral_gives most) (λ m h. bind_gives (numeral_gives steps) (λ s k.
+    some_gives (Line.header (Lengths.range l m) s) (ap (λ z. codes "bpfcert" ∷ codes "2" ∷ z ∷ most ∷ steps ∷ []) g
+    ∙ ap (λ z. codes "bpfcert" ∷ codes "2" ∷ l ∷ z ∷ steps ∷ []) h ∙ ap (λ z. codes "bpfcert" ∷ codes "2" ∷ l ∷ m ∷ z ∷ []) k))))
+two_lengths_give (least ∷ most ∷ steps ∷ x ∷ more) = none_gives
+
+-- of the version that the test found
+version_gives : (v word : List ℕ) (rest : List (List ℕ)) (o : Option Line) → bytes_eq v word ≡ true → Gives o (HasFields (codes "bpfcert") (word ∷ rest)) → Gives o (HasFields (codes "bpfcert") (v ∷ rest))
+version_gives v word rest o e g = subst (λ z. Gives o (HasFields (codes "bpfcert") (z ∷ rest))) (sym (equal_texts v word e)) g
+
 header_gives : (rest : List (List ℕ)) → Gives (header_in rest) (HasFields (codes "bpfcert") rest)
 unfolding header_in
 header_gives [] = none_gives
-header_gives (v ∷ []) = none_gives
-header_gives (v ∷ len ∷ []) = none_gives
-header_gives (v ∷ len ∷ steps ∷ []) = if_gives (bytes_eq v (codes "1")) (λ e. bind_gives (numeral_gives len) (λ l h. bind_gives (numeral_gives steps) (λ s k.
-    some_gives (Line.header l s) (ap (λ z. codes "bpfcert" ∷ z ∷ len ∷ steps ∷ []) (equal_texts v (codes "1") e)
-    ∙ ap (λ z. codes "bpfcert" ∷ codes "1" ∷ z ∷ steps ∷ []) h ∙ ap (λ z. codes "bpfcert" ∷ codes "1" ∷ l ∷ z ∷ []) k))))
-header_gives (v ∷ len ∷ steps ∷ x ∷ more) = none_gives
+header_gives (v ∷ rest) = choice_gives (bytes_eq v (codes "1")) (λ e. version_gives v (codes "1") rest _ e (one_length_gives rest))
+    (λ _. choice_gives (bytes_eq v (codes "2")) (λ e. version_gives v (codes "2") rest _ e (two_lengths_give rest)) (λ _. none_gives))
 
 function_gives : (rest : List (List ℕ)) → Gives (function_in rest) (HasFields (codes "fn") rest)
 unfolding function_in

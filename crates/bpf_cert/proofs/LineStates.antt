@@ -17,7 +17,7 @@ use Rattle.bpf_cert.specs.Numeral.{number}
 use Rattle.bpf_cert.specs.Line.{Line, Place as PlaceText}
 use Rattle.bpf_cert.specs.Limits.{is_limited_register, is_limited_slot, is_limited_state, is_canonical_state, is_frame_end, has_shape}
 use Rattle.bpf_cert.specs.Spelling.{content_of, is_unknown, place_at, contents, lines_from}
-use Rattle.bpf_cert.proofs.NumLemmas.{both_true}
+use Rattle.bpf_cert.proofs.Bools.{both_true}
 use Rattle.bpf_cert.proofs.LineValues.{number_again, content_said, content_again}
 
 -- the number of a place among those that have lines

@@ -25,7 +25,8 @@ use Rattle.bpf_insn.specs.declared.instruction.Reg.{Reg}
 use Rattle.bpf_insn.specs.declared.instruction.Reg.TheVariants.{R0, R1, R2, R3, R4, R5, R6, R7, R8, R9, R10}
 use Rattle.bpf_insn.specs.Instruction.{register_number}
 use Rattle.bpf_cert.proofs.NumeralLaws.{numeral-decimal}
-use Rattle.bpf_cert.proofs.NumLemmas.{both_true, in_range}
+use Rattle.bpf_cert.proofs.Bools.{both_true}
+use Rattle.bpf_cert.proofs.NumLemmas.{in_range}
 
 pub number_again : (n : ℕ) → n < 2 ^ 64 → number (decimal n) ≡ n
 number_again n small = (numeral-decimal n small).1

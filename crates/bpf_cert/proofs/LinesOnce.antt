@@ -10,10 +10,11 @@ use Rattle.bpf_cert.specs.declared.certificate.Term.{Term as TermValue}
 use Rattle.bpf_cert.specs.Numeral.{number, is_from_to}
 use Rattle.bpf_cert.specs.Line.{Number, Term, Line}
 use Rattle.bpf_cert.specs.Faults.{is_rising}
-use Rattle.bpf_cert.specs.View.{LabelView, FunctionView, CertificateView}
-use Rattle.bpf_cert.specs.Limits.{IsCertificate, is_canonical, is_limited, is_canonical_state, term_before, is_canonical_label, slot_before, is_canonical_function, first_before, is_limited_num, is_limited_state, is_limited_term, is_limited_label, is_limited_function, label_count}
-use Rattle.bpf_cert.specs.Spelling.{number_of, content_of, term_of, is_unknown, place_at, contents, lines_from, label_lines, function_lines, certificate_lines}
-use Rattle.bpf_cert.proofs.NumLemmas.{both_true}
+use Rattle.bpf_cert.specs.View.{LabelView, FunctionView, CertificateView, certificate_of, header_of}
+use Rattle.bpf_cert.specs.Limits.{IsCertificate, is_canonical, is_limited, is_limited_header, is_canonical_state, term_before, is_canonical_label, slot_before, is_canonical_function, first_before, is_limited_num, is_limited_state, is_limited_term, is_limited_label, is_limited_function, label_count}
+use Rattle.bpf_cert.specs.Spelling.{number_of, content_of, term_of, lengths_of, is_unknown, place_at, contents, lines_from, label_lines, function_lines, certificate_lines}
+use Rattle.bpf_cert.proofs.Bools.{both_true}
+use Rattle.bpf_cert.proofs.HeaderValues.{header_said, header_again}
 use Rattle.bpf_cert.proofs.LineValues.{number_again, number_said, num_again, term_said, terms_again}
 use Rattle.bpf_cert.proofs.LineStates.{contents_said, state_said, entries_again}
 
@@ -43,7 +44,7 @@ function_line_told first depth ret t = one_function t.labels t.functions (number
 
 abbrev told : List Line → Told
 told [] = record { entries = []; labels = []; functions = [] }
-told (Line.header len steps ∷ ls) = told ls
+told (Line.header lengths steps ∷ ls) = told ls
 told (Line.function first depth ret ∷ ls) = function_line_told first depth ret (told ls)
 told (Line.label at base terms ∷ ls) = label_line_told at base terms (told ls)
 told (Line.entry p c ∷ ls) = one_entry (Line.entry p c) (told ls)
@@ -116,27 +117,20 @@ functions_told (f ∷ fs) e h =
     ∙ ap (λ n. said f.first n (number_said (number_of f.ret))) (number_again f.depth (omega arith))
     ∙ ap (said f.first f.depth) (num_again f.ret c.1)
 
-abbrev one_certificate : ℕ → ℕ → List FunctionView → CertificateView
-one_certificate len steps fs = record { len = len; steps = steps; functions = fs }
-
 -- the certificate that lines are of
 abbrev certificate_said : List Line → CertificateView
-certificate_said (Line.header len steps ∷ ls) = one_certificate (number len) (number steps) (told ls).functions
-certificate_said ls = one_certificate 0 0 (told ls).functions
+certificate_said (Line.header lengths steps ∷ ls) = certificate_of (header_said lengths steps) (told ls).functions
+certificate_said ls = certificate_of (record { version = 0; least = 0; most = 0; steps = 0 }) (told ls).functions
 
 certificate_again : (c : CertificateView) → IsCertificate c → certificate_said (certificate_lines c) ≡ c
 certificate_again c valid =
     let parts = both_true (is_canonical c) (is_limited c) valid in
     let ordered = both_true (is_rising first_before c.functions) (list_all is_canonical_function c.functions) parts.0 in
-    let a = both_true (leb c.len 4096 && is_from_to 1 (2 ^ 32 - 1) c.steps && is_from_to 1 256 (length c.functions) && leb (sum_by label_count c.functions) 65536) (list_all is_limited_function c.functions) parts.1 in
-    let b = both_true (leb c.len 4096 && is_from_to 1 (2 ^ 32 - 1) c.steps && is_from_to 1 256 (length c.functions)) (leb (sum_by label_count c.functions) 65536) a.0 in
-    let d = both_true (leb c.len 4096 && is_from_to 1 (2 ^ 32 - 1) c.steps) (is_from_to 1 256 (length c.functions)) b.0 in
-    let f = both_true (leb c.len 4096) (is_from_to 1 (2 ^ 32 - 1) c.steps) d.0 in
-    let short : c.len ≤ 4096 = leb-true c.len 4096 f.0 in
-    let few : c.steps ≤ 2 ^ 32 - 1 = leb-true c.steps (2 ^ 32 - 1) (both_true (leb 1 c.steps) (leb c.steps (2 ^ 32 - 1)) f.1).1 in
-    ap (λ t. one_certificate (number (decimal c.len)) (number (decimal c.steps)) t.functions) (functions_told c.functions ordered.1 a.1)
-    ∙ ap (λ n. one_certificate n (number (decimal c.steps)) c.functions) (number_again c.len (omega arith))
-    ∙ ap (λ n. one_certificate c.len n c.functions) (number_again c.steps (omega arith))
+    let a = both_true (is_limited_header (header_of c) && is_from_to 1 256 (length c.functions) && leb (sum_by label_count c.functions) 65536) (list_all is_limited_function c.functions) parts.1 in
+    let b = both_true (is_limited_header (header_of c) && is_from_to 1 256 (length c.functions)) (leb (sum_by label_count c.functions) 65536) a.0 in
+    let d = both_true (is_limited_header (header_of c)) (is_from_to 1 256 (length c.functions)) b.0 in
+    ap (λ t. certificate_of (header_said (lengths_of c.version c.least c.most) (decimal c.steps)) t.functions) (functions_told c.functions ordered.1 a.1)
+    ∙ ap (λ h. certificate_of h c.functions) (header_again (header_of c) d.0)
 
 -- two certificates with the same lines are one
 pub lines_once : (c d : CertificateView) → IsCertificate c → IsCertificate d → certificate_lines c ≡ certificate_lines d → c ≡ d

@@ -13,10 +13,7 @@ use Rattle.bpf_cert.specs.Sums.{single, is_whole, is_whole_signed, least, greate
 use Rattle.bpf_cert.proofs.NumeralLaws.{plain_decimal}
 use Rattle.bpf_cert.specs.declared.finding.Flaw.{Flaw}
 use Rattle.bpf_cert.specs.declared.finding.Flaw.TheVariants as flaws
-
-pub both_true : (a b : Bool) → (a && b) ≡ true → (a ≡ true) × (b ≡ true)
-both_true true b e = (refl, e)
-both_true false b e = cc
+use Rattle.bpf_cert.proofs.Bools.{both_true}
 
 pub not_true : (a : Bool) → not a ≡ true → a ≡ false
 not_true true e = cc

@@ -5,6 +5,7 @@ use Rattle.bpf_cert.proofs.NumeralLaws.{plain_decimal}
 use Rattle.std.specs.List.{list_all}
 use Rattle.std.proofs.lemmas.Bool.{leb-true, eq-eqb, lt-ltb, le-ltb, ltb-true, ltb-false}
 use Rattle.bpf_cert.specs.Numeral.{is_decimal_digit, is_numeral, number, number_after, is_plain}
+use Rattle.bpf_cert.proofs.Bools.{both_true}
 
 one_more : (n : ℕ) (ds : List ℕ) (i : ℕ) → i < length ds → number_after n (take (suc i) ds) ≡ number_after n (take i ds) * 10 + (get_or ds i 0 - 48)
 one_more n [] i h = absurd (omega arith)
@@ -18,10 +19,6 @@ next_digit ds i m h e = let more : number (take (i + 1) ds) ≡ number (take i d
 grows : (n : ℕ) (ds : List ℕ) → n ≤ number_after n ds
 grows n [] = omega arith
 grows n (d ∷ ds) = omega (arith, grows (n * 10 + (d - 48)) ds)
-
-both_true : (a b : Bool) → (a && b) ≡ true → (a ≡ true) × (b ≡ true)
-both_true true b e = (refl, e)
-both_true false b e = cc
 
 digit : (d : ℕ) → is_decimal_digit d ≡ true → (48 ≤ d) × (d ≤ 57)
 digit d e = let ends = both_true (leb 48 d) (leb d 57) e in (leb-true 48 d ends.0, leb-true d 57 ends.1)

@@ -9,10 +9,7 @@ use Rattle.std.proofs.lemmas.Str.{digit_value_digit}
 use Rattle.std.proofs.lemmas.Str.Parse.{IsNumeralModel, digit_from_value, numerals_by_fold, tells_digits}
 use Rattle.std.proofs.lemmas.Fmt.{decimal_is_IsNumeral, decimal-digits_value, digits_value-decimal, first_decimal}
 use Rattle.bpf_cert.specs.Numeral.{is_decimal_digit, is_numeral, number, number_after, is_plain}
-
-both_true : (a b : Bool) → (a && b) ≡ true → (a ≡ true) × (b ≡ true)
-both_true true b e = (refl, e)
-both_true false b e = cc
+use Rattle.bpf_cert.proofs.Bools.{both_true}
 
 both : {a b : Bool} → a ≡ true → b ≡ true → (a && b) ≡ true
 both {a} {b} e f = rw (e, f) refl

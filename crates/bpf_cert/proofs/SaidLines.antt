@@ -4,15 +4,15 @@ use Rattle.std.specs.Prelude.{count_by, sum_by}
 use Rattle.std.specs.List.{list_all}
 use Rattle.std.proofs.lemmas.Bool.{leb-true, ltb-true, le-leb}
 use Rattle.std.proofs.lemmas.List.Sums.{sum_by-cons}
-use Rattle.bpf_cert.specs.Numeral.{number, is_numeral, is_plain, is_from_to}
-use Rattle.bpf_cert.specs.Line.{Line, is_line}
+use Rattle.bpf_cert.specs.Numeral.{is_from_to}
+use Rattle.bpf_cert.specs.Line.{Line, Lengths, is_line}
 use Rattle.bpf_cert.specs.Faults.{is_function, is_label, ends_bare, is_limited_place, is_limited_content}
-use Rattle.bpf_cert.specs.View.{CertificateView}
+use Rattle.bpf_cert.specs.View.{CertificateView, certificate_of}
 use Rattle.bpf_cert.specs.Limits.{IsCertificate, label_count}
 use Rattle.bpf_cert.specs.Spelling.{lines_from, label_lines, function_lines, certificate_lines}
 use Rattle.bpf_cert.specs.Standing.{stage_of, is_start}
-use Rattle.bpf_cert.proofs.NumLemmas.{both_true}
-use Rattle.bpf_cert.proofs.NumeralLaws.{plain_decimal}
+use Rattle.bpf_cert.proofs.Bools.{both_true}
+use Rattle.bpf_cert.proofs.HeaderValues.{header_said, header_back}
 use Rattle.bpf_cert.proofs.AfterLemmas.{IsFine}
 use Rattle.bpf_cert.proofs.FineLines.{AreFine}
 use Rattle.bpf_cert.proofs.StandingLemmas.{stand_header}
@@ -25,7 +25,7 @@ not_behind before (l ∷ ls) f = let no = f.0 in cc
 
 said : (front before : List Line) → AreFine before (front ++ Line.end ∷ []) → list_all is_line front ≡ true → Here before → Said before (front ++ Line.end ∷ [])
 said [] before f form here = said_end before here f.1
-said (Line.header len steps ∷ ls) before f form here = absurd (not_both (is_start (stage_of before)) (sym (stand_header before len steps) ∙ f.1.stands) here.going)
+said (Line.header lengths steps ∷ ls) before f form here = absurd (not_both (is_start (stage_of before)) (sym (stand_header before lengths steps) ∙ f.1.stands) here.going)
 said (Line.function first depth ret ∷ ls) before f form here =
     let parts = both_true (is_line (Line.function first depth ret)) (list_all is_line ls) form in
     let fine = f.1 in
@@ -50,13 +50,9 @@ pub record AreOf (ls : List Line) (c : CertificateView) : Type 0 where
   pub valid : IsCertificate c
   pub same : certificate_lines c ≡ ls
 
-behind_header : (len steps : List ℕ) (ls : List Line) → IsFine [] (Line.header len steps) → is_line (Line.header len steps) ≡ true → Said (Line.header len steps ∷ []) ls → (c : CertificateView) × AreOf (Line.header len steps ∷ ls) c
-behind_header len steps ls fine is s =
-    let form = both_true (is_numeral len) (is_numeral steps) is in
-    let plain = both_true (is_plain len) (is_plain steps) fine.canonical in
-    let limited = both_true (leb (number len) 4096) (is_from_to 1 (2 ^ 32 - 1) (number steps)) fine.limited in
-    let short : number len ≤ 4096 = leb-true (number len) 4096 limited.0 in
-    let few : number steps ≤ 2 ^ 32 - 1 = leb-true (number steps) (2 ^ 32 - 1) (both_true (leb 1 (number steps)) (leb (number steps) (2 ^ 32 - 1)) limited.1).1 in
+behind_header : (lengths : Lengths) (steps : List ℕ) (ls : List Line) → IsFine [] (Line.header lengths steps) → is_line (Line.header lengths steps) ≡ true → Said (Line.header lengths steps ∷ []) ls → (c : CertificateView) × AreOf (Line.header lengths steps ∷ ls) c
+behind_header lengths steps ls fine is s =
+    let head = header_back lengths steps fine is in
     let none : s.entries ≡ [] = nothing s.entries s.places.long in
     let tail = flat_map function_lines s.functions ++ Line.end ∷ [] in
     let behind : ls ≡ tail = s.same ∙ ap (λ cs. lines_from 74 cs ++ (flat_map label_lines s.labels ++ tail)) none ∙ ap (λ xs. flat_map label_lines xs ++ tail) (s.header refl) in
@@ -65,18 +61,18 @@ behind_header len steps ls fine is s =
     let labels : 0 + (length s.labels + sum_by label_count s.functions) ≤ 65536 = s.few_labels in
     let sum : sum_by label_count s.functions ≤ 65536 = omega arith in
     let count : is_from_to 1 256 (length s.functions) ≡ true = rw (le-leb 1 (length s.functions) (omega arith), le-leb (length s.functions) 256 (omega arith)) refl in (
-      record { len = number len; steps = number steps; functions = s.functions },
+      certificate_of (header_said lengths steps) s.functions,
       record {
-        valid = rw (rises first_of None s.functions s.firsts, s.canonical_functions, limited.0, limited.1, count, le-leb (sum_by label_count s.functions) 65536 sum, s.limited_functions) refl;
-        same = rw (plain_decimal len form.0 plain.0 (omega arith), plain_decimal steps form.1 plain.1 (omega arith)) (ap (λ z. Line.header len steps ∷ z) (sym behind));
+        valid = rw (rises first_of None s.functions s.firsts, s.canonical_functions, head.0, count, le-leb (sum_by label_count s.functions) 65536 sum, s.limited_functions) refl;
+        same = ap (λ z. z ∷ tail) head.1 ∙ ap (λ z. Line.header lengths steps ∷ z) (sym behind);
       },
     )
 
 pub lines_said : (front : List Line) → AreFine [] (front ++ Line.end ∷ []) → list_all is_line front ≡ true → (c : CertificateView) × AreOf (front ++ Line.end ∷ []) c
 lines_said [] f form = let no = f.1.stands in cc
-lines_said (Line.header len steps ∷ ls) f form =
-    let parts = both_true (is_line (Line.header len steps)) (list_all is_line ls) form in
-    behind_header len steps (ls ++ Line.end ∷ []) f.1 parts.0 (said ls (Line.header len steps ∷ []) f.2 parts.1 (record { going = refl; functions = omega arith; labels = omega arith; place = tt }))
+lines_said (Line.header lengths steps ∷ ls) f form =
+    let parts = both_true (is_line (Line.header lengths steps)) (list_all is_line ls) form in
+    behind_header lengths steps (ls ++ Line.end ∷ []) f.1 parts.0 (said ls (Line.header lengths steps ∷ []) f.2 parts.1 (record { going = refl; functions = omega arith; labels = omega arith; place = tt }))
 lines_said (Line.function first depth ret ∷ ls) f form = let no = f.1.stands in cc
 lines_said (Line.label at base terms ∷ ls) f form = let no = f.1.stands in cc
 lines_said (Line.entry p c ∷ ls) f form = let no = f.1.stands in cc

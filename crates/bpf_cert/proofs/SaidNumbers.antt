@@ -13,7 +13,8 @@ use Rattle.bpf_cert.specs.Limits.{is_limited_num}
 use Rattle.bpf_cert.specs.Sums.{least, greatest}
 use Rattle.bpf_cert.specs.Spelling.{unsigned_parts, signed_parts, bits_parts, of_parts, number_of}
 use Rattle.bpf_cert.proofs.NumeralLaws.{plain_decimal}
-use Rattle.bpf_cert.proofs.NumLemmas.{both_true, not_true, in_range, plain_signed}
+use Rattle.bpf_cert.proofs.Bools.{both_true}
+use Rattle.bpf_cert.proofs.NumLemmas.{not_true, in_range, plain_signed}
 use Rattle.bpf_cert.proofs.LineValues.{unsigned_said, signed_said, bits_said, number_said}
 
 -- a part that is refused for nothing by itself

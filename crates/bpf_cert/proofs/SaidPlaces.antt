@@ -11,7 +11,7 @@ use Rattle.bpf_cert.specs.Faults.{is_plain_place, is_limited_place, place_before
 use Rattle.bpf_cert.specs.Limits.{is_limited_slot}
 use Rattle.bpf_cert.specs.Spelling.{lines_from}
 use Rattle.bpf_cert.specs.Standing.{stage_of, may_have_entry}
-use Rattle.bpf_cert.proofs.NumLemmas.{both_true}
+use Rattle.bpf_cert.proofs.Bools.{both_true}
 use Rattle.bpf_cert.proofs.LineValues.{content_said}
 use Rattle.bpf_cert.proofs.LineStates.{place_index}
 use Rattle.bpf_cert.proofs.SaidValues.{IsKept, place_kept, place_inside}

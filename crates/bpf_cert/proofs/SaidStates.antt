@@ -11,7 +11,7 @@ use Rattle.bpf_state.specs.declared.state.SlotState.{SlotState}
 use Rattle.bpf_state.specs.declared.state.SlotState.TheVariants as slot
 use Rattle.bpf_cert.specs.Limits.{is_canonical_state, is_limited_state, is_limited_register, is_limited_slot}
 use Rattle.bpf_cert.specs.Spelling.{contents}
-use Rattle.bpf_cert.proofs.NumLemmas.{both_true}
+use Rattle.bpf_cert.proofs.Bools.{both_true}
 use Rattle.bpf_cert.proofs.LineStates.{state_said}
 
 -- the content is what a register may have

@@ -16,7 +16,8 @@ use Rattle.bpf_cert.specs.Spelling.{lines_from, label_lines, function_line, func
 use Rattle.bpf_cert.specs.Standing.{stage_of, is_start, may_have_label, may_have_entry}
 use Rattle.bpf_cert.specs.declared.standing.Stage.{Stage}
 use Rattle.bpf_cert.specs.declared.standing.Stage.TheVariants as stage
-use Rattle.bpf_cert.proofs.NumLemmas.{both_true, not_true}
+use Rattle.bpf_cert.proofs.Bools.{both_true}
+use Rattle.bpf_cert.proofs.NumLemmas.{not_true}
 use Rattle.bpf_cert.proofs.NumeralLaws.{plain_decimal}
 use Rattle.bpf_cert.proofs.AfterLemmas.{IsFine}
 use Rattle.bpf_cert.proofs.FineOrder.{is_bare_stage, bare_is}

@@ -12,7 +12,8 @@ use Rattle.bpf_cert.specs.TermSums.{is_plain_term}
 use Rattle.bpf_cert.specs.Limits.{is_limited_slot, is_limited_place as is_limited_value, is_limited_measure as is_limited_measured, is_limited_term as is_limited_termed}
 use Rattle.bpf_cert.specs.Spelling.{is_unknown, content_of, place_at, place_of, measure_of, term_of}
 use Rattle.bpf_cert.proofs.NumeralLaws.{plain_decimal}
-use Rattle.bpf_cert.proofs.NumLemmas.{both_true, not_true, in_range, plain_signed}
+use Rattle.bpf_cert.proofs.Bools.{both_true}
+use Rattle.bpf_cert.proofs.NumLemmas.{not_true, in_range, plain_signed}
 use Rattle.bpf_cert.proofs.LineValues.{content_said, register_said, place_said, measure_said, term_said}
 use Rattle.bpf_cert.proofs.LineStates.{place_index}
 use Rattle.bpf_cert.proofs.SaidNumbers.{number_kept}

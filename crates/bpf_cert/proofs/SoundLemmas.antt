@@ -8,7 +8,7 @@ use Rattle.bpf_cert.specs.View.{LabelView, FunctionView}
 use Rattle.bpf_cert.specs.Limits.{is_canonical_label, is_limited_label, is_canonical_function, is_limited_function}
 use Rattle.bpf_cert.specs.Sound.{AreLabels, AreFunctions, IsNext, first_of, slot_of}
 use Rattle.bpf_cert.proofs.FindingLemmas.{list_all_end}
-use Rattle.bpf_cert.proofs.NumLemmas.{both_true}
+use Rattle.bpf_cert.proofs.Bools.{both_true}
 
 pub last_more : {A : Type 0} (xs : List A) (x : A) → last (xs ++ x ∷ []) ≡ Some x
 last_more [] x = refl

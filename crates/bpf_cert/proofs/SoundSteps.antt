@@ -10,13 +10,14 @@ use Rattle.bpf_cert.specs.Numeral.{number, is_from_to}
 use Rattle.bpf_cert.specs.Line.{Line, Place, Content}
 use Rattle.bpf_cert.specs.Faults.{is_rising, comes_after, is_function, is_label, ends_bare, last_first}
 use Rattle.bpf_cert.specs.TermSums.{last}
-use Rattle.bpf_cert.specs.View.{LabelView, FunctionView}
+use Rattle.bpf_cert.specs.View.{LabelView, FunctionView, certificate_of}
 use Rattle.bpf_cert.specs.Spelling.{header_line, function_line, label_line, term_of}
-use Rattle.bpf_cert.specs.Limits.{is_canonical_state, is_limited_state, is_limited_term, term_before, is_limited_num, label_count, IsCertificate}
+use Rattle.bpf_cert.specs.Limits.{is_canonical_state, is_limited_state, is_limited_term, term_before, is_limited_num, label_count, is_limited_header, IsCertificate}
 use Rattle.bpf_cert.specs.Standing.{Stands}
 use Rattle.bpf_cert.specs.Sound.{AreLabels, HasFunction, AreWhole, first_of, slot_of, with_label, IsLabelState}
 use Rattle.bpf_cert.specs.declared.standing.Standing.{Standing}
-use Rattle.bpf_cert.proofs.NumLemmas.{both_true}
+use Rattle.bpf_cert.specs.declared.header.Header.{Header}
+use Rattle.bpf_cert.proofs.Bools.{both_true}
 use Rattle.bpf_cert.proofs.NumeralLaws.{numeral-decimal}
 use Rattle.bpf_cert.proofs.AfterLemmas.{IsFine}
 use Rattle.bpf_cert.proofs.TermOrder.{rising_terms}
@@ -25,25 +26,20 @@ use Rattle.bpf_cert.proofs.SoundLemmas.{IsLast, last_more, labels_more, labels_l
 number_is : (n : ℕ) → n < 2 ^ 64 → number (decimal n) ≡ n
 number_is n small = (numeral-decimal n small).1
 
-pub sound_header : (lines : List Line) (new : Standing) (len steps : ℕ) → lines ≡ [] → Stands (header_line len steps ∷ lines) new → IsFine lines (header_line len steps) → len < 2 ^ 64 → steps < 2 ^ 64 → AreWhole new len steps []
-sound_header lines new len steps none stands fine small_len small_steps =
-    let parts = both_true (leb (number (decimal len)) 4096) (is_from_to 1 (2 ^ 32 - 1) (number (decimal steps))) fine.limited in
-    record {
-      header = record {
-        bytes = ap (λ n. leb n 4096) (sym (number_is len small_len)) ∙ parts.0;
-        most = ap (is_from_to 1 (2 ^ 32 - 1)) (sym (number_is steps small_steps)) ∙ parts.1;
-      };
-      functions = record { order = refl; canonical = refl; limited = refl };
-      first = stands.first ∙ ap last_first none;
-      count = stands.functions ∙ ap (λ ls. count_by is_function (header_line len steps ∷ ls)) none;
-      total = stands.labels ∙ ap (λ ls. count_by is_label (header_line len steps ∷ ls)) none;
-      few_functions = omega arith;
-      few_labels = omega arith;
-    }
+pub sound_header : (lines : List Line) (new : Standing) (head : Header) → lines ≡ [] → Stands (header_line head ∷ lines) new → is_limited_header head ≡ true → AreWhole new head []
+sound_header lines new head none stands limited = record {
+  header = limited;
+  functions = record { order = refl; canonical = refl; limited = refl };
+  first = stands.first ∙ ap last_first none;
+  count = stands.functions ∙ ap (λ ls. count_by is_function (header_line head ∷ ls)) none;
+  total = stands.labels ∙ ap (λ ls. count_by is_label (header_line head ∷ ls)) none;
+  few_functions = omega arith;
+  few_labels = omega arith;
+}
 
-pub sound_function : (lines : List Line) (old new : Standing) (len steps : ℕ) (fs : List FunctionView) (f : FunctionView) → f.labels ≡ [] → f.first < 2 ^ 64 → f.depth < 2 ^ 64 → is_limited_num f.ret ≡ true
-    → AreWhole old len steps fs → Stands lines old → Stands (function_line f ∷ lines) new → IsFine lines (function_line f) → HasFunction new len steps fs f
-sound_function lines old new len steps fs f bare small_first small_depth ret whole was stands fine =
+pub sound_function : (lines : List Line) (old new : Standing) (head : Header) (fs : List FunctionView) (f : FunctionView) → f.labels ≡ [] → f.first < 2 ^ 64 → f.depth < 2 ^ 64 → is_limited_num f.ret ≡ true
+    → AreWhole old head fs → Stands lines old → Stands (function_line f ∷ lines) new → IsFine lines (function_line f) → HasFunction new head fs f
+sound_function lines old new head fs f bare small_first small_depth ret whole was stands fine =
     let first = number_is f.first small_first in
     let depth = number_is f.depth small_depth in
     let limits = both_true (leb (number (decimal f.first)) 65535 && is_from_to 1 8 (number (decimal f.depth))) _ fine.limited in
@@ -75,8 +71,8 @@ sound_function lines old new len steps fs f bare small_first small_depth ret who
     }
 
 -- the last function is whole
-pub whole_more : (s : Standing) (len steps : ℕ) (fs : List FunctionView) (f : FunctionView) → HasFunction s len steps fs f → 0 < length f.labels → AreWhole s len steps (fs ++ f ∷ [])
-whole_more s len steps fs f has some =
+pub whole_more : (s : Standing) (head : Header) (fs : List FunctionView) (f : FunctionView) → HasFunction s head fs f → 0 < length f.labels → AreWhole s head (fs ++ f ∷ [])
+whole_more s head fs f has some =
     let sums : sum_by label_count (fs ++ f ∷ []) ≡ sum_by label_count fs + length f.labels = let apart = sum_by-append label_count fs (f ∷ []) in omega arith in
     let lengths : length (fs ++ f ∷ []) ≡ length fs + 1 = length-append fs (f ∷ []) in
     let few = has.few_functions in
@@ -91,19 +87,19 @@ whole_more s len steps fs f has some =
       few_labels = omega arith;
     }
 
-pub sound_end : (lines : List Line) (old : Standing) (len steps : ℕ) (fs : List FunctionView) → AreWhole old len steps fs → Stands lines old → IsFine lines Line.end → IsCertificate (record { len = len; steps = steps; functions = fs })
-sound_end lines old len steps fs whole was fine =
+pub sound_end : (lines : List Line) (old : Standing) (head : Header) (fs : List FunctionView) → AreWhole old head fs → Stands lines old → IsFine lines Line.end → IsCertificate (certificate_of head fs)
+sound_end lines old head fs whole was fine =
     let room = both_true (ltb 0 (count_by is_function lines)) (not (ends_bare lines)) fine.room in
     let some : 0 < count_by is_function lines = ltb-true 0 (count_by is_function lines) room.0 in
     let counted : count_by is_function lines ≡ length fs = sym was.functions ∙ whole.count in
     let low : leb 1 (length fs) ≡ true = le-leb 1 (length fs) (omega arith) in
     let high : leb (length fs) 256 ≡ true = le-leb (length fs) 256 whole.few_functions in
     let labels : leb (sum_by label_count fs) 65536 ≡ true = le-leb (sum_by label_count fs) 65536 whole.few_labels in
-    rw (whole.functions.order, whole.functions.canonical, whole.header.bytes, whole.header.most, low, high, labels, whole.functions.limited) refl
+    rw (whole.functions.order, whole.functions.canonical, whole.header, low, high, labels, whole.functions.limited) refl
 
-pub sound_label : (lines : List Line) (old new : Standing) (len steps : ℕ) (fs : List FunctionView) (f : FunctionView) (l : LabelView) → l.slot < 2 ^ 64 → l.base < 2 ^ 64 → list_all is_limited_term l.terms ≡ true → IsLabelState l.state
-    → HasFunction old len steps fs f → Stands lines old → Stands (label_line l ∷ lines) new → IsFine lines (label_line l) → HasFunction new len steps fs (with_label f l)
-sound_label lines old new len steps fs f l small_slot small_base terms state has was stands fine =
+pub sound_label : (lines : List Line) (old new : Standing) (head : Header) (fs : List FunctionView) (f : FunctionView) (l : LabelView) → l.slot < 2 ^ 64 → l.base < 2 ^ 64 → list_all is_limited_term l.terms ≡ true → IsLabelState l.state
+    → HasFunction old head fs f → Stands lines old → Stands (label_line l ∷ lines) new → IsFine lines (label_line l) → HasFunction new head fs (with_label f l)
+sound_label lines old new head fs f l small_slot small_base terms state has was stands fine =
     let room : count_by is_label lines < 65536 = ltb-true (count_by is_label lines) 65536 fine.room in
     let more : count_by is_label (label_line l ∷ lines) ≡ 1 + count_by is_label lines = sum_by-cons (λ x. cond (is_label x) 1 0) (label_line l) lines in
     let now : new.labels ≡ count_by is_label (label_line l ∷ lines) = stands.labels in
@@ -162,9 +158,9 @@ last_state ls l are =
     let front = both_true _ (leb l.base (2 ^ 40)) inner.0 in
     record { canonical = (both_true (is_canonical_state l.state) (is_rising term_before l.terms) is.canonical).0; limited = (both_true (leb l.slot 65535) (is_limited_state l.state) front.0).1 }
 
-pub sound_entry : (lines : List Line) (old new : Standing) (len steps : ℕ) (fs : List FunctionView) (f : FunctionView) (l m : LabelView) (p : Place) (v : Content) → m.slot ≡ l.slot → m.base ≡ l.base → m.terms ≡ l.terms → IsLabelState m.state
-    → HasFunction old len steps fs (with_label f l) → Stands lines old → Stands (Line.entry p v ∷ lines) new → HasFunction new len steps fs (with_label f m)
-sound_entry lines old new len steps fs f l m p v e g h state has was stands =
+pub sound_entry : (lines : List Line) (old new : Standing) (head : Header) (fs : List FunctionView) (f : FunctionView) (l m : LabelView) (p : Place) (v : Content) → m.slot ≡ l.slot → m.base ≡ l.base → m.terms ≡ l.terms → IsLabelState m.state
+    → HasFunction old head fs (with_label f l) → Stands lines old → Stands (Line.entry p v ∷ lines) new → HasFunction new head fs (with_label f m)
+sound_entry lines old new head fs f l m p v e g h state has was stands =
     let parts = labels_less f.labels l has.labels in
     let lengths : length (f.labels ++ l ∷ []) ≡ length f.labels + 1 = length-append f.labels (l ∷ []) in
     let lengths_too : length (f.labels ++ m ∷ []) ≡ length f.labels + 1 = length-append f.labels (m ∷ []) in

@@ -1,7 +1,7 @@
 -- A certificate's text has no fault, and is no other certificate's; so it is read.
 use Rattle.std.proofs.Common.{◌≡◌, List, ◌∷◌, ℕ, Option, Some, None, Result, Ok, Err, inl, inr, refl, sym, ap, ◌∙◌}
 use Rattle.std.specs.Prelude.{IfSome, MatchResult, flat_map}
-use Rattle.bpf_cert.specs.View.{CertificateView}
+use Rattle.bpf_cert.specs.View.{CertificateView, header_of}
 use Rattle.bpf_cert.specs.Spelling.{header_line, function_lines, certificate_lines}
 use Rattle.bpf_cert.specs.Faults.{fault_of, complete}
 use Rattle.bpf_cert.specs.Certificates.{Spells, SpelledIsFaultless, SpelledOnce}
@@ -16,7 +16,7 @@ use Rattle.bpf_cert.proofs.ReadingLemmas.{Gives}
 
 pub faultless : SpelledIsFaultless
 faultless text c s = ap (fault_of complete) s.spelled
-    ∙ fine_faultless (header_line c.len c.steps ∷ flat_map function_lines c.functions) (certificate_fine c s.valid) (certificate_written c s.valid)
+    ∙ fine_faultless (header_line (header_of c) ∷ flat_map function_lines c.functions) (certificate_fine c s.valid) (certificate_written c s.valid)
 
 pub once : SpelledOnce
 once text c d s t = lines_once c d s.valid t.valid

@@ -4,34 +4,26 @@ use Rattle.std.specs.Prelude.{◌&&◌, option_map, IfSome, decimal, codes}
 use Rattle.std.specs.Str.{bytes_eq}
 use Rattle.std.proofs.lemmas.Bool.{leb-true, lt-ltb, ltb-true, ltb-false}
 use Rattle.bpf_cert.specs.Numeral.{is_numeral, is_plain, number, is_from_to}
-use Rattle.bpf_cert.specs.Line.{Line, Place, Number, Content, Term}
+use Rattle.bpf_cert.specs.Line.{Line, Place, Number, Content, Term, Lengths}
 use Rattle.bpf_cert.specs.Faults.{is_canonical, is_limited, may_stand, is_in_order, has_room, comes_after}
-use Rattle.bpf_cert.specs.Reading.{◌>>=◌, numeral_in, all_there, term_in, place_in, number_in, content_in, header_in, function_in, label_in, entry_in}
+use Rattle.bpf_cert.specs.Reading.{◌>>=◌, numeral_in, all_there, term_in, place_in, number_in, content_in, function_in, label_in, entry_in}
 use Rattle.bpf_cert.specs.Findings.{tested, found, joined, valued}
 use Rattle.bpf_cert.specs.TermSums.{terms_in}
-use Rattle.bpf_cert.specs.Standing.{HeaderIs, FunctionIs, LabelIs, EntryIs, stage_of, is_start, may_have_label, may_have_entry, ruled, fields_in, uncons, three_of}
+use Rattle.bpf_cert.specs.Standing.{FunctionIs, LabelIs, EntryIs, stage_of, is_start, may_have_label, may_have_entry, ruled, fields_in, uncons, three_of}
 use Rattle.bpf_cert.specs.declared.finding.Flaw.{Flaw}
 use Rattle.bpf_cert.specs.declared.finding.Flaw.TheVariants.{Syntax}
-use Rattle.bpf_cert.proofs.NumLemmas.{both_true}
+use Rattle.bpf_cert.proofs.Bools.{both_true}
 use Rattle.bpf_cert.proofs.NumeralLaws.{numeral-decimal}
 use Rattle.bpf_cert.proofs.FindingLemmas.{found_tested, joined_valued}
 use Rattle.bpf_cert.proofs.LineForms.{place_is}
 use Rattle.bpf_cert.proofs.NumberLemmas.{plain_value}
 
-three_is : (fs : List (List ℕ)) (a b c : List ℕ) → three_of fs ≡ Some (a, b, c) → fs ≡ a ∷ b ∷ c ∷ []
+pub three_is : (fs : List (List ℕ)) (a b c : List ℕ) → three_of fs ≡ Some (a, b, c) → fs ≡ a ∷ b ∷ c ∷ []
 three_is [] a b c e = cc
 three_is (x ∷ []) a b c e = cc
 three_is (x ∷ y ∷ []) a b c e = cc
 three_is (x ∷ y ∷ z ∷ []) a b c e = let same : ◌≡◌ {A = List ℕ × List ℕ × List ℕ} (x, y, z) (a, b, c) = cc in ap (λ p. p.0 ∷ p.1 ∷ p.2 ∷ []) same
 three_is (x ∷ y ∷ z ∷ w ∷ ws) a b c e = cc
-
-pub no_header : (fs : List (List ℕ)) → three_of fs ≡ None → header_in fs ≡ None
-unfolding header_in
-no_header [] e = refl
-no_header (x ∷ []) e = refl
-no_header (x ∷ y ∷ []) e = refl
-no_header (x ∷ y ∷ z ∷ []) e = cc
-no_header (x ∷ y ∷ z ∷ w ∷ ws) e = refl
 
 pub no_function : (fs : List (List ℕ)) → three_of fs ≡ None → function_in fs ≡ None
 unfolding function_in
@@ -41,27 +33,13 @@ no_function (x ∷ y ∷ []) e = refl
 no_function (x ∷ y ∷ z ∷ []) e = cc
 no_function (x ∷ y ∷ z ∷ w ∷ ws) e = refl
 
-numeral_yes : (ds : List ℕ) → is_numeral ds ≡ true → numeral_in ds ≡ Some ds
+pub numeral_yes : (ds : List ℕ) → is_numeral ds ≡ true → numeral_in ds ≡ Some ds
 unfolding numeral_in
 numeral_yes ds e = rw e refl
 
-numeral_no : (ds : List ℕ) → is_numeral ds ≡ false → numeral_in ds ≡ None
+pub numeral_no : (ds : List ℕ) → is_numeral ds ≡ false → numeral_in ds ≡ None
 unfolding numeral_in
 numeral_no ds e = rw e refl
-
-pub header_yes : (fs : List (List ℕ)) (v l s : List ℕ) → three_of fs ≡ Some (v, l, s) → bytes_eq v (codes "1") ≡ true → is_numeral l ≡ true → is_numeral s ≡ true → header_in fs ≡ Some (Line.header l s)
-unfolding header_in ◌>>=◌
-header_yes fs v l s e f g h = rw (three_is fs v l s e, f, numeral_yes l g, numeral_yes s h) refl
-
-pub header_no : (fs : List (List ℕ)) (v l s : List ℕ) → three_of fs ≡ Some (v, l, s) → (bytes_eq v (codes "1") && (is_numeral l && is_numeral s)) ≡ false → header_in fs ≡ None
-unfolding header_in ◌>>=◌
-header_no fs v l s e f = rw (three_is fs v l s e) (by_tests (bytes_eq v (codes "1")) (is_numeral l) (is_numeral s) refl refl f)
-  where
-    by_tests : (a b c : Bool) → is_numeral l ≡ b → is_numeral s ≡ c → (a && (b && c)) ≡ false → cond a (numeral_in l >>= (λ x. numeral_in s >>= (λ y. Some (Line.header x y)))) None ≡ None
-    by_tests false b c g h k = refl
-    by_tests true false c g h k = rw (numeral_no l g) refl
-    by_tests true true false g h k = rw (numeral_yes l g, numeral_no s h) refl
-    by_tests true true true g h k = cc
 
 number_then : (f d : List ℕ) (o : Option Number) → (o >>= (λ r. Some (Line.function f d r))) ≡ option_map (Line.function f d) o
 unfolding ◌>>=◌
@@ -143,7 +121,7 @@ entry_yes name a fs p e f = ((place_is name).holds p f, rw (e, f) (content_then 
 
 -- where each kind of line may stand
 
-pub stand_header : (before : List Line) (l s : List ℕ) → may_stand before (Line.header l s) ≡ is_start (stage_of before)
+pub stand_header : (before : List Line) (l : Lengths) (s : List ℕ) → may_stand before (Line.header l s) ≡ is_start (stage_of before)
 stand_header [] l s = refl
 stand_header (Line.header _ _ ∷ ls) l s = refl
 stand_header (Line.function _ _ _ ∷ ls) l s = refl
@@ -264,15 +242,6 @@ place_rises_at i n m small e = let same = (numeral-decimal i (omega arith)).1 in
 
 pub spelled_again : (ds : List ℕ) (n k : ℕ) → is_numeral ds ≡ true → is_plain ds ≡ true → n ≡ min (number ds) (2 ^ 64) → leb (number ds) k ≡ true → k < 2 ^ 64 → decimal n ≡ ds
 spelled_again ds n k digits plain e few small = let bound : number ds ≤ k = leb-true (number ds) k few in plain_value ds n digits plain e (omega arith)
-
-pub header_then : (fs : List (List ℕ)) (v l s : List ℕ) (k x y n z : Bool) → Some (v, l, s) ≡ three_of fs → k ≡ bytes_eq v (codes "1") → x ≡ is_numeral l → y ≡ is_numeral s → n ≡ (x && y) → z ≡ (k && n) → z ≡ true → HeaderIs fs (Some (l, s))
-header_then fs v l s k x y n z e f g h i j t =
-    let outer = both_true k n (sym j ∙ t) in let inner = both_true x y (sym i ∙ outer.1) in
-    (sym g ∙ inner.0, sym h ∙ inner.1, header_yes fs v l s (sym e) (sym f ∙ outer.0) (sym g ∙ inner.0) (sym h ∙ inner.1))
-
-pub header_else : (fs : List (List ℕ)) (v l s : List ℕ) (k x y n z : Bool) → Some (v, l, s) ≡ three_of fs → k ≡ bytes_eq v (codes "1") → x ≡ is_numeral l → y ≡ is_numeral s → n ≡ (x && y) → z ≡ (k && n) → z ≡ false → header_in fs ≡ None
-header_else fs v l s k x y n z e f g h i j t = header_no fs v l s (sym e)
-    (ap (λ b. b && (is_numeral l && is_numeral s)) (sym f) ∙ ap (λ b. k && (b && is_numeral s)) (sym g) ∙ ap (λ b. k && (x && b)) (sym h) ∙ ap (λ b. k && b) (sym i) ∙ sym j ∙ t)
 
 pub function_then : (fs : List (List ℕ)) (f d r : List ℕ) (x y z : Bool) → Some (f, d, r) ≡ three_of fs → x ≡ is_numeral f → y ≡ is_numeral d → z ≡ (x && y) → z ≡ true → FunctionIs fs (Some (f, d, r))
 function_then fs f d r x y z e g h i t = let inner = both_true x y (sym i ∙ t) in (sym g ∙ inner.0, sym h ∙ inner.1, function_yes fs f d r (sym e) (sym g ∙ inner.0) (sym h ∙ inner.1))

@@ -24,7 +24,7 @@ use Rattle.bpf_cert.specs.declared.certificate.Term.{Term as TermValue}
 use Rattle.bpf_cert.specs.declared.certificate.Measure.TheVariants.{Down, Up}
 use Rattle.bpf_state.specs.declared.state.Place.{Place as PlaceValue}
 use Rattle.bpf_cert.proofs.FindingLemmas.{found_tested, joined_tested, joined_ok, tested_true, list_all_end}
-use Rattle.bpf_cert.proofs.NumLemmas.{both_true}
+use Rattle.bpf_cert.proofs.Bools.{both_true}
 use Rattle.bpf_cert.proofs.NumberLemmas.{plain_value}
 use Rattle.bpf_cert.proofs.LineForms.{term_is}
 

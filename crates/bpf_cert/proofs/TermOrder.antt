@@ -14,7 +14,7 @@ use Rattle.bpf_cert.specs.Spelling.{place_of, measure_of, term_of}
 use Rattle.bpf_cert.specs.declared.certificate.Measure.{Measure}
 use Rattle.bpf_cert.specs.declared.certificate.Measure.TheVariants as measure
 use Rattle.bpf_cert.specs.declared.certificate.Term.{Term}
-use Rattle.bpf_cert.proofs.NumLemmas.{both_true}
+use Rattle.bpf_cert.proofs.Bools.{both_true}
 use Rattle.bpf_cert.proofs.NumeralLaws.{numeral-decimal}
 
 number_is : (n : ℕ) → n ≤ 64 → number (decimal n) ≡ n

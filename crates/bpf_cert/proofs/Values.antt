@@ -37,7 +37,9 @@ nothing = state (replicate 10 reg.Any) (replicate 64 (slot.Bytes 0))
 
 abbrev smallest : CertificateView
 smallest = record {
-  len = 0;
+  version = 1;
+  least = 0;
+  most = 0;
   steps = 2;
   functions =
       record { first = 0; depth = 1; ret = top; labels = record { slot = 0; state = nothing; base = 2; terms = [] } ∷ [] } ∷ [];
@@ -55,7 +57,9 @@ down w r = record { weight = w; measure = measure.Down (place.Register r) }
 
 abbrev nested : CertificateView
 nested = record {
-  len = 0;
+  version = 1;
+  least = 0;
+  most = 0;
   steps = 27;
   functions =
       record {
@@ -80,7 +84,9 @@ nested_valid = refl
 -- every kind of part
 abbrev mixed : CertificateView
 mixed = record {
-  len = 4096;
+  version = 1;
+  least = 4096;
+  most = 4096;
   steps = 4294967295;
   functions =
       record {

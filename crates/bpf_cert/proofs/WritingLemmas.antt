@@ -9,7 +9,8 @@ use Rattle.bpf_insn.specs.Written.{AppendsBeginning}
 use Rattle.bpf_state.specs.declared.state.SlotState.{SlotState}
 use Rattle.bpf_state.specs.State.{AbstractState, IsState, value_slot}
 use Rattle.bpf_cert.specs.Written.{Writes}
-use Rattle.bpf_cert.specs.View.{CertificateView}
+use Rattle.bpf_cert.specs.declared.header.Header.{Header}
+use Rattle.bpf_cert.specs.View.{CertificateView, header_of}
 use Rattle.bpf_cert.specs.Line.{Line, Place}
 use Rattle.bpf_cert.specs.Spelling.{line_with_end, lines_text, lines_from, entry_lines, place_at, contents, function_lines, header_line, certificate_text}
 
@@ -68,8 +69,8 @@ length-contents s h =
     ∙ omega (arith, length-take 10 s.registers, h.register_count, h.slot_count)
 
 -- the lines of a certificate: its header, its functions, its end
-pub header_first : (len steps : ℕ) (c : CertificateView) (t : List ℕ) → t ≡ line_with_end (header_line len steps) → len ≡ c.len → steps ≡ c.steps
+pub header_first : (h : Header) (c : CertificateView) (t : List ℕ) → t ≡ line_with_end (header_line h) → h ≡ header_of c
     → certificate_text c ≡ t ++ (lines_text (flat_map function_lines c.functions) ++ (codes "end" ++ 10 ∷ []))
-header_first len steps c t e l s =
-    ap (λ z. line_with_end (header_line c.len c.steps) ++ z) (flat_map-append line_with_end (flat_map function_lines c.functions) (Line.end ∷ []))
-    ∙ ap (λ z. z ++ (lines_text (flat_map function_lines c.functions) ++ (codes "end" ++ 10 ∷ []))) (ap (λ n. line_with_end (header_line n c.steps)) (sym l) ∙ ap (λ n. line_with_end (header_line len n)) (sym s) ∙ sym e)
+header_first h c t e l =
+    ap (λ z. line_with_end (header_line (header_of c)) ++ z) (flat_map-append line_with_end (flat_map function_lines c.functions) (Line.end ∷ []))
+    ∙ ap (λ z. z ++ (lines_text (flat_map function_lines c.functions) ++ (codes "end" ++ 10 ∷ []))) (ap (λ x. line_with_end (header_line x)) (sym l) ∙ sym e)

@@ -1,21 +1,23 @@
 -- The lines of a certificate can be read again from their texts.
-use Rattle.std.proofs.Common.{◌≡◌, ℕ, zero, suc, ◌+◌, ◌-◌, ◌*◌, ◌^◌, ◌<◌, ◌≤◌, Bool, true, false, cond, eqb, leb, ltb, List, [], ◌∷◌, ◌++◌, length, map, take, flat_map, refl, arith}
+use Rattle.std.proofs.Common.{◌≡◌, ℕ, zero, suc, ◌+◌, ◌-◌, ◌*◌, ◌^◌, ◌<◌, ◌≤◌, Bool, true, false, cond, eqb, leb, ltb, List, [], ◌∷◌, ◌++◌, length, map, take, flat_map, refl, arith, subst, ⊎_elim, sym}
 use Rattle.std.specs.Prelude.{◌&&◌, decimal, codes, sum_by}
 use Rattle.std.specs.List.{list_all, join_with_byte}
 use Rattle.std.proofs.lemmas.Bool.{leb-true, lt-ltb, eqb-true, le-ltb}
 use Rattle.std.proofs.lemmas.List.{length-map, length-take-le}
 use Rattle.bpf_cert.specs.Numeral.{is_from_to}
-use Rattle.bpf_cert.specs.Line.{Line, Place as PlaceText, place_text, content_text, number_text, term_text}
+use Rattle.bpf_cert.specs.Line.{Line, Lengths, Place as PlaceText, place_text, content_text, number_text, term_text}
 use Rattle.bpf_cert.specs.Spelling.{number_of, content_of, term_of, place_at, is_unknown, entry_lines, lines_from, contents, header_line, label_line, label_lines, function_lines, certificate_lines}
-use Rattle.bpf_cert.specs.View.{LabelView, FunctionView, CertificateView}
-use Rattle.bpf_cert.specs.Limits.{is_canonical, is_limited, is_limited_num, is_limited_register, is_limited_slot, is_limited_state, is_limited_term, is_limited_label, is_limited_function, has_shape, label_count, IsCertificate}
+use Rattle.bpf_cert.specs.View.{LabelView, FunctionView, CertificateView, header_of}
+use Rattle.bpf_cert.specs.Limits.{is_canonical, is_limited, is_limited_header, is_limited_num, is_limited_register, is_limited_slot, is_limited_state, is_limited_term, is_limited_label, is_limited_function, has_shape, label_count, IsCertificate}
 use Rattle.bpf_state.specs.State.{AbstractState, value_slot}
 use Rattle.bpf_state.specs.declared.state.RegState.{RegState}
 use Rattle.bpf_state.specs.declared.state.RegState.TheVariants as reg
 use Rattle.bpf_state.specs.declared.state.Pointer.TheVariants as pointer
 use Rattle.bpf_state.specs.declared.state.SlotState.{SlotState}
 use Rattle.bpf_state.specs.declared.state.SlotState.TheVariants as slot
-use Rattle.bpf_cert.proofs.NumLemmas.{both_true}
+use Rattle.bpf_cert.proofs.Bools.{both_true}
+use Rattle.bpf_cert.specs.declared.header.Header.{Header}
+use Rattle.bpf_cert.proofs.HeaderValues.{header_facts, versions, lengths_one, lengths_two}
 use Rattle.bpf_cert.proofs.FineLines.{IsWritten, AreWritten}
 use Rattle.bpf_cert.proofs.WrittenTexts.{both, fits_more, fits_append, fits_word, joined_fits, decimal_short, number_short, IsPlaceShort, register_short, slot_short, terms_form, terms_fit, IsContentShort, word_short, pointer_short, bytes_short}
 
@@ -142,8 +144,8 @@ function_written f e =
     let short = fits.short in
     (record { form = both (both first.form depth.form) ret.form; short = omega arith; one_line = fits.one_line }, written_all is_limited_label label_lines f.labels label_written labels.1)
 
-header_written : (len steps : ℕ) → len < 2 ^ 64 → steps < 2 ^ 64 → IsWritten (header_line len steps)
-header_written len steps low few =
+one_written : (len steps : ℕ) → len < 2 ^ 64 → steps < 2 ^ 64 → IsWritten (Line.header (Lengths.one (decimal len)) (decimal steps))
+one_written len steps low few =
     let first = decimal_short len low in
     let second = decimal_short steps few in
     let fits = fits_append 10 41 (codes "bpfcert 1 ") (decimal len ++ 32 ∷ decimal steps) (fits_word (codes "bpfcert 1 ") refl)
@@ -151,19 +153,35 @@ header_written len steps low few =
     let short = fits.short in
     record { form = both first.form second.form; short = omega arith; one_line = fits.one_line }
 
+range_written : (least most steps : ℕ) → least < 2 ^ 64 → most < 2 ^ 64 → steps < 2 ^ 64 → IsWritten (Line.header (Lengths.range (decimal least) (decimal most)) (decimal steps))
+range_written least most steps low high few =
+    let first = decimal_short least low in
+    let second = decimal_short most high in
+    let third = decimal_short steps few in
+    let rest = decimal most ++ 32 ∷ decimal steps in
+    let fits = fits_append 10 62 (codes "bpfcert 2 ") (decimal least ++ 32 ∷ rest) (fits_word (codes "bpfcert 2 ") refl)
+    (fits_append 20 42 (decimal least) (32 ∷ rest) first.fits (fits_append 1 41 (32 ∷ []) rest (fits_word (32 ∷ []) refl)
+    (fits_append 20 21 (decimal most) (32 ∷ decimal steps) second.fits (fits_append 1 20 (32 ∷ []) (decimal steps) (fits_word (32 ∷ []) refl) third.fits)))) in
+    let short = fits.short in
+    record { form = both (both first.form second.form) third.form; short = omega arith; one_line = fits.one_line }
+
+header_written : (h : Header) → is_limited_header h ≡ true → IsWritten (header_line h)
+header_written h e =
+    let facts = header_facts h e in
+    let order = facts.order in let short = facts.short in let few = facts.few in
+    ⊎_elim (λ p. subst (λ l. IsWritten (Line.header l (decimal h.steps))) (sym (lengths_one h.version h.least h.most p.0)) (one_written h.least h.steps (omega arith) (omega arith)))
+    (λ p. subst (λ l. IsWritten (Line.header l (decimal h.steps))) (sym (lengths_two h.version h.least h.most p)) (range_written h.least h.most h.steps (omega arith) (omega arith) (omega arith)))
+    (versions h.version h.least h.most facts.version)
+
 end_written : IsWritten Line.end
 end_written = let fits = fits_word (codes "end") refl in record { form = refl; short = omega arith; one_line = fits.one_line }
 
 pub certificate_written : (c : CertificateView) → IsCertificate c → AreWritten (certificate_lines c)
 certificate_written c e =
     let limits = (both_true (is_canonical c) (is_limited c) e).1 in
-    let functions = both_true (leb c.len 4096 && is_from_to 1 (2 ^ 32 - 1) c.steps && is_from_to 1 256 (length c.functions) && leb (sum_by label_count c.functions) 65536) (list_all is_limited_function c.functions) limits in
-    let labels = both_true (leb c.len 4096 && is_from_to 1 (2 ^ 32 - 1) c.steps && is_from_to 1 256 (length c.functions)) (leb (sum_by label_count c.functions) 65536) functions.0 in
-    let count = both_true (leb c.len 4096 && is_from_to 1 (2 ^ 32 - 1) c.steps) (is_from_to 1 256 (length c.functions)) labels.0 in
-    let steps = both_true (leb c.len 4096) (is_from_to 1 (2 ^ 32 - 1) c.steps) count.0 in
-    let ends = both_true (leb 1 c.steps) (leb c.steps (2 ^ 32 - 1)) steps.1 in
-    let low = leb-true c.len 4096 steps.0 in
-    let few = leb-true c.steps (2 ^ 32 - 1) ends.1 in (
-      header_written c.len c.steps (omega arith) (omega arith),
+    let functions = both_true (is_limited_header (header_of c) && is_from_to 1 256 (length c.functions) && leb (sum_by label_count c.functions) 65536) (list_all is_limited_function c.functions) limits in
+    let labels = both_true (is_limited_header (header_of c) && is_from_to 1 256 (length c.functions)) (leb (sum_by label_count c.functions) 65536) functions.0 in
+    let header = both_true (is_limited_header (header_of c)) (is_from_to 1 256 (length c.functions)) labels.0 in (
+      header_written (header_of c) header.0,
       written_append (flat_map function_lines c.functions) (Line.end ∷ []) (written_all is_limited_function function_lines c.functions function_written functions.1) (end_written, tt),
     )

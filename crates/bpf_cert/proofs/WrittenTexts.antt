@@ -27,7 +27,8 @@ use Rattle.bpf_cert.specs.declared.certificate.Measure.{Measure}
 use Rattle.bpf_cert.specs.declared.certificate.Measure.TheVariants as measure
 use Rattle.bpf_cert.specs.declared.certificate.Term.{Term}
 use Rattle.bpf_insn.specs.Instruction.{register_number}
-use Rattle.bpf_cert.proofs.NumLemmas.{both_true, AreBounds, bounds, in_range}
+use Rattle.bpf_cert.proofs.Bools.{both_true}
+use Rattle.bpf_cert.proofs.NumLemmas.{AreBounds, bounds, in_range}
 use Rattle.bpf_cert.proofs.NumeralLaws.{numeral-decimal}
 
 pub both : {a b : Bool} → a ≡ true → b ≡ true → (a && b) ≡ true

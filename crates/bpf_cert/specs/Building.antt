@@ -46,10 +46,10 @@ rest_at stage.Ended b = closed_lines b ++ Line.end ∷ []
 -- the lines that the parts spell
 abbrev pub lines_at : Stage → Builder → List Line
 lines_at stage.Start b = rest_at stage.Start b
-lines_at stage.Header b = header_line b.len b.steps ∷ rest_at stage.Header b
-lines_at stage.Function b = header_line b.len b.steps ∷ rest_at stage.Function b
-lines_at stage.Label b = header_line b.len b.steps ∷ rest_at stage.Label b
-lines_at stage.Ended b = header_line b.len b.steps ∷ rest_at stage.Ended b
+lines_at stage.Header b = header_line b.header ∷ rest_at stage.Header b
+lines_at stage.Function b = header_line b.header ∷ rest_at stage.Function b
+lines_at stage.Label b = header_line b.header ∷ rest_at stage.Label b
+lines_at stage.Ended b = header_line b.header ∷ rest_at stage.Ended b
 
 -- where the place stands among those of a state
 abbrev pub index_of : Place → ℕ
@@ -75,8 +75,7 @@ pub record IsBuilt (lines : List Line) (b : Builder) : Type 0 where
 
 -- nothing changed but where the parts lie
 pub record Keeps (old new : Builder) : Type 0 where
-  pub len : new.len ≡ old.len
-  pub steps : new.steps ≡ old.steps
+  pub header : new.header ≡ old.header
   pub standing : new.standing ≡ old.standing
 
 -- all labels are in functions

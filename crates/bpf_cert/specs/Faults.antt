@@ -6,7 +6,7 @@
 use Rattle.std.specs.Prelude.{ℕ, ◌+◌, ◌-◌, ◌^◌, Bool, true, false, not, ◌&&◌, List, [], ◌∷◌, length, count_by, ℤ, pos, neg_ℤ, int_le, Option, Some, None, Result, Ok, Err, nat_lt, nat_le, ◌==◌, bit_and, if◌then◌else◌}
 use Rattle.std.specs.List.{list_all, slice_split}
 use Rattle.bpf_cert.specs.Numeral.{number as value, is_plain, signed_number as int_value, is_plain_signed, is_from_to, int_eq}
-use Rattle.bpf_cert.specs.Line.{Part, Number, Content, Place, Measure, Term, Line}
+use Rattle.bpf_cert.specs.Line.{Part, Number, Content, Place, Measure, Term, Lengths, Line}
 use Rattle.bpf_cert.specs.Reading.{line_in}
 use Rattle.bpf_cert.specs.declared.error.CertError.{CertError}
 use Rattle.bpf_cert.specs.declared.error.CertError.TheVariants as errors
@@ -70,8 +70,12 @@ abbrev pub is_plain_measure : Measure → Bool
 is_plain_measure (Measure.down p) = is_plain_place p
 is_plain_measure (Measure.up limit p) = is_plain limit && is_plain_place p
 
+abbrev pub are_plain_lengths : Lengths → Bool
+are_plain_lengths (Lengths.one len) = is_plain len
+are_plain_lengths (Lengths.range least most) = is_plain least && is_plain most
+
 abbrev pub is_canonical : Line → Bool
-is_canonical (Line.header len steps) = is_plain len && is_plain steps
+is_canonical (Line.header lengths steps) = are_plain_lengths lengths && is_plain steps
 is_canonical (Line.function first depth ret) = is_plain first && is_plain depth && is_canonical_number ret
 is_canonical (Line.label at base terms) = is_plain at && is_plain base
     && list_all (λ t. is_plain t.weight && is_plain_measure t.measure) terms
@@ -122,8 +126,13 @@ is_limited_measure (Measure.up limit p) = nat_lt (value limit) (2 ^ 64) && is_li
 abbrev pub is_limited_term : Term → Bool
 is_limited_term t = is_from_to 1 (2 ^ 20) (value t.weight) && is_limited_measure t.measure
 
+-- a context has at most 4,096 bytes
+abbrev pub are_limited_lengths : Lengths → Bool
+are_limited_lengths (Lengths.one len) = nat_le (value len) 4096
+are_limited_lengths (Lengths.range least most) = nat_le (value least) (value most) && nat_le (value most) 4096
+
 abbrev pub is_limited : Line → Bool
-is_limited (Line.header len steps) = nat_le (value len) 4096 && is_from_to 1 (2 ^ 32 - 1) (value steps)
+is_limited (Line.header lengths steps) = are_limited_lengths lengths && is_from_to 1 (2 ^ 32 - 1) (value steps)
 is_limited (Line.function first depth ret) = nat_le (value first) 65535 && is_from_to 1 8 (value depth) && is_limited_number ret
 is_limited (Line.label at base terms) = nat_le (value at) 65535 && nat_le (value base) (2 ^ 40)
     && nat_le (length terms) 4 && list_all is_limited_term terms
@@ -132,14 +141,15 @@ is_limited Line.end = true
 
 -- What a line's place among the others says. The lines before it come with the nearest first; none of them is at fault.
 
--- The header is the first line and no other. A label stands in a function, an entry under a label.
+-- The header is the first line and no other. A label stands in a function, an entry under a label. What stands behind
+-- `end` is refused before this is asked, whatever it is: there a label and a function pass here.
 abbrev pub may_stand : List Line → Line → Bool
-may_stand [] (Line.header len steps) = true
+may_stand [] (Line.header lengths steps) = true
 may_stand [] (Line.function first depth ret) = false
 may_stand [] (Line.label at base terms) = false
 may_stand [] (Line.entry p c) = false
 may_stand [] Line.end = false
-may_stand (l ∷ before) (Line.header len steps) = false
+may_stand (l ∷ before) (Line.header lengths steps) = false
 may_stand (l ∷ before) (Line.function first depth ret) = true
 may_stand (l ∷ before) (Line.label at base terms) = not (is_header l)
   where
@@ -179,7 +189,7 @@ comes_after before (Some x) y = before x y
 
 -- firsts rise, slots rise within a function, and under a label registers rise, then slots
 abbrev pub is_in_order : List Line → Line → Bool
-is_in_order before (Line.header len steps) = true
+is_in_order before (Line.header lengths steps) = true
 is_in_order before (Line.function first depth ret) = comes_after nat_lt (last_first before) (value first)
 is_in_order before (Line.label at base terms) = comes_after nat_lt (last_slot before) (value at)
 is_in_order before (Line.entry p c) = comes_after place_before (last_place before) p
@@ -200,7 +210,7 @@ ends_bare (l ∷ before) = is_function l
 
 -- at most 256 functions and 65,536 labels, a label in each function, and one function at least
 abbrev pub has_room : List Line → Line → Bool
-has_room before (Line.header len steps) = true
+has_room before (Line.header lengths steps) = true
 has_room before (Line.function first depth ret) = nat_lt (count_by is_function before) 256 && not (ends_bare before)
 has_room before (Line.label at base terms) = nat_lt (count_by is_label before) 65536
 has_room before (Line.entry p c) = true

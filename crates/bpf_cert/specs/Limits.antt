@@ -4,7 +4,7 @@ use Rattle.std.specs.List.{list_all}
 use Rattle.bpf_cert.specs.Numeral.{is_from_to, int_eq}
 use Rattle.bpf_cert.specs.Faults.{is_rising, is_range, is_int_range, is_pointer_range, is_bits}
 use Rattle.bpf_insn.specs.Instruction.{register_number}
-use Rattle.bpf_cert.specs.View.{LabelView, FunctionView, CertificateView}
+use Rattle.bpf_cert.specs.View.{LabelView, FunctionView, CertificateView, header_of}
 use Rattle.bpf_num.specs.Number.{Number as AbstractNumber}
 use Rattle.bpf_state.specs.declared.state.RegState.{RegState}
 use Rattle.bpf_state.specs.declared.state.RegState.TheVariants as reg
@@ -19,6 +19,7 @@ use Rattle.bpf_state.specs.declared.state.Place.TheVariants as place
 use Rattle.bpf_cert.specs.declared.certificate.Measure.{Measure}
 use Rattle.bpf_cert.specs.declared.certificate.Measure.TheVariants as measure
 use Rattle.bpf_cert.specs.declared.certificate.Term.{Term}
+use Rattle.bpf_cert.specs.declared.header.Header.{Header}
 use Rattle.bpf_cert.specs.declared.error.CertError.{CertError}
 use Rattle.bpf_cert.specs.declared.error.CertError.TheVariants.{NotCanonical, Limit}
 
@@ -115,8 +116,16 @@ is_limited_function f = nat_le f.first 65535 && is_from_to 1 8 f.depth && is_lim
 abbrev pub label_count : FunctionView → ℕ
 label_count f = length f.labels
 
+-- version 1 speaks of one length, version 2 of a range
+abbrev pub is_version : ℕ → ℕ → ℕ → Bool
+is_version version least most = if version == 1 then least == most else version == 2
+
+-- a context has at most 4,096 bytes
+abbrev pub is_limited_header : Header → Bool
+is_limited_header h = is_version h.version h.least h.most && nat_le h.least h.most && nat_le h.most 4096 && is_from_to 1 (2 ^ 32 - 1) h.steps
+
 abbrev pub is_limited : CertificateView → Bool
-is_limited c = nat_le c.len 4096 && is_from_to 1 (2 ^ 32 - 1) c.steps
+is_limited c = is_limited_header (header_of c)
     && is_from_to 1 256 (length c.functions) && nat_le (sum_by label_count c.functions) 65536
     && list_all is_limited_function c.functions
 

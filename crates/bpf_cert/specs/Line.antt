@@ -39,8 +39,13 @@ pub record Term : Type 0 where
   pub weight : List ℕ
   pub measure : Measure
 
+-- how long the contexts are: one length in version 1, the least and the greatest in version 2
+pub data Lengths : Type 0 where
+  one : (len : List ℕ) → Lengths
+  range : (least most : List ℕ) → Lengths
+
 pub data Line : Type 0 where
-  header : (len steps : List ℕ) → Line
+  header : Lengths → (steps : List ℕ) → Line
   function : (first depth : List ℕ) (ret : Number) → Line
   label : (at base : List ℕ) (terms : List Term) → Line
   entry : Place → Content → Line
@@ -83,9 +88,10 @@ measure_text (up limit p) = codes "(" ++ limit ++ codes "-" ++ place_text p ++ c
 abbrev pub term_text : Term → List ℕ
 term_text t = codes "+" ++ t.weight ++ codes "*" ++ measure_text t.measure
 
--- The text of a line is its fields with one space, 32, between each two.
+-- The text of a line is its fields with one space, 32, between each two. A first line begins with its version.
 abbrev pub fields : Line → List (List ℕ)
-fields (header len steps) = codes "bpfcert" ∷ codes "1" ∷ len ∷ steps ∷ []
+fields (header (one len) steps) = codes "bpfcert" ∷ codes "1" ∷ len ∷ steps ∷ []
+fields (header (range least most) steps) = codes "bpfcert" ∷ codes "2" ∷ least ∷ most ∷ steps ∷ []
 fields (function first depth ret) = codes "fn" ∷ first ∷ depth ∷ number_text ret ∷ []
 fields (label at base terms) = codes "at" ∷ at ∷ base ∷ map term_text terms
 fields (entry p c) = place_text p ∷ content_text c ∷ []
@@ -125,8 +131,12 @@ is_measure (up limit p) = is_numeral limit && is_place p
 abbrev pub is_term : Term → Bool
 is_term t = is_numeral t.weight && is_measure t.measure
 
+abbrev pub are_lengths : Lengths → Bool
+are_lengths (one len) = is_numeral len
+are_lengths (range least most) = is_numeral least && is_numeral most
+
 abbrev pub is_line : Line → Bool
-is_line (header len steps) = is_numeral len && is_numeral steps
+is_line (header lengths steps) = are_lengths lengths && is_numeral steps
 is_line (function first depth ret) = is_numeral first && is_numeral depth && is_number ret
 is_line (label at base terms) = is_numeral at && is_numeral base && list_all is_term terms
 is_line (entry p c) = is_place p && is_content p c

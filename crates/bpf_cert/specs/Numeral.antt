@@ -47,8 +47,5 @@ digits_of_int (negsuc n) = record { minus = true; digits = decimal (suc n) }
 abbrev pub is_from_to : ℕ → ℕ → ℕ → Bool
 is_from_to low high n = nat_le low n && nat_le n high
 
-abbrev pub is_int_from_to : ℤ → ℤ → ℤ → Bool
-is_int_from_to low high z = int_le low z && int_le z high
-
 abbrev pub int_eq : ℤ → ℤ → Bool
 int_eq y z = int_le y z && int_le z y

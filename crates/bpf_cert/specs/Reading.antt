@@ -3,7 +3,7 @@ use Rattle.std.specs.Prelude.{ℕ, true, false, List, [], ◌∷◌, map, codes,
 use Rattle.std.specs.List.{slice_split}
 use Rattle.std.specs.Str.{bytes_eq}
 use Rattle.bpf_cert.specs.Numeral.{is_numeral, SignedDigits}
-use Rattle.bpf_cert.specs.Line.{Part, Number, Content, Place, Measure, Term, Line}
+use Rattle.bpf_cert.specs.Line.{Part, Number, Content, Place, Measure, Term, Lengths, Line}
 
 infixl 10 ◌>>=◌
 unfoldable pub ◌>>=◌ : {A B : Type 0} → Option A → (A → Option B) → Option B
@@ -165,12 +165,28 @@ term_in text = do
   measure ← measure_in both.1
   Some (record { weight = weight; measure = measure })
 
-unfoldable pub header_in : List (List ℕ) → Option Line
-header_in (version ∷ len ∷ steps ∷ []) = if bytes_eq version (codes "1") then (do
+unfoldable pub one_length_in : List (List ℕ) → Option Line
+one_length_in (len ∷ steps ∷ []) = do
   l ← numeral_in len
   s ← numeral_in steps
-  Some (Line.header l s)) else None
-header_in _ = None
+  Some (Line.header (Lengths.one l) s)
+one_length_in _ = None
+
+unfoldable pub two_lengths_in : List (List ℕ) → Option Line
+two_lengths_in (least ∷ most ∷ steps ∷ []) = do
+  l ← numeral_in least
+  m ← numeral_in most
+  s ← numeral_in steps
+  Some (Line.header (Lengths.range l m) s)
+two_lengths_in _ = None
+
+-- by the version
+unfoldable pub header_in : List (List ℕ) → Option Line
+header_in [] = None
+header_in (version ∷ rest) =
+    if bytes_eq version (codes "1") then one_length_in rest
+    else if bytes_eq version (codes "2") then two_lengths_in rest
+    else None
 
 unfoldable pub function_in : List (List ℕ) → Option Line
 function_in (first ∷ depth ∷ ret ∷ []) = do

@@ -1,7 +1,7 @@
 -- Forms that the code keeps, without where their digits lie in memory.
 use Rattle.std.specs.Prelude.{◌≡◌, ℕ, Bool, true, not, ◌&&◌, List, codes, Option, Some, None, ℤ, pos, neg_ℤ, min, ◌^◌, if◌then◌else◌}
 use Rattle.bpf_cert.specs.Numeral.{SignedDigits, number, is_numeral, is_plain}
-use Rattle.bpf_cert.specs.Line.{Part, Place, Content, Measure, Term}
+use Rattle.bpf_cert.specs.Line.{Part, Place, Content, Measure, Term, Lengths, Line}
 use Rattle.bpf_cert.specs.Reading.{◌>>=◌, cut, behind}
 use Rattle.bpf_cert.specs.Faults.{is_plain_part, is_top}
 use Rattle.bpf_cert.specs.declared.number.SignedForm.{SignedForm}
@@ -13,6 +13,8 @@ use Rattle.bpf_cert.specs.declared.term.TermForm.{TermForm}
 use Rattle.std.specs.Borrow.{Bor}
 use Rattle.bpf_cert.specs.declared.place.PlaceForm.{PlaceForm}
 use Rattle.bpf_cert.specs.declared.place.PlaceForm.TheVariants as place
+use Rattle.bpf_cert.specs.declared.header.HeaderForm.{HeaderForm}
+use Rattle.bpf_cert.specs.declared.header.HeaderForm.TheVariants as header
 
 abbrev pub signed_seen : SignedForm → SignedDigits
 signed_seen s = record { minus = s.minus; digits = s.digits.now }
@@ -55,3 +57,7 @@ measure_seen (Some limit) p = Measure.up limit.now (place_seen p)
 
 abbrev pub term_seen : TermForm → Term
 term_seen t = record { weight = t.weight.now; measure = measure_seen t.limit t.place }
+
+abbrev pub header_seen : HeaderForm → Line
+header_seen (header.One len steps) = Line.header (Lengths.one len.now) steps.now
+header_seen (header.Range least most steps) = Line.header (Lengths.range least.now most.now) steps.now

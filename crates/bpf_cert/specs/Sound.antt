@@ -5,12 +5,13 @@ use Rattle.bpf_state.specs.State.{AbstractState}
 use Rattle.bpf_cert.specs.Numeral.{is_from_to}
 use Rattle.bpf_cert.specs.Faults.{is_rising, comes_after}
 use Rattle.bpf_cert.specs.TermSums.{last}
-use Rattle.bpf_cert.specs.View.{LabelView, FunctionView, label_view, function_view}
-use Rattle.bpf_cert.specs.Limits.{is_canonical_state, is_limited_state, slot_before, is_canonical_label, is_limited_label, first_before, is_canonical_function, is_limited_function, is_limited_num, label_count, IsCertificate}
+use Rattle.bpf_cert.specs.View.{LabelView, FunctionView, label_view, function_view, certificate_of}
+use Rattle.bpf_cert.specs.Limits.{is_canonical_state, is_limited_state, slot_before, is_canonical_label, is_limited_label, first_before, is_canonical_function, is_limited_function, is_limited_num, label_count, is_limited_header, IsCertificate}
 use Rattle.bpf_cert.specs.declared.standing.Stage.{Stage}
 use Rattle.bpf_cert.specs.declared.standing.Stage.TheVariants as stage
 use Rattle.bpf_cert.specs.declared.standing.Standing.{Standing}
 use Rattle.bpf_cert.specs.declared.building.Builder.{Builder}
+use Rattle.bpf_cert.specs.declared.header.Header.{Header}
 
 -- a state as a label of a certificate may have it
 pub record IsLabelState (s : AbstractState) : Type 0 where
@@ -29,11 +30,6 @@ pub record AreFunctions (fs : List FunctionView) : Type 0 where
   pub canonical : list_all is_canonical_function fs ≡ true
   pub limited : list_all is_limited_function fs ≡ true
 
--- the numbers of a header within the limits
-pub record IsHeader (len steps : ℕ) : Type 0 where
-  pub bytes : nat_le len 4096 ≡ true
-  pub most : is_from_to 1 (2 ^ 32 - 1) steps ≡ true
-
 abbrev pub first_of : FunctionView → ℕ
 first_of f = f.first
 
@@ -48,8 +44,8 @@ pub record IsNext (fs : List FunctionView) (f : FunctionView) : Type 0 where
   pub ret : is_limited_num f.ret ≡ true
 
 -- all functions are whole
-pub record AreWhole (s : Standing) (len steps : ℕ) (fs : List FunctionView) : Type 0 where
-  pub header : IsHeader len steps
+pub record AreWhole (s : Standing) (h : Header) (fs : List FunctionView) : Type 0 where
+  pub header : is_limited_header h ≡ true
   pub functions : AreFunctions fs
   pub first : s.first ≡ option_map first_of (last fs)
   pub count : s.functions ≡ length fs
@@ -58,8 +54,8 @@ pub record AreWhole (s : Standing) (len steps : ℕ) (fs : List FunctionView) : 
   pub few_labels : sum_by label_count fs ≤ 65536
 
 -- behind whole functions there is one that may have more labels
-pub record HasFunction (s : Standing) (len steps : ℕ) (fs : List FunctionView) (f : FunctionView) : Type 0 where
-  pub header : IsHeader len steps
+pub record HasFunction (s : Standing) (h : Header) (fs : List FunctionView) (f : FunctionView) : Type 0 where
+  pub header : is_limited_header h ≡ true
   pub functions : AreFunctions fs
   pub next : IsNext fs f
   pub labels : AreLabels f.labels
@@ -92,10 +88,10 @@ functions_at _ b = closed b
 -- what is kept behind each kind of line: whole functions, or one that may go on; behind `end` a certificate
 abbrev pub IsSoundAt : Stage → Builder → Type 0
 IsSoundAt stage.Start b = closed b ≡ []
-IsSoundAt stage.Header b = AreWhole b.standing b.len b.steps (closed b)
-IsSoundAt stage.Function b = HasFunction b.standing b.len b.steps (closed b) (function_at stage.Function b)
-IsSoundAt stage.Label b = HasFunction b.standing b.len b.steps (closed b) (function_at stage.Label b)
-IsSoundAt stage.Ended b = IsCertificate (record { len = b.len; steps = b.steps; functions = closed b })
+IsSoundAt stage.Header b = AreWhole b.standing b.header (closed b)
+IsSoundAt stage.Function b = HasFunction b.standing b.header (closed b) (function_at stage.Function b)
+IsSoundAt stage.Label b = HasFunction b.standing b.header (closed b) (function_at stage.Label b)
+IsSoundAt stage.Ended b = IsCertificate (certificate_of b.header (closed b))
 
 abbrev pub IsSound : Builder → Type 0
 IsSound b = IsSoundAt b.standing.stage b

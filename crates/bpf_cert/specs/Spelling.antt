@@ -1,7 +1,7 @@
 -- The one text of a certificate: its lines in their order, each in its one spelling, and LF behind each.
 use Rattle.std.specs.Prelude.{ℕ, ◌+◌, nat_lt, Bool, false, ◌-◌, ◌^◌, ◌&&◌, List, [], ◌∷◌, ◌++◌, map, flat_map, take, pos, neg_ℤ, ◌==◌, decimal, if◌then◌else◌}
 use Rattle.bpf_cert.specs.Numeral.{digits_of_int, int_eq}
-use Rattle.bpf_cert.specs.Line.{Part, Number, Content, Place as PlaceText, Measure as MeasureText, Term as TermText, Line, line_text}
+use Rattle.bpf_cert.specs.Line.{Part, Number, Content, Place as PlaceText, Measure as MeasureText, Term as TermText, Lengths, Line, line_text}
 use Rattle.bpf_num.specs.Tristate.{Tristate}
 use Rattle.bpf_num.specs.Interval.{Interval}
 use Rattle.bpf_num.specs.SignedInterval.{SignedInterval}
@@ -16,7 +16,8 @@ use Rattle.bpf_cert.specs.declared.certificate.Measure.{Measure}
 use Rattle.bpf_cert.specs.declared.certificate.Measure.TheVariants as measure
 use Rattle.bpf_cert.specs.declared.certificate.Term.{Term}
 use Rattle.bpf_insn.specs.Instruction.{register_number}
-use Rattle.bpf_cert.specs.View.{LabelView, FunctionView, CertificateView}
+use Rattle.bpf_cert.specs.declared.header.Header.{Header}
+use Rattle.bpf_cert.specs.View.{LabelView, FunctionView, CertificateView, header_of}
 
 -- a part, unless it is top
 abbrev pub unsigned_parts : Interval → List Part
@@ -87,11 +88,15 @@ function_line f = Line.function (decimal f.first) (decimal f.depth) (number_of f
 abbrev pub function_lines : FunctionView → List Line
 function_lines f = function_line f ∷ flat_map label_lines f.labels
 
-abbrev pub header_line : ℕ → ℕ → Line
-header_line len steps = Line.header (decimal len) (decimal steps)
+-- each version has its own spelling
+abbrev pub lengths_of : ℕ → ℕ → ℕ → Lengths
+lengths_of version least most = if version == 1 then Lengths.one (decimal least) else Lengths.range (decimal least) (decimal most)
+
+abbrev pub header_line : Header → Line
+header_line h = Line.header (lengths_of h.version h.least h.most) (decimal h.steps)
 
 abbrev pub certificate_lines : CertificateView → List Line
-certificate_lines c = header_line c.len c.steps ∷ (flat_map function_lines c.functions ++ Line.end ∷ [])
+certificate_lines c = header_line (header_of c) ∷ (flat_map function_lines c.functions ++ Line.end ∷ [])
 
 -- 10 is LF
 abbrev pub line_with_end : Line → List ℕ

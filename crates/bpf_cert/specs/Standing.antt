@@ -1,14 +1,14 @@
 -- A line that was read: what it says, and what is kept of the lines before it.
 use Rattle.std.specs.Prelude.{◌≡◌, ◌≤◌, ◌<◌, ◌^◌, ℕ, Bool, true, false, not, ◌&&◌, ◌==◌, List, [], ◌∷◌, count_by, Option, Some, None, option_map, IfSome, Result, Ok, Err, map, if◌then◌else◌, decimal}
 use Rattle.std.specs.List.{list_all, slice_split}
-use Rattle.bpf_cert.specs.Line.{Line, Place, is_place, is_content}
+use Rattle.bpf_cert.specs.Line.{Line, Place, is_place, is_content, is_line}
 use Rattle.bpf_state.specs.declared.state.Place.{Place as PlaceValue}
 use Rattle.bpf_state.specs.declared.state.SlotState.{SlotState}
 use Rattle.bpf_cert.specs.Numeral.{is_numeral}
-use Rattle.bpf_cert.specs.Reading.{number_in, content_in, header_in, function_in, label_in, entry_in}
+use Rattle.bpf_cert.specs.Reading.{number_in, content_in, function_in, label_in, entry_in}
 use Rattle.bpf_cert.specs.TermSums.{terms_in}
 use Rattle.bpf_cert.specs.Faults.{is_canonical, is_limited, may_stand, is_in_order, has_room, last_first, last_slot, last_place, is_function, is_label}
-use Rattle.bpf_cert.specs.Limits.{is_limited_place, is_limited_term}
+use Rattle.bpf_cert.specs.Limits.{is_limited_place, is_limited_term, is_limited_header}
 use Rattle.bpf_cert.specs.Spelling.{place_of, term_of, number_of, content_of, header_line}
 use Rattle.bpf_cert.specs.Contents.{IsContent}
 use Rattle.bpf_cert.specs.declared.finding.Flaw.{Flaw}
@@ -21,7 +21,7 @@ use Rattle.bpf_cert.specs.declared.standing.LineValue.TheVariants as value
 
 -- the line that says so
 abbrev pub value_line : LineValue → Line
-value_line (value.Header len steps) = header_line len steps
+value_line (value.Header h) = header_line h
 value_line (value.Function first depth ret) = Line.function (decimal first) (decimal depth) (number_of ret)
 value_line (value.Label slot base terms) = Line.label (decimal slot) (decimal base) (map term_of terms.items)
 value_line (value.Entry place content) = Line.entry (place_of place) (content_of content)
@@ -37,12 +37,12 @@ abbrev pub IsValue : LineValue → Type 0
 IsValue (value.Entry place content) = IsEntry place content
 IsValue (value.Function first depth ret) = first < 2 ^ 32
 IsValue (value.Label slot base terms) = (slot < 2 ^ 32) × (list_all is_limited_term terms.items ≡ true)
-IsValue (value.Header len steps) = Unit {0}
+IsValue (value.Header h) = is_limited_header h ≡ true
 IsValue value.End = Unit {0}
 
 -- the place of an entry
 abbrev pub value_place : LineValue → Option PlaceValue
-value_place (value.Header len steps) = None
+value_place (value.Header h) = None
 value_place (value.Function first depth ret) = None
 value_place (value.Label slot base terms) = None
 value_place (value.Entry place content) = Some place
@@ -51,7 +51,7 @@ value_place value.End = None
 -- the last line's kind; an entry belongs to a label
 abbrev pub stage_of : List Line → Stage
 stage_of [] = stage.Start
-stage_of (Line.header len steps ∷ before) = stage.Header
+stage_of (Line.header lengths steps ∷ before) = stage.Header
 stage_of (Line.function first depth ret ∷ before) = stage.Function
 stage_of (Line.label at base terms ∷ before) = stage.Label
 stage_of (Line.entry p c ∷ before) = stage.Label
@@ -87,6 +87,10 @@ abbrev pub uncons : List (List ℕ) → Option (List ℕ × List (List ℕ))
 uncons [] = None
 uncons (f ∷ fs) = Some (f, fs)
 
+abbrev pub two_of : List (List ℕ) → Option (List ℕ × List ℕ)
+two_of (a ∷ b ∷ []) = Some (a, b)
+two_of _ = None
+
 abbrev pub three_of : List (List ℕ) → Option (List ℕ × List ℕ × List ℕ)
 three_of (a ∷ b ∷ c ∷ []) = Some (a, b, c)
 three_of _ = None
@@ -98,6 +102,7 @@ is_start stage.Function = false
 is_start stage.Label = false
 is_start stage.Ended = false
 
+-- Nothing is asked behind `end`: whatever stands there is refused first.
 abbrev pub may_have_label : Stage → Bool
 may_have_label stage.Start = false
 may_have_label stage.Header = false
@@ -114,9 +119,10 @@ may_have_entry stage.Ended = false
 
 -- the form of each kind of line, as far as its own fields tell
 
-abbrev pub HeaderIs : List (List ℕ) → Option (List ℕ × List ℕ) → Type 0
-HeaderIs fs None = header_in fs ≡ None
-HeaderIs fs (Some x) = (is_numeral x.0 ≡ true) × (is_numeral x.1 ≡ true) × (header_in fs ≡ Some (Line.header x.0 x.1))
+-- what is read is the line
+abbrev pub HeaderIs : Option Line → Option Line → Type 0
+HeaderIs read None = read ≡ None
+HeaderIs read (Some l) = (is_line l ≡ true) × (read ≡ Some l)
 
 abbrev pub FunctionIs : List (List ℕ) → Option (List ℕ × List ℕ × List ℕ) → Type 0
 FunctionIs fs None = function_in fs ≡ None

@@ -10,6 +10,7 @@ ghost use Rattle.bpf_state.specs.State.{value_slot, IsRegister};
 use crate::certificate::{Budget, Certificate, Function, Label};
 use crate::error::CertError;
 use crate::finding::Flaw;
+use crate::header::Header;
 use crate::standing::{LineValue, Stage, Standing};
 use arrayvec::ArrayVec;
 use bpf_num::Num;
@@ -22,8 +23,7 @@ use std::mem;
 pub struct Builder {
     pub alloc: Global,
     pub standing: Standing,
-    pub len: u32,
-    pub steps: u32,
+    pub header: Header,
     /// The functions before the last one.
     pub functions: Vec<Function>,
     /// The last function, but for its last label.
@@ -77,8 +77,12 @@ impl Builder {
         Builder {
             alloc,
             standing: Standing::new(),
-            len: 0,
-            steps: 0,
+            header: Header {
+                version: 1,
+                least: 0,
+                most: 0,
+                steps: 1,
+            },
             functions: Vec::new(alloc),
             function: Function {
                 first: 0,
@@ -146,10 +150,7 @@ impl Builder {
     {
         let standing = self.standing.after(&value);
         match value {
-            LineValue::Header { len, steps } => {
-                self.len = len;
-                self.steps = steps;
-            }
+            LineValue::Header(header) => self.header = header,
             LineValue::Function { first, depth, ret } => {
                 ret.valid();
                 self.close()?;
@@ -206,6 +207,6 @@ impl Builder {
         requires { (lines : List Line) × IsBuilt lines self × (is_ended lines ≡ true) }
         ensures { (lines : List Line) → IsBuilt lines self → is_ended lines ≡ true → AreLinesOf lines result }
     {
-        Certificate::of_parts(self.len, self.steps, self.functions)
+        Certificate::of_parts(self.header, self.functions)
     }
 }

@@ -1,6 +1,7 @@
 //! What a certificate says.
 
 use crate::error::CertError;
+use crate::header::Header;
 use crate::limits::{is_canonical, is_limited};
 use arrayvec::ArrayVec;
 use bpf_insn::Reg;
@@ -72,11 +73,10 @@ pub struct Function {
     pub labels: Vec<Label>,
 }
 
-/// A claim about a program: it ends, and does no wrong, on each context of this length.
+/// A claim about a program: it ends, and does no wrong, on each context whose length lies in a range.
 #[derive(Debug, Drop)]
 pub struct Certificate {
-    len: u32,
-    steps: u32,
+    header: Header,
     functions: Vec<Function>,
 }
 
@@ -86,61 +86,87 @@ impl Model for Certificate {
 
     ghost Value = { CertificateView };
 
-    ghost view = { λ c. certificate_view c.len c.steps c.functions.items };
+    ghost view = { λ c. certificate_view c.header.version c.header.least c.header.most c.header.steps c.functions.items };
 
-    ghost invariant = { λ c. IsCertificate (certificate_view c.len c.steps c.functions.items) };
+    ghost invariant = { λ c. IsCertificate (certificate_view c.header.version c.header.least c.header.most c.header.steps c.functions.items) };
 }
 
 impl Certificate {
     ghost use Rattle.std.specs.Prelude.{◌≡◌, map, IfOk, IfErr, Some, None};
-    ghost use Rattle.bpf_cert.specs.View.{certificate_view, function_view};
+    ghost use Rattle.bpf_cert.specs.View.{certificate_view, certificate_of, header_of, function_view};
     ghost use Rattle.bpf_cert.specs.Limits.{IsCertificate, refusal_of};
 
-    /// The certificate of its parts: the contexts' length in bytes, from 0 to 4,096, the greatest number of steps, from
-    /// 1 to 2^32 - 1, and 1 to 256 functions by their firsts, with at most 65,536 labels. K2, at line 0, if parts are
-    /// out of order, or a label's state has a tag or its r10 isn't at the frame's end; else K3 past a limit.
-    pub fn new(len: u32, steps: u32, functions: Vec<Function>) -> Result<Certificate, CertError>
-        ensures ok { IfOk result (λ c. c ≡ certificate_view len steps functions.items) }
+    /// The certificate of its parts: the version, 1 or 2; the least and the greatest length of a context in bytes, from
+    /// 0 to 4,096 and in version 1 the same; the greatest number of steps, from 1 to 2^32 - 1; and 1 to 256 functions by
+    /// their firsts, with at most 65,536 labels. K2, at line 0, if parts are out of order, or a label's state has a tag
+    /// or its r10 isn't at the frame's end; else K3 past a limit.
+    pub fn new(
+        version: u32,
+        least: u32,
+        most: u32,
+        steps: u32,
+        functions: Vec<Function>,
+    ) -> Result<Certificate, CertError>
+        ensures ok { IfOk result (λ c. c ≡ certificate_view version least most steps functions.items) }
         ensures certificate { IfOk result (λ c. IsCertificate c) }
-        ensures err { IfErr result (λ e. refusal_of (certificate_view len steps functions.items) ≡ Some e) }
+        ensures err { IfErr result (λ e. refusal_of (certificate_view version least most steps functions.items) ≡ Some e) }
     {
+        let header = Header {
+            version,
+            least,
+            most,
+            steps,
+        };
         if !is_canonical(&functions) {
             return Err(CertError::NotCanonical { line: 0 });
         }
-        if !is_limited(len, steps, &functions) {
+        if !is_limited(header, &functions) {
             return Err(CertError::Limit { line: 0 });
         }
-        Ok(Certificate {
-            len,
-            steps,
-            functions,
-        })
+        Ok(Certificate { header, functions })
     }
 
     /// The certificate of parts that are in their order and within the limits.
-    pub(crate) fn of_parts(len: u32, steps: u32, functions: Vec<Function>) -> Certificate
-        requires { IsCertificate (certificate_view len steps functions.items) }
-        ensures { result ≡ certificate_view len steps functions.items }
+    pub(crate) fn of_parts(header: Header, functions: Vec<Function>) -> Certificate
+        requires { IsCertificate (certificate_of header (map function_view functions.items)) }
+        ensures { result ≡ certificate_of header (map function_view functions.items) }
     {
-        Certificate {
-            len,
-            steps,
-            functions,
-        }
+        Certificate { header, functions }
     }
 
-    /// The length in bytes of the contexts that it speaks of, from 0 to 4,096.
-    pub fn len(&self) -> u32
-        ensures { result ≡ self.now.len }
+    /// What its first line says.
+    pub(crate) fn header(&self) -> Header
+        ensures { result ≡ header_of self.now }
     {
-        self.len
+        self.header
+    }
+
+    /// The version of its text: 1, or 2, which may speak of a range of lengths.
+    pub fn version(&self) -> u32
+        ensures { result ≡ self.now.version }
+    {
+        self.header.version
+    }
+
+    /// The least length in bytes of the contexts that it speaks of, from 0 to 4,096.
+    pub fn least(&self) -> u32
+        ensures { result ≡ self.now.least }
+    {
+        self.header.least
+    }
+
+    /// The greatest length in bytes of the contexts that it speaks of, from the least to 4,096.
+    pub fn most(&self) -> u32
+        ensures { result ≡ self.now.most }
+    {
+        self.header.most
     }
 
     /// The greatest number of instructions that a run may take, from 1 to 2^32 - 1.
     pub fn steps(&self) -> u32
         ensures { result ≡ self.now.steps }
     {
-        self.steps
+        self.header.steps
     }
 
     /// The functions, by their first slots.
@@ -154,6 +180,6 @@ impl Certificate {
     pub fn valid(&self)
         ensures { IsCertificate self.now }
     {
-        let _len = self.len;
+        let _steps = self.header.steps;
     }
 }

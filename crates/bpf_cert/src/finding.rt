@@ -1,6 +1,6 @@
 //! What is found in a part of a line: its value, or the gravest flaw.
 
-ghost use Rattle.std.specs.Prelude.{◌≡◌};
+ghost use Rattle.std.specs.Prelude.{◌≡◌, ◌&&◌};
 ghost use Rattle.bpf_cert.specs.Findings.{tested, joined, graver};
 
 /// Why a part of a line is refused, the gravest first.
@@ -9,6 +9,13 @@ pub enum Flaw {
     Syntax,
     NotCanonical,
     Limit,
+}
+
+/// Whether both hold.
+pub fn both(first: bool, second: bool) -> bool
+    ensures { result ≡ (first && second) }
+{
+    first && second
 }
 
 /// Refuses what is not canonical, or else past a limit.

@@ -7,6 +7,7 @@ mod content;
 mod cut;
 pub mod error;
 mod finding;
+mod header;
 mod laws;
 mod limits;
 mod num;

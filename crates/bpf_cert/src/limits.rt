@@ -3,12 +3,13 @@
 ghost use Rattle.std.specs.Prelude.{◌≡◌, ◌≤◌, ◌+◌, map, sum_by, is_none, nat_le, true};
 ghost use Rattle.std.specs.List.{list_all};
 ghost use Rattle.bpf_cert.specs.Faults.{is_rising, is_pointer_range};
-ghost use Rattle.bpf_cert.specs.View.{function_view, label_view, certificate_view};
+ghost use Rattle.bpf_cert.specs.View.{function_view, label_view, certificate_of};
 ghost use Rattle.bpf_cert.specs.Limits as limits;
 ghost use Rattle.bpf_cert.specs.Limits.{label_count};
 ghost use Rattle.bpf_insn.specs.Instruction.{register_number};
 
 use crate::certificate::{Function, Label, Measure, Term};
+use crate::header::Header;
 use bpf_insn::Reg;
 use bpf_num::Num;
 use bpf_state::{Place, Pointer, RegState, SlotState, State};
@@ -348,12 +349,30 @@ fn has_few_labels(functions: &[Function]) -> bool
     true
 }
 
-/// Whether all numbers and counts are within their limits.
-pub fn is_limited(len: u32, steps: u32, functions: &[Function]) -> bool
-    ensures { result ≡ limits.is_limited (certificate_view len steps functions.now) }
+// Version 1 speaks of one length, version 2 of a range.
+fn is_version(version: u32, least: u32, most: u32) -> bool
+    ensures { result ≡ limits.is_version version least most }
 {
-    len <= 4096
-        && 1 <= steps
+    match version {
+        1 => least == most,
+        _ => version == 2,
+    }
+}
+
+fn is_limited_header(header: Header) -> bool
+    ensures { result ≡ limits.is_limited_header header }
+{
+    is_version(header.version, header.least, header.most)
+        && header.least <= header.most
+        && header.most <= 4096
+        && 1 <= header.steps
+}
+
+/// Whether all numbers and counts are within their limits.
+pub fn is_limited(header: Header, functions: &[Function]) -> bool
+    ensures { result ≡ limits.is_limited (certificate_of header (map function_view functions.now)) }
+{
+    is_limited_header(header)
         && 1 <= functions.len()
         && functions.len() <= 256
         && has_few_labels(functions)

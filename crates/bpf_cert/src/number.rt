@@ -2,7 +2,7 @@
 
 ghost use Rattle.std.specs.Prelude.{◌≡◌, ◌^◌, min, nat_lt, option_map};
 ghost use Rattle.std.specs.List.{list_all};
-ghost use Rattle.bpf_cert.specs.Numeral.{is_decimal_digit, is_numeral, is_plain, number};
+ghost use Rattle.bpf_cert.specs.Numeral.{is_decimal_digit, is_numeral, is_plain, number, is_from_to};
 ghost use Rattle.bpf_cert.specs.Reading.{signed_in};
 ghost use Rattle.bpf_cert.specs.Seen.{signed_seen, IsPlainNumeral};
 
@@ -63,6 +63,13 @@ pub fn is_less(left: &[u8], right: &[u8]) -> bool
         }
     }
     false
+}
+
+/// Whether a number lies from `low` up to `high`.
+pub fn between(low: u128, high: u128, number: u128) -> bool
+    ensures { result ≡ is_from_to low high number }
+{
+    low <= number && number <= high
 }
 
 /// Digits, and whether a `-` stands before them.

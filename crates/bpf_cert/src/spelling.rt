@@ -10,6 +10,7 @@ ghost use Rattle.bpf_cert.specs.Line.Line.{entry};
 ghost use Rattle.bpf_state.specs.declared.state.SlotState.TheVariants.{Ptr};
 
 use crate::certificate::{Function, Label, Measure, Term};
+use crate::header::Header;
 use arrayvec::ArrayVec;
 use bpf_num::{KnownBits, Num, Signed, Unsigned};
 use bpf_state::{Place, Pointer, SlotState};
@@ -249,14 +250,21 @@ fn terms(line: &mut LineText, terms: &[Term])
 
 /// The line of the whole certificate.
 #[tactic(auto, using(crate::proofs::SpellingLemmas::texts))]
-pub fn header_text(len: u32, steps: u32) -> LineText
-    ensures { result.items ≡ line_with_end (header_line len steps) }
+pub fn header_text(header: Header) -> LineText
+    ensures { result.items ≡ line_with_end (header_line header) }
 {
     let mut line = LineText::new();
-    word(&mut line, b"bpfcert 1 ");
-    number(&mut line, len);
+    if header.version == 1 {
+        word(&mut line, b"bpfcert 1 ");
+        number(&mut line, header.least);
+    } else {
+        word(&mut line, b"bpfcert 2 ");
+        number(&mut line, header.least);
+        word(&mut line, b" ");
+        number(&mut line, header.most);
+    }
     word(&mut line, b" ");
-    number(&mut line, steps);
+    number(&mut line, header.steps);
     word(&mut line, b"\n");
     line
 }

@@ -3,20 +3,21 @@
 ghost use Rattle.std.specs.Prelude.{◌≡◌, List, option_map, nat_lt, not, count_by, true, ◌&&◌, [], ◌∷◌, Some, Ok, IfOk};
 ghost use Rattle.bpf_cert.specs.Line.{Line};
 ghost use Rattle.bpf_cert.specs.Faults.{comes_after, place_before, is_canonical, is_limited, is_function, ends_bare};
-ghost use Rattle.bpf_cert.specs.Numeral.{is_numeral, is_from_to};
+ghost use Rattle.bpf_cert.specs.Numeral.{is_numeral};
 ghost use Rattle.bpf_insn.specs.Instruction.{register_number};
 ghost use Rattle.bpf_cert.specs.Reading.{header_in, function_in, label_in, entry_in, end_in, line_in};
 ghost use Rattle.bpf_cert.specs.Findings.{found, valued};
 ghost use Rattle.bpf_cert.specs.Spelling.{place_of};
 ghost use Rattle.bpf_cert.specs.Seen.{place_seen};
-ghost use Rattle.bpf_cert.specs.Standing.{Stands, IsValue, HeaderIs, FunctionIs, LabelIs, EntryIs, value_line, value_place, stage_of, is_start, may_have_label, may_have_entry, ruled, fields_in, uncons, three_of};
+ghost use Rattle.bpf_cert.specs.Standing.{Stands, IsValue, FunctionIs, LabelIs, EntryIs, value_line, value_place, stage_of, is_start, may_have_label, may_have_entry, ruled, fields_in};
 
 use crate::certificate::Term;
 use crate::content::content;
-use crate::cut::cut;
-use crate::finding::{Flaw, joined, tested};
+use crate::cut::{next_field, three_fields};
+use crate::finding::{Flaw, both, joined, tested};
+use crate::header::{Header, header_form, header_value};
 use crate::num::{are_plain, number_in};
-use crate::number::{is_numeral, number};
+use crate::number::{between, is_numeral, number};
 use crate::place::{PlaceForm, is_limited_place, is_plain_place, place, place_value};
 use crate::term::all_terms;
 use arrayvec::ArrayVec;
@@ -51,10 +52,7 @@ pub struct Standing {
 /// What a line says.
 #[derive(Drop)]
 pub enum LineValue {
-    Header {
-        len: u32,
-        steps: u32,
-    },
+    Header(Header),
     Function {
         first: u32,
         depth: u32,
@@ -70,33 +68,6 @@ pub enum LineValue {
         content: SlotState,
     },
     End,
-}
-
-/// The next field, and what stands behind it.
-type Split<'a> = Option<(&'a [u8], Option<&'a [u8]>)>;
-
-fn next_field(rest: Option<&[u8]>) -> Split<'_>
-    ensures { option_map (λ x. (x.0.now, fields_in (option_map (λ y. y.now) x.1))) result ≡ uncons (fields_in (option_map (λ x. x.now) rest.entry)) }
-{
-    let Some(text) = rest else {
-        return None;
-    };
-    match cut(text, b' ') {
-        Some((field, more)) => Some((field, Some(more))),
-        None => Some((text, None)),
-    }
-}
-
-fn three_fields(rest: Option<&[u8]>) -> Option<(&[u8], &[u8], &[u8])>
-    ensures { option_map (λ x. (x.0.now, x.1.now, x.2.now)) result ≡ three_of (fields_in (option_map (λ x. x.now) rest.entry)) }
-{
-    let (first, rest) = next_field(rest)?;
-    let (second, rest) = next_field(rest)?;
-    let (third, rest) = next_field(rest)?;
-    match next_field(rest) {
-        Some(_) => None,
-        None => Some((first, second, third)),
-    }
 }
 
 fn rises(last: Option<u32>, number: u128) -> bool
@@ -129,50 +100,6 @@ fn place_rises(last: Option<Place>, next: PlaceForm<'_>) -> bool
             PlaceForm::Register(_) => false,
             PlaceForm::Slot(index) => (k as u128) < number(index),
         },
-    }
-}
-
-fn between(low: u128, high: u128, number: u128) -> bool
-    ensures { result ≡ is_from_to low high number }
-{
-    low <= number && number <= high
-}
-
-fn both(first: bool, second: bool) -> bool
-    ensures { result ≡ (first && second) }
-{
-    first && second
-}
-
-fn header_value(bytes: &[u8], most: &[u8]) -> Result<LineValue, Flaw>
-    requires bytes { is_numeral bytes.now ≡ true }
-    requires most { is_numeral most.now ≡ true }
-    ensures value { valued value_line result ≡ found is_canonical is_limited (Some (Line.header bytes.now most.now)) }
-    ensures kept { IfOk result IsValue }
-{
-    let len = number(bytes);
-    let steps = number(most);
-    let limited = both(len <= 4096, between(1, 0xffff_ffff, steps));
-    match tested(are_plain(bytes, most), limited) {
-        Ok(()) => Ok(LineValue::Header {
-            len: len as u32,
-            steps: steps as u32,
-        }),
-        Err(flaw) => Err(flaw),
-    }
-}
-
-fn header_form(rest: Option<&[u8]>) -> Option<(&[u8], &[u8])>
-    ensures { HeaderIs (fields_in (option_map (λ x. x.now) rest.entry)) (option_map (λ x. (x.0.now, x.1.now)) result) }
-{
-    let Some((version, bytes, most)) = three_fields(rest) else {
-        return None;
-    };
-    let known = version == b"1".as_slice();
-    if both(known, both(is_numeral(bytes), is_numeral(most))) {
-        Some((bytes, most))
-    } else {
-        None
     }
 }
 
@@ -242,13 +169,16 @@ impl Standing {
         ensures value { (before : List Line) → Stands before self → valued value_line result ≡ ruled before (header_in (fields_in (option_map (λ x. x.now) rest.entry))) }
         ensures kept { IfOk result IsValue }
     {
-        let Some((bytes, most)) = header_form(rest) else {
+        let Some(form) = header_form(rest) else {
             return Err(Flaw::Syntax);
         };
         if !self.is_at_start() {
             return Err(Flaw::Syntax);
         }
-        header_value(bytes, most)
+        match header_value(form) {
+            Ok(header) => Ok(LineValue::Header(header)),
+            Err(flaw) => Err(flaw),
+        }
     }
 
     fn function(self, rest: Option<&[u8]>) -> Result<LineValue, Flaw>
@@ -368,7 +298,7 @@ impl Standing {
         ensures stands { (before : List Line) → Stands before self → ruled before (Some (value_line value.now)) ≡ Ok (value_line value.now) → Stands (value_line value.now ∷ before) result }
     {
         match *value {
-            LineValue::Header { .. } => Standing {
+            LineValue::Header(_) => Standing {
                 stage: Stage::Header,
                 place: None,
                 ..self

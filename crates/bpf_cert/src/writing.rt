@@ -114,7 +114,7 @@ fn write_functions<W: Write>(out: &mut W, functions: &[Function]) -> io::Result<
 pub fn write<W: Write>(certificate: &Certificate, out: &mut W) -> io::Result<()>
     ensures { Writes (W.contents out.old) (W.contents out.new) (certificate_text certificate.now) result }
 {
-    let header = header_text(certificate.len(), certificate.steps());
+    let header = header_text(certificate.header());
     write_bytes(out, header.as_slice())?;
     write_functions(out, certificate.functions())?;
     write_bytes(out, b"end\n")

@@ -3,7 +3,7 @@ use Rattle.std.proofs.lemmas.Bool.{leb-true}
 use Rattle.bpf_cert.specs.Line.{Place}
 use Rattle.bpf_cert.specs.Numeral.{number}
 use Rattle.bpf_cert.proofs.NumberLemmas.{plain_value}
-use Rattle.bpf_cert.proofs.NumLemmas.{both_true}
+use Rattle.bpf_cert.proofs.Bools.{both_true}
 use Rattle.bpf_cert.proofs.place.place_value.Goals as goal
 
 pub returns-in-Register-clause-spelled : goal.returns-in-Register-clause-spelled

@@ -3,7 +3,7 @@ use Rattle.std.proofs.lemmas.Bool.{leb-true}
 use Rattle.bpf_insn.specs.Instruction.{register_number}
 use Rattle.bpf_state.specs.State.{value_slot}
 use Rattle.bpf_cert.specs.Spelling.{contents}
-use Rattle.bpf_cert.proofs.NumLemmas.{both_true}
+use Rattle.bpf_cert.proofs.Bools.{both_true}
 use Rattle.bpf_cert.proofs.WritingLemmas.{length-contents}
 use Rattle.bpf_cert.proofs.BuildingLemmas.{contents_register, contents_slot, front_length}
 use Rattle.bpf_cert.proofs.SoundStates.{state_register, state_slot}
@@ -18,7 +18,7 @@ set_slot-requires-clause-high c = leb-true c.in-Slot.k 64 (both_true (leb 1 c.in
 
 pub returns-in-Register : goal.returns-in-Register
 returns-in-Register c = rw c.in-Register.is (record {
-  keeps = record { len = refl; steps = refl; standing = refl };
+  keeps = record { header = refl; standing = refl };
   list = refl;
   last = refl;
   functions = refl;
@@ -34,7 +34,7 @@ returns-in-Register c = rw c.in-Register.is (record {
 
 pub returns-in-Slot : goal.returns-in-Slot
 returns-in-Slot c = rw c.in-Slot.is (record {
-  keeps = record { len = refl; steps = refl; standing = refl };
+  keeps = record { header = refl; standing = refl };
   list = refl;
   last = refl;
   functions = refl;
