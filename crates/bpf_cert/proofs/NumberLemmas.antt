@@ -1,6 +1,6 @@
 -- The number that digits write, from the first digit on.
 use Rattle.std.proofs.Common.{◌≡◌, ◌≢◌, subst, ℕ, zero, suc, ◌+◌, ◌*◌, ◌-◌, ◌^◌, ◌<◌, ◌≤◌, Bool, true, false, eqb, leb, ltb, List, [], ◌∷◌, length, get_or, take, refl, sym, ◌∙◌, arith, min, add-one}
-use Rattle.std.specs.Prelude.{◌&&◌, not, decimal}
+use Rattle.std.specs.Prelude.{not, decimal}
 use Rattle.bpf_cert.proofs.NumeralLaws.{plain_decimal}
 use Rattle.std.specs.List.{list_all}
 use Rattle.std.proofs.lemmas.Bool.{leb-true, eq-eqb, lt-ltb, le-ltb, ltb-true, ltb-false}

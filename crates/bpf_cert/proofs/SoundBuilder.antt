@@ -1,18 +1,17 @@
 -- The parts of a certificate in the making keep the order and the limits, one line later.
-use Rattle.std.proofs.Common.{◌≡◌, ◌^◌, ◌<◌, true, false, not, ltb, List, [], ◌∷◌, map, Some, None, Ok, refl, sym, ap, subst, ◌∙◌, arith, length-append}
+use Rattle.std.proofs.Common.{◌≡◌, ◌^◌, ◌<◌, true, false, not, ltb, List, [], ◌∷◌, map, Some, Ok, refl, sym, ap, subst, ◌∙◌, arith, length-append}
 use Rattle.std.specs.Prelude.{count_by}
 use Rattle.std.specs.List.{list_all}
 use Rattle.bpf_cert.specs.Line.{Line}
 use Rattle.bpf_state.specs.declared.state.Place.{Place}
 use Rattle.bpf_state.specs.declared.state.SlotState.{SlotState}
 use Rattle.bpf_cert.specs.Faults.{is_ended, is_function, ends_bare}
-use Rattle.bpf_cert.specs.View.{CertificateView, label_view, function_view, certificate_of}
+use Rattle.bpf_cert.specs.View.{label_view, function_view, certificate_of}
 use Rattle.bpf_cert.specs.Spelling.{header_line, function_line, label_line, place_of, content_of}
 use Rattle.bpf_cert.specs.Limits.{is_limited_num, is_limited_term, is_limited_header, IsCertificate}
 use Rattle.bpf_cert.specs.Standing.{Stands, ruled, stage_of, is_start, may_have_label}
 use Rattle.bpf_cert.specs.Sound.{IsLabelState, AreWhole, HasFunction, IsSoundAt, IsSound, closed, function_at, functions_at, with_label}
 use Rattle.bpf_cert.specs.Building.{IsBuilt, Closes, ClosesLabel, Puts}
-use Rattle.bpf_cert.specs.declared.error.CertError.{CertError}
 use Rattle.bpf_cert.specs.declared.building.Builder.{Builder}
 use Rattle.bpf_cert.specs.declared.standing.Stage.{Stage}
 use Rattle.bpf_cert.specs.declared.standing.Stage.TheVariants as stage

@@ -1,7 +1,6 @@
 -- Lines by their forms, behind the lines before them.
-use Rattle.std.proofs.Common.{◌≡◌, ℕ, ◌^◌, ◌<◌, ◌≤◌, Bool, true, false, cond, not, leb, ltb, List, [], ◌∷◌, map, Option, Some, None, Result, Ok, Err, refl, sym, ap, ◌∙◌, arith, min}
-use Rattle.std.specs.Prelude.{◌&&◌, option_map, IfSome, decimal, codes}
-use Rattle.std.specs.Str.{bytes_eq}
+use Rattle.std.proofs.Common.{◌≡◌, ℕ, ◌^◌, ◌<◌, ◌≤◌, Bool, true, false, not, leb, ltb, List, [], ◌∷◌, map, Option, Some, None, Result, Ok, Err, refl, sym, ap, ◌∙◌, arith, min}
+use Rattle.std.specs.Prelude.{◌&&◌, option_map, IfSome, decimal}
 use Rattle.std.proofs.lemmas.Bool.{leb-true, lt-ltb, ltb-true, ltb-false}
 use Rattle.bpf_cert.specs.Numeral.{is_numeral, is_plain, number, is_from_to}
 use Rattle.bpf_cert.specs.Line.{Line, Place, Number, Content, Term, Lengths}

@@ -1,5 +1,5 @@
 -- What the parts of a certificate in the making keep of its order and limits.
-use Rattle.std.specs.Prelude.{◌≡◌, ◌≤◌, ◌<◌, ◌^◌, ◌-◌, ℕ, ◌+◌, true, List, [], ◌∷◌, ◌++◌, length, map, sum_by, Some, option_map, nat_le, nat_lt}
+use Rattle.std.specs.Prelude.{◌≡◌, ◌≤◌, ◌<◌, ℕ, ◌+◌, true, List, [], ◌∷◌, ◌++◌, length, map, sum_by, Some, option_map, nat_le, nat_lt}
 use Rattle.std.specs.List.{list_all}
 use Rattle.bpf_state.specs.State.{AbstractState}
 use Rattle.bpf_cert.specs.Numeral.{is_from_to}

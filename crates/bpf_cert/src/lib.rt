@@ -10,6 +10,7 @@ mod finding;
 mod header;
 mod laws;
 mod limits;
+mod migration;
 mod num;
 mod number;
 mod part;
@@ -27,5 +28,6 @@ pub use error::CertError;
 pub use laws::{
     each_form_has_one_line, fault_stays, faultless_is_spelled, spelled_is_faultless, spelled_once,
 };
+pub use migration::migrate;
 pub use reading::read;
 pub use writing::write;

@@ -94,12 +94,10 @@ le_but : {m d : ℕ} → (m ≡ suc d → ⊥) → m ≤ suc d → m ≤ d
 le_but {m = m} {d = d} ne h = elim (cases_lt d m) [ inl lt ↦ absurd (ne (omega arith)) | inr le ↦ le ]
 
 away_context : {context len first j : ℕ} → AreApart context len first frame_bytes → j < len → IsWithin first frame_bytes (context + j) → ⊥
-away_context (inl h) hj w = let a = w.0 in omega arith
-away_context (inr h) hj w = let a = w.1 in omega arith
+away_context {context = context} {j = j} h hj w = h (context + j) (omega arith, omega arith) w
 
 away_frame : {first' first j : ℕ} → AreApart first' frame_bytes first frame_bytes → j < frame_bytes → IsWithin first frame_bytes (first' + j) → ⊥
-away_frame (inl h) hj w = let a = w.0 in omega arith
-away_frame (inr h) hj w = let a = w.1 in omega arith
+away_frame {first' = first'} {j = j} h hj w = h (first' + j) (omega arith, omega arith) w
 
 call_fits : (order : Order) (place : Placement) (s : State) (f g : FlatState) (off : ℤ) (slot : ℕ) → Given order place s f → depth s + 1 < max_frames → target s.top.slot off ≡ Some slot → FlatCall place off f g → Fits order place (entered s slot) g
 call_fits order place s f g off slot gv room et c =

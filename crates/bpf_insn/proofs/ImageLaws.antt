@@ -121,7 +121,7 @@ not_lower order bytes low high fault less b f c =
     let free = free_behind order (take (8 * (high - low)) rest) (drop (8 * (high - low)) rest) (behind order c.before b.before (take (8 * (high - low)) rest) c.encoding b.encoding joined) some in
     clash (refusal_here order rest) fault (ap (refusal_here order) (sym (take-append-drop (8 * (high - low)) rest)) ∙ free) f
 
-in_order : (m n : ℕ) → (m < n → ⊥) → (n < m → ⊥) → m ≡ n
+pub in_order : (m n : ℕ) → (m < n → ⊥) → (n < m → ⊥) → m ≡ n
 in_order m n h k = grind arith
 
 same_fault : (f g : SlotFault) → Some f ≡ Some g → f ≡ g

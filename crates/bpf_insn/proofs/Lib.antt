@@ -6,6 +6,8 @@ pub mod FaultLemmas
 pub mod WalkLemmas
 pub mod ViewLemmas
 pub mod ImageLaws
+pub mod ListLaws
+pub mod OrderLaw
 pub mod ReadLemmas
 pub mod WriteLemmas
 pub mod LayoutLemmas
@@ -25,3 +27,4 @@ pub mod FlatInsn
 pub mod FlatAccess
 pub mod FlatCall
 pub mod FlatLaw
+pub mod FlatBytesLaw

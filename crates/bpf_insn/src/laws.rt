@@ -1,6 +1,6 @@
 //! What holds of images, for all bytes and instructions. Each law is the contract of a function that does nothing.
 
-ghost use Rattle.bpf_insn.specs.Laws.{ImageIsInjective, ImageLength, RefusalIsExact, NeverBoth, RefusedOnce};
+ghost use Rattle.bpf_insn.specs.Laws.{ImageIsInjective, ImageLength, ReadsBack, OrdersExchange, RefusalIsExact, NeverBoth, RefusedOnce, ListNeverBoth, ListRefusedOnce};
 
 /// An image is the image of one list of instructions only.
 pub fn image_is_injective()
@@ -10,6 +10,16 @@ pub fn image_is_injective()
 /// An image has eight bytes for each slot.
 pub fn image_length()
     ensures { ImageLength }
+{}
+
+/// What begins in the bytes of an instruction is that instruction, whatever follows.
+pub fn reads_back()
+    ensures { ReadsBack }
+{}
+
+/// The images of a list in both byte orders differ, slot by slot, in how the fields lie.
+pub fn orders_exchange()
+    ensures { OrdersExchange }
 {}
 
 /// A slot has no fault exactly if the bytes of some instruction begin there.
@@ -25,4 +35,14 @@ pub fn never_both()
 /// Bytes are refused for one cause, at one slot.
 pub fn refused_once()
     ensures { RefusedOnce }
+{}
+
+/// The list of a program is not refused.
+pub fn list_never_both()
+    ensures { ListNeverBoth }
+{}
+
+/// A list is refused for one cause, at one slot.
+pub fn list_refused_once()
+    ensures { ListRefusedOnce }
 {}

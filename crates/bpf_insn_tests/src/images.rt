@@ -1,6 +1,6 @@
 //! Images, and why bytes are none: the answers for a program, its view and a reader.
 
-use bpf_insn::{DecodeError, ProgramView, decode, decode_from};
+use bpf_insn::{DecodeError, Order, ProgramView, decode, decode_from};
 use std::alloc::Global;
 use std::test::Fail;
 
@@ -11,22 +11,22 @@ fn refusal(error: DecodeError) -> Answer {
     (error.number(), error.slot())
 }
 
-fn answer_of_view(bytes: &[u8]) -> Answer {
-    match ProgramView::of(bytes) {
+fn answer_of_view(bytes: &[u8], order: Order) -> Answer {
+    match ProgramView::of(bytes, order) {
         Ok(view) => (0, view.slots()),
         Err(error) => refusal(error),
     }
 }
 
-fn answer_of_program(alloc: Global, bytes: &[u8]) -> Answer {
-    match decode(alloc, bytes) {
+fn answer_of_program(alloc: Global, bytes: &[u8], order: Order) -> Answer {
+    match decode(alloc, bytes, order) {
         Ok(program) => (0, program.slots()),
         Err(error) => refusal(error),
     }
 }
 
-fn answer_of_reader(alloc: Global, bytes: &[u8]) -> Answer {
-    match decode_from(alloc, bytes) {
+fn answer_of_reader(alloc: Global, bytes: &[u8], order: Order) -> Answer {
+    match decode_from(alloc, bytes, order) {
         Ok(program) => (0, program.slots()),
         Err(error) => refusal(error),
     }
@@ -77,14 +77,18 @@ fn images_have_these_answers(rt: HostRuntime) -> Result<(), Fail> {
         ),
     ];
     for (bytes, want) in rows {
-        assert_eq!(rt; answer_of_view(bytes), want, "view of {bytes:?}");
         assert_eq!(rt;
-            answer_of_program(rt.alloc(), bytes),
+            answer_of_view(bytes, Order::Little),
+            want,
+            "view of {bytes:?}"
+        );
+        assert_eq!(rt;
+            answer_of_program(rt.alloc(), bytes, Order::Little),
             want,
             "program of {bytes:?}"
         );
         assert_eq!(rt;
-            answer_of_reader(rt.alloc(), bytes),
+            answer_of_reader(rt.alloc(), bytes, Order::Little),
             want,
             "reader of {bytes:?}"
         );
@@ -103,17 +107,25 @@ fn wide_instruction_is_cut(rt: HostRuntime) -> Result<(), Fail> {
     ] {
         let mut bytes = Vec::new(rt.alloc());
         bytes.extend_from_slice(&WIDE[..count])?;
-        assert_eq!(rt; answer_of_view(&bytes), want, "{count} bytes");
+        assert_eq!(rt;
+            answer_of_view(&bytes, Order::Little),
+            want,
+            "{count} bytes"
+        );
     }
     let mut reserved = WIDE.to_vec(rt.alloc())?;
     reserved.extend_from_slice(&EXIT)?;
-    assert_eq!(rt; answer_of_view(&reserved), (0, 3));
+    assert_eq!(rt; answer_of_view(&reserved, Order::Little), (0, 3));
     for place in 8..12 {
         let mut bytes = reserved.clone()?;
         if let Some(byte) = bytes.get_mut(place) {
             *byte = 1;
         }
-        assert_eq!(rt; answer_of_view(&bytes), (4, 0), "byte {place}");
+        assert_eq!(rt;
+            answer_of_view(&bytes, Order::Little),
+            (4, 0),
+            "byte {place}"
+        );
     }
     Ok(())
 }
@@ -125,11 +137,14 @@ fn lengths_have_limits(rt: HostRuntime) -> Result<(), Fail> {
         bytes.extend_from_slice(&[0xb7, 0, 0, 0, 0, 0, 0, 0])?;
     }
     bytes.extend_from_slice(&EXIT)?;
-    assert_eq!(rt; answer_of_view(&bytes), (0, 65536));
-    assert_eq!(rt; answer_of_reader(rt.alloc(), &bytes), (0, 65536));
+    assert_eq!(rt; answer_of_view(&bytes, Order::Little), (0, 65536));
+    assert_eq!(rt;
+        answer_of_reader(rt.alloc(), &bytes, Order::Little),
+        (0, 65536)
+    );
     bytes.extend_from_slice(&EXIT)?;
-    assert_eq!(rt; answer_of_view(&bytes), (1, 0));
-    assert_eq!(rt; answer_of_reader(rt.alloc(), &bytes), (1, 0));
+    assert_eq!(rt; answer_of_view(&bytes, Order::Little), (1, 0));
+    assert_eq!(rt; answer_of_reader(rt.alloc(), &bytes, Order::Little), (1, 0));
     Ok(())
 }
 
@@ -149,7 +164,7 @@ const KNOWN: [u8; 119] = [
 fn every_opcode_is_known_or_not(rt: HostRuntime) -> Result<(), Fail> {
     for opcode in 0u8..=255 {
         let bytes = [opcode, 0, 0, 0, 0, 0, 0, 0, 0x95, 0, 0, 0, 0, 0, 0, 0];
-        let (number, slot) = answer_of_view(&bytes);
+        let (number, slot) = answer_of_view(&bytes, Order::Little);
         let is_left_out = [0x20, 0x28, 0x30, 0x40, 0x48, 0x50, 0x85].contains(&opcode);
         assert_eq!(rt; number == 7, is_left_out, "opcode {opcode:x}");
         assert_eq!(rt;

@@ -1,7 +1,7 @@
 //! Instructions of every form, to images and back.
 
 use bpf_insn::{
-    AluOp, AtomicOp, BuildError, Cond, EndBits, EndKind, Insn, Modify, Operand, Program,
+    AluOp, AtomicOp, BuildError, Cond, EndBits, EndKind, Insn, Modify, Operand, Order, Program,
     ProgramView, Reg, SignBits, Size, Width, decode, encode,
 };
 use std::alloc::{AllocError, Global};
@@ -179,11 +179,11 @@ fn every_form(alloc: Global) -> Result<Vec<Insn>, AllocError> {
 fn every_form_round_trips(rt: HostRuntime) -> Result<(), Fail> {
     let list = every_form(rt.alloc())?;
     let mut at = 0u32;
-    let program = Program::new(rt.alloc(), list.clone()?)?;
+    let program = Program::new(rt.alloc(), list.clone()?, Order::Little)?;
     let mut image = Vec::new(rt.alloc());
     encode(&program, &mut image)?;
-    let view = ProgramView::of(&image)?;
-    let again = decode(rt.alloc(), &image)?;
+    let view = ProgramView::of(&image, Order::Little)?;
+    let again = decode(rt.alloc(), &image, Order::Little)?;
     assert_eq!(rt; view.slots(), program.slots());
     assert_eq!(rt; again.slots(), program.slots());
     for insn in &list {
@@ -254,7 +254,7 @@ fn instructions_have_these_bytes(rt: HostRuntime) -> Result<(), Fail> {
     for (insn, want) in rows {
         let mut list = Vec::new(rt.alloc());
         list.push(insn)?;
-        let program = Program::new(rt.alloc(), list)?;
+        let program = Program::new(rt.alloc(), list, Order::Little)?;
         let mut image = Vec::new(rt.alloc());
         encode(&program, &mut image)?;
         assert_eq!(rt; image.as_slice(), want.as_slice());
@@ -288,7 +288,7 @@ fn lists_have_these_refusals(rt: HostRuntime) -> Result<(), Fail> {
         ),
     ];
     for (list, want) in rows {
-        let error = Program::new(rt.alloc(), list.to_vec(rt.alloc())?).err();
+        let error = Program::new(rt.alloc(), list.to_vec(rt.alloc())?, Order::Little).err();
         assert_eq!(rt; error, Some(want), "{want:?}");
     }
     Ok(())

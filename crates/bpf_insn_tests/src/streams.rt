@@ -1,6 +1,6 @@
 //! Readers and writers that give or take a few bytes at a time, and fail in mid-stream.
 
-use bpf_insn::{Insn, Program, decode_from, encode};
+use bpf_insn::{Insn, Order, Program, decode_from, encode};
 use std::alloc::Global;
 use std::io::{self, ErrorKind, Read, Write};
 use std::test::Fail;
@@ -63,7 +63,7 @@ fn readers_fail_in_mid_stream(rt: HostRuntime) -> Result<(), Fail> {
             left: &SMALLEST[..count],
             fails: true,
         };
-        let answer = match decode_from(rt.alloc(), reader) {
+        let answer = match decode_from(rt.alloc(), reader, Order::Little) {
             Ok(_) => (0, 0),
             Err(error) => (error.number(), error.slot()),
         };
@@ -73,7 +73,7 @@ fn readers_fail_in_mid_stream(rt: HostRuntime) -> Result<(), Fail> {
         left: &SMALLEST,
         fails: false,
     };
-    assert_eq!(rt; decode_from(rt.alloc(), whole)?.slots(), 2);
+    assert_eq!(rt; decode_from(rt.alloc(), whole, Order::Little)?.slots(), 2);
     Ok(())
 }
 
@@ -81,7 +81,7 @@ fn smallest(alloc: Global) -> Result<Program, Fail> {
     let mut list = Vec::new(alloc);
     list.push(Insn::Ja { off: 0 })?;
     list.push(Insn::Exit)?;
-    Ok(Program::new(alloc, list)?)
+    Ok(Program::new(alloc, list, Order::Little)?)
 }
 
 #[test]

@@ -3,7 +3,7 @@
 ghost use Rattle.std.specs.Prelude.{◌≤◌, length};
 
 use bpf_insn::{
-    AluOp, Cond, Insn, Operand, Program, ProgramView, Reason, Reg, Size, Width, encode,
+    AluOp, Cond, Insn, Operand, Order, Program, ProgramView, Reason, Reg, Size, Width, encode,
 };
 use bpf_machine::{Outcome, run};
 use std::alloc::Global;
@@ -103,10 +103,10 @@ pub(crate) fn assert_run(
 ) -> Result<(), Fail>
     requires { length context.now ≤ 4096 }
 {
-    let program = Program::new(rt.alloc(), insns.to_vec(rt.alloc())?)?;
+    let program = Program::new(rt.alloc(), insns.to_vec(rt.alloc())?, Order::Little)?;
     let mut image = Vec::new(rt.alloc());
     encode(&program, &mut image)?;
-    let view = ProgramView::of(&image)?;
+    let view = ProgramView::of(&image, Order::Little)?;
     assert_eq!(rt; run(&program, context, fuel), wanted);
     assert_eq!(rt; run(&view, context, fuel), wanted, "of the view");
     Ok(())

@@ -4,8 +4,8 @@ use crate::programs::{
     assert_run, assert_runs, by, call, copy, done, fault, jump_if, load, put, set, set_long, with,
 };
 use bpf_insn::{
-    AluOp, Cond, EndBits, EndKind, Insn, Operand, Program, ProgramView, Reason, Reg, SignBits,
-    Size, Width, encode,
+    AluOp, Cond, EndBits, EndKind, Insn, Operand, Order, Program, ProgramView, Reason, Reg,
+    SignBits, Size, Width, encode,
 };
 use bpf_machine::{Machine, Outcome, Step};
 use std::test::Fail;
@@ -243,10 +243,10 @@ fn byte_swaps(rt: HostRuntime) -> Result<(), Fail> {
 #[test]
 fn a_machine_stays_after_its_end(rt: HostRuntime) -> Result<(), Fail> {
     let insns = [set(Reg::R0, 3), Insn::Exit].to_vec(rt.alloc())?;
-    let program = Program::new(rt.alloc(), insns)?;
+    let program = Program::new(rt.alloc(), insns, Order::Little)?;
     let mut image = Vec::new(rt.alloc());
     encode(&program, &mut image)?;
-    let view = ProgramView::of(&image)?;
+    let view = ProgramView::of(&image, Order::Little)?;
     let mut machine = Machine::start(&program, &[]);
     let mut other = Machine::start(&view, &[]);
     for wanted in [Step::Moved, Step::Done(3), Step::Done(3)] {
@@ -259,7 +259,7 @@ fn a_machine_stays_after_its_end(rt: HostRuntime) -> Result<(), Fail> {
 #[test]
 fn a_machine_stays_after_a_fault(rt: HostRuntime) -> Result<(), Fail> {
     let insns = [set(Reg::R0, 3), put(Size::B, Reg::R0, 0, 1)].to_vec(rt.alloc())?;
-    let program = Program::new(rt.alloc(), insns)?;
+    let program = Program::new(rt.alloc(), insns, Order::Little)?;
     let mut machine = Machine::start(&program, &[]);
     let stuck = Step::Fault(Reason::OperandKind);
     for wanted in [Step::Moved, stuck, stuck] {

@@ -89,7 +89,7 @@ limited s t r y e le h = weighed t.weight (measured t.measure (pos y)) (by_measu
         omega (arith, ints)
 
 module _ (p : Instructions) (c : CertificateView) (laws : Laws) (certificate : IsWellFormed c) where
-  pub arrive : (m : machine.State) (l : LabelView) (s : AbstractState) (x : List ℕ) (slot : ℕ) → label_at c slot ≡ Some l → IsRightLabel p l → abstract.IsAbstract s → Describes p.order c.len c.len x s m → state_entails s l.state ≡ true → Arrives p c.len c.len m l s x
+  pub arrive : (m : machine.State) (l : LabelView) (s : AbstractState) (x : List ℕ) (slot : ℕ) → label_at c slot ≡ Some l → IsRightLabel p l → abstract.IsAbstract s → Describes p.order c.least c.most x s m → state_entails s l.state ≡ true → Arrives p c.least c.most m l s x
   arrive m l s x slot l_is right valid described entails =
       record {
         at_label = with_tags 0 l.terms told.state;
@@ -103,7 +103,7 @@ module _ (p : Instructions) (c : CertificateView) (laws : Laws) (certificate : I
         edge_has_bounds = edge_bounds;
         inside_edge = λ j t r e b. within s x described j t r e b;
         on_edge = on_edge;
-        tags_are = λ j t tag e i. let h = holds_tagged p.order c.len c.len x s m described (place_of t) tag (is_place j t e) i in slice_get_within x tag.term h.tagged.0 h.tagged.1;
+        tags_are = λ j t tag e i. let h = holds_tagged p.order c.least c.most x s m described (place_of t) tag (is_place j t e) i in slice_get_within x tag.term h.tagged.0 h.tagged.1;
         budget = budget.0;
         budget_is = budget.1;
       }
@@ -124,12 +124,12 @@ module _ (p : Instructions) (c : CertificateView) (laws : Laws) (certificate : I
       edge_bounds j t e = entailed_bounds s l.state (place_of t) valid valid_label (is_place j t e) entails (label_bounds j t e)
 
       found : HoldsValues p.order m l.terms
-      found = find_values p.order m l.terms (λ j t e. let r = edge_bounds j t e in let h = term_within p.order c.len c.len x s m described t r.0 (is_place j t e) r.1 in (h.value, h.holds))
+      found = find_values p.order m l.terms (λ j t e. let r = edge_bounds j t e in let h = term_within p.order c.least c.most x s m described t r.0 (is_place j t e) r.1 in (h.value, h.holds))
 
-      told : abstract.Leads p c.len c.len found.y (tightened (untagged l.state)) m
+      told : abstract.Leads p c.least c.most found.y (tightened (untagged l.state)) m
       told =
-          laws.tightened_describes p c.len c.len found.y (untagged l.state) m (untagged_abstract l.state valid_label)
-          (laws.entails_describes p.order c.len c.len found.y (untagged s) l.state m (untagged_abstract s valid) valid_label entails (untagged_describes p.order c.len c.len x found.y s m described))
+          laws.tightened_describes p c.least c.most found.y (untagged l.state) m (untagged_abstract l.state valid_label)
+          (laws.entails_describes p.order c.least c.most found.y (untagged s) l.state m (untagged_abstract s valid) valid_label entails (untagged_describes p.order c.least c.most x found.y s m described))
 
       state_is : label_state l ≡ Some (with_tags 0 l.terms told.state)
       state_is =
@@ -139,8 +139,8 @@ module _ (p : Instructions) (c : CertificateView) (laws : Laws) (certificate : I
       tight : Mapped untagged (tightened l.state) told.state
       tight = mapped untagged (tightened l.state) told.state (sym (tightened_untagged l.state) ∙ told.is_there)
 
-      described' : Describes p.order c.len c.len found.y (with_tags 0 l.terms told.state) m
-      described' = tags_describe p.order c.len c.len found.y 0 l.terms told.state m (λ j t e. subst (λ n. HoldsValue p.order m (place_of t) found.y n) (omega arith) (found.each j t e)) told.describes
+      described' : Describes p.order c.least c.most found.y (with_tags 0 l.terms told.state) m
+      described' = tags_describe p.order c.least c.most found.y 0 l.terms told.state m (λ j t e. subst (λ n. HoldsValue p.order m (place_of t) found.y n) (omega arith) (found.each j t e)) told.describes
 
       tight_bounds : HasBounds tight.value l.terms
       tight_bounds j t e = tightened_bounds l.state tight.value (place_of t) tight.is_there (label_bounds j t e)
@@ -152,9 +152,9 @@ module _ (p : Instructions) (c : CertificateView) (laws : Laws) (certificate : I
       has_bounds j t e = let r = tight_bounds j t e in (r.0, ap unsigned_bounds (same_held (place_of t)) ∙ r.1)
 
       -- the values are within what a state says of their places
-      within : (z : AbstractState) (w : List ℕ) → Describes p.order c.len c.len w z m → (j : ℕ) (t : Term) (r : Interval) → slice_get l.terms j ≡ Some t → bounds z t ≡ Some r → (pos r.lo ≤ℤ values found.y j) × (values found.y j ≤ℤ pos r.hi)
+      within : (z : AbstractState) (w : List ℕ) → Describes p.order c.least c.most w z m → (j : ℕ) (t : Term) (r : Interval) → slice_get l.terms j ≡ Some t → bounds z t ≡ Some r → (pos r.lo ≤ℤ values found.y j) × (values found.y j ≤ℤ pos r.hi)
       within z w d j t r e b =
-          let h = term_within p.order c.len c.len w z m d t r (is_place j t e) b in
+          let h = term_within p.order c.least c.most w z m d t r (is_place j t e) b in
           let v = found.each j t e in
           let same = holds_once p.order m (place_of t) h.value v.value h.holds v.holds in
           let at = get_or_from_slice_get found.y j v.value 0 v.is_there in
@@ -168,7 +168,7 @@ module _ (p : Instructions) (c : CertificateView) (laws : Laws) (certificate : I
           by_tag : (tag : Option Tag) → tag_of s (place_of t) ≡ tag → AllowedBy s (values x) tag t (values found.y j)
           by_tag None i = λ r b. within s x described j t r e b
           by_tag (Some tag) i =
-              let h = holds_tagged p.order c.len c.len x s m described (place_of t) tag (is_place j t e) i in
+              let h = holds_tagged p.order c.least c.most x s m described (place_of t) tag (is_place j t e) i in
               let v = found.each j t e in
               let same = holds_once p.order m (place_of t) h.value v.value h.holds v.holds in
               let at = get_or_from_slice_get found.y j v.value 0 v.is_there in

@@ -62,7 +62,7 @@ module _ (p : Instructions) (c : CertificateView) (laws : Laws) (program : IsPro
   stands : (m : machine.State) (budget spent : ℕ) (h : Here p c m budget spent) → insn_at p.list m.top.slot ≡ Some h.insn
   stands m budget spent h = stands_here p c m.top.slot h.passed h.insn h.rest h.reaches
 
-  pub judged : (m : machine.State) (budget spent : ℕ) (h : Here p c m budget spent) → abstract.IsJudged p c.len c.len h.x h.insn h.arrival.state m
+  pub judged : (m : machine.State) (budget spent : ℕ) (h : Here p c m budget spent) → abstract.IsJudged p c.least c.most h.x h.insn h.arrival.state m
   judged m budget spent h = record { valid = h.valid; state = h.state; stands = stands m budget spent h; encoding = encoded p.list m.top.slot h.insn program.encoding (stands m budget spent h); described = h.described; no_fault = (right m budget spent h).no_fault h.arrival h.arrives_is }
 
   -- what an instruction calls
@@ -101,7 +101,7 @@ module _ (p : Instructions) (c : CertificateView) (laws : Laws) (program : IsPro
       by_reason : (o : Option Reason) → reason_of p m ≡ o → is_some o ≡ true → ⊥
       by_reason None e s = false≢true s
       by_reason (Some why) e s =
-          let frames = laws.not_stuck_inside p c.len c.len h.x h.insn h.arrival.state m why (judged m budget spent h) e in
+          let frames = laws.not_stuck_inside p c.least c.most h.x h.insn h.arrival.state m why (judged m budget spent h) e in
           let call = only_calls p m h.insn (stands m budget spent h) (e ∙ ap Some frames) in
           let g = callee_of m budget spent h call.0 call.1 in
           let deep = (certificate.depths g.callee_function g.is_element).0 in
@@ -111,7 +111,7 @@ module _ (p : Instructions) (c : CertificateView) (laws : Laws) (program : IsPro
           omega arith
 
   -- at a label
-  here_at_label : (m : machine.State) (f : FunctionView) (l : LabelView) (s : AbstractState) (x : List ℕ) → function_at c m.top.slot ≡ Some f → machine.depth m + f.depth ≤ 8 → label_at c m.top.slot ≡ Some l → machine.IsState m → (a : Arrives p c.len c.len m l s x) → Here p c m a.budget 0
+  here_at_label : (m : machine.State) (f : FunctionView) (l : LabelView) (s : AbstractState) (x : List ℕ) → function_at c m.top.slot ≡ Some f → machine.depth m + f.depth ≤ 8 → label_at c m.top.slot ≡ Some l → machine.IsState m → (a : Arrives p c.least c.most m l s x) → Here p c m a.budget 0
   here_at_label m f l s x f_is shallow l_is state a =
       let same = slot_of_label p c certified m.top.slot l l_is in
       let i = insn_there (insn_at p.list l.slot) refl (is_right_label p c certified m.top.slot l l_is).stands in
@@ -176,7 +176,7 @@ module _ (p : Instructions) (c : CertificateView) (laws : Laws) (program : IsPro
 
   -- an edge into a label, after some instructions whose cost is known
   pub enter : (m m' : machine.State) (budget spent : ℕ) (h : Here p c m budget spent) (s : AbstractState) (l : LabelView) (k spent' : ℕ)
-      → machine.IsState m' → abstract.IsAbstract s → Describes p.order c.len c.len h.x s m'
+      → machine.IsState m' → abstract.IsAbstract s → Describes p.order c.least c.most h.x s m'
       → label_at c m'.top.slot ≡ Some l → function_at c m'.top.slot ≡ Some h.function
       → is_refused_by c (record { slot = m'.top.slot; state = s }) ≡ false
       → is_unpaid c (record { slot = m.top.slot; insn = h.insn; arrival = arrives c m.top.slot h.passed }) h.arrival (record { slot = m'.top.slot; state = s }) ≡ false
@@ -202,7 +202,7 @@ module _ (p : Instructions) (c : CertificateView) (laws : Laws) (program : IsPro
 
   -- the next instruction of a block
   on_in_block : (m m' : machine.State) (budget spent : ℕ) (h : Here p c m budget spent) (s : AbstractState) (k spent' : ℕ)
-      → machine.IsState m' → abstract.IsAbstract s → Describes p.order c.len c.len h.x s m'
+      → machine.IsState m' → abstract.IsAbstract s → Describes p.order c.least c.most h.x s m'
       → next_state p c m.top.slot h.insn h.arrival.state ≡ Some s → m'.top.slot ≡ m.top.slot + slot_count h.insn
       → label_at c (m.top.slot + slot_count h.insn) ≡ None
       → Steps p k m m' → k + spent ≤ spent' → cost_after c m.top.slot h.insn h.arrival ≡ Some (pos spent')
@@ -264,7 +264,7 @@ module _ (p : Instructions) (c : CertificateView) (laws : Laws) (program : IsPro
 
   -- to the next slot, by one step or by a whole call
   next_advance : (m m' : machine.State) (budget spent : ℕ) (h : Here p c m budget spent) (k spent' : ℕ)
-      → machine.IsState m' → m'.top.slot ≡ m.top.slot + slot_count h.insn → abstract.Leads p c.len c.len h.x (next_state p c m.top.slot h.insn h.arrival.state) m'
+      → machine.IsState m' → m'.top.slot ≡ m.top.slot + slot_count h.insn → abstract.Leads p c.least c.most h.x (next_state p c m.top.slot h.insn h.arrival.state) m'
       → Steps p k m m' → 1 ≤ k → k + spent ≤ spent' → cost_after c m.top.slot h.insn h.arrival ≡ Some (pos spent')
       → m'.waiting ≡ m.waiting → Advances p c m m' h.function budget spent
   next_advance m m' budget spent h k spent' state to leads run some most spends waiting = by_label (label_at c (m.top.slot + slot_count h.insn)) refl
@@ -288,7 +288,7 @@ module _ (p : Instructions) (c : CertificateView) (laws : Laws) (program : IsPro
       state = laws.step_keeps_states p m m' program h.state step
 
       waiting : m'.waiting ≡ m.waiting
-      waiting = laws.waiting_frames_stay p c.len c.len h.x h.insn h.arrival.state m m' (judged m budget spent h) (stays h.insn calls_not no_exit) step
+      waiting = laws.waiting_frames_stay p c.least c.most h.x h.insn h.arrival.state m m' (judged m budget spent h) (stays h.insn calls_not no_exit) step
         where
           stays : (i : Insn) → ((off : ℤ) → i ≡ CallLocal off → ⊥) → (i ≡ Exit → ⊥) → abstract.IsCallOrExit i → ⊥
           stays (CallLocal off) no_call no_exit is = no_call off refl
@@ -321,8 +321,8 @@ module _ (p : Instructions) (c : CertificateView) (laws : Laws) (program : IsPro
       g : IsCallee m off h.function
       g = callee_of m budget spent h off e
 
-      j : abstract.IsJudged p c.len c.len h.x (CallLocal off) h.arrival.state m
-      j = subst (λ i. abstract.IsJudged p c.len c.len h.x i h.arrival.state m) e (judged m budget spent h)
+      j : abstract.IsJudged p c.least c.most h.x (CallLocal off) h.arrival.state m
+      j = subst (λ i. abstract.IsJudged p c.least c.most h.x i h.arrival.state m) e (judged m budget spent h)
 
       en : Enters m m1 off
       en = enters p off m m1 j.stands step
@@ -336,8 +336,8 @@ module _ (p : Instructions) (c : CertificateView) (laws : Laws) (program : IsPro
       l_is : label_at c m1.top.slot ≡ Some first.0
       l_is = ap (label_at c) there ∙ first.1
 
-      leads : abstract.Leads p c.len c.len h.x (Some (entered h.arrival.state)) m1
-      leads = laws.enter_keeps p c.len c.len h.x off h.arrival.state m m1 j step
+      leads : abstract.Leads p c.least c.most h.x (Some (entered h.arrival.state)) m1
+      leads = laws.enter_keeps p c.least c.most h.x off h.arrival.state m m1 j step
 
       same : leads.state ≡ entered h.arrival.state
       same = sym (some_is (entered h.arrival.state) leads.state leads.is_there)
@@ -353,8 +353,8 @@ module _ (p : Instructions) (c : CertificateView) (laws : Laws) (program : IsPro
           (passes_none (λ l. not (state_entails (entered h.arrival.state) l.state)) (label_at c g.callee_function.first) first.0
           (passes_none (λ g. some_passes (λ l. not (state_entails (entered h.arrival.state) l.state)) (label_at c g.first)) (callee c m.top.slot h.insn) g.callee_function wrong callee_here) first.1)
 
-      a : Arrives p c.len c.len m1 first.0 (entered h.arrival.state) h.x
-      a = arrive p c laws certificate m1 first.0 (entered h.arrival.state) h.x m1.top.slot l_is (is_right_label p c certified m1.top.slot first.0 l_is) (subst abstract.IsAbstract same leads.valid) (subst (λ z. Describes p.order c.len c.len h.x z m1) same leads.describes) entails
+      a : Arrives p c.least c.most m1 first.0 (entered h.arrival.state) h.x
+      a = arrive p c laws certificate m1 first.0 (entered h.arrival.state) h.x m1.top.slot l_is (is_right_label p c certified m1.top.slot first.0 l_is) (subst abstract.IsAbstract same leads.valid) (subst (λ z. Describes p.order c.least c.most h.x z m1) same leads.describes) entails
 
       shallow : machine.depth m1 + g.callee_function.depth ≤ 8
       shallow = let d = ap length en.waiting in let less = g.deeper in let deep = h.shallow in omega arith
@@ -365,10 +365,10 @@ module _ (p : Instructions) (c : CertificateView) (laws : Laws) (program : IsPro
       back : Leaves p r.state en.caller m.waiting
       back = leaves p r.state en.caller m.waiting r.value r.at_exit (r.waiting_same ∙ en.waiting) r.value_is
 
-      leads_back : abstract.Leads p c.len c.len h.x (next_state p c m.top.slot h.insn h.arrival.state) back.state
+      leads_back : abstract.Leads p c.least c.most h.x (next_state p c m.top.slot h.insn h.arrival.state) back.state
       leads_back =
-          subst (λ o. abstract.Leads p c.len c.len h.x o back.state) (sym (ap (λ i. next_state p c m.top.slot i h.arrival.state) e ∙ ap (option_and_then (λ g. left g.ret h.arrival.state)) g.callee_is))
-          (laws.leave_keeps p c.len c.len h.x off h.arrival.state m m1 r.state back.state g.callee_function.ret r.value j step r.waiting_same r.context_is r.at_exit r.value_is (certificate.returns g.callee_function g.is_element) r.returns back.step)
+          subst (λ o. abstract.Leads p c.least c.most h.x o back.state) (sym (ap (λ i. next_state p c m.top.slot i h.arrival.state) e ∙ ap (option_and_then (λ g. left g.ret h.arrival.state)) g.callee_is))
+          (laws.leave_keeps p c.least c.most h.x off h.arrival.state m m1 r.state back.state g.callee_function.ret r.value j step r.waiting_same r.context_is r.at_exit r.value_is (certificate.returns g.callee_function g.is_element) r.returns back.step)
 
       run : Steps p (suc (suc r.steps)) m back.state
       run = (r.state, first_step p r.steps m m1 r.state step r.run, back.step)
@@ -416,7 +416,7 @@ module _ (p : Instructions) (c : CertificateView) (laws : Laws) (program : IsPro
   at_exit m budget spent h is = let n = result (register h.arrival.state R0) refl kind in record { in_time = in_time; value = n.0; value_is = n.1; returns = n.2 }
     where
       kind : is_number (register h.arrival.state R0) ≡ true
-      kind = result_is_number c.len h.arrival.state (ap (fault_of c.len h.arrival.state) (sym is) ∙ (right m budget spent h).no_fault h.arrival h.arrives_is)
+      kind = result_is_number c.least h.arrival.state (ap (fault_of c.least h.arrival.state) (sym is) ∙ (right m budget spent h).no_fault h.arrival h.arrives_is)
 
       taken : register_entails (register h.arrival.state R0) (Num h.function.ret) ≡ true
       taken =
@@ -457,24 +457,24 @@ module _ (p : Instructions) (c : CertificateView) (laws : Laws) (program : IsPro
       by_call (inl call) = call_advance m budget spent h call.0 call.1 callees m1 step
       by_call (inr other) = (m1, step_advance m m1 budget spent h other no_exit step)
 
-  pub begins : (context : List ℕ) → IsContext c.len c.len context → (budget : ℕ) × (budget ≤ c.steps) × Here p c (machine.start context) budget 0
+  pub begins : (context : List ℕ) → IsContext c.least c.most context → (budget : ℕ) × (budget ≤ c.steps) × Here p c (machine.start context) budget 0
   begins context is_context =
       let f = first_label p c certified in
       let l = f.0 in
       let g = first_function in
-      let entails = not_false (state_entails (start c.len c.len) l.state) (passes_none (λ l. not (state_entails (start c.len c.len) l.state)) (label_at c 0) l (or_parts (begins_elsewhere c.functions) (some_passes (λ l. not (state_entails (start c.len c.len) l.state)) (label_at c 0)) (begins_right p c certified).0).1 f.1) in
+      let entails = not_false (state_entails (start c.least c.most) l.state) (passes_none (λ l. not (state_entails (start c.least c.most) l.state)) (label_at c 0) l (or_parts (begins_elsewhere c.functions) (some_passes (λ l. not (state_entails (start c.least c.most) l.state)) (label_at c 0)) (begins_right p c certified).0).1 f.1) in
       let within = is_context.length_within in
       let below = within.1 in
       let short = certificate.short_context in
-      let described : Describes p.order c.len c.len [] (start c.len c.len) (machine.start context) = laws.start_describes p.order c.len c.len context [] within short in
-      let a = arrive p c laws certificate (machine.start context) l (start c.len c.len) [] 0 f.1 (is_right_label p c certified 0 l f.1) (laws.start_is_abstract c.len c.len certificate.ordered short) described entails in
-      let most = greatest_is (budget_of l) (start c.len c.len) (values a.y) a.edge_has_bounds a.inside_edge in
-      let not_over = passes_none (λ l. some_passes (λ most. int_lt (pos c.steps) most) (greatest_budget (budget_of l) (start c.len c.len))) (label_at c 0) l (begins_right p c certified).1 f.1 in
-      let test : int_lt (pos c.steps) most.greatest ≡ false = passes_none (λ most. int_lt (pos c.steps) most) (greatest_budget (budget_of l) (start c.len c.len)) most.greatest not_over most.is_there in
+      let described : Describes p.order c.least c.most [] (start c.least c.most) (machine.start context) = laws.start_describes p.order c.least c.most context [] within short in
+      let a = arrive p c laws certificate (machine.start context) l (start c.least c.most) [] 0 f.1 (is_right_label p c certified 0 l f.1) (laws.start_is_abstract c.least c.most certificate.ordered short) described entails in
+      let most = greatest_is (budget_of l) (start c.least c.most) (values a.y) a.edge_has_bounds a.inside_edge in
+      let not_over = passes_none (λ l. some_passes (λ most. int_lt (pos c.steps) most) (greatest_budget (budget_of l) (start c.least c.most))) (label_at c 0) l (begins_right p c certified).1 f.1 in
+      let test : int_lt (pos c.steps) most.greatest ≡ false = passes_none (λ most. int_lt (pos c.steps) most) (greatest_budget (budget_of l) (start c.least c.most)) most.greatest not_over most.is_there in
       let le = not_above most.greatest c.steps test in
       let above = most.above in
       let budget_is = a.budget_is in
-      (a.budget, omega (arith, ints), here_at_label (machine.start context) g.0 l (start c.len c.len) [] g.1 (let top = (certificate.depths g.0 (function_in p c certified 0 g.0 g.1)).1 in omega arith) f.1 (laws.start_is_state context is_context.bytes (wide (length context) (omega arith))) a)
+      (a.budget, omega (arith, ints), here_at_label (machine.start context) g.0 l (start c.least c.most) [] g.1 (let top = (certificate.depths g.0 (function_in p c certified 0 g.0 g.1)).1 in omega arith) f.1 (laws.start_is_state context is_context.bytes (wide (length context) (omega arith))) a)
     where
       first_function : (g : FunctionView) × (function_at c 0 ≡ Some g)
       first_function = function_at_zero p c certified certificate.one_each

@@ -123,8 +123,8 @@ module _ (p : Instructions) (c : CertificateView) (certified : Certified p c) wh
       Contains-append_left (front ++ calls ++ never) (number_if 12 (leaves_function p c v)) n
       (Contains-append_left (front ++ calls) never n (Contains-append_left front calls n h))
 
-  no_fault : (v : Visit) → Contains (visits p c) v → (a : Arrival) → v.arrival ≡ Some a → fault_of c.len a.state v.insn ≡ None
-  no_fault v h a e = by_fault (fault_of c.len a.state v.insn) (ap (λ o. option_to_list (option_and_then (λ b. fault_of c.len b.state v.insn) o)) e)
+  no_fault : (v : Visit) → Contains (visits p c) v → (a : Arrival) → v.arrival ≡ Some a → fault_of c.least a.state v.insn ≡ None
+  no_fault v h a e = by_fault (fault_of c.least a.state v.insn) (ap (λ o. option_to_list (option_and_then (λ b. fault_of c.least b.state v.insn) o)) e)
     where
       by_fault : (o : Option ℕ) → fault_at c v ≡ option_to_list o → o ≡ None
       by_fault None f = refl
@@ -200,7 +200,7 @@ module _ (p : Instructions) (c : CertificateView) (certified : Certified p c) wh
 
   -- the first function begins at slot 0 with a label
   pub first_label : (l : LabelView) × (label_at c 0 ≡ Some l)
-  first_label = by_functions c.functions (or_parts (begins_elsewhere c.functions) (some_passes (λ l. not (state_entails (start c.len c.len) l.state)) (label_at c 0)) begins_right.0).0 (λ f h. function_flaw f h (f.first, 13))
+  first_label = by_functions c.functions (or_parts (begins_elsewhere c.functions) (some_passes (λ l. not (state_entails (start c.least c.most) l.state)) (label_at c 0)) begins_right.0).0 (λ f h. function_flaw f h (f.first, 13))
     where
       by_labels : (first : ℕ) (ls more : List LabelView) → starts_at first ls ≡ true → (first == 0) ≡ true → (l : LabelView) × (first_with (λ l. l.slot == 0) (ls ++ more) ≡ Some l)
       by_labels first [] more s z = absurd (false≢true s)
@@ -273,7 +273,7 @@ module _ (p : Instructions) (c : CertificateView) (certified : Certified p c) wh
             (k.0, k.1, ap (function_at c) (sym is) ∙ same_function f l.slot h inside)
 
     pub function_at_zero : (g : FunctionView) × (function_at c 0 ≡ Some g)
-    function_at_zero = by_functions c.functions (or_parts (begins_elsewhere c.functions) (some_passes (λ l. not (state_entails (start c.len c.len) l.state)) (label_at c 0)) begins_right.0).0 (λ f h. h)
+    function_at_zero = by_functions c.functions (or_parts (begins_elsewhere c.functions) (some_passes (λ l. not (state_entails (start c.least c.most) l.state)) (label_at c 0)) begins_right.0).0 (λ f h. h)
       where
         by_functions : (fs : List FunctionView) → begins_elsewhere fs ≡ false → ((f : FunctionView) → Contains fs f → Contains c.functions f) → (g : FunctionView) × (function_at c 0 ≡ Some g)
         by_functions [] e h = absurd (true≢false e)

@@ -14,7 +14,8 @@ use Rattle.bpf_cert.specs.View.{CertificateView}
 use Rattle.bpf_safety.specs.Flow.{Arrival, Visit, visits, visits_from, arrives, sound_arrival, passed_on}
 use Rattle.bpf_safety.specs.Flaw.{number_if, at, lacks_label, numbers_of_arrival, numbers_of_visit, calls_no_deeper, is_never_reached, leaves_function, begins_wrongly, starts_over_budget, function_flaws}
 use Rattle.bpf_safety.specs.Certified.{Certified}
-use Rattle.bpf_safety.proofs.Facts.{is_right, Contains-flat, Contains-from_flat}
+use Rattle.bpf_safety.specs.Theorems.{VersionIsFree, OtherRange}
+use Rattle.bpf_safety.proofs.Facts.{is_right, begins_right, Contains-flat, Contains-from_flat}
 use Rattle.bpf_safety.proofs.Visits.{goes_on_with}
 
 -- ---- a longer context has the bytes of a shorter one
@@ -60,9 +61,9 @@ fault_longer least least' s i le none =
 
 -- ---- another first line
 
-module _ (p : Instructions) (c : CertificateView) (version least most : ℕ) (longer : c.len ≤ least) where
+module _ (p : Instructions) (c : CertificateView) (version least most : ℕ) (longer : c.least ≤ least) where
   abbrev other : CertificateView
-  other = record c { len = least }
+  other = record c { version = version; least = least; most = most }
 
   abbrev at_slot : ℕ → Insn → Option Arrival → Visit
   at_slot slot i o = record { slot = slot; insn = i; arrival = o }
@@ -72,13 +73,13 @@ module _ (p : Instructions) (c : CertificateView) (version least most : ℕ) (lo
   same_passed slot i a = refl
 
   abbrev NoFault : Insn → Option Arrival → Type 0
-  NoFault i o = (a : Arrival) → o ≡ Some a → fault_of c.len a.state i ≡ None
+  NoFault i o = (a : Arrival) → o ≡ Some a → fault_of c.least a.state i ≡ None
 
   same_next : (slot : ℕ) (i : Insn) (o : Option Arrival) → NoFault i o → option_and_then (passed_on p other slot i) (sound_arrival other i o) ≡ option_and_then (passed_on p c slot i) (sound_arrival c i o)
   same_next slot i None none = refl
   same_next slot i (Some a) none =
       let e = none a refl in
-      let e' = fault_longer c.len least a.state i longer e in
+      let e' = fault_longer c.least least a.state i longer e in
       ap (λ o. option_and_then (passed_on p other slot i) (cond (is_none o) (Some a) None)) e' ∙ same_passed slot i a
       ∙ sym (ap (λ o. option_and_then (passed_on p c slot i) (cond (is_none o) (Some a) None)) e)
 
@@ -111,7 +112,7 @@ module _ (p : Instructions) (c : CertificateView) (version least most : ℕ) (lo
   same_numbers slot i None none = same_with [] slot i None None
   same_numbers slot i (Some a) none =
       let e = none a refl in
-      let e' = fault_longer c.len least a.state i longer e in
+      let e' = fault_longer c.least least a.state i longer e in
       ap (λ o. numbers_with other (option_to_list o) (at_slot slot i (Some a)) (cond (is_none o) (Some a) None)) e' ∙ same_with [] slot i (Some a) (Some a)
       ∙ sym (ap (λ o. numbers_with c (option_to_list o) (at_slot slot i (Some a)) (cond (is_none o) (Some a) None)) e)
 
@@ -153,3 +154,12 @@ module _ (p : Instructions) (c : CertificateView) (version least most : ℕ) (lo
           (Contains-append_left (of_start c ++ of_visits c) (of_functions c) (slot, n)
           (Contains-append_right (of_start c) (of_visits c) (slot, n)
           (Contains-flat (λ v. at v.slot (numbers_of_visit p c v)) (visits p c) v (slot, n) r.is_element has)))
+
+pub version_is_free : VersionIsFree
+version_is_free p c version = (
+  λ certified. let begins = begins_right p c certified in certified_other p c version c.least c.most (omega arith) certified begins.0 begins.1,
+  λ certified. let begins = begins_right p (record c { version = version }) certified in certified_other p (record c { version = version }) c.version c.least c.most (omega arith) certified begins.0 begins.1,
+)
+
+pub other_range : OtherRange
+other_range p c least most certified longer begins budget = certified_other p c c.version least most longer certified begins budget

@@ -27,8 +27,8 @@ use Rattle.bpf_safety.specs.Flaw.{lacks_label, is_not_entailed, is_over_budget, 
 -- ---- what a certificate keeps, and what a certified program has
 
 pub record IsWellFormed (c : CertificateView) : Type 0 where
-  pub short_context : c.len ≤ 4096
-  pub ordered : c.len ≤ c.len
+  pub short_context : c.most ≤ 4096
+  pub ordered : c.least ≤ c.most
   pub states : (l : LabelView) (slot : ℕ) → label_at c slot ≡ Some l → IsAbstract l.state
   pub depths : (f : FunctionView) → Contains c.functions f → (1 ≤ f.depth) × (f.depth ≤ 8)
   pub returns : (f : FunctionView) → Contains c.functions f → IsNumber f.ret
@@ -40,7 +40,7 @@ pub record IsRight (p : Instructions) (c : CertificateView) (v : Visit) : Type 0
   pub has_label : lacks_label c v ≡ false
   pub deeper : calls_no_deeper c v ≡ false
   pub stays : leaves_function p c v ≡ false
-  pub no_fault : (a : Arrival) → v.arrival ≡ Some a → fault_of c.len a.state v.insn ≡ None
+  pub no_fault : (a : Arrival) → v.arrival ≡ Some a → fault_of c.least a.state v.insn ≡ None
   pub entailed : (a : Arrival) → v.arrival ≡ Some a → is_not_entailed p c v a ≡ false
   pub paid : (a : Arrival) → v.arrival ≡ Some a → is_over_budget p c v a ≡ false
   pub not_past : (a : Arrival) → v.arrival ≡ Some a → falls_past_end p c v a ≡ false
@@ -99,7 +99,7 @@ pub record Here (p : Instructions) (c : CertificateView) (m : machine.State) (bu
   pub shallow : machine.depth m + function.depth ≤ 8
   pub state : machine.IsState m
   pub valid : IsAbstract arrival.state
-  pub described : Describes p.order c.len c.len x arrival.state m
+  pub described : Describes p.order c.least c.most x arrival.state m
   pub block : IsBlock c arrival x budget spent
 
 -- a step keeps it, the rest of the budget falls, and the run comes nearer to the block's end or to a lower budget
@@ -124,6 +124,6 @@ pub record ReachesExit (p : Instructions) (c : CertificateView) (m : machine.Sta
   pub value : ℕ
   pub value_is : machine.number_of_register state R0 ≡ Some value
   pub state_is : machine.IsState state
-  pub context_is : LengthWithin c.len c.len state.context
+  pub context_is : LengthWithin c.least c.most state.context
   pub returns : Has function.ret value
   pub in_time : suc (steps + spent) ≤ budget

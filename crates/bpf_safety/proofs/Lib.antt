@@ -19,3 +19,4 @@ mod FlatRuns
 mod WellFormedLaw
 mod WorkLaws
 mod FirstLines
+mod Assigned

@@ -33,11 +33,11 @@ use Rattle.bpf_safety.specs.Flow.{jump_target, jump_state, next_state}
 -- the next instruction, or the target of a jump
 pub record GoesNext (p : Instructions) (c : CertificateView) (x : List ℕ) (i : Insn) (s : AbstractState) (m m' : machine.State) : Type 0 where
   pub to : m'.top.slot ≡ m.top.slot + slot_count i
-  pub leads : abstract.Leads p c.len c.len x (next_state p c m.top.slot i s) m'
+  pub leads : abstract.Leads p c.least c.most x (next_state p c m.top.slot i s) m'
 
 pub record Jumps (p : Instructions) (c : CertificateView) (x : List ℕ) (i : Insn) (s : AbstractState) (m m' : machine.State) : Type 0 where
   pub to : jump_target m.top.slot i ≡ Some m'.top.slot
-  pub leads : abstract.Leads p c.len c.len x (jump_state m.top.slot i s) m'
+  pub leads : abstract.Leads p c.least c.most x (jump_state m.top.slot i s) m'
 
 -- a chain that gives a value has a first part that does
 pub record Chained {A B : Type 0} (o : Option A) (f : A → Option B) (b : B) : Type 0 where
@@ -186,20 +186,20 @@ unfolding does
 ja_long_jumps order off m m' e = e
 
 module _ (laws : Laws) (p : Instructions) (c : CertificateView) (x : List ℕ) where
-  branch_moves : (cond' : Cond) (width : Width) (dst : Reg) (src : Operand) (off : ℤ) (s : AbstractState) (m m' : machine.State) → abstract.IsJudged p c.len c.len x (JumpIf cond' width dst src off) s m → Step p m m' → Branches cond' width dst src off m m' → GoesNext p c x (JumpIf cond' width dst src off) s m m' ⊎ Jumps p c x (JumpIf cond' width dst src off) s m m'
+  branch_moves : (cond' : Cond) (width : Width) (dst : Reg) (src : Operand) (off : ℤ) (s : AbstractState) (m m' : machine.State) → abstract.IsJudged p c.least c.most x (JumpIf cond' width dst src off) s m → Step p m m' → Branches cond' width dst src off m m' → GoesNext p c x (JumpIf cond' width dst src off) s m m' ⊎ Jumps p c x (JumpIf cond' width dst src off) s m m'
   branch_moves cond' width dst src off s m m' judged step b = by_taken b.taken b.tests b.goes
     where
       by_taken : (taken : Bool) → abstract.Tests m (JumpIf cond' width dst src off) taken → cond taken (jump m off) (Some (next (JumpIf cond' width dst src off) m)) ≡ Some m' → GoesNext p c x (JumpIf cond' width dst src off) s m m' ⊎ Jumps p c x (JumpIf cond' width dst src off) s m m'
-      by_taken true tests goes = inr (record { to = jumps_to m m' off goes; leads = laws.branch_keeps p c.len c.len x (JumpIf cond' width dst src off) s m m' true judged tests step })
-      by_taken false tests goes = inl (record { to = ap (λ z. z.top.slot) (sym (some_is (next (JumpIf cond' width dst src off) m) m' goes)); leads = laws.branch_keeps p c.len c.len x (JumpIf cond' width dst src off) s m m' false judged tests step })
+      by_taken true tests goes = inr (record { to = jumps_to m m' off goes; leads = laws.branch_keeps p c.least c.most x (JumpIf cond' width dst src off) s m m' true judged tests step })
+      by_taken false tests goes = inl (record { to = ap (λ z. z.top.slot) (sym (some_is (next (JumpIf cond' width dst src off) m) m' goes)); leads = laws.branch_keeps p c.least c.most x (JumpIf cond' width dst src off) s m m' false judged tests step })
 
-  pub moves : (i : Insn) (s : AbstractState) (m m' : machine.State) → abstract.IsJudged p c.len c.len x i s m → ((off : ℤ) → i ≡ CallLocal off → ⊥) → (i ≡ Exit → ⊥) → Step p m m' → GoesNext p c x i s m m' ⊎ Jumps p c x i s m m'
+  pub moves : (i : Insn) (s : AbstractState) (m m' : machine.State) → abstract.IsJudged p c.least c.most x i s m → ((off : ℤ) → i ≡ CallLocal off → ⊥) → (i ≡ Exit → ⊥) → Step p m m' → GoesNext p c x i s m m' ⊎ Jumps p c x i s m m'
   moves (JumpIf cond' width dst src off) s m m' judged no_call no_exit step = branch_moves cond' width dst src off s m m' judged step (branches p.order cond' width dst src off m m' (does_at p m m' (JumpIf cond' width dst src off) judged.stands step))
   moves (CallLocal off) s m m' judged no_call no_exit step = absurd (no_call off refl)
   moves Exit s m m' judged no_call no_exit step = absurd (no_exit refl)
-  moves (Ja off) s m m' judged no_call no_exit step = inr (record { to = jumps_to m m' off (ja_jumps p.order off m m' (does_at p m m' (Ja off) judged.stands step)); leads = laws.step_keeps p c.len c.len x (Ja off) s m m' judged tt step })
-  moves (JaLong off) s m m' judged no_call no_exit step = inr (record { to = jumps_to m m' off (ja_long_jumps p.order off m m' (does_at p m m' (JaLong off) judged.stands step)); leads = laws.step_keeps p c.len c.len x (JaLong off) s m m' judged tt step })
-  moves i s m m' judged no_call no_exit step = inl (record { to = plain_next p.order i m m' tt refl (does_at p m m' i judged.stands step); leads = laws.step_keeps p c.len c.len x i s m m' judged tt step })
+  moves (Ja off) s m m' judged no_call no_exit step = inr (record { to = jumps_to m m' off (ja_jumps p.order off m m' (does_at p m m' (Ja off) judged.stands step)); leads = laws.step_keeps p c.least c.most x (Ja off) s m m' judged tt step })
+  moves (JaLong off) s m m' judged no_call no_exit step = inr (record { to = jumps_to m m' off (ja_long_jumps p.order off m m' (does_at p m m' (JaLong off) judged.stands step)); leads = laws.step_keeps p c.least c.most x (JaLong off) s m m' judged tt step })
+  moves i s m m' judged no_call no_exit step = inl (record { to = plain_next p.order i m m' tt refl (does_at p m m' i judged.stands step); leads = laws.step_keeps p c.least c.most x i s m m' judged tt step })
 
 -- ---- calls and returns
 

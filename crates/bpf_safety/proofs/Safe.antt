@@ -122,7 +122,7 @@ module _ (p : Instructions) (c : CertificateView) (laws : Laws) (program : IsPro
   by_depth zero m budget here deep = absurd (omega arith)
   by_depth (suc d) m budget here deep = by_budget d (by_depth d) (suc budget) m budget 0 here deep (omega arith)
 
-  ends : (context : List ℕ) → IsContext c.len c.len context → EndsWithin p context c.steps
+  ends : (context : List ℕ) → IsContext c.least c.most context → EndsWithin p context c.steps
   ends context is_context =
       let b = begins p c laws program certificate certified context is_context in
       let r = by_depth (suc b.2.function.depth) (machine.start context) b.0 b.2 (omega arith) in
@@ -130,7 +130,7 @@ module _ (p : Instructions) (c : CertificateView) (laws : Laws) (program : IsPro
       let most = b.1 in
       record { value = r.value; steps = suc r.steps; in_time = omega arith; done = (r.state, r.run, exit_finishes p r.state r.value r.at_exit r.waiting_same r.value_is) }
 
-  never_stuck : (context : List ℕ) (k : ℕ) (s : machine.State) → IsContext c.len c.len context → Steps p k (machine.start context) s → IsStuck p s → ⊥
+  never_stuck : (context : List ℕ) (k : ℕ) (s : machine.State) → IsContext c.least c.most context → Steps p k (machine.start context) s → IsStuck p s → ⊥
   never_stuck context k s is_context run stuck = let e = ends context is_context in by_steps e.value e.steps e.done
     where
       by_steps : (v n : ℕ) → IsDone p context v n → ⊥
@@ -142,5 +142,5 @@ module _ (p : Instructions) (c : CertificateView) (laws : Laws) (program : IsPro
           by_order (inr (inl less)) = let g = goes_on p k n (machine.start context) s done.0 run done.1 less in stuck.no_step g.0 g.1
           by_order (inr (inr more)) = let most = no_longer laws.finish_is_last p n k (machine.start context) done.0 s v done.1 done.2 run in omega arith
 
-  pub certified_is_safe : IsSafe p c.len c.len c.steps
+  pub certified_is_safe : IsSafe p c.least c.most c.steps
   certified_is_safe = record { never_stuck = never_stuck; ends = ends }

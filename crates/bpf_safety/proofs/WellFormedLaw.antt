@@ -18,10 +18,10 @@ use Rattle.bpf_sound.specs.Laws.{IsAbstract, IsAbstractRegister, IsAbstractSlot}
 use Rattle.bpf_cert.specs.declared.certificate.Measure.{Measure}
 use Rattle.bpf_cert.specs.declared.certificate.Measure.TheVariants.{Down, Up}
 use Rattle.bpf_cert.specs.declared.certificate.Term.{Term}
-use Rattle.bpf_cert.specs.View.{LabelView, FunctionView, CertificateView}
+use Rattle.bpf_cert.specs.View.{LabelView, FunctionView, CertificateView, header_of}
 use Rattle.bpf_cert.specs.Numeral.{is_from_to}
 use Rattle.bpf_cert.specs.Faults.{is_rising, is_range, is_int_range, is_pointer_range, is_bits}
-use Rattle.bpf_cert.specs.Limits.{IsCertificate, is_canonical, is_canonical_function, first_before, is_limited, is_limited_function, is_limited_label, is_limited_term, is_limited_measure, is_limited_place, is_limited_state, has_shape, is_limited_register, is_limited_slot, is_limited_num, label_count}
+use Rattle.bpf_cert.specs.Limits.{IsCertificate, is_limited_header, is_version, is_canonical, is_canonical_function, first_before, is_limited, is_limited_function, is_limited_label, is_limited_term, is_limited_measure, is_limited_place, is_limited_state, has_shape, is_limited_register, is_limited_slot, is_limited_num, label_count}
 use Rattle.bpf_safety.specs.Budget.{place_of, place_in}
 use Rattle.bpf_safety.specs.Labels.{labels, label_at}
 use Rattle.bpf_safety.proofs.Basics.{some_is}
@@ -168,11 +168,14 @@ module _ (c : CertificateView) (certificate : IsCertificate c) where
   ordered : is_rising first_before c.functions ≡ true
   ordered = (and_parts (is_rising first_before c.functions) (list_all is_canonical_function c.functions) (and_parts (is_canonical c) (is_limited c) certificate).0).0
 
-  limits : (nat_le c.len 4096 ≡ true) × (is_from_to 1 (2 ^ 32 - 1) c.steps ≡ true) × (is_from_to 1 256 (length c.functions) ≡ true) × (nat_le (sum_by label_count c.functions) 65536 ≡ true) × (list_all is_limited_function c.functions ≡ true)
-  limits = five (nat_le c.len 4096) (is_from_to 1 (2 ^ 32 - 1) c.steps) (is_from_to 1 256 (length c.functions)) (nat_le (sum_by label_count c.functions) 65536) (list_all is_limited_function c.functions) (and_parts (is_canonical c) (is_limited c) certificate).1
+  limits : (is_limited_header (header_of c) ≡ true) × (is_from_to 1 256 (length c.functions) ≡ true) × (nat_le (sum_by label_count c.functions) 65536 ≡ true) × (list_all is_limited_function c.functions ≡ true)
+  limits = four (is_limited_header (header_of c)) (is_from_to 1 256 (length c.functions)) (nat_le (sum_by label_count c.functions) 65536) (list_all is_limited_function c.functions) (and_parts (is_canonical c) (is_limited c) certificate).1
+
+  range : (c.least ≤ c.most) × (c.most ≤ 4096)
+  range = let h = four (is_version c.version c.least c.most) (nat_le c.least c.most) (nat_le c.most 4096) (is_from_to 1 (2 ^ 32 - 1) c.steps) limits.0 in (at_most c.least c.most h.1, at_most c.most 4096 h.2)
 
   function_limits : (f : FunctionView) → Contains c.functions f → (nat_le f.first 65535 ≡ true) × (is_from_to 1 8 f.depth ≡ true) × (is_limited_num f.ret ≡ true) × (nat_lt 0 (length f.labels) ≡ true) × (list_all is_limited_label f.labels ≡ true)
-  function_limits f h = five (nat_le f.first 65535) (is_from_to 1 8 f.depth) (is_limited_num f.ret) (nat_lt 0 (length f.labels)) (list_all is_limited_label f.labels) (all_in is_limited_function c.functions f limits.4 h)
+  function_limits f h = five (nat_le f.first 65535) (is_from_to 1 8 f.depth) (is_limited_num f.ret) (nat_lt 0 (length f.labels)) (list_all is_limited_label f.labels) (all_in is_limited_function c.functions f limits.3 h)
 
   label_limits : (l : LabelView) (slot : ℕ) → label_at c slot ≡ Some l → (nat_le l.slot 65535 ≡ true) × (is_limited_state l.state ≡ true) × (nat_le l.base (2 ^ 40) ≡ true) × (nat_le (length l.terms) 4 ≡ true) × (list_all is_limited_term l.terms ≡ true)
   label_limits l slot e =
@@ -182,8 +185,8 @@ module _ (c : CertificateView) (certificate : IsCertificate c) where
   pub well_formed : IsWellFormed c
   well_formed =
       record {
-        short_context = at_most c.len 4096 limits.0;
-        ordered = omega arith;
+        short_context = range.1;
+        ordered = range.0;
         states = λ l slot e. state_fits l.state (label_limits l slot e).1;
         depths = λ f h. from_to 1 8 f.depth (function_limits f h).1;
         returns = λ f h. number_fits f.ret (function_limits f h).2;

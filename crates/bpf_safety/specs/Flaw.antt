@@ -66,7 +66,7 @@ lacks_label c v = some_passes (λ t. is_none (label_at c t)) (jump_target v.slot
 
 -- 3 to 7: registers and memory
 abbrev pub fault_at : CertificateView → Visit → List ℕ
-fault_at c v = option_to_list (option_and_then (λ a. fault_of c.len a.state v.insn) v.arrival)
+fault_at c v = option_to_list (option_and_then (λ a. fault_of c.least a.state v.insn) v.arrival)
 
 -- the state at a callee's entry doesn't lie in the label at its first
 abbrev pub enters_wrongly : CertificateView → Visit → Arrival → Bool
@@ -175,12 +175,12 @@ begins_elsewhere [] = true
 begins_elsewhere (f ∷ fs) = not (f.first == 0)
 
 abbrev pub begins_wrongly : CertificateView → Bool
-begins_wrongly c = begins_elsewhere c.functions || some_passes (λ l. not (state_entails (start c.len c.len) l.state)) (label_at c 0)
+begins_wrongly c = begins_elsewhere c.functions || some_passes (λ l. not (state_entails (start c.least c.most) l.state)) (label_at c 0)
 
 -- the budget at the start may be above the steps that are promised
 abbrev pub starts_over_budget : CertificateView → Bool
 starts_over_budget c =
-    some_passes (λ l. some_passes (λ most. int_lt (pos c.steps) most) (greatest_budget (budget l) (start c.len c.len))) (label_at c 0)
+    some_passes (λ l. some_passes (λ most. int_lt (pos c.steps) most) (greatest_budget (budget l) (start c.least c.most))) (label_at c 0)
 
 -- ---- all flaws
 

@@ -92,7 +92,7 @@ jump_state slot _ s = None
 -- an arrival at an instruction whose registers and memory are judged and found right
 abbrev pub sound_arrival : CertificateView → Insn → Option Arrival → Option Arrival
 sound_arrival c i None = None
-sound_arrival c i (Some a) = if is_none (fault_of c.len a.state i) then Some a else None
+sound_arrival c i (Some a) = if is_none (fault_of c.least a.state i) then Some a else None
 
 -- what goes on to the next instruction
 abbrev pub passed_on : Instructions → CertificateView → ℕ → Insn → Arrival → Option Arrival

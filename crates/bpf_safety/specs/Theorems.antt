@@ -1,6 +1,6 @@
 -- The promises of an accepted certificate, over the machine's definitions.
-use Rattle.std.specs.Prelude.{◌≡◌, ℕ, suc, ◌+◌, ◌*◌, ◌≤◌, ◌<◌, ◌↔◌, ℤ, pos, ◌≤ℤ◌, List, length, sum_by, Some}
-use Rattle.bpf_insn.specs.Instruction.{Instructions}
+use Rattle.std.specs.Prelude.{◌≡◌, ℕ, zero, suc, ◌+◌, ◌*◌, ◌≤◌, ◌<◌, ◌↔◌, ℤ, pos, ◌≤ℤ◌, false, List, length, take, slice_get, sum_by, Option, Some, None, option_and_then}
+use Rattle.bpf_insn.specs.Instruction.{Instructions, slots}
 use Rattle.bpf_insn.specs.Image.{IsProgram}
 use Rattle.bpf_insn.specs.Laws.{AreBytes}
 use Rattle.bpf_insn.specs.State as machine
@@ -16,7 +16,8 @@ use Rattle.bpf_cert.specs.View.{CertificateView}
 use Rattle.bpf_cert.specs.Limits.{IsCertificate}
 use Rattle.bpf_safety.specs.Budget.{Budget, least_slack, Pays, HaveTagsOf}
 use Rattle.bpf_safety.specs.Certified.{Certified}
-use Rattle.bpf_safety.specs.Flow.{visits}
+use Rattle.bpf_safety.specs.Flow.{Arrival, Visit, visits, arrives, sound_arrival, passed_on}
+use Rattle.bpf_safety.specs.Flaw.{begins_wrongly, starts_over_budget}
 use Rattle.bpf_safety.specs.Work.{transfers, comparisons, transferred_at, compared_at_start, compared_at}
 
 -- a context of `least` to `most` bytes
@@ -44,7 +45,20 @@ abbrev pub SafeEnds : Type 0
 SafeEnds = (p : Instructions) (least most bound fuel : ℕ) (context : List ℕ) → IsSafe p least most bound → IsContext least most context → bound ≤ fuel → CanMake p context fuel → ⊥
 
 abbrev pub CertifiedIsSafe : Type 0
-CertifiedIsSafe = (p : Instructions) (c : CertificateView) → IsProgram p.list → IsCertificate c → Certified p c → IsSafe p c.len c.len c.steps
+CertifiedIsSafe = (p : Instructions) (c : CertificateView) → IsProgram p.list → IsCertificate c → Certified p c → IsSafe p c.least c.most c.steps
+
+-- ---- certificates that differ in their first line alone
+
+-- the version isn't looked at
+abbrev pub VersionIsFree : Type 0
+VersionIsFree = (p : Instructions) (c : CertificateView) (version : ℕ) → Certified p c ↔ Certified p (record c { version = version })
+
+-- what is certified for a range is certified, with the same bound, for another with no smaller least, if its start fits
+abbrev pub OtherRange : Type 0
+OtherRange =
+    (p : Instructions) (c : CertificateView) (least most : ℕ) → Certified p c → c.least ≤ least
+    → begins_wrongly (record c { least = least; most = most }) ≡ false → starts_over_budget (record c { least = least; most = most }) ≡ false
+    → Certified p (record c { least = least; most = most })
 
 -- ---- the flat machine follows
 
@@ -66,7 +80,7 @@ abbrev pub ProgramIsFlatSafe : Type 0
 ProgramIsFlatSafe = (p : Instructions) (least most : ℕ) → IsProgram p.list → IsFlatSafe p least most
 
 abbrev pub CertifiedIsFlatSafe : Type 0
-CertifiedIsFlatSafe = (p : Instructions) (c : CertificateView) → IsProgram p.list → IsCertificate c → Certified p c → IsFlatSafe p c.len c.len
+CertifiedIsFlatSafe = (p : Instructions) (c : CertificateView) → IsProgram p.list → IsCertificate c → Certified p c → IsFlatSafe p c.least c.most
 
 -- ---- budgets: the least slack is at the ends of the intervals
 
@@ -86,3 +100,21 @@ CertifiedWork = (p : Instructions) (c : CertificateView) → IsCertificate c →
 -- at most two comparisons an instruction, and one
 abbrev pub ComparisonsAreFew : Type 0
 ComparisonsAreFew = (p : Instructions) (c : CertificateView) → comparisons p c ≤ 2 * transfers p + 1
+
+-- ---- the visits: one at each instruction, with its label's state or with what the visit before passes on
+
+abbrev pub passes : Instructions → CertificateView → Visit → Option Arrival
+passes p c v = option_and_then (passed_on p c v.slot v.insn) (sound_arrival c v.insn v.arrival)
+
+abbrev pub passed_before : Instructions → CertificateView → ℕ → Option Arrival
+passed_before p c zero = None
+passed_before p c (suc k) = option_and_then (passes p c) (slice_get (visits p c) k)
+
+-- the visit of the instruction k
+pub record IsVisit (p : Instructions) (c : CertificateView) (k : ℕ) (v : Visit) : Type 0 where
+  pub insn_is : slice_get p.list k ≡ Some v.insn
+  pub slot_is : v.slot ≡ slots (take k p.list)
+  pub arrival_is : v.arrival ≡ arrives c v.slot (passed_before p c k)
+
+abbrev pub VisitsAreAssigned : Type 0
+VisitsAreAssigned = (p : Instructions) (c : CertificateView) → (length (visits p c) ≡ length p.list) × ((k : ℕ) (v : Visit) → slice_get (visits p c) k ≡ Some v → IsVisit p c k v)

@@ -1,6 +1,6 @@
 //! Laws of the definitions, each as the contract of a function.
 
-ghost use Rattle.bpf_safety.specs.Theorems.{SlackIsLeast, CertifiedIsSafe, SafeHasNoFault, SafeEnds, ProgramIsFlatSafe, CertifiedIsFlatSafe, CertifiedWork, ComparisonsAreFew};
+ghost use Rattle.bpf_safety.specs.Theorems.{SlackIsLeast, CertifiedIsSafe, SafeHasNoFault, SafeEnds, ProgramIsFlatSafe, CertifiedIsFlatSafe, VersionIsFree, OtherRange, CertifiedWork, ComparisonsAreFew, VisitsAreAssigned};
 
 use bpf_insn::{
     finish_is_last, flat_finishes, flat_follows, runs_keep_states, start_is_state,
@@ -53,6 +53,16 @@ pub fn safe_ends()
     finish_is_last();
 }
 
+/// A certificate's version doesn't change what it certifies.
+pub fn version_is_free()
+    ensures { VersionIsFree }
+{}
+
+/// A program that is certified for a range of lengths is certified for another whose least is no smaller, if its start fits.
+pub fn other_range()
+    ensures { OtherRange }
+{}
+
 /// The flat machine follows each run of a program that ends, and stays inside.
 pub fn program_is_flat_safe()
     ensures { ProgramIsFlatSafe }
@@ -78,4 +88,9 @@ pub fn certified_work()
 /// A program's comparisons are at most two for each instruction, and one.
 pub fn comparisons_are_few()
     ensures { ComparisonsAreFew }
+{}
+
+/// The visits are one at each instruction, with its label's own state or with what the visit before passes on.
+pub fn visits_are_assigned()
+    ensures { VisitsAreAssigned }
 {}

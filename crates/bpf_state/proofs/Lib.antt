@@ -5,3 +5,5 @@ pub mod ListLemmas
 pub mod SlotLemmas
 pub mod AluLemmas
 pub mod MemoryLemmas
+pub mod LaneLemmas
+pub mod CoverLemmas

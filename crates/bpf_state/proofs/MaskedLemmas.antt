@@ -28,7 +28,7 @@ mask_whole : (w : Whole) → mask_of (whole_slot w) ≡ 255
 mask_whole (Number n) = refl
 mask_whole (Pointer p) = refl
 
-mask_held : (mask : ℕ) (w : Whole) → mask_of (held mask w) ≡ mask
+pub mask_held : (mask : ℕ) (w : Whole) → mask_of (held mask w) ≡ mask
 mask_held mask w = elim (cases_eq mask 255) [
   | inl full ↦ ap mask_of (held_whole mask w full) ∙ mask_whole w ∙ sym full
   | inr part ↦ ap mask_of (held_bytes mask w part)
@@ -142,7 +142,7 @@ all_copied i masks masks' wholes others slots same long past copied e are =
 
 -- ---- what masks decide
 
-full_keeps : (n : ℕ) → n < 256 → bit_and n 255 ≡ n
+pub full_keeps : (n : ℕ) → n < 256 → bit_and n 255 ≡ n
 full_keeps n few = and_numeral n 254 refl ∙ small n few
   where
     small : (n : ℕ) → n < 256 → n % 256 ≡ n

@@ -1,5 +1,6 @@
 pub mod State
 pub mod Masked
+pub mod Covers
 pub mod Access
 pub mod Fault
 pub mod Transfer

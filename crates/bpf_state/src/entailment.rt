@@ -1,7 +1,9 @@
 //! Whether an abstract state lies in another. Tags aren't looked at.
 
-ghost use Rattle.std.specs.Prelude.{◌≡◌, ◌<◌, get_or};
+ghost use Rattle.std.specs.Prelude.{◌≡◌, ◌<◌, ◌-◌, get_or, bit_and, All};
 ghost use Rattle.bpf_state.specs.declared.state.SlotState.TheVariants.{Bytes};
+ghost use Rattle.bpf_state.specs.State.{IsSlot};
+ghost use Rattle.bpf_state.specs.Masked.{mask_of};
 ghost use Rattle.bpf_state.specs.Entails.{register_entails, slot_entails, all_pairs, state_entails};
 
 use crate::abstract_state::State;
@@ -71,28 +73,31 @@ fn registers_entail(registers: &[RegState; 11], others: &[RegState; 11]) -> bool
     true
 }
 
-/// Whether the slot at a place lies in the other one there. The masks decide, unless all its bytes are initialised and some
-/// have to be.
+/// Whether the slot at a place lies in the other one there, whose initialised bytes are initialised here too. That alone
+/// decides, unless all bytes are initialised and some have to be.
 fn slot_entails(slots: &Slots, others: &Slots, index: usize) -> bool
-    requires { index < 64 }
+    requires place { index < 64 }
+    requires covered { bit_and (mask_of (get_or others.now index (Bytes 0))) (255 - mask_of (get_or slots.now index (Bytes 0))) ≡ 0 }
     ensures { result ≡ slot_entails (get_or slots.now index (Bytes 0)) (get_or others.now index (Bytes 0)) }
 {
     let mask = slots.mask(index);
-    let other = others.mask(index);
-    if mask & other != other {
-        return false;
-    }
-    if mask != 255 || other == 0 {
+    let wanted = others.mask(index);
+    if mask != 255 || wanted == 0 {
         return true;
     }
     slots.get(index).entails(others.get(index))
 }
 
 fn slots_entail(slots: &Slots, others: &Slots) -> bool
+    requires slots { All IsSlot slots.now }
+    requires others { All IsSlot others.now }
     ensures { result ≡ all_pairs slot_entails slots.now others.now }
 {
     slots.valid();
     others.valid();
+    if !slots.cover(others) {
+        return false;
+    }
     for i in 0..64 {
         if !slot_entails(slots, others, i) {
             return false;

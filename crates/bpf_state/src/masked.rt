@@ -1,5 +1,6 @@
 //! The slots of a frame, their byte masks together.
 
+use crate::lanes::covers;
 use crate::state::{Pointer, SlotState};
 use bpf_num::Num;
 use std::fmt::{self, Debug, Formatter, Write};
@@ -34,11 +35,12 @@ impl Model for Slots {
 }
 
 impl Slots {
-    ghost use Rattle.std.specs.Prelude.{◌≡◌, ◌<◌, length, get_or, slice_set, replicate};
+    ghost use Rattle.std.specs.Prelude.{◌≡◌, ◌↔◌, ◌<◌, IsTrue, length, get_or, map, slice_set, replicate};
     ghost use Rattle.bpf_state.specs.declared.state.SlotState.TheVariants.{Bytes};
     ghost use Rattle.bpf_state.specs.State.{IsSlot};
     ghost use Rattle.bpf_state.specs.Access.{are_known_bytes};
     ghost use Rattle.bpf_state.specs.Masked.{mask_of};
+    ghost use Rattle.bpf_state.specs.Covers.{Covers};
 
     /// Nothing is known of any byte.
     pub(crate) fn blank() -> Self
@@ -71,6 +73,13 @@ impl Slots {
         ensures { result ≡ are_known_bytes bytes (get_or self.now index (Bytes 0)) }
     {
         bytes & self.mask(index) == bytes
+    }
+
+    /// Whether each initialised byte of others is one here too, by the masks.
+    pub(crate) fn cover(&self, others: &Slots) -> bool
+        ensures { IsTrue result ↔ Covers (map mask_of self.now) (map mask_of others.now) }
+    {
+        covers(&self.masks, &others.masks)
     }
 
     /// What is known of a slot, by its place.

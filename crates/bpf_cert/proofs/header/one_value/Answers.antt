@@ -1,5 +1,5 @@
 use Rattle.std.proofs.Common.{sym}
-use Rattle.bpf_cert.proofs.HeaderValues.{one_ok, one_kept}
+use Rattle.bpf_cert.proofs.HeaderValues.{one_ok}
 use Rattle.bpf_cert.proofs.header.one_value.Goals as goal
 
 pub returns-in-Ok-clause-value : goal.returns-in-Ok-clause-value
