@@ -13,6 +13,8 @@ use crate::shape::label_flaw;
 use crate::start::start_flaw;
 use bpf_cert::Certificate;
 use bpf_insn::Code;
+use bpf_safety::{certified_work, comparisons_are_few};
+use bpf_state::Work;
 
 /// Judges whether a certificate certifies a program, in one pass over the program and without memory. C1 to C13 at the
 /// lowest slot where a condition fails, and there the lowest number, if it doesn't.
@@ -27,14 +29,18 @@ pub fn check<'a, C: Code>(
     // A program and a certificate are valid by themselves.
     let _slots = program.slots();
     certificate.valid();
-    let start = start_flaw(certificate);
-    let visits = visit_flaw(program, certificate);
+    certified_work();
+    comparisons_are_few();
+    let mut work = Work::new();
+    let start = start_flaw(certificate, &mut work);
+    let visits = visit_flaw(program, certificate, &mut work);
     let labels = label_flaw(program, certificate);
     match lesser(lesser(start, visits), labels) {
         Some(refusal) => Err(refusal),
         None => Ok(Checked {
             program,
             certificate,
+            work,
         }),
     }
 }
