@@ -368,7 +368,7 @@ module _ (p : Instructions) (c : CertificateView) (laws : Laws) (program : IsPro
       leads_back : abstract.Leads p c.least c.most h.x (next_state p c m.top.slot h.insn h.arrival.state) back.state
       leads_back =
           subst (λ o. abstract.Leads p c.least c.most h.x o back.state) (sym (ap (λ i. next_state p c m.top.slot i h.arrival.state) e ∙ ap (option_and_then (λ g. left g.ret h.arrival.state)) g.callee_is))
-          (laws.leave_keeps p c.least c.most h.x off h.arrival.state m m1 r.state back.state g.callee_function.ret r.value j step r.waiting_same r.context_is r.at_exit r.value_is (certificate.returns g.callee_function g.is_element) r.returns back.step)
+          (laws.leave_keeps p c.least c.most h.x off h.arrival.state m m1 r.state back.state g.callee_function.ret r.value (record { judged = j; enters = step; waits = r.waiting_same; length_within = r.context_is; at_exit = r.at_exit; gives = r.value_is; is_number = certificate.returns g.callee_function g.is_element; has = r.returns; leaves = back.step }))
 
       run : Steps p (suc (suc r.steps)) m back.state
       run = (r.state, first_step p r.steps m m1 r.state step r.run, back.step)

@@ -1,5 +1,5 @@
 -- Certificates that differ in their first line alone: the version isn't looked at, and a range may be narrowed.
-use Rattle.std.proofs.Common.{◌≡◌, ℕ, suc, ◌+◌, ◌≤◌, refl, sym, ap, ◌∙◌, subst, arith, pos, neg_ℤ, int_le, Bool, true, false, cond, not, ◌&&◌, ◌||◌, List, [], ◌∷◌, ◌++◌, Option, Some, None, is_some, is_none, option_and_then, Contains, flat_map, ⊎_elim, true≢false}
+use Rattle.std.proofs.Common.{◌≡◌, ℕ, suc, ◌+◌, ◌≤◌, refl, sym, ap, ap₂, ◌∙◌, subst, arith, pos, neg_ℤ, int_le, int_lt, Bool, true, false, cond, not, ◌&&◌, ◌||◌, List, [], ◌∷◌, ◌++◌, Option, Some, None, is_some, is_none, option_and_then, Contains, flat_map, ⊎_elim, true≢false}
 use Rattle.std.specs.Option.{option_to_list}
 use Rattle.std.proofs.lemmas.Bool.{or_parts, and_parts}
 use Rattle.std.proofs.lemmas.Int.{ints}
@@ -7,16 +7,21 @@ use Rattle.std.proofs.lemmas.List.Elements.{Contains-append_left, Contains-appen
 use Rattle.bpf_insn.specs.declared.instruction.Insn.{Insn}
 use Rattle.bpf_insn.specs.declared.instruction.Insn.TheVariants.{CallLocal}
 use Rattle.bpf_insn.specs.Instruction.{Instructions, slot_count}
-use Rattle.bpf_state.specs.State.{AbstractState}
+use Rattle.bpf_state.specs.State.{AbstractState, start}
+use Rattle.bpf_state.specs.Entails.{state_entails}
 use Rattle.bpf_state.specs.Access.{Span, span_of, span_end, is_inside}
 use Rattle.bpf_state.specs.Fault.{fault_of, some_passes, reads_any, has_wrong_kinds, makes_far_pointer, is_out_of_bounds, on_span, reads_unknown_byte, writes_protected}
-use Rattle.bpf_cert.specs.View.{CertificateView}
+use Rattle.bpf_cert.specs.View.{LabelView, CertificateView}
+use Rattle.bpf_safety.specs.Labels.{label_at}
+use Rattle.bpf_safety.specs.Budget.{budget, greatest_budget}
 use Rattle.bpf_safety.specs.Flow.{Arrival, Visit, visits, visits_from, arrives, sound_arrival, passed_on}
-use Rattle.bpf_safety.specs.Flaw.{number_if, at, lacks_label, numbers_of_arrival, numbers_of_visit, calls_no_deeper, is_never_reached, leaves_function, begins_wrongly, starts_over_budget, function_flaws}
+use Rattle.bpf_safety.specs.Flaw.{number_if, at, lacks_label, numbers_of_arrival, numbers_of_visit, calls_no_deeper, is_never_reached, leaves_function, begins_elsewhere, begins_wrongly, starts_over_budget, function_flaws}
 use Rattle.bpf_safety.specs.Certified.{Certified}
-use Rattle.bpf_safety.specs.Theorems.{VersionIsFree, OtherRange}
+use Rattle.bpf_safety.specs.Theorems.{VersionIsFree, RangesInside}
 use Rattle.bpf_safety.proofs.Facts.{is_right, begins_right, Contains-flat, Contains-from_flat}
 use Rattle.bpf_safety.proofs.Visits.{goes_on_with}
+use Rattle.bpf_safety.proofs.WellFormedLaw.{well_formed}
+use Rattle.bpf_safety.proofs.StartRanges.{start_narrower, budget_narrower}
 
 -- ---- a longer context has the bytes of a shorter one
 
@@ -161,5 +166,19 @@ version_is_free p c version = (
   λ certified. let begins = begins_right p (record c { version = version }) certified in certified_other p (record c { version = version }) c.version c.least c.most (omega arith) certified begins.0 begins.1,
 )
 
-pub other_range : OtherRange
-other_range p c least most certified longer begins budget = certified_other p c c.version least most longer certified begins budget
+pub ranges_inside : RangesInside
+ranges_inside p c least most certificate certified low ordered high =
+    let fits = (well_formed c certificate).short_context in
+    let begins = begins_right p c certified in
+    let first = or_parts (begins_elsewhere c.functions) (some_passes (λ l. not (state_entails (start c.least c.most) l.state)) (label_at c 0)) begins.0 in
+    certified_other p c c.version least most low certified
+    (ap₂ (λ x y. x || y) first.0 (entailed fits (label_at c 0) first.1))
+    (paid fits (label_at c 0) begins.1)
+  where
+    entailed : c.most ≤ 4096 → (o : Option LabelView) → some_passes (λ l. not (state_entails (start c.least c.most) l.state)) o ≡ false → some_passes (λ l. not (state_entails (start least most) l.state)) o ≡ false
+    entailed fits None e = refl
+    entailed fits (Some l) e = ap not (start_narrower c.least least most c.most low ordered high fits l.state (not_true (state_entails (start c.least c.most) l.state) e))
+
+    paid : c.most ≤ 4096 → (o : Option LabelView) → some_passes (λ l. some_passes (λ z. int_lt (pos c.steps) z) (greatest_budget (budget l) (start c.least c.most))) o ≡ false → some_passes (λ l. some_passes (λ z. int_lt (pos c.steps) z) (greatest_budget (budget l) (start least most))) o ≡ false
+    paid fits None e = refl
+    paid fits (Some l) e = budget_narrower c.least least most c.most low ordered high fits (budget l) c.steps e

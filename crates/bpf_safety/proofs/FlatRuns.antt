@@ -1,6 +1,6 @@
 -- The flat machine follows a whole run, step by step.
 use Rattle.std.proofs.Common.{◌≡◌, ℕ, zero, suc, ◌+◌, ◌≤◌, ◌<◌, ◌⊎◌, inl, inr, refl, sym, ap, ◌∙◌, subst, arith, ◌^◌, List, length, Some, is_some}
-use Rattle.std.proofs.lemmas.Bool.{false≢true, cases_order}
+use Rattle.std.proofs.lemmas.Bool.{false≢true, cases_order, cases_lt}
 use Rattle.bpf_insn.specs.declared.instruction.Insn.{Insn}
 use Rattle.bpf_insn.specs.declared.instruction.Insn.TheVariants.{Exit}
 use Rattle.bpf_insn.specs.Instruction.{Instructions, insn_at}
@@ -13,7 +13,7 @@ use Rattle.bpf_insn.specs.MachineLaws.{StepKeepsContext, RunsKeepStates}
 use Rattle.bpf_insn.specs.Flat.{addresses, frame_start, Placement, FlatState, FlatStep, FlatFinish, FlatSteps}
 use Rattle.bpf_insn.specs.FlatLaws.{FlatFollows, FlatFinishes, Follows}
 use Rattle.bpf_insn.specs.State.{frame_bytes}
-use Rattle.bpf_insn.specs.Placement.{AreApart, IsPlacement, IsFlatStart, Fits, StaysInside}
+use Rattle.bpf_insn.specs.Placement.{IsPlacement, IsFlatStart, Fits, StaysInside}
 use Rattle.bpf_insn.specs.Laws.{AreBytes}
 use Rattle.bpf_safety.specs.Theorems.{FlatFollowsRun, ProgramIsFlatSafe}
 use Rattle.bpf_safety.proofs.Basics.{some_is}
@@ -28,8 +28,7 @@ pub record FlatLaws : Type 0 where
 
 -- a context that is placed leaves room for the frames
 placed_short : (len : ℕ) (place : Placement) → IsPlacement len place → len < 2 ^ 64
-placed_short len place placed =
-    by_side (placed.context_apart 0 (omega arith))
+placed_short len place placed = by_order (cases_lt len (2 ^ 64))
   where
     inside : place.context + len ≤ addresses
     inside = placed.context_inside
@@ -37,9 +36,10 @@ placed_short len place placed =
     frame : frame_start place 0 + frame_bytes ≤ addresses
     frame = placed.frame_inside 0 (omega arith)
 
-    by_side : AreApart place.context len (frame_start place 0) frame_bytes → len < 2 ^ 64
-    by_side (inl before) = omega arith
-    by_side (inr behind) = omega arith
+    -- it hasn't each address: the first frame has some
+    by_order : (len < 2 ^ 64) ⊎ (2 ^ 64 ≤ len) → len < 2 ^ 64
+    by_order (inl less) = less
+    by_order (inr all) = absurd (placed.context_apart 0 (omega arith) (frame_start place 0) (omega arith, omega arith) (omega arith, omega arith))
 
 -- what reads and writes nothing stays inside
 exit_stays : (place : Placement) (len : ℕ) (p : Instructions) (f : FlatState) → insn_at p.list f.slot ≡ Some Exit → StaysInside place len p f

@@ -20,3 +20,4 @@ mod WellFormedLaw
 mod WorkLaws
 mod FirstLines
 mod Assigned
+mod StartRanges

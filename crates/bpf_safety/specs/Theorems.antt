@@ -1,5 +1,5 @@
 -- The promises of an accepted certificate, over the machine's definitions.
-use Rattle.std.specs.Prelude.{◌≡◌, ℕ, zero, suc, ◌+◌, ◌*◌, ◌≤◌, ◌<◌, ◌↔◌, ℤ, pos, ◌≤ℤ◌, false, List, length, take, slice_get, sum_by, Option, Some, None, option_and_then}
+use Rattle.std.specs.Prelude.{◌≡◌, ℕ, zero, suc, ◌+◌, ◌*◌, ◌≤◌, ◌<◌, ◌↔◌, ℤ, pos, ◌≤ℤ◌, List, length, take, slice_get, sum_by, Option, Some, None, option_and_then}
 use Rattle.bpf_insn.specs.Instruction.{Instructions, slots}
 use Rattle.bpf_insn.specs.Image.{IsProgram}
 use Rattle.bpf_insn.specs.Laws.{AreBytes}
@@ -17,7 +17,6 @@ use Rattle.bpf_cert.specs.Limits.{IsCertificate}
 use Rattle.bpf_safety.specs.Budget.{Budget, least_slack, Pays, HaveTagsOf}
 use Rattle.bpf_safety.specs.Certified.{Certified}
 use Rattle.bpf_safety.specs.Flow.{Arrival, Visit, visits, arrives, sound_arrival, passed_on}
-use Rattle.bpf_safety.specs.Flaw.{begins_wrongly, starts_over_budget}
 use Rattle.bpf_safety.specs.Work.{transfers, comparisons, transferred_at, compared_at_start, compared_at}
 
 -- a context of `least` to `most` bytes
@@ -39,7 +38,9 @@ pub record IsSafe (p : Instructions) (least most bound : ℕ) : Type 0 where
 
 -- No run of a safe program is at fault, and none goes on for as many steps as its bound: it ends before.
 abbrev pub SafeHasNoFault : Type 0
-SafeHasNoFault = (p : Instructions) (least most bound : ℕ) (context : List ℕ) (slot : ℕ) (reason : Reason) (k : ℕ) → IsProgram p.list → IsSafe p least most bound → IsContext least most context → IsFault p context slot reason k → ⊥
+SafeHasNoFault =
+    (p : Instructions) (least most bound : ℕ) (context : List ℕ) (slot : ℕ) (reason : Reason) (k : ℕ)
+    → IsProgram p.list → IsSafe p least most bound → IsContext least most context → IsFault p context slot reason k → ⊥
 
 abbrev pub SafeEnds : Type 0
 SafeEnds = (p : Instructions) (least most bound fuel : ℕ) (context : List ℕ) → IsSafe p least most bound → IsContext least most context → bound ≤ fuel → CanMake p context fuel → ⊥
@@ -53,12 +54,11 @@ CertifiedIsSafe = (p : Instructions) (c : CertificateView) → IsProgram p.list 
 abbrev pub VersionIsFree : Type 0
 VersionIsFree = (p : Instructions) (c : CertificateView) (version : ℕ) → Certified p c ↔ Certified p (record c { version = version })
 
--- what is certified for a range is certified, with the same bound, for another with no smaller least, if its start fits
-abbrev pub OtherRange : Type 0
-OtherRange =
-    (p : Instructions) (c : CertificateView) (least most : ℕ) → Certified p c → c.least ≤ least
-    → begins_wrongly (record c { least = least; most = most }) ≡ false → starts_over_budget (record c { least = least; most = most }) ≡ false
-    → Certified p (record c { least = least; most = most })
+-- what is certified for a range is certified, with the same bound, for each range inside it
+abbrev pub RangesInside : Type 0
+RangesInside =
+    (p : Instructions) (c : CertificateView) (least most : ℕ) → IsCertificate c → Certified p c
+    → c.least ≤ least → least ≤ most → most ≤ c.most → Certified p (record c { least = least; most = most })
 
 -- ---- the flat machine follows
 
@@ -85,7 +85,11 @@ CertifiedIsFlatSafe = (p : Instructions) (c : CertificateView) → IsProgram p.l
 -- ---- budgets: the least slack is at the ends of the intervals
 
 abbrev pub SlackIsLeast : Type 0
-SlackIsLeast = (old new : Budget) (at_label edge : AbstractState) (cost slack : ℤ) → IsAbstract at_label → IsAbstract edge → HaveTagsOf (length old.terms) edge new.terms → least_slack old at_label cost edge new ≡ Some slack → (pos 0 ≤ℤ slack) ↔ Pays old at_label cost edge new
+SlackIsLeast =
+    (old new : Budget) (at_label edge : AbstractState) (cost slack : ℤ)
+    → IsAbstract at_label → IsAbstract edge → HaveTagsOf (length old.terms) edge new.terms
+    → least_slack old at_label cost edge new ≡ Some slack
+    → (pos 0 ≤ℤ slack) ↔ Pays old at_label cost edge new
 
 -- ---- work
 

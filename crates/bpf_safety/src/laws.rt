@@ -1,6 +1,6 @@
 //! Laws of the definitions, each as the contract of a function.
 
-ghost use Rattle.bpf_safety.specs.Theorems.{SlackIsLeast, CertifiedIsSafe, SafeHasNoFault, SafeEnds, ProgramIsFlatSafe, CertifiedIsFlatSafe, VersionIsFree, OtherRange, CertifiedWork, ComparisonsAreFew, VisitsAreAssigned};
+ghost use Rattle.bpf_safety.specs.Theorems.{SlackIsLeast, CertifiedIsSafe, SafeHasNoFault, SafeEnds, ProgramIsFlatSafe, CertifiedIsFlatSafe, VersionIsFree, RangesInside, CertifiedWork, ComparisonsAreFew, VisitsAreAssigned};
 
 use bpf_insn::{
     finish_is_last, flat_finishes, flat_follows, runs_keep_states, start_is_state,
@@ -58,9 +58,9 @@ pub fn version_is_free()
     ensures { VersionIsFree }
 {}
 
-/// A program that is certified for a range of lengths is certified for another whose least is no smaller, if its start fits.
-pub fn other_range()
-    ensures { OtherRange }
+/// A program that is certified for a range of lengths is certified, with the same bound, for each range inside it.
+pub fn ranges_inside()
+    ensures { RangesInside }
 {}
 
 /// The flat machine follows each run of a program that ends, and stays inside.

@@ -213,9 +213,9 @@ unfolding does
 exit_is p m m' v stands is goes = ap (λ o. option_and_then (λ v. step.left m.waiting v m.context) o) (sym is) ∙ step_is p m m' Exit stands goes
 
 pub leave_keeps : TightenKeeps → LeaveKeeps
-leave_keeps tightens p least most x off s m m1 m2 m3 returned v j goes waits all stands is ok has goes' =
-    let e = call_is p off m m1 j.stands goes in
+leave_keeps tightens p least most x off s m m1 m2 m3 returned v r =
+    let e = call_is p off m m1 r.judged.stands r.enters in
     let back : machine.State = resumed m v (m.top.slot + 1) m2.context in
-    let waiting : m2.waiting ≡ (step.entered m e.0).waiting = waits ∙ ap (λ n. n.waiting) (sym e.1) in
-    let f : back ≡ m3 = same_Some back m3 (ap (λ w. step.left w v m2.context) (sym waiting) ∙ exit_is p m2 m3 v stands is goes') in
-    leads_at p least most x (left returned s) back m3 f (return_keeps tightens p least most x returned s m v (m.top.slot + 1) m2.context j.valid (top_frame m j.state) j.described all ok has)
+    let waiting : m2.waiting ≡ (step.entered m e.0).waiting = r.waits ∙ ap (λ n. n.waiting) (sym e.1) in
+    let f : back ≡ m3 = same_Some back m3 (ap (λ w. step.left w v m2.context) (sym waiting) ∙ exit_is p m2 m3 v r.at_exit r.gives r.leaves) in
+    leads_at p least most x (left returned s) back m3 f (return_keeps tightens p least most x returned s m v (m.top.slot + 1) m2.context r.judged.valid (top_frame m r.judged.state) r.judged.described r.length_within r.is_number r.has)

@@ -30,3 +30,4 @@ pub mod Atomics
 pub mod NotStuck
 pub mod Waiting
 pub mod StepLaws
+mod StateLaws

@@ -17,7 +17,7 @@ use Rattle.bpf_state.specs.declared.state.RegState.{RegState}
 use Rattle.bpf_state.specs.declared.state.RegState.TheVariants.{Num}
 use Rattle.bpf_state.specs.declared.state.SlotState.{SlotState}
 use Rattle.bpf_state.specs.declared.state.SlotState.TheVariants.{Word}
-use Rattle.bpf_state.specs.State.{AbstractState, IsRegister, IsSlot, register, slot, start, entered, left, tightened}
+use Rattle.bpf_state.specs.State.{AbstractState, IsRegister, IsSlot, IsState, register, slot, start, entered, left, tightened}
 use Rattle.bpf_state.specs.Fault.{fault_of}
 use Rattle.bpf_state.specs.Transfer.{after, branch}
 use Rattle.bpf_state.specs.Entails.{state_entails}
@@ -42,6 +42,14 @@ pub record IsAbstract (s : AbstractState) : Type 0 where
   pub registers : (r : Reg) → IsAbstractRegister (register s r)
   pub slots : (k : ℕ) → 1 ≤ k → k ≤ 64 → IsAbstractSlot (slot s k)
 
+pub record HasNumbers (s : AbstractState) : Type 0 where
+  pub in_registers : (r : Reg) (n : Number) → register s r ≡ Num n → IsNumber n
+  pub in_slots : (k : ℕ) (n : Number) → 1 ≤ k → k ≤ 64 → slot s k ≡ Word n → IsNumber n
+
+-- nothing more is asked than what every state keeps, and that its numbers do
+abbrev pub StatesAreAbstract : Type 0
+StatesAreAbstract = (s : AbstractState) → IsState s → HasNumbers s → IsAbstract s
+
 -- ---- a machine at an instruction, described by an abstract state without fault
 
 pub record IsJudged (p : Instructions) (least most : ℕ) (x : List ℕ) (i : Insn) (s : AbstractState) (m : machine.State) : Type 0 where
@@ -54,7 +62,9 @@ pub record IsJudged (p : Instructions) (least most : ℕ) (x : List ℕ) (i : In
 
 -- it isn't stuck for a reason of registers or memory: only for too many frames
 abbrev pub NotStuckInside : Type 0
-NotStuckInside = (p : Instructions) (least most : ℕ) (x : List ℕ) (i : Insn) (s : AbstractState) (m : machine.State) (why : Reason) → IsJudged p least most x i s m → reason_of p m ≡ Some why → why ≡ TooManyFrames
+NotStuckInside =
+    (p : Instructions) (least most : ℕ) (x : List ℕ) (i : Insn) (s : AbstractState) (m : machine.State) (why : Reason)
+    → IsJudged p least most x i s m → reason_of p m ≡ Some why → why ≡ TooManyFrames
 
 -- an instruction that neither branches nor enters or leaves a function
 abbrev pub IsPlain : Insn → Type 0
@@ -71,7 +81,9 @@ pub record Leads (p : Instructions) (least most : ℕ) (x : List ℕ) (s' : Opti
   pub describes : Describes p.order least most x state m'
 
 abbrev pub StepKeeps : Type 0
-StepKeeps = (p : Instructions) (least most : ℕ) (x : List ℕ) (i : Insn) (s : AbstractState) (m m' : machine.State) → IsJudged p least most x i s m → IsPlain i → Step p m m' → Leads p least most x (after p.order i s) m'
+StepKeeps =
+    (p : Instructions) (least most : ℕ) (x : List ℕ) (i : Insn) (s : AbstractState) (m m' : machine.State)
+    → IsJudged p least most x i s m → IsPlain i → Step p m m' → Leads p least most x (after p.order i s) m'
 
 -- whether the test of a conditional jump holds
 abbrev pub Tests : machine.State → Insn → Bool → Type 0
@@ -79,15 +91,33 @@ Tests m (JumpIf cond width dst src off) taken = (machine.register m dst >>= λ a
 Tests m i taken = ⊥
 
 abbrev pub BranchKeeps : Type 0
-BranchKeeps = (p : Instructions) (least most : ℕ) (x : List ℕ) (i : Insn) (s : AbstractState) (m m' : machine.State) (taken : Bool) → IsJudged p least most x i s m → Tests m i taken → Step p m m' → Leads p least most x (branch i taken s) m'
+BranchKeeps =
+    (p : Instructions) (least most : ℕ) (x : List ℕ) (i : Insn) (s : AbstractState) (m m' : machine.State) (taken : Bool)
+    → IsJudged p least most x i s m → Tests m i taken → Step p m m' → Leads p least most x (branch i taken s) m'
 
 abbrev pub EnterKeeps : Type 0
-EnterKeeps = (p : Instructions) (least most : ℕ) (x : List ℕ) (off : ℤ) (s : AbstractState) (m m' : machine.State) → IsJudged p least most x (CallLocal off) s m → Step p m m' → Leads p least most x (Some (entered s)) m'
+EnterKeeps =
+    (p : Instructions) (least most : ℕ) (x : List ℕ) (off : ℤ) (s : AbstractState) (m m' : machine.State)
+    → IsJudged p least most x (CallLocal off) s m → Step p m m' → Leads p least most x (Some (entered s)) m'
 
--- A callee that comes to its EXIT gives its number to the frame that waits, whose state is what the CALL left of it: m stands at
--- the CALL, m1 at the callee's entry, m2 at its EXIT, m3 behind the CALL.
+-- A callee comes to its EXIT and gives its number to the frame that waits: m stands at the CALL, m1 at the callee's entry, m2 at
+-- its EXIT, m3 behind the CALL.
+pub record IsReturn (p : Instructions) (least most : ℕ) (x : List ℕ) (off : ℤ) (s : AbstractState) (m m1 m2 m3 : machine.State) (returned : Number) (v : ℕ) : Type 0 where
+  pub judged : IsJudged p least most x (CallLocal off) s m
+  pub enters : Step p m m1
+  pub waits : m2.waiting ≡ m1.waiting
+  pub length_within : LengthWithin least most m2.context
+  pub at_exit : insn_at p.list m2.top.slot ≡ Some Exit
+  pub gives : machine.number_of_register m2 R0 ≡ Some v
+  pub is_number : IsNumber returned
+  pub has : Has returned v
+  pub leaves : Step p m2 m3
+
+-- the caller's state is then what the CALL left of it
 abbrev pub LeaveKeeps : Type 0
-LeaveKeeps = (p : Instructions) (least most : ℕ) (x : List ℕ) (off : ℤ) (s : AbstractState) (m m1 m2 m3 : machine.State) (returned : Number) (v : ℕ) → IsJudged p least most x (CallLocal off) s m → Step p m m1 → m2.waiting ≡ m1.waiting → LengthWithin least most m2.context → insn_at p.list m2.top.slot ≡ Some Exit → machine.number_of_register m2 R0 ≡ Some v → IsNumber returned → Has returned v → Step p m2 m3 → Leads p least most x (left returned s) m3
+LeaveKeeps =
+    (p : Instructions) (least most : ℕ) (x : List ℕ) (off : ℤ) (s : AbstractState) (m m1 m2 m3 : machine.State) (returned : Number) (v : ℕ)
+    → IsReturn p least most x off s m m1 m2 m3 returned v → Leads p least most x (left returned s) m3
 
 -- neither changes a waiting frame
 abbrev pub IsCallOrExit : Insn → Type 0
@@ -96,17 +126,26 @@ IsCallOrExit Exit = ⊤
 IsCallOrExit i = ⊥
 
 abbrev pub WaitingFramesStay : Type 0
-WaitingFramesStay = (p : Instructions) (least most : ℕ) (x : List ℕ) (i : Insn) (s : AbstractState) (m m' : machine.State) → IsJudged p least most x i s m → (IsCallOrExit i → ⊥) → Step p m m' → m'.waiting ≡ m.waiting
+WaitingFramesStay =
+    (p : Instructions) (least most : ℕ) (x : List ℕ) (i : Insn) (s : AbstractState) (m m' : machine.State)
+    → IsJudged p least most x i s m → (IsCallOrExit i → ⊥) → Step p m m' → m'.waiting ≡ m.waiting
 
 abbrev pub StartDescribes : Type 0
-StartDescribes = (order : Order) (least most : ℕ) (context : List ℕ) (x : List ℕ) → LengthWithin least most context → most ≤ 4096 → Describes order least most x (start least most) (machine.start context)
+StartDescribes =
+    (order : Order) (least most : ℕ) (context : List ℕ) (x : List ℕ)
+    → LengthWithin least most context → most ≤ 4096 → Describes order least most x (start least most) (machine.start context)
 
 abbrev pub StartIsAbstract : Type 0
 StartIsAbstract = (least most : ℕ) → least ≤ most → most ≤ 4096 → IsAbstract (start least most)
 
 abbrev pub TightenedDescribes : Type 0
-TightenedDescribes = (p : Instructions) (least most : ℕ) (x : List ℕ) (s : AbstractState) (m : machine.State) → IsAbstract s → Describes p.order least most x s m → Leads p least most x (tightened s) m
+TightenedDescribes =
+    (p : Instructions) (least most : ℕ) (x : List ℕ) (s : AbstractState) (m : machine.State)
+    → IsAbstract s → Describes p.order least most x s m → Leads p least most x (tightened s) m
 
 -- tags aside: what the first describes, the second describes with any tags of which the equations hold
 abbrev pub EntailsDescribes : Type 0
-EntailsDescribes = (order : Order) (least most : ℕ) (x : List ℕ) (s t : AbstractState) (m : machine.State) → IsAbstract s → IsAbstract t → IsTrue (state_entails s t) → Describes order least most x s m → Describes order least most x (record t { register_tags = s.register_tags; slot_tags = s.slot_tags }) m
+EntailsDescribes =
+    (order : Order) (least most : ℕ) (x : List ℕ) (s t : AbstractState) (m : machine.State)
+    → IsAbstract s → IsAbstract t → IsTrue (state_entails s t) → Describes order least most x s m
+    → Describes order least most x (record t { register_tags = s.register_tags; slot_tags = s.slot_tags }) m
