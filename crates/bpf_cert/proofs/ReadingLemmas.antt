@@ -15,7 +15,7 @@ use Rattle.bpf_cert.specs.declared.error.CertError.TheVariants.{Syntax, NotCanon
 use Rattle.bpf_cert.specs.View.{CertificateView}
 use Rattle.bpf_cert.specs.declared.source.Stop.{Stop}
 use Rattle.bpf_cert.specs.declared.source.Stop.TheVariants as stop
-use Rattle.bpf_cert.specs.ReadAnswers.{IsFaultOf}
+use Rattle.bpf_cert.specs.ReadAnswers.{IsFaultOf, FailsAt}
 use Rattle.bpf_cert.specs.Certificates.{Spells}
 use Rattle.bpf_cert.specs.Building.{Takes, Finishes}
 use Rattle.bpf_cert.specs.declared.building.Builder.{Builder}
@@ -141,17 +141,13 @@ rest_failed : (n : ℕ) (before : List Line) (line : List ℕ) → is_ended befo
 unfolding fault_from rest_fault
 rest_failed n before line going short = rw (going, le-ltb 256 (length line) short) refl
 
-abbrev pub IsCutFault : Option (List ℕ) → ℕ → Type 0
-IsCutFault text n = IfSome text (λ t. (given rest : List ℕ) × (t ≡ given ++ rest) × (fault_of failed given ≡ Some (Read n)))
-
 pub cut : (text old new : Option (List ℕ)) (line : List ℕ) (n : ℕ) (before : List Line) → Progresses text old n before → Consumes old new line
-    → IsOneLine line → length line ≤ 256 → is_ended before ≡ false → IsCutFault text n
+    → IsOneLine line → length line ≤ 256 → is_ended before ≡ false → FailsAt text new (Read n)
 cut None old new line n before p took one short going = tt
 cut (Some text) None new line n before p took one short going = absurd p
 cut (Some text) (Some rest) None line n before p took one short going = absurd took
 cut (Some text) (Some rest) (Some left) line n before p took one short going = (
   p.taken ++ line,
-  left,
   p.whole ∙ ap (λ z. p.taken ++ z) took ∙ sym (append_assoc p.taken line left),
   p.faults failed line ∙ ap (fault_from failed n before) (pieces_one line one) ∙ rest_failed n before line going short,
 )
@@ -212,12 +208,12 @@ failed_at_end : (n : ℕ) (before : List Line) → is_ended before ≡ true → 
 unfolding fault_from rest_fault
 failed_at_end n before ended = rw ended refl
 
-pub cut_behind : (text old new : Option (List ℕ)) (n : ℕ) (before : List Line) → Progresses text old n before → Consumes old new [] → is_ended before ≡ true → IsCutFault text n
+pub cut_behind : (text old new : Option (List ℕ)) (n : ℕ) (before : List Line) → Progresses text old n before → Consumes old new [] → is_ended before ≡ true → FailsAt text new (Read n)
 cut_behind None old new n before p took ended = tt
 cut_behind (Some text) None new n before p took ended = absurd p
 cut_behind (Some text) (Some rest) None n before p took ended = absurd took
 cut_behind (Some text) (Some rest) (Some left) n before p took ended =
-    (p.taken ++ [], rest, p.whole ∙ ap (λ z. z ++ rest) (sym (append-nil p.taken)), p.faults failed [] ∙ failed_at_end n before ended)
+    (p.taken ++ [], p.whole ∙ ap (λ z. z ++ rest) (sym (append-nil p.taken)) ∙ ap (λ z. (p.taken ++ []) ++ z) took, p.faults failed [] ∙ failed_at_end n before ended)
 
 -- what is answered where the reader has these bytes
 abbrev pub Gives : Option (List ℕ) → Result CertificateView CertError → Type 0
@@ -235,9 +231,10 @@ limit_given : (text : Option (List ℕ)) (n : ℕ) → HasFault text (Limit n) �
 limit_given None n h = tt
 limit_given (Some t) n h = h
 
-cut_given : (text : Option (List ℕ)) (n : ℕ) → IsCutFault text n → Gives text (Err (Read n))
-cut_given None n h = tt
-cut_given (Some t) n h = h
+cut_given : (text new : Option (List ℕ)) (n : ℕ) → FailsAt text new (Read n) → Gives text (Err (Read n))
+cut_given None new n h = tt
+cut_given (Some t) None n h = absurd h.1
+cut_given (Some t) (Some rest) n h = (h.0, rest, h.1, h.2)
 
 finished_given : (text : Option (List ℕ)) (before : List Line) (r : Result CertificateView CertError) → IfSome text (λ t. t ≡ lines_text (reverse before)) → Finishes before r → Gives text r
 finished_given None before r e h = tt
@@ -259,7 +256,7 @@ ended_given text old new line stop.End true n before r p took bare ended a =
 ended_given text old new line stop.End false n before r p took bare ended a =
     rw a (syntax_given text n (behind_end text old new line n before p took.0 (positive line (sym bare)) ended))
 ended_given text old new line stop.Failed true n before r p took bare ended a =
-    rw a (cut_given text n (cut_behind text old new n before p (nothing old new line (eqb-true (length line) 0 (sym bare)) took) ended))
+    rw a (cut_given text new n (cut_behind text old new n before p (nothing old new line (eqb-true (length line) 0 (sym bare)) took) ended))
 ended_given text old new line stop.Failed false n before r p took bare ended a =
     rw a (syntax_given text n (behind_end text old new line n before p took (positive line (sym bare)) ended))
 ended_given text old new line stop.LineEnd is_empty n before r p took bare ended a =
@@ -273,7 +270,7 @@ end_given text old new line n before p took end one short going = syntax_given t
 
 pub failed_given : (text old new : Option (List ℕ)) (line : List ℕ) (n : ℕ) (before : List Line) → Progresses text old n before → Consumes old new line
     → IsOneLine line → length line ≤ 256 → is_ended before ≡ false → Gives text (Err (Read n))
-failed_given text old new line n before p took one short going = cut_given text n (cut text old new line n before p took one short going)
+failed_given text old new line n before p took one short going = cut_given text new n (cut text old new line n before p took one short going)
 
 pub long_given : (text old new : Option (List ℕ)) (line : List ℕ) (n : ℕ) (before : List Line) → Progresses text old n before → TakesLine old new line stop.Long
     → IsOneLine line → is_ended before ≡ false → Gives text (Err (Limit n))
@@ -307,3 +304,23 @@ given_err (Some t) (Err e) g = g
 pub memory_given : (text : Option (List ℕ)) → Gives text (Err Memory)
 memory_given None = tt
 memory_given (Some t) = tt
+
+-- a fault of the reader, where one is answered
+
+pub ended_fails : (text old new : Option (List ℕ)) (line : List ℕ) (s : Stop) (is_empty : Bool) (n : ℕ) (before : List Line) (r : Result CertificateView CertError)
+    → Progresses text old n before → TakesLine old new line s → is_empty ≡ eqb (length line) 0 → is_ended before ≡ true → AnswersBehindEnd s is_empty n before r → IfErr r (λ e. FailsAt text new e)
+ended_fails text old new line stop.End true n before (Ok c) p took bare ended a = tt
+ended_fails text old new line stop.End true n before (Err e) p took bare ended a = absurd a
+ended_fails text old new line stop.End false n before r p took bare ended a = rw a tt
+ended_fails text old new line stop.Failed true n before r p took bare ended a =
+    rw a (cut_behind text old new n before p (nothing old new line (eqb-true (length line) 0 (sym bare)) took) ended)
+ended_fails text old new line stop.Failed false n before r p took bare ended a = rw a tt
+ended_fails text old new line stop.LineEnd is_empty n before r p took bare ended a = rw a tt
+ended_fails text old new line stop.Long is_empty n before r p took bare ended a = rw a tt
+
+pub bad_fails : (text new : Option (List ℕ)) (line : List ℕ) (n : ℕ) (before : List Line) (after : Builder) (f : CertError) → Takes n before line after (Err f) → FailsAt text new f
+bad_fails text new line n before after (Syntax k) bad = tt
+bad_fails text new line n before after (NotCanonical k) bad = tt
+bad_fails text new line n before after (Limit k) bad = tt
+bad_fails text new line n before after Memory bad = tt
+bad_fails text new line n before after (Read k) bad = absurd bad

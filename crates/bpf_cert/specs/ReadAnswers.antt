@@ -1,5 +1,6 @@
 -- What is answered of a reader's bytes, where they are known.
-use Rattle.std.specs.Prelude.{◌≡◌, ◌⊎◌, ℕ, List, ◌++◌, Some}
+use Rattle.std.specs.Prelude.{◌≡◌, ◌⊎◌, ℕ, List, ◌++◌, Option, Some, IfSome}
+use Rattle.std.specs.Io.KnownBytes.{Consumes}
 use Rattle.bpf_cert.specs.Faults.{fault_of, complete, failed}
 use Rattle.bpf_cert.specs.declared.error.CertError.{CertError}
 use Rattle.bpf_cert.specs.declared.error.CertError.TheVariants.{Syntax, NotCanonical, Limit, Memory, Read}
@@ -12,6 +13,15 @@ IsFaultOf text (NotCanonical n) = fault_of complete text ≡ Some (NotCanonical 
 IsFaultOf text (Limit n) = fault_of complete text ≡ Some (Limit n)
 IsFaultOf text Memory = Unit {0}
 IsFaultOf text (Read n) = (given rest : List ℕ) × (text ≡ given ++ rest) × (fault_of failed given ≡ Some (Read n))
+
+-- A fault of the reader names the line that the bytes given so far end in. It takes a reader of known bytes to say which
+-- they are: those that aren't left.
+abbrev pub FailsAt : Option (List ℕ) → Option (List ℕ) → CertError → Type 0
+FailsAt old new (Syntax n) = Unit {0}
+FailsAt old new (NotCanonical n) = Unit {0}
+FailsAt old new (Limit n) = Unit {0}
+FailsAt old new Memory = Unit {0}
+FailsAt old new (Read n) = IfSome old (λ text. (given : List ℕ) × Consumes (Some text) new given × (fault_of failed given ≡ Some (Read n)))
 
 -- want of memory, or a fault of the reader
 abbrev pub IsFromOutside : CertError → Type 0

@@ -7,7 +7,7 @@ ghost use Rattle.bpf_cert.specs.View.{CertificateView};
 ghost use Rattle.bpf_cert.specs.Certificates.{Spells};
 ghost use Rattle.bpf_cert.specs.Building.{IsBuilt};
 ghost use Rattle.bpf_cert.specs.Behind.{AnswersBehindEnd};
-ghost use Rattle.bpf_cert.specs.ReadAnswers.{IsFaultOf, IsFromOutside};
+ghost use Rattle.bpf_cert.specs.ReadAnswers.{IsFaultOf, IsFromOutside, FailsAt};
 
 use crate::building::Builder;
 use crate::certificate::Certificate;
@@ -34,14 +34,16 @@ fn behind_end(
     }
 }
 
-/// The certificate that a reader's bytes spell, in whatever pieces they come. K1 to K3 at the lowest line at fault, K4 if
-/// memory runs out, K5 at the line in which the reader failed, if no earlier line is at fault.
-pub fn read<R: Read + Drop>(alloc: Global, reader: R) -> Result<Certificate, CertError>
-    ensures ok { IfOk result (λ c. IfSome (R.remaining reader) (λ text. Spells text c)) }
-    ensures err { IfErr result (λ e. IfSome (R.remaining reader) (λ text. IsFaultOf text e)) }
-    ensures accepts { IfSome (R.remaining reader) (λ text. (c : CertificateView) → Spells text c → MatchResult result (λ d. d ≡ c) IsFromOutside) }
+// Takes lines until it can answer. A fault of the reader isn't tried again.
+fn read_lines<R: Read + Drop>(
+    alloc: Global,
+    source: &mut Source<R>,
+) -> Result<Certificate, CertError>
+    ensures ok { IfOk result (λ c. IfSome source.old (λ text. Spells text c)) }
+    ensures err { IfErr result (λ e. IfSome source.old (λ text. IsFaultOf text e)) }
+    ensures accepts { IfSome source.old (λ text. (c : CertificateView) → Spells text c → MatchResult result (λ d. d ≡ c) IsFromOutside) }
+    ensures failed { IfErr result (λ e. FailsAt source.old source.new e) }
 {
-    let mut source = Source::new(reader);
     let mut builder = Builder::new(alloc);
     let mut text: ArrayVec<u8, 256> = ArrayVec::new();
     for before in 0..usize::MAX {
@@ -64,4 +66,15 @@ pub fn read<R: Read + Drop>(alloc: Global, reader: R) -> Result<Certificate, Cer
     }
     // No text is as long as that.
     Err(CertError::Memory)
+}
+
+/// The certificate that a reader's bytes spell, in whatever pieces they come. K1 to K3 at the lowest line at fault, K4 if
+/// memory runs out, K5 at the line in which the reader failed, if no earlier line is at fault.
+pub fn read<R: Read + Drop>(alloc: Global, reader: R) -> Result<Certificate, CertError>
+    ensures ok { IfOk result (λ c. IfSome (R.remaining reader) (λ text. Spells text c)) }
+    ensures err { IfErr result (λ e. IfSome (R.remaining reader) (λ text. IsFaultOf text e)) }
+    ensures accepts { IfSome (R.remaining reader) (λ text. (c : CertificateView) → Spells text c → MatchResult result (λ d. d ≡ c) IsFromOutside) }
+{
+    let mut source = Source::new(reader);
+    read_lines(alloc, &mut source)
 }

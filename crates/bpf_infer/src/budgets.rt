@@ -1,7 +1,7 @@
 //! Budgets: how many instructions may still be done from each label on.
 
 ghost use Rattle.std.specs.Prelude.{◌<◌, IfErr};
-ghost use Rattle.bpf_infer.specs.RefusalNumbers.{infer_slot};
+ghost use Rattle.bpf_infer.specs.RefusalNumbers.{IsRefusalIn};
 
 use crate::error::InferError;
 use crate::functions::Depths;
@@ -235,7 +235,7 @@ impl Budgets {
 
     fn walk_over(&mut self, walk: &Walk, rounds: &Rounds, block: usize) -> Result<(), InferError>
         requires { 0 < walk.now.outline.now }
-        ensures { IfErr result (λ e. infer_slot e < walk.now.outline.now) }
+        ensures { IfErr result (IsRefusalIn walk.now.outline.now) }
     {
         let Some(mut state) = rounds.state_at(block) else {
             return Ok(());
@@ -262,7 +262,7 @@ impl Budgets {
         end: usize,
     ) -> Result<(), InferError>
         requires { 0 < walk.now.outline.now }
-        ensures { IfErr result (λ e. infer_slot e < walk.now.outline.now) }
+        ensures { IfErr result (IsRefusalIn walk.now.outline.now) }
     {
         for block in first..end {
             self.walk_over(walk, rounds, block)?;
@@ -289,7 +289,7 @@ impl Budgets {
     /// I2 at the head of a loop with a weight above 2^20.
     fn weigh(&mut self, alloc: Global, walk: &Walk, head: usize) -> Result<(), InferError>
         requires { 0 < walk.now.outline.now }
-        ensures { IfErr result (λ e. infer_slot e < walk.now.outline.now) }
+        ensures { IfErr result (IsRefusalIn walk.now.outline.now) }
     {
         let Some(found) = self.loops.at(head) else {
             return Ok(());
@@ -316,7 +316,7 @@ impl Budgets {
         end: usize,
     ) -> Result<(), InferError>
         requires { 0 < walk.now.outline.now }
-        ensures { IfErr result (λ e. infer_slot e < walk.now.outline.now) }
+        ensures { IfErr result (IsRefusalIn walk.now.outline.now) }
     {
         for block in first..end {
             self.weigh(alloc, walk, block)?;
@@ -347,7 +347,7 @@ impl Budgets {
     /// The least base that pays the ways from a label, of those that lead back only if wanted. I2 above 2^40.
     fn pay(&mut self, walk: &Walk, block: usize, pays_back: bool) -> Result<(), InferError>
         requires { 0 < walk.now.outline.now }
-        ensures { IfErr result (λ e. infer_slot e < walk.now.outline.now) }
+        ensures { IfErr result (IsRefusalIn walk.now.outline.now) }
     {
         let plan = self.plan(block);
         let mut base = 0;
@@ -371,7 +371,7 @@ impl Budgets {
     /// Pays the ways from the labels of a loop, those back to its head too.
     fn pay_back(&mut self, walk: &Walk, found: Loop) -> Result<(), InferError>
         requires { 0 < walk.now.outline.now }
-        ensures { IfErr result (λ e. infer_slot e < walk.now.outline.now) }
+        ensures { IfErr result (IsRefusalIn walk.now.outline.now) }
     {
         for block in (found.head.saturating_add(1)..found.last.saturating_add(1)).rev() {
             self.pay(walk, block, true)?;
@@ -382,7 +382,7 @@ impl Budgets {
     /// From the highest label on; the ways in a loop are paid once its head is.
     fn pay_all(&mut self, walk: &Walk, first: usize, end: usize) -> Result<(), InferError>
         requires { 0 < walk.now.outline.now }
-        ensures { IfErr result (λ e. infer_slot e < walk.now.outline.now) }
+        ensures { IfErr result (IsRefusalIn walk.now.outline.now) }
     {
         for block in (first..end).rev() {
             self.pay(walk, block, false)?;
@@ -405,7 +405,7 @@ impl Budgets {
         function: usize,
     ) -> Result<(), InferError>
         requires { 0 < walk.now.outline.now }
-        ensures { IfErr result (λ e. infer_slot e < walk.now.outline.now) }
+        ensures { IfErr result (IsRefusalIn walk.now.outline.now) }
     {
         let first = walk.outline.first_block(function);
         let end = walk.outline.first_block(function.saturating_add(1));
@@ -423,7 +423,7 @@ impl Budgets {
         depth: u32,
     ) -> Result<(), InferError>
         requires { 0 < walk.now.outline.now }
-        ensures { IfErr result (λ e. infer_slot e < walk.now.outline.now) }
+        ensures { IfErr result (IsRefusalIn walk.now.outline.now) }
     {
         for function in 0..walk.outline.function_count() {
             if depths.get(function).copied().unwrap_or(0) == depth {
@@ -464,7 +464,7 @@ pub fn budgets_of(
     depths: &Depths,
 ) -> Result<Budgets, InferError>
     requires { 0 < walk.now.outline.now }
-    ensures { IfErr result (λ e. infer_slot e < walk.now.outline.now) }
+    ensures { IfErr result (IsRefusalIn walk.now.outline.now) }
 {
     let mut budgets = Budgets {
         loops,

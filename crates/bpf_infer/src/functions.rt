@@ -2,7 +2,7 @@
 
 ghost use Rattle.std.specs.Prelude.{◌≡◌, ◌<◌, IfOk, IfErr, IfSome};
 ghost use Rattle.bpf_insn.specs.Instruction.{slots};
-ghost use Rattle.bpf_infer.specs.RefusalNumbers.{infer_slot};
+ghost use Rattle.bpf_infer.specs.RefusalNumbers.{IsRefusalIn};
 
 use crate::error::InferError;
 use crate::flow::Flow;
@@ -144,7 +144,7 @@ fn first_too_deep(depths: &Depths, outline: &Outline) -> Option<u32>
 pub fn depths_of(alloc: Global, program: &Program, outline: &Outline) -> Result<Depths, InferError>
     requires some { 0 < outline.now }
     requires same { outline.now ≡ slots program.now.list }
-    ensures { IfErr result (λ e. infer_slot e < outline.now) }
+    ensures { IfErr result (IsRefusalIn outline.now) }
 {
     let calls = calls_of(alloc, program, outline)?;
     let mut depths = [1; 256];
@@ -172,7 +172,7 @@ fn leaves_function(program: &Program, outline: &Outline, slot: u32, insn: &Insn)
 
 /// I4 (C12) at the lowest instruction that jumps out of its function, or goes on into the next one.
 pub fn check_bounds(program: &Program, outline: &Outline) -> Result<(), InferError>
-    ensures { IfErr result (λ e. infer_slot e < slots program.now.list) }
+    ensures { IfErr result (IsRefusalIn (slots program.now.list)) }
 {
     for slot in 0..program.slots() {
         if let Some(insn) = program.at(slot) {

@@ -2,7 +2,7 @@
 
 ghost use Rattle.std.specs.Prelude.{◌≡◌, ◌<◌, ◌≤◌, IfOk, IfErr};
 ghost use Rattle.bpf_insn.specs.Instruction.{slots};
-ghost use Rattle.bpf_infer.specs.RefusalNumbers.{infer_slot};
+ghost use Rattle.bpf_infer.specs.RefusalNumbers.{infer_slot, IsCondition};
 ghost use Rattle.bpf_cert.specs.Limits.{IsCertificate};
 
 use crate::budgets::{Budgets, budgets_of};
@@ -95,14 +95,24 @@ fn functions_of(
     Ok(functions)
 }
 
-/// Proposes a certificate for a program on contexts of `len` bytes, at most 4,096. I1 if a function's states aren't
-/// stable after 64 rounds, at its first slot; I2 if a loop has no counter or a label is over a limit, at the label; I3
-/// at the lowest call of a recursion; I4 at an instruction that the checker would refuse; I5 if memory runs out.
-pub fn infer(alloc: Global, program: &Program, len: u32) -> Result<Certificate, InferError>
-    requires { len ≤ 4096 }
-    ensures len { IfOk result (λ c. c.len ≡ len) }
+/// Proposes a certificate of version 2 for a program on contexts of `least` to `most` bytes, at most 4,096. I1 if a
+/// function's states aren't stable after 64 rounds, at its first slot; I2 if a loop has no counter or a label is over a
+/// limit, at the label; I3 at the lowest call of a recursion; I4 at an instruction that the checker would refuse, with
+/// the number of its condition, 3 to 12; I5 if memory runs out.
+pub fn infer(
+    alloc: Global,
+    program: &Program,
+    least: u32,
+    most: u32,
+) -> Result<Certificate, InferError>
+    requires order { least ≤ most }
+    requires short { most ≤ 4096 }
+    ensures version { IfOk result (λ c. c.version ≡ 2) }
+    ensures least { IfOk result (λ c. c.least ≡ least) }
+    ensures most { IfOk result (λ c. c.most ≡ most) }
     ensures certificate { IfOk result (λ c. IsCertificate c) }
     ensures slot { IfErr result (λ e. infer_slot e < slots program.now.list) }
+    ensures condition { IfErr result (λ e. IsCondition e) }
 {
     let outline = Outline::of(alloc, program)?;
     let depths = depths_of(alloc, program, &outline)?;
@@ -110,17 +120,19 @@ pub fn infer(alloc: Global, program: &Program, len: u32) -> Result<Certificate, 
     let walk = Walk {
         program,
         outline: &outline,
-        len,
+        least,
+        most,
     };
-    let mut rounds = states_of(alloc, &walk, &depths)?;
+    let start = State::start(least, most);
+    let mut rounds = states_of(alloc, &walk, &depths, &start)?;
     let loops = loops_of(alloc, &walk, &rounds)?;
     let budgets = budgets_of(alloc, &walk, &rounds, loops, &depths)?;
-    let steps = u32::try_from(budgets.greatest(0, &State::start(len)));
+    let steps = u32::try_from(budgets.greatest(0, &start));
     let Ok(steps) = steps else {
         return Err(InferError::NoBudget { slot: 0 });
     };
     let functions = functions_of(alloc, &outline, &mut rounds, &budgets, &depths)?;
-    match Certificate::new(len, steps, functions) {
+    match Certificate::new(2, least, most, steps, functions) {
         Ok(certificate) => Ok(certificate),
         Err(_) => Err(InferError::NoBudget { slot: 0 }),
     }

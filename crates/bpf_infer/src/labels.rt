@@ -78,13 +78,13 @@ fn marks_of(alloc: Global, program: &Program) -> Result<Vec<Mark>, AllocError> {
 impl Outline {
     ghost use Rattle.std.specs.Prelude.{◌≡◌, ◌<◌, ◌≤◌, IfOk, IfErr};
     ghost use Rattle.bpf_insn.specs.Instruction.{slots};
-    ghost use Rattle.bpf_infer.specs.RefusalNumbers.{infer_slot};
+    ghost use Rattle.bpf_infer.specs.RefusalNumbers.{IsRefusalIn};
 
     /// The functions and blocks of a program. I2 at the first of the 257th function.
     pub fn of(alloc: Global, program: &Program) -> Result<Outline, InferError>
         ensures ok { IfOk result (λ o. o ≡ slots program.now.list) }
         ensures some { IfOk result (λ o. 0 < o) }
-        ensures err { IfErr result (λ e. infer_slot e < slots program.now.list) }
+        ensures err { IfErr result (IsRefusalIn (slots program.now.list)) }
     {
         let slots = Code::slots(program);
         let marks = marks_of(alloc, program)?;
@@ -108,7 +108,7 @@ impl Outline {
     fn begin_function(&mut self, slot: u32) -> Result<(), InferError>
         requires { slot < self.old }
         ensures slots { self.new ≡ self.old }
-        ensures err { IfErr result (λ e. infer_slot e < self.old) }
+        ensures err { IfErr result (IsRefusalIn self.old) }
     {
         if self.functions.len() == 256 {
             return Err(InferError::NoBudget { slot });

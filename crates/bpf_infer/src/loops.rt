@@ -1,7 +1,7 @@
 //! The loops of a program, and what counts their rounds.
 
 ghost use Rattle.std.specs.Prelude.{◌<◌, IfErr};
-ghost use Rattle.bpf_infer.specs.RefusalNumbers.{infer_slot};
+ghost use Rattle.bpf_infer.specs.RefusalNumbers.{IsRefusalIn};
 
 use crate::error::InferError;
 use crate::places::{PLACES, number_at, place};
@@ -57,7 +57,7 @@ impl Loops {
     /// I2 at the head of the lowest loop in which another one begins.
     fn of(alloc: Global, walk: &Walk, rounds: &Rounds) -> Result<Loops, InferError>
         requires { 0 < walk.now.outline.now }
-        ensures { IfErr result (λ e. infer_slot e < walk.now.outline.now) }
+        ensures { IfErr result (IsRefusalIn walk.now.outline.now) }
     {
         let mut loops = Loops {
             loops: Vec::new(alloc),
@@ -74,7 +74,7 @@ impl Loops {
 
     fn begin(&mut self, walk: &Walk, head: usize, last: usize) -> Result<(), InferError>
         requires { 0 < walk.now.outline.now }
-        ensures { IfErr result (λ e. infer_slot e < walk.now.outline.now) }
+        ensures { IfErr result (IsRefusalIn walk.now.outline.now) }
     {
         if let Some(open) = self.loops.last() {
             if head <= open.last {
@@ -222,7 +222,7 @@ impl Search {
 
     fn walk_over(&mut self, walk: &Walk, rounds: &Rounds) -> Result<(), InferError>
         requires { 0 < walk.now.outline.now }
-        ensures { IfErr result (λ e. infer_slot e < walk.now.outline.now) }
+        ensures { IfErr result (IsRefusalIn walk.now.outline.now) }
     {
         for block in self.head..self.last.saturating_add(1) {
             if let Some(mut state) = rounds.state_at(block) {
@@ -268,7 +268,7 @@ fn counter_of(
     found: Loop,
 ) -> Result<Option<Counter>, InferError>
     requires { 0 < walk.now.outline.now }
-    ensures { IfErr result (λ e. infer_slot e < walk.now.outline.now) }
+    ensures { IfErr result (IsRefusalIn walk.now.outline.now) }
 {
     let count = found.last.saturating_sub(found.head).saturating_add(1);
     let mut search = Search {
@@ -295,7 +295,7 @@ fn counter_of(
 /// the lowest one without a counter.
 pub fn loops_of(alloc: Global, walk: &Walk, rounds: &Rounds) -> Result<Loops, InferError>
     requires { 0 < walk.now.outline.now }
-    ensures { IfErr result (λ e. infer_slot e < walk.now.outline.now) }
+    ensures { IfErr result (IsRefusalIn walk.now.outline.now) }
 {
     let mut loops = Loops::of(alloc, walk, rounds)?;
     for number in 0..loops.loops.len() {

@@ -1,7 +1,7 @@
 //! The states at the labels: rounds over each function until nothing changes, callers before callees.
 
 ghost use Rattle.std.specs.Prelude.{◌<◌, IfErr};
-ghost use Rattle.bpf_infer.specs.RefusalNumbers.{infer_slot};
+ghost use Rattle.bpf_infer.specs.RefusalNumbers.{IsRefusalIn};
 
 use crate::error::InferError;
 use crate::functions::Depths;
@@ -104,7 +104,7 @@ impl Rounds {
             changed: vec![in alloc; false; count]?,
             has_changed: false,
             is_wide: false,
-            stops: Stops::of(alloc, walk.program, walk.len)?,
+            stops: Stops::of(alloc, walk.program, walk.least, walk.most)?,
         })
     }
 
@@ -138,7 +138,7 @@ impl Rounds {
 
     fn walk_over(&mut self, walk: &Walk, block: usize) -> Result<(), InferError>
         requires { 0 < walk.now.outline.now }
-        ensures { IfErr result (λ e. infer_slot e < walk.now.outline.now) }
+        ensures { IfErr result (IsRefusalIn walk.now.outline.now) }
     {
         put(&mut self.changed, block, false);
         let reached = match self.state_at(block) {
@@ -152,7 +152,7 @@ impl Rounds {
     /// Goes over a function's blocks. Those whose states are as they were lead to the same states again.
     fn round(&mut self, walk: &Walk, function: usize) -> Result<(), InferError>
         requires { 0 < walk.now.outline.now }
-        ensures { IfErr result (λ e. infer_slot e < walk.now.outline.now) }
+        ensures { IfErr result (IsRefusalIn walk.now.outline.now) }
     {
         self.has_changed = false;
         let end = walk.outline.first_block(function.saturating_add(1));
@@ -167,7 +167,7 @@ impl Rounds {
     /// Goes over a function until nothing changes: I1 if that takes more than 64 rounds.
     fn settle(&mut self, walk: &Walk, function: usize) -> Result<(), InferError>
         requires { 0 < walk.now.outline.now }
-        ensures { IfErr result (λ e. infer_slot e < walk.now.outline.now) }
+        ensures { IfErr result (IsRefusalIn walk.now.outline.now) }
     {
         for round in 1..=ROUNDS {
             self.is_wide = round >= FIRST_WIDE_ROUND;
@@ -184,7 +184,7 @@ impl Rounds {
 
     fn settle_depth(&mut self, walk: &Walk, depths: &Depths, depth: u32) -> Result<(), InferError>
         requires { 0 < walk.now.outline.now }
-        ensures { IfErr result (λ e. infer_slot e < walk.now.outline.now) }
+        ensures { IfErr result (IsRefusalIn walk.now.outline.now) }
     {
         for function in 0..walk.outline.function_count() {
             if depths.get(function).copied().unwrap_or(0) == depth {
@@ -197,7 +197,7 @@ impl Rounds {
     /// I4 (C11) at the lowest instruction that isn't reached.
     fn check_reached(&self, walk: &Walk) -> Result<(), InferError>
         requires { 0 < walk.now.outline.now }
-        ensures { IfErr result (λ e. infer_slot e < walk.now.outline.now) }
+        ensures { IfErr result (IsRefusalIn walk.now.outline.now) }
     {
         for block in 0..self.reached.len() {
             let reached = self.reached.get(block).copied().unwrap_or(0);
@@ -212,14 +212,19 @@ impl Rounds {
     }
 }
 
-/// The states of a program's labels. I1 at a function whose states aren't stable after 64 rounds; I4 at an instruction
+/// The states of a program's labels, from the state that it starts in. I1 at a function whose states aren't stable after 64 rounds; I4 at an instruction
 /// that is refused or never reached.
-pub fn states_of(alloc: Global, walk: &Walk, depths: &Depths) -> Result<Rounds, InferError>
+pub fn states_of(
+    alloc: Global,
+    walk: &Walk,
+    depths: &Depths,
+    start: &State,
+) -> Result<Rounds, InferError>
     requires { 0 < walk.now.outline.now }
-    ensures { IfErr result (λ e. infer_slot e < walk.now.outline.now) }
+    ensures { IfErr result (IsRefusalIn walk.now.outline.now) }
 {
     let mut rounds = Rounds::new(alloc, walk)?;
-    rounds.reach(0, &State::start(walk.len), false);
+    rounds.reach(0, start, false);
     for depth in (1..9).rev() {
         rounds.settle_depth(walk, depths, depth)?;
     }

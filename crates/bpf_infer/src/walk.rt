@@ -1,7 +1,7 @@
 //! A walk over the instructions of a block.
 
 ghost use Rattle.std.specs.Prelude.{◌<◌, IfErr};
-ghost use Rattle.bpf_infer.specs.RefusalNumbers.{infer_slot};
+ghost use Rattle.bpf_infer.specs.RefusalNumbers.{IsRefusalIn};
 
 use crate::error::InferError;
 use crate::flow::Flow;
@@ -30,12 +30,13 @@ pub trait Visitor {
     fn exit(&mut self, from: usize, done: i128) -> Result<(), AllocError>;
 }
 
-/// A program that is walked over, on contexts of `len` bytes.
+/// A program that is walked over, on contexts of `least` to `most` bytes.
 #[derive(Clone, Copy)]
 pub struct Walk<'a> {
     pub program: &'a Program,
     pub outline: &'a Outline,
-    pub len: u32,
+    pub least: u32,
+    pub most: u32,
 }
 
 /// Where a walk is: its block, the slot, and how many instructions were done, this one counted.
@@ -63,7 +64,7 @@ impl<'a> Walk<'a> {
         visitor: &mut V,
     ) -> Result<u32, InferError>
         requires { 0 < self.now.outline.now }
-        ensures { IfErr result (λ e. infer_slot e < self.now.outline.now) }
+        ensures { IfErr result (IsRefusalIn self.now.outline.now) }
     {
         let end = self.outline.end(block);
         let mut spot = Spot {
@@ -99,9 +100,9 @@ impl<'a> Walk<'a> {
         visitor: &mut V,
     ) -> Result<bool, InferError>
         requires { spot.slot < self.now.outline.now }
-        ensures { IfErr result (λ e. infer_slot e < self.now.outline.now) }
+        ensures { IfErr result (IsRefusalIn self.now.outline.now) }
     {
-        match transfer(insn, self.len, state) {
+        match transfer(insn, self.least, self.program.order(), state) {
             Ok(true) => self.follow(spot, insn, state, visitor),
             Ok(false) => Ok(false),
             Err(fault) => Err(InferError::Fault {
@@ -120,7 +121,7 @@ impl<'a> Walk<'a> {
         visitor: &mut V,
     ) -> Result<bool, InferError>
         requires { spot.slot < self.now.outline.now }
-        ensures { IfErr result (λ e. infer_slot e < self.now.outline.now) }
+        ensures { IfErr result (IsRefusalIn self.now.outline.now) }
     {
         match Flow::of(spot.slot, insn) {
             Flow::Next => Ok(true),

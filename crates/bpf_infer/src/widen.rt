@@ -35,13 +35,19 @@ fn constant_in(insn: &Insn) -> Option<i64> {
 }
 
 impl Stops {
-    /// The stops of a program on contexts of `len` bytes, which is a constant of it too.
-    pub fn of(alloc: Global, program: &Program, len: u32) -> Result<Stops, AllocError> {
+    /// The stops of a program on contexts of `least` to `most` bytes, which are constants of it too.
+    pub fn of(
+        alloc: Global,
+        program: &Program,
+        least: u32,
+        most: u32,
+    ) -> Result<Stops, AllocError> {
         let mut stops = Stops {
             unsigned: Vec::new(alloc),
             signed: Vec::new(alloc),
         };
-        stops.add(len as i64)?;
+        stops.add(least as i64)?;
+        stops.add(most as i64)?;
         for slot in 0..program.slots() {
             if let Some(constant) = program.at(slot).and_then(constant_in) {
                 stops.add(constant)?;
