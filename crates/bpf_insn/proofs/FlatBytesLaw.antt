@@ -1,5 +1,5 @@
 -- Which bytes an instruction of the flat machine reads and writes.
-use Rattle.std.proofs.Common.{◌≡◌, ℕ, zero, suc, ◌+◌, ◌-◌, ◌%◌, ◌<◌, ◌≤◌, cond, inl, inr, Bool, true, false, List, [], ◌∷◌, Option, Some, None, length, refl, ap, ap₂, sym, ◌∙◌, subst, arith}
+use Rattle.std.proofs.Common.{◌≡◌, ℕ, zero, suc, ◌+◌, ◌-◌, ◌%◌, ◌<◌, cond, inl, inr, Bool, true, false, List, ◌∷◌, Option, Some, None, length, refl, ap, ap₂, sym, ◌∙◌, subst, arith}
 use Rattle.std.specs.Prelude.{ℤ, pos, negsuc, ◌-ℤ◌, slice_index, ltb, option_map, unwrap_or}
 use Rattle.std.specs.Int.{cast_signed}
 use Rattle.std.proofs.lemmas.Int.{ints}
@@ -9,9 +9,8 @@ use Rattle.bpf_insn.specs.Order.{bytes_of, number_of}
 use Rattle.bpf_insn.specs.Arithmetic.{modulo, alu, extended, jumps}
 use Rattle.bpf_insn.specs.Instruction.{byte_count, word_size, target}
 use Rattle.bpf_insn.specs.Step.{size_type, atomic_result, fetch_register}
-use Rattle.bpf_insn.specs.Stuck.{Access, access_of}
-use Rattle.bpf_insn.specs.Flat.{FlatState, addresses, address, bytes_from, memory_with, flat_does, flat_number, flat_register, flat_operand, flat_store, flat_put, flat_at, flat_next, flat_jump, flat_fetched}
-use Rattle.bpf_insn.specs.FlatLaws.{Touches, FlatWritesOnly, in_memory, DoesAlike, FlatReadsOnly}
+use Rattle.bpf_insn.specs.Flat.{FlatState, addresses, address, bytes_from, memory_with, flat_does, flat_number, flat_register, flat_operand, flat_store, flat_put, flat_at, flat_next, flat_fetched}
+use Rattle.bpf_insn.specs.FlatLaws.{FlatWritesOnly, in_memory, DoesAlike, FlatReadsOnly}
 use Rattle.bpf_insn.specs.declared.order.Order.{Order}
 use Rattle.bpf_insn.specs.declared.instruction.Reg.{Reg}
 use Rattle.bpf_insn.specs.declared.instruction.Reg.TheVariants.{R0}

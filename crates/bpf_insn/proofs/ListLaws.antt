@@ -1,5 +1,5 @@
 -- A list of instructions isn't both a program and refused, and is refused once.
-use Rattle.std.proofs.Common.{◌≡◌, ℕ, ◌<◌, inl, inr, List, refl, ap, arith}
+use Rattle.std.proofs.Common.{◌≡◌, ℕ, inl, inr, List, refl, ap, arith}
 use Rattle.std.specs.Prelude.{Option}
 use Rattle.bpf_insn.specs.Instruction.{layout, FailsFirst}
 use Rattle.bpf_insn.specs.Image.{IsProgram}

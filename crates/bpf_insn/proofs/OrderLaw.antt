@@ -1,8 +1,8 @@
 -- The images of a list in the two byte orders.
-use Rattle.std.proofs.Common.{◌≡◌, ℕ, zero, suc, ◌+◌, ◌*◌, ◌/◌, ◌%◌, ◌<◌, List, [], ◌∷◌, ◌++◌, length, take, drop, slice_index, refl, ap, ap₂, sym, ◌∙◌, subst, arith}
+use Rattle.std.proofs.Common.{◌≡◌, ℕ, zero, suc, ◌+◌, ◌*◌, ◌/◌, ◌%◌, ◌<◌, List, [], ◌∷◌, ◌++◌, take, drop, slice_index, refl, ap, sym, ◌∙◌, subst, arith}
 use Rattle.std.proofs.Math.Seq.{drop-drop}
 use Rattle.bpf_insn.specs.Order.{register_byte}
-use Rattle.bpf_insn.specs.Instruction.{slots, slot_count, register_number}
+use Rattle.bpf_insn.specs.Instruction.{slots}
 use Rattle.bpf_insn.specs.Image.{image, instruction_bytes, slot_bytes, second_slot, fields}
 use Rattle.bpf_insn.specs.Laws.{other_order, bytes_of_slot, exchanged, OrdersExchange}
 use Rattle.bpf_insn.specs.declared.order.Order.{Order}

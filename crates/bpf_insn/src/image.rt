@@ -1,9 +1,10 @@
 //! From an image to a program.
 
-ghost use Rattle.std.specs.Prelude.{◌≡◌, ◌⊎◌, ◌≤◌, ◌/◌, List, ℕ, IfOk, IfErr, IfSome, MatchResult, take, length};
+ghost use Rattle.std.specs.Prelude.{◌≡◌, ◌⊎◌, ◌≤◌, ◌/◌, List, ℕ, IfOk, IfErr, IfSome, MatchResult, Some, take, length};
+ghost use Rattle.std.specs.Io.KnownBytes.{Consumes};
 ghost use Rattle.bpf_insn.specs.Image.{image, IsImage, IsProgram};
 ghost use Rattle.bpf_insn.specs.Refusal.{IsRefused};
-ghost use Rattle.bpf_insn.specs.Reading.{max_read, ReadsImage, FailsAfter};
+ghost use Rattle.bpf_insn.specs.Reading.{max_read, ReadsImage, FailsAfter, FailsAt, GivesAtMost};
 ghost use Rattle.bpf_insn.specs.declared.instruction.Insn.{Insn};
 ghost use Rattle.bpf_insn.specs.declared.refusal.DecodeError.TheVariants.{Memory};
 
@@ -34,11 +35,14 @@ pub fn decode(alloc: Global, bytes: &[u8], order: Order) -> Result<Program, Deco
     }
 }
 
-/// The bytes of a reader to its end, or the first 524,289, one more than the largest image has: E9 if memory runs out, E10 at
-/// the first fault of the reader, with the slot in which that came.
+/// The bytes of a reader to its end, or the first 524,289, one more than the largest image has, and not a byte more: E9 if
+/// memory runs out, E10 at the first fault of the reader, with the slot in which that came.
 pub fn read_image<R: Read>(alloc: Global, reader: &mut R) -> Result<Vec<u8>, DecodeError>
     ensures ok { IfOk result (λ v. ReadsImage (R.remaining reader.old) v.items) }
+    ensures read { IfOk result (λ v. Consumes (R.remaining reader.old) (R.remaining reader.new) v.items × (length v.items ≤ max_read)) }
     ensures err { IfErr result (λ e. (e ≡ Memory) ⊎ FailsAfter (R.remaining reader.old) e) }
+    ensures fault { IfErr result (λ e. (e ≡ Memory) ⊎ FailsAt (R.remaining reader.old) (R.remaining reader.new) e) }
+    ensures used { GivesAtMost max_read (R.remaining reader.old) (R.remaining reader.new) }
 {
     let mut bytes = Vec::new(alloc);
     let mut chunk = [0; 4096];
@@ -68,6 +72,7 @@ pub fn decode_from<R: Read + Drop>(
     ensures ok { IfOk result (λ p. IfSome (R.remaining reader) (λ bytes. IsImage order p.list (take max_read bytes))) }
     ensures program { IfOk result (λ p. IsProgram p.list × (p.order ≡ order)) }
     ensures err { IfErr result (λ e. (e ≡ Memory) ⊎ FailsAfter (R.remaining reader) e ⊎ IfSome (R.remaining reader) (λ bytes. IsRefused order (take max_read bytes) e)) }
+    ensures accepts { (is : List Insn) → IsProgram is → R.remaining reader ≡ Some (image order is) → MatchResult result (λ p. p.list ≡ is) (λ e. (e ≡ Memory) ⊎ FailsAfter (R.remaining reader) e) }
 {
     let mut reader = reader;
     match read_image(alloc, &mut reader) {

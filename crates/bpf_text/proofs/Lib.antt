@@ -12,3 +12,7 @@ pub mod StatementLemmas
 pub mod AccessLemmas
 pub mod ListedLemmas
 pub mod RoundTripLemmas
+pub mod TokenLemmas
+pub mod TokenReading
+pub mod FormsRead
+pub mod FormsAreRead

@@ -1,10 +1,13 @@
 -- The laws above the definitions. Each is proved as the contract of a function of its own.
-use Rattle.std.specs.Prelude.{◌≡◌, ℕ, List}
+use Rattle.std.specs.Prelude.{◌≡◌, ◌↔◌, ℕ, List, Option, Some}
 use Rattle.bpf_insn.specs.declared.instruction.Insn.{Insn}
 use Rattle.bpf_text.specs.declared.error.TextError.{TextError}
 use Rattle.bpf_insn.specs.Image.{IsProgram}
 use Rattle.bpf_text.specs.Assembly.{Assembles, IsRefused}
 use Rattle.bpf_text.specs.Listing.{listing}
+use Rattle.bpf_text.specs.Statements.{Statement}
+use Rattle.bpf_text.specs.Reading.{whole_statement}
+use Rattle.bpf_text.specs.Grammar.{Form, tokens, form_tokens, form_said}
 
 -- a text assembles to one list of instructions
 abbrev pub AssemblesToOne : Type 0
@@ -17,3 +20,7 @@ NeverBoth = (text : List ℕ) (is : List Insn) (e : TextError) → Assembles tex
 -- a program's listing assembles to the program again
 abbrev pub ListingAssembles : Type 0
 ListingAssembles = (is : List Insn) → IsProgram is → Assembles (listing is) is
+
+-- what is read as a statement is the spelling of a form, and says what the form says
+abbrev pub ReadsForms : Type 0
+ReadsForms = (text : List ℕ) (s : Option Statement) → (whole_statement text ≡ Some s) ↔ ((form : Form) × (tokens text ≡ form_tokens form) × (form_said form ≡ s))

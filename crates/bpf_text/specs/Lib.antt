@@ -6,6 +6,7 @@ pub mod Tokens
 pub mod Parts
 pub mod Statements
 pub mod Reading
+pub mod Grammar
 pub mod Assembly
 pub mod Seen
 pub mod SourceSeen

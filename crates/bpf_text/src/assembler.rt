@@ -1,18 +1,17 @@
 //! The assembler.
 
-ghost use Rattle.std.specs.Prelude.{◌≡◌, ◌⊎◌, ℕ, List, [], map, option_map, IfOk, IfErr, OnOk, Some, None, Ok, Err, pos, ◌-ℤ◌, ◌+◌};
-ghost use Rattle.bpf_insn.specs.declared.order.Order.TheVariants.{Little};
+ghost use Rattle.std.specs.Prelude.{◌≡◌, ◌⊎◌, ℕ, List, [], map, option_map, IfOk, IfErr, OnOk, MatchResult, Some, None, Ok, Err, pos, ◌-ℤ◌, ◌+◌};
 ghost use Rattle.bpf_text.specs.declared.error.TextError.TheVariants.{DefinedAgain, Memory};
 ghost use Rattle.bpf_text.specs.Seen.{label_seen};
-ghost use Rattle.bpf_text.specs.SourceSeen.{said_seen};
+ghost use Rattle.bpf_text.specs.SourceSeen.{said_seen, source_seen};
 ghost use Rattle.bpf_text.specs.Slots.{slots_in};
-ghost use Rattle.bpf_text.specs.Assembly.{slot_of, redefined, jump_over, jump_from, insn_of, linked, line_at, program_error, Assembles, IsRefused};
+ghost use Rattle.bpf_text.specs.Assembly.{slot_of, redefined, jump_over, jump_from, insn_of, linked, instructions_of, line_at, program_error, Assembles, IsRefused};
 
 use crate::error::TextError;
 use crate::line::Label;
-use crate::source::{Said, source_of};
+use crate::source::{Said, Source, source_of};
 use crate::statement::{Jump, Statement, fits_32};
-use bpf_insn::{BuildError, Insn, Program};
+use bpf_insn::{BuildError, Insn, Order, Program};
 use std::alloc::Global;
 use std::collections::BTreeMap;
 
@@ -140,27 +139,37 @@ fn program_error(said: &[Said], error: BuildError) -> TextError
     }
 }
 
-/// Assembles a text. The refusals come in this order: the lowest line with A1, A2 or A3 (in this order in one line), the
-/// lowest line with A4 or A5, A6; A7 where memory ran out. The time is linear in the text, but for the search of labels.
-pub fn assemble(alloc: Global, text: &str) -> Result<Program, TextError>
-    ensures ok { IfOk result (λ p. Assembles text.now p.list × (p.order ≡ Little)) }
-    ensures err { IfErr result (λ e. (e ≡ Memory) ⊎ IsRefused text.now e) }
+/// The instructions that a source says.
+fn instructions_of(alloc: Global, source: &Source) -> Result<Vec<Insn>, TextError>
+    ensures ok { IfOk result (λ v. instructions_of (source_seen source.now) ≡ Ok v.items) }
+    ensures err { IfErr result (λ e. (e ≡ Memory) ⊎ (instructions_of (source_seen source.now) ≡ Err e)) }
 {
-    let Ok(source) = source_of(alloc, text.as_bytes()) else {
-        return Err(TextError::Memory);
-    };
     let slots = match slots_by_name(alloc, &source.labels) {
         Ok(slots) => slots,
         Err(error) => return Err(error),
     };
-    if let Some(fault) = source.fault {
-        return Err(fault);
+    match source.fault {
+        Some(fault) => Err(fault),
+        None => linked(alloc, &slots, &source.said),
     }
-    let insns = match linked(alloc, &slots, &source.said) {
+}
+
+/// Assembles a text to a program of a byte order. The refusals come in this order: the lowest line with A1, A2 or A3 (in
+/// this order in one line), the lowest line with A4 or A5, A6; A7 where memory ran out. The time is linear in the text,
+/// but for the search of labels.
+pub fn assemble(alloc: Global, text: &str, order: Order) -> Result<Program, TextError>
+    ensures ok { IfOk result (λ p. Assembles text.now p.list × (p.order ≡ order)) }
+    ensures err { IfErr result (λ e. (e ≡ Memory) ⊎ IsRefused text.now e) }
+    ensures accepts { (is : List Insn) → Assembles text.now is → MatchResult result (λ p. p.list ≡ is) (λ e. e ≡ Memory) }
+{
+    let Ok(source) = source_of(alloc, text.as_bytes()) else {
+        return Err(TextError::Memory);
+    };
+    let insns = match instructions_of(alloc, &source) {
         Ok(insns) => insns,
         Err(error) => return Err(error),
     };
-    match Program::new(alloc, insns) {
+    match Program::new(alloc, insns, order) {
         Ok(program) => Ok(program),
         Err(error) => Err(program_error(&source.said, error)),
     }

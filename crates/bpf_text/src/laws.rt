@@ -1,6 +1,6 @@
 //! Laws above the definitions, each the contract of a function that does nothing.
 
-ghost use Rattle.bpf_text.specs.Laws.{AssemblesToOne, ListingAssembles, NeverBoth};
+ghost use Rattle.bpf_text.specs.Laws.{AssemblesToOne, ListingAssembles, NeverBoth, ReadsForms};
 
 /// A text assembles to one list of instructions.
 pub fn assembles_to_one()
@@ -15,4 +15,10 @@ pub fn assembles_or_is_refused()
 /// A program's listing assembles to the program again: `assemble` answers it, unless memory runs out.
 pub fn listing_assembles()
     ensures { ListingAssembles }
+{}
+
+/// What stands behind the labels of a line is read as an instruction exactly if it is the spelling of a form, and says
+/// what the form says.
+pub fn reads_forms()
+    ensures { ReadsForms }
 {}

@@ -14,5 +14,5 @@ mod token;
 
 pub use assembler::assemble;
 pub use error::TextError;
-pub use laws::{assembles_or_is_refused, assembles_to_one, listing_assembles};
+pub use laws::{assembles_or_is_refused, assembles_to_one, listing_assembles, reads_forms};
 pub use lister::list;

@@ -1,6 +1,6 @@
 //! Texts and what they are, worked out by hand.
 
-use bpf_insn::BuildError;
+use bpf_insn::{BuildError, Order};
 use bpf_text::{TextError, assemble, list};
 use std::alloc::Global;
 use std::io::{self, ErrorKind, Write};
@@ -149,7 +149,7 @@ const REFUSALS: [(&str, u8, usize); 61] = [
 ];
 
 fn listed(alloc: Global, text: &str) -> Result<Vec<u8>, Fail> {
-    let program = assemble(alloc, text)?;
+    let program = assemble(alloc, text, Order::Little)?;
     let mut out = Vec::new(alloc);
     list(&program, &mut out)?;
     Ok(out)
@@ -171,7 +171,7 @@ fn lists_in_one_spelling(rt: HostRuntime) -> Result<(), Fail> {
 #[test]
 fn refuses_at_the_line(rt: HostRuntime) {
     for (text, number, line) in REFUSALS {
-        match assemble(rt.alloc(), text) {
+        match assemble(rt.alloc(), text, Order::Little) {
             Ok(_) => panic!(rt; "{text}"),
             Err(error) => {
                 assert_eq!(rt; error.number(), number, "{text}");
@@ -210,7 +210,7 @@ fn targets_are_instructions(rt: HostRuntime) {
             error: BuildError::Target { slot },
         };
         assert!(rt;
-            matches!(assemble(rt.alloc(), text), Err(found) if found == error),
+            matches!(assemble(rt.alloc(), text, Order::Little), Err(found) if found == error),
             "{text}"
         );
     }
@@ -229,10 +229,10 @@ fn far(alloc: Global, lines: usize) -> Result<String, Fail> {
 #[test]
 fn distances_end(rt: HostRuntime) -> Result<(), Fail> {
     let text = far(rt.alloc(), 32_767)?;
-    assert!(rt; assemble(rt.alloc(), text.as_str()).is_ok());
+    assert!(rt; assemble(rt.alloc(), text.as_str(), Order::Little).is_ok());
     let text = far(rt.alloc(), 32_768)?;
     let error = TextError::TooFar { line: 1 };
-    assert!(rt; matches!(assemble(rt.alloc(), text.as_str()), Err(found) if found == error));
+    assert!(rt; matches!(assemble(rt.alloc(), text.as_str(), Order::Little), Err(found) if found == error));
     Ok(())
 }
 
@@ -241,13 +241,13 @@ fn names_have_64_characters(rt: HostRuntime) -> Result<(), Fail> {
     let name = "A_3456789012345678901234567890123456789012345678901234567890123z";
     assert_eq!(rt; name.len(), 64);
     let text = format!(in rt.alloc(); "goto {name}\n{name}: exit")?;
-    assert!(rt; assemble(rt.alloc(), text.as_str()).is_ok());
+    assert!(rt; assemble(rt.alloc(), text.as_str(), Order::Little).is_ok());
     for text in [
         format!(in rt.alloc(); "goto {name}0\nexit")?,
         format!(in rt.alloc(); "{name}0: exit")?,
     ] {
         let error = TextError::Form { line: 1 };
-        assert!(rt; matches!(assemble(rt.alloc(), text.as_str()), Err(found) if found == error));
+        assert!(rt; matches!(assemble(rt.alloc(), text.as_str(), Order::Little), Err(found) if found == error));
     }
     Ok(())
 }
@@ -278,7 +278,7 @@ impl Write for Short {
 #[test]
 fn a_fault_leaves_a_beginning(rt: HostRuntime) -> Result<(), Fail> {
     let text = "r10 = 0x10 ll\nif w1 s<= -15 goto -3\nexit\n";
-    let program = assemble(rt.alloc(), text)?;
+    let program = assemble(rt.alloc(), text, Order::Little)?;
     let listing = "r10 = 0x10 ll\nif w1 s<= -15 goto -3\nexit\n";
     for room in 0..listing.len() {
         let mut out = Short {
@@ -321,7 +321,7 @@ fn want_of_memory_is_a7(rt: HostRuntime) {
         ),
     ];
     for (text, wanted) in rows {
-        match assemble(rt.alloc(), text) {
+        match assemble(rt.alloc(), text, Order::Little) {
             Ok(program) => assert_eq!(rt; Ok(program.slots()), wanted, "{text}"),
             Err(TextError::Memory) => assert_eq!(rt;
                 (TextError::Memory.number(), TextError::Memory.line()),

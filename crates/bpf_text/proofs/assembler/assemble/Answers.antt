@@ -3,12 +3,9 @@ use Rattle.bpf_insn.specs.Refusal.{IsNoProgram}
 use Rattle.bpf_insn.specs.declared.instruction.Insn.{Insn}
 use Rattle.bpf_insn.specs.declared.refusal.BuildError.{BuildError}
 use Rattle.bpf_text.specs.declared.error.TextError.{TextError}
-use Rattle.bpf_text.specs.Seen.{label_seen}
 use Rattle.bpf_text.specs.SourceSeen.{source_seen, said_seen}
-use Rattle.bpf_text.specs.Slots.{slots_in}
-use Rattle.bpf_text.specs.Assembly.{Source, source_of, instructions_of, slot_of, program_error, IsRefused}
+use Rattle.bpf_text.specs.Assembly.{Source, source_of, instructions_of, program_error, IsRefused}
 use Rattle.bpf_text.specs.Assembly.IsRefused.{no_instructions, no_program}
-use Rattle.bpf_text.proofs.AssemblerLemmas.{again, stopped, links}
 use Rattle.bpf_text.proofs.assembler.assemble.Goals as goal
 
 refused : (text : List ℕ) (source : Source) (e : TextError) → source ≡ source_of text → instructions_of source ≡ Err e → IsRefused text e
@@ -22,24 +19,10 @@ no_program_of text source is e error same h none named =
 pub returns-in-Err-clause-err : goal.returns-in-Err-clause-err
 returns-in-Err-clause-err c =
     let same : source_seen c.in-Ok.source ≡ source_of c.args.text.now = c.in-Ok.ensures ∙ ap source_of c.as_bytes.ensures.value in
-    ⊎_elim (λ m. inl m) (λ h. inr (refused c.args.text.now (source_seen c.in-Ok.source) c.in-Err.error same (again (source_seen c.in-Ok.source) c.in-Err.error (rw c.deref.ensures.value at h)))) c.in-Err.ensures.err
-
-pub returns-in-Some-clause-err : goal.returns-in-Some-clause-err
-returns-in-Some-clause-err c =
-    let same : source_seen c.in-Ok.source ≡ source_of c.args.text.now = c.in-Ok.ensures ∙ ap source_of c.as_bytes.ensures.value in
-    inr (refused c.args.text.now (source_seen c.in-Ok.source) c.in-Some.fault same (stopped (source_seen c.in-Ok.source) c.in-Some.fault (rw c.deref.ensures.value at c.in-Ok-slots_by_name.ensures.unique) c.in-Some.is))
-
-pub returns-in-Err-linked-clause-err : goal.returns-in-Err-linked-clause-err
-returns-in-Err-linked-clause-err c =
-    let same : source_seen c.in-Ok.source ≡ source_of c.args.text.now = c.in-Ok.ensures ∙ ap source_of c.as_bytes.ensures.value in
-    let slots : (name : List ℕ) → slots_in c.in-Ok-slots_by_name.slots name ≡ slot_of (map label_seen c.in-Ok.source.labels.items) name = rw c.deref.ensures.value at c.in-Ok-slots_by_name.ensures.slots in
-    ⊎_elim (λ m. inl m) (λ h. inr (refused c.args.text.now (source_seen c.in-Ok.source) c.in-Err-linked.error same
-    (links (source_seen c.in-Ok.source) (slots_in c.in-Ok-slots_by_name.slots) (Err c.in-Err-linked.error) (rw c.deref.ensures.value at c.in-Ok-slots_by_name.ensures.unique) c.in_default-fault.is slots (rw c.deref-2.ensures.value at h)))) c.in-Err-linked.ensures.err
+    ⊎_elim (λ m. inl m) (λ h. inr (refused c.args.text.now (source_seen c.in-Ok.source) c.in-Err.error same h)) c.in-Err.ensures.err
 
 pub returns-clause-err : goal.returns-clause-err
 returns-clause-err c =
     let same : source_seen c.in-Ok.source ≡ source_of c.args.text.now = c.in-Ok.ensures ∙ ap source_of c.as_bytes.ensures.value in
-    let slots : (name : List ℕ) → slots_in c.in-Ok-slots_by_name.slots name ≡ slot_of (map label_seen c.in-Ok.source.labels.items) name = rw c.deref.ensures.value at c.in-Ok-slots_by_name.ensures.slots in
-    let built : instructions_of (source_seen c.in-Ok.source) ≡ Ok c.in-Ok-linked.insns.items = links (source_seen c.in-Ok.source) (slots_in c.in-Ok-slots_by_name.slots) (Ok c.in-Ok-linked.insns.items) (rw c.deref.ensures.value at c.in-Ok-slots_by_name.ensures.unique) c.in_default-fault.is slots (rw c.deref-2.ensures.value at c.in-Ok-linked.ensures.ok) in
-    let error : c.program_error.result ≡ program_error (map said_seen c.in-Ok.source.said.items) c.in-Err-new.error = rw c.deref-in-Err-new.ensures.value at c.program_error.ensures in
-    ⊎_elim (λ m. inl (error ∙ ap (program_error (map said_seen c.in-Ok.source.said.items)) m)) (λ h. inr (no_program_of c.args.text.now (source_seen c.in-Ok.source) c.in-Ok-linked.insns.items c.in-Err-new.error c.program_error.result same built h error)) c.in-Err-new.ensures.err
+    let error : c.program_error.result ≡ program_error (map said_seen c.in-Ok.source.said.items) c.in-Err-new.error = rw c.deref.ensures.value at c.program_error.ensures in
+    ⊎_elim (λ m. inl (error ∙ ap (program_error (map said_seen c.in-Ok.source.said.items)) m)) (λ h. inr (no_program_of c.args.text.now (source_seen c.in-Ok.source) c.in-Ok-instructions_of.insns.items c.in-Err-new.error c.program_error.result same c.in-Ok-instructions_of.ensures.ok h error)) c.in-Err-new.ensures.err

@@ -1,0 +1,567 @@
+-- Each form is read from its tokens, and then says what the form says.
+use Rattle.std.proofs.Common.{◌≡◌, ℕ, Bool, true, false, cond, eqb, ltb, List, [], ◌∷◌, ◌++◌, Option, Some, None, option_map, refl, sym, ap, ◌∙◌, append_assoc, append-nil, arith}
+use Rattle.std.specs.Prelude.{codes, ℤ, ◌&&◌}
+use Rattle.std.specs.Char.{digit_value}
+use Rattle.std.proofs.lemmas.Bool.{eqb-true}
+use Rattle.std.proofs.lemmas.Bool.Decides.{nat_tests}
+use Rattle.bpf_insn.specs.Instruction.{word_size}
+use Rattle.bpf_insn.specs.declared.instruction.Reg.{Reg}
+use Rattle.bpf_insn.specs.declared.instruction.Reg.TheVariants.{R0, R1, R2, R3, R4, R5, R6, R7, R8, R9, R10}
+use Rattle.bpf_insn.specs.declared.instruction.Size.{Size}
+use Rattle.bpf_insn.specs.declared.instruction.Size.TheVariants.{B, H, W, DW}
+use Rattle.bpf_insn.specs.declared.instruction.Width.{Width}
+use Rattle.bpf_insn.specs.declared.instruction.Width.TheVariants.{W32, W64}
+use Rattle.bpf_insn.specs.declared.instruction.Operand.{Operand}
+use Rattle.bpf_insn.specs.declared.instruction.Operand.TheVariants.{Imm, Reg as FromReg}
+use Rattle.bpf_insn.specs.declared.instruction.AluOp.{AluOp}
+use Rattle.bpf_insn.specs.declared.instruction.AluOp.TheVariants.{Add, Sub, Mul, Div, SDiv, Or, And, Lsh, Rsh, Mod, SMod, Xor, Mov, Arsh}
+use Rattle.bpf_insn.specs.declared.instruction.SignBits.{SignBits}
+use Rattle.bpf_insn.specs.declared.instruction.SignBits.TheVariants.{B8 as S8, B16 as S16, B32 as S32}
+use Rattle.bpf_insn.specs.declared.instruction.EndKind.{EndKind}
+use Rattle.bpf_insn.specs.declared.instruction.EndKind.TheVariants.{Le as ToLe, Be as ToBe, Swap as Swaps}
+use Rattle.bpf_insn.specs.declared.instruction.EndBits.{EndBits}
+use Rattle.bpf_insn.specs.declared.instruction.EndBits.TheVariants.{B16 as E16, B32 as E32, B64 as E64}
+use Rattle.bpf_insn.specs.declared.instruction.Cond.{Cond}
+use Rattle.bpf_insn.specs.declared.instruction.AtomicOp.{AtomicOp}
+use Rattle.bpf_insn.specs.declared.instruction.AtomicOp.TheVariants.{Modify as Changes, Xchg, CmpXchg}
+use Rattle.bpf_insn.specs.declared.instruction.Insn.{Insn}
+use Rattle.bpf_insn.specs.declared.instruction.Insn.TheVariants.{Alu, Neg, MovSx, End, LoadImm64, Atomic}
+use Rattle.bpf_text.specs.declared.spelling.Memory.{Memory}
+use Rattle.bpf_text.specs.declared.spelling.Memory.TheVariants.{Unsigned, Signed}
+use Rattle.bpf_text.specs.declared.spelling.Keyword.{Keyword}
+use Rattle.bpf_text.specs.declared.spelling.Keyword.TheVariants as keyword
+use Rattle.bpf_text.specs.declared.statement.Jump.{Jump}
+use Rattle.bpf_text.specs.declared.statement.Jump.TheVariants.{Goto as ToSlot, GotoLong as FarToSlot, Call as CallSlot, If as OnTest}
+use Rattle.bpf_text.specs.Parts.{register, swap, operations, conditions, modifications, extensions, swaps, memories, keywords, swap_spelling, memory_text, keyword_text}
+use Rattle.bpf_text.specs.Tokens.{is_digit, word_value, value_after, value_up_to}
+use Rattle.bpf_text.specs.Spelling.{register_text, operation_text, cond_text, modify_text, sign_bits_text, swap_text}
+use Rattle.bpf_text.specs.Statements.{plain, to_label}
+use Rattle.bpf_text.specs.Reading.{fits_32, fits_wide, is_extension, load_of, store_of, wide_of}
+use Rattle.bpf_text.specs.Grammar.{Token, tokens, Numeral, Number, number_value, constant_tokens, signed_tokens, Name, Source, Address, Target, one_word, source_tokens, address_tokens, target_tokens, atomic_marks, is_loaded, Form, form_tokens, form_said, source_said, offset_said, target_said, branch_said}
+use Rattle.bpf_text.specs.Grammar.Token.{word, mark}
+use Rattle.bpf_text.proofs.TokenReading.{unsigned_t, number_t, signed_t, any_register_t, register_t, operand_t, constant_t, negative_t, extension_t, place_t, load_t, swap_t, assigned_t, operation_t, assignment_t, store_t, change_t, exchange_t, atomic_t, name_t, target_t, test_t, branch_t, plainly_t, keyword_t, statement_t, whole_t}
+use Rattle.bpf_insn.specs.declared.instruction.Cond.TheVariants.{Eq, Gt, Ge, Set, Ne, SGt, SGe, Lt, Le, SLt, SLe}
+use Rattle.bpf_insn.specs.declared.instruction.Modify.{Modify}
+use Rattle.bpf_insn.specs.declared.instruction.Modify.TheVariants.{Add as AddTo, Or as OrTo, And as AndTo, Xor as XorTo}
+use Rattle.bpf_text.proofs.TokenLemmas.{word_t, mark_t, strip, first_t}
+use Rattle.bpf_text.proofs.WordLemmas.{not_digit}
+use Rattle.bpf_text.proofs.FormsRead.{locked, branched, branch_tokens, lock_front}
+
+-- ---- registers and spellings
+
+register_found : (width : Width) (r : Reg) (ts : List Token) → any_register_t (word (register_text width r) ∷ ts) ≡ Some (register width r, ts)
+unfolding any_register_t first_t strip word_t mark_t
+register_found W32 R0 ts = refl
+register_found W32 R1 ts = refl
+register_found W32 R2 ts = refl
+register_found W32 R3 ts = refl
+register_found W32 R4 ts = refl
+register_found W32 R5 ts = refl
+register_found W32 R6 ts = refl
+register_found W32 R7 ts = refl
+register_found W32 R8 ts = refl
+register_found W32 R9 ts = refl
+register_found W32 R10 ts = refl
+register_found W64 R0 ts = refl
+register_found W64 R1 ts = refl
+register_found W64 R2 ts = refl
+register_found W64 R3 ts = refl
+register_found W64 R4 ts = refl
+register_found W64 R5 ts = refl
+register_found W64 R6 ts = refl
+register_found W64 R7 ts = refl
+register_found W64 R8 ts = refl
+register_found W64 R9 ts = refl
+register_found W64 R10 ts = refl
+
+register_here : (width : Width) (r : Reg) (ts : List Token) → register_t width (word (register_text width r) ∷ ts) ≡ Some (r, ts)
+unfolding register_t
+register_here W32 r ts = rw (register_found W32 r ts) refl
+register_here W64 r ts = rw (register_found W64 r ts) refl
+
+register_itself : (width : Width) (r : Reg) (ts : List Token) → strip (tokens (register_text width r)) (word (register_text width r) ∷ ts) ≡ Some ts
+unfolding strip word_t
+register_itself W32 R0 ts = refl
+register_itself W32 R1 ts = refl
+register_itself W32 R2 ts = refl
+register_itself W32 R3 ts = refl
+register_itself W32 R4 ts = refl
+register_itself W32 R5 ts = refl
+register_itself W32 R6 ts = refl
+register_itself W32 R7 ts = refl
+register_itself W32 R8 ts = refl
+register_itself W32 R9 ts = refl
+register_itself W32 R10 ts = refl
+register_itself W64 R0 ts = refl
+register_itself W64 R1 ts = refl
+register_itself W64 R2 ts = refl
+register_itself W64 R3 ts = refl
+register_itself W64 R4 ts = refl
+register_itself W64 R5 ts = refl
+register_itself W64 R6 ts = refl
+register_itself W64 R7 ts = refl
+register_itself W64 R8 ts = refl
+register_itself W64 R9 ts = refl
+register_itself W64 R10 ts = refl
+
+register_no_swap : (width : Width) (r : Reg) (ts : List Token) → first_t swap_spelling swaps (word (register_text width r) ∷ ts) ≡ None
+unfolding first_t strip word_t
+register_no_swap W32 R0 ts = refl
+register_no_swap W32 R1 ts = refl
+register_no_swap W32 R2 ts = refl
+register_no_swap W32 R3 ts = refl
+register_no_swap W32 R4 ts = refl
+register_no_swap W32 R5 ts = refl
+register_no_swap W32 R6 ts = refl
+register_no_swap W32 R7 ts = refl
+register_no_swap W32 R8 ts = refl
+register_no_swap W32 R9 ts = refl
+register_no_swap W32 R10 ts = refl
+register_no_swap W64 R0 ts = refl
+register_no_swap W64 R1 ts = refl
+register_no_swap W64 R2 ts = refl
+register_no_swap W64 R3 ts = refl
+register_no_swap W64 R4 ts = refl
+register_no_swap W64 R5 ts = refl
+register_no_swap W64 R6 ts = refl
+register_no_swap W64 R7 ts = refl
+register_no_swap W64 R8 ts = refl
+register_no_swap W64 R9 ts = refl
+register_no_swap W64 R10 ts = refl
+
+operation_here : (op : AluOp) (ts : List Token) → first_t operation_text operations (tokens (operation_text op) ++ ts) ≡ Some (op, ts)
+unfolding first_t strip word_t mark_t
+operation_here Add ts = refl
+operation_here Sub ts = refl
+operation_here Mul ts = refl
+operation_here Div ts = refl
+operation_here SDiv ts = refl
+operation_here Or ts = refl
+operation_here And ts = refl
+operation_here Lsh ts = refl
+operation_here Rsh ts = refl
+operation_here Mod ts = refl
+operation_here SMod ts = refl
+operation_here Xor ts = refl
+operation_here Mov ts = refl
+operation_here Arsh ts = refl
+
+-- no equals sign comes next, so `>` isn't `> =`
+cond_here : (test : Cond) (ts : List Token) → mark_t 61 ts ≡ None → first_t cond_text conditions (tokens (cond_text test) ++ ts) ≡ Some (test, ts)
+unfolding first_t strip word_t mark_t
+cond_here Eq ts none = refl
+cond_here Gt ts none = rw none refl
+cond_here Ge ts none = refl
+cond_here Set ts none = refl
+cond_here Ne ts none = refl
+cond_here SGt ts none = rw none refl
+cond_here SGe ts none = refl
+cond_here Lt ts none = rw none refl
+cond_here Le ts none = refl
+cond_here SLt ts none = rw none refl
+cond_here SLe ts none = refl
+
+modify_here : (by : Modify) (ts : List Token) → first_t modify_text modifications (tokens (modify_text by) ++ ts) ≡ Some (by, ts)
+unfolding first_t strip word_t mark_t
+modify_here AddTo ts = refl
+modify_here OrTo ts = refl
+modify_here AndTo ts = refl
+modify_here XorTo ts = refl
+
+extension_here : (bits : SignBits) (ts : List Token) → first_t sign_bits_text extensions (word (sign_bits_text bits) ∷ ts) ≡ Some (bits, ts)
+unfolding first_t strip word_t mark_t
+extension_here S8 ts = refl
+extension_here S16 ts = refl
+extension_here S32 ts = refl
+
+swap_here : (kind : EndKind) (bits : EndBits) (ts : List Token) → first_t swap_spelling swaps (word (swap_text kind bits) ∷ ts) ≡ Some (swap kind bits, ts)
+unfolding first_t strip word_t mark_t
+swap_here ToLe E16 ts = refl
+swap_here ToLe E32 ts = refl
+swap_here ToLe E64 ts = refl
+swap_here ToBe E16 ts = refl
+swap_here ToBe E32 ts = refl
+swap_here ToBe E64 ts = refl
+swap_here Swaps E16 ts = refl
+swap_here Swaps E32 ts = refl
+swap_here Swaps E64 ts = refl
+
+memory_here : (memory : Memory) (ts : List Token) → is_loaded memory ≡ true → first_t memory_text memories (word (memory_text memory) ∷ ts) ≡ Some (memory, ts)
+unfolding first_t strip word_t mark_t
+memory_here (Unsigned B) ts is = refl
+memory_here (Unsigned H) ts is = refl
+memory_here (Unsigned W) ts is = refl
+memory_here (Unsigned DW) ts is = refl
+memory_here (Signed B) ts is = refl
+memory_here (Signed H) ts is = refl
+memory_here (Signed W) ts is = refl
+memory_here (Signed DW) ts is = cc
+
+-- ---- a number begins with a digit, so it is no other word
+
+small_digit : (c : ℕ) → ltb (digit_value c) 10 ≡ true → is_digit c ≡ true
+small_digit c h = grind (arith, nat_tests)
+
+if_there : {A : Type 0} (b : Bool) (o : Option A) (x : A) → cond b o None ≡ Some x → (b ≡ true) × (o ≡ Some x)
+if_there true o x e = (refl, e)
+if_there false o x e = cc
+
+decimal_first : (c n : ℕ) (cs : List ℕ) → value_up_to 20 10 (c ∷ cs) ≡ Some n → is_digit c ≡ true
+decimal_first c n cs e = small_digit c (if_there (ltb (digit_value c) 10) _ n (if_there _ (value_after 10 0 (c ∷ cs)) n e).1).0
+
+begins : (w : List ℕ) (n : ℕ) → word_value w ≡ Some n → (c : ℕ) × (cs : List ℕ) × (w ≡ c ∷ cs) × (is_digit c ≡ true)
+unfolding word_value
+begins [] n e = cc
+begins (c ∷ []) n e = (c, [], refl, decimal_first c n [] e)
+begins (c ∷ d ∷ ds) n e = (c, d ∷ ds, refl, go (eqb c 48) (eqb d 120) refl e)
+  where
+    go : (a b : Bool) → eqb c 48 ≡ a → cond (a && b) (value_up_to 16 16 ds) (value_up_to 20 10 (c ∷ d ∷ ds)) ≡ Some n → is_digit c ≡ true
+    go true b k h = ap is_digit (eqb-true c 48 k)
+    go false b k h = decimal_first c n (d ∷ ds) h
+
+other_register : (width : Width) (r : Reg) (c : ℕ) (cs : List ℕ) (ts : List Token) → eqb c 114 ≡ false → eqb c 119 ≡ false → strip (tokens (register_text width r)) (word (c ∷ cs) ∷ ts) ≡ None
+unfolding strip word_t
+other_register W32 R0 c cs ts e f = rw f refl
+other_register W32 R1 c cs ts e f = rw f refl
+other_register W32 R2 c cs ts e f = rw f refl
+other_register W32 R3 c cs ts e f = rw f refl
+other_register W32 R4 c cs ts e f = rw f refl
+other_register W32 R5 c cs ts e f = rw f refl
+other_register W32 R6 c cs ts e f = rw f refl
+other_register W32 R7 c cs ts e f = rw f refl
+other_register W32 R8 c cs ts e f = rw f refl
+other_register W32 R9 c cs ts e f = rw f refl
+other_register W32 R10 c cs ts e f = rw f refl
+other_register W64 R0 c cs ts e f = rw e refl
+other_register W64 R1 c cs ts e f = rw e refl
+other_register W64 R2 c cs ts e f = rw e refl
+other_register W64 R3 c cs ts e f = rw e refl
+other_register W64 R4 c cs ts e f = rw e refl
+other_register W64 R5 c cs ts e f = rw e refl
+other_register W64 R6 c cs ts e f = rw e refl
+other_register W64 R7 c cs ts e f = rw e refl
+other_register W64 R8 c cs ts e f = rw e refl
+other_register W64 R9 c cs ts e f = rw e refl
+other_register W64 R10 c cs ts e f = rw e refl
+
+no_register : (c : ℕ) (cs : List ℕ) (ts : List Token) → eqb c 114 ≡ false → eqb c 119 ≡ false → any_register_t (word (c ∷ cs) ∷ ts) ≡ None
+unfolding any_register_t first_t strip word_t mark_t
+no_register c cs ts e f = rw (e, f) refl
+
+no_swap : (c : ℕ) (cs : List ℕ) (ts : List Token) → eqb c 108 ≡ false → eqb c 98 ≡ false → first_t swap_spelling swaps (word (c ∷ cs) ∷ ts) ≡ None
+unfolding first_t strip word_t mark_t
+no_swap c cs ts e f = rw (e, f) refl
+
+-- what a number isn't
+record IsAlone (w : List ℕ) (ts : List Token) : Type 0 where
+  pub register : (width : Width) → register_t width (word w ∷ ts) ≡ None
+  pub itself : (width : Width) (r : Reg) → strip (tokens (register_text width r)) (word w ∷ ts) ≡ None
+  pub swap : first_t swap_spelling swaps (word w ∷ ts) ≡ None
+
+no_register_of : (width : Width) (w : List ℕ) (ts : List Token) → any_register_t (word w ∷ ts) ≡ None → register_t width (word w ∷ ts) ≡ None
+unfolding register_t
+no_register_of width w ts e = rw e refl
+
+alone : (n : Numeral) (ts : List Token) → IsAlone n.digits ts
+alone n ts =
+    let b = begins n.digits n.value n.is in
+    let r : eqb b.0 114 ≡ false = not_digit b.0 114 b.3 refl in
+    let w : eqb b.0 119 ≡ false = not_digit b.0 119 b.3 refl in
+    record {
+      register = λ width. no_register_of width n.digits ts (ap (λ z. any_register_t (word z ∷ ts)) b.2 ∙ no_register b.0 b.1 ts r w);
+      itself = λ width reg. ap (λ z. strip (tokens (register_text width reg)) (word z ∷ ts)) b.2 ∙ other_register width reg b.0 b.1 ts r w;
+      swap = ap (λ z. first_t swap_spelling swaps (word z ∷ ts)) b.2 ∙ no_swap b.0 b.1 ts (not_digit b.0 108 b.3 refl) (not_digit b.0 98 b.3 refl);
+    }
+
+-- ---- numbers, operands, places and targets
+
+numeral_here : (n : Numeral) (ts : List Token) → unsigned_t (word n.digits ∷ ts) ≡ Some (n.value, ts)
+unfolding unsigned_t word_t
+numeral_here n ts = rw n.is refl
+
+number_of : (minus : Bool) (n : Numeral) (ts : List Token) → let number : Number = record { minus = minus; numeral = n } in number_t (constant_tokens number ++ ts) ≡ Some (number_value number, ts)
+unfolding number_t mark_t
+number_of true n ts = rw (numeral_here n ts) refl
+number_of false n ts = rw (numeral_here n ts) refl
+
+signed_of : (minus : Bool) (n : Numeral) (ts : List Token) → let number : Number = record { minus = minus; numeral = n } in signed_t (signed_tokens number ++ ts) ≡ Some (number_value number, ts)
+unfolding signed_t mark_t
+signed_of true n ts = rw (numeral_here n ts) refl
+signed_of false n ts = rw (numeral_here n ts) refl
+
+signed_here : (n : Number) (ts : List Token) → signed_t (signed_tokens n ++ ts) ≡ Some (number_value n, ts)
+signed_here n ts = signed_of n.minus n.numeral ts
+
+no_register_before : (width : Width) (minus : Bool) (n : Numeral) (ts : List Token) → let number : Number = record { minus = minus; numeral = n } in register_t width (constant_tokens number ++ ts) ≡ None
+unfolding register_t any_register_t first_t strip word_t mark_t
+no_register_before width true n ts = refl
+no_register_before width false n ts = (alone n ts).register width
+
+source_here : (width : Width) (src : Source) (ts : List Token) → operand_t width (source_tokens width src ++ ts) ≡ Some (source_said src, ts)
+unfolding operand_t
+source_here width (Source.register r) ts = rw (register_here width r ts) refl
+source_here width (Source.constant n) ts = rw (no_register_before width n.minus n.numeral ts, number_of n.minus n.numeral ts) refl
+
+no_equals : (width : Width) (src : Source) (ts : List Token) → mark_t 61 (source_tokens width src ++ ts) ≡ None
+unfolding mark_t
+no_equals width (Source.register r) ts = refl
+no_equals width (Source.constant n) ts = go n.minus
+  where
+    go : (minus : Bool) → mark_t 61 (cond minus (mark 45 ∷ word n.numeral.digits ∷ []) (word n.numeral.digits ∷ []) ++ ts) ≡ None
+    go true = refl
+    go false = refl
+
+star_opens : (ts : List Token) → (strip (tokens (codes "*(")) (mark 42 ∷ mark 40 ∷ ts) ≡ Some ts) × (strip (tokens (codes "*)(")) (mark 42 ∷ mark 41 ∷ mark 40 ∷ ts) ≡ Some ts) × (mark_t 41 (mark 41 ∷ ts) ≡ Some ts)
+unfolding strip mark_t
+star_opens ts = (refl, refl, refl)
+
+place_here : (memory : Memory) (a : Address) (ts : List Token) → is_loaded memory ≡ true → place_t (address_tokens memory a ++ ts) ≡ Some (record { memory = memory; base = a.base; off = offset_said a }, ts)
+unfolding place_t
+place_here memory a ts is =
+    let behind_off = mark 41 ∷ ts in
+    let behind_base = signed_tokens a.off ++ behind_off in
+    let pointer = word (register_text W64 a.base) ∷ behind_base in
+    let behind_memory = mark 42 ∷ mark 41 ∷ mark 40 ∷ pointer in
+    rw ((star_opens (word (memory_text memory) ∷ behind_memory)).0, memory_here memory behind_memory is, (star_opens pointer).1, register_here W64 a.base behind_base, signed_here a.off behind_off, (star_opens ts).2) refl
+
+no_sign : (w : List ℕ) (ts : List Token) → signed_t (word w ∷ ts) ≡ None
+unfolding signed_t mark_t
+no_sign w ts = refl
+
+name_here : (jump : Jump) (name : Name) (ts : List Token) → name_t jump (word name.text ∷ ts) ≡ Some (Some (to_label jump name.text), ts)
+unfolding name_t word_t
+name_here jump name ts = rw name.is refl
+
+target_here : (jump : Jump) (target : Target) (ts : List Token) → target_t jump (target_tokens target ++ ts) ≡ Some (target_said jump target, ts)
+unfolding target_t
+target_here jump (Target.distance n) ts = rw (signed_here n ts) refl
+target_here jump (Target.label name) ts = rw (no_sign name.text ts, name_here jump name ts) refl
+
+-- ---- what stands behind `=`
+
+-- no mark of a form stands in front of a word
+marks_no_word : (w : List ℕ) (ts : List Token) → (mark_t 45 (word w ∷ ts) ≡ None) × (mark_t 40 (word w ∷ ts) ≡ None) × (mark_t 42 (word w ∷ ts) ≡ None)
+unfolding mark_t
+marks_no_word w ts = (refl, refl, refl)
+
+minus_first : (ts : List Token) → mark_t 45 (mark 45 ∷ ts) ≡ Some ts
+unfolding mark_t
+minus_first ts = refl
+
+opening_first : (ts : List Token) → (mark_t 45 (mark 40 ∷ ts) ≡ None) × (mark_t 40 (mark 40 ∷ ts) ≡ Some ts) × (mark_t 41 (mark 41 ∷ ts) ≡ Some ts)
+unfolding mark_t
+opening_first ts = (refl, refl, refl)
+
+star_first : (ts : List Token) → (mark_t 45 (mark 42 ∷ ts) ≡ None) × (mark_t 40 (mark 42 ∷ ts) ≡ None) × (mark_t 42 (mark 42 ∷ ts) ≡ Some ts)
+unfolding mark_t
+star_first ts = (refl, refl, refl)
+
+short_constant : (width : Width) (dst : Reg) (z : ℤ) → constant_t width dst z [] ≡ Some (option_map (λ imm. Alu Mov width dst (Imm imm)) (fits_32 z), [])
+unfolding constant_t strip word_t
+short_constant width dst z = refl
+
+long_constant : (dst : Reg) (z : ℤ) → constant_t W64 dst z (word (codes "ll") ∷ []) ≡ Some (option_map (LoadImm64 dst) (fits_wide z), [])
+unfolding constant_t strip word_t
+long_constant dst z = refl
+
+-- a number, and then what its value and the tokens behind it make
+number_assigned : (width : Width) (dst : Reg) (minus : Bool) (n : Numeral) (ts : List Token) → let number : Number = record { minus = minus; numeral = n } in assigned_t width dst (constant_tokens number ++ ts) ≡ constant_t width dst (number_value number) ts
+unfolding assigned_t negative_t
+number_assigned width dst true n ts = rw (minus_first (word n.digits ∷ ts), (alone n ts).itself width dst, numeral_here n ts) refl
+number_assigned width dst false n ts = let marks = marks_no_word n.digits ts in rw (marks.0, marks.1, marks.2, (alone n ts).swap, (alone n ts).register width, numeral_here n ts) refl
+
+register_assigned : (width : Width) (dst r : Reg) (ts : List Token) → assigned_t width dst (word (register_text width r) ∷ ts) ≡ Some (Some (Alu Mov width dst (FromReg r)), ts)
+unfolding assigned_t
+register_assigned width dst r ts = let marks = marks_no_word (register_text width r) ts in rw (marks.0, marks.1, marks.2, register_no_swap width r ts, register_here width r ts) refl
+
+moved_constant : (width : Width) (dst : Reg) (o : Option ℤ) → option_map (λ imm. Alu Mov width dst (Imm imm)) o ≡ option_map (λ s. Alu Mov width dst s) (option_map Imm o)
+moved_constant width dst None = refl
+moved_constant width dst (Some z) = refl
+
+moved : (width : Width) (dst : Reg) (src : Source) → assigned_t width dst (source_tokens width src ++ []) ≡ Some (option_map (λ s. Alu Mov width dst s) (source_said src), [])
+moved width dst (Source.register r) = register_assigned width dst r []
+moved width dst (Source.constant n) = number_assigned width dst n.minus n.numeral [] ∙ short_constant width dst (number_value n) ∙ ap (λ o. Some (o, [])) (moved_constant width dst (fits_32 (number_value n)))
+
+negated : (width : Width) (dst : Reg) (ts : List Token) → assigned_t width dst (mark 45 ∷ word (register_text width dst) ∷ ts) ≡ Some (Some (Neg width dst), ts)
+unfolding assigned_t negative_t
+negated width dst ts = rw (minus_first (word (register_text width dst) ∷ ts), register_itself width dst ts) refl
+
+extended : (width : Width) (bits : SignBits) (dst src : Reg) (ts : List Token) → is_extension width bits ≡ true
+    → assigned_t width dst (mark 40 ∷ word (sign_bits_text bits) ∷ mark 41 ∷ word (register_text width src) ∷ ts) ≡ Some (Some (MovSx width bits dst src), ts)
+unfolding assigned_t extension_t
+extended width bits dst src ts is =
+    let closed = word (register_text width src) ∷ ts in
+    let inside = word (sign_bits_text bits) ∷ mark 41 ∷ closed in
+    rw ((opening_first inside).0, (opening_first inside).1, extension_here bits (mark 41 ∷ closed), (opening_first closed).2, register_here width src ts, is) refl
+
+swapped : (kind : EndKind) (bits : EndBits) (dst : Reg) (ts : List Token) → assigned_t W64 dst (word (swap_text kind bits) ∷ word (register_text W64 dst) ∷ ts) ≡ Some (Some (End kind bits dst), ts)
+unfolding assigned_t swap_t
+swapped kind bits dst ts = let behind = word (register_text W64 dst) ∷ ts in let marks = marks_no_word (swap_text kind bits) behind in rw (marks.0, marks.1, marks.2, swap_here kind bits behind, register_itself W64 dst ts) refl
+
+loaded : (memory : Memory) (dst : Reg) (a : Address) (ts : List Token) → is_loaded memory ≡ true → assigned_t W64 dst (address_tokens memory a ++ ts) ≡ Some (option_map (load_of memory dst a.base) (offset_said a), ts)
+unfolding assigned_t load_t
+loaded memory dst a ts is =
+    let inside = mark 40 ∷ word (memory_text memory) ∷ mark 42 ∷ mark 41 ∷ mark 40 ∷ word (register_text W64 a.base) ∷ (signed_tokens a.off ++ mark 41 ∷ ts) in
+    rw ((star_first inside).0, (star_first inside).1, (star_first inside).2, place_here memory a ts is) refl
+
+-- ---- statements in front of which a register stands
+
+calculated : (op : AluOp) (width : Width) (dst : Reg) (src : Source) → operation_t width dst op (source_tokens width src ++ []) ≡ Some (option_map (λ s. Alu op width dst s) (source_said src), [])
+calculated Add width dst src = rw (source_here width src []) refl
+calculated Sub width dst src = rw (source_here width src []) refl
+calculated Mul width dst src = rw (source_here width src []) refl
+calculated Div width dst src = rw (source_here width src []) refl
+calculated SDiv width dst src = rw (source_here width src []) refl
+calculated Or width dst src = rw (source_here width src []) refl
+calculated And width dst src = rw (source_here width src []) refl
+calculated Lsh width dst src = rw (source_here width src []) refl
+calculated Rsh width dst src = rw (source_here width src []) refl
+calculated Mod width dst src = rw (source_here width src []) refl
+calculated SMod width dst src = rw (source_here width src []) refl
+calculated Xor width dst src = rw (source_here width src []) refl
+calculated Arsh width dst src = rw (source_here width src []) refl
+calculated Mov width dst src = moved width dst src
+
+assigns : (width : Width) (dst : Reg) (op : AluOp) (ts : List Token) (i : Option Insn) → operation_t width dst op ts ≡ Some (i, []) → statement_t (word (register_text width dst) ∷ (tokens (operation_text op) ++ ts)) ≡ Some (option_map plain i, [])
+unfolding statement_t assignment_t
+assigns width dst op ts i e = rw (register_found width dst (tokens (operation_text op) ++ ts), operation_here op ts, e) refl
+
+-- ---- other statements
+
+star_ahead : (ts : List Token) → (any_register_t (mark 42 ∷ ts) ≡ None) × (first_t keyword_text keywords (mark 42 ∷ ts) ≡ None)
+unfolding any_register_t first_t strip word_t mark_t
+star_ahead ts = (refl, refl)
+
+equals_first : (ts : List Token) → mark_t 61 (mark 61 ∷ ts) ≡ Some ts
+unfolding mark_t
+equals_first ts = refl
+
+store_here : (size : Size) (a : Address) (src : Source) → store_t (address_tokens (Unsigned size) a ++ (mark 61 ∷ (source_tokens W64 src ++ []))) ≡ Some (store_of size a.base (offset_said a) (source_said src), [])
+unfolding store_t
+store_here size a src = rw (place_here (Unsigned size) a (mark 61 ∷ (source_tokens W64 src ++ [])) refl, equals_first (source_tokens W64 src ++ []), source_here W64 src []) refl
+
+stores : (size : Size) (a : Address) (src : Source) → statement_t (address_tokens (Unsigned size) a ++ (mark 61 ∷ (source_tokens W64 src ++ []))) ≡ Some (option_map plain (store_of size a.base (offset_said a) (source_said src)), [])
+unfolding statement_t
+stores size a src =
+    let behind = mark 40 ∷ word (memory_text (Unsigned size)) ∷ mark 42 ∷ mark 41 ∷ mark 40 ∷ word (register_text W64 a.base) ∷ (signed_tokens a.off ++ mark 41 ∷ (mark 61 ∷ (source_tokens W64 src ++ []))) in
+    rw ((star_ahead behind).0, (star_ahead behind).1, store_here size a src) refl
+
+wide_there : (wide : Bool) → wide_of (Unsigned (word_size wide)) ≡ Some wide
+wide_there false = refl
+wide_there true = refl
+
+comma_first : (ts : List Token) → mark_t 44 (mark 44 ∷ ts) ≡ Some ts
+unfolding mark_t
+comma_first ts = refl
+
+-- the place, the marks and the register of an atomic operation
+abbrev atomic_rest : Bool → AtomicOp → Address → Reg → List Token
+atomic_rest wide op a src = address_tokens (Unsigned (word_size wide)) a ++ (tokens (atomic_marks op) ++ word (register_text W64 src) ∷ [])
+
+abbrev atomic_said : Bool → AtomicOp → Address → Reg → Option Insn
+atomic_said wide op a src = option_map (λ off. Atomic wide op a.base off src) (offset_said a)
+
+change_here : (wide fetch : Bool) (by : Modify) (a : Address) (src : Reg) → change_t fetch (atomic_rest wide (Changes by fetch) a src) ≡ Some (atomic_said wide (Changes by fetch) a src, [])
+unfolding change_t
+change_here wide fetch by a src = rw (place_here (Unsigned (word_size wide)) a (tokens (modify_text by) ++ word (register_text W64 src) ∷ []) refl, wide_there wide, modify_here by (word (register_text W64 src) ∷ []), register_here W64 src []) refl
+
+exchange_here : (wide : Bool) (op : AtomicOp) (a : Address) (src : Reg) → exchange_t op (address_tokens (Unsigned (word_size wide)) a ++ mark 44 ∷ word (register_text W64 src) ∷ []) ≡ Some (atomic_said wide op a src, [])
+unfolding exchange_t
+exchange_here wide op a src = rw (place_here (Unsigned (word_size wide)) a (mark 44 ∷ word (register_text W64 src) ∷ []) refl, wide_there wide, comma_first (word (register_text W64 src) ∷ []), register_here W64 src []) refl
+
+fetch_ahead : (ts : List Token) → strip (tokens (codes "fetch")) (word (codes "fetch") ∷ ts) ≡ Some ts
+unfolding strip word_t
+fetch_ahead ts = refl
+
+xchg_ahead : (ts : List Token) → (strip (tokens (codes "fetch")) (word (codes "xchg") ∷ ts) ≡ None) × (strip (tokens (codes "xchg")) (word (codes "xchg") ∷ ts) ≡ Some ts)
+unfolding strip word_t
+xchg_ahead ts = (refl, refl)
+
+cmpxchg_ahead : (ts : List Token) → (strip (tokens (codes "fetch")) (word (codes "cmpxchg") ∷ ts) ≡ None) × (strip (tokens (codes "xchg")) (word (codes "cmpxchg") ∷ ts) ≡ None) × (strip (tokens (codes "cmpxchg")) (word (codes "cmpxchg") ∷ ts) ≡ Some ts)
+unfolding strip word_t
+cmpxchg_ahead ts = (refl, refl, refl)
+
+no_word_ahead : (ts : List Token) → (strip (tokens (codes "fetch")) (mark 42 ∷ ts) ≡ None) × (strip (tokens (codes "xchg")) (mark 42 ∷ ts) ≡ None) × (strip (tokens (codes "cmpxchg")) (mark 42 ∷ ts) ≡ None)
+unfolding strip word_t
+no_word_ahead ts = (refl, refl, refl)
+
+abbrev behind_lock : AtomicOp → List Token
+behind_lock (Changes by fetch) = cond fetch (word (codes "fetch") ∷ []) []
+behind_lock Xchg = word (codes "xchg") ∷ []
+behind_lock CmpXchg = word (codes "cmpxchg") ∷ []
+
+atomic_here : (wide : Bool) (op : AtomicOp) (a : Address) (src : Reg) → atomic_t (behind_lock op ++ atomic_rest wide op a src) ≡ Some (atomic_said wide op a src, [])
+unfolding atomic_t
+atomic_here wide (Changes by true) a src = rw (fetch_ahead (atomic_rest wide (Changes by true) a src), change_here wide true by a src) refl
+atomic_here wide (Changes by false) a src =
+    let inside = mark 40 ∷ word (memory_text (Unsigned (word_size wide))) ∷ mark 42 ∷ mark 41 ∷ mark 40 ∷ word (register_text W64 a.base) ∷ (signed_tokens a.off ++ mark 41 ∷ (tokens (modify_text by) ++ word (register_text W64 src) ∷ [])) in
+    rw ((no_word_ahead inside).0, (no_word_ahead inside).1, (no_word_ahead inside).2, change_here wide false by a src) refl
+atomic_here wide Xchg a src = let rest = atomic_rest wide Xchg a src in rw ((xchg_ahead rest).0, (xchg_ahead rest).1, exchange_here wide Xchg a src) refl
+atomic_here wide CmpXchg a src = let rest = atomic_rest wide CmpXchg a src in rw ((cmpxchg_ahead rest).0, (cmpxchg_ahead rest).1, (cmpxchg_ahead rest).2, exchange_here wide CmpXchg a src) refl
+
+-- the word of each kind of statement
+word_no_register : (k : Keyword) (ts : List Token) → any_register_t (tokens (keyword_text k) ++ ts) ≡ None
+unfolding any_register_t first_t strip word_t
+word_no_register keyword.Lock ts = refl
+word_no_register keyword.If ts = refl
+word_no_register keyword.Goto ts = refl
+word_no_register keyword.GotoLong ts = refl
+word_no_register keyword.Call ts = refl
+word_no_register keyword.Exit ts = refl
+
+keyword_found : (k : Keyword) (ts : List Token) → first_t keyword_text keywords (tokens (keyword_text k) ++ ts) ≡ Some (k, ts)
+unfolding first_t strip word_t
+keyword_found keyword.Lock ts = refl
+keyword_found keyword.If ts = refl
+keyword_found keyword.Goto ts = refl
+keyword_found keyword.GotoLong ts = refl
+keyword_found keyword.Call ts = refl
+keyword_found keyword.Exit ts = refl
+
+by_keyword : (k : Keyword) (ts : List Token) → statement_t (tokens (keyword_text k) ++ ts) ≡ keyword_t k ts
+unfolding statement_t
+by_keyword k ts = rw (word_no_register k ts, keyword_found k ts) refl
+
+test_here : (test : Cond) (width : Width) (dst : Reg) (src : Option Operand) (target : Target) → test_t test width dst src (target_tokens target ++ []) ≡ Some (branch_said test width dst src target, [])
+test_here test width dst None target = rw (target_here ToSlot target []) refl
+test_here test width dst (Some src) target = target_here (OnTest test width dst src) target []
+
+goto_first : (ts : List Token) → strip (tokens (codes "goto")) (word (codes "goto") ∷ ts) ≡ Some ts
+unfolding strip word_t
+goto_first ts = refl
+
+branch_here : (test : Cond) (width : Width) (dst : Reg) (src : Source) (target : Target) → branch_t (word (register_text width dst) ∷ branch_tokens test width src target []) ≡ Some (branch_said test width dst (source_said src) target, [])
+unfolding branch_t
+branch_here test width dst src target =
+    let goes = word (codes "goto") ∷ (target_tokens target ++ []) in
+    let tested = source_tokens width src ++ goes in
+    rw (register_found width dst (tokens (cond_text test) ++ tested), cond_here test tested (no_equals width src goes), source_here width src goes, goto_first (target_tokens target ++ []), test_here test width dst (source_said src) target) refl
+
+-- ---- forms
+
+-- the tokens of a form with nothing behind them, grouped as they are read
+form_read : (form : Form) → statement_t (form_tokens form ++ []) ≡ Some (form_said form, [])
+form_read (Form.calculate op width dst src) = ap (λ z. statement_t (word (register_text width dst) ∷ z)) (append_assoc (tokens (operation_text op)) (source_tokens width src) []) ∙ assigns width dst op (source_tokens width src ++ []) (option_map (λ s. Alu op width dst s) (source_said src)) (calculated op width dst src)
+form_read (Form.negate width dst) = assigns width dst Mov (mark 45 ∷ word (register_text width dst) ∷ []) (Some (Neg width dst)) (negated width dst [])
+form_read (Form.extend width bits is dst src) = assigns width dst Mov (mark 40 ∷ word (sign_bits_text bits) ∷ mark 41 ∷ word (register_text width src) ∷ []) (Some (MovSx width bits dst src)) (extended width bits dst src [] is)
+form_read (Form.swap kind bits dst) = assigns W64 dst Mov (word (swap_text kind bits) ∷ word (register_text W64 dst) ∷ []) (Some (End kind bits dst)) (swapped kind bits dst [])
+form_read (Form.load_constant dst n) = ap (λ z. statement_t (word (register_text W64 dst) ∷ mark 61 ∷ z)) (append_assoc (constant_tokens n) (one_word (codes "ll")) [])
+    ∙ assigns W64 dst Mov (constant_tokens n ++ one_word (codes "ll")) (option_map (LoadImm64 dst) (fits_wide (number_value n))) (number_assigned W64 dst n.minus n.numeral (one_word (codes "ll")) ∙ long_constant dst (number_value n))
+form_read (Form.load memory is dst a) = assigns W64 dst Mov (address_tokens memory a ++ []) (option_map (load_of memory dst a.base) (offset_said a)) (loaded memory dst a [] is)
+form_read (Form.store size a src) = stores size a src
+form_read (Form.atomic wide op a src) = ap statement_t (sym (locked wide op a src [])) ∙ ap statement_t (behind wide op) ∙ by_keyword keyword.Lock (behind_lock op ++ atomic_rest wide op a src) ∙ ap plainly_t (atomic_here wide op a src)
+  where
+    behind : (wide : Bool) (op : AtomicOp) → lock_front op ++ atomic_rest wide op a src ≡ word (codes "lock") ∷ (behind_lock op ++ atomic_rest wide op a src)
+    behind wide (Changes by true) = refl
+    behind wide (Changes by false) = refl
+    behind wide Xchg = refl
+    behind wide CmpXchg = refl
+form_read (Form.branch test width dst src target) = ap statement_t (sym (branched test width dst src target [])) ∙ by_keyword keyword.If (word (register_text width dst) ∷ branch_tokens test width src target []) ∙ branch_here test width dst src target
+form_read (Form.goto target) = by_keyword keyword.Goto (target_tokens target ++ []) ∙ target_here ToSlot target []
+form_read (Form.goto_long target) = by_keyword keyword.GotoLong (target_tokens target ++ []) ∙ target_here FarToSlot target []
+form_read (Form.call target) = by_keyword keyword.Call (target_tokens target ++ []) ∙ target_here CallSlot target []
+form_read Form.exit = by_keyword keyword.Exit []
+
+pub whole_form : (form : Form) → whole_t (form_tokens form) ≡ Some (form_said form)
+unfolding whole_t
+whole_form form = let read : statement_t (form_tokens form) ≡ Some (form_said form, []) = ap statement_t (sym (append-nil (form_tokens form))) ∙ form_read form in rw read refl
