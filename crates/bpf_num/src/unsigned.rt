@@ -305,7 +305,7 @@ impl WordDomain for Unsigned {
         match (op, amount) {
             (AluOp::Lsh, Some(amount)) => self.multiple(amount),
             (AluOp::Rsh, Some(amount)) => self.halved(amount),
-            (AluOp::Rsh, None) => Unsigned { lo: 0, hi: self.hi },
+            (AluOp::Rsh, None) => Unsigned { lo: 0, ..self },
             (AluOp::Arsh, Some(amount)) => {
                 if amount == 0 || self.hi < 1 << 63 {
                     self.halved(amount)

@@ -75,8 +75,9 @@ impl Work {
         ensures kept { KeepsUnlessDone result state.old state.new }
         ensures counts { self.new ≡ with_transfer self.old }
     {
+        let answer = transfer(insn, least, order, state);
         self.transfers = self.transfers.saturating_add(1);
-        transfer(insn, least, order, state)
+        answer
     }
 
     /// Whether a state lies in another, as `entails` answers it. Counts one comparison.
@@ -84,8 +85,9 @@ impl Work {
         ensures answer { result ≡ state_entails a.now b.now }
         ensures counts { self.new ≡ with_comparison self.old }
     {
+        let answer = a.entails(b);
         self.count_comparison();
-        a.entails(b)
+        answer
     }
 
     /// Whether r0 is a number that lies in the given one. Counts one comparison.
@@ -93,7 +95,8 @@ impl Work {
         ensures answer { result ≡ register_entails (register state.now R0) (Number ret.now) }
         ensures counts { self.new ≡ with_comparison self.old }
     {
+        let answer = state.reg(Reg::R0).entails(RegState::Num(*ret));
         self.count_comparison();
-        state.reg(Reg::R0).entails(RegState::Num(*ret))
+        answer
     }
 }

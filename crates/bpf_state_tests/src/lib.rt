@@ -3,3 +3,7 @@
 
 #[cfg(test)]
 mod changes;
+#[cfg(test)]
+mod comparisons;
+#[cfg(test)]
+mod swaps;

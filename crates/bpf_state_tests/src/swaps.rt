@@ -1,0 +1,99 @@
+//! Byte swaps of a known number in both orders.
+
+use bpf_insn::Reg::*;
+use bpf_insn::{EndBits, EndKind, Insn, Order};
+use bpf_num::Num;
+use bpf_state::{RegState, State, transfer};
+use std::rt::HostRuntime;
+
+const NUMBER: u64 = 0x1122_3344_5566_7788;
+
+struct Rule {
+    order: Order,
+    kind: EndKind,
+    reverses: bool,
+}
+
+// Which swaps reverse the bytes (RFC 9669, section 4.2).
+static RULES: [Rule; 6] = [
+    Rule {
+        order: Order::Little,
+        kind: EndKind::Le,
+        reverses: false,
+    },
+    Rule {
+        order: Order::Little,
+        kind: EndKind::Be,
+        reverses: true,
+    },
+    Rule {
+        order: Order::Little,
+        kind: EndKind::Swap,
+        reverses: true,
+    },
+    Rule {
+        order: Order::Big,
+        kind: EndKind::Le,
+        reverses: true,
+    },
+    Rule {
+        order: Order::Big,
+        kind: EndKind::Be,
+        reverses: false,
+    },
+    Rule {
+        order: Order::Big,
+        kind: EndKind::Swap,
+        reverses: true,
+    },
+];
+
+// The low bits of the number, and the same with their bytes reversed.
+struct Low {
+    bits: EndBits,
+    kept: u64,
+    reversed: u64,
+}
+
+static LOWS: [Low; 3] = [
+    Low {
+        bits: EndBits::B16,
+        kept: 0x7788,
+        reversed: 0x8877,
+    },
+    Low {
+        bits: EndBits::B32,
+        kept: 0x5566_7788,
+        reversed: 0x8877_6655,
+    },
+    Low {
+        bits: EndBits::B64,
+        kept: 0x1122_3344_5566_7788,
+        reversed: 0x8877_6655_4433_2211,
+    },
+];
+
+#[test]
+fn bytes_are_swapped_by_the_order(rt: HostRuntime) {
+    for rule in &RULES {
+        for low in &LOWS {
+            let mut state = State::start(0, 0);
+            state.set_reg(R3, RegState::Num(Num::constant(NUMBER)));
+            let swap = Insn::End {
+                kind: rule.kind,
+                bits: low.bits,
+                dst: R3,
+            };
+            assert!(rt; matches!(transfer(&swap, 0, rule.order, &mut state), Ok(true)));
+            let expected = if rule.reverses {
+                low.reversed
+            } else {
+                low.kept
+            };
+            match state.reg(R3) {
+                RegState::Num(n) => assert!(rt; n == Num::constant(expected)),
+                RegState::Any | RegState::Ctx { .. } | RegState::Frame { .. } => assert!(rt; false),
+            }
+        }
+    }
+}
