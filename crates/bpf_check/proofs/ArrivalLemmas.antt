@@ -15,22 +15,22 @@ use Rattle.bpf_check.specs.Edges.{visit}
 use Rattle.bpf_check.specs.Visits.{numbers_with, passed_with, never_reached, visit_of}
 use Rattle.bpf_check.proofs.LeastLemmas.{least_three, at-append}
 
-fault_numbers : (p : Instructions) (c : CertificateView) (slot : ℕ) (i : Insn) (a : Arrival) (n : ℕ) → fault_of c.len a.state i ≡ Some n → numbers_with p c slot i (Some a) ≡ n ∷ []
+fault_numbers : (p : Instructions) (c : CertificateView) (slot : ℕ) (i : Insn) (a : Arrival) (n : ℕ) → fault_of c.least a.state i ≡ Some n → numbers_with p c slot i (Some a) ≡ n ∷ []
 fault_numbers p c slot i a n e = ap (λ o. option_to_list o ++ numbers_of_arrival p c (visit slot i) (if is_none o then Some a else None)) e
 
-pub faulty_least : (p : Instructions) (c : CertificateView) (slot : ℕ) (i : Insn) (a : Arrival) (n m : ℕ) (r : Option (ℕ × ℕ)) → fault_of c.len a.state i ≡ Some n → m ≡ n → IsLeastIn (at slot (number_if m true)) r → IsLeastIn (at slot (numbers_with p c slot i (Some a))) r
+pub faulty_least : (p : Instructions) (c : CertificateView) (slot : ℕ) (i : Insn) (a : Arrival) (n m : ℕ) (r : Option (ℕ × ℕ)) → fault_of c.least a.state i ≡ Some n → m ≡ n → IsLeastIn (at slot (number_if m true)) r → IsLeastIn (at slot (numbers_with p c slot i (Some a))) r
 faulty_least p c slot i a n m r e same h = subst (λ ns. IsLeastIn (at slot ns) r) (sym (fault_numbers p c slot i a n e)) (subst (λ k. IsLeastIn (at slot (number_if k true)) r) same h)
 
-pub faulty_passes : (p : Instructions) (c : CertificateView) (slot : ℕ) (i : Insn) (a : Arrival) (n : ℕ) → fault_of c.len a.state i ≡ Some n → None ≡ passed_with p c slot i (Some a)
+pub faulty_passes : (p : Instructions) (c : CertificateView) (slot : ℕ) (i : Insn) (a : Arrival) (n : ℕ) → fault_of c.least a.state i ≡ Some n → None ≡ passed_with p c slot i (Some a)
 faulty_passes p c slot i a n e = sym (ap (λ o. option_and_then (passed_on p c slot i) (if is_none o then Some a else None)) e)
 
-pub sound_passes : (p : Instructions) (c : CertificateView) (slot : ℕ) (i : Insn) (a : Arrival) (r : Option Arrival) → fault_of c.len a.state i ≡ None → r ≡ passed_on p c slot i a → r ≡ passed_with p c slot i (Some a)
+pub sound_passes : (p : Instructions) (c : CertificateView) (slot : ℕ) (i : Insn) (a : Arrival) (r : Option Arrival) → fault_of c.least a.state i ≡ None → r ≡ passed_on p c slot i a → r ≡ passed_with p c slot i (Some a)
 sound_passes p c slot i a r e h = h ∙ sym (ap (λ o. option_and_then (passed_on p c slot i) (if is_none o then Some a else None)) e)
 
-sound_numbers : (p : Instructions) (c : CertificateView) (slot : ℕ) (i : Insn) (a : Arrival) → fault_of c.len a.state i ≡ None → numbers_with p c slot i (Some a) ≡ number_if 8 (is_not_entailed p c (visit slot i) a) ++ number_if 9 (is_over_budget p c (visit slot i) a) ++ number_if 11 (falls_past_end p c (visit slot i) a)
+sound_numbers : (p : Instructions) (c : CertificateView) (slot : ℕ) (i : Insn) (a : Arrival) → fault_of c.least a.state i ≡ None → numbers_with p c slot i (Some a) ≡ number_if 8 (is_not_entailed p c (visit slot i) a) ++ number_if 9 (is_over_budget p c (visit slot i) a) ++ number_if 11 (falls_past_end p c (visit slot i) a)
 sound_numbers p c slot i a e = ap (λ o. option_to_list o ++ numbers_of_arrival p c (visit slot i) (if is_none o then Some a else None)) e
 
-pub sound_least : (p : Instructions) (c : CertificateView) (slot : ℕ) (i : Insn) (a : Arrival) (x y z : Bool) (r : Option (ℕ × ℕ)) → fault_of c.len a.state i ≡ None → x ≡ is_not_entailed p c (visit slot i) a → y ≡ is_over_budget p c (visit slot i) a → z ≡ falls_past_end p c (visit slot i) a → IsLeastIn (at slot (number_if 8 x) ++ at slot (number_if 9 y) ++ at slot (number_if 11 z)) r → IsLeastIn (at slot (numbers_with p c slot i (Some a))) r
+pub sound_least : (p : Instructions) (c : CertificateView) (slot : ℕ) (i : Insn) (a : Arrival) (x y z : Bool) (r : Option (ℕ × ℕ)) → fault_of c.least a.state i ≡ None → x ≡ is_not_entailed p c (visit slot i) a → y ≡ is_over_budget p c (visit slot i) a → z ≡ falls_past_end p c (visit slot i) a → IsLeastIn (at slot (number_if 8 x) ++ at slot (number_if 9 y) ++ at slot (number_if 11 z)) r → IsLeastIn (at slot (numbers_with p c slot i (Some a))) r
 sound_least p c slot i a x y z r e ex ey ez h = subst (λ ns. IsLeastIn (at slot ns) r) (sym (sound_numbers p c slot i a e)) (least_three slot 8 9 11 _ _ _ x y z r ex ey ez h)
 
 -- ---- a label's own state
@@ -70,4 +70,4 @@ parts p c slot i here x y z w = at slot (number_if 1 x) ++ at slot (numbers_with
 pub visit_refused : (p : Instructions) (c : CertificateView) (slot : ℕ) (i : Insn) (o here : Option Arrival) (x y z w : Bool) (r : Option (ℕ × ℕ)) → x ≡ lacks_label c (visit slot i) → here ≡ arrives c slot o → y ≡ calls_no_deeper c (visit slot i) → z ≡ never_reached c slot o → w ≡ leaves_function p c (visit slot i) → IsLeastIn (parts p c slot i here x y z w) r → IsLeastIn (at slot (numbers_of_visit p c (visit_of c slot i o))) r
 visit_refused p c slot i o here x y z w r ex eh ey ez ew h =
     let same : parts p c slot i here x y z w ≡ parts p c slot i (arrives c slot o) (lacks_label c (visit slot i)) (calls_no_deeper c (visit slot i)) (never_reached c slot o) (leaves_function p c (visit slot i)) = ap (λ k. parts p c slot i here k y z w) ex ∙ ap (λ k. parts p c slot i k (lacks_label c (visit slot i)) y z w) eh ∙ ap (λ k. parts p c slot i (arrives c slot o) (lacks_label c (visit slot i)) k z w) ey ∙ ap (λ k. parts p c slot i (arrives c slot o) (lacks_label c (visit slot i)) (calls_no_deeper c (visit slot i)) k w) ez ∙ ap (λ k. parts p c slot i (arrives c slot o) (lacks_label c (visit slot i)) (calls_no_deeper c (visit slot i)) (never_reached c slot o) k) ew in
-    visit_least slot (number_if 1 (lacks_label c (visit slot i))) (option_to_list (option_and_then (λ a. fault_of c.len a.state i) (arrives c slot o))) (numbers_of_arrival p c (visit slot i) (sound_arrival c i (arrives c slot o))) (number_if 10 (calls_no_deeper c (visit slot i))) (number_if 11 (never_reached c slot o)) (number_if 12 (leaves_function p c (visit slot i))) r (subst (λ l. IsLeastIn l r) same h)
+    visit_least slot (number_if 1 (lacks_label c (visit slot i))) (option_to_list (option_and_then (λ a. fault_of c.least a.state i) (arrives c slot o))) (numbers_of_arrival p c (visit slot i) (sound_arrival c i (arrives c slot o))) (number_if 10 (calls_no_deeper c (visit slot i))) (number_if 11 (never_reached c slot o)) (number_if 12 (leaves_function p c (visit slot i))) r (subst (λ l. IsLeastIn l r) same h)

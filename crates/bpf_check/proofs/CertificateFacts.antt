@@ -1,8 +1,9 @@
 -- What a certificate's order and limits say of what is found in it.
-use Rattle.std.proofs.Common.{◌≡◌, ℕ, ◌+◌, ◌<◌, Bool, true, false, cond, List, [], ◌∷◌, ◌++◌, length, map, get_or, drop, Option, Some, None, refl, sym, ap, subst, ◌∙◌}
+use Rattle.std.proofs.Common.{◌≡◌, ℕ, ◌+◌, ◌<◌, ◌≤◌, arith, Bool, true, false, cond, List, [], ◌∷◌, ◌++◌, length, map, get_or, drop, Option, Some, None, refl, sym, ap, subst, ◌∙◌}
 use Rattle.std.specs.Prelude.{option_map, nat_le, ◌==◌}
 use Rattle.std.specs.List.{list_all, flat_map}
 use Rattle.std.proofs.lemmas.Bool.{and_parts}
+use Rattle.std.proofs.lemmas.Bool.Decides.{nat_tests}
 use Rattle.std.proofs.lemmas.Option.{none-some, same_Some}
 use Rattle.std.proofs.lemmas.List.Folds.{list_all-map}
 use Rattle.std.proofs.lemmas.List.{at_drop_more}
@@ -23,6 +24,12 @@ functions_canonical c valid = (and_parts _ _ (and_parts _ _ valid).0).1
 
 pub functions_limited : (c : CertificateView) → IsCertificate c → list_all is_limited_function c.functions ≡ true
 functions_limited c valid = (and_parts _ _ (and_parts _ _ valid).1).1
+
+pub range_is_one : (c : CertificateView) → IsCertificate c → c.least ≤ c.most
+range_is_one c valid =
+    let header = (and_parts _ _ (and_parts _ _ (and_parts _ _ (and_parts _ _ valid).1).0).0).0 in
+    let ordered : nat_le c.least c.most ≡ true = (and_parts _ _ (and_parts _ _ (and_parts _ _ header).0).0).1 in
+    grind (arith, nat_tests)
 
 pub labels_limited : (f : FunctionView) → is_limited_function f ≡ true → list_all is_limited_label f.labels ≡ true
 labels_limited f limited = (and_parts _ _ limited).1

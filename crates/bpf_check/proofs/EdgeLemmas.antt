@@ -1,6 +1,12 @@
 -- Edges, from the state before an instruction and from the one after it.
 use Rattle.std.proofs.Common.{◌≡◌, ℕ, ◌+◌, ◌<◌, Bool, true, false, ◌||◌, cond, List, [], ◌∷◌, ◌++◌, length, get_or, Option, Some, None, refl, sym, ap, subst, ◌∙◌, rules}
 use Rattle.std.specs.List.{list_any}
+use Rattle.std.specs.Prelude.{count_by}
+use Rattle.std.proofs.lemmas.List.Sums.{sum_by-append}
+use Rattle.bpf_state.specs.Work.{Counts}
+use Rattle.bpf_state.specs.Answer.{edge_told}
+use Rattle.bpf_check.specs.Counting.{counted_times, compared}
+use Rattle.bpf_check.proofs.CountLemmas.{times_more}
 use Rattle.std.proofs.lemmas.Option.{none-some, same_Some}
 use Rattle.bpf_insn.specs.Instruction.{Instructions}
 use Rattle.bpf_insn.specs.declared.instruction.Insn.{Insn}
@@ -43,6 +49,19 @@ any_both p jump slot o s e = list_any-append p jump (edge_to (Some slot) o) ∙ 
     or_false : (b : Bool) → (b || false) ≡ b
     or_false true = refl
     or_false false = refl
+
+-- the comparisons on both
+both_counted : (p : Edge → Bool) (jump : List Edge) (slot : ℕ) (o : Option AbstractState) (s : AbstractState) → Some s ≡ o → count_by p jump + count_by p (record { slot = slot; state = s } ∷ []) ≡ count_by p (jump ++ edge_to (Some slot) o)
+both_counted p jump slot o s e = sym (sum_by-append (λ x. cond (p x) 1 0) jump (edge_to (Some slot) o) ∙ ap (λ q. count_by p jump + count_by p (edge_to (Some slot) q)) (sym e))
+
+pub both_compared : (p : Edge → Bool) (jump : List Edge) (slot count to : ℕ) (o : Option AbstractState) (s : AbstractState) (goes : Bool) (old between new : Counts) → goes ≡ true → edge_told goes s ≡ o → to ≡ slot + count → between ≡ compared (count_by p jump) old → new ≡ compared (count_by p (record { slot = to; state = s } ∷ [])) between → new ≡ compared (count_by p (jump ++ edge_to (Some (slot + count)) o)) old
+both_compared p jump slot count to o s goes old between new is_true told at first second =
+    let there : Some s ≡ o = sym (ap (λ b. edge_told b s) is_true) ∙ told in
+    let more = times_more (count_by p jump) (count_by p (record { slot = slot + count; state = s } ∷ [])) old.comparisons in
+    second
+    ∙ ap (λ n. compared (count_by p (record { slot = n; state = s } ∷ [])) between) at
+    ∙ ap (compared (count_by p (record { slot = slot + count; state = s } ∷ []))) first
+    ∙ ap (λ n. record old { comparisons = n }) (more ∙ ap (λ k. counted_times k old.comparisons) (both_counted p jump (slot + count) o s there))
 
 -- a jump, a call or an EXIT leaves the state
 pub edges_live : (p : Instructions) (c : CertificateView) (slot : ℕ) (i : Insn) (a : Arrival) (s : AbstractState) → after p.order i a.state ≡ Some s → edges p c (visit slot i) a ≡ edges_of c slot i s

@@ -14,6 +14,8 @@ use Rattle.std.proofs.lemmas.Grind.{flat_map-append}
 use Rattle.std.proofs.lemmas.List.{append-nil}
 use Rattle.bpf_check.specs.Least.{IsLeastIn}
 use Rattle.bpf_check.specs.Visits.{passed_with, visit_of}
+use Rattle.bpf_check.specs.Counting.{if_faultless, worked_at, worked_through}
+use Rattle.bpf_state.specs.Work.{Counts}
 use Rattle.bpf_check.proofs.LeastLemmas.{least_right}
 
 abbrev pub flaws_of : Instructions → CertificateView → Visit → List (ℕ × ℕ)
@@ -41,7 +43,7 @@ from_slot p c slot o (i ∷ is) a m =
     (λ r. let h = from_slot p c (slot + slot_count i) (passed_with p c slot i (arrives c slot o)) is a r in omega arith)
     (Contains-append_cases (flaws_of p c (visit_of c slot i o)) (flaws_from p c (slot + slot_count i) (passed_with p c slot i (arrives c slot o)) is) a m)
 
-one_slot : (i : Insn) → 1 ≤ slot_count i
+pub one_slot : (i : Insn) → 1 ≤ slot_count i
 one_slot (Alu op width dst src) = lit≤ tt
 one_slot (Neg width dst) = lit≤ tt
 one_slot (MovSx width bits dst src) = lit≤ tt
@@ -101,27 +103,48 @@ insn_after done rest = ap (λ l. get_or l (slots done) None) (flat_map-append sl
 slots_after : (done : List Insn) (i : Insn) → slots (done ++ i ∷ []) ≡ slots done + slot_count i
 slots_after done i = ap length (flat_map-append slots_of done (i ∷ []) ∙ ap (λ l. layout done ++ l) (append-nil (slots_of i))) ∙ length-append (layout done) (slots_of i)
 
--- ---- the pass at a slot: what was done, what is still to be visited, and that all flaws are there
+-- ---- the work of the visits that are still to come
 
-pub record IsAt (p : Instructions) (c : CertificateView) (slot : ℕ) (o : Option Arrival) : Type 0 where
+no_numbers : (slot : ℕ) (ns : List ℕ) → IsLeastIn (at slot ns) None → ns ≡ []
+no_numbers slot [] none = refl
+no_numbers slot (n ∷ ns) none = absurd (none (slot, n) (0, omega arith, refl))
+
+some_number : (slot : ℕ) (ns : List ℕ) (a : ℕ × ℕ) (onward here : Counts) → IsLeastIn (at slot ns) (Some a) → if_faultless ns onward here ≡ here
+some_number slot [] a onward here h = absurd (none_in_nil a h.0)
+some_number slot (n ∷ ns) a onward here h = refl
+
+abbrev worked_from : Instructions → CertificateView → ℕ → Option Arrival → List Insn → Counts → Counts
+worked_from p c slot o is work = worked_through p c (visits_from p c slot o is) work
+
+goes_on : (p : Instructions) (c : CertificateView) (slot : ℕ) (o : Option Arrival) (i : Insn) (is : List Insn) (work : Counts) → IsLeastIn (flaws_of p c (visit_of c slot i o)) None → worked_from p c slot o (i ∷ is) work ≡ worked_from p c (slot + slot_count i) (passed_with p c slot i (arrives c slot o)) is (worked_at p c (visit_of c slot i o) work)
+goes_on p c slot o i is work none =
+    ap (λ ns. if_faultless ns (worked_from p c (slot + slot_count i) (passed_with p c slot i (arrives c slot o)) is (worked_at p c (visit_of c slot i o) work)) (worked_at p c (visit_of c slot i o) work)) (no_numbers slot (numbers_of_visit p c (visit_of c slot i o)) none)
+
+stops : (p : Instructions) (c : CertificateView) (slot : ℕ) (o : Option Arrival) (i : Insn) (is : List Insn) (work : Counts) (a : ℕ × ℕ) → IsLeastIn (flaws_of p c (visit_of c slot i o)) (Some a) → worked_from p c slot o (i ∷ is) work ≡ worked_at p c (visit_of c slot i o) work
+stops p c slot o i is work a h = some_number slot (numbers_of_visit p c (visit_of c slot i o)) a (worked_from p c (slot + slot_count i) (passed_with p c slot i (arrives c slot o)) is (worked_at p c (visit_of c slot i o) work)) (worked_at p c (visit_of c slot i o) work) h
+
+-- ---- the pass at a slot: what was done, what is still to be visited, and that all flaws are there, and all work
+
+pub record IsAt (p : Instructions) (c : CertificateView) (first : Counts) (slot : ℕ) (o : Option Arrival) (work : Counts) : Type 0 where
   pub done : List Insn
   pub rest : List Insn
   pub split : p.list ≡ done ++ rest
   pub here : slot ≡ slots done
   pub flaws : (r : Option (ℕ × ℕ)) → IsLeastIn (flaws_from p c slot o rest) r → IsLeastIn (flat_map (flaws_of p c) (visits p c)) r
+  pub worked : worked_through p c (visits p c) first ≡ worked_from p c slot o rest work
 
-pub at_start : (p : Instructions) (c : CertificateView) → IsAt p c 0 None
-at_start p c = record { done = []; rest = p.list; split = refl; here = refl; flaws = λ r h. h }
+pub at_start : (p : Instructions) (c : CertificateView) (first : Counts) → IsAt p c first 0 None first
+at_start p c first = record { done = []; rest = p.list; split = refl; here = refl; flaws = λ r h. h; worked = refl }
 
-stands : (p : Instructions) (c : CertificateView) (slot : ℕ) (o : Option Arrival) (w : IsAt p c slot o) → insn_at p.list slot ≡ get_or (layout w.rest) 0 None
-stands p c slot o w = ap (λ l. insn_at l slot) w.split ∙ ap (insn_at (w.done ++ w.rest)) w.here ∙ insn_after w.done w.rest
+stands : (p : Instructions) (c : CertificateView) (first : Counts) (slot : ℕ) (o : Option Arrival) (work : Counts) (w : IsAt p c first slot o work) → insn_at p.list slot ≡ get_or (layout w.rest) 0 None
+stands p c first slot o work w = ap (λ l. insn_at l slot) w.split ∙ ap (insn_at (w.done ++ w.rest)) w.here ∙ insn_after w.done w.rest
 
 abbrev with_rest : (p : Instructions) (c : CertificateView) (slot : ℕ) (o : Option Arrival) → List Insn → Type 0
 with_rest p c slot o rest = (r : Option (ℕ × ℕ)) → IsLeastIn (flaws_from p c slot o rest) r → IsLeastIn (flat_map (flaws_of p c) (visits p c)) r
 
-step_rest : (p : Instructions) (c : CertificateView) (slot : ℕ) (o o' : Option Arrival) (i : Insn) (done rest : List Insn) → Some i ≡ get_or (layout rest) 0 None → p.list ≡ done ++ rest → slot ≡ slots done → with_rest p c slot o rest → IsLeastIn (flaws_of p c (visit_of c slot i o)) None → o' ≡ passed_with p c slot i (arrives c slot o) → IsAt p c (slot + slot_count i) o'
-step_rest p c slot o o' i done [] stand split here flaws none passes = absurd (none-some i (sym stand))
-step_rest p c slot o o' i done (j ∷ js) stand split here flaws none passes =
+step_rest : (p : Instructions) (c : CertificateView) (first : Counts) (slot : ℕ) (o o' : Option Arrival) (work work' : Counts) (i : Insn) (done rest : List Insn) → Some i ≡ get_or (layout rest) 0 None → p.list ≡ done ++ rest → slot ≡ slots done → with_rest p c slot o rest → worked_through p c (visits p c) first ≡ worked_from p c slot o rest work → IsLeastIn (flaws_of p c (visit_of c slot i o)) None → o' ≡ passed_with p c slot i (arrives c slot o) → work' ≡ worked_at p c (visit_of c slot i o) work → IsAt p c first (slot + slot_count i) o' work'
+step_rest p c first slot o o' work work' i done [] stand split here flaws worked none passes counts = absurd (none-some i (sym stand))
+step_rest p c first slot o o' work work' i done (j ∷ js) stand split here flaws worked none passes counts =
     let same : i ≡ j = same_Some i j (stand ∙ first_insn j js) in
     record {
       done = done ++ i ∷ [];
@@ -129,10 +152,13 @@ step_rest p c slot o o' i done (j ∷ js) stand split here flaws none passes =
       split = split ∙ ap (λ k. done ++ k ∷ js) (sym same) ∙ sym (append_assoc done (i ∷ []) js);
       here = ap (λ n. n + slot_count i) here ∙ sym (slots_after done i);
       flaws = λ r h. flaws r (subst (λ k. IsLeastIn (flaws_from p c slot o (k ∷ js)) r) same (least_right (flaws_of p c (visit_of c slot i o)) (flaws_from p c (slot + slot_count i) (passed_with p c slot i (arrives c slot o)) js) r none (subst (λ q. IsLeastIn (flaws_from p c (slot + slot_count i) q js) r) passes h)));
+      worked = worked ∙ ap (λ k. worked_from p c slot o (k ∷ js) work) (sym same) ∙ goes_on p c slot o i js work none ∙ ap (λ q. worked_from p c (slot + slot_count i) q js (worked_at p c (visit_of c slot i o) work)) (sym passes) ∙ ap (worked_from p c (slot + slot_count i) o' js) (sym counts);
     }
 
-pub at_next : (p : Instructions) (c : CertificateView) (slot : ℕ) (o o' : Option Arrival) (i : Insn) → IsAt p c slot o → Some i ≡ insn_at p.list slot → IsLeastIn (flaws_of p c (visit_of c slot i o)) None → o' ≡ passed_with p c slot i (arrives c slot o) → IsAt p c (slot + slot_count i) o'
-at_next p c slot o o' i w stand none passes = step_rest p c slot o o' i w.done w.rest (stand ∙ stands p c slot o w) w.split w.here w.flaws none passes
+pub at_next : (p : Instructions) (c : CertificateView) (first : Counts) (slot : ℕ) (o o' : Option Arrival) (work work' : Counts) (i : Insn) → IsAt p c first slot o work → Some i ≡ insn_at p.list slot → IsLeastIn (flaws_of p c (visit_of c slot i o)) None → o' ≡ passed_with p c slot i (arrives c slot o) → work' ≡ worked_at p c (visit_of c slot i o) work → IsAt p c first (slot + slot_count i) o' work'
+at_next p c first slot o o' work work' i w stand none passes counts = step_rest p c first slot o o' work work' i w.done w.rest (stand ∙ stands p c first slot o work w) w.split w.here w.flaws w.worked none passes counts
+
+-- ---- a flaw is found
 
 stop_rest : (p : Instructions) (c : CertificateView) (slot : ℕ) (o : Option Arrival) (i : Insn) (rest : List Insn) (a : ℕ × ℕ) → Some i ≡ get_or (layout rest) 0 None → with_rest p c slot o rest → IsLeastIn (flaws_of p c (visit_of c slot i o)) (Some a) → IsLeastIn (flat_map (flaws_of p c) (visits p c)) (Some a)
 stop_rest p c slot o i [] a stand flaws h = absurd (none-some i (sym stand))
@@ -140,12 +166,28 @@ stop_rest p c slot o i (j ∷ js) a stand flaws h =
     let same : i ≡ j = same_Some i j (stand ∙ first_insn j js) in
     flaws (Some a) (subst (λ k. IsLeastIn (flaws_from p c slot o (k ∷ js)) (Some a)) same (least_first p c slot o i js a h))
 
-pub at_flaw : (p : Instructions) (c : CertificateView) (slot : ℕ) (o : Option Arrival) (i : Insn) (a : ℕ × ℕ) → IsAt p c slot o → Some i ≡ insn_at p.list slot → IsLeastIn (flaws_of p c (visit_of c slot i o)) (Some a) → IsLeastIn (flat_map (flaws_of p c) (visits p c)) (Some a)
-at_flaw p c slot o i a w stand h = stop_rest p c slot o i w.rest a (stand ∙ stands p c slot o w) w.flaws h
+pub at_flaw : (p : Instructions) (c : CertificateView) (first : Counts) (slot : ℕ) (o : Option Arrival) (work : Counts) (i : Insn) (a : ℕ × ℕ) → IsAt p c first slot o work → Some i ≡ insn_at p.list slot → IsLeastIn (flaws_of p c (visit_of c slot i o)) (Some a) → IsLeastIn (flat_map (flaws_of p c) (visits p c)) (Some a)
+at_flaw p c first slot o work i a w stand h = stop_rest p c slot o i w.rest a (stand ∙ stands p c first slot o work w) w.flaws h
+
+stop_work : (p : Instructions) (c : CertificateView) (slot : ℕ) (o : Option Arrival) (work : Counts) (i : Insn) (rest : List Insn) (a : ℕ × ℕ) → Some i ≡ get_or (layout rest) 0 None → IsLeastIn (flaws_of p c (visit_of c slot i o)) (Some a) → worked_from p c slot o rest work ≡ worked_at p c (visit_of c slot i o) work
+stop_work p c slot o work i [] a stand h = absurd (none-some i (sym stand))
+stop_work p c slot o work i (j ∷ js) a stand h = ap (λ k. worked_from p c slot o (k ∷ js) work) (sym (same_Some i j (stand ∙ first_insn j js))) ∙ stops p c slot o i js work a h
+
+pub work_at_flaw : (p : Instructions) (c : CertificateView) (first : Counts) (slot : ℕ) (o : Option Arrival) (work work' : Counts) (i : Insn) (a : ℕ × ℕ) → IsAt p c first slot o work → Some i ≡ insn_at p.list slot → IsLeastIn (flaws_of p c (visit_of c slot i o)) (Some a) → work' ≡ worked_at p c (visit_of c slot i o) work → work' ≡ worked_through p c (visits p c) first
+work_at_flaw p c first slot o work work' i a w stand h counts = counts ∙ sym (w.worked ∙ stop_work p c slot o work i w.rest a (stand ∙ stands p c first slot o work w) h)
+
+-- ---- the end
 
 end_rest : (p : Instructions) (c : CertificateView) (slot : ℕ) (o : Option Arrival) (rest : List Insn) → None ≡ get_or (layout rest) 0 None → with_rest p c slot o rest → IsLeastIn (flat_map (flaws_of p c) (visits p c)) None
 end_rest p c slot o [] stand flaws = flaws None (λ a m. none_in_nil a m)
 end_rest p c slot o (j ∷ js) stand flaws = absurd (none-some j (stand ∙ first_insn j js))
 
-pub at_last : (p : Instructions) (c : CertificateView) (slot : ℕ) (o : Option Arrival) → IsAt p c slot o → None ≡ insn_at p.list slot → IsLeastIn (flat_map (flaws_of p c) (visits p c)) None
-at_last p c slot o w stand = end_rest p c slot o w.rest (stand ∙ stands p c slot o w) w.flaws
+pub at_last : (p : Instructions) (c : CertificateView) (first : Counts) (slot : ℕ) (o : Option Arrival) (work : Counts) → IsAt p c first slot o work → None ≡ insn_at p.list slot → IsLeastIn (flat_map (flaws_of p c) (visits p c)) None
+at_last p c first slot o work w stand = end_rest p c slot o w.rest (stand ∙ stands p c first slot o work w) w.flaws
+
+end_work : (p : Instructions) (c : CertificateView) (slot : ℕ) (o : Option Arrival) (work : Counts) (rest : List Insn) → None ≡ get_or (layout rest) 0 None → worked_from p c slot o rest work ≡ work
+end_work p c slot o work [] stand = refl
+end_work p c slot o work (j ∷ js) stand = absurd (none-some j (stand ∙ first_insn j js))
+
+pub work_at_last : (p : Instructions) (c : CertificateView) (first : Counts) (slot : ℕ) (o : Option Arrival) (work : Counts) → IsAt p c first slot o work → None ≡ insn_at p.list slot → work ≡ worked_through p c (visits p c) first
+work_at_last p c first slot o work w stand = sym (w.worked ∙ end_work p c slot o work w.rest (stand ∙ stands p c first slot o work w))

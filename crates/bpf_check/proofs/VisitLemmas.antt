@@ -1,10 +1,10 @@
 -- What a visit finds of an instruction that a state reaches.
-use Rattle.std.proofs.Common.{◌≡◌, ℕ, ◌+◌, ◌*◌, ◌^◌, ◌≤◌, Bool, true, false, ◌&&◌, ◌||◌, cond, Option, Some, None, refl, sym, ap, ap₂, ◌∙◌, arith, ℤ}
-use Rattle.std.specs.Prelude.{option_map, is_some, IfSome, Ok, Err, ◌==◌}
+use Rattle.std.proofs.Common.{◌≡◌, ℕ, List, [], count_by, ◌+◌, ◌*◌, ◌^◌, ◌≤◌, Bool, true, false, ◌&&◌, ◌||◌, cond, Option, Some, None, refl, sym, ap, ap₂, ◌∙◌, arith, ℤ}
+use Rattle.std.specs.Prelude.{if◌then◌else◌, is_none, option_map, is_some, IfSome, Ok, Err, ◌==◌}
 use Rattle.std.specs.List.{list_any}
 use Rattle.std.proofs.lemmas.Option.{IfSome_then}
 use Rattle.std.proofs.lemmas.Int.{ints}
-use Rattle.bpf_insn.specs.declared.order.Order.TheVariants.{Little}
+use Rattle.bpf_insn.specs.declared.order.Order.{Order}
 use Rattle.bpf_insn.specs.declared.instruction.Insn.{Insn}
 use Rattle.bpf_insn.specs.declared.instruction.Insn.TheVariants.{Alu, Neg, MovSx, End, LoadImm64, Load, LoadSx, Store, StoreImm, Atomic, Ja, JaLong, JumpIf, CallLocal, Exit}
 use Rattle.std.proofs.Common.{lit≤}
@@ -13,15 +13,19 @@ use Rattle.bpf_state.specs.declared.fault.StateFault.{StateFault}
 use Rattle.bpf_state.specs.State.{AbstractState}
 use Rattle.bpf_state.specs.Fault.{fault_of}
 use Rattle.bpf_state.specs.Transfer.{after, transfer, Faulty, Dead, Live, live, unless}
+use Rattle.bpf_state.specs.Work.{Counts, counted, with_transfer}
 use Rattle.bpf_state.specs.Answer.{fault_number, outcome_told, edge_told}
 use Rattle.bpf_cert.specs.View.{CertificateView, label_view}
-use Rattle.bpf_safety.specs.Flow.{next_state, cost_after}
-use Rattle.bpf_safety.specs.Flaw.{is_refused_by, is_unpaid, enters_wrongly, returns_wrongly, exits_unpaid, is_not_entailed, is_over_budget}
+use Rattle.bpf_safety.specs.Flow.{Arrival, Visit, sound_arrival, next_state, cost_after}
+use Rattle.bpf_safety.specs.Work.{leads_into_label, edges_from, one_if, enters_label, returns_result}
+use Rattle.bpf_safety.specs.Flaw.{Edge, edges, is_refused_by, is_unpaid, enters_wrongly, returns_wrongly, exits_unpaid, is_not_entailed, is_over_budget}
 use Rattle.bpf_check.specs.Slack.{IsWithin}
 use Rattle.bpf_check.specs.Arrivals.{arrival_of, IsReaching}
 use Rattle.bpf_check.specs.Edges.{visit, next_of, edges_of, unpaid_from}
-use Rattle.bpf_check.specs.Visits.{IsJudged}
+use Rattle.bpf_check.specs.Visits.{IsJudged, visit_with}
+use Rattle.bpf_check.specs.Counting.{counted_times, compared, worked_at}
 use Rattle.bpf_check.specs.declared.arrival.Here.{Here}
+use Rattle.bpf_check.proofs.CountLemmas.{times_more}
 use Rattle.bpf_check.proofs.EdgeLemmas.{edges_live, edges_dead, next_live, next_dead}
 
 -- a cost at the next slot fits
@@ -35,8 +39,8 @@ fault_told n (Some m) b e = cc
 fault_told n None None e = cc
 fault_told n None (Some s) e = cc
 
-pub transfer_fault : (i : Insn) (len : ℕ) (s s' : AbstractState) (f : StateFault) → outcome_told (Err f) s' ≡ transfer Little i len s → fault_of len s i ≡ Some (fault_number f)
-transfer_fault i len s s' f e = fault_told (fault_number f) (fault_of len s i) (after Little i s) e
+pub transfer_fault : (order : Order) (i : Insn) (least : ℕ) (s s' : AbstractState) (f : StateFault) → outcome_told (Err f) s' ≡ transfer order i least s → fault_of least s i ≡ Some (fault_number f)
+transfer_fault order i least s s' f e = fault_told (fault_number f) (fault_of least s i) (after order i s) e
 
 alive_told : (s' : AbstractState) (o : Option ℕ) (b : Option AbstractState) → Live s' ≡ unless o (live b) → (o ≡ None) × (b ≡ Some s')
 alive_told s' (Some m) b e = cc
@@ -48,16 +52,13 @@ dead_told (Some m) b e = cc
 dead_told None None e = (refl, refl)
 dead_told None (Some s) e = cc
 
-pub transfer_live : (i : Insn) (len : ℕ) (s s' : AbstractState) (alive : Bool) → alive ≡ true → outcome_told (Ok alive) s' ≡ transfer Little i len s → (fault_of len s i ≡ None) × (after Little i s ≡ Some s')
-transfer_live i len s s' true t e = alive_told s' (fault_of len s i) (after Little i s) e
-transfer_live i len s s' false t e = cc
+pub transfer_live : (order : Order) (i : Insn) (least : ℕ) (s s' : AbstractState) (alive : Bool) → alive ≡ true → outcome_told (Ok alive) s' ≡ transfer order i least s → (fault_of least s i ≡ None) × (after order i s ≡ Some s')
+transfer_live order i least s s' true t e = alive_told s' (fault_of least s i) (after order i s) e
+transfer_live order i least s s' false t e = cc
 
-pub transfer_dead : (i : Insn) (len : ℕ) (s s' : AbstractState) (alive : Bool) → alive ≡ false → outcome_told (Ok alive) s' ≡ transfer Little i len s → (fault_of len s i ≡ None) × (after Little i s ≡ None)
-transfer_dead i len s s' true t e = cc
-transfer_dead i len s s' false t e = dead_told (fault_of len s i) (after Little i s) e
-
-in_order : (p : Instructions) (i : Insn) (s : AbstractState) (o : Option AbstractState) → p.order ≡ Little → after Little i s ≡ o → after p.order i s ≡ o
-in_order p i s o order e = ap (λ q. after q i s) order ∙ e
+pub transfer_dead : (order : Order) (i : Insn) (least : ℕ) (s s' : AbstractState) (alive : Bool) → alive ≡ false → outcome_told (Ok alive) s' ≡ transfer order i least s → (fault_of least s i ≡ None) × (after order i s ≡ None)
+transfer_dead order i least s s' true t e = cc
+transfer_dead order i least s s' false t e = dead_told (fault_of least s i) (after order i s) e
 
 and_false : (b : Bool) → false ≡ (b && false)
 and_false true = refl
@@ -69,12 +70,11 @@ and_true false = refl
 
 -- ---- the three ends of a visit
 
-pub dead_judged : (p : Instructions) (c : CertificateView) (slot : ℕ) (i : Insn) (s : AbstractState) (h : Here) (s' t aside : AbstractState) (alive enters returns exits : Bool) (cost : Option ℤ) → p.order ≡ Little → alive ≡ false → outcome_told (Ok alive) s' ≡ transfer Little i c.len s → cost ≡ cost_after c slot i (arrival_of s h) → enters ≡ enters_wrongly c (visit slot i) (arrival_of s h) → returns ≡ returns_wrongly c (visit slot i) (arrival_of s h) i → exits ≡ exits_unpaid (visit slot i) (arrival_of s h) cost i → IsJudged p c slot i (arrival_of s h) (record { state = t; aside = aside; here = None }) (record { not_entailed = enters || returns; over_budget = exits; past_end = false })
-dead_judged p c slot i s h s' t aside alive enters returns exits cost order dead told spent en re ex =
-    let both = transfer_dead i c.len s s' alive dead told in
-    let none = in_order p i s None order both.1 in
-    let no_next = next_dead p c slot i s none in
-    let no_edge = edges_dead p c slot i (arrival_of s h) none in
+pub dead_judged : (p : Instructions) (c : CertificateView) (slot : ℕ) (i : Insn) (s : AbstractState) (h : Here) (s' t aside : AbstractState) (alive enters returns exits : Bool) (cost : Option ℤ) → alive ≡ false → outcome_told (Ok alive) s' ≡ transfer p.order i c.least s → cost ≡ cost_after c slot i (arrival_of s h) → enters ≡ enters_wrongly c (visit slot i) (arrival_of s h) → returns ≡ returns_wrongly c (visit slot i) (arrival_of s h) i → exits ≡ exits_unpaid (visit slot i) (arrival_of s h) cost i → IsJudged p c slot i (arrival_of s h) (record { state = t; aside = aside; here = None }) (record { not_entailed = enters || returns; over_budget = exits; past_end = false })
+dead_judged p c slot i s h s' t aside alive enters returns exits cost dead told spent en re ex =
+    let both = transfer_dead p.order i c.least s s' alive dead told in
+    let no_next = next_dead p c slot i s both.1 in
+    let no_edge = edges_dead p c slot i (arrival_of s h) both.1 in
     record {
       no_fault = both.0;
       passed = sym (ap (option_map (λ t. record (arrival_of s h) { state = t; cost = cost_after c slot i (arrival_of s h) })) no_next);
@@ -86,26 +86,25 @@ dead_judged p c slot i s h s' t aside alive enters returns exits cost order dead
 
 -- what both ends of a live state share
 record IsShared (p : Instructions) (c : CertificateView) (slot : ℕ) (i : Insn) (s : AbstractState) (h : Here) (s' : AbstractState) (refused unpaid enters returns exits : Bool) (cost : Option ℤ) : Type 0 where
-  no_fault : fault_of c.len s i ≡ None
+  no_fault : fault_of c.least s i ≡ None
   next : next_state p c slot i s ≡ next_of c slot i s'
   not_entailed : ((refused || enters) || returns) ≡ is_not_entailed p c (visit slot i) (arrival_of s h)
   over_budget : (unpaid || exits) ≡ is_over_budget p c (visit slot i) (arrival_of s h)
 
-shared : (p : Instructions) (c : CertificateView) (slot : ℕ) (i : Insn) (s : AbstractState) (h : Here) (s' : AbstractState) (alive refused unpaid enters returns exits : Bool) (cost : Option ℤ) → p.order ≡ Little → alive ≡ true → outcome_told (Ok alive) s' ≡ transfer Little i c.len s → cost ≡ cost_after c slot i (arrival_of s h) → enters ≡ enters_wrongly c (visit slot i) (arrival_of s h) → returns ≡ returns_wrongly c (visit slot i) (arrival_of s h) i → exits ≡ exits_unpaid (visit slot i) (arrival_of s h) cost i → refused ≡ list_any (is_refused_by c) (edges_of c slot i s') → unpaid ≡ list_any (unpaid_from c (label_view h.label.now) cost) (edges_of c slot i s') → IsShared p c slot i s h s' refused unpaid enters returns exits cost
-shared p c slot i s h s' alive refused unpaid enters returns exits cost order is_alive told spent en re ex rf un =
-    let both = transfer_live i c.len s s' alive is_alive told in
-    let there = in_order p i s (Some s') order both.1 in
-    let same = edges_live p c slot i (arrival_of s h) s' there in
+shared : (p : Instructions) (c : CertificateView) (slot : ℕ) (i : Insn) (s : AbstractState) (h : Here) (s' : AbstractState) (alive refused unpaid enters returns exits : Bool) (cost : Option ℤ) → alive ≡ true → outcome_told (Ok alive) s' ≡ transfer p.order i c.least s → cost ≡ cost_after c slot i (arrival_of s h) → enters ≡ enters_wrongly c (visit slot i) (arrival_of s h) → returns ≡ returns_wrongly c (visit slot i) (arrival_of s h) i → exits ≡ exits_unpaid (visit slot i) (arrival_of s h) cost i → refused ≡ list_any (is_refused_by c) (edges_of c slot i s') → unpaid ≡ list_any (unpaid_from c (label_view h.label.now) cost) (edges_of c slot i s') → IsShared p c slot i s h s' refused unpaid enters returns exits cost
+shared p c slot i s h s' alive refused unpaid enters returns exits cost is_alive told spent en re ex rf un =
+    let both = transfer_live p.order i c.least s s' alive is_alive told in
+    let same = edges_live p c slot i (arrival_of s h) s' both.1 in
     record {
       no_fault = both.0;
-      next = next_live p c slot i s s' there;
+      next = next_live p c slot i s s' both.1;
       not_entailed = ap₂ (λ x y. x || y) (ap₂ (λ x y. x || y) (rf ∙ ap (list_any (is_refused_by c)) (sym same)) en) re;
       over_budget = ap₂ (λ x y. x || y) (un ∙ ap (λ o. list_any (unpaid_from c (label_view h.label.now) o) (edges_of c slot i s')) spent ∙ ap (list_any (is_unpaid c (visit slot i) (arrival_of s h))) (sym same)) (ex ∙ ap (λ o. exits_unpaid (visit slot i) (arrival_of s h) o i) spent);
     }
 
-pub stop_judged : (p : Instructions) (c : CertificateView) (slot : ℕ) (i : Insn) (s : AbstractState) (h : Here) (s' s'' t aside : AbstractState) (alive refused unpaid enters returns exits goes : Bool) (cost : Option ℤ) → p.order ≡ Little → alive ≡ true → outcome_told (Ok alive) s' ≡ transfer Little i c.len s → cost ≡ cost_after c slot i (arrival_of s h) → enters ≡ enters_wrongly c (visit slot i) (arrival_of s h) → returns ≡ returns_wrongly c (visit slot i) (arrival_of s h) i → exits ≡ exits_unpaid (visit slot i) (arrival_of s h) cost i → refused ≡ list_any (is_refused_by c) (edges_of c slot i s') → unpaid ≡ list_any (unpaid_from c (label_view h.label.now) cost) (edges_of c slot i s') → edge_told goes s'' ≡ next_of c slot i s' → goes ≡ false → IsJudged p c slot i (arrival_of s h) (record { state = t; aside = aside; here = None }) (record { not_entailed = (refused || enters) || returns; over_budget = unpaid || exits; past_end = false })
-stop_judged p c slot i s h s' s'' t aside alive refused unpaid enters returns exits goes cost order is_alive told spent en re ex rf un leads stops =
-    let all = shared p c slot i s h s' alive refused unpaid enters returns exits cost order is_alive told spent en re ex rf un in
+pub stop_judged : (p : Instructions) (c : CertificateView) (slot : ℕ) (i : Insn) (s : AbstractState) (h : Here) (s' s'' t aside : AbstractState) (alive refused unpaid enters returns exits goes : Bool) (cost : Option ℤ) → alive ≡ true → outcome_told (Ok alive) s' ≡ transfer p.order i c.least s → cost ≡ cost_after c slot i (arrival_of s h) → enters ≡ enters_wrongly c (visit slot i) (arrival_of s h) → returns ≡ returns_wrongly c (visit slot i) (arrival_of s h) i → exits ≡ exits_unpaid (visit slot i) (arrival_of s h) cost i → refused ≡ list_any (is_refused_by c) (edges_of c slot i s') → unpaid ≡ list_any (unpaid_from c (label_view h.label.now) cost) (edges_of c slot i s') → edge_told goes s'' ≡ next_of c slot i s' → goes ≡ false → IsJudged p c slot i (arrival_of s h) (record { state = t; aside = aside; here = None }) (record { not_entailed = (refused || enters) || returns; over_budget = unpaid || exits; past_end = false })
+stop_judged p c slot i s h s' s'' t aside alive refused unpaid enters returns exits goes cost is_alive told spent en re ex rf un leads stops =
+    let all = shared p c slot i s h s' alive refused unpaid enters returns exits cost is_alive told spent en re ex rf un in
     let no_next : next_state p c slot i s ≡ None = all.next ∙ sym leads ∙ ap (λ b. edge_told b s'') stops in
     record {
       no_fault = all.no_fault;
@@ -116,9 +115,9 @@ stop_judged p c slot i s h s' s'' t aside alive refused unpaid enters returns ex
       past_end = and_false (slot + slot_count i == slots p.list) ∙ ap (λ o. (slot + slot_count i == slots p.list) && is_some o) (sym no_next);
     }
 
-pub pass_judged : (p : Instructions) (c : CertificateView) (slot : ℕ) (i : Insn) (s : AbstractState) (h : Here) (s' s'' aside : AbstractState) (alive refused unpaid enters returns exits goes last : Bool) (cost : Option ℤ) → p.order ≡ Little → alive ≡ true → outcome_told (Ok alive) s' ≡ transfer Little i c.len s → cost ≡ cost_after c slot i (arrival_of s h) → enters ≡ enters_wrongly c (visit slot i) (arrival_of s h) → returns ≡ returns_wrongly c (visit slot i) (arrival_of s h) i → exits ≡ exits_unpaid (visit slot i) (arrival_of s h) cost i → refused ≡ list_any (is_refused_by c) (edges_of c slot i s') → unpaid ≡ list_any (unpaid_from c (label_view h.label.now) cost) (edges_of c slot i s') → edge_told goes s'' ≡ next_of c slot i s' → goes ≡ true → last ≡ (slot + slot_count i == slots p.list) → IsReaching (slot + slot_count i) (record h { cost = cost }) → IsJudged p c slot i (arrival_of s h) (record { state = s''; aside = aside; here = Some (record h { cost = cost }) }) (record { not_entailed = (refused || enters) || returns; over_budget = unpaid || exits; past_end = last })
-pass_judged p c slot i s h s' s'' aside alive refused unpaid enters returns exits goes last cost order is_alive told spent en re ex rf un leads continues at_end valid =
-    let all = shared p c slot i s h s' alive refused unpaid enters returns exits cost order is_alive told spent en re ex rf un in
+pub pass_judged : (p : Instructions) (c : CertificateView) (slot : ℕ) (i : Insn) (s : AbstractState) (h : Here) (s' s'' aside : AbstractState) (alive refused unpaid enters returns exits goes last : Bool) (cost : Option ℤ) → alive ≡ true → outcome_told (Ok alive) s' ≡ transfer p.order i c.least s → cost ≡ cost_after c slot i (arrival_of s h) → enters ≡ enters_wrongly c (visit slot i) (arrival_of s h) → returns ≡ returns_wrongly c (visit slot i) (arrival_of s h) i → exits ≡ exits_unpaid (visit slot i) (arrival_of s h) cost i → refused ≡ list_any (is_refused_by c) (edges_of c slot i s') → unpaid ≡ list_any (unpaid_from c (label_view h.label.now) cost) (edges_of c slot i s') → edge_told goes s'' ≡ next_of c slot i s' → goes ≡ true → last ≡ (slot + slot_count i == slots p.list) → IsReaching (slot + slot_count i) (record h { cost = cost }) → IsJudged p c slot i (arrival_of s h) (record { state = s''; aside = aside; here = Some (record h { cost = cost }) }) (record { not_entailed = (refused || enters) || returns; over_budget = unpaid || exits; past_end = last })
+pass_judged p c slot i s h s' s'' aside alive refused unpaid enters returns exits goes last cost is_alive told spent en re ex rf un leads continues at_end valid =
+    let all = shared p c slot i s h s' alive refused unpaid enters returns exits cost is_alive told spent en re ex rf un in
     let next : next_state p c slot i s ≡ Some s'' = all.next ∙ sym leads ∙ ap (λ b. edge_told b s'') continues in
     record {
       no_fault = all.no_fault;
@@ -128,6 +127,42 @@ pass_judged p c slot i s h s' s'' aside alive refused unpaid enters returns exit
       over_budget = all.over_budget;
       past_end = at_end ∙ and_true (slot + slot_count i == slots p.list) ∙ ap (λ o. (slot + slot_count i == slots p.list) && is_some o) (sym next);
     }
+
+-- ---- the work of a visit
+
+edges_with_fault : (p : Instructions) (c : CertificateView) (v : Visit) (i : Insn) (a : Arrival) (n : ℕ) → fault_of c.least a.state i ≡ Some n → edges_from p c v (sound_arrival c i (Some a)) ≡ []
+edges_with_fault p c v i a n e = ap (λ o. edges_from p c v (if is_none o then Some a else None)) e
+
+edges_without : (p : Instructions) (c : CertificateView) (v : Visit) (i : Insn) (a : Arrival) → fault_of c.least a.state i ≡ None → edges_from p c v (sound_arrival c i (Some a)) ≡ edges p c v a
+edges_without p c v i a e = ap (λ o. edges_from p c v (if is_none o then Some a else None)) e
+
+-- the work so far: of the entry state, of the result, and of the transfer
+record IsWorked (c : CertificateView) (slot : ℕ) (i : Insn) (old entered returned transferred : Counts) : Type 0 where
+  enters : entered ≡ compared (one_if (enters_label c (visit slot i))) old
+  returns : returned ≡ compared (one_if (returns_result c (visit slot i) i)) entered
+  transfers : transferred ≡ with_transfer returned
+
+worked_on : (p : Instructions) (c : CertificateView) (slot : ℕ) (i : Insn) (a : Arrival) (old w1 w2 w3 : Counts) (es : List Edge) → IsWorked c slot i old w1 w2 w3 → edges_from p c (visit_with slot i (Some a)) (sound_arrival c i (Some a)) ≡ es → compared (count_by (leads_into_label c) es) w3 ≡ worked_at p c (visit_with slot i (Some a)) old
+worked_on p c slot i a old w1 w2 w3 es w e =
+    let x = one_if (enters_label c (visit slot i)) in
+    let y = one_if (returns_result c (visit slot i) i) in
+    let there : w3 ≡ with_transfer (compared y (compared x old)) = w.transfers ∙ ap with_transfer (w.returns ∙ ap (compared y) w.enters) in
+    let sum : counted_times (count_by (leads_into_label c) es) (counted_times y (counted_times x old.comparisons)) ≡ counted_times (x + y + count_by (leads_into_label c) es) old.comparisons = ap (counted_times (count_by (leads_into_label c) es)) (times_more x y old.comparisons) ∙ times_more (x + y) (count_by (leads_into_label c) es) old.comparisons in
+    ap (compared (count_by (leads_into_label c) es)) there
+    ∙ ap (λ n. record { transfers = counted old.transfers; comparisons = n }) (sum ∙ ap (λ fs. counted_times (x + y + count_by (leads_into_label c) fs) old.comparisons) (sym e))
+
+pub fault_worked : (p : Instructions) (c : CertificateView) (slot : ℕ) (i : Insn) (a : Arrival) (old w1 w2 w3 : Counts) (n : ℕ) → w1 ≡ compared (one_if (enters_label c (visit slot i))) old → w2 ≡ compared (one_if (returns_result c (visit slot i) i)) w1 → w3 ≡ with_transfer w2 → fault_of c.least a.state i ≡ Some n → w3 ≡ worked_at p c (visit_with slot i (Some a)) old
+fault_worked p c slot i a old w1 w2 w3 n e1 e2 e3 fault = worked_on p c slot i a old w1 w2 w3 [] (record { enters = e1; returns = e2; transfers = e3 }) (edges_with_fault p c (visit_with slot i (Some a)) i a n fault)
+
+pub dead_worked : (p : Instructions) (c : CertificateView) (slot : ℕ) (i : Insn) (a : Arrival) (s' : AbstractState) (alive : Bool) (old w1 w2 w3 : Counts) → w1 ≡ compared (one_if (enters_label c (visit slot i))) old → w2 ≡ compared (one_if (returns_result c (visit slot i) i)) w1 → w3 ≡ with_transfer w2 → alive ≡ false → outcome_told (Ok alive) s' ≡ transfer p.order i c.least a.state → w3 ≡ worked_at p c (visit_with slot i (Some a)) old
+dead_worked p c slot i a s' alive old w1 w2 w3 e1 e2 e3 dead told =
+    let both = transfer_dead p.order i c.least a.state s' alive dead told in
+    worked_on p c slot i a old w1 w2 w3 [] (record { enters = e1; returns = e2; transfers = e3 }) (edges_without p c (visit_with slot i (Some a)) i a both.0 ∙ edges_dead p c slot i a both.1)
+
+pub live_worked : (p : Instructions) (c : CertificateView) (slot : ℕ) (i : Insn) (a : Arrival) (s' : AbstractState) (alive : Bool) (old w1 w2 w3 w4 : Counts) → w1 ≡ compared (one_if (enters_label c (visit slot i))) old → w2 ≡ compared (one_if (returns_result c (visit slot i) i)) w1 → w3 ≡ with_transfer w2 → alive ≡ true → outcome_told (Ok alive) s' ≡ transfer p.order i c.least a.state → w4 ≡ compared (count_by (leads_into_label c) (edges_of c slot i s')) w3 → w4 ≡ worked_at p c (visit_with slot i (Some a)) old
+live_worked p c slot i a s' alive old w1 w2 w3 w4 e1 e2 e3 is_alive told e4 =
+    let both = transfer_live p.order i c.least a.state s' alive is_alive told in
+    e4 ∙ worked_on p c slot i a old w1 w2 w3 (edges_of c slot i s') (record { enters = e1; returns = e2; transfers = e3 }) (edges_without p c (visit_with slot i (Some a)) i a both.0 ∙ edges_live p c slot i a s' both.1)
 
 -- ---- the next slot
 

@@ -5,6 +5,7 @@ pub mod Least
 pub mod Edges
 pub mod Arrivals
 pub mod Visits
+pub mod Counting
 pub mod CheckedProgram
 pub mod Runs
 pub mod Verdicts

@@ -16,21 +16,25 @@ use Rattle.bpf_check.specs.declared.visit.Judged.{Judged}
 
 -- an instruction without fault, with what goes on from it and which conditions on its state fail
 pub record IsJudged (p : Instructions) (c : CertificateView) (slot : ℕ) (i : Insn) (a : Arrival) (w : Walk) (j : Judged) : Type 0 where
-  pub no_fault : fault_of c.len a.state i ≡ None
+  pub no_fault : fault_of c.least a.state i ≡ None
   pub passed : walk_of w ≡ passed_on p c slot i a
   pub valid : IfSome w.here (λ h. IsReaching (slot + slot_count i) h)
   pub not_entailed : j.not_entailed ≡ is_not_entailed p c (visit slot i) a
   pub over_budget : j.over_budget ≡ is_over_budget p c (visit slot i) a
   pub past_end : j.past_end ≡ falls_past_end p c (visit slot i) a
 
+-- the visit of an instruction with what reaches it
+abbrev pub visit_with : ℕ → Insn → Option Arrival → Visit
+visit_with slot i here = record { slot = slot; insn = i; arrival = here }
+
 -- the visit of an instruction that is reached by what was passed on
 abbrev pub visit_of : CertificateView → ℕ → Insn → Option Arrival → Visit
-visit_of c slot i passed = record { slot = slot; insn = i; arrival = arrives c slot passed }
+visit_of c slot i passed = visit_with slot i (arrives c slot passed)
 
 -- the numbers of an instruction that need a state
 abbrev pub numbers_with : Instructions → CertificateView → ℕ → Insn → Option Arrival → List ℕ
 numbers_with p c slot i o =
-    option_to_list (option_and_then (λ a. fault_of c.len a.state i) o) ++ numbers_of_arrival p c (visit slot i) (sound_arrival c i o)
+    option_to_list (option_and_then (λ a. fault_of c.least a.state i) o) ++ numbers_of_arrival p c (visit slot i) (sound_arrival c i o)
 
 abbrev pub passed_with : Instructions → CertificateView → ℕ → Insn → Option Arrival → Option Arrival
 passed_with p c slot i o = option_and_then (passed_on p c slot i) (sound_arrival c i o)

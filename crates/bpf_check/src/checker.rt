@@ -2,7 +2,7 @@
 
 ghost use Rattle.std.specs.Prelude.{◌≡◌, IfOk, IfErr};
 ghost use Rattle.bpf_safety.specs.Certified.{IsLeastFlaw};
-ghost use Rattle.bpf_check.specs.CheckedProgram.{checked};
+ghost use Rattle.bpf_check.specs.CheckedProgram.{IsCertifiedBy, checked};
 ghost use Rattle.bpf_check.specs.RefusalNumbers.{refusal_number, refusal_slot};
 
 use crate::checked::Checked;
@@ -13,6 +13,8 @@ use crate::shape::label_flaw;
 use crate::start::start_flaw;
 use bpf_cert::Certificate;
 use bpf_insn::Code;
+use bpf_safety::{certified_work, comparisons_are_few};
+use bpf_state::Work;
 
 /// Judges whether a certificate certifies a program, in one pass over the program and without memory. C1 to C13 at the
 /// lowest slot where a condition fails, and there the lowest number, if it doesn't.
@@ -21,19 +23,24 @@ pub fn check<'a, C: Code>(
     certificate: &'a Certificate,
 ) -> Result<Checked<'a, C>, Refusal>
     ensures ok { IfOk result (λ c. c ≡ checked (C.program program.now) certificate.now) }
+    ensures certified { IfOk result (λ c. IsCertifiedBy (C.program program.now) certificate.now) }
     ensures err { IfErr result (λ r. IsLeastFlaw (C.program program.now) certificate.now (refusal_slot r) (refusal_number r)) }
 {
     // A program and a certificate are valid by themselves.
     let _slots = program.slots();
     certificate.valid();
-    let start = start_flaw(certificate);
-    let visits = visit_flaw(program, certificate);
+    certified_work();
+    comparisons_are_few();
+    let mut work = Work::new();
+    let start = start_flaw(certificate, &mut work);
+    let visits = visit_flaw(program, certificate, &mut work);
     let labels = label_flaw(program, certificate);
     match lesser(lesser(start, visits), labels) {
         Some(refusal) => Err(refusal),
         None => Ok(Checked {
             program,
             certificate,
+            work,
         }),
     }
 }

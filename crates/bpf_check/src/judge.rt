@@ -1,6 +1,6 @@
 //! What is judged with a state: where it leads to, and whether that is paid.
 
-ghost use Rattle.std.specs.Prelude.{◌≡◌, ◌+◌, ◌*◌, ◌^◌, ◌≤◌, IfSome, IsSome, IsTrue, option_and_then};
+ghost use Rattle.std.specs.Prelude.{◌≡◌, ◌+◌, ◌*◌, ◌^◌, ◌≤◌, ◌∷◌, [], count_by, IfSome, IsSome, IsTrue, option_and_then};
 ghost use Rattle.std.specs.List.{list_any};
 ghost use Rattle.bpf_cert.specs.View.{label_view};
 ghost use Rattle.bpf_cert.specs.Limits.{is_limited_label};
@@ -11,15 +11,17 @@ ghost use Rattle.bpf_safety.specs.Flow.{Arrival, label_state, jump_target, jump_
 ghost use Rattle.bpf_safety.specs.Flaw.{is_negative_if, is_refused_by, edge_to, enters_wrongly, returns_wrongly, exits_unpaid};
 ghost use Rattle.bpf_check.specs.Slack.{at_label, IsWithin};
 ghost use Rattle.bpf_check.specs.Arrivals.{arrival_of, IsReaching};
+ghost use Rattle.bpf_safety.specs.Work.{leads_into_label, one_if, enters_label, returns_result};
 ghost use Rattle.bpf_check.specs.Edges.{visit, unpaid_from, next_of, edges_of};
+ghost use Rattle.bpf_check.specs.Counting.{compared};
 
 use crate::arrival::Here;
 use crate::budget::{least_budget, least_slack};
 use crate::edge::{callee, goes_on, jump_target};
 use crate::labels::{function_at, label_at};
 use bpf_cert::{Certificate, Label};
-use bpf_insn::{Insn, Reg};
-use bpf_state::{RegState, State, branch, enter, leave};
+use bpf_insn::Insn;
+use bpf_state::{State, Work, branch, enter, leave};
 
 /// Whether the budget at an old label doesn't cover a cost and the budget at a new one, on an edge between them.
 fn is_unpaid(old: &Label, cost: Option<i128>, edge: &State, new: &Label) -> bool
@@ -54,16 +56,18 @@ pub fn judge_edge(
     state: &State,
     old: &Label,
     cost: Option<i128>,
+    work: &mut Work,
 ) -> EdgeFlaws
     requires old { IsTrue (is_limited_label (label_view old.now)) }
     requires alive { IsSome (label_state (label_view old.now)) }
     requires cost { IfSome cost (λ z. IsWithin (2 ^ 112) z) }
     ensures refused { result.refused ≡ is_refused_by certificate.now (record { slot = to; state = state.now }) }
     ensures unpaid { result.unpaid ≡ unpaid_from certificate.now (label_view old.now) cost (record { slot = to; state = state.now }) }
+    ensures work { work.new ≡ compared (count_by (leads_into_label certificate.now) (record { slot = to; state = state.now } ∷ [])) work.old }
 {
     match label_at(certificate, to) {
         Some(label) => EdgeFlaws {
-            refused: !state.entails(&label.state),
+            refused: !work.entails_counted(state, &label.state),
             unpaid: is_unpaid(old, cost, state, label),
         },
         None => EdgeFlaws {
@@ -80,9 +84,11 @@ pub fn enters_wrongly(
     insn: &Insn,
     state: &State,
     aside: &mut State,
+    work: &mut Work,
 ) -> bool
     requires { slot ≤ 65535 }
-    ensures { (a : Arrival) → a.state ≡ state.now → result ≡ enters_wrongly certificate.now (visit slot insn.now) a }
+    ensures answer { (a : Arrival) → a.state ≡ state.now → result ≡ enters_wrongly certificate.now (visit slot insn.now) a }
+    ensures work { work.new ≡ compared (one_if (enters_label certificate.now (visit slot insn.now))) work.old }
 {
     let Some(function) = callee(certificate, slot, insn) else {
         return false;
@@ -91,21 +97,28 @@ pub fn enters_wrongly(
         Some(label) => {
             aside.copy_from(state);
             enter(aside);
-            !aside.entails(&label.state)
+            !work.entails_counted(aside, &label.state)
         }
         None => false,
     }
 }
 
 /// Whether the result at EXIT doesn't lie in what the function returns.
-pub fn returns_wrongly(certificate: &Certificate, slot: u32, insn: &Insn, state: &State) -> bool
-    ensures { (a : Arrival) → a.state ≡ state.now → result ≡ returns_wrongly certificate.now (visit slot insn.now) a insn.now }
+pub fn returns_wrongly(
+    certificate: &Certificate,
+    slot: u32,
+    insn: &Insn,
+    state: &State,
+    work: &mut Work,
+) -> bool
+    ensures answer { (a : Arrival) → a.state ≡ state.now → result ≡ returns_wrongly certificate.now (visit slot insn.now) a insn.now }
+    ensures work { work.new ≡ compared (one_if (returns_result certificate.now (visit slot insn.now) insn.now)) work.old }
 {
     let Insn::Exit = *insn else {
         return false;
     };
     match function_at(certificate, slot) {
-        Some(function) => !state.reg(Reg::R0).entails(RegState::Num(function.ret)),
+        Some(function) => !work.returns_counted(state, &function.ret),
         None => false,
     }
 }
@@ -137,6 +150,7 @@ pub fn judge_jump(
     aside: &mut State,
     old: &Label,
     cost: Option<i128>,
+    work: &mut Work,
 ) -> EdgeFlaws
     requires here { slot ≤ 65535 }
     requires old { IsTrue (is_limited_label (label_view old.now)) }
@@ -144,6 +158,7 @@ pub fn judge_jump(
     requires cost { IfSome cost (λ z. IsWithin (2 ^ 112) z) }
     ensures refused { result.refused ≡ list_any (is_refused_by certificate.now) (edge_to (jump_target slot insn.now) (jump_state slot insn.now state.now)) }
     ensures unpaid { result.unpaid ≡ list_any (unpaid_from certificate.now (label_view old.now) cost) (edge_to (jump_target slot insn.now) (jump_state slot insn.now state.now)) }
+    ensures work { work.new ≡ compared (count_by (leads_into_label certificate.now) (edge_to (jump_target slot insn.now) (jump_state slot insn.now state.now))) work.old }
 {
     let none = EdgeFlaws {
         refused: false,
@@ -153,11 +168,11 @@ pub fn judge_jump(
         return none;
     };
     let Insn::JumpIf { .. } = *insn else {
-        return judge_edge(certificate, to, state, old, cost);
+        return judge_edge(certificate, to, state, old, cost, work);
     };
     aside.copy_from(state);
     if branch(insn, true, aside) {
-        judge_edge(certificate, to, aside, old, cost)
+        judge_edge(certificate, to, aside, old, cost, work)
     } else {
         none
     }
@@ -188,6 +203,7 @@ pub fn judge_edges(
     aside: &mut State,
     old: &Label,
     cost: Option<i128>,
+    work: &mut Work,
 ) -> (EdgeFlaws, bool)
     requires here { slot ≤ 65535 }
     requires old { IsTrue (is_limited_label (label_view old.now)) }
@@ -196,12 +212,13 @@ pub fn judge_edges(
     ensures refused { result.0.refused ≡ list_any (is_refused_by certificate.now) (edges_of certificate.now slot insn.now state.old) }
     ensures unpaid { result.0.unpaid ≡ list_any (unpaid_from certificate.now (label_view old.now) cost) (edges_of certificate.now slot insn.now state.old) }
     ensures goes { edge_told result.1 state.new ≡ next_of certificate.now slot insn.now state.old }
+    ensures work { work.new ≡ compared (count_by (leads_into_label certificate.now) (edges_of certificate.now slot insn.now state.old)) work.old }
 {
-    let jump = judge_jump(certificate, slot, insn, state, aside, old, cost);
+    let jump = judge_jump(certificate, slot, insn, state, aside, old, cost, work);
     if !go_to_next(certificate, slot, insn, state) {
         return (jump, false);
     }
-    let next = judge_edge(certificate, slot + insn.slots(), state, old, cost);
+    let next = judge_edge(certificate, slot + insn.slots(), state, old, cost, work);
     let both = EdgeFlaws {
         refused: jump.refused || next.refused,
         unpaid: jump.unpaid || next.unpaid,

@@ -7,6 +7,8 @@ ghost use Rattle.bpf_state.specs.Fault.{some_passes};
 ghost use Rattle.bpf_state.specs.Entails.{state_entails};
 ghost use Rattle.bpf_safety.specs.Labels.{label_at};
 ghost use Rattle.bpf_safety.specs.Flaw.{at, number_if, begins_elsewhere, begins_wrongly, starts_over_budget};
+ghost use Rattle.bpf_safety.specs.Work.{compared_at_start};
+ghost use Rattle.bpf_check.specs.Counting.{compared};
 ghost use Rattle.bpf_check.specs.Least.{IsLeastIn};
 ghost use Rattle.bpf_check.specs.RefusalNumbers.{flaw_of};
 
@@ -15,7 +17,7 @@ use crate::labels::label_at;
 use crate::least::{lesser, refused_if};
 use crate::refusal::{Cause, Refusal};
 use bpf_cert::{Certificate, Function};
-use bpf_state::State;
+use bpf_state::{State, Work};
 
 /// No function begins at slot 0.
 fn begins_elsewhere(functions: &[Function]) -> bool
@@ -27,21 +29,31 @@ fn begins_elsewhere(functions: &[Function]) -> bool
     }
 }
 
+/// The state at the start: r2 is the length of a context, from the least to the greatest.
+fn start_state(certificate: &Certificate) -> State
+    ensures { result ≡ start certificate.now.least certificate.now.most }
+{
+    certificate.valid();
+    State::start(certificate.least(), certificate.most())
+}
+
 /// The state at the start doesn't lie in the label at slot 0.
-fn starts_outside(certificate: &Certificate) -> bool
-    ensures { result ≡ some_passes (λ l. not (state_entails (start certificate.now.len) l.state)) (label_at certificate.now 0) }
+fn starts_outside(certificate: &Certificate, work: &mut Work) -> bool
+    ensures answer { result ≡ some_passes (λ l. not (state_entails (start certificate.now.least certificate.now.most) l.state)) (label_at certificate.now 0) }
+    ensures work { work.new ≡ compared (compared_at_start certificate.now) work.old }
 {
     let Some(label) = label_at(certificate, 0) else {
         return false;
     };
-    let start = State::start(certificate.len());
-    !start.entails(&label.state)
+    !work.entails_counted(&start_state(certificate), &label.state)
 }
 
-fn begins_wrongly(certificate: &Certificate) -> bool
-    ensures { result ≡ begins_wrongly certificate.now }
+fn begins_wrongly(certificate: &Certificate, work: &mut Work) -> bool
+    ensures answer { result ≡ begins_wrongly certificate.now }
+    ensures work { work.new ≡ compared (compared_at_start certificate.now) work.old }
 {
-    begins_elsewhere(certificate.functions()) || starts_outside(certificate)
+    let outside = starts_outside(certificate, work);
+    begins_elsewhere(certificate.functions()) || outside
 }
 
 /// The budget at the start may be above the steps that are promised.
@@ -51,18 +63,18 @@ fn starts_over_budget(certificate: &Certificate) -> bool
     let Some(label) = label_at(certificate, 0) else {
         return false;
     };
-    let start = State::start(certificate.len());
-    match greatest_budget(label, &start) {
+    match greatest_budget(label, &start_state(certificate)) {
         Some(most) => i128::from(certificate.steps()) < most,
         None => false,
     }
 }
 
 /// The least flaw at the start: C9 or C13 at slot 0.
-pub fn start_flaw(certificate: &Certificate) -> Option<Refusal>
-    ensures { IsLeastIn (at 0 (number_if 13 (begins_wrongly certificate.now) ++ number_if 9 (starts_over_budget certificate.now))) (option_map flaw_of result) }
+pub fn start_flaw(certificate: &Certificate, work: &mut Work) -> Option<Refusal>
+    ensures refusal { IsLeastIn (at 0 (number_if 13 (begins_wrongly certificate.now) ++ number_if 9 (starts_over_budget certificate.now))) (option_map flaw_of result) }
+    ensures work { work.new ≡ compared (compared_at_start certificate.now) work.old }
 {
-    let misshapen = refused_if(begins_wrongly(certificate), 0, Cause::Misshapen);
+    let misshapen = refused_if(begins_wrongly(certificate, work), 0, Cause::Misshapen);
     let over = refused_if(starts_over_budget(certificate), 0, Cause::OverBudget);
     lesser(misshapen, over)
 }

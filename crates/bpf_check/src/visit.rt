@@ -9,7 +9,8 @@ ghost use Rattle.bpf_safety.specs.Flaw.{at, numbers_of_visit};
 ghost use Rattle.bpf_check.specs.Least.{IsLeastIn};
 ghost use Rattle.bpf_check.specs.RefusalNumbers.{cause_number, flaw_of};
 ghost use Rattle.bpf_check.specs.Arrivals.{arrival_of, walk_of, IsReaching};
-ghost use Rattle.bpf_check.specs.Visits.{IsJudged, numbers_with, passed_with, never_reached, visit_of};
+ghost use Rattle.bpf_check.specs.Visits.{IsJudged, numbers_with, passed_with, never_reached, visit_of, visit_with};
+ghost use Rattle.bpf_check.specs.Counting.{worked_at};
 
 use crate::arrival::{Here, Walk, cost_after, start_at};
 use crate::edge::{calls_no_deeper, lacks_label, leaves_function};
@@ -19,7 +20,7 @@ use crate::least::{lesser, refused_if};
 use crate::refusal::{Cause, Refusal};
 use bpf_cert::Certificate;
 use bpf_insn::{Code, Insn};
-use bpf_state::{StateFault, transfer};
+use bpf_state::{StateFault, Work};
 
 /// What is found of an instruction that a state reaches.
 #[derive(Clone, Copy)]
@@ -37,20 +38,27 @@ fn judge<'a, P: Code>(
     insn: &Insn,
     here: Here<'a>,
     walk: &mut Walk<'a>,
+    work: &mut Work,
 ) -> Result<Judged, StateFault>
     requires slot { slot ≤ 65535 }
     requires valid { IsReaching slot here }
     ensures ok { IfOk result (λ j. IsJudged (P.program program.now) certificate.now slot insn.now (arrival_of walk.old.state here.entry) walk.new j) }
-    ensures err { IfErr result (λ e. fault_of certificate.now.len walk.old.state insn.now ≡ Some (fault_number e)) }
+    ensures err { IfErr result (λ e. fault_of certificate.now.least walk.old.state insn.now ≡ Some (fault_number e)) }
     ensures stops { IfErr result (λ e. walk.new.here ≡ None) }
+    ensures work { work.new ≡ worked_at (P.program program.now) certificate.now (visit_with slot insn.now (Some (arrival_of walk.old.state here.entry))) work.old }
 {
     let last = slot + insn.slots() == program.slots();
     let cost = cost_after(certificate, slot, insn, &here, &walk.state);
     let exits = exits_unpaid(slot, insn, &here, cost);
-    let enters = enters_wrongly(certificate, slot, insn, &walk.state, &mut walk.aside);
-    let returns = returns_wrongly(certificate, slot, insn, &walk.state);
+    let enters = enters_wrongly(certificate, slot, insn, &walk.state, &mut walk.aside, work);
+    let returns = returns_wrongly(certificate, slot, insn, &walk.state, work);
     walk.here = None;
-    let alive = match transfer(insn, certificate.len(), &mut walk.state) {
+    let alive = match work.transfer_counted(
+        insn,
+        certificate.least(),
+        program.order(),
+        &mut walk.state,
+    ) {
         Ok(alive) => alive,
         Err(fault) => return Err(fault),
     };
@@ -69,6 +77,7 @@ fn judge<'a, P: Code>(
         &mut walk.aside,
         here.label,
         cost,
+        work,
     );
     if !goes {
         return Ok(Judged {
@@ -108,17 +117,19 @@ fn visit_arrival<'a, P: Code>(
     slot: u32,
     insn: &Insn,
     walk: &mut Walk<'a>,
+    work: &mut Work,
 ) -> Option<Refusal>
     requires slot { slot ≤ 65535 }
     requires valid { IfSome walk.old.here (λ h. IsReaching slot h) }
     ensures refusal { IsLeastIn (at slot (numbers_with (P.program program.now) certificate.now slot insn.now (walk_of walk.old))) (option_map flaw_of result) }
     ensures passed { walk_of walk.new ≡ passed_with (P.program program.now) certificate.now slot insn.now (walk_of walk.old) }
+    ensures work { work.new ≡ worked_at (P.program program.now) certificate.now (visit_with slot insn.now (walk_of walk.old)) work.old }
     ensures valid { IfSome walk.new.here (λ h. IsReaching (slot + slot_count insn.now) h) }
 {
     let Some(here) = walk.here else {
         return None;
     };
-    match judge(program, certificate, slot, insn, here, walk) {
+    match judge(program, certificate, slot, insn, here, walk, work) {
         Err(fault) => refused_if(true, slot, cause_of(fault)),
         Ok(judged) => {
             let state = refused_if(judged.not_entailed, slot, Cause::NotEntailed);
@@ -153,16 +164,18 @@ pub fn visit<'a, P: Code>(
     slot: u32,
     insn: &Insn,
     walk: &mut Walk<'a>,
+    work: &mut Work,
 ) -> Option<Refusal>
     requires slot { slot ≤ 65535 }
     requires valid { IfSome walk.old.here (λ h. IsReaching slot h) }
     ensures refusal { IsLeastIn (at slot (numbers_of_visit (P.program program.now) certificate.now (visit_of certificate.now slot insn.now (walk_of walk.old)))) (option_map flaw_of result) }
     ensures passed { walk_of walk.new ≡ passed_with (P.program program.now) certificate.now slot insn.now (arrives certificate.now slot (walk_of walk.old)) }
+    ensures work { work.new ≡ worked_at (P.program program.now) certificate.now (visit_of certificate.now slot insn.now (walk_of walk.old)) work.old }
     ensures valid { IfSome walk.new.here (λ h. IsReaching (slot + slot_count insn.now) h) }
 {
     let is_never = arrive(certificate, slot, walk);
     let label = refused_if(lacks_label(certificate, slot, insn), slot, Cause::NoLabel);
-    let refusal = visit_arrival(program, certificate, slot, insn, walk);
+    let refusal = visit_arrival(program, certificate, slot, insn, walk, work);
     let depth = refused_if(
         calls_no_deeper(certificate, slot, insn),
         slot,

@@ -10,31 +10,45 @@ use Rattle.bpf_check.specs.declared.refusal.Refusal.{Refusal}
 use Rattle.bpf_check.specs.Arrivals.{walk_of, IsReaching}
 use Rattle.bpf_check.specs.Least.{IsLeastIn}
 use Rattle.bpf_check.specs.RefusalNumbers.{flaw_of}
+use Rattle.bpf_state.specs.Work.{Counts}
+use Rattle.bpf_check.specs.Counting.{worked_at, worked_through}
 use Rattle.bpf_check.specs.Visits.{visit_of}
-use Rattle.bpf_check.proofs.PassLemmas.{IsAt, flaws_of, at_next, at_flaw, at_last}
+use Rattle.bpf_check.proofs.PassLemmas.{IsAt, flaws_of, at_next, at_flaw, work_at_flaw, at_last, work_at_last}
 use Rattle.bpf_check.proofs.pass.visit_flaw.Goals as goal
 
-refused_here : (p : Instructions) (c : CertificateView) (slot : ℕ) (o : Option Arrival) (i : Insn) (r : Option Refusal) → IsAt p c slot o → Some i ≡ insn_at p.list slot → is_some r ≡ true → IsLeastIn (flaws_of p c (visit_of c slot i o)) (option_map flaw_of r) → IsLeastIn (flat_map (flaws_of p c) (visits p c)) (option_map flaw_of r)
-refused_here p c slot o i None w stand some h = absurd (false≢true some)
-refused_here p c slot o i (Some r) w stand some h = at_flaw p c slot o i (flaw_of r) w stand h
+refused_here : (p : Instructions) (c : CertificateView) (first : Counts) (slot : ℕ) (o : Option Arrival) (work : Counts) (i : Insn) (r : Option Refusal) → IsAt p c first slot o work → Some i ≡ insn_at p.list slot → is_some r ≡ true → IsLeastIn (flaws_of p c (visit_of c slot i o)) (option_map flaw_of r) → IsLeastIn (flat_map (flaws_of p c) (visits p c)) (option_map flaw_of r)
+refused_here p c first slot o work i None w stand some h = absurd (false≢true some)
+refused_here p c first slot o work i (Some r) w stand some h = at_flaw p c first slot o work i (flaw_of r) w stand h
+
+worked_here : (p : Instructions) (c : CertificateView) (first : Counts) (slot : ℕ) (o : Option Arrival) (work work' : Counts) (i : Insn) (r : Option Refusal) → IsAt p c first slot o work → Some i ≡ insn_at p.list slot → is_some r ≡ true → IsLeastIn (flaws_of p c (visit_of c slot i o)) (option_map flaw_of r) → work' ≡ worked_at p c (visit_of c slot i o) work → work' ≡ worked_through p c (visits p c) first
+worked_here p c first slot o work work' i None w stand some h counts = absurd (false≢true some)
+worked_here p c first slot o work work' i (Some r) w stand some h counts = work_at_flaw p c first slot o work work' i (flaw_of r) w stand h counts
 
 not_refused : (xs : List (ℕ × ℕ)) (r : Option Refusal) → is_some r ≡ false → IsLeastIn xs (option_map flaw_of r) → IsLeastIn xs None
 not_refused xs None none h = h
 not_refused xs (Some r) none h = absurd (true≢false none)
 
-pub returns-then-is_some : goal.returns-then-is_some
-returns-then-is_some g c =
+pub returns-then-is_some-clause-refusal : goal.returns-then-is_some-clause-refusal
+returns-then-is_some-clause-refusal g c =
     let some : is_some c.visit-refusal.result ≡ true = search rules in
-    refused_here (g.P.Code.program c.args.program.now) c.args.certificate.now c.visits.slot (walk_of c.visits.walk) c.in-Some.insn c.visit-refusal.result c.visits.invariant.here c.in-Some.ensures some c.visit-refusal.ensures.refusal
+    refused_here (g.P.Code.program c.args.program.now) c.args.certificate.now c.args.work.now c.visits.slot (walk_of c.visits.walk) c.visits.work c.in-Some.insn c.visit-refusal.result c.visits.invariant.here c.in-Some.ensures some c.visit-refusal.ensures.refusal
+
+pub returns-then-is_some-clause-work : goal.returns-then-is_some-clause-work
+returns-then-is_some-clause-work g c =
+    let some : is_some c.visit-refusal.result ≡ true = search rules in
+    worked_here (g.P.Code.program c.args.program.now) c.args.certificate.now c.args.work.now c.visits.slot (walk_of c.visits.walk) c.visits.work _ c.in-Some.insn c.visit-refusal.result c.visits.invariant.here c.in-Some.ensures some c.visit-refusal.ensures.refusal c.visit-refusal.ensures.work
 
 pub visits-preserved : goal.visits-preserved
 visits-preserved g c =
     let none : is_some c.visit-refusal.result ≡ false = search rules in
-    let next = at_next (g.P.Code.program c.args.program.now) c.args.certificate.now c.visits.slot (walk_of c.visits.walk) (walk_of c.visit-refusal.new.walk) c.in-Some.insn c.visits.invariant.here c.in-Some.ensures (not_refused _ c.visit-refusal.result none c.visit-refusal.ensures.refusal) c.visit-refusal.ensures.passed in
+    let next = at_next (g.P.Code.program c.args.program.now) c.args.certificate.now c.args.work.now c.visits.slot (walk_of c.visits.walk) (walk_of c.visit-refusal.new.walk) c.visits.work c.visit-refusal.new.work c.in-Some.insn c.visits.invariant.here c.in-Some.ensures (not_refused _ c.visit-refusal.result none c.visit-refusal.ensures.refusal) c.visit-refusal.ensures.passed c.visit-refusal.ensures.work in
     record {
-      here = subst (λ n. IsAt (g.P.Code.program c.args.program.now) c.args.certificate.now (c.visits.slot + n) (walk_of c.visit-refusal.new.walk)) (sym c.slots-slot.ensures) next;
+      here = subst (λ n. IsAt (g.P.Code.program c.args.program.now) c.args.certificate.now c.args.work.now (c.visits.slot + n) (walk_of c.visit-refusal.new.walk) c.visit-refusal.new.work) (sym c.slots-slot.ensures) next;
       valid = subst (λ n. IfSome c.visit-refusal.new.walk.here (λ h. IsReaching (c.visits.slot + n) h)) (sym c.slots-slot.ensures) c.visit-refusal.ensures.valid;
     }
 
-pub returns : goal.returns
-returns g c = at_last (g.P.Code.program c.args.program.now) c.args.certificate.now c.visits.slot (walk_of c.visits.walk) c.visits.invariant.here c.in_default.ensures
+pub returns-clause-refusal : goal.returns-clause-refusal
+returns-clause-refusal g c = at_last (g.P.Code.program c.args.program.now) c.args.certificate.now c.args.work.now c.visits.slot (walk_of c.visits.walk) c.visits.work c.visits.invariant.here c.in_default.ensures
+
+pub returns-clause-work : goal.returns-clause-work
+returns-clause-work g c = work_at_last (g.P.Code.program c.args.program.now) c.args.certificate.now c.args.work.now c.visits.slot (walk_of c.visits.walk) c.visits.work c.visits.invariant.here c.in_default.ensures

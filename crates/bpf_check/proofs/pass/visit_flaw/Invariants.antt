@@ -7,7 +7,7 @@ use Rattle.bpf_check.proofs.pass.visit_flaw.Given as goal
 
 abbrev pub invariant-visits : goal.invariant-visits
 invariant-visits g l = record {
-  here : IsAt (g.P.Code.program l.program) l.certificate l.slot (walk_of l.walk);
+  here : IsAt (g.P.Code.program l.program) l.certificate l.fn.work l.slot (walk_of l.walk) l.work;
   valid : IfSome l.walk.here (λ h. IsReaching l.slot h);
 }
 
