@@ -1,7 +1,9 @@
 //! Worked certificates and their texts.
 
 use arrayvec::ArrayVec;
-use bpf_cert::{Budget, CertError, Certificate, Function, Label, Measure, Place, Term, write};
+use bpf_cert::{
+    Budget, CertError, Certificate, Function, Label, Measure, Place, Term, migrate, read, write,
+};
 use bpf_insn::Reg;
 use bpf_num::{Num, Unsigned};
 use bpf_state::{Pointer, RegState, SlotState, State, Tag};
@@ -83,18 +85,43 @@ impl Write for Failing {
 
 #[test]
 fn worked_texts(rt: HostRuntime) -> Result<(), Fail> {
-    let certificate = Certificate::new(0, 2, smallest(rt.alloc(), 2, State::blank())?)?;
+    let certificate = Certificate::new(1, 0, 0, 2, smallest(rt.alloc(), 2, State::blank())?)?;
     let mut text = Vec::new(rt.alloc());
     write(&certificate, &mut text)?;
     assert_eq!(rt;
         text.as_slice(),
         b"bpfcert 1 0 2\nfn 0 1 *\nat 0 2\nend\n".as_slice()
     );
-    let certificate = Certificate::new(0, 23, countdown(rt.alloc())?)?;
+    let certificate = Certificate::new(1, 0, 0, 23, countdown(rt.alloc())?)?;
     let mut text = Vec::new(rt.alloc());
     write(&certificate, &mut text)?;
     let expected = b"bpfcert 1 0 23\nfn 0 1 *\nat 0 23\nat 1 2 +2*r6\nr6 u1..10\nend\n";
     assert_eq!(rt; text.as_slice(), expected.as_slice());
+    Ok(())
+}
+
+// The same content as version 2, and once more the same.
+#[test]
+fn migrated_texts(rt: HostRuntime) -> Result<(), Fail> {
+    for (text, expected) in [
+        (
+            "bpfcert 1 0 2\nfn 0 1 *\nat 0 2\nend\n",
+            "bpfcert 2 0 0 2\nfn 0 1 *\nat 0 2\nend\n",
+        ),
+        (
+            "bpfcert 1 16 100\nfn 0 2 *\nat 0 50 +1*r0 +2*(4-r6)\nr0 *\nr6 s-9..-1\ns2 k0/1\nat 3 1\nfn 65535 1 u0..7\nat 65535 1\nr1 ctx0..12\nend\n",
+            "bpfcert 2 16 16 100\nfn 0 2 *\nat 0 50 +1*r0 +2*(4-r6)\nr0 *\nr6 s-9..-1\ns2 k0/1\nat 3 1\nfn 65535 1 u0..7\nat 65535 1\nr1 ctx0..12\nend\n",
+        ),
+        (
+            "bpfcert 2 4 4096 2\nfn 0 1 *\nat 0 2\nr1 ctx0..0\nend\n",
+            "bpfcert 2 4 4096 2\nfn 0 1 *\nat 0 2\nr1 ctx0..0\nend\n",
+        ),
+    ] {
+        let certificate = migrate(rt.alloc(), &read(rt.alloc(), text.as_bytes())?)?;
+        let mut written = Vec::new(rt.alloc());
+        write(&certificate, &mut written)?;
+        assert_eq!(rt; written.as_slice(), expected.as_bytes());
+    }
     Ok(())
 }
 
@@ -106,13 +133,24 @@ fn places_and_pointers(rt: HostRuntime) -> Result<(), Fail> {
     state.set_slot(1, SlotState::Bytes(254));
     state.set_slot(2, SlotState::Word(Num::constant(5)));
     state.set_slot(64, SlotState::Ptr(Pointer::Frame { lo: -8, hi: -8 }));
-    let certificate = Certificate::new(4096, 9, smallest(rt.alloc(), 9, state)?)?;
+    let certificate = Certificate::new(1, 4096, 4096, 9, smallest(rt.alloc(), 9, state)?)?;
     let mut text = Vec::new(rt.alloc());
     write(&certificate, &mut text)?;
     let expected =
         b"bpfcert 1 4096 9\nfn 0 1 *\nat 0 9\nr1 ctx0..12\nr9 fp-512..0\ns1 b254\ns2 u5..5,s5..5,k5/0\ns64 fp-8..-8\nend\n";
     assert_eq!(rt; text.as_slice(), expected.as_slice());
     Ok(())
+}
+
+// parts, and the number of their refusal
+#[derive(Drop)]
+struct Parts {
+    version: u32,
+    least: u32,
+    most: u32,
+    steps: u32,
+    state: State,
+    number: u8,
 }
 
 #[test]
@@ -127,16 +165,85 @@ fn refused_parts(rt: HostRuntime) -> Result<(), Fail> {
             hi: 0x8000_0001,
         },
     );
-    for (len, steps, state, number) in [
-        (4097, 2, State::blank(), 3),
-        (0, 0, State::blank(), 3),
-        (0, 2, far, 3),
-        (4097, 0, tagged, 2),
+    for row in [
+        Parts {
+            version: 1,
+            least: 4097,
+            most: 4097,
+            steps: 2,
+            state: State::blank(),
+            number: 3,
+        },
+        Parts {
+            version: 1,
+            least: 0,
+            most: 0,
+            steps: 0,
+            state: State::blank(),
+            number: 3,
+        },
+        Parts {
+            version: 1,
+            least: 0,
+            most: 0,
+            steps: 2,
+            state: far,
+            number: 3,
+        },
+        Parts {
+            version: 0,
+            least: 4097,
+            most: 4096,
+            steps: 0,
+            state: tagged,
+            number: 2,
+        },
+        Parts {
+            version: 1,
+            least: 3,
+            most: 4,
+            steps: 2,
+            state: State::blank(),
+            number: 3,
+        },
+        Parts {
+            version: 2,
+            least: 5,
+            most: 4,
+            steps: 2,
+            state: State::blank(),
+            number: 3,
+        },
+        Parts {
+            version: 2,
+            least: 0,
+            most: 4097,
+            steps: 2,
+            state: State::blank(),
+            number: 3,
+        },
+        Parts {
+            version: 0,
+            least: 0,
+            most: 0,
+            steps: 2,
+            state: State::blank(),
+            number: 3,
+        },
+        Parts {
+            version: 3,
+            least: 0,
+            most: 0,
+            steps: 2,
+            state: State::blank(),
+            number: 3,
+        },
     ] {
-        let functions = smallest(rt.alloc(), 2, state)?;
-        match Certificate::new(len, steps, functions) {
-            Ok(_) => assert!(rt; false, "length {len}, steps {steps}"),
-            Err(error) => assert_eq!(rt; (error.number(), error.line()), (number, 0)),
+        let (version, least, most) = (row.version, row.least, row.most);
+        let functions = smallest(rt.alloc(), 2, row.state)?;
+        match Certificate::new(version, least, most, row.steps, functions) {
+            Ok(_) => assert!(rt; false, "version {version}, {least} to {most}"),
+            Err(error) => assert_eq!(rt; (error.number(), error.line()), (row.number, 0)),
         }
     }
     Ok(())
@@ -145,7 +252,7 @@ fn refused_parts(rt: HostRuntime) -> Result<(), Fail> {
 #[test]
 fn failing_writer(rt: HostRuntime) -> Result<(), Fail> {
     let text = b"bpfcert 1 0 2\nfn 0 1 *\nat 0 2\nend\n";
-    let certificate = Certificate::new(0, 2, smallest(rt.alloc(), 2, State::blank())?)?;
+    let certificate = Certificate::new(1, 0, 0, 2, smallest(rt.alloc(), 2, State::blank())?)?;
     for writes in 0..14usize {
         let mut out = Failing {
             taken: Vec::new(rt.alloc()),

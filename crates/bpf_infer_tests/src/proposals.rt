@@ -4,7 +4,7 @@ ghost use Rattle.std.specs.Prelude.{◌≤◌};
 
 use bpf_cert::{Certificate, Measure, Place};
 use bpf_infer::{InferError, infer};
-use bpf_insn::{AluOp, Cond, Insn, Operand, Program, Reg, Size, Width};
+use bpf_insn::{AluOp, Cond, Insn, Operand, Order, Program, Reg, Size, Width};
 use std::alloc::Global;
 use std::test::Fail;
 
@@ -83,24 +83,26 @@ fn store_word(dst: Reg, off: i16, src: Reg) -> Insn {
 fn proposed(
     alloc: Global,
     insns: &[Insn],
-    len: u32,
+    least: u32,
+    most: u32,
 ) -> Result<Result<Certificate, InferError>, Fail>
-    requires { len ≤ 4096 }
+    requires order { least ≤ most }
+    requires short { most ≤ 4096 }
 {
-    let program = Program::new(alloc, Vec::from_slice(alloc, insns)?)?;
-    Ok(infer(alloc, &program, len))
+    let program = Program::new(alloc, Vec::from_slice(alloc, insns)?, Order::Little)?;
+    Ok(infer(alloc, &program, least, most))
 }
 
 fn bound(alloc: Global, insns: &[Insn], len: u32) -> Result<u32, Fail>
     requires { len ≤ 4096 }
 {
-    Ok(proposed(alloc, insns, len)??.steps())
+    Ok(proposed(alloc, insns, len, len)??.steps())
 }
 
 fn refusal(alloc: Global, insns: &[Insn], len: u32) -> Result<InferError, Fail>
     requires { len ≤ 4096 }
 {
-    match proposed(alloc, insns, len)? {
+    match proposed(alloc, insns, len, len)? {
         Ok(_) => Err("a proposal".into()),
         Err(error) => Ok(error),
     }
@@ -139,9 +141,10 @@ fn a_falling_loop(rt: HostRuntime) -> Result<(), Fail> {
         set(Reg::R0, 0),
         Insn::Exit,
     ];
-    let certificate = proposed(alloc, &insns, 0)??;
+    let certificate = proposed(alloc, &insns, 0, 0)??;
+    assert_eq!(rt; certificate.version(), 2);
     assert_eq!(rt; certificate.steps(), 23);
-    assert_eq!(rt; certificate.len(), 0);
+    assert_eq!(rt; (certificate.least(), certificate.most()), (0, 0));
     let functions = certificate.functions();
     assert_eq!(rt; functions.len(), 1);
     let labels = functions[0].labels.as_slice();
@@ -249,6 +252,31 @@ fn a_loop_down_the_context(rt: HostRuntime) -> Result<(), Fail> {
         condition: 11,
     };
     assert_eq!(rt; refusal(alloc, &insns, 0)?, fault);
+    Ok(())
+}
+
+// contexts of several lengths; a byte of the context is there if it is in the shortest
+#[test]
+fn ranges_of_lengths(rt: HostRuntime) -> Result<(), Fail> {
+    let alloc = rt.alloc();
+    let down = [
+        set(Reg::R0, 0),
+        jump_if(Reg::R2, Cond::Eq, 0, 2),
+        add(Reg::R2, -1),
+        jump_if(Reg::R2, Cond::Ne, 0, -2),
+        Insn::Exit,
+    ];
+    let certificate = proposed(alloc, &down, 0, 4096)??;
+    assert_eq!(rt; certificate.version(), 2);
+    assert_eq!(rt; (certificate.least(), certificate.most()), (0, 4096));
+    assert_eq!(rt; certificate.steps(), 8195);
+    let fourth = [load_byte(Reg::R0, Reg::R1, 3), Insn::Exit];
+    assert_eq!(rt; proposed(alloc, &fourth, 4, 4096)??.steps(), 2);
+    let fault = InferError::Fault {
+        slot: 0,
+        condition: 5,
+    };
+    assert!(rt; proposed(alloc, &fourth, 3, 4096)?.is_err_and(|error| error == fault));
     Ok(())
 }
 
