@@ -6,7 +6,8 @@ use Rattle.std.proofs.lemmas.Slice.Eq.{bytes_eq-Decides}
 use Rattle.bpf_insn.specs.declared.instruction.Insn.{Insn}
 use Rattle.bpf_text.specs.declared.error.TextError.{TextError}
 use Rattle.bpf_text.specs.declared.error.TextError.TheVariants.{DefinedAgain}
-use Rattle.bpf_text.specs.Assembly.{Label, Said, Source, slot_of, redefined, insn_of, insn_said, jump_from, linked, onto, and_then, instructions_of}
+use Rattle.bpf_text.specs.Sources.{Label, Said, Source}
+use Rattle.bpf_text.specs.Assembly.{slot_of, redefined, insn_of, insn_said, jump_from, linked, onto, and_then, instructions_of}
 use Rattle.bpf_text.specs.Statements.{Statement, plain, to_label}
 
 none_there : (a : Bool) (x : ℕ) (o : Option ℕ) → cond a (Some x) o ≡ None → (a ≡ false) × (o ≡ None)

@@ -33,11 +33,15 @@ use Rattle.bpf_text.specs.declared.spelling.Keyword.TheVariants as keyword
 use Rattle.bpf_text.specs.declared.statement.Jump.{Jump}
 use Rattle.bpf_text.specs.declared.statement.Jump.TheVariants.{Goto as ToSlot, GotoLong as FarToSlot, Call as CallSlot, If as OnTest}
 use Rattle.bpf_text.specs.Parts.{register, swap, operations, conditions, modifications, extensions, swaps, memories, keywords, swap_spelling, memory_text, keyword_text}
-use Rattle.bpf_text.specs.Tokens.{is_digit, word_value, value_after, value_up_to}
+use Rattle.bpf_text.specs.Characters.{is_digit}
+use Rattle.bpf_text.specs.Numerals.{word_value, value_after, value_up_to}
 use Rattle.bpf_text.specs.Spelling.{register_text, operation_text, cond_text, modify_text, sign_bits_text, swap_text}
 use Rattle.bpf_text.specs.Statements.{plain, to_label}
-use Rattle.bpf_text.specs.Reading.{fits_32, fits_wide, is_extension, load_of, store_of, wide_of}
-use Rattle.bpf_text.specs.Grammar.{Token, tokens, Numeral, Number, number_value, constant_tokens, signed_tokens, Name, Source, Address, Target, one_word, source_tokens, address_tokens, target_tokens, atomic_marks, is_loaded, Form, form_tokens, form_said, source_said, offset_said, target_said, branch_said}
+use Rattle.bpf_text.specs.Numerals.{fits_32, fits_wide}
+use Rattle.bpf_text.specs.Statements.{is_extension, load_of, store_of}
+use Rattle.bpf_text.specs.StatementReading.{wide_of}
+use Rattle.bpf_text.specs.Grammar.{Token, tokens, Numeral, Number, number_value, constant_tokens, signed_tokens, Name, Address, Target, one_word, operand_tokens, address_tokens, target_tokens, atomic_marks, is_loaded, Form, form_tokens, form_said, operand_said, offset_said, target_said, branch_said}
+use Rattle.bpf_text.specs.Grammar.{OperandForm}
 use Rattle.bpf_text.specs.Grammar.Token.{word, mark}
 use Rattle.bpf_text.proofs.TokenReading.{unsigned_t, number_t, signed_t, any_register_t, register_t, operand_t, constant_t, negative_t, extension_t, place_t, load_t, swap_t, assigned_t, operation_t, assignment_t, store_t, change_t, exchange_t, atomic_t, name_t, target_t, test_t, branch_t, plainly_t, keyword_t, statement_t, whole_t}
 use Rattle.bpf_insn.specs.declared.instruction.Cond.TheVariants.{Eq, Gt, Ge, Set, Ne, SGt, SGe, Lt, Le, SLt, SLe}
@@ -297,15 +301,15 @@ unfolding register_t any_register_t first_t strip word_t mark_t
 no_register_before width true n ts = refl
 no_register_before width false n ts = (alone n ts).register width
 
-source_here : (width : Width) (src : Source) (ts : List Token) → operand_t width (source_tokens width src ++ ts) ≡ Some (source_said src, ts)
+operand_here : (width : Width) (src : OperandForm) (ts : List Token) → operand_t width (operand_tokens width src ++ ts) ≡ Some (operand_said src, ts)
 unfolding operand_t
-source_here width (Source.register r) ts = rw (register_here width r ts) refl
-source_here width (Source.constant n) ts = rw (no_register_before width n.minus n.numeral ts, number_of n.minus n.numeral ts) refl
+operand_here width (OperandForm.register r) ts = rw (register_here width r ts) refl
+operand_here width (OperandForm.constant n) ts = rw (no_register_before width n.minus n.numeral ts, number_of n.minus n.numeral ts) refl
 
-no_equals : (width : Width) (src : Source) (ts : List Token) → mark_t 61 (source_tokens width src ++ ts) ≡ None
+no_equals : (width : Width) (src : OperandForm) (ts : List Token) → mark_t 61 (operand_tokens width src ++ ts) ≡ None
 unfolding mark_t
-no_equals width (Source.register r) ts = refl
-no_equals width (Source.constant n) ts = go n.minus
+no_equals width (OperandForm.register r) ts = refl
+no_equals width (OperandForm.constant n) ts = go n.minus
   where
     go : (minus : Bool) → mark_t 61 (cond minus (mark 45 ∷ word n.numeral.digits ∷ []) (word n.numeral.digits ∷ []) ++ ts) ≡ None
     go true = refl
@@ -378,9 +382,9 @@ moved_constant : (width : Width) (dst : Reg) (o : Option ℤ) → option_map (λ
 moved_constant width dst None = refl
 moved_constant width dst (Some z) = refl
 
-moved : (width : Width) (dst : Reg) (src : Source) → assigned_t width dst (source_tokens width src ++ []) ≡ Some (option_map (λ s. Alu Mov width dst s) (source_said src), [])
-moved width dst (Source.register r) = register_assigned width dst r []
-moved width dst (Source.constant n) = number_assigned width dst n.minus n.numeral [] ∙ short_constant width dst (number_value n) ∙ ap (λ o. Some (o, [])) (moved_constant width dst (fits_32 (number_value n)))
+moved : (width : Width) (dst : Reg) (src : OperandForm) → assigned_t width dst (operand_tokens width src ++ []) ≡ Some (option_map (λ s. Alu Mov width dst s) (operand_said src), [])
+moved width dst (OperandForm.register r) = register_assigned width dst r []
+moved width dst (OperandForm.constant n) = number_assigned width dst n.minus n.numeral [] ∙ short_constant width dst (number_value n) ∙ ap (λ o. Some (o, [])) (moved_constant width dst (fits_32 (number_value n)))
 
 negated : (width : Width) (dst : Reg) (ts : List Token) → assigned_t width dst (mark 45 ∷ word (register_text width dst) ∷ ts) ≡ Some (Some (Neg width dst), ts)
 unfolding assigned_t negative_t
@@ -406,20 +410,20 @@ loaded memory dst a ts is =
 
 -- ---- statements in front of which a register stands
 
-calculated : (op : AluOp) (width : Width) (dst : Reg) (src : Source) → operation_t width dst op (source_tokens width src ++ []) ≡ Some (option_map (λ s. Alu op width dst s) (source_said src), [])
-calculated Add width dst src = rw (source_here width src []) refl
-calculated Sub width dst src = rw (source_here width src []) refl
-calculated Mul width dst src = rw (source_here width src []) refl
-calculated Div width dst src = rw (source_here width src []) refl
-calculated SDiv width dst src = rw (source_here width src []) refl
-calculated Or width dst src = rw (source_here width src []) refl
-calculated And width dst src = rw (source_here width src []) refl
-calculated Lsh width dst src = rw (source_here width src []) refl
-calculated Rsh width dst src = rw (source_here width src []) refl
-calculated Mod width dst src = rw (source_here width src []) refl
-calculated SMod width dst src = rw (source_here width src []) refl
-calculated Xor width dst src = rw (source_here width src []) refl
-calculated Arsh width dst src = rw (source_here width src []) refl
+calculated : (op : AluOp) (width : Width) (dst : Reg) (src : OperandForm) → operation_t width dst op (operand_tokens width src ++ []) ≡ Some (option_map (λ s. Alu op width dst s) (operand_said src), [])
+calculated Add width dst src = rw (operand_here width src []) refl
+calculated Sub width dst src = rw (operand_here width src []) refl
+calculated Mul width dst src = rw (operand_here width src []) refl
+calculated Div width dst src = rw (operand_here width src []) refl
+calculated SDiv width dst src = rw (operand_here width src []) refl
+calculated Or width dst src = rw (operand_here width src []) refl
+calculated And width dst src = rw (operand_here width src []) refl
+calculated Lsh width dst src = rw (operand_here width src []) refl
+calculated Rsh width dst src = rw (operand_here width src []) refl
+calculated Mod width dst src = rw (operand_here width src []) refl
+calculated SMod width dst src = rw (operand_here width src []) refl
+calculated Xor width dst src = rw (operand_here width src []) refl
+calculated Arsh width dst src = rw (operand_here width src []) refl
 calculated Mov width dst src = moved width dst src
 
 assigns : (width : Width) (dst : Reg) (op : AluOp) (ts : List Token) (i : Option Insn) → operation_t width dst op ts ≡ Some (i, []) → statement_t (word (register_text width dst) ∷ (tokens (operation_text op) ++ ts)) ≡ Some (option_map plain i, [])
@@ -436,14 +440,14 @@ equals_first : (ts : List Token) → mark_t 61 (mark 61 ∷ ts) ≡ Some ts
 unfolding mark_t
 equals_first ts = refl
 
-store_here : (size : Size) (a : Address) (src : Source) → store_t (address_tokens (Unsigned size) a ++ (mark 61 ∷ (source_tokens W64 src ++ []))) ≡ Some (store_of size a.base (offset_said a) (source_said src), [])
+store_here : (size : Size) (a : Address) (src : OperandForm) → store_t (address_tokens (Unsigned size) a ++ (mark 61 ∷ (operand_tokens W64 src ++ []))) ≡ Some (store_of size a.base (offset_said a) (operand_said src), [])
 unfolding store_t
-store_here size a src = rw (place_here (Unsigned size) a (mark 61 ∷ (source_tokens W64 src ++ [])) refl, equals_first (source_tokens W64 src ++ []), source_here W64 src []) refl
+store_here size a src = rw (place_here (Unsigned size) a (mark 61 ∷ (operand_tokens W64 src ++ [])) refl, equals_first (operand_tokens W64 src ++ []), operand_here W64 src []) refl
 
-stores : (size : Size) (a : Address) (src : Source) → statement_t (address_tokens (Unsigned size) a ++ (mark 61 ∷ (source_tokens W64 src ++ []))) ≡ Some (option_map plain (store_of size a.base (offset_said a) (source_said src)), [])
+stores : (size : Size) (a : Address) (src : OperandForm) → statement_t (address_tokens (Unsigned size) a ++ (mark 61 ∷ (operand_tokens W64 src ++ []))) ≡ Some (option_map plain (store_of size a.base (offset_said a) (operand_said src)), [])
 unfolding statement_t
 stores size a src =
-    let behind = mark 40 ∷ word (memory_text (Unsigned size)) ∷ mark 42 ∷ mark 41 ∷ mark 40 ∷ word (register_text W64 a.base) ∷ (signed_tokens a.off ++ mark 41 ∷ (mark 61 ∷ (source_tokens W64 src ++ []))) in
+    let behind = mark 40 ∷ word (memory_text (Unsigned size)) ∷ mark 42 ∷ mark 41 ∷ mark 40 ∷ word (register_text W64 a.base) ∷ (signed_tokens a.off ++ mark 41 ∷ (mark 61 ∷ (operand_tokens W64 src ++ []))) in
     rw ((star_ahead behind).0, (star_ahead behind).1, store_here size a src) refl
 
 wide_there : (wide : Bool) → wide_of (Unsigned (word_size wide)) ≡ Some wide
@@ -530,18 +534,18 @@ goto_first : (ts : List Token) → strip (tokens (codes "goto")) (word (codes "g
 unfolding strip word_t
 goto_first ts = refl
 
-branch_here : (test : Cond) (width : Width) (dst : Reg) (src : Source) (target : Target) → branch_t (word (register_text width dst) ∷ branch_tokens test width src target []) ≡ Some (branch_said test width dst (source_said src) target, [])
+branch_here : (test : Cond) (width : Width) (dst : Reg) (src : OperandForm) (target : Target) → branch_t (word (register_text width dst) ∷ branch_tokens test width src target []) ≡ Some (branch_said test width dst (operand_said src) target, [])
 unfolding branch_t
 branch_here test width dst src target =
     let goes = word (codes "goto") ∷ (target_tokens target ++ []) in
-    let tested = source_tokens width src ++ goes in
-    rw (register_found width dst (tokens (cond_text test) ++ tested), cond_here test tested (no_equals width src goes), source_here width src goes, goto_first (target_tokens target ++ []), test_here test width dst (source_said src) target) refl
+    let tested = operand_tokens width src ++ goes in
+    rw (register_found width dst (tokens (cond_text test) ++ tested), cond_here test tested (no_equals width src goes), operand_here width src goes, goto_first (target_tokens target ++ []), test_here test width dst (operand_said src) target) refl
 
 -- ---- forms
 
 -- the tokens of a form with nothing behind them, grouped as they are read
 form_read : (form : Form) → statement_t (form_tokens form ++ []) ≡ Some (form_said form, [])
-form_read (Form.calculate op width dst src) = ap (λ z. statement_t (word (register_text width dst) ∷ z)) (append_assoc (tokens (operation_text op)) (source_tokens width src) []) ∙ assigns width dst op (source_tokens width src ++ []) (option_map (λ s. Alu op width dst s) (source_said src)) (calculated op width dst src)
+form_read (Form.calculate op width dst src) = ap (λ z. statement_t (word (register_text width dst) ∷ z)) (append_assoc (tokens (operation_text op)) (operand_tokens width src) []) ∙ assigns width dst op (operand_tokens width src ++ []) (option_map (λ s. Alu op width dst s) (operand_said src)) (calculated op width dst src)
 form_read (Form.negate width dst) = assigns width dst Mov (mark 45 ∷ word (register_text width dst) ∷ []) (Some (Neg width dst)) (negated width dst [])
 form_read (Form.extend width bits is dst src) = assigns width dst Mov (mark 40 ∷ word (sign_bits_text bits) ∷ mark 41 ∷ word (register_text width src) ∷ []) (Some (MovSx width bits dst src)) (extended width bits dst src [] is)
 form_read (Form.swap kind bits dst) = assigns W64 dst Mov (word (swap_text kind bits) ∷ word (register_text W64 dst) ∷ []) (Some (End kind bits dst)) (swapped kind bits dst [])

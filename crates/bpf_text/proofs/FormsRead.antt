@@ -36,11 +36,16 @@ use Rattle.bpf_text.specs.declared.statement.Place.{Place}
 use Rattle.bpf_text.specs.declared.statement.Jump.{Jump}
 use Rattle.bpf_text.specs.declared.statement.Jump.TheVariants.{Goto as ToSlot, GotoLong as FarToSlot, Call as CallSlot, If as OnTest}
 use Rattle.bpf_text.specs.Parts.{registers, operations, conditions, modifications, extensions, swaps, memories, keywords, register_spelling, swap_spelling, memory_text, keyword_text}
-use Rattle.bpf_text.specs.Tokens.{◌>>=◌, or_else, word_value}
+use Rattle.bpf_text.specs.WordReading.{◌>>=◌, or_else}
+use Rattle.bpf_text.specs.Numerals.{word_value}
 use Rattle.bpf_text.specs.Spelling.{register_text, operation_text, cond_text, modify_text, sign_bits_text, swap_text}
 use Rattle.bpf_text.specs.Statements.{Statement, plain, to_label}
-use Rattle.bpf_text.specs.Reading.{first_way, fits_16, fits_32, fits_wide, same_width, is_extension, load_of, store_of, unsigned_size, wide_of, jump_by, is_name}
-use Rattle.bpf_text.specs.Grammar.{Token, tokens, Numeral, Number, number_value, constant_tokens, signed_tokens, Source, Address, Target, one_word, source_tokens, address_tokens, target_tokens, atomic_marks, is_loaded, Form, form_tokens, form_said, source_said, offset_said, target_said, branch_said}
+use Rattle.bpf_text.specs.StatementReading.{first_way, same_width, unsigned_size, wide_of}
+use Rattle.bpf_text.specs.Numerals.{fits_16, fits_32, fits_wide}
+use Rattle.bpf_text.specs.Statements.{is_extension, load_of, store_of, jump_by}
+use Rattle.bpf_text.specs.Characters.{is_name}
+use Rattle.bpf_text.specs.Grammar.{Token, tokens, Numeral, Number, number_value, constant_tokens, signed_tokens, Address, Target, one_word, operand_tokens, address_tokens, target_tokens, atomic_marks, is_loaded, Form, form_tokens, form_said, operand_said, offset_said, target_said, branch_said}
+use Rattle.bpf_text.specs.Grammar.{OperandForm}
 use Rattle.bpf_text.specs.Grammar.Token.{word, mark}
 use Rattle.bpf_text.proofs.TokenLemmas.{word_t, mark_t, strip, first_t}
 use Rattle.bpf_text.proofs.TokenReading.{unsigned_t, number_behind_t, number_t, signed_behind_t, signed_t, CheckedTokens, any_register_t, register_t, operand_t, wide_if_t, constant_t, negative_t, extension_t, place_t, load_t, swap_t, assigned_t, operation_t, assignment_t, store_t, change_t, exchange_t, atomic_t, name_t, target_t, test_t, branch_t, plainly_t, keyword_t, statement_t, if_nothing, whole_t}
@@ -57,7 +62,7 @@ none_gives = record { holds = λ x e. absurd (cc) }
 some_gives : {A : Type 0} {P : A → Type 0} (y : A) → P y → Gives (Some y) P
 some_gives {P = P} y h = record { holds = λ x e. subst P (let same : y ≡ x = cc in same) h }
 
-then_gives : {A B : Type 0} {o : Option A} (f : A → Option B) {P : A → Type 0} {Q : B → Type 0} → Gives o P → ((x : A) → P x → Gives (f x) Q) → Gives (o >>= f) Q
+pub then_gives : {A B : Type 0} {o : Option A} (f : A → Option B) {P : A → Type 0} {Q : B → Type 0} → Gives o P → ((x : A) → P x → Gives (f x) Q) → Gives (o >>= f) Q
 then_gives {o = None} f g k = none_gives
 then_gives {o = Some x} f g k = k x (g.holds x refl)
 
@@ -70,7 +75,7 @@ way_gives : {A B : Type 0} {o : Option A} (f : A → Option B) {other : Option B
 way_gives {o = None} f g k h = h
 way_gives {o = Some x} f g k h = k x (g.holds x refl)
 
-if_gives : {A : Type 0} {o : Option A} {P : A → Type 0} (b : Bool) → (b ≡ true → Gives o P) → Gives (cond b o None) P
+pub if_gives : {A : Type 0} {o : Option A} {P : A → Type 0} (b : Bool) → (b ≡ true → Gives o P) → Gives (cond b o None) P
 if_gives true h = h refl
 if_gives false h = none_gives
 
@@ -79,7 +84,7 @@ both_give g h = record { holds = λ x e. (g.holds x e, h.holds x e) }
 
 -- ---- words, marks and spellings
 
-word_gives : (ts : List Token) → Gives (word_t ts) (λ p. ts ≡ word p.0 ∷ p.1)
+pub word_gives : (ts : List Token) → Gives (word_t ts) (λ p. ts ≡ word p.0 ∷ p.1)
 unfolding word_t
 word_gives [] = none_gives
 word_gives (word w ∷ ts) = some_gives (w, ts) refl
@@ -219,10 +224,10 @@ signed_gives ts = go (mark_gives 45 ts)
     go {o = None} g = then_gives _ (mark_gives 43 ts) (λ rest there. then_gives _ (numeral_gives rest) (λ n h. some_gives (pos n.0, n.1) (record { part = record { minus = false; numeral = h.part }; there = there ∙ ap (λ z. mark 43 ∷ z) h.there; says = ap pos h.says })))
     go {o = Some rest} g = then_gives _ (numeral_gives rest) (λ n h. some_gives (neg_ℤ (pos n.0), n.1) (record { part = record { minus = true; numeral = h.part }; there = g.holds rest refl ∙ ap (λ z. mark 45 ∷ z) h.there; says = ap (λ z. neg_ℤ (pos z)) h.says }))
 
-source_gives : (width : Width) (ts : List Token) → Gives (operand_t width ts) (IsPart (source_tokens width) source_said ts)
+operand_gives : (width : Width) (ts : List Token) → Gives (operand_t width ts) (IsPart (operand_tokens width) operand_said ts)
 unfolding operand_t
-source_gives width ts = way_gives _ (register_gives width ts) (λ r h. some_gives (Some (FromReg r.0), r.1) (record { part = Source.register r.0; there = h; says = refl }))
-    (then_gives _ (number_gives ts) (λ n h. some_gives (option_map Imm (fits_32 n.0), n.1) (record { part = Source.constant h.part; there = h.there; says = ap (λ z. option_map Imm (fits_32 z)) h.says })))
+operand_gives width ts = way_gives _ (register_gives width ts) (λ r h. some_gives (Some (FromReg r.0), r.1) (record { part = OperandForm.register r.0; there = h; says = refl }))
+    (then_gives _ (number_gives ts) (λ n h. some_gives (option_map Imm (fits_32 n.0), n.1) (record { part = OperandForm.constant h.part; there = h.there; says = ap (λ z. option_map Imm (fits_32 z)) h.says })))
 
 -- a place in memory: what is read or written, the register, and the offset
 pub record IsPlace (ts : List Token) (p : Place × List Token) : Type 0 where
@@ -288,7 +293,7 @@ wide_gives W64 dst n ts rest h = some_gives (option_map (LoadImm64 dst) (fits_wi
 constant_gives : (width : Width) (dst : Reg) (n : Number) (ts : List Token) → Gives (constant_t width dst (number_value n) ts) (IsInsn (constant_front width dst n) ts)
 unfolding constant_t
 constant_gives width dst n ts = way_gives _ (strip_gives (tokens (codes "ll")) ts) (λ rest h. wide_gives width dst n ts rest h)
-    (some_gives (option_map (λ imm. Alu Mov width dst (Imm imm)) (fits_32 (number_value n)), ts) (record { form = Form.calculate Mov width dst (Source.constant n); there = refl; says = said (fits_32 (number_value n)) }))
+    (some_gives (option_map (λ imm. Alu Mov width dst (Imm imm)) (fits_32 (number_value n)), ts) (record { form = Form.calculate Mov width dst (OperandForm.constant n); there = refl; says = said (fits_32 (number_value n)) }))
   where
     said : (o : Option ℤ) → option_map plain (option_map (λ s. Alu Mov width dst s) (option_map Imm o)) ≡ option_map plain (option_map (λ imm. Alu Mov width dst (Imm imm)) o)
     said None = refl
@@ -296,9 +301,11 @@ constant_gives width dst n ts = way_gives _ (strip_gives (tokens (codes "ll")) t
 
 -- the number that was read is the one that stands there
 numbered : (width : Width) (dst : Reg) (n : Number) (z : ℤ) (ts rest : List Token) → number_value n ≡ z → ts ≡ constant_tokens n ++ rest → Gives (constant_t width dst z rest) (IsInsn (assigned_to width dst) ts)
-numbered width dst n z ts rest e h = record { holds = λ p there.
-    let found : IsInsn (constant_front width dst n) rest p = (constant_gives width dst n rest).holds p (ap (λ v. constant_t width dst v rest) e ∙ there) in
-    record { form = found.form; there = ap (λ z. word (register_text width dst) ∷ mark 61 ∷ z) h ∙ found.there; says = found.says } }
+numbered width dst n z ts rest e h = record {
+  holds = λ p there.
+      let found : IsInsn (constant_front width dst n) rest p = (constant_gives width dst n rest).holds p (ap (λ v. constant_t width dst v rest) e ∙ there) in
+      record { form = found.form; there = ap (λ z. word (register_text width dst) ∷ mark 61 ∷ z) h ∙ found.there; says = found.says };
+}
 
 negative_gives : (width : Width) (dst : Reg) (ts rest : List Token) → ts ≡ mark 45 ∷ rest → Gives (negative_t width dst rest) (IsInsn (assigned_to width dst) ts)
 unfolding negative_t
@@ -344,20 +351,22 @@ assigned_gives width dst ts = way_gives _ (mark_gives 45 ts) (λ rest h. negativ
     (way_gives _ (mark_gives 40 ts) (λ rest h. extension_gives width dst ts rest h)
     (way_gives _ (mark_gives 42 ts) (λ rest h. load_gives width dst ts)
     (way_gives _ (first_gives swap_spelling swaps ts) (λ s h. swap_gives width dst s.0 ts s.1 h)
-    (way_gives _ (register_gives width ts) (λ r h. some_gives (Some (Alu Mov width dst (FromReg r.0)), r.1) (record { form = Form.calculate Mov width dst (Source.register r.0); there = ap (λ z. word (register_text width dst) ∷ mark 61 ∷ z) h; says = refl }))
+    (way_gives _ (register_gives width ts) (λ r h. some_gives (Some (Alu Mov width dst (FromReg r.0)), r.1) (record { form = Form.calculate Mov width dst (OperandForm.register r.0); there = ap (λ z. word (register_text width dst) ∷ mark 61 ∷ z) h; says = refl }))
     (then_gives _ (numeral_gives ts) (λ n h. numbered width dst (record { minus = false; numeral = h.part }) (pos n.0) ts n.1 (ap pos h.says) h.there))))))
 
 calculation_gives : (width : Width) (dst : Reg) (op : AluOp) (ts rest : List Token) → ts ≡ tokens (operation_text op) ++ rest
     → Gives (operand_t width rest >>= λ src. Some (option_map (λ s. Alu op width dst s) src.0, src.1)) (IsInsn (one_word (register_text width dst)) ts)
-calculation_gives width dst op ts rest h = then_gives _ (source_gives width rest) (λ src k. some_gives (option_map (λ s. Alu op width dst s) src.0, src.1) (record {
+calculation_gives width dst op ts rest h = then_gives _ (operand_gives width rest) (λ src k. some_gives (option_map (λ s. Alu op width dst s) src.0, src.1) (record {
   form = Form.calculate op width dst k.part;
-  there = ap (λ z. word (register_text width dst) ∷ z) (h ∙ ap (λ z. tokens (operation_text op) ++ z) k.there ∙ sym (append_assoc (tokens (operation_text op)) (source_tokens width k.part) src.1));
+  there = ap (λ z. word (register_text width dst) ∷ z) (h ∙ ap (λ z. tokens (operation_text op) ++ z) k.there ∙ sym (append_assoc (tokens (operation_text op)) (operand_tokens width k.part) src.1));
   says = ap (λ s. option_map plain (option_map (λ t. Alu op width dst t) s)) k.says;
 }))
 
 operation_gives : (width : Width) (dst : Reg) (op : AluOp) (ts rest : List Token) → ts ≡ tokens (operation_text op) ++ rest → Gives (operation_t width dst op rest) (IsInsn (one_word (register_text width dst)) ts)
-operation_gives width dst Mov ts rest h = record { holds = λ p e. let found : IsInsn (assigned_to width dst) rest p = (assigned_gives width dst rest).holds p e in
-    record { form = found.form; there = ap (λ z. word (register_text width dst) ∷ z) h ∙ found.there; says = found.says } }
+operation_gives width dst Mov ts rest h = record {
+  holds = λ p e. let found : IsInsn (assigned_to width dst) rest p = (assigned_gives width dst rest).holds p e in
+      record { form = found.form; there = ap (λ z. word (register_text width dst) ∷ z) h ∙ found.there; says = found.says };
+}
 operation_gives width dst op ts rest h = calculation_gives width dst op ts rest h
 
 assignment_gives : (width : Width) (dst : Reg) (ts : List Token) → Gives (assignment_t width dst ts) (IsInsn (one_word (register_text width dst)) ts)
@@ -372,12 +381,12 @@ unsigned_is (Signed s) size e = cc
 
 store_gives : (ts : List Token) → Gives (store_t ts) (IsInsn [] ts)
 unfolding store_t
-store_gives ts = then_gives _ (place_gives ts) (λ p h. any_then (unsigned_size (p.0).memory) _ (λ size is. then_gives _ (mark_gives 61 p.1) (λ rest equals. then_gives _ (source_gives W64 rest) (λ src k.
+store_gives ts = then_gives _ (place_gives ts) (λ p h. any_then (unsigned_size (p.0).memory) _ (λ size is. then_gives _ (mark_gives 61 p.1) (λ rest equals. then_gives _ (operand_gives W64 rest) (λ src k.
     some_gives (store_of size (p.0).base (p.0).off src.0, src.1) (record {
       form = Form.store size h.address k.part;
       there = h.there ∙ ap (λ m. address_tokens m h.address ++ p.1) (unsigned_is (p.0).memory size is) ∙ ap (λ z. address_tokens (Unsigned size) h.address ++ z) (equals ∙ ap (λ z. mark 61 ∷ z) k.there);
-      says = ap (λ base. option_map plain (store_of size base (offset_said h.address) (source_said k.part))) h.base
-          ∙ ap (λ off. option_map plain (store_of size (p.0).base off (source_said k.part))) h.off ∙ ap (λ s. option_map plain (store_of size (p.0).base (p.0).off s)) k.says;
+      says = ap (λ base. option_map plain (store_of size base (offset_said h.address) (operand_said k.part))) h.base
+          ∙ ap (λ off. option_map plain (store_of size (p.0).base off (operand_said k.part))) h.off ∙ ap (λ s. option_map plain (store_of size (p.0).base (p.0).off s)) k.says;
     })))))
 
 wide_is : (memory : Memory) (wide : Bool) → wide_of memory ≡ Some wide → memory ≡ Unsigned (word_size wide)
@@ -393,9 +402,10 @@ wide_is (Signed s) wide e = cc
 atomic_gives_at : (wide : Bool) (op : AtomicOp) (ts : List Token) (p : Place × List Token) (rest end : List Token) (src : Reg) (place : IsPlace ts p) → wide_of (p.0).memory ≡ Some wide → p.1 ≡ tokens (atomic_marks op) ++ rest → rest ≡ word (register_text W64 src) ∷ end
     → (ts ≡ address_tokens (Unsigned (word_size wide)) place.address ++ (tokens (atomic_marks op) ++ word (register_text W64 src) ∷ end))
     × (form_said (Form.atomic wide op place.address src) ≡ option_map plain (option_map (λ off. Atomic wide op (p.0).base off src) (p.0).off))
-atomic_gives_at wide op ts p rest end src place is marks there =
-    (place.there ∙ ap (λ m. address_tokens m place.address ++ p.1) (wide_is (p.0).memory wide is) ∙ ap (λ z. address_tokens (Unsigned (word_size wide)) place.address ++ z) (marks ∙ ap (λ z. tokens (atomic_marks op) ++ z) there),
-    ap (λ base. option_map plain (option_map (λ off. Atomic wide op base off src) (offset_said place.address))) place.base ∙ ap (λ off. option_map plain (option_map (λ z. Atomic wide op (p.0).base z src) off)) place.off)
+atomic_gives_at wide op ts p rest end src place is marks there = (
+  place.there ∙ ap (λ m. address_tokens m place.address ++ p.1) (wide_is (p.0).memory wide is) ∙ ap (λ z. address_tokens (Unsigned (word_size wide)) place.address ++ z) (marks ∙ ap (λ z. tokens (atomic_marks op) ++ z) there),
+  ap (λ base. option_map plain (option_map (λ off. Atomic wide op base off src) (offset_said place.address))) place.base ∙ ap (λ off. option_map plain (option_map (λ z. Atomic wide op (p.0).base z src) off)) place.off,
+)
 
 -- what stands in front of the place
 abbrev pub lock_front : AtomicOp → List Token
@@ -435,8 +445,10 @@ exchange_gives op ts comma = then_gives _ (place_gives ts) (λ p h. any_then (wi
 
 -- with another word in front
 behind_word : {o : CheckedTokens Insn} (front us ts rest : List Token) → ts ≡ us ++ rest → Gives o (IsInsn (front ++ us) rest) → Gives o (IsInsn front ts)
-behind_word front us ts rest h g = record { holds = λ p e. let found : IsInsn (front ++ us) rest p = g.holds p e in
-    record { form = found.form; there = ap (λ z. front ++ z) h ∙ sym (append_assoc front us rest) ∙ found.there; says = found.says } }
+behind_word front us ts rest h g = record {
+  holds = λ p e. let found : IsInsn (front ++ us) rest p = g.holds p e in
+      record { form = found.form; there = ap (λ z. front ++ z) h ∙ sym (append_assoc front us rest) ∙ found.there; says = found.says };
+}
 
 atomic_gives : (ts : List Token) → Gives (atomic_t ts) (IsInsn (one_word (codes "lock")) ts)
 unfolding atomic_t
@@ -448,30 +460,34 @@ atomic_gives ts = way_gives _ (strip_gives (tokens (codes "fetch")) ts) (λ rest
 assoc4 : (a b c d e : List Token) → (((a ++ b) ++ c) ++ d) ++ e ≡ a ++ (b ++ (c ++ (d ++ e)))
 assoc4 a b c d e = append_assoc ((a ++ b) ++ c) d e ∙ append_assoc (a ++ b) c (d ++ e) ∙ append_assoc a b (c ++ (d ++ e))
 
-abbrev pub branch_tokens : Cond → Width → Source → Target → List Token → List Token
-branch_tokens test width src target end = tokens (cond_text test) ++ (source_tokens width src ++ (word (codes "goto") ∷ (target_tokens target ++ end)))
+abbrev pub branch_tokens : Cond → Width → OperandForm → Target → List Token → List Token
+branch_tokens test width src target end = tokens (cond_text test) ++ (operand_tokens width src ++ (word (codes "goto") ∷ (target_tokens target ++ end)))
 
-pub branched : (test : Cond) (width : Width) (dst : Reg) (src : Source) (target : Target) (end : List Token)
+pub branched : (test : Cond) (width : Width) (dst : Reg) (src : OperandForm) (target : Target) (end : List Token)
     → word (codes "if") ∷ word (register_text width dst) ∷ branch_tokens test width src target end ≡ form_tokens (Form.branch test width dst src target) ++ end
-branched test width dst src target end = ap (λ z. word (codes "if") ∷ word (register_text width dst) ∷ z) (sym (assoc4 (tokens (cond_text test)) (source_tokens width src) (one_word (codes "goto")) (target_tokens target) end))
+branched test width dst src target end = ap (λ z. word (codes "if") ∷ word (register_text width dst) ∷ z) (sym (assoc4 (tokens (cond_text test)) (operand_tokens width src) (one_word (codes "goto")) (target_tokens target) end))
 
-test_gives : (test : Cond) (width : Width) (dst : Reg) (src : Source) (o : Option Operand) (ts : List Token) → source_said src ≡ o
+test_gives : (test : Cond) (width : Width) (dst : Reg) (src : OperandForm) (o : Option Operand) (ts : List Token) → operand_said src ≡ o
     → Gives (test_t test width dst o ts) (λ p. (target : Target) × (ts ≡ target_tokens target ++ p.1) × (form_said (Form.branch test width dst src target) ≡ p.0))
 test_gives test width dst src None ts e = then_gives _ (target_gives ToSlot ts) (λ t h. some_gives (None, t.1) (h.part, h.there, ap (λ s. branch_said test width dst s h.part) e))
-test_gives test width dst src (Some operand) ts e = record { holds = λ p there. let h : IsPart target_tokens (target_said (OnTest test width dst operand)) ts p = (target_gives (OnTest test width dst operand) ts).holds p there in
-    (h.part, h.there, ap (λ s. branch_said test width dst s h.part) e ∙ h.says) }
+test_gives test width dst src (Some operand) ts e = record {
+  holds = λ p there. let h : IsPart target_tokens (target_said (OnTest test width dst operand)) ts p = (target_gives (OnTest test width dst operand) ts).holds p there in
+      (h.part, h.there, ap (λ s. branch_said test width dst s h.part) e ∙ h.says);
+}
 
 branch_gives : (ts : List Token) → Gives (branch_t ts) (IsForm (one_word (codes "if")) ts)
 unfolding branch_t
-branch_gives ts = then_gives _ (any_register_gives ts) (λ dst at. then_gives _ (first_gives cond_text conditions dst.1) (λ test tested. then_gives _ (source_gives (dst.0).0 test.1) (λ src k.
-    then_gives _ (strip_gives (tokens (codes "goto")) src.1) (λ rest goes. record { holds = λ p there.
-    let h = (test_gives test.0 (dst.0).0 (dst.0).1 k.part src.0 rest k.says).holds p there in
-    record {
-      form = Form.branch test.0 (dst.0).0 (dst.0).1 k.part h.0;
-      there = ap (λ z. word (codes "if") ∷ z) (at ∙ ap (λ z. word (register_text (dst.0).0 (dst.0).1) ∷ z) (tested ∙ ap (λ z. tokens (cond_text test.0) ++ z) (k.there
-          ∙ ap (λ z. source_tokens (dst.0).0 k.part ++ z) (goes ∙ ap (λ z. word (codes "goto") ∷ z) h.1)))) ∙ branched test.0 (dst.0).0 (dst.0).1 k.part h.0 p.1;
-      says = h.2;
-    } }))))
+branch_gives ts = then_gives _ (any_register_gives ts) (λ dst at. then_gives _ (first_gives cond_text conditions dst.1) (λ test tested. then_gives _ (operand_gives (dst.0).0 test.1) (λ src k.
+    then_gives _ (strip_gives (tokens (codes "goto")) src.1) (λ rest goes. record {
+      holds = λ p there.
+          let h = (test_gives test.0 (dst.0).0 (dst.0).1 k.part src.0 rest k.says).holds p there in
+          record {
+            form = Form.branch test.0 (dst.0).0 (dst.0).1 k.part h.0;
+            there = ap (λ z. word (codes "if") ∷ z) (at ∙ ap (λ z. word (register_text (dst.0).0 (dst.0).1) ∷ z) (tested ∙ ap (λ z. tokens (cond_text test.0) ++ z) (k.there
+                ∙ ap (λ z. operand_tokens (dst.0).0 k.part ++ z) (goes ∙ ap (λ z. word (codes "goto") ∷ z) h.1)))) ∙ branched test.0 (dst.0).0 (dst.0).1 k.part h.0 p.1;
+            says = h.2;
+          };
+    }))))
 
 -- ---- statements
 
@@ -485,8 +501,10 @@ behind_front us ts rest h g = record { holds = λ p e. let found : IsForm us res
 
 jump_gives : (jump : Jump) (w : List ℕ) (form : Target → Form) (ts : List Token) → ((target : Target) → form_tokens (form target) ≡ word w ∷ target_tokens target) → ((target : Target) → form_said (form target) ≡ target_said jump target)
     → Gives (target_t jump ts) (IsForm (one_word w) ts)
-jump_gives jump w form ts spelled says = record { holds = λ p e. let h : IsPart target_tokens (target_said jump) ts p = (target_gives jump ts).holds p e in
-    record { form = form h.part; there = ap (λ z. word w ∷ z) h.there ∙ ap (λ z. z ++ p.1) (sym (spelled h.part)); says = says h.part ∙ h.says } }
+jump_gives jump w form ts spelled says = record {
+  holds = λ p e. let h : IsPart target_tokens (target_said jump) ts p = (target_gives jump ts).holds p e in
+      record { form = form h.part; there = ap (λ z. word w ∷ z) h.there ∙ ap (λ z. z ++ p.1) (sym (spelled h.part)); says = says h.part ∙ h.says };
+}
 
 keyword_gives : (k : Keyword) (ts : List Token) → Gives (keyword_t k ts) (IsForm (tokens (keyword_text k)) ts)
 keyword_gives keyword.Lock ts = plainly_gives (atomic_gives ts)
@@ -513,5 +531,7 @@ ends_there s x e = go s.1 e
 -- what is read of all tokens is the spelling of a form
 pub whole_gives : (ts : List Token) → Gives (whole_t ts) (λ s. (form : Form) × (ts ≡ form_tokens form) × (form_said form ≡ s))
 unfolding whole_t
-whole_gives ts = then_gives _ (statement_gives ts) (λ s h. record { holds = λ x e. let ends = ends_there s x e in
-    (h.form, h.there ∙ ap (λ z. form_tokens h.form ++ z) ends.1 ∙ append-nil (form_tokens h.form), h.says ∙ ends.0) })
+whole_gives ts = then_gives _ (statement_gives ts) (λ s h. record {
+  holds = λ x e. let ends = ends_there s x e in
+      (h.form, h.there ∙ ap (λ z. form_tokens h.form ++ z) ends.1 ∙ append-nil (form_tokens h.form), h.says ∙ ends.0);
+})

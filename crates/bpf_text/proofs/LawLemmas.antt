@@ -1,39 +1,45 @@
--- A list of instructions is a program, or it is refused.
-use Rattle.std.proofs.Common.{◌≡◌, ℕ, zero, suc, ◌<◌, ◌≤◌, List, [], ◌∷◌, Some, Ok, Err, Result, inl, inr, sym, ◌∙◌, subst, arith}
-use Rattle.bpf_insn.specs.Instruction.{layout, insn_in, slots}
-use Rattle.bpf_insn.specs.Image.{HasEncoding, AllHaveEncoding, IsProgram, max_slots}
-use Rattle.bpf_insn.specs.Refusal.{IsNoProgram, IsBadCount}
-use Rattle.bpf_insn.specs.Refusal.IsNoProgram.{bad_count, no_encoding, no_target}
+-- A text is one program or refused for one cause.
+use Rattle.std.proofs.Common.{◌≡◌, ℕ, List, Ok, Err, Result, sym, ap, subst, ◌∙◌}
+use Rattle.bpf_insn.specs.Refusal.{IsNoProgram}
 use Rattle.bpf_insn.specs.declared.instruction.Insn.{Insn}
-use Rattle.bpf_insn.specs.declared.instruction.Insn.TheVariants.{LoadImm64}
 use Rattle.bpf_insn.specs.declared.refusal.BuildError.{BuildError}
+use Rattle.bpf_insn.proofs.ListLaws.{list_never_both, list_refused_once}
 use Rattle.bpf_text.specs.declared.error.TextError.{TextError}
+use Rattle.bpf_text.specs.Sources.{Source, TextSays}
+use Rattle.bpf_text.specs.Assembly.{instructions_of, program_error}
 use Rattle.bpf_text.specs.Assembly.IsRefused.{no_instructions, no_program}
-use Rattle.bpf_text.specs.Laws.{AssemblesToOne, NeverBoth}
-
--- each instruction that stands in a slot has an encoding
-encoding_at : (is : List Insn) (slot : ℕ) (i : Insn) → AllHaveEncoding is → insn_in (layout is) slot ≡ Some i → HasEncoding i
-encoding_at [] slot i h e = cc
-encoding_at (LoadImm64 dst value ∷ is) zero i h e = let same : LoadImm64 dst value ≡ i = cc in subst HasEncoding same h.0
-encoding_at (LoadImm64 dst value ∷ is) (suc zero) i h e = cc
-encoding_at (LoadImm64 dst value ∷ is) (suc (suc slot)) i h e = encoding_at is slot i h.1 e
-encoding_at (j ∷ is) zero i h e = let same : j ≡ i = cc in subst HasEncoding same h.0
-encoding_at (j ∷ is) (suc slot) i h e = encoding_at is slot i h.1 e
-
-bad : (is : List Insn) → IsProgram is → IsBadCount is → ⊥
-bad is p h = elim h [ inl e ↦ (let some : 0 < slots is = p.some_slot in omega (arith, some, e)) | inr e ↦ (let few : slots is ≤ max_slots = p.few_slots in omega (arith, few, e)) ]
-
-pub never_both : (is : List Insn) (e : BuildError) → IsProgram is → IsNoProgram is e → ⊥
-never_both is e p (bad_count h) = bad is p h
-never_both is e p (no_encoding few first) = first.fails (encoding_at is _ first.insn p.encoding first.stands)
-never_both is e p (no_target few encoding first) = first.fails (p.targets _ first.insn first.stands)
+use Rattle.bpf_text.specs.Laws.{AssemblesToOne, NeverBoth, RefusedOnce}
+use Rattle.bpf_text.proofs.TextsRead.{only_source}
 
 same_ok : (x y : List Insn) → (let r : Result (List Insn) TextError = Ok x in r) ≡ Ok y → x ≡ y
 same_ok x y e = cc
 
-pub to_one : AssemblesToOne
-to_one text is js a b = same_ok is js (sym a.instructions ∙ b.instructions)
+-- what a text says is said once
+one_source : (text : List ℕ) (source other : Source) → TextSays text source → TextSays text other → source ≡ other
+one_source text source other a b = sym (only_source text source a) ∙ only_source text other b
 
-pub or_refused : NeverBoth
-or_refused text is e a (no_instructions h) = let both : Ok is ≡ Err e = sym a.instructions ∙ h in cc
-or_refused text is e a (no_program {is = js} {e = f} h none) = let same : is ≡ js = same_ok is js (sym a.instructions ∙ h) in never_both is f a.program (let P : List Insn → Type 0 = λ ks. IsNoProgram ks f in subst P (sym same) none)
+one_result : (text : List ℕ) (source other : Source) (r s : Result (List Insn) TextError) → TextSays text source → TextSays text other → instructions_of source ≡ r → instructions_of other ≡ s → r ≡ s
+one_result text source other r s a b e f = sym e ∙ ap instructions_of (one_source text source other a b) ∙ f
+
+pub to_one : AssemblesToOne
+to_one text is js a b = same_ok is js (one_result text a.source b.source (Ok is) (Ok js) a.says b.says a.instructions b.instructions)
+
+abbrev IsNone : BuildError → List Insn → Type 0
+IsNone e is = IsNoProgram is e
+
+pub text_never_both : NeverBoth
+text_never_both text is e a (no_instructions {source = source} there h) = let both : Ok is ≡ Err e = one_result text a.source source (Ok is) (Err e) a.says there a.instructions h in cc
+text_never_both text is e a (no_program {source = source} {is = js} {e = f} there h none) =
+    let same : is ≡ js = same_ok is js (one_result text a.source source (Ok is) (Ok js) a.says there a.instructions h) in
+    list_never_both is f a.program (subst (IsNone f) (sym same) none)
+
+pub text_refused_once : RefusedOnce
+text_refused_once text e other (no_instructions {source = source} there h) (no_instructions {source = source'} there' h') =
+    let both : (let r : Result (List Insn) TextError = Err e in r) ≡ Err other = one_result text source source' (Err e) (Err other) there there' h h' in cc
+text_refused_once text e other (no_instructions {source = source} there h) (no_program {source = source'} {is = is} there' h' none) =
+    let both : Err e ≡ Ok is = one_result text source source' (Err e) (Ok is) there there' h h' in cc
+text_refused_once text e other (no_program {source = source} {is = is} there h none) (no_instructions {source = source'} there' h') =
+    let both : Ok is ≡ Err other = one_result text source source' (Ok is) (Err other) there there' h h' in cc
+text_refused_once text e other (no_program {source = source} {is = is} {e = f} there h none) (no_program {source = source'} {is = js} {e = g} there' h' none') =
+    let same : is ≡ js = same_ok is js (one_result text source source' (Ok is) (Ok js) there there' h h') in
+    ap (λ z. program_error z.said f) (one_source text source source' there there') ∙ ap (program_error source'.said) (list_refused_once js f g (subst (IsNone f) same none) none')

@@ -16,3 +16,6 @@ pub mod TokenLemmas
 pub mod TokenReading
 pub mod FormsRead
 pub mod FormsAreRead
+pub mod LinesRead
+pub mod TextsRead
+pub mod JudgedLemmas

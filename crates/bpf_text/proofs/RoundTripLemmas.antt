@@ -16,14 +16,17 @@ use Rattle.bpf_insn.specs.declared.instruction.Insn.{Insn}
 use Rattle.bpf_insn.specs.declared.instruction.Insn.TheVariants.{Alu, Neg, MovSx, End, LoadImm64, Load, LoadSx, Store, StoreImm, Atomic, Ja, JaLong, JumpIf, CallLocal, Exit}
 use Rattle.bpf_text.specs.declared.statement.Jump.TheVariants.{Goto as ToSlot, GotoLong as FarToSlot, Call as CallSlot}
 use Rattle.bpf_text.specs.declared.spelling.Keyword.TheVariants as keyword
-use Rattle.bpf_text.specs.Tokens.{word_in, behind, behind_word, first_spelled}
+use Rattle.bpf_text.specs.WordReading.{word_in, behind, behind_word, first_spelled}
 use Rattle.bpf_text.specs.Statements.{plain}
 use Rattle.bpf_text.specs.Spelling.{register_text}
 use Rattle.bpf_text.specs.Parts.{keywords, keyword_text}
-use Rattle.bpf_text.specs.Reading.{any_register_in, assignment_in, atomic_in, branch_in, target_in, store_in, statement_in, whole_statement}
+use Rattle.bpf_text.specs.StatementReading.{any_register_in, assignment_in, atomic_in, branch_in, target_in, store_in, statement_in, whole_statement}
 use Rattle.bpf_text.specs.Listing.{pieces, listing, operand_text}
-use Rattle.bpf_text.specs.Assembly.{Said, Source, lines_of, parts_of, last_part, part_said, said_in, checked, line_in, source_from, source_of, linked, slot_of, instructions_of}
+use Rattle.bpf_text.specs.Sources.{Said, Source, lines_of}
+use Rattle.bpf_text.specs.LineReading.{parts_of, last_part, part_said, said_in, checked, line_in, source_from, source_of}
+use Rattle.bpf_text.specs.Assembly.{linked, slot_of, instructions_of}
 use Rattle.bpf_text.specs.Laws.{ListingAssembles}
+use Rattle.bpf_text.proofs.TextsRead.{text_says}
 use Rattle.bpf_text.proofs.PartLemmas.{register_word, register_found}
 use Rattle.bpf_text.proofs.StatementLemmas.{at_blank, calculated, assigned_by, negated, extended, IsExtension, swapped, long_moved, in_16, in_32}
 use Rattle.bpf_text.proofs.ListedLemmas.{first_line, no_comment, no_label, line_inside, line_first, Opens, line_opens}
@@ -154,9 +157,14 @@ linked_back : (is : List Insn) (line slot : ℕ) → linked (slot_of []) (said_f
 linked_back [] line slot = refl
 linked_back (i ∷ is) line slot = rw (linked_back is (line + 1) (slot + slot_count i)) refl
 
-pub listing_back : ListingAssembles
+source_listed : (is : List Insn) → AllHaveEncoding is → source_of (listing is) ≡ source_with (said_from 1 0 is)
 unfolding source_of
+source_listed is fits = source_lines is 1 0 fits
+
+pub listing_back : ListingAssembles
 listing_back is program = record {
-  instructions = ap instructions_of (source_lines is 1 0 program.encoding) ∙ linked_back is 1 0;
+  source = source_of (listing is);
+  says = text_says (listing is);
+  instructions = ap instructions_of (source_listed is program.encoding) ∙ linked_back is 1 0;
   program = program;
 }

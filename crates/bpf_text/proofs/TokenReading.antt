@@ -22,10 +22,14 @@ use Rattle.bpf_text.specs.Parts.{registers, operations, conditions, modification
 use Rattle.bpf_text.specs.declared.statement.Place.{Place}
 use Rattle.bpf_text.specs.declared.statement.Jump.{Jump}
 use Rattle.bpf_text.specs.declared.statement.Jump.TheVariants.{Goto as ToSlot, GotoLong as FarToSlot, Call as CallSlot, If as OnTest}
-use Rattle.bpf_text.specs.Tokens.{◌>>=◌, skip_blanks, behind, word_value, unsigned_in, with_sign_of, number_behind, number_in, signed_behind, signed_in}
+use Rattle.bpf_text.specs.WordReading.{◌>>=◌, skip_blanks, behind, unsigned_in, with_sign_of, number_behind, number_in, signed_behind, signed_in}
+use Rattle.bpf_text.specs.Numerals.{word_value}
 use Rattle.bpf_text.specs.Spelling.{register_text, operation_text, cond_text, modify_text, sign_bits_text}
 use Rattle.bpf_text.specs.Statements.{Statement, plain, to_label}
-use Rattle.bpf_text.specs.Reading.{first_way, fits_16, fits_32, fits_wide, same_width, any_register_in, register_in, operand_in, wide_if, constant_in, negative_in, is_extension, extension_in, swap_in, place_in, load_of, load_in, assigned_in, operation_in, assignment_in, store_of, unsigned_size, store_in, wide_of, change_in, exchange_in, atomic_in, jump_by, is_name, name_in, target_in, test_in, branch_in, plainly, keyword_in, statement_in, if_blank, whole_statement}
+use Rattle.bpf_text.specs.StatementReading.{first_way, same_width, any_register_in, register_in, operand_in, wide_if, constant_in, negative_in, extension_in, swap_in, place_in, load_in, assigned_in, operation_in, assignment_in, unsigned_size, store_in, wide_of, change_in, exchange_in, atomic_in, name_in, target_in, test_in, branch_in, plainly, keyword_in, statement_in, if_blank, whole_statement}
+use Rattle.bpf_text.specs.Numerals.{fits_16, fits_32, fits_wide}
+use Rattle.bpf_text.specs.Statements.{is_extension, load_of, store_of, jump_by}
+use Rattle.bpf_text.specs.Characters.{is_name}
 use Rattle.bpf_text.specs.Grammar.{Token, tokens}
 use Rattle.bpf_text.proofs.TokenLemmas.{ReadTokens, word_t, mark_t, strip, first_t, Same, SameRest, both_none, both_some, then_same, rest_then_same, value_then_same, if_same, word_same, mark_same, behind_same, first_same, head}
 use Rattle.bpf_text.proofs.TokenLemmas.Head.{nothing, a_word, a_mark}
@@ -379,7 +383,7 @@ statement_same text = way_same _ _ (any_register_same text) (λ r rest. plainly_
     (plainly_same (store_same text)))
 
 -- blanks are no tokens
-nothing_left : {A : Type 0} (x : A) (text : List ℕ) → if_blank x (skip_blanks text) ≡ if_nothing x (tokens text)
+pub nothing_left : {A : Type 0} (x : A) (text : List ℕ) → if_blank x (skip_blanks text) ≡ if_nothing x (tokens text)
 nothing_left x text = elim (head text) [
   | nothing skipped all ↦ rw (skipped, all) refl
   | a_word c cs more rest part skipped found all ↦ rw (skipped, all) refl

@@ -1,7 +1,6 @@
 -- The grammar of a line: its tokens, the forms that an instruction may have, how each form is spelled in tokens, and what
 -- it says.
-use Rattle.std.specs.Prelude.{◌≡◌, ℕ, Bool, true, false, List, [], ◌∷◌, ◌++◌, flat_map, Option, Some, None, option_map, ℤ, pos, neg_ℤ, codes, if◌then◌else◌}
-use Rattle.bpf_insn.specs.Instruction.{word_size}
+use Rattle.std.specs.Prelude.{ℕ, Bool, true, false, List, [], ◌∷◌, Option, Some, None, ℤ, pos, neg_ℤ, if◌then◌else◌, codes, option_map, ◌≡◌, ◌++◌, flat_map}
 use Rattle.bpf_insn.specs.declared.instruction.Reg.{Reg}
 use Rattle.bpf_insn.specs.declared.instruction.Size.{Size}
 use Rattle.bpf_insn.specs.declared.instruction.Size.TheVariants.{DW}
@@ -11,21 +10,22 @@ use Rattle.bpf_insn.specs.declared.instruction.Operand.{Operand}
 use Rattle.bpf_insn.specs.declared.instruction.Operand.TheVariants.{Imm, Reg as FromReg}
 use Rattle.bpf_insn.specs.declared.instruction.AluOp.{AluOp}
 use Rattle.bpf_insn.specs.declared.instruction.SignBits.{SignBits}
-use Rattle.bpf_insn.specs.declared.instruction.EndKind.{EndKind}
-use Rattle.bpf_insn.specs.declared.instruction.EndBits.{EndBits}
 use Rattle.bpf_insn.specs.declared.instruction.Cond.{Cond}
 use Rattle.bpf_insn.specs.declared.instruction.AtomicOp.{AtomicOp}
 use Rattle.bpf_insn.specs.declared.instruction.AtomicOp.TheVariants.{Modify as Changes, Xchg, CmpXchg}
 use Rattle.bpf_insn.specs.declared.instruction.Insn.TheVariants.{Alu, Neg, MovSx, End, LoadImm64, Atomic, Exit}
 use Rattle.bpf_text.specs.declared.spelling.Memory.{Memory}
 use Rattle.bpf_text.specs.declared.spelling.Memory.TheVariants.{Unsigned, Signed}
+use Rattle.bpf_text.specs.Parts.{memory_text}
 use Rattle.bpf_text.specs.declared.statement.Jump.{Jump}
 use Rattle.bpf_text.specs.declared.statement.Jump.TheVariants.{Goto as ToSlot, GotoLong as FarToSlot, Call as CallSlot, If as OnTest}
-use Rattle.bpf_text.specs.Tokens.{is_word_part, is_blank, word_value}
 use Rattle.bpf_text.specs.Spelling.{register_text, operation_text, cond_text, modify_text, sign_bits_text, swap_text}
-use Rattle.bpf_text.specs.Parts.{memory_text}
-use Rattle.bpf_text.specs.Statements.{Statement, plain, to_label}
-use Rattle.bpf_text.specs.Reading.{fits_16, fits_32, fits_wide, is_extension, is_name, load_of, store_of, jump_by}
+use Rattle.bpf_insn.specs.Instruction.{word_size}
+use Rattle.bpf_insn.specs.declared.instruction.EndKind.{EndKind}
+use Rattle.bpf_insn.specs.declared.instruction.EndBits.{EndBits}
+use Rattle.bpf_text.specs.Characters.{is_word_part, is_blank, is_name}
+use Rattle.bpf_text.specs.Numerals.{word_value, fits_16, fits_32, fits_wide}
+use Rattle.bpf_text.specs.Statements.{Statement, is_extension, load_of, store_of, jump_by, plain, to_label}
 
 -- ---- tokens
 
@@ -83,9 +83,9 @@ pub record Name : Type 0 where
 -- ---- parts of forms
 
 -- an operand: a register, or a constant of 32 bits
-pub data Source : Type 0 where
-  register : Reg → Source
-  constant : Number → Source
+pub data OperandForm : Type 0 where
+  register : Reg → OperandForm
+  constant : Number → OperandForm
 
 -- a place in memory
 pub record Address : Type 0 where
@@ -99,9 +99,9 @@ pub data Target : Type 0 where
 abbrev pub register_tokens : Width → Reg → List Token
 register_tokens width r = one_word (register_text width r)
 
-abbrev pub source_tokens : Width → Source → List Token
-source_tokens width (register r) = register_tokens width r
-source_tokens width (constant n) = constant_tokens n
+abbrev pub operand_tokens : Width → OperandForm → List Token
+operand_tokens width (register r) = register_tokens width r
+operand_tokens width (constant n) = constant_tokens n
 
 -- `*(u8 *)(r1 + 0)`
 abbrev pub address_tokens : Memory → Address → List Token
@@ -132,15 +132,15 @@ is_loaded (Signed size) = true
 
 -- The forms of an instruction. `D` and `S` are registers of one width.
 pub data Form : Type 0 where
-  calculate : AluOp → Width → Reg → Source → Form
+  calculate : AluOp → Width → Reg → OperandForm → Form
   negate : Width → Reg → Form
   extend : (width : Width) (bits : SignBits) → is_extension width bits ≡ true → Reg → Reg → Form
   swap : EndKind → EndBits → Reg → Form
   load_constant : Reg → Number → Form
   load : (memory : Memory) → is_loaded memory ≡ true → Reg → Address → Form
-  store : Size → Address → Source → Form
+  store : Size → Address → OperandForm → Form
   atomic : Bool → AtomicOp → Address → Reg → Form
-  branch : Cond → Width → Reg → Source → Target → Form
+  branch : Cond → Width → Reg → OperandForm → Target → Form
   goto : Target → Form
   goto_long : Target → Form
   call : Target → Form
@@ -148,15 +148,15 @@ pub data Form : Type 0 where
 
 -- how each is spelled
 abbrev pub form_tokens : Form → List Token
-form_tokens (calculate op width dst src) = register_tokens width dst ++ tokens (operation_text op) ++ source_tokens width src
+form_tokens (calculate op width dst src) = register_tokens width dst ++ tokens (operation_text op) ++ operand_tokens width src
 form_tokens (negate width dst) = register_tokens width dst ++ tokens (codes "= -") ++ register_tokens width dst
 form_tokens (extend width bits is dst src) = register_tokens width dst ++ tokens (codes "= (") ++ one_word (sign_bits_text bits) ++ tokens (codes ")") ++ register_tokens width src
 form_tokens (swap kind bits dst) = register_tokens W64 dst ++ tokens (codes "=") ++ one_word (swap_text kind bits) ++ register_tokens W64 dst
 form_tokens (load_constant dst n) = register_tokens W64 dst ++ tokens (codes "=") ++ constant_tokens n ++ tokens (codes "ll")
 form_tokens (load memory is dst address) = register_tokens W64 dst ++ tokens (codes "=") ++ address_tokens memory address
-form_tokens (store size address src) = address_tokens (Unsigned size) address ++ tokens (codes "=") ++ source_tokens W64 src
+form_tokens (store size address src) = address_tokens (Unsigned size) address ++ tokens (codes "=") ++ operand_tokens W64 src
 form_tokens (atomic wide op address src) = tokens (codes "lock") ++ tokens (atomic_word op) ++ address_tokens (Unsigned (word_size wide)) address ++ tokens (atomic_marks op) ++ register_tokens W64 src
-form_tokens (branch cond width dst src target) = tokens (codes "if") ++ register_tokens width dst ++ tokens (cond_text cond) ++ source_tokens width src ++ tokens (codes "goto") ++ target_tokens target
+form_tokens (branch cond width dst src target) = tokens (codes "if") ++ register_tokens width dst ++ tokens (cond_text cond) ++ operand_tokens width src ++ tokens (codes "goto") ++ target_tokens target
 form_tokens (goto target) = tokens (codes "goto") ++ target_tokens target
 form_tokens (goto_long target) = tokens (codes "gotol") ++ target_tokens target
 form_tokens (call target) = tokens (codes "call") ++ target_tokens target
@@ -164,9 +164,9 @@ form_tokens exit = tokens (codes "exit")
 
 -- ---- what a form says: None where a number is out of its range
 
-abbrev pub source_said : Source → Option Operand
-source_said (register r) = Some (FromReg r)
-source_said (constant n) = option_map Imm (fits_32 (number_value n))
+abbrev pub operand_said : OperandForm → Option Operand
+operand_said (register r) = Some (FromReg r)
+operand_said (constant n) = option_map Imm (fits_32 (number_value n))
 
 abbrev pub offset_said : Address → Option ℤ
 offset_said a = fits_16 (number_value a.off)
@@ -180,15 +180,15 @@ branch_said cond width dst None target = None
 branch_said cond width dst (Some src) target = target_said (OnTest cond width dst src) target
 
 abbrev pub form_said : Form → Option Statement
-form_said (calculate op width dst src) = option_map plain (option_map (λ s. Alu op width dst s) (source_said src))
+form_said (calculate op width dst src) = option_map plain (option_map (λ s. Alu op width dst s) (operand_said src))
 form_said (negate width dst) = Some (plain (Neg width dst))
 form_said (extend width bits is dst src) = Some (plain (MovSx width bits dst src))
 form_said (swap kind bits dst) = Some (plain (End kind bits dst))
 form_said (load_constant dst n) = option_map plain (option_map (LoadImm64 dst) (fits_wide (number_value n)))
 form_said (load memory is dst address) = option_map plain (option_map (load_of memory dst address.base) (offset_said address))
-form_said (store size address src) = option_map plain (store_of size address.base (offset_said address) (source_said src))
+form_said (store size address src) = option_map plain (store_of size address.base (offset_said address) (operand_said src))
 form_said (atomic wide op address src) = option_map plain (option_map (λ off. Atomic wide op address.base off src) (offset_said address))
-form_said (branch cond width dst src target) = branch_said cond width dst (source_said src) target
+form_said (branch cond width dst src target) = branch_said cond width dst (operand_said src) target
 form_said (goto target) = target_said ToSlot target
 form_said (goto_long target) = target_said FarToSlot target
 form_said (call target) = target_said CallSlot target
@@ -207,3 +207,8 @@ may_be_form (Some form) = form_tokens form
 -- A line is any number of labels and then at most one form.
 pub record IsLine (text : List ℕ) (names : List Name) (form : Option Form) : Type 0 where
   pub spelled : tokens text ≡ label_tokens names ++ may_be_form form
+
+-- what it says then: nothing or a statement, and None where a number is out of its range
+abbrev pub line_said : Option Form → Option (Option Statement)
+line_said None = Some None
+line_said (Some form) = option_map Some (form_said form)

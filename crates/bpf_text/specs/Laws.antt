@@ -1,13 +1,27 @@
 -- The laws above the definitions. Each is proved as the contract of a function of its own.
-use Rattle.std.specs.Prelude.{◌≡◌, ◌↔◌, ℕ, List, Option, Some}
+use Rattle.std.specs.Prelude.{◌≡◌, ◌↔◌, ◌⊎◌, ℕ, List, Option, Some}
 use Rattle.bpf_insn.specs.declared.instruction.Insn.{Insn}
 use Rattle.bpf_text.specs.declared.error.TextError.{TextError}
 use Rattle.bpf_insn.specs.Image.{IsProgram}
+use Rattle.bpf_text.specs.Sources.{Source, TextSays}
 use Rattle.bpf_text.specs.Assembly.{Assembles, IsRefused}
 use Rattle.bpf_text.specs.Listing.{listing}
 use Rattle.bpf_text.specs.Statements.{Statement}
-use Rattle.bpf_text.specs.Reading.{whole_statement}
+use Rattle.bpf_text.specs.StatementReading.{whole_statement}
+use Rattle.bpf_text.specs.LineReading.{source_of}
 use Rattle.bpf_text.specs.Grammar.{Form, tokens, form_tokens, form_said}
+
+-- ---- the grammar
+
+-- what is read as a statement is the spelling of a form, and says what the form says
+abbrev pub ReadsForms : Type 0
+ReadsForms = (text : List ℕ) (s : Option Statement) → (whole_statement text ≡ Some s) ↔ ((form : Form) × (tokens text ≡ form_tokens form) × (form_said form ≡ s))
+
+-- Each text says one source: the one that the reader computes.
+abbrev pub ReadsText : Type 0
+ReadsText = (text : List ℕ) (source : Source) → TextSays text source ↔ (source_of text ≡ source)
+
+-- ---- texts
 
 -- a text assembles to one list of instructions
 abbrev pub AssemblesToOne : Type 0
@@ -17,10 +31,14 @@ AssemblesToOne = (text : List ℕ) (is js : List Insn) → Assembles text is →
 abbrev pub NeverBoth : Type 0
 NeverBoth = (text : List ℕ) (is : List Insn) (e : TextError) → Assembles text is → IsRefused text e → ⊥
 
+-- a text is refused for one cause at one line
+abbrev pub RefusedOnce : Type 0
+RefusedOnce = (text : List ℕ) (e other : TextError) → IsRefused text e → IsRefused text other → e ≡ other
+
+-- A text is one of the two.
+abbrev pub AssemblesOrIsRefused : Type 0
+AssemblesOrIsRefused = (text : List ℕ) → ((is : List Insn) × Assembles text is) ⊎ ((e : TextError) × IsRefused text e)
+
 -- a program's listing assembles to the program again
 abbrev pub ListingAssembles : Type 0
 ListingAssembles = (is : List Insn) → IsProgram is → Assembles (listing is) is
-
--- what is read as a statement is the spelling of a form, and says what the form says
-abbrev pub ReadsForms : Type 0
-ReadsForms = (text : List ℕ) (s : Option Statement) → (whole_statement text ≡ Some s) ↔ ((form : Form) × (tokens text ≡ form_tokens form) × (form_said form ≡ s))

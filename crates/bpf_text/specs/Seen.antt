@@ -4,7 +4,7 @@ use Rattle.bpf_text.specs.declared.line.LineFault.{LineFault}
 use Rattle.bpf_text.specs.declared.line.Label.{Label as WrittenLabel}
 use Rattle.bpf_text.specs.declared.statement.Statement.{Statement as Written}
 use Rattle.bpf_text.specs.Statements.{Statement, seen}
-use Rattle.bpf_text.specs.Assembly.{Label}
+use Rattle.bpf_text.specs.Sources.{Label}
 
 abbrev pub line_seen : Result (Option Written) LineFault → Result (Option Statement) LineFault
 line_seen (Ok s) = Ok (option_map seen s)

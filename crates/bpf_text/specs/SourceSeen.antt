@@ -4,7 +4,7 @@ use Rattle.bpf_text.specs.declared.source.Said.{Said as WrittenSaid}
 use Rattle.bpf_text.specs.declared.source.Source.{Source as Written}
 use Rattle.bpf_text.specs.Statements.{seen}
 use Rattle.bpf_text.specs.Seen.{label_seen}
-use Rattle.bpf_text.specs.Assembly.{Said, Source}
+use Rattle.bpf_text.specs.Sources.{Said, Source}
 
 abbrev pub said_seen : WrittenSaid → Said
 said_seen s = record { statement = seen s.statement; slot = s.slot; line = s.line }

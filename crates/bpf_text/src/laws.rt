@@ -1,6 +1,17 @@
 //! Laws above the definitions, each the contract of a function that does nothing.
 
-ghost use Rattle.bpf_text.specs.Laws.{AssemblesToOne, ListingAssembles, NeverBoth, ReadsForms};
+ghost use Rattle.bpf_text.specs.Laws.{AssemblesOrIsRefused, AssemblesToOne, ListingAssembles, NeverBoth, ReadsForms, ReadsText, RefusedOnce};
+
+/// What stands behind the labels of a line is read as an instruction exactly if it is the spelling of a form, and says
+/// what the form says.
+pub fn reads_forms()
+    ensures { ReadsForms }
+{}
+
+/// Each text says one source, line by line: the reader's.
+pub fn reads_text()
+    ensures { ReadsText }
+{}
 
 /// A text assembles to one list of instructions.
 pub fn assembles_to_one()
@@ -8,17 +19,21 @@ pub fn assembles_to_one()
 {}
 
 /// A text that assembles to a program has no refusal: `assemble` answers this program, unless memory runs out.
-pub fn assembles_or_is_refused()
+pub fn never_both()
     ensures { NeverBoth }
+{}
+
+/// A text has one refusal at most: one number and one line.
+pub fn refused_once()
+    ensures { RefusedOnce }
+{}
+
+/// Every text assembles to a program or has a refusal.
+pub fn assembles_or_is_refused()
+    ensures { AssemblesOrIsRefused }
 {}
 
 /// A program's listing assembles to the program again: `assemble` answers it, unless memory runs out.
 pub fn listing_assembles()
     ensures { ListingAssembles }
-{}
-
-/// What stands behind the labels of a line is read as an instruction exactly if it is the spelling of a form, and says
-/// what the form says.
-pub fn reads_forms()
-    ensures { ReadsForms }
 {}

@@ -14,5 +14,8 @@ mod token;
 
 pub use assembler::assemble;
 pub use error::TextError;
-pub use laws::{assembles_or_is_refused, assembles_to_one, listing_assembles, reads_forms};
+pub use laws::{
+    assembles_or_is_refused, assembles_to_one, listing_assembles, never_both, reads_forms,
+    reads_text, refused_once,
+};
 pub use lister::list;

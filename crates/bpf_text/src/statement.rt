@@ -2,7 +2,10 @@
 
 ghost use Rattle.std.specs.Prelude.{◌≡◌, ℕ, option_map};
 ghost use Rattle.bpf_text.specs.Statements.{seen, plain};
-ghost use Rattle.bpf_text.specs.Reading.{fits_16, fits_32, fits_wide, same_width, any_register_in, register_in, operand_in, wide_if, constant_in, negative_in, is_extension, extension_in, swap_in, place_in, load_of, load_in, assigned_in, operation_in, assignment_in, store_of, unsigned_size, store_in, wide_of, change_in, exchange_in, atomic_in, jump_by, is_name, name_in, target_in, test_in, branch_in, plainly, keyword_in, statement_in, whole_statement};
+ghost use Rattle.bpf_text.specs.Numerals.{fits_16, fits_32, fits_wide};
+ghost use Rattle.bpf_text.specs.StatementReading.{same_width, any_register_in, register_in, operand_in, wide_if, constant_in, negative_in, extension_in, swap_in, place_in, load_in, assigned_in, operation_in, assignment_in, unsigned_size, store_in, wide_of, change_in, exchange_in, atomic_in, name_in, target_in, test_in, branch_in, plainly, keyword_in, statement_in, whole_statement};
+ghost use Rattle.bpf_text.specs.Statements.{is_extension, load_of, store_of, jump_by};
+ghost use Rattle.bpf_text.specs.Characters.{is_name};
 
 use crate::spelling::{
     CONDITIONS, EXTENSIONS, KEYWORDS, Keyword, MEMORIES, MODIFICATIONS, Memory, OPERATIONS,
@@ -73,14 +76,14 @@ fn same_width(left: Width, right: Width) -> bool
     )
 }
 
-#[tactic(auto, unfolding(crate::specs::Reading::any_register_in))]
+#[tactic(auto, unfolding(crate::specs::StatementReading::any_register_in))]
 fn any_register(text: &[u8]) -> Option<(Register, &[u8])>
     ensures { option_map (λ x. (x.0, x.1.now)) result ≡ any_register_in text.now }
 {
     first_spelled(&REGISTERS, text)
 }
 
-#[tactic(auto, unfolding(crate::specs::Reading::register_in))]
+#[tactic(auto, unfolding(crate::specs::StatementReading::register_in))]
 fn register(width: Width, text: &[u8]) -> Option<(Reg, &[u8])>
     ensures { option_map (λ x. (x.0, x.1.now)) result ≡ register_in width text.now }
 {
@@ -92,7 +95,7 @@ fn register(width: Width, text: &[u8]) -> Option<(Reg, &[u8])>
     }
 }
 
-#[tactic(auto, unfolding(crate::specs::Reading::operand_in))]
+#[tactic(auto, unfolding(crate::specs::StatementReading::operand_in))]
 fn operand(width: Width, text: &[u8]) -> Read<'_, Operand>
     ensures { option_map (λ x. (x.0, x.1.now)) result ≡ operand_in width text.now }
 {
@@ -124,7 +127,7 @@ fn load_constant(dst: Reg, number: i128) -> Option<Insn>
 }
 
 /// A constant, with `ll` behind it one of 64 bits.
-#[tactic(auto, unfolding(crate::specs::Reading::constant_in))]
+#[tactic(auto, unfolding(crate::specs::StatementReading::constant_in))]
 fn constant(width: Width, dst: Reg, number: i128, text: &[u8]) -> Read<'_, Insn>
     ensures { option_map (λ x. (x.0, x.1.now)) result ≡ constant_in width dst number text.now }
 {
@@ -136,7 +139,7 @@ fn constant(width: Width, dst: Reg, number: i128, text: &[u8]) -> Read<'_, Insn>
 }
 
 /// What stands behind `= -`: the same register, or a number.
-#[tactic(auto, unfolding(crate::specs::Reading::negative_in))]
+#[tactic(auto, unfolding(crate::specs::StatementReading::negative_in))]
 fn negative(width: Width, dst: Reg, text: &[u8]) -> Read<'_, Insn>
     ensures { option_map (λ x. (x.0, x.1.now)) result ≡ negative_in width dst text.now }
 {
@@ -158,7 +161,7 @@ fn is_extension(width: Width, bits: SignBits) -> bool
 }
 
 /// What stands behind `= (`.
-#[tactic(auto, unfolding(crate::specs::Reading::extension_in))]
+#[tactic(auto, unfolding(crate::specs::StatementReading::extension_in))]
 fn extension(width: Width, dst: Reg, text: &[u8]) -> Read<'_, Insn>
     ensures { option_map (λ x. (x.0, x.1.now)) result ≡ extension_in width dst text.now }
 {
@@ -186,7 +189,7 @@ pub struct Place {
     pub off: Option<i16>,
 }
 
-#[tactic(auto, unfolding(crate::specs::Reading::place_in))]
+#[tactic(auto, unfolding(crate::specs::StatementReading::place_in))]
 fn read_place(text: &[u8]) -> Option<(Place, &[u8])>
     ensures { option_map (λ x. (x.0, x.1.now)) result ≡ place_in text.now }
 {
@@ -223,7 +226,7 @@ fn load_of(place: Place, dst: Reg) -> Option<Insn>
     })
 }
 
-#[tactic(auto, unfolding(crate::specs::Reading::load_in))]
+#[tactic(auto, unfolding(crate::specs::StatementReading::load_in))]
 fn load(width: Width, dst: Reg, text: &[u8]) -> Read<'_, Insn>
     ensures { option_map (λ x. (x.0, x.1.now)) result ≡ load_in width dst text.now }
 {
@@ -236,7 +239,7 @@ fn load(width: Width, dst: Reg, text: &[u8]) -> Read<'_, Insn>
     }
 }
 
-#[tactic(auto, unfolding(crate::specs::Reading::swap_in))]
+#[tactic(auto, unfolding(crate::specs::StatementReading::swap_in))]
 fn byte_swap(width: Width, dst: Reg, swap: Swap, text: &[u8]) -> Read<'_, Insn>
     ensures { option_map (λ x. (x.0, x.1.now)) result ≡ swap_in width dst swap text.now }
 {
@@ -266,7 +269,7 @@ fn move_register(width: Width, dst: Reg, src: Reg) -> Insn
 }
 
 /// What stands behind `=`.
-#[tactic(auto, unfolding(crate::specs::Reading::assigned_in))]
+#[tactic(auto, unfolding(crate::specs::StatementReading::assigned_in))]
 fn assigned(width: Width, dst: Reg, text: &[u8]) -> Read<'_, Insn>
     ensures { option_map (λ x. (x.0, x.1.now)) result ≡ assigned_in width dst text.now }
 {
@@ -301,7 +304,7 @@ fn operation_of(op: AluOp, width: Width, dst: Reg, src: Option<Operand>) -> Opti
 }
 
 /// What stands behind a register.
-#[tactic(auto, unfolding(crate::specs::Reading::assignment_in))]
+#[tactic(auto, unfolding(crate::specs::StatementReading::assignment_in))]
 fn assignment(width: Width, dst: Reg, text: &[u8]) -> Read<'_, Insn>
     ensures { option_map (λ x. (x.0, x.1.now)) result ≡ assignment_in width dst text.now }
 {
@@ -342,7 +345,7 @@ fn store_of(size: Size, dst: Reg, off: Option<i16>, src: Option<Operand>) -> Opt
     })
 }
 
-#[tactic(auto, unfolding(crate::specs::Reading::store_in))]
+#[tactic(auto, unfolding(crate::specs::StatementReading::store_in))]
 fn store(text: &[u8]) -> Read<'_, Insn>
     ensures { option_map (λ x. (x.0, x.1.now)) result ≡ store_in text.now }
 {
@@ -376,7 +379,7 @@ fn atomic_of(wide: bool, op: AtomicOp, place: Place, src: Reg) -> Option<Insn>
     })
 }
 
-#[tactic(auto, unfolding(crate::specs::Reading::change_in))]
+#[tactic(auto, unfolding(crate::specs::StatementReading::change_in))]
 fn change(fetch: bool, text: &[u8]) -> Read<'_, Insn>
     ensures { option_map (λ x. (x.0, x.1.now)) result ≡ change_in fetch text.now }
 {
@@ -388,7 +391,7 @@ fn change(fetch: bool, text: &[u8]) -> Read<'_, Insn>
     Some((atomic_of(wide, op, place, src), rest))
 }
 
-#[tactic(auto, unfolding(crate::specs::Reading::exchange_in))]
+#[tactic(auto, unfolding(crate::specs::StatementReading::exchange_in))]
 fn exchange(op: AtomicOp, text: &[u8]) -> Read<'_, Insn>
     ensures { option_map (λ x. (x.0, x.1.now)) result ≡ exchange_in op text.now }
 {
@@ -399,7 +402,7 @@ fn exchange(op: AtomicOp, text: &[u8]) -> Read<'_, Insn>
 }
 
 /// What stands behind `lock`.
-#[tactic(auto, unfolding(crate::specs::Reading::atomic_in))]
+#[tactic(auto, unfolding(crate::specs::StatementReading::atomic_in))]
 fn atomic(text: &[u8]) -> Read<'_, Insn>
     ensures { option_map (λ x. (x.0, x.1.now)) result ≡ atomic_in text.now }
 {
@@ -450,7 +453,7 @@ pub fn is_name(word: &[u8]) -> bool
     }
 }
 
-#[tactic(auto, unfolding(crate::specs::Reading::name_in))]
+#[tactic(auto, unfolding(crate::specs::StatementReading::name_in))]
 fn name(jump: Jump, text: &[u8]) -> Read<'_, Statement<'_>>
     ensures { option_map (λ x. (option_map seen x.0, x.1.now)) result ≡ name_in jump text.now }
 {
@@ -469,7 +472,7 @@ fn plain(insn: Option<Insn>) -> Option<Statement<'static>>
 }
 
 /// The target of a jump or call: a distance or a name.
-#[tactic(auto, unfolding(crate::specs::Reading::target_in))]
+#[tactic(auto, unfolding(crate::specs::StatementReading::target_in))]
 fn target(jump: Jump, text: &[u8]) -> Read<'_, Statement<'_>>
     ensures { option_map (λ x. (option_map seen x.0, x.1.now)) result ≡ target_in jump text.now }
 {
@@ -499,7 +502,7 @@ fn test(
 }
 
 /// What stands behind `if`.
-#[tactic(auto, unfolding(crate::specs::Reading::branch_in))]
+#[tactic(auto, unfolding(crate::specs::StatementReading::branch_in))]
 fn branch(text: &[u8]) -> Read<'_, Statement<'_>>
     ensures { option_map (λ x. (option_map seen x.0, x.1.now)) result ≡ branch_in text.now }
 {
@@ -531,7 +534,7 @@ fn keyword(word: Keyword, text: &[u8]) -> Read<'_, Statement<'_>>
 }
 
 /// The statement in front of a text.
-#[tactic(auto, unfolding(crate::specs::Reading::statement_in))]
+#[tactic(auto, unfolding(crate::specs::StatementReading::statement_in))]
 fn front(text: &[u8]) -> Read<'_, Statement<'_>>
     ensures { option_map (λ x. (option_map seen x.0, x.1.now)) result ≡ statement_in text.now }
 {
@@ -545,7 +548,7 @@ fn front(text: &[u8]) -> Read<'_, Statement<'_>>
 }
 
 /// The statement that a text is: None where it is none, `Some(None)` where a number is out of its range.
-#[tactic(auto, unfolding(crate::specs::Reading::whole_statement))]
+#[tactic(auto, unfolding(crate::specs::StatementReading::whole_statement))]
 pub fn statement_of(text: &[u8]) -> Option<Option<Statement<'_>>>
     ensures { option_map (λ s. option_map seen s) result ≡ whole_statement text.now }
 {

@@ -6,5 +6,7 @@ use Rattle.bpf_text.specs.Grammar.{tokens}
 use Rattle.bpf_text.proofs.laws.reads_forms.Goals as goal
 
 pub returns : goal.returns
-returns c = λ text s. (λ read. (whole_gives (tokens text)).holds s (sym (whole_same text) ∙ read),
-    λ found. whole_same text ∙ ap whole_t found.1 ∙ whole_form found.0 ∙ ap Some found.2)
+returns c = λ text s. (
+  λ read. (whole_gives (tokens text)).holds s (sym (whole_same text) ∙ read),
+  λ found. whole_same text ∙ ap whole_t found.1 ∙ whole_form found.0 ∙ ap Some found.2,
+)

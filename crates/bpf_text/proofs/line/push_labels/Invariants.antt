@@ -1,5 +1,5 @@
 use Rattle.std.proofs.Common.{◌≡◌, ◌++◌, map, length}
-use Rattle.bpf_text.specs.Assembly.{labels_at}
+use Rattle.bpf_text.specs.LineReading.{labels_at}
 use Rattle.bpf_text.specs.Seen.{label_seen}
 use Rattle.bpf_text.proofs.line.push_labels.Given as goal
 

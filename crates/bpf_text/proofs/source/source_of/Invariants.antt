@@ -1,5 +1,6 @@
 use Rattle.std.proofs.Common.{◌≡◌, ◌+◌, ◌≤◌, map, length, option_map}
-use Rattle.bpf_text.specs.Assembly.{in_front, source_of}
+use Rattle.bpf_text.specs.Sources.{in_front}
+use Rattle.bpf_text.specs.LineReading.{source_of}
 use Rattle.bpf_text.specs.Seen.{label_seen, size_left}
 use Rattle.bpf_text.specs.SourceSeen.{said_seen}
 use Rattle.bpf_text.proofs.SourceLemmas.{source_left}

@@ -1,5 +1,5 @@
 use Rattle.std.proofs.Common.{◌≡◌, ◌<◌, ◌^◌, drop}
-use Rattle.bpf_text.specs.Tokens.{value_after}
+use Rattle.bpf_text.specs.Numerals.{value_after}
 use Rattle.bpf_text.proofs.token.value.Given as goal
 
 abbrev pub invariant-loop-byte : goal.invariant-loop-byte

@@ -1,25 +1,8 @@
--- Words, marks and numbers, and how they are read in front of a text. Blanks may stand in front of each.
-use Rattle.std.specs.Prelude.{ℕ, ◌+◌, ◌*◌, Bool, true, false, ◌&&◌, ◌||◌, List, [], ◌∷◌, Option, Some, None, option_and_then, ℤ, pos, neg_ℤ, length, drop, nat_le, nat_lt, ◌==◌, if◌then◌else◌}
+-- The reader that computes, first part: words, marks and numbers in front of a text. Blanks may stand in front of each.
+use Rattle.std.specs.Prelude.{ℕ, Bool, true, false, List, [], ◌∷◌, Option, Some, None, option_and_then, ℤ, pos, neg_ℤ, ◌==◌, if◌then◌else◌}
 use Rattle.std.specs.Str.{bytes_eq}
-use Rattle.std.specs.Char.{digit_value}
-
-abbrev pub is_between : ℕ → ℕ → ℕ → Bool
-is_between low high c = nat_le low c && nat_le c high
-
-abbrev pub is_digit : ℕ → Bool
-is_digit c = is_between 48 57 c
-
--- A to Z and a to z
-abbrev pub is_letter : ℕ → Bool
-is_letter c = is_between 65 90 c || is_between 97 122 c
-
--- 95 is the underscore
-abbrev pub is_word_part : ℕ → Bool
-is_word_part c = is_letter c || is_digit c || (c == 95)
-
--- space, tab and carriage return
-abbrev pub is_blank : ℕ → Bool
-is_blank c = (c == 32) || (c == 9) || (c == 13)
+use Rattle.bpf_text.specs.Characters.{is_word_part, is_blank}
+use Rattle.bpf_text.specs.Numerals.{word_value}
 
 -- ---- words and marks
 
@@ -88,23 +71,6 @@ first_spelled spelling [] text = None
 first_spelled spelling (x ∷ xs) text = or_else (found_here x (behind (spelling x) text)) (first_spelled spelling xs text)
 
 -- ---- numbers
-
--- the number of the digits in the base, behind a number that digits before them write
-abbrev pub value_after : ℕ → ℕ → List ℕ → Option ℕ
-value_after base n [] = Some n
-value_after base n (c ∷ cs) = if nat_lt (digit_value c) base then value_after base (n * base + digit_value c) cs else None
-
-abbrev pub value_up_to : ℕ → ℕ → List ℕ → Option ℕ
-value_up_to most base ds = if nat_lt 0 (length ds) && nat_le (length ds) most then value_after base 0 ds else None
-
--- 1 to 20 decimal digits, or `0x` and 1 to 16 hexadecimal ones of either case
-abbrev pub begins_hex : List ℕ → Bool
-begins_hex [] = false
-begins_hex (c ∷ []) = false
-begins_hex (c ∷ d ∷ ds) = (c == 48) && (d == 120)
-
-unfoldable pub word_value : List ℕ → Option ℕ
-word_value w = if begins_hex w then value_up_to 16 16 (drop 2 w) else value_up_to 20 10 w
 
 unfoldable pub unsigned_in : List ℕ → Read ℕ
 unsigned_in text = do

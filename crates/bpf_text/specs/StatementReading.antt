@@ -1,6 +1,6 @@
--- The statement that stands in front of a text, and the text behind it. A number out of its range is read too: what is
--- read is then None.
-use Rattle.std.specs.Prelude.{ℕ, ◌^◌, Bool, true, false, ◌&&◌, not, List, [], ◌∷◌, length, codes, Option, Some, None, option_map, ℤ, pos, negsuc, neg_ℤ, int_le, nat_lt, if◌then◌else◌}
+-- The reader that computes, second part: the statement in front of a text, and the text behind it. A number out of its
+-- range is read too: what is read is then None. That it reads the forms of Grammar is the law `ReadsForms`.
+use Rattle.std.specs.Prelude.{ℕ, Bool, true, false, List, [], ◌∷◌, Option, Some, None, ℤ, pos, neg_ℤ, if◌then◌else◌, codes, option_map}
 use Rattle.bpf_insn.specs.declared.instruction.Reg.{Reg}
 use Rattle.bpf_insn.specs.declared.instruction.Size.{Size}
 use Rattle.bpf_insn.specs.declared.instruction.Size.TheVariants.{W, DW}
@@ -10,26 +10,26 @@ use Rattle.bpf_insn.specs.declared.instruction.Operand.{Operand}
 use Rattle.bpf_insn.specs.declared.instruction.Operand.TheVariants.{Imm, Reg as FromReg}
 use Rattle.bpf_insn.specs.declared.instruction.AluOp.{AluOp}
 use Rattle.bpf_insn.specs.declared.instruction.AluOp.TheVariants.{Mov}
-use Rattle.bpf_insn.specs.declared.instruction.SignBits.{SignBits}
-use Rattle.bpf_insn.specs.declared.instruction.SignBits.TheVariants.{B32 as S32}
 use Rattle.bpf_insn.specs.declared.instruction.Cond.{Cond}
 use Rattle.bpf_insn.specs.declared.instruction.AtomicOp.{AtomicOp}
 use Rattle.bpf_insn.specs.declared.instruction.AtomicOp.TheVariants.{Modify as Changes, Xchg, CmpXchg}
 use Rattle.bpf_insn.specs.declared.instruction.Insn.{Insn}
-use Rattle.bpf_insn.specs.declared.instruction.Insn.TheVariants.{Alu, Neg, MovSx, End, LoadImm64, Load, LoadSx, Store, StoreImm, Atomic, Ja, JaLong, JumpIf, CallLocal, Exit}
+use Rattle.bpf_insn.specs.declared.instruction.Insn.TheVariants.{Alu, Neg, MovSx, End, LoadImm64, Atomic, Exit}
 use Rattle.bpf_text.specs.declared.spelling.Register.{Register}
 use Rattle.bpf_text.specs.declared.spelling.Swap.{Swap}
 use Rattle.bpf_text.specs.declared.spelling.Memory.{Memory}
 use Rattle.bpf_text.specs.declared.spelling.Memory.TheVariants.{Unsigned, Signed}
 use Rattle.bpf_text.specs.declared.spelling.Keyword.{Keyword}
-use Rattle.bpf_text.specs.declared.spelling.Keyword.TheVariants as keyword
 use Rattle.bpf_text.specs.Parts.{registers, operations, conditions, modifications, extensions, swaps, memories, keywords, register_spelling, swap_spelling, memory_text, keyword_text}
 use Rattle.bpf_text.specs.declared.statement.Place.{Place}
 use Rattle.bpf_text.specs.declared.statement.Jump.{Jump}
 use Rattle.bpf_text.specs.declared.statement.Jump.TheVariants.{Goto as ToSlot, GotoLong as FarToSlot, Call as CallSlot, If as OnTest}
-use Rattle.bpf_text.specs.Tokens.{Read, ◌>>=◌, is_digit, skip_blanks, word_in, behind, behind_mark, first_spelled, number_in, signed_in, unsigned_in}
 use Rattle.bpf_text.specs.Spelling.{register_text, operation_text, cond_text, modify_text, sign_bits_text}
-use Rattle.bpf_text.specs.Statements.{Statement, plain, to_label}
+use Rattle.bpf_text.specs.declared.spelling.Keyword.TheVariants as keyword
+use Rattle.bpf_text.specs.Characters.{is_name}
+use Rattle.bpf_text.specs.Numerals.{fits_16, fits_32, fits_wide}
+use Rattle.bpf_text.specs.Statements.{Statement, is_extension, load_of, store_of, jump_by, plain, to_label}
+use Rattle.bpf_text.specs.WordReading.{skip_blanks, Read, ◌>>=◌, word_in, behind_mark, behind, first_spelled, unsigned_in, number_in, signed_in}
 
 -- one way where it can be gone, else the other
 abbrev pub first_way : {A B : Type 0} → Option A → (A → B) → B → B
@@ -39,21 +39,6 @@ first_way (Some x) way other = way x
 -- what is read, None for a number out of its range; and the text behind it
 abbrev pub Checked : Type 0 → Type 0
 Checked A = Read (Option A)
-
--- ---- ranges
-
-abbrev pub in_range : ℤ → ℤ → ℤ → Option ℤ
-in_range low high z = if int_le low z && int_le z high then Some z else None
-
-abbrev pub fits_16 : ℤ → Option ℤ
-fits_16 z = in_range (negsuc 32767) (pos 32767) z
-
-abbrev pub fits_32 : ℤ → Option ℤ
-fits_32 z = in_range (negsuc 2147483647) (pos 2147483647) z
-
-abbrev pub fits_wide : ℤ → Option ℕ
-fits_wide (pos n) = if nat_lt n (2 ^ 64) then Some n else None
-fits_wide (negsuc n) = None
 
 -- ---- registers and operands
 
@@ -88,10 +73,6 @@ unfoldable pub negative_in : Width → Reg → List ℕ → Checked Insn
 negative_in width dst text = first_way (behind (register_text width dst) text) (λ rest. Some (Some (Neg width dst), rest))
     (unsigned_in text >>= λ n. constant_in width dst (neg_ℤ (pos n.0)) n.1)
 
-abbrev pub is_extension : Width → SignBits → Bool
-is_extension W32 S32 = false
-is_extension _ _ = true
-
 -- behind `= (`
 unfoldable pub extension_in : Width → Reg → List ℕ → Checked Insn
 extension_in width dst text = do
@@ -110,11 +91,6 @@ place_in text = do
   off ← signed_in base.1
   rest ← behind_mark 41 off.1
   Some (record { memory = memory.0; base = base.0; off = fits_16 off.0 }, rest)
-
--- a load, zero-extended from u8 to u64, sign-extended from s8 to s32
-abbrev pub load_of : Memory → Reg → Reg → ℤ → Insn
-load_of (Unsigned size) dst base off = Load size dst base off
-load_of (Signed size) dst base off = LoadSx size dst base off
 
 unfoldable pub load_in : Width → Reg → List ℕ → Checked Insn
 load_in W32 dst text = None
@@ -142,11 +118,6 @@ unfoldable pub assignment_in : Width → Reg → List ℕ → Checked Insn
 assignment_in width dst text = first_spelled operation_text operations text >>= λ op. operation_in width dst op.0 op.1
 
 -- ---- stores and atomic operations
-
-abbrev pub store_of : Size → Reg → Option ℤ → Option Operand → Option Insn
-store_of size base (Some off) (Some (FromReg r)) = Some (Store size base off r)
-store_of size base (Some off) (Some (Imm imm)) = Some (StoreImm size base off imm)
-store_of size base _ _ = None
 
 abbrev pub unsigned_size : Memory → Option Size
 unsigned_size (Unsigned size) = Some size
@@ -191,18 +162,6 @@ atomic_in text =
     (change_in false text)))
 
 -- ---- jumps
-
--- a jump or call by a distance, where the distance fits
-abbrev pub jump_by : Jump → ℤ → Option Insn
-jump_by ToSlot z = option_map Ja (fits_16 z)
-jump_by FarToSlot z = option_map JaLong (fits_32 z)
-jump_by CallSlot z = option_map CallLocal (fits_32 z)
-jump_by (OnTest cond width dst src) z = option_map (JumpIf cond width dst src) (fits_16 z)
-
--- 1 to 64 word parts, with no digit in front
-abbrev pub is_name : List ℕ → Bool
-is_name [] = false
-is_name (c ∷ cs) = not (is_digit c) && nat_lt (length cs) 64
 
 unfoldable pub name_in : Jump → List ℕ → Checked Statement
 name_in jump text = word_in text >>= λ w. if is_name w.0 then Some (Some (to_label jump w.0), w.1) else None
