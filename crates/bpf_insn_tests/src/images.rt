@@ -2,6 +2,7 @@
 
 use bpf_insn::{DecodeError, Order, ProgramView, decode, decode_from};
 use std::alloc::Global;
+use std::process::Abort;
 use std::test::Fail;
 
 /// The refusal's number and slot; 0 and the count of slots where there is none.
@@ -77,23 +78,69 @@ fn images_have_these_answers(rt: HostRuntime) -> Result<(), Fail> {
         ),
     ];
     for (bytes, want) in rows {
-        assert_eq!(rt;
-            answer_of_view(bytes, Order::Little),
-            want,
-            "view of {bytes:?}"
-        );
-        assert_eq!(rt;
-            answer_of_program(rt.alloc(), bytes, Order::Little),
-            want,
-            "program of {bytes:?}"
-        );
-        assert_eq!(rt;
-            answer_of_reader(rt.alloc(), bytes, Order::Little),
-            want,
-            "reader of {bytes:?}"
-        );
+        assert_answers(&rt, Order::Little, bytes, want)?;
     }
     Ok(())
+}
+
+/// View, program and reader have this answer.
+fn assert_answers(
+    rt: &(impl Abort + Alloc<A = Global>),
+    order: Order,
+    bytes: &[u8],
+    want: Answer,
+) -> Result<(), Fail> {
+    assert_eq!(rt; answer_of_view(bytes, order), want, "view of {bytes:?}");
+    assert_eq!(rt;
+        answer_of_program(rt.alloc(), bytes, order),
+        want,
+        "program of {bytes:?}"
+    );
+    assert_eq!(rt;
+        answer_of_reader(rt.alloc(), bytes, order),
+        want,
+        "reader of {bytes:?}"
+    );
+    Ok(())
+}
+
+#[test]
+fn images_in_the_big_order_have_these_answers(rt: HostRuntime) -> Result<(), Fail> {
+    let rows: [(&[u8], Answer); 15] = [
+        (&[], (1, 0)),
+        (&[0xff, 0, 0, 0, 0, 0, 0, 0], (2, 0)),
+        (&[0x07, 0xb0, 0, 0, 0, 0, 0, 0], (3, 0)),
+        (&[0x07, 0x0b, 0, 0, 0, 0, 0, 0], (3, 0)),
+        (&[0x07, 0x01, 0, 0, 0x44, 0x33, 0x22, 0x11], (4, 0)),
+        (&[0x07, 0x10, 0, 0, 0x11, 0x22, 0x33, 0x44], (0, 1)),
+        (&[0xd4, 0, 0, 0, 0x10, 0, 0, 0], (5, 0)),
+        (&[0xd4, 0, 0, 0, 0, 0, 0, 0x10], (0, 1)),
+        (&[0x18, 0x10, 0, 0, 0x9a, 0xbc, 0xde, 0xf0], (6, 0)),
+        (&[0x18, 0x01, 0, 0, 0, 0, 0, 0], (7, 0)),
+        (&[0x85, 0x02, 0, 0, 0, 0, 0, 0], (7, 0)),
+        (&[0x85, 0x01, 0, 0, 0xff, 0xff, 0xff, 0xff], (0, 1)),
+        (&[0x05, 0, 0, 1, 0, 0, 0, 0], (8, 0)),
+        // A distance of 256 in the little order, of 1 in the big one; and one of 16,777,216.
+        (
+            &[
+                0x05, 0, 0, 1, 0, 0, 0, 0, 0x95, 0, 0, 0, 0, 0, 0, 0, 0x95, 0, 0, 0, 0, 0, 0, 0,
+            ],
+            (0, 3),
+        ),
+        (
+            &[0x06, 0, 0, 0, 1, 0, 0, 0, 0x95, 0, 0, 0, 0, 0, 0, 0],
+            (8, 0),
+        ),
+    ];
+    for (bytes, want) in rows {
+        assert_answers(&rt, Order::Big, bytes, want)?;
+    }
+    assert_answers(
+        &rt,
+        Order::Little,
+        &[0x07, 0x10, 0, 0, 0x11, 0x22, 0x33, 0x44],
+        (4, 0),
+    )
 }
 
 #[test]

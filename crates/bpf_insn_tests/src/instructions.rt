@@ -5,6 +5,7 @@ use bpf_insn::{
     ProgramView, Reg, SignBits, Size, Width, decode, encode,
 };
 use std::alloc::{AllocError, Global};
+use std::process::Abort;
 use std::test::Fail;
 
 const OPS: [AluOp; 14] = [
@@ -175,17 +176,19 @@ fn every_form(alloc: Global) -> Result<Vec<Insn>, AllocError> {
     Ok(list)
 }
 
-#[test]
-fn every_form_round_trips(rt: HostRuntime) -> Result<(), Fail> {
+fn assert_round_trip(rt: &(impl Abort + Alloc<A = Global>), order: Order) -> Result<(), Fail> {
     let list = every_form(rt.alloc())?;
     let mut at = 0u32;
-    let program = Program::new(rt.alloc(), list.clone()?, Order::Little)?;
+    let program = Program::new(rt.alloc(), list.clone()?, order)?;
     let mut image = Vec::new(rt.alloc());
     encode(&program, &mut image)?;
-    let view = ProgramView::of(&image, Order::Little)?;
-    let again = decode(rt.alloc(), &image, Order::Little)?;
+    let view = ProgramView::of(&image, order)?;
+    let again = decode(rt.alloc(), &image, order)?;
     assert_eq!(rt; view.slots(), program.slots());
     assert_eq!(rt; again.slots(), program.slots());
+    for told in [program.order(), view.order(), again.order()] {
+        assert_eq!(rt; told, order);
+    }
     for insn in &list {
         assert_eq!(rt; program.at(at).copied(), Some(*insn), "slot {at}");
         assert_eq!(rt; again.at(at).copied(), Some(*insn), "slot {at}");
@@ -200,8 +203,15 @@ fn every_form_round_trips(rt: HostRuntime) -> Result<(), Fail> {
 }
 
 #[test]
+fn every_form_round_trips(rt: HostRuntime) -> Result<(), Fail> {
+    assert_round_trip(&rt, Order::Little)?;
+    assert_round_trip(&rt, Order::Big)
+}
+
+#[test]
 fn instructions_have_these_bytes(rt: HostRuntime) -> Result<(), Fail> {
-    let rows: [(Insn, [u8; 8]); 5] = [
+    // The instruction; its bytes in the little and in the big order.
+    let rows: [(Insn, [u8; 8], [u8; 8]); 7] = [
         (
             Insn::Alu {
                 op: AluOp::Add,
@@ -210,6 +220,7 @@ fn instructions_have_these_bytes(rt: HostRuntime) -> Result<(), Fail> {
                 src: Operand::Imm(0x1122_3344),
             },
             [0x07, 0x01, 0, 0, 0x44, 0x33, 0x22, 0x11],
+            [0x07, 0x10, 0, 0, 0x11, 0x22, 0x33, 0x44],
         ),
         (
             Insn::Alu {
@@ -219,6 +230,7 @@ fn instructions_have_these_bytes(rt: HostRuntime) -> Result<(), Fail> {
                 src: Operand::Imm(3),
             },
             [0x97, 0, 1, 0, 3, 0, 0, 0],
+            [0x97, 0, 0, 1, 0, 0, 0, 3],
         ),
         (
             Insn::Atomic {
@@ -232,6 +244,7 @@ fn instructions_have_these_bytes(rt: HostRuntime) -> Result<(), Fail> {
                 src: Reg::R1,
             },
             [0xdb, 0x1a, 0xf8, 0xff, 1, 0, 0, 0],
+            [0xdb, 0xa1, 0xff, 0xf8, 0, 0, 0, 1],
         ),
         (
             Insn::End {
@@ -240,6 +253,7 @@ fn instructions_have_these_bytes(rt: HostRuntime) -> Result<(), Fail> {
                 dst: Reg::R0,
             },
             [0xdc, 0, 0, 0, 0x10, 0, 0, 0],
+            [0xdc, 0, 0, 0, 0, 0, 0, 0x10],
         ),
         (
             Insn::MovSx {
@@ -249,16 +263,50 @@ fn instructions_have_these_bytes(rt: HostRuntime) -> Result<(), Fail> {
                 src: Reg::R2,
             },
             [0xbf, 0x21, 0x20, 0, 0, 0, 0, 0],
+            [0xbf, 0x12, 0, 0x20, 0, 0, 0, 0],
+        ),
+        (
+            Insn::CallLocal { off: -1 },
+            [0x85, 0x10, 0, 0, 0xff, 0xff, 0xff, 0xff],
+            [0x85, 0x01, 0, 0, 0xff, 0xff, 0xff, 0xff],
+        ),
+        (
+            Insn::Ja { off: -1 },
+            [0x05, 0, 0xff, 0xff, 0, 0, 0, 0],
+            [0x05, 0, 0xff, 0xff, 0, 0, 0, 0],
         ),
     ];
-    for (insn, want) in rows {
-        let mut list = Vec::new(rt.alloc());
-        list.push(insn)?;
-        let program = Program::new(rt.alloc(), list, Order::Little)?;
-        let mut image = Vec::new(rt.alloc());
-        encode(&program, &mut image)?;
-        assert_eq!(rt; image.as_slice(), want.as_slice());
+    for (insn, little, big) in rows {
+        assert_image(&rt, Order::Little, insn, &little)?;
+        assert_image(&rt, Order::Big, insn, &big)?;
     }
+    let wide = Insn::LoadImm64 {
+        dst: Reg::R1,
+        value: 0x1234_5678_9abc_def0,
+    };
+    let little = [
+        0x18, 0x01, 0, 0, 0xf0, 0xde, 0xbc, 0x9a, 0, 0, 0, 0, 0x78, 0x56, 0x34, 0x12,
+    ];
+    let big = [
+        0x18, 0x10, 0, 0, 0x9a, 0xbc, 0xde, 0xf0, 0, 0, 0, 0, 0x12, 0x34, 0x56, 0x78,
+    ];
+    assert_image(&rt, Order::Little, wide, &little)?;
+    assert_image(&rt, Order::Big, wide, &big)
+}
+
+/// The program of this instruction alone has this image.
+fn assert_image(
+    rt: &(impl Abort + Alloc<A = Global>),
+    order: Order,
+    insn: Insn,
+    want: &[u8],
+) -> Result<(), Fail> {
+    let mut list = Vec::new(rt.alloc());
+    list.push(insn)?;
+    let program = Program::new(rt.alloc(), list, order)?;
+    let mut image = Vec::new(rt.alloc());
+    encode(&program, &mut image)?;
+    assert_eq!(rt; image.as_slice(), want);
     Ok(())
 }
 

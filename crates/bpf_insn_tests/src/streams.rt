@@ -1,6 +1,6 @@
 //! Readers and writers that give or take a few bytes at a time, and fail in mid-stream.
 
-use bpf_insn::{Insn, Order, Program, decode_from, encode};
+use bpf_insn::{DecodeError, Insn, Order, Program, decode_from, encode, read_image};
 use std::alloc::Global;
 use std::io::{self, ErrorKind, Read, Write};
 use std::test::Fail;
@@ -56,6 +56,73 @@ impl Write for Narrow {
 
 const SMALLEST: [u8; 16] = [0xb7, 0, 0, 0, 0, 0, 0, 0, 0x95, 0, 0, 0, 0, 0, 0, 0];
 
+/// Gives one byte at a time, fails at one call alone, and counts the calls.
+#[derive(Drop)]
+struct Stumbling<'a> {
+    left: &'a [u8],
+    fails_at: u32,
+    calls: u32,
+}
+
+impl<'a> Read for Stumbling<'a> {
+    fn read(&mut self, buf: &mut [u8]) -> io::Result<usize> {
+        self.calls = self.calls.saturating_add(1);
+        if buf.is_empty() {
+            return Ok(0);
+        }
+        if self.calls == self.fails_at {
+            return Err(io::Error::from(ErrorKind::Interrupted));
+        }
+        match self.left.split_first() {
+            Some((first, rest)) => {
+                buf[0] = *first;
+                self.left = rest;
+                Ok(1)
+            }
+            None => Ok(0),
+        }
+    }
+}
+
+#[test]
+fn no_read_is_tried_again(rt: HostRuntime) -> Result<(), Fail> {
+    for (fails_at, slot) in [(1, 0), (8, 0), (9, 1), (17, 2)] {
+        let mut reader = Stumbling {
+            left: &SMALLEST,
+            fails_at,
+            calls: 0,
+        };
+        let error = read_image(rt.alloc(), &mut reader).err();
+        assert_eq!(rt; error, Some(DecodeError::Read { slot }), "call {fails_at}");
+        assert_eq!(rt; reader.calls, fails_at);
+    }
+    Ok(())
+}
+
+/// Gives as many bytes as there is room for, without end, and counts them.
+#[derive(Drop)]
+struct Endless {
+    given: usize,
+}
+
+impl Read for Endless {
+    fn read(&mut self, buf: &mut [u8]) -> io::Result<usize> {
+        self.given = self.given.saturating_add(buf.len());
+        Ok(buf.len())
+    }
+}
+
+#[test]
+fn a_reader_without_end_is_left(rt: HostRuntime) -> Result<(), Fail> {
+    let mut reader = Endless { given: 0 };
+    let bytes = read_image(rt.alloc(), &mut reader)?;
+    assert_eq!(rt; bytes.len(), 524_289);
+    assert_eq!(rt; reader.given, 524_289);
+    let error = decode_from(rt.alloc(), Endless { given: 0 }, Order::Little).err();
+    assert_eq!(rt; error, Some(DecodeError::Length));
+    Ok(())
+}
+
 #[test]
 fn readers_fail_in_mid_stream(rt: HostRuntime) -> Result<(), Fail> {
     for (count, want) in [(0, (10, 0)), (7, (10, 0)), (12, (10, 1)), (16, (10, 2))] {
@@ -74,6 +141,47 @@ fn readers_fail_in_mid_stream(rt: HostRuntime) -> Result<(), Fail> {
         fails: false,
     };
     assert_eq!(rt; decode_from(rt.alloc(), whole, Order::Little)?.slots(), 2);
+    Ok(())
+}
+
+/// Takes all that is written, fails at one call alone, and counts the calls.
+#[derive(Drop)]
+struct Shaky {
+    taken: Vec<u8>,
+    fails_at: u32,
+    calls: u32,
+}
+
+impl Write for Shaky {
+    fn write(&mut self, buf: &[u8]) -> io::Result<usize> {
+        self.calls = self.calls.saturating_add(1);
+        if self.calls == self.fails_at {
+            return Err(io::Error::from(ErrorKind::Interrupted));
+        }
+        if self.taken.extend_from_slice(buf).is_err() {
+            return Err(io::Error::from(ErrorKind::OutOfMemory));
+        }
+        Ok(buf.len())
+    }
+
+    fn flush(&mut self) -> io::Result<()> {
+        Ok(())
+    }
+}
+
+#[test]
+fn no_write_is_tried_again(rt: HostRuntime) -> Result<(), Fail> {
+    let program = smallest(rt.alloc())?;
+    for (fails_at, count) in [(1, 0), (2, 8)] {
+        let mut writer = Shaky {
+            taken: Vec::new(rt.alloc()),
+            fails_at,
+            calls: 0,
+        };
+        assert!(rt; encode(&program, &mut writer).is_err(), "call {fails_at}");
+        assert_eq!(rt; writer.calls, fails_at);
+        assert_eq!(rt; writer.taken.len(), count);
+    }
     Ok(())
 }
 
