@@ -18,8 +18,8 @@ use std::io::Read;
 /// The most bytes that are read: one more than the largest image.
 const MAX_READ: usize = 8 * MAX_SLOTS + 1;
 
-/// The program whose image these bytes are, with memory of its own. It is refused as by [`ProgramView::of`], and with E9
-/// if memory runs out.
+/// The program whose image in a byte order these bytes are, with memory of its own. It is refused as by
+/// [`ProgramView::of`], and with E9 if memory runs out.
 pub fn decode(alloc: Global, bytes: &[u8], order: Order) -> Result<Program, DecodeError>
     ensures ok { IfOk result (λ p. IsImage order p.list bytes.now × (p.order ≡ order)) }
     ensures program { IfOk result (λ p. IsProgram p.list) }
@@ -62,8 +62,8 @@ pub fn read_image<R: Read>(alloc: Global, reader: &mut R) -> Result<Vec<u8>, Dec
     Ok(bytes)
 }
 
-/// The program whose image a reader gives, in whatever pieces. It reads to the end or to 524,289 bytes, and answers as
-/// [`decode`] on those, or E10 at the first fault of the reader, with the slot in which that came.
+/// The program whose image in a byte order a reader gives, in whatever pieces. It reads to the end or to 524,289 bytes,
+/// and answers as [`decode`] on those, or E10 at the first fault of the reader, with the slot in which that came.
 pub fn decode_from<R: Read + Drop>(
     alloc: Global,
     reader: R,

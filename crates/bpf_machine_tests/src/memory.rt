@@ -1,9 +1,10 @@
 //! Loads, stores and atomic operations, with outcomes worked out by hand.
 
 use crate::programs::{
-    assert_run, assert_runs, by, copy, done, fault, load, put, set, set_long, store, with,
+    ORDERS, assert_run, assert_run_in, assert_runs, assert_runs_in, by, copy, done, fault, load,
+    put, set, set_long, store, with,
 };
-use bpf_insn::{AluOp, AtomicOp, Insn, Modify, Reason, Reg, Size, Width};
+use bpf_insn::{AluOp, AtomicOp, Insn, Modify, Order, Reason, Reg, Size, Width};
 use std::test::Fail;
 
 fn atomic(wide: bool, op: AtomicOp, dst: Reg, off: i16, src: Reg) -> Insn {
@@ -33,16 +34,19 @@ fn the_context_is_read(rt: HostRuntime) -> Result<(), Fail> {
     ];
     assert_run(&rt, &back, &[7], 100, done(7, 4))?;
     let context = [0x88, 0x77, 0x66, 0x55, 0x44, 0x33, 0x22, 0x11, 0x99];
+    // The size and the offset; the number in the little and in the big order.
     let rows = [
-        (Size::B, 8, 0x99),
-        (Size::H, 7, 0x9911),
-        (Size::W, 3, 0x2233_4455),
-        (Size::DW, 0, 0x1122_3344_5566_7788),
-        (Size::DW, 1, 0x9911_2233_4455_6677),
+        (Size::B, 8, [0x99, 0x99]),
+        (Size::H, 7, [0x9911, 0x1199]),
+        (Size::W, 3, [0x2233_4455, 0x5544_3322]),
+        (Size::DW, 0, [0x1122_3344_5566_7788, 0x8877_6655_4433_2211]),
+        (Size::DW, 1, [0x9911_2233_4455_6677, 0x7766_5544_3322_1199]),
     ];
-    for (size, off, wanted) in rows {
+    for (size, off, [little, big]) in rows {
         let loaded = [load(size, Reg::R0, Reg::R1, off), Insn::Exit];
-        assert_run(&rt, &loaded, &context, 100, done(wanted, 2))?;
+        for (order, wanted) in [(Order::Little, little), (Order::Big, big)] {
+            assert_run_in(&rt, order, &loaded, &context, 100, done(wanted, 2))?;
+        }
         let behind = [load(size, Reg::R0, Reg::R1, 9), Insn::Exit];
         assert_run(
             &rt,
@@ -89,24 +93,28 @@ fn after_a_store(size: Size, off: i16, loaded: Size, from: i16) -> [Insn; 7] {
 
 #[test]
 fn accesses_across_two_slots(rt: HostRuntime) -> Result<(), Fail> {
-    // The size and the offset; the bytes themselves, then the lower and the upper slot.
+    // The order, the size and the offset; the bytes themselves, then the lower and the upper slot.
     let rows = [
         (
+            Order::Little,
             Size::B,
             -9,
             [0x88, 0x88a1_a2a3_a4a5_a6a7, 0xa0a1_a2a3_a4a5_a6a7],
         ),
         (
+            Order::Little,
             Size::H,
             -9,
             [0x7788, 0x88a1_a2a3_a4a5_a6a7, 0xa0a1_a2a3_a4a5_a677],
         ),
         (
+            Order::Little,
             Size::W,
             -10,
             [0x5566_7788, 0x7788_a2a3_a4a5_a6a7, 0xa0a1_a2a3_a4a5_5566],
         ),
         (
+            Order::Little,
             Size::DW,
             -12,
             [
@@ -116,6 +124,7 @@ fn accesses_across_two_slots(rt: HostRuntime) -> Result<(), Fail> {
             ],
         ),
         (
+            Order::Little,
             Size::DW,
             -15,
             [
@@ -124,15 +133,64 @@ fn accesses_across_two_slots(rt: HostRuntime) -> Result<(), Fail> {
                 0xa0a1_a2a3_a4a5_a611,
             ],
         ),
+        (
+            Order::Big,
+            Size::B,
+            -9,
+            [0x88, 0xa0a1_a2a3_a4a5_a688, 0xa0a1_a2a3_a4a5_a6a7],
+        ),
+        (
+            Order::Big,
+            Size::H,
+            -9,
+            [0x7788, 0xa0a1_a2a3_a4a5_a677, 0x88a1_a2a3_a4a5_a6a7],
+        ),
+        (
+            Order::Big,
+            Size::W,
+            -10,
+            [0x5566_7788, 0xa0a1_a2a3_a4a5_5566, 0x7788_a2a3_a4a5_a6a7],
+        ),
+        (
+            Order::Big,
+            Size::DW,
+            -12,
+            [
+                0x1122_3344_5566_7788,
+                0xa0a1_a2a3_1122_3344,
+                0x5566_7788_a4a5_a6a7,
+            ],
+        ),
+        (
+            Order::Big,
+            Size::DW,
+            -15,
+            [
+                0x1122_3344_5566_7788,
+                0xa011_2233_4455_6677,
+                0x88a1_a2a3_a4a5_a6a7,
+            ],
+        ),
     ];
-    for (size, off, [itself, lower, upper]) in rows {
-        assert_runs(&rt, &after_a_store(size, off, size, off), done(itself, 7))?;
-        assert_runs(
+    for (order, size, off, [itself, lower, upper]) in rows {
+        assert_runs_in(
             &rt,
+            order,
+            &after_a_store(size, off, size, off),
+            done(itself, 7),
+        )?;
+        assert_runs_in(
+            &rt,
+            order,
             &after_a_store(size, off, Size::DW, -16),
             done(lower, 7),
         )?;
-        assert_runs(&rt, &after_a_store(size, off, Size::DW, -8), done(upper, 7))?;
+        assert_runs_in(
+            &rt,
+            order,
+            &after_a_store(size, off, Size::DW, -8),
+            done(upper, 7),
+        )?;
     }
     let half = [
         set(Reg::R3, 0),
@@ -147,28 +205,39 @@ fn accesses_across_two_slots(rt: HostRuntime) -> Result<(), Fail> {
 
 #[test]
 fn loads_that_extend(rt: HostRuntime) -> Result<(), Fail> {
+    // The size; where its bytes stand in the little and in the big order; the number.
     let rows = [
-        (Size::B, -1, 0x7f),
-        (Size::B, -2, 0xffff_ffff_ffff_ff80),
-        (Size::H, -3, 0xffff_ffff_ffff_8001),
-        (Size::H, -2, 0x7f80),
-        (Size::W, -4, 0x7f80_0102),
-        (Size::W, -5, 0xffff_ffff_8001_0203),
+        (Size::B, [-1, -8], 0x7f),
+        (Size::B, [-2, -7], 0xffff_ffff_ffff_ff80),
+        (Size::H, [-3, -7], 0xffff_ffff_ffff_8001),
+        (Size::H, [-2, -8], 0x7f80),
+        (Size::W, [-4, -8], 0x7f80_0102),
+        (Size::W, [-5, -7], 0xffff_ffff_8001_0203),
     ];
-    for (size, off, wanted) in rows {
-        let extended = [
-            set_long(Reg::R3, 0x7f80_0102_0304_0506),
-            store(Size::DW, Reg::R10, -8, Reg::R3),
-            Insn::LoadSx {
-                size,
-                dst: Reg::R0,
-                src: Reg::R10,
-                off,
-            },
-            Insn::Exit,
-        ];
-        assert_runs(&rt, &extended, done(wanted, 4))?;
+    for (size, [little, big], wanted) in rows {
+        for (order, off) in [(Order::Little, little), (Order::Big, big)] {
+            let extended = [
+                set_long(Reg::R3, 0x7f80_0102_0304_0506),
+                store(Size::DW, Reg::R10, -8, Reg::R3),
+                Insn::LoadSx {
+                    size,
+                    dst: Reg::R0,
+                    src: Reg::R10,
+                    off,
+                },
+                Insn::Exit,
+            ];
+            assert_runs_in(&rt, order, &extended, done(wanted, 4))?;
+        }
     }
+    // A word of 1 has its low byte first in the little order, and last in the big one.
+    let word = [
+        put(Size::W, Reg::R10, -8, 1),
+        load(Size::B, Reg::R0, Reg::R10, -8),
+        Insn::Exit,
+    ];
+    assert_runs_in(&rt, Order::Little, &word, done(1, 3))?;
+    assert_runs_in(&rt, Order::Big, &word, done(0, 3))?;
     let constant = [
         put(Size::DW, Reg::R10, -8, -2),
         load(Size::DW, Reg::R0, Reg::R10, -8),
@@ -229,7 +298,9 @@ fn a_pointer_overwritten_in_part_is_gone(rt: HostRuntime) -> Result<(), Fail> {
             load(Size::DW, Reg::R0, Reg::R10, -8),
             Insn::Exit,
         ];
-        assert_runs(&rt, &whole, fault(Reason::UnsetByte, 2, 2))?;
+        for order in ORDERS {
+            assert_runs_in(&rt, order, &whole, fault(Reason::UnsetByte, 2, 2))?;
+        }
     }
     let written_byte = [
         store(Size::DW, Reg::R10, -8, Reg::R1),
@@ -282,17 +353,23 @@ fn atomic_operations(rt: HostRuntime) -> Result<(), Fail> {
         (AtomicOp::Xchg, 10, 12),
     ];
     for (op, left, fetched) in rows {
-        for wide in [false, true] {
+        // The low word of a slot stands behind its high word in the big order.
+        for (order, wide, off) in [
+            (Order::Little, false, -8),
+            (Order::Little, true, -8),
+            (Order::Big, false, -4),
+            (Order::Big, true, -8),
+        ] {
             let done_atomically = [
                 put(Size::DW, Reg::R10, -8, 12),
                 set(Reg::R1, 10),
-                atomic(wide, op, Reg::R10, -8, Reg::R1),
+                atomic(wide, op, Reg::R10, off, Reg::R1),
                 load(Size::DW, Reg::R0, Reg::R10, -8),
                 with(AluOp::Lsh, Reg::R0, 8),
                 by(AluOp::Or, Width::W64, Reg::R0, Reg::R1),
                 Insn::Exit,
             ];
-            assert_runs(&rt, &done_atomically, done(256 * left + fetched, 7))?;
+            assert_runs_in(&rt, order, &done_atomically, done(256 * left + fetched, 7))?;
         }
     }
     Ok(())

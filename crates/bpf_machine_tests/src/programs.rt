@@ -93,7 +93,9 @@ pub(crate) fn fault(reason: Reason, slot: u32, steps: u64) -> Outcome {
     }
 }
 
-/// Both forms of the program have this outcome.
+pub(crate) const ORDERS: [Order; 2] = [Order::Little, Order::Big];
+
+/// Both forms of the program have this outcome in the little byte order.
 pub(crate) fn assert_run(
     rt: &(impl Abort + Alloc<A = Global>),
     insns: &[Insn],
@@ -103,10 +105,24 @@ pub(crate) fn assert_run(
 ) -> Result<(), Fail>
     requires { length context.now ≤ 4096 }
 {
-    let program = Program::new(rt.alloc(), insns.to_vec(rt.alloc())?, Order::Little)?;
+    assert_run_in(rt, Order::Little, insns, context, fuel, wanted)
+}
+
+/// Both forms of the program have this outcome in a byte order.
+pub(crate) fn assert_run_in(
+    rt: &(impl Abort + Alloc<A = Global>),
+    order: Order,
+    insns: &[Insn],
+    context: &[u8],
+    fuel: u64,
+    wanted: Outcome,
+) -> Result<(), Fail>
+    requires { length context.now ≤ 4096 }
+{
+    let program = Program::new(rt.alloc(), insns.to_vec(rt.alloc())?, order)?;
     let mut image = Vec::new(rt.alloc());
     encode(&program, &mut image)?;
-    let view = ProgramView::of(&image, Order::Little)?;
+    let view = ProgramView::of(&image, order)?;
     assert_eq!(rt; run(&program, context, fuel), wanted);
     assert_eq!(rt; run(&view, context, fuel), wanted, "of the view");
     Ok(())
@@ -119,4 +135,14 @@ pub(crate) fn assert_runs(
     wanted: Outcome,
 ) -> Result<(), Fail> {
     assert_run(rt, insns, &[], 100, wanted)
+}
+
+/// Both forms of the program have this outcome in a byte order, on no context, with fuel 100.
+pub(crate) fn assert_runs_in(
+    rt: &(impl Abort + Alloc<A = Global>),
+    order: Order,
+    insns: &[Insn],
+    wanted: Outcome,
+) -> Result<(), Fail> {
+    assert_run_in(rt, order, insns, &[], 100, wanted)
 }

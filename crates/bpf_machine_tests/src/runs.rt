@@ -1,7 +1,8 @@
 //! Runs with outcomes worked out by hand.
 
 use crate::programs::{
-    assert_run, assert_runs, by, call, copy, done, fault, jump_if, load, put, set, set_long, with,
+    assert_run, assert_runs, assert_runs_in, by, call, copy, done, fault, jump_if, load, put, set,
+    set_long, with,
 };
 use bpf_insn::{
     AluOp, Cond, EndBits, EndKind, Insn, Operand, Order, Program, ProgramView, Reason, Reg,
@@ -214,28 +215,49 @@ fn moves_that_extend(rt: HostRuntime) -> Result<(), Fail> {
 
 #[test]
 fn byte_swaps(rt: HostRuntime) -> Result<(), Fail> {
+    // The bits, and their number kept and reversed.
     let rows = [
-        (EndKind::Le, EndBits::B16, 0x7788),
-        (EndKind::Le, EndBits::B32, 0x5566_7788),
-        (EndKind::Le, EndBits::B64, 0x1122_3344_5566_7788),
-        (EndKind::Be, EndBits::B16, 0x8877),
-        (EndKind::Be, EndBits::B32, 0x8877_6655),
-        (EndKind::Be, EndBits::B64, 0x8877_6655_4433_2211),
-        (EndKind::Swap, EndBits::B16, 0x8877),
-        (EndKind::Swap, EndBits::B32, 0x8877_6655),
-        (EndKind::Swap, EndBits::B64, 0x8877_6655_4433_2211),
+        (EndBits::B16, 0x7788, 0x8877),
+        (EndBits::B32, 0x5566_7788, 0x8877_6655),
+        (EndBits::B64, 0x1122_3344_5566_7788, 0x8877_6655_4433_2211),
     ];
-    for (kind, bits, wanted) in rows {
+    for (bits, kept, reversed) in rows {
+        for (order, kind, wanted) in [
+            (Order::Little, EndKind::Le, kept),
+            (Order::Little, EndKind::Be, reversed),
+            (Order::Little, EndKind::Swap, reversed),
+            (Order::Big, EndKind::Le, reversed),
+            (Order::Big, EndKind::Be, kept),
+            (Order::Big, EndKind::Swap, reversed),
+        ] {
+            let swapped = [
+                set_long(Reg::R0, 0x1122_3344_5566_7788),
+                Insn::End {
+                    kind,
+                    bits,
+                    dst: Reg::R0,
+                },
+                Insn::Exit,
+            ];
+            assert_runs_in(&rt, order, &swapped, done(wanted, 3))?;
+        }
+    }
+    for (order, kind, wanted) in [
+        (Order::Little, EndKind::Be, 513),
+        (Order::Big, EndKind::Be, 258),
+        (Order::Big, EndKind::Le, 513),
+        (Order::Big, EndKind::Swap, 513),
+    ] {
         let swapped = [
-            set_long(Reg::R0, 0x1122_3344_5566_7788),
+            set(Reg::R0, 258),
             Insn::End {
                 kind,
-                bits,
+                bits: EndBits::B16,
                 dst: Reg::R0,
             },
             Insn::Exit,
         ];
-        assert_runs(&rt, &swapped, done(wanted, 3))?;
+        assert_runs_in(&rt, order, &swapped, done(wanted, 3))?;
     }
     Ok(())
 }
