@@ -1,13 +1,11 @@
 -- Labels and the statements that name them.
 use Rattle.std.proofs.Common.{◌≡◌, ℕ, Bool, true, false, cond, List, [], ◌∷◌, ◌++◌, Option, Some, None, Result, Ok, Err, refl, sym, ap, ◌∙◌, append_assoc}
-use Rattle.std.specs.Prelude.{option_map}
 use Rattle.std.specs.Str.{bytes_eq}
 use Rattle.std.proofs.lemmas.Slice.Eq.{bytes_eq-Decides}
 use Rattle.bpf_insn.specs.declared.instruction.Insn.{Insn}
 use Rattle.bpf_text.specs.declared.error.TextError.{TextError}
-use Rattle.bpf_text.specs.declared.error.TextError.TheVariants.{DefinedAgain}
-use Rattle.bpf_text.specs.Sources.{Label, Said, Source}
-use Rattle.bpf_text.specs.Assembly.{slot_of, redefined, insn_of, insn_said, jump_from, linked, onto, and_then, instructions_of}
+use Rattle.bpf_text.specs.Sources.{Label, Said}
+use Rattle.bpf_text.specs.Assembly.{slot_of, redefined, insn_of, insn_said, jump_from, linked, onto, and_then}
 use Rattle.bpf_text.specs.Statements.{Statement, plain, to_label}
 
 none_there : (a : Bool) (x : ℕ) (o : Option ℕ) → cond a (Some x) o ≡ None → (a ≡ false) × (o ≡ None)
@@ -66,16 +64,3 @@ next old new above l rest all slots unique fresh put =
       slots = λ name. put name ∙ ap (cond (bytes_eq l.name name) (Some l.slot)) (slots name) ∙ sym (slot_push above l name none);
       unique = redefined_push above l rest none ∙ unique;
     }
-
--- ---- the instructions of a source
-
-pub again : (source : Source) (e : TextError) → option_map DefinedAgain (redefined [] source.labels) ≡ Some e → instructions_of source ≡ Err e
-again source e h = rw h refl
-
-pub stopped : (source : Source) (e : TextError) → redefined [] source.labels ≡ None → source.fault ≡ Some e → instructions_of source ≡ Err e
-stopped source e unique fault = rw (unique, fault) refl
-
-pub links : (source : Source) (f : List ℕ → Option ℕ) (r : Result (List Insn) TextError) → redefined [] source.labels ≡ None → source.fault ≡ None
-    → ((name : List ℕ) → f name ≡ slot_of source.labels name) → linked f source.said ≡ r → instructions_of source ≡ r
-links source f r unique fault same h =
-    rw (unique, fault) (sym (linked_same f (slot_of source.labels) source.said same) ∙ h)

@@ -1,4 +1,4 @@
--- Statements, read from tokens: the reader of texts reads the same.
+-- Statements, read from tokens: `x_t` reads of tokens what `x_in` reads of a text.
 use Rattle.std.proofs.Common.{◌≡◌, ℕ, Bool, true, false, cond, List, [], ◌∷◌, Option, Some, None, option_map, refl, ap, ◌∙◌}
 use Rattle.std.specs.Prelude.{codes, ℤ, pos, neg_ℤ, option_and_then, if◌then◌else◌}
 use Rattle.bpf_insn.specs.declared.instruction.Reg.{Reg}

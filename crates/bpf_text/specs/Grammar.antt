@@ -29,7 +29,7 @@ use Rattle.bpf_text.specs.Statements.{Statement, is_extension, load_of, store_of
 
 -- ---- tokens
 
--- a word, or another character by itself; that it is one of the language's marks is said by the forms
+-- a word, or another character by itself; a character that is none of the language's marks is in no form
 pub data Token : Type 0 where
   word : List ℕ → Token
   mark : ℕ → Token
@@ -130,7 +130,9 @@ is_loaded (Signed size) = true
 
 -- ---- forms
 
--- The forms of an instruction. `D` and `S` are registers of one width.
+-- The forms of an instruction: `r1 += r2` and `w1 = 5`; `r1 = -r1`; `r1 = (s8)r2`; `r1 = le16 r1`; `r1 = 5 ll`;
+-- `r0 = *(u8 *)(r1 + 0)`; `*(u8 *)(r1 + 0) = r2`; `lock fetch *(u64 *)(r1 + 0) += r2` and its like; `if r1 == 5 goto +3`;
+-- `goto +3`; `gotol +3`; `call +3`; `exit`.
 pub data Form : Type 0 where
   calculate : AluOp → Width → Reg → OperandForm → Form
   negate : Width → Reg → Form

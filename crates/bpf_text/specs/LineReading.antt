@@ -1,5 +1,4 @@
--- The reader that computes, third part: lines and the source of a text. That this is what the text says is the law
--- `ReadsText`.
+-- The reader that computes, third part: lines and the source of a text. That this is what the text says is the law `ReadsText`.
 use Rattle.std.specs.Prelude.{ℕ, ◌+◌, List, [], ◌∷◌, Option, Some, None, ◌==◌, if◌then◌else◌, ◌++◌, map, option_to_list, is_some, Result, Ok, Err}
 use Rattle.std.specs.List.{slice_split}
 use Rattle.bpf_text.specs.declared.error.TextError.TheVariants.{Form, Range}
@@ -11,6 +10,7 @@ use Rattle.bpf_text.specs.WordReading.{skip_blanks, ◌>>=◌, word_in}
 use Rattle.bpf_text.specs.StatementReading.{if_blank, whole_statement}
 use Rattle.bpf_text.specs.Sources.{lines_of, without_comment, Label, Source, statement_slots, said_at, in_front, ends_with}
 
+-- what stands behind the first such character, if it is there
 abbrev pub behind_it : ℕ → List ℕ → Option (List ℕ)
 behind_it mark [] = None
 behind_it mark (c ∷ cs) = if c == mark then Some cs else behind_it mark cs

@@ -9,7 +9,7 @@ use Rattle.bpf_text.specs.Grammar.{Name, Form, IsLine, line_said}
 
 -- ---- lines
 
--- the text in front of the first such character, and what stands behind it, if it is there
+-- the text in front of the first such character
 abbrev pub before : ℕ → List ℕ → List ℕ
 before mark [] = []
 before mark (c ∷ cs) = if c == mark then [] else c ∷ before mark cs
