@@ -43,6 +43,7 @@ pub enum HeaderForm<'a> {
     },
 }
 
+// The fields behind version 1: the length and the steps.
 fn one_length(rest: Option<&[u8]>) -> Option<HeaderForm<'_>>
     ensures { HeaderIs (one_length_in (fields_in (option_map (λ x. x.now) rest.entry))) (option_map header_seen result) }
 {
@@ -56,6 +57,7 @@ fn one_length(rest: Option<&[u8]>) -> Option<HeaderForm<'_>>
     }
 }
 
+// The fields behind version 2: the least length, the greatest, and the steps.
 fn two_lengths(rest: Option<&[u8]>) -> Option<HeaderForm<'_>>
     ensures { HeaderIs (two_lengths_in (fields_in (option_map (λ x. x.now) rest.entry))) (option_map header_seen result) }
 {
@@ -86,6 +88,7 @@ pub fn header_form(rest: Option<&[u8]>) -> Option<HeaderForm<'_>>
     None
 }
 
+// What version 1 says: its length is the least and the greatest.
 fn one_value(len: &[u8], steps: &[u8]) -> Result<Header, Flaw>
     requires len { is_numeral len.now ≡ true }
     requires steps { is_numeral steps.now ≡ true }
@@ -106,6 +109,7 @@ fn one_value(len: &[u8], steps: &[u8]) -> Result<Header, Flaw>
     }
 }
 
+// What version 2 says.
 fn range_value(least: &[u8], most: &[u8], steps: &[u8]) -> Result<Header, Flaw>
     requires least { is_numeral least.now ≡ true }
     requires most { is_numeral most.now ≡ true }

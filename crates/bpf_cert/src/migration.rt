@@ -10,6 +10,8 @@ use crate::header::Header;
 use arrayvec::ArrayVec;
 use std::alloc::{AllocError, Global};
 
+// Each of these makes a copy that says the same.
+
 fn same_terms(terms: &ArrayVec<Term, 4>) -> ArrayVec<Term, 4>
     ensures { result.items ≡ terms.now.items }
 {
