@@ -1,7 +1,7 @@
 //! What the command answers to words, on places in memory.
 
-use crate::rows::{Row, rows};
-use crate::shelf::{AT_ONCE, NEVER, Paper, Shelf, after};
+use crate::rows::{Seen, rows};
+use crate::shelf::{Fault, Paper, Shelf};
 use bpf_command::{ContextError, context_of, respond};
 use std::alloc::{AllocError, Global};
 use std::process::Abort;
@@ -18,11 +18,11 @@ fn words_of(alloc: Global, line: &str) -> Result<Vec<String>, AllocError> {
     Ok(words)
 }
 
-fn assert_row(rt: &(impl Abort + Alloc<A = Global>), row: &Row) -> Result<(), Fail> {
+fn assert_row(rt: &(impl Abort + Alloc<A = Global>), row: &Seen) -> Result<(), Fail> {
     let words = words_of(rt.alloc(), row.words)?;
     let mut places = Shelf::new(rt.alloc(), b"");
-    let mut out = Paper::new(rt.alloc(), NEVER);
-    let mut err = Paper::new(rt.alloc(), NEVER);
+    let mut out = Paper::new(rt.alloc(), Fault::Never);
+    let mut err = Paper::new(rt.alloc(), Fault::Never);
     let status = respond(rt.alloc(), &words, &mut places, &mut out, &mut err);
     assert_eq!(rt; status, row.status, "{}", row.words);
     assert_eq!(rt; out.taken.as_slice(), row.out.as_bytes(), "{}", row.words);
@@ -39,7 +39,7 @@ fn assert_row(rt: &(impl Abort + Alloc<A = Global>), row: &Row) -> Result<(), Fa
 #[test]
 fn answers_are_as_told(rt: HostRuntime) -> Result<(), Fail> {
     for row in rows() {
-        assert_row(&rt, row)?;
+        assert_row(&rt, &row.seen())?;
     }
     Ok(())
 }
@@ -78,10 +78,15 @@ fn words_are_refused(rt: HostRuntime) -> Result<(), Fail> {
 }
 
 /// Whether a row's line on standard output is told as failed, for ever or once, and only a beginning of it went out.
-fn assert_output_fails(rt: &(impl Abort + Alloc<A = Global>), row: &Row) -> Result<(), Fail> {
+fn assert_output_fails(rt: &(impl Abort + Alloc<A = Global>), row: &Seen) -> Result<(), Fail> {
     let words = words_of(rt.alloc(), row.words)?;
-    let last = row.out.len() - 1;
-    for fault in [AT_ONCE, after(0), after(1), after(last)] {
+    let last = row.out.len().saturating_sub(1);
+    for fault in [
+        Fault::Once,
+        Fault::After(0),
+        Fault::After(1),
+        Fault::After(last),
+    ] {
         let mut places = Shelf::new(rt.alloc(), b"");
         let mut out = Paper::new(rt.alloc(), fault);
         let mut err = Vec::new(rt.alloc());
@@ -91,7 +96,7 @@ fn assert_output_fails(rt: &(impl Abort + Alloc<A = Global>), row: &Row) -> Resu
         assert_eq!(rt; err.as_slice(), told, "{}", row.words);
         let begun = row.out.as_bytes().starts_with(out.taken.as_slice());
         assert!(rt; begun, "{}", row.words);
-        assert!(rt; out.taken.len() <= fault.after, "{}", row.words);
+        assert!(rt; out.taken.len() <= fault.most(), "{}", row.words);
     }
     Ok(())
 }
@@ -99,8 +104,9 @@ fn assert_output_fails(rt: &(impl Abort + Alloc<A = Global>), row: &Row) -> Resu
 #[test]
 fn output_fails(rt: HostRuntime) -> Result<(), Fail> {
     for row in rows() {
+        let row = row.seen();
         if !row.out.is_empty() {
-            assert_output_fails(&rt, row)?;
+            assert_output_fails(&rt, &row)?;
         }
     }
     Ok(())
@@ -114,7 +120,7 @@ fn standard_error_fails(rt: HostRuntime) -> Result<(), Fail> {
         ("run smallest zz --steps 9", 3),
         ("groups", 2),
     ] {
-        for fault in [AT_ONCE, after(3)] {
+        for fault in [Fault::Once, Fault::After(3)] {
             let words = words_of(rt.alloc(), line)?;
             let mut places = Shelf::new(rt.alloc(), b"");
             let mut out = Vec::new(rt.alloc());
@@ -122,7 +128,7 @@ fn standard_error_fails(rt: HostRuntime) -> Result<(), Fail> {
             let got = respond(rt.alloc(), &words, &mut places, &mut out, &mut err);
             assert_eq!(rt; got, status, "{line}");
             assert!(rt; out.is_empty(), "{line}");
-            assert!(rt; err.taken.len() <= fault.after, "{line}");
+            assert!(rt; err.taken.len() <= fault.most(), "{line}");
         }
     }
     Ok(())

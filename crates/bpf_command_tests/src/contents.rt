@@ -1,25 +1,9 @@
 //! What stands at the names of the tests.
 
-use crate::shelf::{AT_ONCE, Fault, NEVER, after};
+use crate::shelf::Fault::{self, After, Never, Once};
 
-/// What stands at a name, and how its reader fails.
-pub struct Content {
-    pub name: &'static str,
-    pub bytes: &'static [u8],
-    pub fault: Fault,
-}
-
-const fn whole(name: &'static str, bytes: &'static [u8]) -> Content {
-    Content {
-        name,
-        bytes,
-        fault: NEVER,
-    }
-}
-
-const fn failing(name: &'static str, bytes: &'static [u8], fault: Fault) -> Content {
-    Content { name, bytes, fault }
-}
+/// A name, what stands there, and how its reader fails.
+pub type Content = (&'static str, &'static [u8], Fault);
 
 /// `r0 = 0` and `exit`.
 pub const SMALLEST: &[u8] = &[0xb7, 0, 0, 0, 0, 0, 0, 0, 0x95, 0, 0, 0, 0, 0, 0, 0];
@@ -63,82 +47,99 @@ const COUNTDOWN_CERTIFICATE: &[u8] =
     b"bpfcert 1 0 23\nfn 0 1 *\nat 0 23\nat 1 2 +2*r6\nr6 u1..10\nend\n";
 
 static CONTENTS: [Content; 46] = [
-    whole("smallest", SMALLEST),
-    whole("countdown", COUNTDOWN),
-    whole("remainder", REMAINDER),
-    whole("fetch", FETCH),
-    whole("every-group", EVERY_GROUP),
-    whole("first-byte", FIRST_BYTE),
-    whole("fourth-byte", FOURTH_BYTE),
-    whole("wide", WIDE),
+    ("smallest", SMALLEST, Never),
+    ("countdown", COUNTDOWN, Never),
+    ("remainder", REMAINDER, Never),
+    ("fetch", FETCH, Never),
+    ("every-group", EVERY_GROUP, Never),
+    ("first-byte", FIRST_BYTE, Never),
+    ("fourth-byte", FOURTH_BYTE, Never),
+    ("wide", WIDE, Never),
     // `goto -1`; `call -1` and `exit`; `r0 = r3` and `exit`.
-    whole("endless", &[0x05, 0, 0xff, 0xff, 0, 0, 0, 0]),
-    whole(
+    ("endless", &[0x05, 0, 0xff, 0xff, 0, 0, 0, 0], Never),
+    (
         "recursive",
         &[
             0x85, 0x10, 0, 0, 0xff, 0xff, 0xff, 0xff, 0x95, 0, 0, 0, 0, 0, 0, 0,
         ],
+        Never,
     ),
-    whole(
+    (
         "unset",
         &[0xbf, 0x30, 0, 0, 0, 0, 0, 0, 0x95, 0, 0, 0, 0, 0, 0, 0],
+        Never,
     ),
-    whole("empty", &[]),
-    whole("one-byte", &[0x95]),
-    whole(
+    ("empty", &[], Never),
+    ("one-byte", &[0x95], Never),
+    (
         "no-register",
         &[0x95, 0, 0, 0, 0, 0, 0, 0, 0x07, 0x0b, 0, 0, 0, 0, 0, 0],
+        Never,
     ),
-    whole("unused-field", &[0x95, 1, 0, 0, 0, 0, 0, 0]),
-    failing("late", SMALLEST, after(16)),
-    failing("broken", SMALLEST, after(12)),
-    failing("hiccup", SMALLEST, AT_ONCE),
-    whole("smallest.cert", SMALLEST_CERTIFICATE),
-    whole("countdown.cert", COUNTDOWN_CERTIFICATE),
-    whole(
+    ("unused-field", &[0x95, 1, 0, 0, 0, 0, 0, 0], Never),
+    ("late", SMALLEST, After(16)),
+    ("broken", SMALLEST, After(12)),
+    ("hiccup", SMALLEST, Once),
+    ("smallest.cert", SMALLEST_CERTIFICATE, Never),
+    ("countdown.cert", COUNTDOWN_CERTIFICATE, Never),
+    (
         "first-byte.cert",
         b"bpfcert 1 1 2\nfn 0 1 *\nat 0 2\nr1 ctx0..0\nend\n",
+        Never,
     ),
-    whole(
+    (
         "fourth-byte.cert",
         b"bpfcert 1 4 2\nfn 0 1 *\nat 0 2\nr1 ctx0..0\nend\n",
+        Never,
     ),
-    whole(
+    (
         "three-bytes.cert",
         b"bpfcert 1 3 2\nfn 0 1 *\nat 0 2\nr1 ctx0..0\nend\n",
+        Never,
     ),
-    whole(
+    (
         "small-bound.cert",
         b"bpfcert 1 0 1\nfn 0 1 *\nat 0 2\nend\n",
+        Never,
     ),
-    whole(
+    (
         "small-budget.cert",
         b"bpfcert 1 0 2\nfn 0 1 *\nat 0 1\nend\n",
+        Never,
     ),
-    whole(
+    (
         "leading-zero.cert",
         b"bpfcert 1 0 2\nfn 0 1 *\nat 0 02\nend\n",
+        Never,
     ),
-    whole("no-steps.cert", b"bpfcert 1 0 0\nfn 0 1 *\nat 0 2\nend\n"),
-    whole("endless.cert", b"bpfcert 1 0 5\nfn 0 1 *\nat 0 5\nend\n"),
-    failing("broken.cert", SMALLEST_CERTIFICATE, after(14)),
-    failing("late.cert", SMALLEST_CERTIFICATE, after(34)),
-    failing("hiccup.cert", SMALLEST_CERTIFICATE, AT_ONCE),
-    whole("smallest.txt", b"r0 = 0\nexit"),
-    whole("wide.txt", b"r1 = 0x123456789abcdef0 ll\n"),
-    whole("form.txt", b"r11 = 0\n"),
-    whole("range.txt", b"r1 = 2147483648"),
-    whole("again.txt", b"exit\nx: exit\nx: exit"),
-    whole("undefined.txt", b"goto x"),
-    whole("empty.txt", b""),
-    whole("outside.txt", b"goto +5\nexit\n"),
-    whole("second-outside.txt", b"exit\ngoto +5\n"),
-    whole("not-utf-8.txt", b"exit ; \xff"),
-    failing("late.txt", b"r0 = 0\nexit", after(11)),
-    failing("hiccup.txt", b"r0 = 0\nexit", AT_ONCE),
-    failing("broken.txt", b"r0 = 0\nexit", after(4)),
-    whole("longer.txt", b"r0 = 0\nr0 = 0\nexit"),
-    whole("three.txt", b"r0 = 0\nr0 = 1\nexit"),
+    (
+        "no-steps.cert",
+        b"bpfcert 1 0 0\nfn 0 1 *\nat 0 2\nend\n",
+        Never,
+    ),
+    (
+        "endless.cert",
+        b"bpfcert 1 0 5\nfn 0 1 *\nat 0 5\nend\n",
+        Never,
+    ),
+    ("broken.cert", SMALLEST_CERTIFICATE, After(14)),
+    ("late.cert", SMALLEST_CERTIFICATE, After(34)),
+    ("hiccup.cert", SMALLEST_CERTIFICATE, Once),
+    ("smallest.txt", b"r0 = 0\nexit", Never),
+    ("wide.txt", b"r1 = 0x123456789abcdef0 ll\n", Never),
+    ("form.txt", b"r11 = 0\n", Never),
+    ("range.txt", b"r1 = 2147483648", Never),
+    ("again.txt", b"exit\nx: exit\nx: exit", Never),
+    ("undefined.txt", b"goto x", Never),
+    ("empty.txt", b"", Never),
+    ("outside.txt", b"goto +5\nexit\n", Never),
+    ("second-outside.txt", b"exit\ngoto +5\n", Never),
+    ("not-utf-8.txt", b"exit ; \xff", Never),
+    ("late.txt", b"r0 = 0\nexit", After(11)),
+    ("hiccup.txt", b"r0 = 0\nexit", Once),
+    ("broken.txt", b"r0 = 0\nexit", After(4)),
+    ("longer.txt", b"r0 = 0\nr0 = 0\nexit", Never),
+    ("three.txt", b"r0 = 0\nr0 = 1\nexit", Never),
 ];
 
 /// All of them.

@@ -7,25 +7,14 @@ use bpf_command::Places;
 use std::alloc::Global;
 use std::io::{self, ErrorKind, Read, Write};
 
-/// Behind how many bytes a stream fails: once, or for ever.
+/// How a stream fails.
 #[derive(Clone, Copy)]
-pub struct Fault {
-    pub after: usize,
-    pub once: bool,
-}
-
-pub const NEVER: Fault = Fault {
-    after: usize::MAX,
-    once: false,
-};
-
-pub const AT_ONCE: Fault = Fault {
-    after: 0,
-    once: true,
-};
-
-pub const fn after(after: usize) -> Fault {
-    Fault { after, once: false }
+pub enum Fault {
+    Never,
+    /// At its first call; then it goes on.
+    Once,
+    /// Behind so many bytes, for ever.
+    After(usize),
 }
 
 impl Fault {
@@ -33,17 +22,28 @@ impl Fault {
     fn passed(&mut self, count: usize) -> io::Result<usize>
         ensures { IfOk result (λ n. n ≤ count) }
     {
-        if self.after == 0 {
-            if self.once {
-                *self = NEVER;
+        match *self {
+            Fault::Never => Ok(count),
+            Fault::Once => {
+                *self = Fault::Never;
+                Err(io::Error::from(ErrorKind::Other))
             }
-            return Err(io::Error::from(ErrorKind::Other));
+            Fault::After(0) => Err(io::Error::from(ErrorKind::Other)),
+            Fault::After(left) => {
+                let count = count.min(left);
+                *self = Fault::After(left - count);
+                Ok(count)
+            }
         }
-        let count = count.min(self.after);
-        if self.after != usize::MAX {
-            self.after -= count;
+    }
+
+    /// How many bytes go through at most.
+    pub fn most(self) -> usize {
+        match self {
+            Fault::Never => usize::MAX,
+            Fault::Once => 0,
+            Fault::After(count) => count,
         }
-        Ok(count)
     }
 }
 
@@ -127,14 +127,14 @@ impl<'a> Places for Shelf<'a> {
         if name == "out" {
             return Ok(Shelved {
                 left: self.out,
-                fault: NEVER,
+                fault: Fault::Never,
             });
         }
-        for content in contents() {
-            if content.name == name {
+        for (named, left, fault) in contents() {
+            if *named == name {
                 return Ok(Shelved {
-                    left: content.bytes,
-                    fault: content.fault,
+                    left: *left,
+                    fault: *fault,
                 });
             }
         }
@@ -147,9 +147,9 @@ impl<'a> Places for Shelf<'a> {
         }
         self.made = self.made.saturating_add(1);
         let fault = match name {
-            "full" => after(15),
-            "hiccup" => AT_ONCE,
-            _ => NEVER,
+            "full" => Fault::After(15),
+            "hiccup" => Fault::Once,
+            _ => Fault::Never,
         };
         let mut paper = Paper::new(self.alloc, fault);
         paper.is_stuck = name == "stuck";
