@@ -10,8 +10,8 @@ use Rattle.std.proofs.lemmas.List.{at_drop_more}
 use Rattle.bpf_cert.specs.Faults.{is_rising}
 use Rattle.bpf_cert.specs.declared.certificate.Function.{Function}
 use Rattle.bpf_cert.specs.declared.certificate.Label.{Label}
-use Rattle.bpf_cert.specs.View.{LabelView, FunctionView, CertificateView, function_view, label_view}
-use Rattle.bpf_cert.specs.Limits.{IsCertificate, slot_before, is_canonical_function, is_limited_function, is_limited_label}
+use Rattle.bpf_cert.specs.View.{LabelView, FunctionView, CertificateView, function_view, label_view, header_of}
+use Rattle.bpf_cert.specs.Limits.{IsCertificate, is_limited_header, slot_before, is_canonical_function, is_limited_function, is_limited_label}
 use Rattle.bpf_safety.specs.Labels.{labels, label_at, last_from, function_at, function_from, first_with}
 use Rattle.bpf_check.specs.Search.{last_up_to, with_key}
 use Rattle.bpf_check.proofs.SearchLemmas.{rises, first_is_last, first_with-append, first_with-append_some, first_with_passes, list_all-append, list_all_get}
@@ -27,7 +27,7 @@ functions_limited c valid = (and_parts _ _ (and_parts _ _ valid).1).1
 
 pub range_is_one : (c : CertificateView) → IsCertificate c → c.least ≤ c.most
 range_is_one c valid =
-    let header = (and_parts _ _ (and_parts _ _ (and_parts _ _ (and_parts _ _ valid).1).0).0).0 in
+    let header : is_limited_header (header_of c) ≡ true = (and_parts _ _ (and_parts _ _ (and_parts _ _ (and_parts _ _ valid).1).0).0).0 in
     let ordered : nat_le c.least c.most ≡ true = (and_parts _ _ (and_parts _ _ (and_parts _ _ header).0).0).1 in
     grind (arith, nat_tests)
 

@@ -1,0 +1,45 @@
+#!/bin/sh
+# The checker counts all its work: its Rust sources make one `Work`, and call neither `transfer`, `entails` nor `covers`, which
+# count nothing. Contracts (`requires`, `ensures`, `ghost`) and comments aren't looked at.
+cd "$(dirname "$0")/../crates/bpf_check/src" || exit 1
+
+# The code of the files without contracts and comments.
+code() {
+    awk '
+        { line = $0; sub(/\/\/.*/, "", line) }
+        open_braces > 0 || line ~ /^[[:space:]]*(requires|ensures|ghost)[[:space:]]/ {
+            open_braces += gsub(/\{/, "", line) - gsub(/\}/, "", line)
+            next
+        }
+        { print FILENAME ": " line }
+    ' "$@"
+}
+
+# How often a whole word stands there.
+how_often() {
+    code $files | grep -ow -- "$1" | wc -l
+}
+
+wants() {
+    found=$(how_often "$1")
+    if [ "$found" -ne "$2" ]; then
+        echo "$1 stands $found times in bpf_check's sources, and not $2 times:"
+        code $files | grep -w -- "$1"
+        failed=1
+    fi
+}
+
+failed=0
+files=$(find . -name '*.rt' | sort)
+if [ "$(echo "$files" | wc -l)" -lt 10 ] || code $files | grep -q 'cfg(test)'; then
+    echo "bpf_check's sources aren't what this test reads"
+    exit 1
+fi
+wants 'Work::new' 1
+wants 'transfer_counted' 1
+wants 'returns_counted' 1
+wants 'transfer' 0
+wants 'entails' 0
+wants 'covers' 0
+[ "$failed" -eq 0 ] && echo "the checker makes one Work, and all its work is counted"
+exit "$failed"
