@@ -41,7 +41,7 @@ pub const WIDE: &[u8] = &[
     0x18, 1, 0, 0, 0xf0, 0xde, 0xbc, 0x9a, 0, 0, 0, 0, 0x78, 0x56, 0x34, 0x12,
 ];
 
-pub const SMALLEST_CERTIFICATE: &[u8] = b"bpfcert 1 0 2\nfn 0 1 *\nat 0 2\nend\n";
+const SMALLEST_CERTIFICATE: &[u8] = b"bpfcert 1 0 2\nfn 0 1 *\nat 0 2\nend\n";
 
 const COUNTDOWN_CERTIFICATE: &[u8] =
     b"bpfcert 1 0 23\nfn 0 1 *\nat 0 23\nat 1 2 +2*r6\nr6 u1..10\nend\n";
