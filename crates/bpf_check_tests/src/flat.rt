@@ -2,8 +2,8 @@
 //! written for the tests, apart from the machine that they compare it with, and watches which addresses are touched.
 
 use bpf_insn::{
-    AluOp, AtomicOp, Code, Cond, EndBits, EndKind, Insn, Modify, Operand, Program, Reg, SignBits,
-    Size, Width,
+    AluOp, AtomicOp, Code, Cond, EndBits, EndKind, Insn, Modify, Operand, Order, Program, Reg,
+    SignBits, Size, Width,
 };
 use std::alloc::{AllocError, Global};
 use std::collections::BTreeMap;
@@ -83,15 +83,30 @@ fn extended(x: u64, bits: u64) -> u64 {
     ((x << (shift % 64)).cast_signed() >> (shift % 64)).cast_unsigned()
 }
 
-fn swapped(kind: EndKind, bits: EndBits, x: u64) -> u64 {
+fn swapped(kind: EndKind, bits: EndBits, order: Order, x: u64) -> u64 {
     let (kept, reversed) = match bits {
         EndBits::B16 => (x & 0xffff, x.swap_bytes() >> 48),
         EndBits::B32 => (x & LOW, x.swap_bytes() >> 32),
         EndBits::B64 => (x, x.swap_bytes()),
     };
-    match kind {
-        EndKind::Le => kept,
-        EndKind::Be | EndKind::Swap => reversed,
+    match (kind, order) {
+        (EndKind::Le, Order::Little) | (EndKind::Be, Order::Big) => kept,
+        (EndKind::Le, Order::Big) | (EndKind::Be, Order::Little) | (EndKind::Swap, _) => reversed,
+    }
+}
+
+/// The number that so many bytes of memory hold, and their bytes of a number.
+fn number_of(order: Order, bytes: [u8; 8], count: u64) -> u64 {
+    match order {
+        Order::Little => u64::from_le_bytes(bytes),
+        Order::Big => u64::from_be_bytes(bytes) >> (64_u64.saturating_sub(8 * count.min(8)) % 64),
+    }
+}
+
+fn bytes_of(order: Order, x: u64, count: u64) -> [u8; 8] {
+    match order {
+        Order::Little => x.to_le_bytes(),
+        Order::Big => (x << (64_u64.saturating_sub(8 * count.min(8)) % 64)).to_be_bytes(),
     }
 }
 
@@ -134,6 +149,7 @@ struct Return {
 #[derive(Drop)]
 pub struct Flat {
     place: Placement,
+    order: Order,
     length: u64,
     slot: u32,
     registers: [u64; 11],
@@ -143,7 +159,12 @@ pub struct Flat {
 }
 
 impl Flat {
-    pub fn start(alloc: Global, place: Placement, context: &[u8]) -> Result<Flat, AllocError> {
+    pub fn start(
+        alloc: Global,
+        place: Placement,
+        order: Order,
+        context: &[u8],
+    ) -> Result<Flat, AllocError> {
         let mut memory = BTreeMap::new(alloc);
         let mut address = place.context;
         for byte in context {
@@ -156,6 +177,7 @@ impl Flat {
         registers[10] = place.frame(0).wrapping_add(512);
         Ok(Flat {
             place,
+            order,
             length: context.len() as u64,
             slot: 0,
             registers,
@@ -205,11 +227,11 @@ impl Flat {
             }
             bytes[i as usize] = self.memory.get(&at).copied().unwrap_or(self.place.fill);
         }
-        u64::from_le_bytes(bytes)
+        number_of(self.order, bytes, count)
     }
 
     fn store(&mut self, address: u64, count: u64, x: u64) -> Result<(), AllocError> {
-        let bytes = x.to_le_bytes();
+        let bytes = bytes_of(self.order, x, count);
         for i in 0..count.min(8) {
             let at = address.wrapping_add(i);
             if !self.in_frames(at) {
@@ -320,7 +342,9 @@ impl Flat {
                 let x = extended(self.get(src), from);
                 self.set(dst, alu(width, AluOp::Mov, 0, x));
             }
-            Insn::End { kind, bits, dst } => self.set(dst, swapped(kind, bits, self.get(dst))),
+            Insn::End { kind, bits, dst } => {
+                self.set(dst, swapped(kind, bits, self.order, self.get(dst)));
+            }
             Insn::LoadImm64 { dst, value } => self.set(dst, value),
             Insn::Load {
                 size,
@@ -401,7 +425,7 @@ pub fn run_flat(
     context: &[u8],
     bound: u32,
 ) -> Result<Option<u64>, AllocError> {
-    let mut flat = Flat::start(alloc, place, context)?;
+    let mut flat = Flat::start(alloc, place, program.order(), context)?;
     for _ in 0..bound {
         let Some(insn) = program.insn(flat.slot) else {
             return Ok(None);

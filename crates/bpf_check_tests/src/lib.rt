@@ -6,8 +6,14 @@ mod examples;
 #[cfg(test)]
 mod flat;
 #[cfg(test)]
+mod orders;
+#[cfg(test)]
 mod proposals;
+#[cfg(test)]
+mod ranges;
 #[cfg(test)]
 mod refused;
 #[cfg(test)]
 mod verdicts;
+#[cfg(test)]
+mod work;

@@ -5,6 +5,7 @@ use crate::verdicts::{counted, image_of, result_of};
 use bpf_cert::write;
 use bpf_check::{Verdict, check, verify};
 use bpf_infer::{InferError, infer};
+use bpf_insn::Order;
 use bpf_text::assemble;
 use std::alloc::{AllocError, Global};
 use std::test::Fail;
@@ -280,18 +281,23 @@ fn is_found(
     bound: u32,
     runs: &[Run],
 ) -> Result<bool, Fail> {
-    let program = assemble(alloc, text)?;
-    let proposed = infer(alloc, &program, length.min(4096))?;
+    let program = assemble(alloc, text, Order::Little)?;
+    let proposed = infer(alloc, &program, length.min(4096), length.min(4096))?;
     let Ok(checked) = check(&program, &proposed) else {
         return Ok(false);
     };
     let mut spelled = Vec::new(alloc);
     write(&proposed, &mut spelled)?;
     let image = image_of(alloc, &program)?;
-    let Ok(verdict) = verify(alloc, &image, spelled.as_slice()) else {
+    let Ok(verdict) = verify(alloc, &image, Order::Little, spelled.as_slice()) else {
         return Ok(false);
     };
-    let mut right = checked.bound() == bound && verdict == Verdict { length, bound };
+    let promised = Verdict {
+        least: length,
+        most: length,
+        bound,
+    };
+    let mut right = checked.bound() == bound && verdict == promised;
     for (context, value, steps) in runs {
         let within = counted(&program, context, u64::from(bound));
         right &= result_of(&checked, context) == Some(*value) && within == Some((*value, *steps));
@@ -309,8 +315,8 @@ fn told(error: InferError) -> (u8, u8, u32) {
 
 /// The refusal of a text.
 fn refusal_of(alloc: Global, text: &str, length: u32) -> Result<Option<(u8, u8, u32)>, Fail> {
-    let program = assemble(alloc, text)?;
-    match infer(alloc, &program, length.min(4096)) {
+    let program = assemble(alloc, text, Order::Little)?;
+    match infer(alloc, &program, length.min(4096), length.min(4096)) {
         Ok(_) => Ok(None),
         Err(error) => Ok(Some(told(error))),
     }

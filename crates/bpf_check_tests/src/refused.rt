@@ -3,7 +3,7 @@
 use crate::examples::{SMALLEST, SMALLEST_CERTIFICATE};
 use crate::verdicts::{counted, image_of};
 use bpf_check::{Verdict, VerifyError, verify};
-use bpf_insn::ProgramView;
+use bpf_insn::{Order, ProgramView};
 use bpf_text::assemble;
 use std::alloc::{AllocError, Global};
 use std::test::Fail;
@@ -29,12 +29,12 @@ fn answer_to(
     set: (usize, u8),
     certificate: &str,
 ) -> Result<(char, u8, usize), Fail> {
-    let program = assemble(alloc, text)?;
+    let program = assemble(alloc, text, Order::Little)?;
     let mut image = image_of(alloc, &program)?;
     if let Some(byte) = image.get_mut(set.0) {
         *byte = set.1;
     }
-    match verify(alloc, &image, certificate.as_bytes()) {
+    match verify(alloc, &image, Order::Little, certificate.as_bytes()) {
         Ok(_) => Ok(('Y', 0, 0)),
         Err(error) => Ok(told(error)),
     }
@@ -98,7 +98,7 @@ fn the_image_is_judged_first(rt: HostRuntime) -> Result<(), Fail> {
         let got = answer_to(rt.alloc(), text, set, certificate)?;
         assert_eq!(rt; got, want, "{text}{certificate}");
     }
-    let none = verify(rt.alloc(), &[], b"".as_slice()).map_err(told);
+    let none = verify(rt.alloc(), &[], Order::Little, b"".as_slice()).map_err(told);
     assert_eq!(rt; none.err(), Some(('E', 1, 0)));
     Ok(())
 }
@@ -107,17 +107,22 @@ fn the_image_is_judged_first(rt: HostRuntime) -> Result<(), Fail> {
 /// and the one with a 32-bit move, and their runs end in time.
 #[test]
 fn images_with_a_byte_changed(rt: HostRuntime) -> Result<(), Fail> {
-    let program = assemble(rt.alloc(), SMALLEST)?;
+    let program = assemble(rt.alloc(), SMALLEST, Order::Little)?;
     let mut image = image_of(rt.alloc(), &program)?;
     let mut certified = 0_u32;
     for place in 0..image.len() {
         let own = image[place];
         for byte in 0..=u8::MAX {
             image[place] = byte;
-            let verdict = verify(rt.alloc(), &image, SMALLEST_CERTIFICATE.as_bytes());
+            let verdict = verify(
+                rt.alloc(),
+                &image,
+                Order::Little,
+                SMALLEST_CERTIFICATE.as_bytes(),
+            );
             if byte != own && verdict.is_ok() {
                 certified = certified.wrapping_add(1);
-                let view = ProgramView::of(&image)?;
+                let view = ProgramView::of(&image, Order::Little)?;
                 let run = counted(&view, b"", 2);
                 assert!(rt; run.is_some(), "{place} {byte}");
             }
@@ -129,7 +134,7 @@ fn images_with_a_byte_changed(rt: HostRuntime) -> Result<(), Fail> {
 }
 
 /// The image of so many times `r0 = 0`, and `exit`.
-fn long_image(alloc: Global, times: usize) -> Result<Vec<u8>, AllocError> {
+pub fn long_image(alloc: Global, times: usize) -> Result<Vec<u8>, AllocError> {
     let mut image = Vec::new(alloc);
     for _ in 0..times {
         image.extend_from_slice(&[0xb7, 0, 0, 0, 0, 0, 0, 0])?;
@@ -142,16 +147,17 @@ fn long_image(alloc: Global, times: usize) -> Result<Vec<u8>, AllocError> {
 fn the_longest_program(rt: HostRuntime) -> Result<(), Fail> {
     let certificate = b"bpfcert 1 0 65536\nfn 0 1 *\nat 0 65536\nend\n";
     let longest = long_image(rt.alloc(), 65_535)?;
-    let verdict = verify(rt.alloc(), &longest, certificate.as_slice()).map_err(told);
+    let verdict = verify(rt.alloc(), &longest, Order::Little, certificate.as_slice()).map_err(told);
     let promised = Verdict {
-        length: 0,
+        least: 0,
+        most: 0,
         bound: 65_536,
     };
     assert_eq!(rt; verdict, Ok(promised));
-    let view = ProgramView::of(&longest)?;
+    let view = ProgramView::of(&longest, Order::Little)?;
     assert_eq!(rt; counted(&view, b"", 65_536), Some((0, 65_536)));
     let longer = long_image(rt.alloc(), 65_536)?;
-    let verdict = verify(rt.alloc(), &longer, certificate.as_slice()).map_err(told);
+    let verdict = verify(rt.alloc(), &longer, Order::Little, certificate.as_slice()).map_err(told);
     assert_eq!(rt; verdict, Err(('E', 1, 0)));
     Ok(())
 }
@@ -159,7 +165,7 @@ fn the_longest_program(rt: HostRuntime) -> Result<(), Fail> {
 #[test]
 fn refusals_are_told(rt: HostRuntime) -> Result<(), Fail> {
     let alloc = rt.alloc();
-    let program = assemble(alloc, SMALLEST)?;
+    let program = assemble(alloc, SMALLEST, Order::Little)?;
     let image = image_of(alloc, &program)?;
     let texts = [
         (
@@ -172,7 +178,7 @@ fn refusals_are_told(rt: HostRuntime) -> Result<(), Fail> {
         ),
     ];
     for (certificate, message) in texts {
-        match verify(alloc, &image, certificate.as_bytes()) {
+        match verify(alloc, &image, Order::Little, certificate.as_bytes()) {
             Ok(_) => panic!(rt; "{message}"),
             Err(error) => {
                 let text = format!(in alloc; "{error}")?;

@@ -2,9 +2,9 @@
 
 use crate::examples::{Answer, Example, Run, tables};
 use crate::flat::{Placement, run_flat};
-use bpf_cert::{Certificate, read};
+use bpf_cert::{Certificate, migrate, read};
 use bpf_check::{Checked, VerifyError, check, verify};
-use bpf_insn::{Code, Program, ProgramView, encode};
+use bpf_insn::{Code, Order, Program, ProgramView, encode};
 use bpf_machine::{Outcome, run};
 use bpf_text::assemble;
 use std::alloc::Global;
@@ -12,17 +12,17 @@ use std::process::Abort;
 use std::test::Fail;
 
 /// The refusal's number and slot; 0 and the bound where there is none.
-type Verdict = (u8, u32);
+pub type Answered = (u8, u32);
 
-fn verdict_of_check<C: Code>(program: &C, certificate: &Certificate) -> Verdict {
+fn verdict_of_check<C: Code>(program: &C, certificate: &Certificate) -> Answered {
     match check(program, certificate) {
         Ok(checked) => (0, checked.bound()),
         Err(refusal) => (refusal.number(), refusal.slot()),
     }
 }
 
-fn verdict_of_image(alloc: Global, image: &[u8], certificate: &[u8]) -> Verdict {
-    match verify(alloc, image, certificate) {
+fn verdict_of_image(alloc: Global, image: &[u8], order: Order, certificate: &[u8]) -> Answered {
+    match verify(alloc, image, order, certificate) {
         Ok(verdict) => (0, verdict.bound),
         Err(VerifyError::Check(refusal)) => (refusal.number(), refusal.slot()),
         Err(_) => (u8::MAX, 0),
@@ -36,16 +36,24 @@ pub fn image_of(alloc: Global, program: &Program) -> Result<Vec<u8>, Fail> {
     Ok(image)
 }
 
-/// The verdicts on a program, on the view of its image, and on the image with the certificate's text.
-fn verdicts_on(alloc: Global, text: &str, certificate: &str) -> Result<[Verdict; 3], Fail> {
-    let program = assemble(alloc, text)?;
+/// The verdicts on a program, on the view of its image, on the image with the certificate's text, and by the same
+/// certificate as version 2.
+pub fn verdicts_on(
+    alloc: Global,
+    text: &str,
+    order: Order,
+    certificate: &str,
+) -> Result<[Answered; 4], Fail> {
+    let program = assemble(alloc, text, order)?;
     let image = image_of(alloc, &program)?;
-    let view = ProgramView::of(&image)?;
+    let view = ProgramView::of(&image, order)?;
     let read = read(alloc, certificate.as_bytes())?;
+    let migrated = migrate(alloc, &read)?;
     Ok([
         verdict_of_check(&program, &read),
         verdict_of_check(&view, &read),
-        verdict_of_image(alloc, &image, certificate.as_bytes()),
+        verdict_of_image(alloc, &image, order, certificate.as_bytes()),
+        verdict_of_check(&program, &migrated),
     ])
 }
 
@@ -55,7 +63,7 @@ fn assert_answers(rt: &(impl Abort + Alloc<A = Global>), table: &[Example]) -> R
             Answer::Yes(bound) => (0, bound),
             Answer::No(number, slot) => (number, slot),
         };
-        for verdict in verdicts_on(rt.alloc(), text, certificate)? {
+        for verdict in verdicts_on(rt.alloc(), text, Order::Little, certificate)? {
             assert_eq!(rt; verdict, want, "{shows}");
         }
     }
@@ -81,9 +89,9 @@ pub fn counted<C: Code>(program: &C, context: &[u8], fuel: u64) -> Option<(u64, 
     }
 }
 
-/// The number of a checked run, if the context is as long as it must be.
+/// The number of a checked run, if the context's length lies in the range.
 pub fn result_of<C: Code>(checked: &Checked<'_, C>, context: &[u8]) -> Option<u64> {
-    if checked.length() as usize == context.len() {
+    if (checked.least() as usize..=checked.most() as usize).contains(&context.len()) {
         Some(checked.run(context))
     } else {
         None
@@ -96,8 +104,11 @@ const PLACES: [(u64, u64, u64); 2] = [
     (0xffff_ffff_ffff_0000, 0x7fff_ffff_ffff_f000, 512),
 ];
 
+/// For an empty context: its address lies inside the first frame.
+const INSIDE_A_FRAME: (u64, u64, u64) = (0x10_0001, 0x10_0000, 0x1000);
+
 /// Whether the machine on plain addresses ends with the value too, wherever all lies and whatever is free there.
-fn is_flat_result(
+pub fn is_flat_result(
     alloc: Global,
     program: &Program,
     context: &[u8],
@@ -105,7 +116,12 @@ fn is_flat_result(
     steps: u64,
 ) -> Result<bool, Fail> {
     let bound = u32::try_from(steps).unwrap_or(u32::MAX);
-    for (at, frames, apart) in PLACES {
+    let last = if context.is_empty() {
+        INSIDE_A_FRAME
+    } else {
+        PLACES[0]
+    };
+    for (at, frames, apart) in [PLACES[0], PLACES[1], last] {
         for fill in [0x00, 0xff] {
             let place = Placement {
                 context: at,
@@ -125,7 +141,7 @@ fn is_flat_result(
 fn assert_run(rt: &(impl Abort + Alloc<A = Global>), row: &Example, run: &Run) -> Result<(), Fail> {
     let (shows, text, certificate, _, _) = *row;
     let (context, value, steps) = *run;
-    let program = assemble(rt.alloc(), text)?;
+    let program = assemble(rt.alloc(), text, Order::Little)?;
     let read = read(rt.alloc(), certificate.as_bytes())?;
     match check(&program, &read) {
         Ok(checked) => {
