@@ -1,5 +1,0 @@
-pub mod RowLemmas
-pub mod ToldLemmas
-pub mod CommandLemmas
-pub mod PrintedLemmas
-pub mod RunCheckedLemmas

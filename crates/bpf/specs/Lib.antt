@@ -1,6 +1,0 @@
-pub mod Context
-pub mod Opened
-pub mod CommandLine
-pub mod Told
-pub mod Answer
-pub mod Printed

@@ -1,18 +1,7 @@
 //! The command `bpf`: a toolchain for eBPF programs that hosts can trust.
 #![tactic(auto)]
 
-mod commands;
-mod context;
-mod failure;
-mod places;
-mod respond;
-#[cfg(test)]
-mod tests;
-mod words;
-
-use failure::{FAILED, Failure, tell};
-use places::FilePlaces;
-use respond::respond;
+use bpf_command::{FAILED, Failure, FilePlaces, respond, tell};
 use std::process::ExitCode;
 use std::rt::Env;
 use std::{env, io};
@@ -29,12 +18,12 @@ fn main(rt: HostRuntime) -> ExitCode {
         Ok(words) => respond(
             rt.alloc(),
             &words,
-            &mut FilePlaces::new(&rt),
+            &mut FilePlaces::new(&rt, rt.alloc(), rt.stdin(), rt.stdout()),
             &mut out,
             &mut err,
         ),
         Err(_) => {
-            tell(rt.alloc(), Failure::NoMemory, &mut err);
+            let _ = tell(Failure::NoMemory, &mut err);
             FAILED
         }
     };

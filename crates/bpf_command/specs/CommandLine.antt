@@ -1,0 +1,122 @@
+-- The command line, as its parser sees it.
+use Rattle.std.specs.Prelude.{◌≡◌, ◌≢◌, ℕ, Bool, List, [], Option, Some, None, unwrap_or, pos, codes, true, false}
+use Rattle.std.specs.Str.Parse.{ParsesUnsigned}
+use Rattle.std.specs.declared.num.ParseIntError.{ParseIntError}
+use Rattle.clap.specs.Words.{App, ReadsOne, Row, Rule, Text, first_of, one_of, new_app, new_rule, with_rule, with_subcommand}
+use Rattle.clap.specs.declared.builder.command.Command.{Command}
+use Rattle.clap.specs.declared.builder.command.Command.TheViews.{out-Command}
+use Rattle.clap.specs.declared.builder.value_parser.ValueParser.TheVariants as parser
+use Rattle.clap.specs.declared.builder.action.ArgAction.TheVariants.{SetTrue}
+use Rattle.bpf_insn.specs.declared.order.Order.{Order}
+use Rattle.bpf_insn.specs.declared.order.Order.TheVariants.{Little, Big}
+use Rattle.bpf_command.specs.declared.words.Request.{Request}
+use Rattle.bpf_command.specs.declared.words.Request.TheVariants.{Groups, Asm, List as ListOf, Run, Check, RunChecked, Infer}
+
+-- whether a command has an argument that its subcommands share
+abbrev pub has_globals : Command → Bool
+has_globals c = (out-Command c).has_globals
+
+-- a required word
+abbrev pub place : Text → Rule
+place id = record (new_rule id) { required = true }
+
+-- the required option `--steps`, with a number below 2 ^ 32
+abbrev pub steps : Rule
+steps = record (new_rule (codes "steps")) { long = Some (codes "steps"); value_names = 1; parser = Some (parser.Signed (pos 0) (pos 4294967295)); required = true }
+
+-- a flag, false where it isn't given
+abbrev pub flag : Text → Rule
+flag name = record (new_rule name) { long = Some name; action = Some SetTrue }
+
+-- the flag `--big`
+abbrev pub big : Rule
+big = flag (codes "big")
+
+abbrev pub groups : App
+groups = with_rule (with_rule (new_app (codes "groups")) (place (codes "IN"))) big
+
+abbrev pub asm : App
+asm = with_rule (with_rule (with_rule (new_app (codes "asm")) (place (codes "IN"))) (place (codes "OUT"))) big
+
+abbrev pub list : App
+list = with_rule (with_rule (new_app (codes "list")) (place (codes "IN"))) big
+
+abbrev pub run : App
+run = with_rule (with_rule (with_rule (with_rule (new_app (codes "run")) (place (codes "IN"))) (place (codes "HEX"))) steps) big
+
+abbrev pub top : App
+top = let named = new_app (codes "bpf") in record named { top = record named.top { has_version = true; subcommand_required = true } }
+
+-- `bpf` with the commands that take no certificate
+abbrev pub without_certificates : App
+without_certificates = with_subcommand (with_subcommand (with_subcommand (with_subcommand top groups.top) asm.top) list.top) run.top
+
+abbrev pub check : App
+check = with_rule (with_rule (with_rule (with_rule (new_app (codes "check")) (place (codes "IN"))) (place (codes "CERT"))) (flag (codes "work"))) big
+
+abbrev pub run_checked : App
+run_checked = with_rule (with_rule (with_rule (with_rule (new_app (codes "run-checked")) (place (codes "IN"))) (place (codes "CERT"))) (place (codes "HEX"))) big
+
+-- the required word `LEN`, a number up to 4096
+abbrev pub context_length : Rule
+context_length = record (new_rule (codes "LEN")) { parser = Some (parser.Signed (pos 0) (pos 4096)); required = true }
+
+-- the option `--most`, with a number up to 4096
+abbrev pub most : Rule
+most = record (new_rule (codes "most")) { long = Some (codes "most"); value_names = 1; parser = Some (parser.Signed (pos 0) (pos 4096)) }
+
+abbrev pub infer_places : App
+infer_places = with_rule (with_rule (with_rule (new_app (codes "infer")) (place (codes "IN"))) context_length) (place (codes "OUT"))
+
+abbrev pub infer : App
+infer = with_rule (with_rule infer_places most) big
+
+-- `bpf` with all seven
+abbrev pub bpf : App
+bpf = with_subcommand (with_subcommand (with_subcommand without_certificates check.top) run_checked.top) infer.top
+
+-- ---- what the words ask for
+
+-- the word of an argument
+abbrev pub word_of : Text → List Row → Text
+word_of id rows = unwrap_or (first_of id rows) []
+
+-- a number below 2 ^ 32 as it is parsed, this one where there is none
+abbrev pub IsCount : ℕ → Option Text → ℕ → Type 0
+IsCount default None n = n ≡ default
+IsCount default (Some text) n = (parsed : Option ℕ) × ReadsOne {E = ParseIntError} (λ t r. ParsesUnsigned 32 10 t r) text parsed × (n ≡ unwrap_or parsed default)
+
+-- whether a flag is given
+abbrev pub IsFlag : Option Text → Bool → Type 0
+IsFlag None given = given ≡ false
+IsFlag (Some text) given = (text ≡ codes "true" → given ≡ true) × (text ≡ codes "false" → given ≡ false)
+
+-- big-endian where `--big` is given, else little-endian
+abbrev pub IsOrder : List Row → Order → Type 0
+IsOrder rows Big = IsFlag (one_of (codes "big") rows) true
+IsOrder rows Little = IsFlag (one_of (codes "big") rows) false
+
+-- the word for IN, and the order of its image
+abbrev pub IsInput : List Row → Text → Order → Type 0
+IsInput rows input order = (input ≡ word_of (codes "IN") rows) × IsOrder rows order
+
+-- the request of a subcommand with these matches
+abbrev pub Asks : Text → List Row → Request → Type 0
+Asks name rows (Groups input order) =
+    (name ≢ codes "asm") × (name ≢ codes "list") × (name ≢ codes "run") × (name ≢ codes "check") × (name ≢ codes "run-checked") × (name ≢ codes "infer")
+    × IsInput rows input.now order
+Asks name rows (Asm input output order) = (name ≡ codes "asm") × IsInput rows input.now order × (output.now ≡ word_of (codes "OUT") rows)
+Asks name rows (ListOf input order) = (name ≡ codes "list") × IsInput rows input.now order
+Asks name rows (Run input hex count order) = (name ≡ codes "run") × IsInput rows input.now order × (hex.now ≡ word_of (codes "HEX") rows) × IsCount 0 (one_of (codes "steps") rows) count
+Asks name rows (Check input certificate work order) =
+    (name ≡ codes "check") × IsInput rows input.now order × (certificate.now ≡ word_of (codes "CERT") rows) × IsFlag (one_of (codes "work") rows) work
+Asks name rows (RunChecked input certificate hex order) =
+    (name ≡ codes "run-checked") × IsInput rows input.now order × (certificate.now ≡ word_of (codes "CERT") rows) × (hex.now ≡ word_of (codes "HEX") rows)
+Asks name rows (Infer input least most output order) =
+    (name ≡ codes "infer") × IsInput rows input.now order × IsCount 0 (one_of (codes "LEN") rows) least × IsCount least (one_of (codes "most") rows) most × (output.now ≡ word_of (codes "OUT") rows)
+
+-- the request of a command line on which the parser found this subcommand
+abbrev pub IsAsked : Option (Text × List Row) → Request → Type 0
+IsAsked (Some s) request = Asks s.0 s.1 request
+IsAsked None (Groups input order) = (input.now ≡ []) × (order ≡ Little)
+IsAsked None _ = ⊥

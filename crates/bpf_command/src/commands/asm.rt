@@ -1,0 +1,101 @@
+//! `bpf asm IN OUT`.
+
+ghost use Rattle.std.specs.Prelude.{◌≡◌, ◌≤◌, IfOk, IfErr};
+ghost use Rattle.std.specs.String.{string_bytes};
+ghost use Rattle.bpf_command.specs.Answer.{Says, text_of};
+ghost use Rattle.bpf_command.specs.Answer.Answer.{NoText};
+ghost use Rattle.bpf_command.specs.Told.{OutputFails};
+
+use crate::failure::{DONE, Failure, REFUSED, say};
+use crate::places::Places;
+use bpf_insn::encode;
+use bpf_text::{TextError, assemble};
+use std::alloc::{AllocError, Global};
+use std::io::{Read, Write};
+use std::str;
+
+/// The bytes of a reader to its end; None if it fails.
+fn read_all<R: Read>(alloc: Global, reader: &mut R) -> Result<Option<Vec<u8>>, AllocError> {
+    let mut bytes = Vec::new(alloc);
+    let mut chunk = [0; 4096];
+    for _ in 0..u64::MAX {
+        let Ok(count) = reader.read(&mut chunk) else {
+            return Ok(None);
+        };
+        if count == 0 {
+            return Ok(Some(bytes));
+        }
+        bytes.extend_from_slice(&chunk[..count])?;
+    }
+    Ok(None)
+}
+
+/// The line of a refusal.
+fn line_of(alloc: Global, error: TextError) -> Result<String, AllocError>
+    ensures { IfOk result (λ line. string_bytes line ≡ text_of (NoText error)) }
+{
+    match error {
+        TextError::Form { line } => format!(in alloc; "no A1 at line {line}\n"),
+        TextError::Range { line } => format!(in alloc; "no A2 at line {line}\n"),
+        TextError::DefinedAgain { line } => format!(in alloc; "no A3 at line {line}\n"),
+        TextError::Undefined { line } => format!(in alloc; "no A4 at line {line}\n"),
+        TextError::TooFar { line } => format!(in alloc; "no A5 at line {line}\n"),
+        TextError::Program { line, error } => {
+            let cause = error.number();
+            let slot = error.slot();
+            format!(in alloc; "no A6 at line {line} (E{cause} at slot {slot})\n")
+        }
+        TextError::Memory => String::from_str(alloc, "no A7 at line 0\n"),
+    }
+}
+
+/// Prints why a text is refused.
+fn refuse_text<'a, W: Write>(
+    alloc: Global,
+    out: &mut W,
+    error: TextError,
+) -> Result<u8, Failure<'a>>
+    ensures ok { IfOk result (λ status. Says (NoText error) status (W.contents out.old) (W.contents out.new)) }
+    ensures err { IfErr result OutputFails }
+{
+    let line = line_of(alloc, error)?;
+    say(out, line.as_str())?;
+    Ok(REFUSED)
+}
+
+/// Writes the image of a text. The place for it is made only where there is an image.
+pub fn assembled<'a, P: Places, W: Write>(
+    alloc: Global,
+    places: &mut P,
+    out: &mut W,
+    input: &'a str,
+    output: &'a str,
+) -> Result<u8, Failure<'a>>
+    ensures { IfOk result (λ status. status ≤ REFUSED) }
+{
+    let Ok(mut reader) = places.open(input) else {
+        return Err(Failure::CannotRead(input));
+    };
+    let Some(bytes) = read_all(alloc, &mut reader)? else {
+        return Err(Failure::CannotRead(input));
+    };
+    let Ok(text) = str::from_utf8(&bytes) else {
+        return Err(Failure::CannotRead(input));
+    };
+    match assemble(alloc, text) {
+        Ok(program) => {
+            let Ok(mut writer) = places.create(output) else {
+                return Err(Failure::CannotWrite(output));
+            };
+            if encode(&program, &mut writer).is_err() {
+                places.discard(writer);
+                return Err(Failure::CannotWrite(output));
+            }
+            match places.finish(writer) {
+                Ok(()) => Ok(DONE),
+                Err(_) => Err(Failure::CannotWrite(output)),
+            }
+        }
+        Err(error) => refuse_text(alloc, out, error),
+    }
+}

@@ -1,0 +1,140 @@
+//! The files of the system, and `-` for standard input and output.
+
+ghost use Rattle.std.specs.Prelude.{◌≡◌};
+
+use crate::places::Places;
+use std::alloc::Global;
+use std::fs::{self, File, OpenFile};
+use std::io::{self, Read, Stdin, Stdout, Write};
+use std::rt::Files;
+
+/// A file, or standard input.
+#[derive(Drop)]
+pub enum Source<F: Read + Drop> {
+    File(F),
+    Input(Stdin),
+}
+
+impl<F: Read + Drop> Read for Source<F> {
+    fn read(&mut self, buf: &mut [u8]) -> io::Result<usize> {
+        match self {
+            Source::File(file) => file.read(buf),
+            Source::Input(input) => input.read(buf),
+        }
+    }
+}
+
+/// A file that isn't at its name yet, or what is written as it is.
+#[derive(Drop)]
+pub enum Target<F: Write + Drop> {
+    /// A new file beside the name.
+    Beside {
+        file: F,
+        partial: String,
+        name: String,
+    },
+    /// What stands at the name and is no plain file: a device, a pipe or a link.
+    AtName(F),
+    Output(Stdout),
+}
+
+impl<F: Write + Drop> Write for Target<F> {
+    fn write(&mut self, buf: &[u8]) -> io::Result<usize> {
+        match self {
+            Target::Beside { file, .. } | Target::AtName(file) => file.write(buf),
+            Target::Output(output) => output.write(buf),
+        }
+    }
+
+    fn flush(&mut self) -> io::Result<()> {
+        match self {
+            Target::Beside { file, .. } | Target::AtName(file) => file.flush(),
+            Target::Output(output) => output.flush(),
+        }
+    }
+}
+
+/// The files of the system, and `-` for standard input and output.
+#[derive(Drop)]
+pub struct FilePlaces<'a, R: Files> {
+    runtime: &'a R,
+    alloc: Global,
+    input: Stdin,
+    output: Stdout,
+}
+
+impl<'a, R: Files> FilePlaces<'a, R> {
+    /// The files that the runtime reaches, and these streams.
+    pub fn new(runtime: &'a R, alloc: Global, input: Stdin, output: Stdout) -> Self
+        ensures { result.runtime ≡ runtime.entry }
+    {
+        FilePlaces {
+            runtime,
+            alloc,
+            input,
+            output,
+        }
+    }
+
+    /// Puts a whole file in the place of what stands at the name.
+    fn put(&self, file: R::File, partial: &str, name: &str) -> io::Result<()> {
+        file.sync_all()?;
+        drop(file);
+        fs::rename(self.runtime, partial, name)
+    }
+}
+
+impl<'a, R: Files> Places for FilePlaces<'a, R> {
+    type Reader = Source<R::File>;
+
+    type Writer = Target<R::File>;
+
+    fn open(&mut self, name: &str) -> io::Result<Source<R::File>> {
+        if name == "-" {
+            return Ok(Source::Input(self.input));
+        }
+        Ok(Source::File(fs::open(self.runtime, name)?))
+    }
+
+    // Whoever changes what stands at the name between the question and the renaming has it renamed over.
+    fn create(&mut self, name: &str) -> io::Result<Target<R::File>> {
+        if name == "-" {
+            return Ok(Target::Output(self.output));
+        }
+        if fs::symlink_metadata(self.runtime, name).is_ok_and(|found| !found.is_file()) {
+            return Ok(Target::AtName(fs::create(self.runtime, name)?));
+        }
+        let partial = format!(in self.alloc; "{name}.partial")?;
+        let name = String::from_str(self.alloc, name)?;
+        Ok(Target::Beside {
+            file: File::create_new(self.runtime, partial.as_str())?,
+            partial,
+            name,
+        })
+    }
+
+    fn finish(&mut self, writer: Target<R::File>) -> io::Result<()> {
+        match writer {
+            Target::Output(mut output) => output.flush(),
+            Target::AtName(mut file) => file.flush(),
+            Target::Beside {
+                file,
+                partial,
+                name,
+            } => {
+                let put = self.put(file, partial.as_str(), name.as_str());
+                if put.is_err() {
+                    let _ = fs::remove_file(self.runtime, partial.as_str());
+                }
+                put
+            }
+        }
+    }
+
+    fn discard(&mut self, writer: Target<R::File>) {
+        if let Target::Beside { file, partial, .. } = writer {
+            drop(file);
+            let _ = fs::remove_file(self.runtime, partial.as_str());
+        }
+    }
+}

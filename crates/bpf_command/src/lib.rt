@@ -1,0 +1,16 @@
+//! The command `bpf` over places: what each command answers, prints and writes. The program `bpf` joins it with the system.
+#![tactic(auto)]
+
+mod commands;
+mod context;
+mod failure;
+mod files;
+mod places;
+mod response;
+mod words;
+
+pub use context::{ContextError, context_of};
+pub use failure::{FAILED, Failure, tell};
+pub use files::FilePlaces;
+pub use places::Places;
+pub use response::respond;

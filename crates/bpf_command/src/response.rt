@@ -1,0 +1,145 @@
+//! From words to a status.
+
+ghost use Rattle.std.specs.Prelude.{◌≡◌, ◌≤◌, IfOk, Some, None, Err, map};
+ghost use Rattle.std.specs.String.{string_bytes};
+ghost use Rattle.bpf_command.specs.Response.{Responds, conflict_of, twice};
+ghost use Rattle.bpf_command.specs.Told.{IsTold};
+ghost use Rattle.bpf_command.specs.declared.failure.Failure.{Failure as Told};
+
+use crate::commands::{assembled, checked, grouped, inferred, listed, ran, ran_checked};
+use crate::failure::{BAD_WORDS, FAILED, Failure, tell};
+use crate::places::Places;
+use crate::words::{Request, request_of};
+use clap::error::ErrorKind;
+use std::alloc::Global;
+use std::io::Write;
+
+/// Standard input can be read once.
+fn twice(first: &str, second: &str) -> Option<Failure<'static>>
+    ensures { result ≡ twice first.now second.now }
+{
+    if first == "-" && second == "-" {
+        Some(Failure::InputTwice)
+    } else {
+        None
+    }
+}
+
+/// What two words of a request can't ask for together.
+fn conflict_in(request: Request<'_>) -> Option<Failure<'static>>
+    ensures { result ≡ conflict_of request.entry }
+{
+    match request {
+        Request::Groups { .. } | Request::Asm { .. } | Request::List { .. } => None,
+        Request::Run { .. } => None,
+        Request::Check {
+            input,
+            certificate,
+            ..
+        } => twice(input, certificate),
+        Request::RunChecked {
+            input,
+            certificate,
+            ..
+        } => twice(input, certificate),
+        Request::Infer { least, most, .. } => {
+            if most < least {
+                Some(Failure::MostBelowLeast)
+            } else {
+                None
+            }
+        }
+    }
+}
+
+/// Does what is asked for.
+fn carry_out<'a, P: Places, W: Write>(
+    alloc: Global,
+    request: Request<'a>,
+    places: &mut P,
+    out: &mut W,
+) -> Result<u8, Failure<'a>>
+    ensures { IfOk result (λ status. status ≤ 1) }
+{
+    match request {
+        Request::Groups { input, .. } => grouped(alloc, places, out, input),
+        Request::Asm { input, output, .. } => assembled(alloc, places, out, input, output),
+        Request::List { input, .. } => listed(alloc, places, out, input),
+        Request::Run {
+            input,
+            hex,
+            steps,
+            ..
+        } => ran(alloc, places, out, input, hex, steps),
+        Request::Check {
+            input,
+            certificate,
+            ..
+        } => checked(alloc, places, out, input, certificate),
+        Request::RunChecked {
+            input,
+            certificate,
+            hex,
+            ..
+        } => ran_checked(alloc, places, out, input, certificate, hex),
+        Request::Infer {
+            input,
+            least,
+            output,
+            ..
+        } => inferred(alloc, places, out, input, least, output),
+    }
+}
+
+/// Does what is asked for, unless two words can't stand together.
+fn perform<'a, P: Places, W: Write>(
+    alloc: Global,
+    request: Request<'a>,
+    places: &mut P,
+    out: &mut W,
+) -> Result<u8, Failure<'a>>
+    ensures ok { IfOk result (λ status. (conflict_of request.entry ≡ None) × (status ≤ 1)) }
+    ensures conflict { (f : Told) → conflict_of request.entry ≡ Some f → result ≡ Err f }
+{
+    match conflict_in(request) {
+        Some(conflict) => Err(conflict),
+        None => carry_out(alloc, request, places, out),
+    }
+}
+
+/// Tells a failure, and answers its status; 3 where standard error fails as well, for there is nowhere left to tell that.
+fn fail<E: Write>(failure: Failure<'_>, err: &mut E) -> u8
+    ensures { IsTold failure.entry result (E.contents err.old) (E.contents err.new) }
+{
+    match tell(failure, err) {
+        Ok(()) => failure.status(),
+        Err(_) => FAILED,
+    }
+}
+
+/// Does what the words ask for, the command's own name first, and answers the status: 0 done, 1 refused, 2 words that are
+/// not understood, 3 where a file, the output or memory failed.
+pub fn respond<P: Places, W: Write, E: Write>(
+    alloc: Global,
+    words: &[String],
+    places: &mut P,
+    out: &mut W,
+    err: &mut E,
+) -> u8
+    ensures { Responds (map (λ s. string_bytes s) words.now) result (E.contents err.old) (E.contents err.new) }
+{
+    let request = match request_of(alloc, words) {
+        Ok(request) => request,
+        Err(error) if error.kind() == ErrorKind::OutOfMemory => {
+            return fail(Failure::NoMemory, err);
+        }
+        Err(error) => {
+            let _ = write!(err, "{error}");
+            return BAD_WORDS;
+        }
+    };
+    match perform(alloc, request, places, out) {
+        Ok(status) => status,
+        Err(failure) => fail(failure, err),
+    }
+}

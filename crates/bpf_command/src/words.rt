@@ -1,0 +1,314 @@
+//! The words of a command line.
+
+ghost use Rattle.std.specs.Prelude.{◌≡◌, IfOk, IfErr, map, true, false};
+ghost use Rattle.std.specs.String.{string_bytes};
+ghost use Rattle.clap.specs.Words.{app_of, found_of, kind_of, one_of, rows_of, rule_of, subcommand_of, takes};
+ghost use Rattle.bpf_command.specs.CommandLine.{Asks, IsAsked, IsCount, IsFlag, IsOrder, asm, big, bpf, check, flag, groups, has_globals, infer, infer_places, list, place, run, run_checked, without_certificates, word_of};
+ghost use Rattle.clap.specs.declared.error.ErrorKind.TheVariants.{OutOfMemory};
+
+use bpf_insn::Order;
+use clap::{Arg, ArgAction, ArgMatches, Command, Error, value_parser};
+use std::alloc::{AllocError, Global};
+
+/// What a command line asks for. Images are of the byte order.
+#[derive(Clone, Copy, Debug, PartialEq, Eq)]
+pub enum Request<'a> {
+    /// The conformance groups that occur in an image.
+    Groups {
+        input: &'a str,
+        order: Order,
+    },
+    /// The image of a text.
+    Asm {
+        input: &'a str,
+        output: &'a str,
+        order: Order,
+    },
+    /// The text of an image.
+    List {
+        input: &'a str,
+        order: Order,
+    },
+    /// A run of an image on a context, for at most so many instructions.
+    Run {
+        input: &'a str,
+        hex: &'a str,
+        steps: u32,
+        order: Order,
+    },
+    /// A certificate's verdict on an image, and the work of judging where it is asked for.
+    Check {
+        input: &'a str,
+        certificate: &'a str,
+        work: bool,
+        order: Order,
+    },
+    /// A run of an image on a context, once its certificate certifies it.
+    RunChecked {
+        input: &'a str,
+        certificate: &'a str,
+        hex: &'a str,
+        order: Order,
+    },
+    /// A certificate for an image and contexts of `least` to `most` bytes.
+    Infer {
+        input: &'a str,
+        least: u32,
+        most: u32,
+        output: &'a str,
+        order: Order,
+    },
+}
+
+fn place<'a>(alloc: Global, id: &'a str, help: &'a str) -> Arg<'a>
+    ensures rule { rule_of result ≡ place id.entry.now }
+    ensures local { result.global ≡ false }
+{
+    Arg::new(alloc, id).required(true).help(help)
+}
+
+fn flag<'a>(alloc: Global, id: &'a str, help: &'a str) -> Arg<'a>
+    ensures rule { rule_of result ≡ flag id.entry.now }
+    ensures local { result.global ≡ false }
+{
+    Arg::new(alloc, id)
+        .long(id)
+        .action(ArgAction::SetTrue)
+        .help(help)
+}
+
+fn big<'a>(alloc: Global) -> Arg<'a>
+    ensures rule { rule_of result ≡ big }
+    ensures local { result.global ≡ false }
+{
+    flag(alloc, "big", "the image is of big-endian BPF")
+}
+
+fn groups_command<'a>(alloc: Global) -> Result<Command<'a>, AllocError>
+    ensures app { IfOk result (λ c. app_of c ≡ groups) }
+    ensures local { IfOk result (λ c. has_globals c ≡ false) }
+{
+    Command::new(alloc, "groups")
+        .about("Prints the conformance groups of which an instruction occurs")
+        .arg(place(alloc, "IN", "an image"))?
+        .arg(big(alloc))
+}
+
+fn asm_command<'a>(alloc: Global) -> Result<Command<'a>, AllocError>
+    ensures app { IfOk result (λ c. app_of c ≡ asm) }
+    ensures local { IfOk result (λ c. has_globals c ≡ false) }
+{
+    Command::new(alloc, "asm")
+        .about("Assembles a text to an image")
+        .arg(place(alloc, "IN", "a text of the assembly language"))?
+        .arg(place(alloc, "OUT", "where the image goes"))?
+        .arg(big(alloc))
+}
+
+fn list_command<'a>(alloc: Global) -> Result<Command<'a>, AllocError>
+    ensures app { IfOk result (λ c. app_of c ≡ list) }
+    ensures local { IfOk result (λ c. has_globals c ≡ false) }
+{
+    Command::new(alloc, "list")
+        .about("Prints the instructions of an image, one a line")
+        .arg(place(alloc, "IN", "an image"))?
+        .arg(big(alloc))
+}
+
+fn run_command<'a>(alloc: Global) -> Result<Command<'a>, AllocError>
+    ensures app { IfOk result (λ c. app_of c ≡ run) }
+    ensures local { IfOk result (λ c. has_globals c ≡ false) }
+{
+    Command::new(alloc, "run")
+        .about("Runs an image on a context, and prints how it ends")
+        .arg(place(alloc, "IN", "an image"))?
+        .arg(place(alloc, "HEX", "the context in hexadecimal, or `none`"))?
+        .arg(
+            Arg::new(alloc, "steps")
+                .long("steps")
+                .value_name("N")
+                .required(true)
+                .value_parser(value_parser!(u32))
+                .help("the most instructions that are done"),
+        )?
+        .arg(big(alloc))
+}
+
+/// `bpf` with the commands that take no certificate.
+fn first_commands<'a>(alloc: Global) -> Result<Command<'a>, AllocError>
+    ensures { IfOk result (λ c. app_of c ≡ without_certificates) }
+{
+    let groups = groups_command(alloc)?;
+    let asm = asm_command(alloc)?;
+    let list = list_command(alloc)?;
+    let run = run_command(alloc)?;
+    Command::new(alloc, "bpf")
+        .version("0.1.0")
+        .about("Works on eBPF programs (RFC 9669, integer profile)")
+        .subcommand_required(true)
+        .subcommand(groups)?
+        .subcommand(asm)?
+        .subcommand(list)?
+        .subcommand(run)
+}
+
+fn check_command<'a>(alloc: Global) -> Result<Command<'a>, AllocError>
+    ensures app { IfOk result (λ c. app_of c ≡ check) }
+    ensures local { IfOk result (λ c. has_globals c ≡ false) }
+{
+    Command::new(alloc, "check")
+        .about("Judges whether a certificate certifies an image")
+        .arg(place(alloc, "IN", "an image"))?
+        .arg(place(alloc, "CERT", "a certificate"))?
+        .arg(flag(alloc, "work", "prints the work of judging as well"))?
+        .arg(big(alloc))
+}
+
+fn run_checked_command<'a>(alloc: Global) -> Result<Command<'a>, AllocError>
+    ensures app { IfOk result (λ c. app_of c ≡ run_checked) }
+    ensures local { IfOk result (λ c. has_globals c ≡ false) }
+{
+    Command::new(alloc, "run-checked")
+        .about("Runs an image that its certificate certifies, and prints the result")
+        .arg(place(alloc, "IN", "an image"))?
+        .arg(place(alloc, "CERT", "a certificate"))?
+        .arg(place(alloc, "HEX", "the context in hexadecimal, or `none`"))?
+        .arg(big(alloc))
+}
+
+/// `infer` with its words for names and the length.
+fn infer_places<'a>(alloc: Global) -> Result<Command<'a>, AllocError>
+    ensures app { IfOk result (λ c. app_of c ≡ infer_places) }
+    ensures local { IfOk result (λ c. has_globals c ≡ false) }
+{
+    Command::new(alloc, "infer")
+        .about("Proposes a certificate for an image")
+        .arg(place(alloc, "IN", "an image"))?
+        .arg(
+            Arg::new(alloc, "LEN")
+                .required(true)
+                .value_parser(value_parser!(u32).range(0..=4096))
+                .help("the least length of the contexts in bytes, at most 4096"),
+        )?
+        .arg(place(alloc, "OUT", "where the certificate goes"))
+}
+
+fn infer_command<'a>(alloc: Global) -> Result<Command<'a>, AllocError>
+    ensures app { IfOk result (λ c. app_of c ≡ infer) }
+    ensures local { IfOk result (λ c. has_globals c ≡ false) }
+{
+    infer_places(alloc)?
+        .arg(
+            Arg::new(alloc, "most")
+                .long("most")
+                .value_name("M")
+                .value_parser(value_parser!(u32).range(0..=4096))
+                .help("the greatest length of the contexts in bytes, else LEN"),
+        )?
+        .arg(big(alloc))
+}
+
+fn command<'a>(alloc: Global) -> Result<Command<'a>, AllocError>
+    ensures { IfOk result (λ c. app_of c ≡ bpf) }
+{
+    let check = check_command(alloc)?;
+    let run_checked = run_checked_command(alloc)?;
+    let infer = infer_command(alloc)?;
+    first_commands(alloc)?
+        .subcommand(check)?
+        .subcommand(run_checked)?
+        .subcommand(infer)
+}
+
+/// The word of a required argument; the parse has made sure that it is there.
+fn word<'a>(matches: &ArgMatches<'a>, id: &str) -> &'a str
+    ensures { result.now ≡ word_of id.now (rows_of (found_of matches.now)) }
+{
+    matches.get_str(id).unwrap_or("")
+}
+
+/// The number of an argument, this one where there is none.
+fn number(matches: &ArgMatches<'_>, id: &str, default: u32) -> u32
+    ensures { IsCount default (one_of id.now (rows_of (found_of matches.now))) result }
+{
+    matches.get_one::<u32>(id).unwrap_or(default)
+}
+
+fn has_flag(matches: &ArgMatches<'_>, id: &str) -> bool
+    ensures { IsFlag (one_of id.now (rows_of (found_of matches.now))) result }
+{
+    matches.get_flag(id)
+}
+
+fn order_of(matches: &ArgMatches<'_>) -> Order
+    ensures { IsOrder (rows_of (found_of matches.now)) result }
+{
+    if has_flag(matches, "big") {
+        Order::Big
+    } else {
+        Order::Little
+    }
+}
+
+/// What the words of the command with this name ask for.
+fn request_in<'a>(name: &str, matches: &ArgMatches<'a>) -> Request<'a>
+    ensures { Asks name.now (rows_of (found_of matches.now)) result }
+{
+    let input = word(matches, "IN");
+    let order = order_of(matches);
+    match name {
+        "asm" => Request::Asm {
+            input,
+            output: word(matches, "OUT"),
+            order,
+        },
+        "list" => Request::List { input, order },
+        "run" => Request::Run {
+            input,
+            hex: word(matches, "HEX"),
+            steps: number(matches, "steps", 0),
+            order,
+        },
+        "check" => Request::Check {
+            input,
+            certificate: word(matches, "CERT"),
+            work: has_flag(matches, "work"),
+            order,
+        },
+        "run-checked" => Request::RunChecked {
+            input,
+            certificate: word(matches, "CERT"),
+            hex: word(matches, "HEX"),
+            order,
+        },
+        "infer" => {
+            let least = number(matches, "LEN", 0);
+            Request::Infer {
+                input,
+                least,
+                most: number(matches, "most", least),
+                output: word(matches, "OUT"),
+                order,
+            }
+        }
+        _ => Request::Groups { input, order },
+    }
+}
+
+/// What the words ask for, the command's own name first; else the text for the one who wrote them.
+pub fn request_of<'a>(alloc: Global, words: &'a [String]) -> Result<Request<'a>, Error>
+    ensures ok { IfOk result (IsAsked (subcommand_of bpf (map (λ s. string_bytes s) words.entry.now))) }
+    ensures accepts { IfErr result (λ e. takes bpf (map (λ s. string_bytes s) words.entry.now) ≡ true → kind_of e ≡ OutOfMemory) }
+{
+    let matches = match command(alloc)?.try_get_matches_from(words) {
+        Ok(matches) => matches,
+        Err(error) => return Err(error),
+    };
+    Ok(match matches.subcommand() {
+        Some((name, matches)) => request_in(name, matches),
+        None => Request::Groups {
+            input: "",
+            order: Order::Little,
+        },
+    })
+}

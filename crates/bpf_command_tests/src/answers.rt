@@ -1,0 +1,192 @@
+//! What the command answers to words, on places in memory.
+
+use crate::rows::{Row, rows};
+use crate::shelf::{AT_ONCE, NEVER, Paper, Shelf, after};
+use bpf_command::{ContextError, context_of, respond};
+use std::alloc::{AllocError, Global};
+use std::process::Abort;
+use std::test::Fail;
+
+/// The words of a line, behind the command's name.
+fn words_of(alloc: Global, line: &str) -> Result<Vec<String>, AllocError> {
+    let mut words = Vec::new(alloc);
+    words.push(String::from_str(alloc, "bpf")?)?;
+    for word in line.split(' ') {
+        let word = if word == "''" { "" } else { word };
+        words.push(String::from_str(alloc, word)?)?;
+    }
+    Ok(words)
+}
+
+fn assert_row(rt: &(impl Abort + Alloc<A = Global>), row: &Row) -> Result<(), Fail> {
+    let words = words_of(rt.alloc(), row.words)?;
+    let mut places = Shelf::new(rt.alloc(), b"");
+    let mut out = Paper::new(rt.alloc(), NEVER);
+    let mut err = Paper::new(rt.alloc(), NEVER);
+    let status = respond(rt.alloc(), &words, &mut places, &mut out, &mut err);
+    assert_eq!(rt; status, row.status, "{}", row.words);
+    assert_eq!(rt; out.taken.as_slice(), row.out.as_bytes(), "{}", row.words);
+    assert_eq!(rt; err.taken.as_slice(), row.err.as_bytes(), "{}", row.words);
+    match &places.put {
+        Some(bytes) => assert_eq!(rt; Some(bytes.as_slice()), row.put, "{}", row.words),
+        None => assert!(rt; row.put.is_none(), "{}", row.words),
+    }
+    let is_judged = status == 1 || status == 2;
+    assert!(rt; !is_judged || places.made == 0, "{}", row.words);
+    Ok(())
+}
+
+#[test]
+fn answers_are_as_told(rt: HostRuntime) -> Result<(), Fail> {
+    for row in rows() {
+        assert_row(&rt, row)?;
+    }
+    Ok(())
+}
+
+#[test]
+fn words_are_refused(rt: HostRuntime) -> Result<(), Fail> {
+    for line in [
+        "groups",
+        "''",
+        "grops smallest",
+        "groups smallest more",
+        "groups smallest --steps 3",
+        "list smallest --work",
+        "run smallest none",
+        "run smallest none --steps 4294967296",
+        "run smallest none --steps -1",
+        "run smallest none --steps ten",
+        "infer smallest 4097 o",
+        "infer smallest 0 o --most 4097",
+        "infer smallest none o",
+        "--help",
+        "--version",
+        "check --help",
+    ] {
+        let words = words_of(rt.alloc(), line)?;
+        let mut places = Shelf::new(rt.alloc(), b"");
+        let mut out = Vec::new(rt.alloc());
+        let mut err = Vec::new(rt.alloc());
+        let status = respond(rt.alloc(), &words, &mut places, &mut out, &mut err);
+        assert_eq!(rt; status, 2, "{line}");
+        assert!(rt; out.is_empty(), "{line}");
+        assert!(rt; !err.is_empty(), "{line}");
+        assert_eq!(rt; places.made, 0, "{line}");
+    }
+    Ok(())
+}
+
+/// Whether a row's line on standard output is told as failed, for ever or once, and only a beginning of it went out.
+fn assert_output_fails(rt: &(impl Abort + Alloc<A = Global>), row: &Row) -> Result<(), Fail> {
+    let words = words_of(rt.alloc(), row.words)?;
+    let last = row.out.len() - 1;
+    for fault in [AT_ONCE, after(0), after(1), after(last)] {
+        let mut places = Shelf::new(rt.alloc(), b"");
+        let mut out = Paper::new(rt.alloc(), fault);
+        let mut err = Vec::new(rt.alloc());
+        let status = respond(rt.alloc(), &words, &mut places, &mut out, &mut err);
+        assert_eq!(rt; status, 3, "{}", row.words);
+        let told = b"cannot write standard output\n".as_slice();
+        assert_eq!(rt; err.as_slice(), told, "{}", row.words);
+        let begun = row.out.as_bytes().starts_with(out.taken.as_slice());
+        assert!(rt; begun, "{}", row.words);
+        assert!(rt; out.taken.len() <= fault.after, "{}", row.words);
+    }
+    Ok(())
+}
+
+#[test]
+fn output_fails(rt: HostRuntime) -> Result<(), Fail> {
+    for row in rows() {
+        if !row.out.is_empty() {
+            assert_output_fails(&rt, row)?;
+        }
+    }
+    Ok(())
+}
+
+/// Where standard error fails as well, nothing is left to tell it but the status.
+#[test]
+fn standard_error_fails(rt: HostRuntime) -> Result<(), Fail> {
+    for (line, status) in [
+        ("groups nowhere", 3),
+        ("run smallest zz --steps 9", 3),
+        ("groups", 2),
+    ] {
+        for fault in [AT_ONCE, after(3)] {
+            let words = words_of(rt.alloc(), line)?;
+            let mut places = Shelf::new(rt.alloc(), b"");
+            let mut out = Vec::new(rt.alloc());
+            let mut err = Paper::new(rt.alloc(), fault);
+            let got = respond(rt.alloc(), &words, &mut places, &mut out, &mut err);
+            assert_eq!(rt; got, status, "{line}");
+            assert!(rt; out.is_empty(), "{line}");
+            assert!(rt; err.taken.len() <= fault.after, "{line}");
+        }
+    }
+    Ok(())
+}
+
+#[test]
+fn proposals_are_accepted(rt: HostRuntime) -> Result<(), Fail> {
+    for (proposal, check, line) in [
+        (
+            "infer smallest 0 out",
+            "check smallest out",
+            "yes length 0 bound 2\n",
+        ),
+        (
+            "infer countdown 0 out",
+            "check countdown out",
+            "yes length 0 bound 23\n",
+        ),
+        (
+            "infer fourth-byte 4 out",
+            "check fourth-byte out",
+            "yes length 4 bound 2\n",
+        ),
+        (
+            "infer fourth-byte 4096 out",
+            "check fourth-byte out",
+            "yes length 4096 bound 2\n",
+        ),
+    ] {
+        let mut places = Shelf::new(rt.alloc(), b"");
+        let mut out = Vec::new(rt.alloc());
+        let mut err = Vec::new(rt.alloc());
+        let words = words_of(rt.alloc(), proposal)?;
+        let status = respond(rt.alloc(), &words, &mut places, &mut out, &mut err);
+        assert_eq!(rt; status, 0, "{proposal}");
+        assert!(rt; out.is_empty(), "{proposal}");
+        let Some(text) = &places.put else {
+            panic!(rt; "{proposal}");
+        };
+        let mut places = Shelf::new(rt.alloc(), text.as_slice());
+        let words = words_of(rt.alloc(), check)?;
+        let status = respond(rt.alloc(), &words, &mut places, &mut out, &mut err);
+        assert_eq!(rt; status, 0, "{proposal}");
+        assert_eq!(rt; out.as_slice(), line.as_bytes(), "{proposal}");
+    }
+    Ok(())
+}
+
+#[test]
+fn contexts_have_a_limit(rt: HostRuntime) -> Result<(), Fail> {
+    let mut text = String::new(rt.alloc());
+    for _ in 0..4096 {
+        text.push_str("2a")?;
+    }
+    assert_eq!(rt; context_of(rt.alloc(), text.as_str())?.len(), 4096);
+    text.push_str("2a")?;
+    assert_eq!(rt;
+        context_of(rt.alloc(), text.as_str()).err(),
+        Some(ContextError::TooLong)
+    );
+    text.push_str("2")?;
+    assert_eq!(rt;
+        context_of(rt.alloc(), text.as_str()).err(),
+        Some(ContextError::BadHex)
+    );
+    Ok(())
+}

@@ -1,0 +1,11 @@
+//! Tests of `bpf_command`, apart from it, so that they don't have it proved twice.
+#![tactic(auto)]
+
+#[cfg(test)]
+mod answers;
+#[cfg(test)]
+mod contents;
+#[cfg(test)]
+mod rows;
+#[cfg(test)]
+mod shelf;
