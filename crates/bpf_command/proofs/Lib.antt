@@ -2,4 +2,7 @@ pub mod RowLemmas
 pub mod ToldLemmas
 pub mod CommandLemmas
 pub mod PrintedLemmas
-pub mod RunCheckedLemmas
+pub mod LoadedLemmas
+pub mod TextLemmas
+pub mod MadeLemmas
+pub mod JudgedLemmas

@@ -1,5 +1,5 @@
 -- What a command answers on standard output, with its status.
-use Rattle.std.specs.Prelude.{◌≡◌, ◌++◌, ℕ, List, [], ◌∷◌, Option, Bool, true, false, codes, decimal}
+use Rattle.std.specs.Prelude.{◌≡◌, ◌++◌, ℕ, List, [], ◌∷◌, Option, Some, None, Bool, true, false, codes, decimal, nat_eq, if◌then◌else◌}
 use Rattle.std.specs.Io.KnownBytes.{Appends}
 use Rattle.std.specs.List.{concat, join_with_byte}
 use Rattle.bpf_insn.specs.ReasonNumbers.{reason_number}
@@ -7,6 +7,7 @@ use Rattle.bpf_insn.specs.RefusalNumbers.{decode_number, decode_slot, build_numb
 use Rattle.bpf_insn.specs.declared.instruction.Groups.{Groups}
 use Rattle.bpf_insn.specs.declared.instruction.Insn.{Insn}
 use Rattle.bpf_insn.specs.declared.refusal.DecodeError.{DecodeError}
+use Rattle.bpf_state.specs.Work.{Counts}
 use Rattle.bpf_text.specs.Listing.{listing}
 use Rattle.bpf_text.specs.declared.error.TextError.{TextError}
 use Rattle.bpf_text.specs.declared.error.TextError.TheVariants.{Form, Range, DefinedAgain, Undefined, TooFar, Program, Memory as TextMemory}
@@ -20,16 +21,17 @@ use Rattle.bpf_machine.specs.declared.outcome.Outcome.{Outcome}
 use Rattle.bpf_machine.specs.declared.outcome.Outcome.TheVariants.{Done as DoneRun, Fault as FaultRun, OutOfFuel}
 
 pub data Answer : Type 0 where
-  -- a certificate certifies the image's program: for contexts of this length, within this bound
-  Yes : (length bound : ℕ) → Answer
+  -- a certificate certifies the image's program: for contexts of `least` to `most` bytes, within this bound; and the work of
+  -- the check, where it is asked for
+  Yes : (least most bound : ℕ) → (work : Option Counts) → Answer
   -- what is at a name is no image, no text, no certificate; or the certificate doesn't certify, or none is proposed
   NoImage : (error : DecodeError) → Answer
   NoText : (error : TextError) → Answer
   NoCertificate : (error : CertError) → Answer
   NotCertified : (refusal : Refusal) → Answer
   NotProposed : (error : InferError) → Answer
-  -- a context of so many bytes, where the certificate speaks of others
-  NoContext : (count want : ℕ) → Answer
+  -- a context of so many bytes, where the certificate speaks of `least` to `most`
+  NoContext : (count least most : ℕ) → Answer
   -- a checked program ends with this number
   Ends : (value : ℕ) → Answer
   -- how a run of any program ends
@@ -48,13 +50,13 @@ status_of_run (FaultRun slot reason steps) = 1
 status_of_run OutOfFuel = 1
 
 abbrev pub status_of : Answer → ℕ
-status_of (Yes length bound) = 0
+status_of (Yes least most bound work) = 0
 status_of (NoImage error) = 1
 status_of (NoText error) = 1
 status_of (NoCertificate error) = 1
 status_of (NotCertified refusal) = 1
 status_of (NotProposed error) = 1
-status_of (NoContext count want) = 1
+status_of (NoContext count least most) = 1
 status_of (Ends value) = 0
 status_of (Ran outcome) = status_of_run outcome
 status_of (Occur groups) = 0
@@ -108,14 +110,31 @@ word_if false word = []
 abbrev pub groups_line : Groups → List ℕ
 groups_line g = join_with_byte 32 (word_if g.base (codes "base") ++ word_if g.divmul (codes "divmul") ++ word_if g.atomic (codes "atomic")) ++ codes "\n"
 
+-- `16`, or `0..4096` where the two differ
+abbrev pub range_pieces : ℕ → ℕ → List (List ℕ)
+range_pieces least most = if nat_eq least most then decimal least ∷ [] else decimal least ∷ codes ".." ∷ decimal most ∷ []
+
+-- `yes length 0..4096 bound 23`
+abbrev pub yes_line : ℕ → ℕ → ℕ → List ℕ
+yes_line least most bound = concat (codes "yes length " ∷ (range_pieces least most ++ (codes " bound " ∷ decimal bound ∷ codes "\n" ∷ [])))
+
+-- `no context of 3 bytes, want 16`
+abbrev pub no_context_line : ℕ → ℕ → ℕ → List ℕ
+no_context_line count least most = concat (codes "no context of " ∷ decimal count ∷ codes " bytes, want " ∷ (range_pieces least most ++ (codes "\n" ∷ [])))
+
+-- `transfers 5 comparisons 4`
+abbrev pub work_line : Counts → List ℕ
+work_line work = concat (codes "transfers " ∷ decimal work.transfers ∷ codes " comparisons " ∷ decimal work.comparisons ∷ codes "\n" ∷ [])
+
 abbrev pub text_of : Answer → List ℕ
-text_of (Yes length bound) = concat (codes "yes length " ∷ decimal length ∷ codes " bound " ∷ decimal bound ∷ codes "\n" ∷ [])
+text_of (Yes least most bound None) = yes_line least most bound
+text_of (Yes least most bound (Some work)) = yes_line least most bound ++ work_line work
 text_of (NoImage error) = refusal_line (codes "E") (decode_number error) at_slot (decode_slot error)
 text_of (NoText error) = text_refusal_line error
 text_of (NoCertificate error) = refusal_line (codes "K") (cert_number error) at_line (cert_line error)
 text_of (NotCertified refusal) = refusal_line (codes "C") (check_number refusal) at_slot (check_slot refusal)
 text_of (NotProposed error) = infer_refusal_line error
-text_of (NoContext count want) = concat (codes "no context of " ∷ decimal count ∷ codes " bytes, want " ∷ decimal want ∷ codes "\n" ∷ [])
+text_of (NoContext count least most) = no_context_line count least most
 text_of (Ends value) = concat (codes "done " ∷ decimal value ∷ codes "\n" ∷ [])
 text_of (Ran outcome) = run_line outcome
 text_of (Occur groups) = groups_line groups

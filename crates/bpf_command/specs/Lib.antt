@@ -3,5 +3,7 @@ pub mod Opened
 pub mod CommandLine
 pub mod Told
 pub mod Response
+pub mod Loaded
+pub mod Made
 pub mod Answer
 pub mod Printed

@@ -1,11 +1,11 @@
 -- What opening a name gives, and what is read there.
-use Rattle.std.specs.Prelude.{◌≡◌, ◌⊎◌, ℕ, List, Option, Some, None}
-use Rattle.bpf_insn.specs.Reading.{ReadsImage, FailsAfter}
-use Rattle.bpf_insn.specs.declared.refusal.DecodeError.{DecodeError}
+use Rattle.std.specs.Prelude.{◌≡◌, ◌⊎◌, ℕ, List, Option, Some, None, IfSome}
+use Rattle.std.specs.Io.{StartsWith}
+use Rattle.bpf_insn.specs.Reading.{ReadsImage}
 
--- the reader fails
+-- the reader fails behind a beginning of its bytes
 abbrev pub Fails : Option (List ℕ) → Type 0
-Fails known = (e : DecodeError) × FailsAfter known e
+Fails known = (given : List ℕ) × IfSome known (λ bytes. StartsWith bytes given)
 
 -- From places, a name leads to the bytes of a reader, as far as they are known, or to None where it can't be opened; and
 -- to the places after it.

@@ -1,119 +1,181 @@
--- Which answers the commands that take a certificate give, by what the names hold.
-use Rattle.std.specs.Prelude.{◌≡◌, ◌≢◌, ◌⊎◌, ℕ, Bool, true, false, List, length, Option, Some, None, Err, IfSome}
-use Rattle.bpf_insn.specs.Laws.{IsImageOfProgram}
-use Rattle.bpf_insn.specs.Refusal.{IsRefused}
-use Rattle.bpf_insn.specs.declared.order.Order.TheVariants.{Little}
-use Rattle.bpf_insn.specs.declared.instruction.Insn.{Insn}
-use Rattle.bpf_insn.specs.declared.refusal.DecodeError.{DecodeError}
-use Rattle.bpf_insn.specs.declared.refusal.DecodeError.TheVariants.{Memory}
+-- Which answers the commands give, by what the names hold.
+use Rattle.std.specs.Prelude.{◌≡◌, ◌⊎◌, ℕ, ◌<◌, ◌≤◌, Bool, true, false, ⊤, List, length, Some, None, Ok, Err, if◌then◌else◌}
+use Rattle.bpf_insn.specs.Instruction.{Instructions, groups_in, slots}
+use Rattle.bpf_insn.specs.Image.{image}
+use Rattle.bpf_insn.specs.declared.order.Order.{Order}
+use Rattle.bpf_text.specs.Assembly.{Assembles, IsRefused}
+use Rattle.bpf_text.specs.declared.error.TextError.TheVariants.{Memory as NoRoom}
+use Rattle.bpf_machine.specs.Answers.{IsRun}
+use Rattle.bpf_sound.specs.Describes.{LengthWithin}
 use Rattle.bpf_cert.specs.View.{CertificateView}
-use Rattle.bpf_cert.specs.Certificates.{Spells}
-use Rattle.bpf_cert.specs.ReadAnswers.{IsFaultOf}
-use Rattle.bpf_cert.specs.declared.error.CertError.{CertError}
-use Rattle.bpf_cert.specs.declared.error.CertError.TheVariants as errors
+use Rattle.bpf_cert.specs.Limits.{IsCertificate}
+use Rattle.bpf_cert.specs.Spelling.{certificate_text}
+use Rattle.bpf_cert.specs.declared.error.CertError.TheVariants.{Memory as NoCopy}
 use Rattle.bpf_safety.specs.Certified.{IsLeastFlaw}
-use Rattle.bpf_check.specs.CheckedProgram.{CheckedProgram, IsCertifiedBy, checked}
+use Rattle.bpf_check.specs.CheckedProgram.{CheckedProgram, IsCertifiedBy, checked, work_of}
 use Rattle.bpf_check.specs.RefusalNumbers.{refusal_slot, refusal_number}
 use Rattle.bpf_check.specs.Runs.{RunsTo}
-use Rattle.bpf_check.specs.Verdicts.{Verified, Promises, IsRefusedBy, little}
-use Rattle.bpf_check.specs.declared.verifier.VerifyError.{VerifyError}
-use Rattle.bpf_check.specs.declared.verifier.VerifyError.TheVariants.{Image as InImage, Check as InCheck}
-use Rattle.bpf_command.specs.Context.{context_in}
+use Rattle.bpf_check.specs.Verdicts.{Verified}
+use Rattle.bpf_infer.specs.RefusalNumbers.{infer_slot}
+use Rattle.bpf_command.specs.Context.{context_in, max_context}
+use Rattle.bpf_command.specs.declared.context.ContextError.{ContextError}
 use Rattle.bpf_command.specs.declared.context.ContextError.TheVariants.{Memory as NoSpace}
-use Rattle.bpf_command.specs.Opened.{Opening, ReadsAt, Unreadable}
+use Rattle.bpf_command.specs.Opened.{Opening}
+use Rattle.bpf_command.specs.Loaded.{ImageRefused, LoadsImage, ImageFails, TextAt, TextFails, CertificateAt, CertificateRefused, CertificateUnread, CertificateFails}
+use Rattle.bpf_command.specs.Made.{Making}
 use Rattle.bpf_command.specs.Answer.{Answer}
-use Rattle.bpf_command.specs.Answer.Answer.{Yes, NoImage, NoCertificate, NotCertified, NoContext, Ends}
+use Rattle.bpf_command.specs.Answer.Answer.{Yes, NoImage, NoText, NoCertificate, NotCertified, NotProposed, NoContext, Ends, Ran, Occur, Lists, Written}
 use Rattle.bpf_command.specs.Told.{OutputFails}
 use Rattle.bpf_command.specs.declared.failure.Failure.{Failure}
-use Rattle.bpf_command.specs.declared.failure.Failure.TheVariants.{CannotRead, BadContext}
+use Rattle.bpf_command.specs.declared.failure.Failure.TheVariants.{CannotRead, CannotWrite, BadContext}
+use Rattle.bpf_command.specs.declared.commands.judged.Wish.{Wish}
+use Rattle.bpf_command.specs.declared.commands.judged.Wish.TheVariants.{Promise, Run}
 
--- ---- images
+-- ---- contexts
 
--- The image at the name is refused: for want of memory, or for its bytes.
-abbrev pub ImageRefused : {S : Type 0} → Opening S → S → List ℕ → S → DecodeError → Type 0
-ImageRefused {S} opening old name new e =
-    ((known : Option (List ℕ)) × opening old name (Some known) new × (e ≡ Memory))
-    ⊎ ((bytes : List ℕ) × ReadsAt opening old name bytes new × IsRefused Little bytes e)
+-- the word spells a context
+abbrev pub IsContext : List ℕ → Type 0
+IsContext hex = (context : List ℕ) × (context_in hex ≡ Ok context)
 
--- ---- images and certificates
+-- the word is refused: for want of memory, or for its letters
+abbrev pub ContextRefused : List ℕ → ContextError → Type 0
+ContextRefused hex e = (e ≡ NoSpace) ⊎ (context_in hex ≡ Err e)
 
--- The image is read, and then the certificate is opened: its text is this, where it is known.
-pub record ReadsBoth {S : Type 0} (opening : Opening S) (old : S) (input certificate : List ℕ) (new : S) (bytes : List ℕ) (text : Option (List ℕ)) : Type 0 where
-  pub between : S
-  pub image : ReadsAt opening old input bytes between
-  pub opened : opening between certificate (Some text) new
+-- what fails of a command with a context: its word is judged before a name is opened
+abbrev pub FailsWith : {S : Type 0} → S → S → List ℕ → (Failure → Type 0) → Failure → Type 0
+FailsWith old new hex fails (BadContext e) = (new ≡ old) × ContextRefused hex e
+FailsWith old new hex fails (CannotRead name) = IsContext hex × fails (CannotRead name)
+FailsWith old new hex fails failure = fails failure
 
--- the same, with the program of the image and the certificate of the text
-pub record LoadsBoth {S : Type 0} (opening : Opening S) (old : S) (input certificate : List ℕ) (new : S) (program : List Insn) (c : CertificateView) : Type 0 where
-  pub bytes : List ℕ
-  pub text : Option (List ℕ)
-  pub reads : ReadsBoth opening old input certificate new bytes text
-  pub is_image : IsImageOfProgram Little bytes program
-  pub spelled : IfSome text (λ t. Spells t c)
+-- ---- commands that take an image alone
 
--- The certificate's text is refused behind an image that is a program's.
-pub record TextRefused {S : Type 0} (opening : Opening S) (old : S) (input certificate : List ℕ) (new : S) (e : CertError) : Type 0 where
-  pub bytes : List ℕ
-  pub program : List Insn
-  pub text : Option (List ℕ)
-  pub reads : ReadsBoth opening old input certificate new bytes text
-  pub is_image : IsImageOfProgram Little bytes program
-  pub fault : IfSome text (λ t. IsFaultOf t e)
+-- why the image is refused, or what is said of its program
+abbrev pub ImageSays : {S : Type 0} → Opening S → Order → S → List ℕ → S → (Instructions → Answer → Type 0) → Answer → Type 0
+ImageSays opening order old input new says (NoImage e) = ImageRefused opening order old input new e
+ImageSays opening order old input new says answer = (p : Instructions) × LoadsImage opening order old input new p × says p answer
 
--- A failure of the reader is told on standard error, and is no answer.
-abbrev pub reader_failed : CertError → Bool
-reader_failed (errors.Syntax n) = false
-reader_failed (errors.NotCanonical n) = false
-reader_failed (errors.Limit n) = false
-reader_failed errors.Memory = false
-reader_failed (errors.Read n) = true
+abbrev pub GroupsSay : Instructions → Answer → Type 0
+GroupsSay p (Occur groups) = groups ≡ groups_in p.list
+GroupsSay p answer = ⊥
 
-abbrev pub IsAnswered : CertError → Type 0
-IsAnswered e = reader_failed e ≡ false
+abbrev pub ListSays : Instructions → Answer → Type 0
+ListSays p (Lists is) = is ≡ p.list
+ListSays p answer = ⊥
 
--- Image or certificate can't be opened, or a reader fails; the certificate is opened where the image is a program's.
-abbrev pub CannotReadBoth : {S : Type 0} → Opening S → S → List ℕ → List ℕ → S → List ℕ → Type 0
-CannotReadBoth {S} opening old input certificate new name =
-    ((name ≡ input) × Unreadable opening old input new)
-    ⊎ ((name ≡ certificate) × (((between : S) × opening between certificate None new) ⊎ ((n : ℕ) × TextRefused opening old input certificate new (errors.Read n))))
+abbrev pub OutcomeSays : List ℕ → ℕ → Instructions → Answer → Type 0
+OutcomeSays context fuel p (Ran outcome) = IsRun p context fuel outcome
+OutcomeSays context fuel p answer = ⊥
 
--- ---- check
+-- ---- commands that take an image and a certificate
 
--- Image and text are refused by their bytes, or the certificate doesn't certify the program.
-abbrev pub RefusedBoth : {S : Type 0} → Opening S → S → List ℕ → List ℕ → S → VerifyError → Type 0
-RefusedBoth {S} opening old input certificate new e =
-    (bytes : List ℕ) × (text : Option (List ℕ)) × ReadsBoth opening old input certificate new bytes text × IfSome text (λ t. IsRefusedBy bytes t e)
+-- Of a program and the certificate at a name: why the text is refused, why the one doesn't certify the other, or what is said of
+-- both.
+abbrev pub JudgedSays : {S : Type 0} → Opening S → S → List ℕ → S → Instructions → (CheckedProgram → Answer → Type 0) → Answer → Type 0
+JudgedSays opening old certificate new p says (NoCertificate e) = CertificateRefused opening old certificate new e
+JudgedSays opening old certificate new p says (NotCertified r) =
+    (c : CertificateView) × CertificateAt opening old certificate new c × IsLeastFlaw p c (refusal_slot r) (refusal_number r)
+JudgedSays opening old certificate new p says answer =
+    (c : CertificateView) × CertificateAt opening old certificate new c × IsCertifiedBy p c × says (checked p c) answer
 
-abbrev pub CheckSays : {S : Type 0} → Opening S → S → List ℕ → List ℕ → S → Answer → Type 0
-CheckSays {S} opening old input certificate new (Yes len bound) =
-    (bytes : List ℕ) × (text : Option (List ℕ)) × ReadsBoth opening old input certificate new bytes text × Verified bytes len bound × IfSome text (λ t. Promises t len bound)
-CheckSays opening old input certificate new (NoImage e) = ImageRefused opening old input new e ⊎ RefusedBoth opening old input certificate new (InImage e)
-CheckSays opening old input certificate new (NoCertificate e) = IsAnswered e × TextRefused opening old input certificate new e
-CheckSays opening old input certificate new (NotCertified r) = RefusedBoth opening old input certificate new (InCheck r)
-CheckSays opening old input certificate new answer = ⊥
+-- the image is judged before the certificate's name is opened
+abbrev pub LoadedSays : {S : Type 0} → Opening S → Order → S → List ℕ → List ℕ → S → (List ℕ → CheckedProgram → Answer → Type 0) → Answer → Type 0
+LoadedSays opening order old input certificate new says (NoImage e) = ImageRefused opening order old input new e
+LoadedSays {S} opening order old input certificate new says answer =
+    (between : S) × (p : Instructions) × (image : LoadsImage opening order old input between p) × JudgedSays opening between certificate new p (says image.bytes) answer
 
-abbrev pub CheckFails : {S : Type 0} → Opening S → S → List ℕ → List ℕ → S → Failure → Type 0
-CheckFails opening old input certificate new (CannotRead name) = CannotReadBoth opening old input certificate new name.now
-CheckFails opening old input certificate new failure = OutputFails failure
+abbrev pub LoadedFails : {S : Type 0} → Opening S → Order → S → List ℕ → List ℕ → S → Failure → Type 0
+LoadedFails {S} opening order old input certificate new (CannotRead name) =
+    ImageFails opening old input new (CannotRead name)
+    ⊎ ((name.now ≡ certificate) × ((between : S) × (p : Instructions) × LoadsImage opening order old input between p × CertificateUnread opening between certificate new))
+LoadedFails opening order old input certificate new failure = OutputFails failure
 
--- ---- run-checked
+-- what is printed of a yes: the range and the bound, and where it is asked for the work
+abbrev pub YesSays : Bool → CheckedProgram → Answer → Type 0
+YesSays counted k (Yes least most bound work) =
+    (least ≡ k.certificate.least) × (most ≡ k.certificate.most) × (bound ≡ k.certificate.steps) × (work ≡ (if counted then Some (work_of k.program k.certificate) else None))
+YesSays counted k answer = ⊥
 
 -- what a checked program answers on a context
-abbrev pub RunSays : CheckedProgram → List ℕ → Answer → Type 0
-RunSays p context (Ends value) = RunsTo p.program p.certificate.len p.certificate.steps context value
-RunSays p context (NoContext count want) = (count ≡ length context) × (want ≡ p.certificate.len) × (count ≢ want)
-RunSays p context answer = ⊥
+abbrev pub ResultSays : List ℕ → CheckedProgram → Answer → Type 0
+ResultSays context k (Ends value) = RunsTo k.program k.certificate.steps context value
+ResultSays context k (NoContext count least most) =
+    (count ≡ length context) × (least ≡ k.certificate.least) × (most ≡ k.certificate.most) × (LengthWithin least most context → ⊥)
+ResultSays context k answer = ⊥
 
-abbrev pub RunCheckedSays : {S : Type 0} → Opening S → S → List ℕ → List ℕ → List ℕ → S → Answer → Type 0
-RunCheckedSays opening old input certificate context new (NoImage e) = ImageRefused opening old input new e
-RunCheckedSays opening old input certificate context new (NoCertificate e) = IsAnswered e × TextRefused opening old input certificate new e
-RunCheckedSays {S} opening old input certificate context new (NotCertified r) =
-    (program : List Insn) × (c : CertificateView) × LoadsBoth opening old input certificate new program c × IsLeastFlaw (little program) c (refusal_slot r) (refusal_number r)
-RunCheckedSays {S} opening old input certificate context new answer =
-    (program : List Insn) × (c : CertificateView) × LoadsBoth opening old input certificate new program c × IsCertifiedBy (little program) c × RunSays (checked (little program) c) context answer
+abbrev pub WishSays : Wish → CheckedProgram → Answer → Type 0
+WishSays (Promise counted) k answer = YesSays counted k answer
+WishSays (Run context) k answer = ResultSays context.now k answer
 
--- the word for the context is judged first
-abbrev pub RunCheckedFails : {S : Type 0} → Opening S → S → List ℕ → List ℕ → List ℕ → S → Failure → Type 0
-RunCheckedFails opening old input certificate hex new (CannotRead name) = CannotReadBoth opening old input certificate new name.now
-RunCheckedFails opening old input certificate hex new (BadContext e) = (e ≡ NoSpace) ⊎ (context_in hex ≡ Err e)
-RunCheckedFails opening old input certificate hex new failure = OutputFails failure
+-- what a yes promises of the image
+abbrev pub IsPromised : Order → List ℕ → Answer → Type 0
+IsPromised order bytes (Yes least most bound work) = Verified order bytes least most bound
+IsPromised order bytes answer = ⊤
+
+abbrev pub CheckSays : {S : Type 0} → Opening S → Order → S → List ℕ → List ℕ → S → Bool → Answer → Type 0
+CheckSays opening order old input certificate new counted answer =
+    LoadedSays opening order old input certificate new (λ bytes k x. YesSays counted k x × IsPromised order bytes x) answer
+
+abbrev pub RunCheckedSays : {S : Type 0} → Opening S → Order → S → List ℕ → List ℕ → S → List ℕ → Answer → Type 0
+RunCheckedSays opening order old input certificate new context answer = LoadedSays opening order old input certificate new (λ bytes. ResultSays context) answer
+
+-- ---- commands that write
+
+-- the text at the name says the program, which is taken in this order
+pub record LoadsText {S : Type 0} (opening : Opening S) (order : Order) (old : S) (name : List ℕ) (new : S) (p : Instructions) : Type 0 where
+  pub assembles : TextAt opening old name new (λ text. Assembles text p.list)
+  pub order_is : p.order ≡ order
+
+-- OUT holds the program's image, or isn't opened
+abbrev pub AsmSays : {S : Type 0} → Opening S → Making S → Order → S → List ℕ → List ℕ → S → Answer → Type 0
+AsmSays opening making order old input output new (NoText e) = TextAt opening old input new (λ text. (e ≡ NoRoom) ⊎ IsRefused text e)
+AsmSays {S} opening making order old input output new Written =
+    (between : S) × (p : Instructions) × LoadsText opening order old input between p × making between output (image p.order p.list) true new
+AsmSays opening making order old input output new answer = ⊥
+
+abbrev pub AsmFails : {S : Type 0} → Opening S → Making S → Order → S → List ℕ → List ℕ → S → Failure → Type 0
+AsmFails opening making order old input output new (CannotRead name) = TextFails opening old input new (CannotRead name)
+AsmFails {S} opening making order old input output new (CannotWrite name) =
+    OutputFails (CannotWrite name)
+    ⊎ ((name.now ≡ output) × ((between : S) × (p : Instructions) × LoadsText opening order old input between p × making between output (image p.order p.list) false new))
+AsmFails opening making order old input output new failure = OutputFails failure
+
+-- a certificate that the inferrer may propose for contexts of `least` to `most` bytes
+pub record IsProposal (least most : ℕ) (c : CertificateView) : Type 0 where
+  pub version_is : c.version ≡ 2
+  pub range_is : least ≤ most → most ≤ max_context → (c.least ≡ least) × (c.most ≡ most)
+  pub certificate : IsCertificate c
+
+-- OUT holds the text of a certificate that was proposed for the image's program, or isn't opened
+abbrev pub InferSays : {S : Type 0} → Opening S → Making S → Order → S → List ℕ → ℕ → ℕ → List ℕ → S → Answer → Type 0
+InferSays opening making order old input least most output new (NoImage e) = ImageRefused opening order old input new e
+InferSays opening making order old input least most output new (NotProposed e) = (p : Instructions) × LoadsImage opening order old input new p × (infer_slot e < slots p.list)
+InferSays {S} opening making order old input least most output new Written =
+    (between : S) × (p : Instructions) × (c : CertificateView) × LoadsImage opening order old input between p × IsProposal least most c × making between output (certificate_text c) true new
+InferSays opening making order old input least most output new answer = ⊥
+
+abbrev pub InferFails : {S : Type 0} → Opening S → Making S → Order → S → List ℕ → ℕ → ℕ → List ℕ → S → Failure → Type 0
+InferFails opening making order old input least most output new (CannotRead name) = ImageFails opening old input new (CannotRead name)
+InferFails {S} opening making order old input least most output new (CannotWrite name) =
+    OutputFails (CannotWrite name)
+    ⊎ ((name.now ≡ output)
+    × ((between : S) × (p : Instructions) × (c : CertificateView) × LoadsImage opening order old input between p × IsProposal least most c × making between output (certificate_text c) false new))
+InferFails opening making order old input least most output new failure = OutputFails failure
+
+-- the same certificate as version 2
+abbrev pub migrated : CertificateView → CertificateView
+migrated c = record c { version = 2 }
+
+-- OUT holds the text of the certificate as version 2, or isn't opened
+abbrev pub MigrateSays : {S : Type 0} → Opening S → Making S → S → List ℕ → List ℕ → S → Answer → Type 0
+MigrateSays opening making old certificate output new (NoCertificate e) =
+    CertificateRefused opening old certificate new e ⊎ ((e ≡ NoCopy) × ((c : CertificateView) × CertificateAt opening old certificate new c))
+MigrateSays {S} opening making old certificate output new Written =
+    (between : S) × (c : CertificateView) × CertificateAt opening old certificate between c × making between output (certificate_text (migrated c)) true new
+MigrateSays opening making old certificate output new answer = ⊥
+
+abbrev pub MigrateFails : {S : Type 0} → Opening S → Making S → S → List ℕ → List ℕ → S → Failure → Type 0
+MigrateFails opening making old certificate output new (CannotRead name) = CertificateFails opening old certificate new (CannotRead name)
+MigrateFails {S} opening making old certificate output new (CannotWrite name) =
+    OutputFails (CannotWrite name)
+    ⊎ ((name.now ≡ output) × ((between : S) × (c : CertificateView) × CertificateAt opening old certificate between c × making between output (certificate_text (migrated c)) false new))
+MigrateFails opening making old certificate output new failure = OutputFails failure

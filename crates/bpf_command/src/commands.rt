@@ -6,7 +6,10 @@ mod check;
 mod groups;
 mod image;
 mod infer;
+mod judged;
 mod list;
+mod migrate;
+mod output;
 mod run;
 mod run_checked;
 
@@ -15,5 +18,6 @@ pub use check::checked;
 pub use groups::grouped;
 pub use infer::inferred;
 pub use list::listed;
+pub use migrate::migrated;
 pub use run::ran;
 pub use run_checked::ran_checked;

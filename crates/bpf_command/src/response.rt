@@ -62,32 +62,38 @@ fn carry_out<'a, P: Places, W: Write>(
     ensures { IfOk result (λ status. status ≤ 1) }
 {
     match request {
-        Request::Groups { input, .. } => grouped(alloc, places, out, input),
-        Request::Asm { input, output, .. } => assembled(alloc, places, out, input, output),
-        Request::List { input, .. } => listed(alloc, places, out, input),
+        Request::Groups { input, order } => grouped(alloc, places, out, input, order),
+        Request::Asm {
+            input,
+            output,
+            order,
+        } => assembled(alloc, places, out, input, output, order),
+        Request::List { input, order } => listed(alloc, places, out, input, order),
         Request::Run {
             input,
             hex,
             steps,
-            ..
-        } => ran(alloc, places, out, input, hex, steps),
+            order,
+        } => ran(alloc, places, out, input, hex, steps, order),
         Request::Check {
             input,
             certificate,
-            ..
-        } => checked(alloc, places, out, input, certificate),
+            work,
+            order,
+        } => checked(alloc, places, out, input, certificate, order, work),
         Request::RunChecked {
             input,
             certificate,
             hex,
-            ..
-        } => ran_checked(alloc, places, out, input, certificate, hex),
+            order,
+        } => ran_checked(alloc, places, out, input, certificate, hex, order),
         Request::Infer {
             input,
             least,
+            most,
             output,
-            ..
-        } => inferred(alloc, places, out, input, least, output),
+            order,
+        } => inferred(alloc, places, out, input, least, most, output, order),
     }
 }
 

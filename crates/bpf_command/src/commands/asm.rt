@@ -1,24 +1,30 @@
 //! `bpf asm IN OUT`.
 
-ghost use Rattle.std.specs.Prelude.{◌≡◌, ◌≤◌, IfOk, IfErr};
+ghost use Rattle.std.specs.Prelude.{◌≡◌, IfOk, IfErr, IfSome};
 ghost use Rattle.std.specs.String.{string_bytes};
-ghost use Rattle.bpf_command.specs.Answer.{Says, text_of};
+ghost use Rattle.bpf_command.specs.Answer.{Answer, Says, text_of};
 ghost use Rattle.bpf_command.specs.Answer.Answer.{NoText};
+ghost use Rattle.bpf_command.specs.Opened.{opening};
+ghost use Rattle.bpf_command.specs.Loaded.{TextAt, TextFails};
+ghost use Rattle.bpf_command.specs.Made.{making};
+ghost use Rattle.bpf_command.specs.Printed.{AsmSays, AsmFails};
 ghost use Rattle.bpf_command.specs.Told.{OutputFails};
 
-use crate::failure::{DONE, Failure, REFUSED, say};
+use crate::commands::output::put;
+use crate::failure::{Failure, REFUSED, say};
 use crate::places::Places;
-use bpf_insn::encode;
+use bpf_insn::Order;
 use bpf_text::{TextError, assemble};
 use std::alloc::{AllocError, Global};
 use std::io::{Read, Write};
-use std::str;
 
 /// The bytes of a reader to its end; None if it fails.
-fn read_all<R: Read>(alloc: Global, reader: &mut R) -> Result<Option<Vec<u8>>, AllocError> {
+fn read_all<R: Read>(alloc: Global, reader: &mut R) -> Result<Option<Vec<u8>>, AllocError>
+    ensures { IfOk result (λ read. IfSome read (λ v. IfSome (R.remaining reader.old) (λ bytes. v.items ≡ bytes))) }
+{
     let mut bytes = Vec::new(alloc);
     let mut chunk = [0; 4096];
-    for _ in 0..u64::MAX {
+    'reads: for _ in 0..u64::MAX {
         let Ok(count) = reader.read(&mut chunk) else {
             return Ok(None);
         };
@@ -28,6 +34,27 @@ fn read_all<R: Read>(alloc: Global, reader: &mut R) -> Result<Option<Vec<u8>>, A
         bytes.extend_from_slice(&chunk[..count])?;
     }
     Ok(None)
+}
+
+/// The text at a name. It can't be read where it isn't UTF-8.
+fn text_at<'a, P: Places>(
+    alloc: Global,
+    places: &mut P,
+    name: &'a str,
+) -> Result<String, Failure<'a>>
+    ensures ok { IfOk result (λ text. TextAt (opening P.opens P.Reader.remaining) places.old name.entry.now places.new (λ bytes. string_bytes text ≡ bytes)) }
+    ensures err { IfErr result (TextFails (opening P.opens P.Reader.remaining) places.old name.entry.now places.new) }
+{
+    let Ok(mut reader) = places.open(name) else {
+        return Err(Failure::CannotRead(name));
+    };
+    let Some(bytes) = read_all(alloc, &mut reader)? else {
+        return Err(Failure::CannotRead(name));
+    };
+    let Ok(text) = String::from_utf8(bytes) else {
+        return Err(Failure::CannotRead(name));
+    };
+    Ok(text)
 }
 
 /// The line of a refusal.
@@ -70,32 +97,14 @@ pub fn assembled<'a, P: Places, W: Write>(
     out: &mut W,
     input: &'a str,
     output: &'a str,
+    order: Order,
 ) -> Result<u8, Failure<'a>>
-    ensures { IfOk result (λ status. status ≤ REFUSED) }
+    ensures ok { IfOk result (λ status. (answer : Answer) × Says answer status (W.contents out.old) (W.contents out.new) × AsmSays (opening P.opens P.Reader.remaining) (making P.creates P.ends P.Writer.contents) order places.old input.entry.now output.entry.now places.new answer) }
+    ensures err { IfErr result (AsmFails (opening P.opens P.Reader.remaining) (making P.creates P.ends P.Writer.contents) order places.old input.entry.now output.entry.now places.new) }
 {
-    let Ok(mut reader) = places.open(input) else {
-        return Err(Failure::CannotRead(input));
-    };
-    let Some(bytes) = read_all(alloc, &mut reader)? else {
-        return Err(Failure::CannotRead(input));
-    };
-    let Ok(text) = str::from_utf8(&bytes) else {
-        return Err(Failure::CannotRead(input));
-    };
-    match assemble(alloc, text) {
-        Ok(program) => {
-            let Ok(mut writer) = places.create(output) else {
-                return Err(Failure::CannotWrite(output));
-            };
-            if encode(&program, &mut writer).is_err() {
-                places.discard(writer);
-                return Err(Failure::CannotWrite(output));
-            }
-            match places.finish(writer) {
-                Ok(()) => Ok(DONE),
-                Err(_) => Err(Failure::CannotWrite(output)),
-            }
-        }
+    let text = text_at(alloc, places, input)?;
+    match assemble(alloc, text.as_str(), order) {
+        Ok(program) => put(places, output, &program),
         Err(error) => refuse_text(alloc, out, error),
     }
 }

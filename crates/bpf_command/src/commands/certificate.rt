@@ -1,14 +1,11 @@
 //! Certificates at a name, and why they and programs are refused.
 
-ghost use Rattle.std.specs.Prelude.{◌≡◌, ◌⊎◌, ℕ, IfOk, IfErr, OnErr, IfSome, MatchResult, Some, None};
-ghost use Rattle.bpf_cert.specs.Certificates.{Spells};
-ghost use Rattle.bpf_cert.specs.ReadAnswers.{IsFaultOf};
-ghost use Rattle.bpf_cert.specs.declared.error.CertError.TheVariants.{Read};
+ghost use Rattle.std.specs.Prelude.{◌≡◌, IfOk, IfErr, MatchResult};
 ghost use Rattle.bpf_command.specs.Answer.{Says};
 ghost use Rattle.bpf_command.specs.Answer.Answer.{NoCertificate, NotCertified};
-ghost use Rattle.bpf_command.specs.Printed.{IsAnswered, reader_failed};
+ghost use Rattle.bpf_command.specs.Opened.{opening};
+ghost use Rattle.bpf_command.specs.Loaded.{CertificateAt, CertificateRefused, CertificateFails};
 ghost use Rattle.bpf_command.specs.Told.{OutputFails};
-ghost use Rattle.bpf_command.specs.declared.failure.Failure.TheVariants.{CannotRead};
 
 use crate::failure::{Failure, REFUSED, say};
 use crate::places::Places;
@@ -17,22 +14,14 @@ use bpf_check::Refusal;
 use std::alloc::Global;
 use std::io::Write;
 
-/// Whether a text wasn't read to its end, since the reader failed.
-pub fn reader_failed(error: CertError) -> bool
-    ensures { result ≡ reader_failed error }
-{
-    matches!(error, CertError::Read { .. })
-}
-
 /// The certificate at a name, or why it is refused.
 pub fn certificate_at<'a, P: Places>(
     alloc: Global,
     places: &mut P,
     name: &'a str,
 ) -> Result<Result<Certificate, CertError>, Failure<'a>>
-    ensures ok { IfOk result (λ read. (reader : P.Reader) × P.opens places.old name.entry.now (Some reader) places.new × MatchResult read (λ c. IfSome (P.Reader.remaining reader) (λ text. Spells text c)) (λ e. IsAnswered e × IfSome (P.Reader.remaining reader) (λ text. IsFaultOf text e))) }
-    ensures err { IfErr result (λ failure. failure ≡ CannotRead name.entry) }
-    ensures unreadable { OnErr result (P.opens places.old name.entry.now None places.new ⊎ ((reader : P.Reader) × (line : ℕ) × P.opens places.old name.entry.now (Some reader) places.new × IfSome (P.Reader.remaining reader) (λ text. IsFaultOf text (Read line)))) }
+    ensures ok { IfOk result (λ read. MatchResult read (CertificateAt (opening P.opens P.Reader.remaining) places.old name.entry.now places.new) (CertificateRefused (opening P.opens P.Reader.remaining) places.old name.entry.now places.new)) }
+    ensures err { IfErr result (CertificateFails (opening P.opens P.Reader.remaining) places.old name.entry.now places.new) }
 {
     let Ok(reader) = places.open(name) else {
         return Err(Failure::CannotRead(name));

@@ -1,31 +1,43 @@
 //! `bpf groups IN`.
 
-ghost use Rattle.std.specs.Prelude.{◌≤◌, IfOk};
+ghost use Rattle.std.specs.Prelude.{◌≡◌, IfOk, IfErr};
+ghost use Rattle.bpf_command.specs.Opened.{opening};
+ghost use Rattle.bpf_command.specs.Answer.{Answer, Says, groups_line};
+ghost use Rattle.bpf_command.specs.Answer.Answer.{Occur};
+ghost use Rattle.bpf_command.specs.Loaded.{ImageFails};
+ghost use Rattle.bpf_command.specs.Printed.{GroupsSay, ImageSays};
+ghost use Rattle.bpf_command.specs.Told.{OutputFails};
 
 use crate::commands::image::{image_at, refuse};
 use crate::failure::{DONE, Failure, say};
 use crate::places::Places;
-use bpf_insn::{Groups, ProgramView};
-use std::alloc::{AllocError, Global};
+use bpf_insn::{Groups, Order, ProgramView};
+use std::alloc::Global;
 use std::io::Write;
 
 /// The names of groups in their order, joined by a space.
-fn line_of(alloc: Global, groups: Groups) -> Result<String, AllocError> {
-    let mut line = String::new(alloc);
-    for (occurs, name) in [
-        (groups.base, "base"),
-        (groups.divmul, "divmul"),
-        (groups.atomic, "atomic"),
-    ] {
-        if occurs {
-            if !line.is_empty() {
-                line.push_str(" ")?;
-            }
-            line.push_str(name)?;
-        }
+fn line_of(groups: Groups) -> &'static str
+    ensures { result.now ≡ groups_line groups }
+{
+    match (groups.base, groups.divmul, groups.atomic) {
+        (false, false, false) => "\n",
+        (true, false, false) => "base\n",
+        (false, true, false) => "divmul\n",
+        (false, false, true) => "atomic\n",
+        (true, true, false) => "base divmul\n",
+        (true, false, true) => "base atomic\n",
+        (false, true, true) => "divmul atomic\n",
+        (true, true, true) => "base divmul atomic\n",
     }
-    line.push_str("\n")?;
-    Ok(line)
+}
+
+/// Prints the names of groups.
+fn say_groups<'a, W: Write>(out: &mut W, groups: Groups) -> Result<u8, Failure<'a>>
+    ensures ok { IfOk result (λ status. Says (Occur groups) status (W.contents out.old) (W.contents out.new)) }
+    ensures err { IfErr result OutputFails }
+{
+    say(out, line_of(groups))?;
+    Ok(DONE)
 }
 
 /// Prints the conformance groups that occur in an image.
@@ -34,19 +46,17 @@ pub fn grouped<'a, P: Places, W: Write>(
     places: &mut P,
     out: &mut W,
     input: &'a str,
+    order: Order,
 ) -> Result<u8, Failure<'a>>
-    ensures { IfOk result (λ status. status ≤ 1) }
+    ensures ok { IfOk result (λ status. (answer : Answer) × Says answer status (W.contents out.old) (W.contents out.new) × ImageSays (opening P.opens P.Reader.remaining) order places.old input.entry.now places.new GroupsSay answer) }
+    ensures err { IfErr result (ImageFails (opening P.opens P.Reader.remaining) places.old input.entry.now places.new) }
 {
     let bytes = match image_at(alloc, places, input)? {
         Ok(bytes) => bytes,
         Err(error) => return refuse(alloc, out, error),
     };
-    match ProgramView::of(&bytes) {
-        Ok(program) => {
-            let line = line_of(alloc, program.groups())?;
-            say(out, line.as_str())?;
-            Ok(DONE)
-        }
+    match ProgramView::of(&bytes, order) {
+        Ok(program) => say_groups(out, program.groups()),
         Err(error) => refuse(alloc, out, error),
     }
 }

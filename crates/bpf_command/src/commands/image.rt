@@ -1,17 +1,15 @@
 //! Images at a name, and why they are refused.
 
-ghost use Rattle.std.specs.Prelude.{◌≡◌, ◌⊎◌, IfOk, IfErr, OnErr, MatchResult, Some, None};
-ghost use Rattle.bpf_insn.specs.Reading.{ReadsImage};
-ghost use Rattle.bpf_insn.specs.declared.refusal.DecodeError.TheVariants.{Memory};
-ghost use Rattle.bpf_command.specs.Opened.{Fails};
+ghost use Rattle.std.specs.Prelude.{◌≡◌, IfOk, IfErr, MatchResult};
+ghost use Rattle.bpf_command.specs.Opened.{opening, ReadsAt};
+ghost use Rattle.bpf_command.specs.Loaded.{NoSpaceFor, ImageRefused, LoadsImage, ImageFails};
 ghost use Rattle.bpf_command.specs.Answer.{Says};
 ghost use Rattle.bpf_command.specs.Answer.Answer.{NoImage};
 ghost use Rattle.bpf_command.specs.Told.{OutputFails};
-ghost use Rattle.bpf_command.specs.declared.failure.Failure.TheVariants.{CannotRead};
 
 use crate::failure::{Failure, REFUSED, say};
 use crate::places::Places;
-use bpf_insn::{DecodeError, read_image};
+use bpf_insn::{DecodeError, Order, Program, decode, read_image};
 use std::alloc::Global;
 use std::io::Write;
 
@@ -22,16 +20,32 @@ pub fn image_at<'a, P: Places>(
     places: &mut P,
     name: &'a str,
 ) -> Result<Result<Vec<u8>, DecodeError>, Failure<'a>>
-    ensures ok { IfOk result (λ read. (reader : P.Reader) × P.opens places.old name.entry.now (Some reader) places.new × MatchResult read (λ v. ReadsImage (P.Reader.remaining reader) v.items) (λ e. e ≡ Memory)) }
-    ensures err { IfErr result (λ failure. failure ≡ CannotRead name.entry) }
-    ensures unreadable { OnErr result (P.opens places.old name.entry.now None places.new ⊎ ((reader : P.Reader) × P.opens places.old name.entry.now (Some reader) places.new × Fails (P.Reader.remaining reader))) }
+    ensures ok { IfOk result (λ read. MatchResult read (λ v. ReadsAt (opening P.opens P.Reader.remaining) places.old name.entry.now v.items places.new) (NoSpaceFor (opening P.opens P.Reader.remaining) places.old name.entry.now places.new)) }
+    ensures err { IfErr result (ImageFails (opening P.opens P.Reader.remaining) places.old name.entry.now places.new) }
 {
     let Ok(mut reader) = places.open(name) else {
         return Err(Failure::CannotRead(name));
     };
     match read_image(alloc, &mut reader) {
-        Err(DecodeError::Read { .. }) => Err(Failure::CannotRead(name)),
-        read => Ok(read),
+        Ok(bytes) => Ok(Ok(bytes)),
+        Err(DecodeError::Memory) => Ok(Err(DecodeError::Memory)),
+        Err(_) => Err(Failure::CannotRead(name)),
+    }
+}
+
+/// The program of the image at a name, or why it is refused.
+pub fn program_at<'a, P: Places>(
+    alloc: Global,
+    places: &mut P,
+    name: &'a str,
+    order: Order,
+) -> Result<Result<Program, DecodeError>, Failure<'a>>
+    ensures ok { IfOk result (λ read. MatchResult read (LoadsImage (opening P.opens P.Reader.remaining) order places.old name.entry.now places.new) (ImageRefused (opening P.opens P.Reader.remaining) order places.old name.entry.now places.new)) }
+    ensures err { IfErr result (ImageFails (opening P.opens P.Reader.remaining) places.old name.entry.now places.new) }
+{
+    match image_at(alloc, places, name)? {
+        Ok(bytes) => Ok(decode(alloc, &bytes, order)),
+        Err(error) => Ok(Err(error)),
     }
 }
 

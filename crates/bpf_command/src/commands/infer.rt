@@ -1,18 +1,21 @@
 //! `bpf infer IN LEN OUT`.
 
-ghost use Rattle.std.specs.Prelude.{◌≡◌, ◌≤◌, IfOk, IfErr};
+ghost use Rattle.std.specs.Prelude.{◌≡◌, IfOk, IfErr};
 ghost use Rattle.std.specs.String.{string_bytes};
-ghost use Rattle.bpf_command.specs.Answer.{Says, text_of};
+ghost use Rattle.bpf_command.specs.Answer.{Answer, Says, text_of};
 ghost use Rattle.bpf_command.specs.Answer.Answer.{NotProposed};
+ghost use Rattle.bpf_command.specs.Made.{making};
+ghost use Rattle.bpf_command.specs.Opened.{opening};
+ghost use Rattle.bpf_command.specs.Printed.{InferSays, InferFails};
 ghost use Rattle.bpf_command.specs.Told.{OutputFails};
 
-use crate::commands::image::{image_at, refuse};
+use crate::commands::image::{program_at, refuse};
+use crate::commands::output::put;
 use crate::context::MAX_CONTEXT;
-use crate::failure::{DONE, Failure, REFUSED, say};
+use crate::failure::{Failure, REFUSED, say};
 use crate::places::Places;
-use bpf_cert::write;
 use bpf_infer::{InferError, infer};
-use bpf_insn::decode;
+use bpf_insn::Order;
 use std::alloc::{AllocError, Global};
 use std::io::Write;
 
@@ -45,40 +48,29 @@ fn refuse_inference<'a, W: Write>(
     Ok(REFUSED)
 }
 
-/// Writes a certificate for an image and contexts of a length. The place for it is made only where there is one.
+/// Writes a certificate for an image and contexts of `least` to `most` bytes. The place for it is made only where there is
+/// one.
 pub fn inferred<'a, P: Places, W: Write>(
     alloc: Global,
     places: &mut P,
     out: &mut W,
     input: &'a str,
-    length: u32,
+    least: u32,
+    most: u32,
     output: &'a str,
+    order: Order,
 ) -> Result<u8, Failure<'a>>
-    ensures { IfOk result (λ status. status ≤ 1) }
+    ensures ok { IfOk result (λ status. (answer : Answer) × Says answer status (W.contents out.old) (W.contents out.new) × InferSays (opening P.opens P.Reader.remaining) (making P.creates P.ends P.Writer.contents) order places.old input.entry.now least most output.entry.now places.new answer) }
+    ensures err { IfErr result (InferFails (opening P.opens P.Reader.remaining) (making P.creates P.ends P.Writer.contents) order places.old input.entry.now least most output.entry.now places.new) }
 {
-    let bytes = match image_at(alloc, places, input)? {
-        Ok(bytes) => bytes,
-        Err(error) => return refuse(alloc, out, error),
-    };
-    let program = match decode(alloc, &bytes) {
+    let program = match program_at(alloc, places, input, order)? {
         Ok(program) => program,
         Err(error) => return refuse(alloc, out, error),
     };
-    // The words' parser has seen that the length is at most the greatest.
-    match infer(alloc, &program, length.min(MAX_CONTEXT as u32)) {
-        Ok(certificate) => {
-            let Ok(mut writer) = places.create(output) else {
-                return Err(Failure::CannotWrite(output));
-            };
-            if write(&certificate, &mut writer).is_err() {
-                places.discard(writer);
-                return Err(Failure::CannotWrite(output));
-            }
-            match places.finish(writer) {
-                Ok(()) => Ok(DONE),
-                Err(_) => Err(Failure::CannotWrite(output)),
-            }
-        }
+    // The words' parser has seen that the lengths are in order, and at most the greatest.
+    let most = most.min(MAX_CONTEXT as u32);
+    match infer(alloc, &program, least.min(most), most) {
+        Ok(certificate) => put(places, output, &certificate),
         Err(error) => refuse_inference(alloc, out, error),
     }
 }

@@ -1,15 +1,20 @@
 //! `bpf run IN HEX --steps N`.
 
-ghost use Rattle.std.specs.Prelude.{◌≡◌, ◌≤◌, IfOk};
+ghost use Rattle.std.specs.Prelude.{◌≡◌, ℕ, List, Ok, IfOk, IfErr};
 ghost use Rattle.std.specs.String.{string_bytes};
-ghost use Rattle.bpf_command.specs.Answer.{status_of, text_of};
+ghost use Rattle.bpf_command.specs.Context.{context_in};
+ghost use Rattle.bpf_command.specs.Opened.{opening};
+ghost use Rattle.bpf_command.specs.Answer.{Answer, Says, status_of, text_of};
 ghost use Rattle.bpf_command.specs.Answer.Answer.{Ran};
+ghost use Rattle.bpf_command.specs.Loaded.{ImageFails};
+ghost use Rattle.bpf_command.specs.Printed.{FailsWith, ImageSays, OutcomeSays};
+ghost use Rattle.bpf_command.specs.Told.{OutputFails};
 
-use crate::commands::image::{image_at, refuse};
+use crate::commands::image::{program_at, refuse};
 use crate::context::context_of;
 use crate::failure::{DONE, Failure, REFUSED, say};
 use crate::places::Places;
-use bpf_insn::decode;
+use bpf_insn::Order;
 use bpf_machine::{Outcome, run};
 use std::alloc::{AllocError, Global};
 use std::io::Write;
@@ -37,8 +42,22 @@ fn line_of(alloc: Global, outcome: Outcome) -> Result<(String, u8), AllocError>
     })
 }
 
+/// Prints how a run ended.
+fn say_outcome<'a, W: Write>(
+    alloc: Global,
+    out: &mut W,
+    outcome: Outcome,
+) -> Result<u8, Failure<'a>>
+    ensures ok { IfOk result (λ status. Says (Ran outcome) status (W.contents out.old) (W.contents out.new)) }
+    ensures err { IfErr result OutputFails }
+{
+    let (line, status) = line_of(alloc, outcome)?;
+    say(out, line.as_str())?;
+    Ok(status)
+}
+
 /// Runs the image on the context, for at most so many instructions, and prints how it ends. The context is judged first,
-/// then the image.
+/// then the image. A program of its own is decoded once, where a view would be at each step.
 pub fn ran<'a, P: Places, W: Write>(
     alloc: Global,
     places: &mut P,
@@ -46,25 +65,17 @@ pub fn ran<'a, P: Places, W: Write>(
     input: &'a str,
     hex: &'a str,
     steps: u32,
+    order: Order,
 ) -> Result<u8, Failure<'a>>
-    ensures { IfOk result (λ status. status ≤ 1) }
+    ensures ok { IfOk result (λ status. (answer : Answer) × (context : List ℕ) × (context_in hex.entry.now ≡ Ok context) × Says answer status (W.contents out.old) (W.contents out.new) × ImageSays (opening P.opens P.Reader.remaining) order places.old input.entry.now places.new (OutcomeSays context steps) answer) }
+    ensures err { IfErr result (FailsWith places.old places.new hex.entry.now (ImageFails (opening P.opens P.Reader.remaining) places.old input.entry.now places.new)) }
 {
     let context = match context_of(alloc, hex) {
         Ok(context) => context,
         Err(error) => return Err(Failure::BadContext(error)),
     };
-    let bytes = match image_at(alloc, places, input)? {
-        Ok(bytes) => bytes,
-        Err(error) => return refuse(alloc, out, error),
-    };
-    // A program of its own is decoded once, where a view would be at each step.
-    match decode(alloc, &bytes) {
-        Ok(program) => {
-            let outcome = run(&program, &context, u64::from(steps));
-            let (line, status) = line_of(alloc, outcome)?;
-            say(out, line.as_str())?;
-            Ok(status)
-        }
+    match program_at(alloc, places, input, order)? {
+        Ok(program) => say_outcome(alloc, out, run(&program, &context, u64::from(steps))),
         Err(error) => refuse(alloc, out, error),
     }
 }

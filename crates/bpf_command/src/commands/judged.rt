@@ -1,0 +1,174 @@
+//! A program and the certificate at a name: what `check` and `run-checked` have in common.
+
+ghost use Rattle.std.specs.Prelude.{◌≡◌, IfOk, IfErr, Some, None};
+ghost use Rattle.std.specs.String.{string_bytes};
+ghost use Rattle.bpf_check.specs.CheckedProgram.{work_of};
+ghost use Rattle.bpf_command.specs.Opened.{opening};
+ghost use Rattle.bpf_command.specs.Answer.{Answer, Says, work_line, yes_line, no_context_line};
+ghost use Rattle.bpf_command.specs.Answer.Answer.{Yes, NoContext, Ends};
+ghost use Rattle.bpf_command.specs.Loaded.{CertificateFails};
+ghost use Rattle.bpf_command.specs.Printed.{JudgedSays, ResultSays, WishSays};
+ghost use Rattle.bpf_command.specs.Told.{OutputFails};
+
+use crate::commands::certificate::{certificate_at, refuse_program, refuse_text};
+use crate::failure::{DONE, Failure, REFUSED, say};
+use crate::places::Places;
+use bpf_check::{Checked, check};
+use bpf_insn::Code;
+use bpf_state::Work;
+use std::alloc::{AllocError, Global};
+use std::io::Write;
+
+/// What is wanted of a program that its certificate certifies.
+#[derive(Clone, Copy, Debug, PartialEq, Eq)]
+pub enum Wish<'a> {
+    /// The promise, and where it is asked for the work of the check.
+    Promise { counted: bool },
+    /// The number with which it ends on a context.
+    Run { context: &'a [u8] },
+}
+
+/// The line of a promise.
+fn line_of(alloc: Global, least: u32, most: u32, bound: u32) -> Result<String, AllocError>
+    ensures { IfOk result (λ line. string_bytes line ≡ yes_line least most bound) }
+{
+    if least == most {
+        format!(in alloc; "yes length {least} bound {bound}\n")
+    } else {
+        format!(in alloc; "yes length {least}..{most} bound {bound}\n")
+    }
+}
+
+/// The line of the check's work.
+fn line_of_work(alloc: Global, work: &Work) -> Result<String, AllocError>
+    ensures { IfOk result (λ line. string_bytes line ≡ work_line work.now) }
+{
+    let transfers = work.transfers();
+    let comparisons = work.comparisons();
+    format!(in alloc; "transfers {transfers} comparisons {comparisons}\n")
+}
+
+/// Prints what is promised.
+fn say_yes<'a, C: Code, W: Write>(
+    alloc: Global,
+    out: &mut W,
+    checked: &Checked<'_, C>,
+) -> Result<u8, Failure<'a>>
+    ensures ok { IfOk result (λ status. Says (Yes checked.now.certificate.least checked.now.certificate.most checked.now.certificate.steps None) status (W.contents out.old) (W.contents out.new)) }
+    ensures err { IfErr result OutputFails }
+{
+    let line = line_of(alloc, checked.least(), checked.most(), checked.bound())?;
+    say(out, line.as_str())?;
+    Ok(DONE)
+}
+
+/// Prints what is promised, and the work of the check.
+fn say_counted<'a, C: Code, W: Write>(
+    alloc: Global,
+    out: &mut W,
+    checked: &Checked<'_, C>,
+) -> Result<u8, Failure<'a>>
+    ensures ok { IfOk result (λ status. Says (Yes checked.now.certificate.least checked.now.certificate.most checked.now.certificate.steps (Some (work_of checked.now.program checked.now.certificate))) status (W.contents out.old) (W.contents out.new)) }
+    ensures err { IfErr result OutputFails }
+{
+    let mut text = line_of(alloc, checked.least(), checked.most(), checked.bound())?;
+    let work = line_of_work(alloc, checked.work())?;
+    text.push_str(work.as_str())?;
+    say(out, text.as_str())?;
+    Ok(DONE)
+}
+
+/// The line of a context that has another length than the certificate speaks of.
+fn line_of_context(alloc: Global, count: usize, least: u32, most: u32) -> Result<String, AllocError>
+    ensures { IfOk result (λ line. string_bytes line ≡ no_context_line count least most) }
+{
+    if least == most {
+        format!(in alloc; "no context of {count} bytes, want {least}\n")
+    } else {
+        format!(in alloc; "no context of {count} bytes, want {least}..{most}\n")
+    }
+}
+
+/// Prints that a context has another length than the certificate speaks of.
+fn refuse_context<'a, W: Write>(
+    alloc: Global,
+    out: &mut W,
+    count: usize,
+    least: u32,
+    most: u32,
+) -> Result<u8, Failure<'a>>
+    ensures ok { IfOk result (λ status. Says (NoContext count least most) status (W.contents out.old) (W.contents out.new)) }
+    ensures err { IfErr result OutputFails }
+{
+    let line = line_of_context(alloc, count, least, most)?;
+    say(out, line.as_str())?;
+    Ok(REFUSED)
+}
+
+/// Prints the number with which a program ends.
+fn say_result<'a, W: Write>(alloc: Global, out: &mut W, value: u64) -> Result<u8, Failure<'a>>
+    ensures ok { IfOk result (λ status. Says (Ends value) status (W.contents out.old) (W.contents out.new)) }
+    ensures err { IfErr result OutputFails }
+{
+    let line = format!(in alloc; "done {value}\n")?;
+    say(out, line.as_str())?;
+    Ok(DONE)
+}
+
+/// Runs a checked program on the context, if that has a length of which the certificate speaks, and prints the result.
+fn run_on<'a, C: Code, W: Write>(
+    alloc: Global,
+    out: &mut W,
+    checked: &Checked<'_, C>,
+    context: &[u8],
+) -> Result<u8, Failure<'a>>
+    ensures ok { IfOk result (λ status. (answer : Answer) × Says answer status (W.contents out.old) (W.contents out.new) × ResultSays context.now checked.now answer) }
+    ensures err { IfErr result OutputFails }
+{
+    let least = checked.least();
+    let most = checked.most();
+    let count = context.len();
+    if count < least as usize || count > most as usize {
+        return refuse_context(alloc, out, count, least, most);
+    }
+    say_result(alloc, out, checked.run(context))
+}
+
+/// Prints what is wanted of a checked program.
+fn grant<'a, C: Code, W: Write>(
+    alloc: Global,
+    out: &mut W,
+    checked: &Checked<'_, C>,
+    wish: Wish<'_>,
+) -> Result<u8, Failure<'a>>
+    ensures ok { IfOk result (λ status. (answer : Answer) × Says answer status (W.contents out.old) (W.contents out.new) × WishSays wish.entry checked.now answer) }
+    ensures err { IfErr result OutputFails }
+{
+    match wish {
+        Wish::Promise { counted: false } => say_yes(alloc, out, checked),
+        Wish::Promise { counted: true } => say_counted(alloc, out, checked),
+        Wish::Run { context } => run_on(alloc, out, checked, context),
+    }
+}
+
+/// Reads the certificate at a name, judges whether it certifies the program, and prints what is wanted, or why not.
+pub fn judged<'a, P: Places, C: Code, W: Write>(
+    alloc: Global,
+    places: &mut P,
+    out: &mut W,
+    program: &C,
+    certificate: &'a str,
+    wish: Wish<'_>,
+) -> Result<u8, Failure<'a>>
+    ensures ok { IfOk result (λ status. (answer : Answer) × Says answer status (W.contents out.old) (W.contents out.new) × JudgedSays (opening P.opens P.Reader.remaining) places.old certificate.entry.now places.new (C.program program.now) (WishSays wish.entry) answer) }
+    ensures err { IfErr result (CertificateFails (opening P.opens P.Reader.remaining) places.old certificate.entry.now places.new) }
+{
+    let certificate = match certificate_at(alloc, places, certificate)? {
+        Ok(certificate) => certificate,
+        Err(error) => return refuse_text(alloc, out, error),
+    };
+    match check(program, &certificate) {
+        Ok(checked) => grant(alloc, out, &checked, wish),
+        Err(refusal) => refuse_program(alloc, out, refusal),
+    }
+}
