@@ -10,7 +10,7 @@ use Rattle.clap.specs.declared.builder.action.ArgAction.TheVariants.{SetTrue}
 use Rattle.bpf_insn.specs.declared.order.Order.{Order}
 use Rattle.bpf_insn.specs.declared.order.Order.TheVariants.{Little, Big}
 use Rattle.bpf_command.specs.declared.words.Request.{Request}
-use Rattle.bpf_command.specs.declared.words.Request.TheVariants.{Groups, Asm, List as ListOf, Run, Check, RunChecked, Infer}
+use Rattle.bpf_command.specs.declared.words.Request.TheVariants.{Groups, Asm, List as ListOf, Run, Check, RunChecked, Infer, Migrate}
 
 -- whether a command has an argument that its subcommands share
 abbrev pub has_globals : Command → Bool
@@ -71,9 +71,12 @@ infer_places = with_rule (with_rule (with_rule (new_app (codes "infer")) (place 
 abbrev pub infer : App
 infer = with_rule (with_rule infer_places most) big
 
--- `bpf` with all seven
+abbrev pub migrate : App
+migrate = with_rule (with_rule (new_app (codes "migrate")) (place (codes "CERT"))) (place (codes "OUT"))
+
+-- `bpf` with all eight
 abbrev pub bpf : App
-bpf = with_subcommand (with_subcommand (with_subcommand without_certificates check.top) run_checked.top) infer.top
+bpf = with_subcommand (with_subcommand (with_subcommand (with_subcommand without_certificates check.top) run_checked.top) infer.top) migrate.top
 
 -- ---- what the words ask for
 
@@ -104,7 +107,7 @@ IsInput rows input order = (input ≡ word_of (codes "IN") rows) × IsOrder rows
 abbrev pub Asks : Text → List Row → Request → Type 0
 Asks name rows (Groups input order) =
     (name ≢ codes "asm") × (name ≢ codes "list") × (name ≢ codes "run") × (name ≢ codes "check") × (name ≢ codes "run-checked") × (name ≢ codes "infer")
-    × IsInput rows input.now order
+    × (name ≢ codes "migrate") × IsInput rows input.now order
 Asks name rows (Asm input output order) = (name ≡ codes "asm") × IsInput rows input.now order × (output.now ≡ word_of (codes "OUT") rows)
 Asks name rows (ListOf input order) = (name ≡ codes "list") × IsInput rows input.now order
 Asks name rows (Run input hex count order) = (name ≡ codes "run") × IsInput rows input.now order × (hex.now ≡ word_of (codes "HEX") rows) × IsCount 0 (one_of (codes "steps") rows) count
@@ -114,6 +117,7 @@ Asks name rows (RunChecked input certificate hex order) =
     (name ≡ codes "run-checked") × IsInput rows input.now order × (certificate.now ≡ word_of (codes "CERT") rows) × (hex.now ≡ word_of (codes "HEX") rows)
 Asks name rows (Infer input least most output order) =
     (name ≡ codes "infer") × IsInput rows input.now order × IsCount 0 (one_of (codes "LEN") rows) least × IsCount least (one_of (codes "most") rows) most × (output.now ≡ word_of (codes "OUT") rows)
+Asks name rows (Migrate certificate output) = (name ≡ codes "migrate") × (certificate.now ≡ word_of (codes "CERT") rows) × (output.now ≡ word_of (codes "OUT") rows)
 
 -- the request of a command line on which the parser found this subcommand
 abbrev pub IsAsked : Option (Text × List Row) → Request → Type 0

@@ -2,8 +2,8 @@ pub mod Context
 pub mod Opened
 pub mod CommandLine
 pub mod Told
-pub mod Response
 pub mod Loaded
 pub mod Made
 pub mod Answer
 pub mod Printed
+pub mod Response

@@ -1,14 +1,20 @@
 -- What the command answers to its words, whatever they ask for.
-use Rattle.std.specs.Prelude.{◌≡◌, ◌⊎◌, ◌≤◌, ◌&&◌, List, ℕ, Option, Some, None, false, nat_lt, codes, if◌then◌else◌}
+use Rattle.std.specs.Prelude.{◌≡◌, ◌⊎◌, ◌&&◌, List, ℕ, Option, Some, None, Ok, false, nat_lt, codes, if◌then◌else◌}
 use Rattle.std.specs.Io.KnownBytes.{Keeps}
 use Rattle.clap.specs.Words.{Text, subcommand_of, takes}
 use Rattle.bpf_command.specs.CommandLine.{IsAsked, bpf}
+use Rattle.bpf_command.specs.Context.{context_in}
+use Rattle.bpf_command.specs.Opened.{Opening}
+use Rattle.bpf_command.specs.Made.{Making}
+use Rattle.bpf_command.specs.Loaded.{ImageFails}
+use Rattle.bpf_command.specs.Answer.{Answer, Says}
+use Rattle.bpf_command.specs.Printed.{FailsWith, LoadedFails, ImageSays, GroupsSay, ListSays, OutcomeSays, AsmSays, AsmFails, InferSays, InferFails, MigrateSays, MigrateFails, CheckSays, RunCheckedSays}
 use Rattle.bpf_command.specs.Told.{IsTold}
 use Rattle.std.specs.Str.{bytes_eq}
 use Rattle.bpf_command.specs.declared.words.Request.{Request}
-use Rattle.bpf_command.specs.declared.words.Request.TheVariants.{Groups, Asm, List as ListOf, Run, Check, RunChecked, Infer}
+use Rattle.bpf_command.specs.declared.words.Request.TheVariants.{Groups, Asm, List as ListOf, Run, Check, RunChecked, Infer, Migrate}
 use Rattle.bpf_command.specs.declared.failure.Failure.{Failure}
-use Rattle.bpf_command.specs.declared.failure.Failure.TheVariants.{MostBelowLeast, InputTwice}
+use Rattle.bpf_command.specs.declared.failure.Failure.TheVariants.{NoMemory, MostBelowLeast, InputTwice}
 
 -- ---- words that can't stand together
 
@@ -24,13 +30,45 @@ conflict_of (Run input hex steps order) = None
 conflict_of (Check input certificate work order) = twice input.now certificate.now
 conflict_of (RunChecked input certificate hex order) = twice input.now certificate.now
 conflict_of (Infer input least most output order) = if nat_lt most least then Some MostBelowLeast else None
+conflict_of (Migrate certificate output) = None
+
+-- ---- what is done, and why not
+
+-- The answer to a request, which was printed with its status; what stood at the names that were read, and what was put at OUT.
+abbrev pub Does : {S : Type 0} → Opening S → Making S → S → S → Option (List ℕ) → Option (List ℕ) → Request → ℕ → Type 0
+Does o m old new before after (Groups input order) status = (answer : Answer) × Says answer status before after × ImageSays o order old input.now new GroupsSay answer
+Does o m old new before after (Asm input output order) status = (answer : Answer) × Says answer status before after × AsmSays o m order old input.now output.now new answer
+Does o m old new before after (ListOf input order) status = (answer : Answer) × Says answer status before after × ImageSays o order old input.now new ListSays answer
+Does o m old new before after (Run input hex steps order) status =
+    (answer : Answer) × (context : List ℕ) × (context_in hex.now ≡ Ok context) × Says answer status before after × ImageSays o order old input.now new (OutcomeSays context steps) answer
+Does o m old new before after (Check input certificate work order) status = (answer : Answer) × Says answer status before after × CheckSays o order old input.now certificate.now new work answer
+Does o m old new before after (RunChecked input certificate hex order) status =
+    (answer : Answer) × (context : List ℕ) × (context_in hex.now ≡ Ok context) × Says answer status before after × RunCheckedSays o order old input.now certificate.now new context answer
+Does o m old new before after (Infer input least most output order) status = (answer : Answer) × Says answer status before after × InferSays o m order old input.now least most output.now new answer
+Does o m old new before after (Migrate certificate output) status = (answer : Answer) × Says answer status before after × MigrateSays o m old certificate.now output.now new answer
+
+-- What failed of a request without a conflict.
+abbrev pub Misses : {S : Type 0} → Opening S → Making S → S → S → Request → Failure → Type 0
+Misses o m old new (Groups input order) failure = ImageFails o old input.now new failure
+Misses o m old new (Asm input output order) failure = AsmFails o m order old input.now output.now new failure
+Misses o m old new (ListOf input order) failure = ImageFails o old input.now new failure
+Misses o m old new (Run input hex steps order) failure = FailsWith old new hex.now (ImageFails o old input.now new) failure
+Misses o m old new (Check input certificate work order) failure = LoadedFails o order old input.now certificate.now new failure
+Misses o m old new (RunChecked input certificate hex order) failure = FailsWith old new hex.now (LoadedFails o order old input.now certificate.now new) failure
+Misses o m old new (Infer input least most output order) failure = InferFails o m order old input.now least most output.now new failure
+Misses o m old new (Migrate certificate output) failure = MigrateFails o m old certificate.now output.now new failure
+
+-- A request is in conflict, before any name is opened; or something of it failed.
+abbrev pub Fails : {S : Type 0} → Opening S → Making S → S → S → Request → Failure → Type 0
+Fails o m old new request failure = ((conflict_of request ≡ Some failure) × (new ≡ old)) ⊎ ((conflict_of request ≡ None) × Misses o m old new request failure)
 
 -- ---- the answer and its status
 
--- What the words ask for is done or refused, with status 0 or 1; or a failure is told with its status; or the words aren't
--- understood, with status 2.
-abbrev pub Responds : List Text → ℕ → Option (List ℕ) → Option (List ℕ) → Type 0
-Responds words status old new =
-    ((request : Request) × IsAsked (subcommand_of bpf words) request × (conflict_of request ≡ None) × (status ≤ 1) × Keeps old new)
-    ⊎ ((failure : Failure) × IsTold failure status old new)
+-- What the words ask for is done, with its status; or it fails, or there is no memory for the words, which is told with its
+-- status; or the words aren't understood, with status 2.
+abbrev pub Responds : (Request → ℕ → Type 0) → (Request → Failure → Type 0) → List Text → ℕ → Option (List ℕ) → Option (List ℕ) → Type 0
+Responds does fails words status old new =
+    ((request : Request) × IsAsked (subcommand_of bpf words) request × (conflict_of request ≡ None) × does request status × Keeps old new)
+    ⊎ ((request : Request) × (failure : Failure) × IsAsked (subcommand_of bpf words) request × fails request failure × IsTold failure status old new)
+    ⊎ IsTold NoMemory status old new
     ⊎ ((takes bpf words ≡ false) × (status ≡ 2))

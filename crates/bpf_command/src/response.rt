@@ -1,12 +1,13 @@
 //! From words to a status.
 
-ghost use Rattle.std.specs.Prelude.{◌≡◌, ◌≤◌, IfOk, Some, None, Err, map};
+ghost use Rattle.std.specs.Prelude.{◌≡◌, IfOk, IfErr, None, map};
 ghost use Rattle.std.specs.String.{string_bytes};
-ghost use Rattle.bpf_command.specs.Response.{Responds, conflict_of, twice};
+ghost use Rattle.bpf_command.specs.Opened.{opening};
+ghost use Rattle.bpf_command.specs.Made.{making};
+ghost use Rattle.bpf_command.specs.Response.{Does, Fails, Misses, Responds, conflict_of, twice};
 ghost use Rattle.bpf_command.specs.Told.{IsTold};
-ghost use Rattle.bpf_command.specs.declared.failure.Failure.{Failure as Told};
 
-use crate::commands::{assembled, checked, grouped, inferred, listed, ran, ran_checked};
+use crate::commands::{assembled, checked, grouped, inferred, listed, migrated, ran, ran_checked};
 use crate::failure::{BAD_WORDS, FAILED, Failure, tell};
 use crate::places::Places;
 use crate::words::{Request, request_of};
@@ -31,16 +32,12 @@ fn conflict_in(request: Request<'_>) -> Option<Failure<'static>>
 {
     match request {
         Request::Groups { .. } | Request::Asm { .. } | Request::List { .. } => None,
-        Request::Run { .. } => None,
+        Request::Run { .. } | Request::Migrate { .. } => None,
         Request::Check {
-            input,
-            certificate,
-            ..
+            input, certificate, ..
         } => twice(input, certificate),
         Request::RunChecked {
-            input,
-            certificate,
-            ..
+            input, certificate, ..
         } => twice(input, certificate),
         Request::Infer { least, most, .. } => {
             if most < least {
@@ -59,7 +56,8 @@ fn carry_out<'a, P: Places, W: Write>(
     places: &mut P,
     out: &mut W,
 ) -> Result<u8, Failure<'a>>
-    ensures { IfOk result (λ status. status ≤ 1) }
+    ensures ok { IfOk result (Does (opening P.opens P.Reader.remaining) (making P.creates P.ends P.Writer.contents) places.old places.new (W.contents out.old) (W.contents out.new) request.entry) }
+    ensures err { IfErr result (Misses (opening P.opens P.Reader.remaining) (making P.creates P.ends P.Writer.contents) places.old places.new request.entry) }
 {
     match request {
         Request::Groups { input, order } => grouped(alloc, places, out, input, order),
@@ -94,6 +92,10 @@ fn carry_out<'a, P: Places, W: Write>(
             output,
             order,
         } => inferred(alloc, places, out, input, least, most, output, order),
+        Request::Migrate {
+            certificate,
+            output,
+        } => migrated(alloc, places, out, certificate, output),
     }
 }
 
@@ -104,8 +106,8 @@ fn perform<'a, P: Places, W: Write>(
     places: &mut P,
     out: &mut W,
 ) -> Result<u8, Failure<'a>>
-    ensures ok { IfOk result (λ status. (conflict_of request.entry ≡ None) × (status ≤ 1)) }
-    ensures conflict { (f : Told) → conflict_of request.entry ≡ Some f → result ≡ Err f }
+    ensures ok { IfOk result (λ status. (conflict_of request.entry ≡ None) × Does (opening P.opens P.Reader.remaining) (making P.creates P.ends P.Writer.contents) places.old places.new (W.contents out.old) (W.contents out.new) request.entry status) }
+    ensures err { IfErr result (Fails (opening P.opens P.Reader.remaining) (making P.creates P.ends P.Writer.contents) places.old places.new request.entry) }
 {
     match conflict_in(request) {
         Some(conflict) => Err(conflict),
@@ -132,7 +134,7 @@ pub fn respond<P: Places, W: Write, E: Write>(
     out: &mut W,
     err: &mut E,
 ) -> u8
-    ensures { Responds (map (λ s. string_bytes s) words.now) result (E.contents err.old) (E.contents err.new) }
+    ensures { Responds (Does (opening P.opens P.Reader.remaining) (making P.creates P.ends P.Writer.contents) places.old places.new (W.contents out.old) (W.contents out.new)) (Fails (opening P.opens P.Reader.remaining) (making P.creates P.ends P.Writer.contents) places.old places.new) (map (λ s. string_bytes s) words.now) result (E.contents err.old) (E.contents err.new) }
 {
     let request = match request_of(alloc, words) {
         Ok(request) => request,

@@ -3,7 +3,7 @@
 ghost use Rattle.std.specs.Prelude.{◌≡◌, IfOk, IfErr, map, true, false};
 ghost use Rattle.std.specs.String.{string_bytes};
 ghost use Rattle.clap.specs.Words.{app_of, found_of, kind_of, one_of, rows_of, rule_of, subcommand_of, takes};
-ghost use Rattle.bpf_command.specs.CommandLine.{Asks, IsAsked, IsCount, IsFlag, IsOrder, asm, big, bpf, check, flag, groups, has_globals, infer, infer_places, list, place, run, run_checked, without_certificates, word_of};
+ghost use Rattle.bpf_command.specs.CommandLine.{Asks, IsAsked, IsCount, IsFlag, IsOrder, asm, big, bpf, check, flag, groups, has_globals, infer, infer_places, list, migrate, place, run, run_checked, without_certificates, word_of};
 ghost use Rattle.clap.specs.declared.error.ErrorKind.TheVariants.{OutOfMemory};
 
 use bpf_insn::Order;
@@ -57,6 +57,11 @@ pub enum Request<'a> {
         most: u32,
         output: &'a str,
         order: Order,
+    },
+    /// A certificate of the newest version with the same content.
+    Migrate {
+        certificate: &'a str,
+        output: &'a str,
     },
 }
 
@@ -208,16 +213,28 @@ fn infer_command<'a>(alloc: Global) -> Result<Command<'a>, AllocError>
         .arg(big(alloc))
 }
 
+fn migrate_command<'a>(alloc: Global) -> Result<Command<'a>, AllocError>
+    ensures app { IfOk result (λ c. app_of c ≡ migrate) }
+    ensures local { IfOk result (λ c. has_globals c ≡ false) }
+{
+    Command::new(alloc, "migrate")
+        .about("Writes a certificate in the newest version")
+        .arg(place(alloc, "CERT", "a certificate"))?
+        .arg(place(alloc, "OUT", "where the certificate goes"))
+}
+
 fn command<'a>(alloc: Global) -> Result<Command<'a>, AllocError>
     ensures { IfOk result (λ c. app_of c ≡ bpf) }
 {
     let check = check_command(alloc)?;
     let run_checked = run_checked_command(alloc)?;
     let infer = infer_command(alloc)?;
+    let migrate = migrate_command(alloc)?;
     first_commands(alloc)?
         .subcommand(check)?
         .subcommand(run_checked)?
-        .subcommand(infer)
+        .subcommand(infer)?
+        .subcommand(migrate)
 }
 
 /// The word of a required argument; the parse has made sure that it is there.
@@ -291,6 +308,10 @@ fn request_in<'a>(name: &str, matches: &ArgMatches<'a>) -> Request<'a>
                 order,
             }
         }
+        "migrate" => Request::Migrate {
+            certificate: word(matches, "CERT"),
+            output: word(matches, "OUT"),
+        },
         _ => Request::Groups { input, order },
     }
 }

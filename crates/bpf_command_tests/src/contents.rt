@@ -46,7 +46,90 @@ const SMALLEST_CERTIFICATE: &[u8] = b"bpfcert 1 0 2\nfn 0 1 *\nat 0 2\nend\n";
 const COUNTDOWN_CERTIFICATE: &[u8] =
     b"bpfcert 1 0 23\nfn 0 1 *\nat 0 23\nat 1 2 +2*r6\nr6 u1..10\nend\n";
 
-static CONTENTS: [Content; 46] = [
+/// The same in big-endian order.
+pub const WIDE_BIG: &[u8] = &[
+    0x18, 0x10, 0, 0, 0x9a, 0xbc, 0xde, 0xf0, 0, 0, 0, 0, 0x12, 0x34, 0x56, 0x78,
+];
+
+/// `r0 = 0`, `if r2 == 0 goto +2`, `r2 += -1`, `if r2 != 0 goto -2` and `exit`.
+const LENGTH: &[u8] = &[
+    0xb7, 0, 0, 0, 0, 0, 0, 0, 0x15, 2, 2, 0, 0, 0, 0, 0, 0x07, 2, 0, 0, 0xff, 0xff, 0xff, 0xff,
+    0x55, 2, 0xfe, 0xff, 0, 0, 0, 0, 0x95, 0, 0, 0, 0, 0, 0, 0,
+];
+
+/// `r0 = 258`, `r0 = be16 r0` and `exit`, in little-endian and in big-endian order.
+const SWAP: &[u8] = &[
+    0xb7, 0, 0, 0, 2, 1, 0, 0, 0xdc, 0, 0, 0, 0x10, 0, 0, 0, 0x95, 0, 0, 0, 0, 0, 0, 0,
+];
+
+const SWAP_BIG: &[u8] = &[
+    0xb7, 0, 0, 0, 0, 0, 1, 2, 0xdc, 0, 0, 0, 0, 0, 0, 0x10, 0x95, 0, 0, 0, 0, 0, 0, 0,
+];
+
+/// `*(u32 *)(r10 - 8) = 1`, `r0 = *(u8 *)(r10 - 8)` and `exit`, in little-endian and in big-endian order.
+const LOW_BYTE: &[u8] = &[
+    0x62, 0x0a, 0xf8, 0xff, 1, 0, 0, 0, 0x71, 0xa0, 0xf8, 0xff, 0, 0, 0, 0, 0x95, 0, 0, 0, 0, 0, 0,
+    0,
+];
+
+const LOW_BYTE_BIG: &[u8] = &[
+    0x62, 0xa0, 0xff, 0xf8, 0, 0, 0, 1, 0x71, 0x0a, 0xff, 0xf8, 0, 0, 0, 0, 0x95, 0, 0, 0, 0, 0, 0,
+    0,
+];
+
+static CONTENTS: [Content; 61] = [
+    // `r1 += 287454020` in big-endian and in little-endian order.
+    (
+        "sum.big",
+        &[0x07, 0x10, 0, 0, 0x11, 0x22, 0x33, 0x44],
+        Never,
+    ),
+    ("sum", &[0x07, 0x01, 0, 0, 0x44, 0x33, 0x22, 0x11], Never),
+    ("swap", SWAP, Never),
+    ("swap.big", SWAP_BIG, Never),
+    (
+        "swap.cert",
+        b"bpfcert 1 0 3\nfn 0 1 u258..258\nat 0 3\nend\n",
+        Never,
+    ),
+    ("low-byte", LOW_BYTE, Never),
+    ("low-byte.big", LOW_BYTE_BIG, Never),
+    ("length", LENGTH, Never),
+    (
+        "length.cert",
+        b"bpfcert 2 0 4096 8195\nfn 0 1 *\nat 0 3 +2*r2\nr2 u0..4096\nat 2 1 +2*r2\nr0 *\nr2 u1..4096\nat 4 1\nr0 *\nend\n",
+        Never,
+    ),
+    (
+        "fewer-steps.cert",
+        b"bpfcert 2 0 4096 8194\nfn 0 1 *\nat 0 3 +2*r2\nr2 u0..4096\nat 2 1 +2*r2\nr0 *\nr2 u1..4096\nat 4 1\nr0 *\nend\n",
+        Never,
+    ),
+    (
+        "shorter.cert",
+        b"bpfcert 2 0 4096 8195\nfn 0 1 *\nat 0 3 +2*r2\nr2 u0..4095\nat 2 1 +2*r2\nr0 *\nr2 u1..4096\nat 4 1\nr0 *\nend\n",
+        Never,
+    ),
+    (
+        "from-4.cert",
+        b"bpfcert 2 4 4096 2\nfn 0 1 *\nat 0 2\nr1 ctx0..0\nend\n",
+        Never,
+    ),
+    (
+        "from-3.cert",
+        b"bpfcert 2 3 4096 2\nfn 0 1 *\nat 0 2\nr1 ctx0..0\nend\n",
+        Never,
+    ),
+    (
+        "version-3.cert",
+        b"bpfcert 3 0 0 2\nfn 0 1 *\nat 0 2\nend\n",
+        Never,
+    ),
+    (
+        "5-to-4.cert",
+        b"bpfcert 2 5 4 2\nfn 0 1 *\nat 0 2\nend\n",
+        Never,
+    ),
     ("smallest", SMALLEST, Never),
     ("countdown", COUNTDOWN, Never),
     ("remainder", REMAINDER, Never),

@@ -1,6 +1,6 @@
 //! What the command answers: what the reference tells, worked out by hand.
 
-use crate::contents::{SMALLEST, WIDE};
+use crate::contents::{SMALLEST, WIDE, WIDE_BIG};
 use crate::rows::Row::{Fails, Prints, Puts, Refuses};
 
 /// The words behind the command's name, split at spaces (`''` is an empty one), and what is answered.
@@ -47,7 +47,7 @@ impl Row {
     }
 }
 
-static ROWS: [Row; 96] = [
+static ROWS: [Row; 136] = [
     Prints("groups smallest", "base\n"),
     Prints("groups remainder", "base divmul\n"),
     Prints("groups fetch", "base atomic\n"),
@@ -180,6 +180,70 @@ static ROWS: [Row; 96] = [
     // The two lengths are judged before the image is opened.
     Fails("infer nowhere 1 o --most 0", 2, "most below least\n"),
     Fails("infer nowhere 1 o --most 1", 3, "cannot read nowhere\n"),
+    Prints("list --big sum.big", "r1 += 287454020\n"),
+    Refuses("list sum.big", "no E4 at slot 0\n"),
+    Refuses("list --big sum", "no E4 at slot 0\n"),
+    Prints("groups --big sum.big", "base\n"),
+    Puts("asm --big wide.txt o", WIDE_BIG),
+    Prints("run --big swap.big none --steps 100", "done 258 steps 3\n"),
+    Prints("run swap none --steps 100", "done 513 steps 3\n"),
+    Prints("run low-byte none --steps 9", "done 1 steps 3\n"),
+    Prints("run --big low-byte.big none --steps 9", "done 0 steps 3\n"),
+    Prints("check --big swap.big swap.cert", "yes length 0 bound 3\n"),
+    Refuses("check swap swap.cert", "no C8 at slot 2\n"),
+    Refuses("check --big swap swap.cert", "no E5 at slot 1\n"),
+    Prints("run-checked --big swap.big swap.cert none", "done 258\n"),
+    Refuses("infer --big swap 0 o", "no E5 at slot 1\n"),
+    Prints(
+        "check --work smallest smallest.cert",
+        "yes length 0 bound 2\ntransfers 2 comparisons 2\n",
+    ),
+    Prints(
+        "check --work countdown countdown.cert",
+        "yes length 0 bound 23\ntransfers 5 comparisons 4\n",
+    ),
+    Refuses(
+        "check --work smallest small-bound.cert",
+        "no C9 at slot 0\n",
+    ),
+    Prints(
+        "check fourth-byte from-4.cert",
+        "yes length 4..4096 bound 2\n",
+    ),
+    Refuses("check fourth-byte from-3.cert", "no C5 at slot 0\n"),
+    Prints(
+        "check length length.cert",
+        "yes length 0..4096 bound 8195\n",
+    ),
+    Refuses("check length fewer-steps.cert", "no C9 at slot 0\n"),
+    Refuses("check length shorter.cert", "no C13 at slot 0\n"),
+    Refuses("check smallest 5-to-4.cert", "no K3 at line 1\n"),
+    Refuses("check smallest version-3.cert", "no K1 at line 1\n"),
+    Prints("run-checked fourth-byte from-4.cert 00000007", "done 7\n"),
+    Prints("run-checked fourth-byte from-4.cert 0000000700", "done 7\n"),
+    Refuses(
+        "run-checked fourth-byte from-4.cert 000007",
+        "no context of 3 bytes, want 4..4096\n",
+    ),
+    Prints("run-checked length length.cert none", "done 0\n"),
+    Prints("run length none --steps 3", "done 0 steps 3\n"),
+    Prints("run length 0000 --steps 7", "done 0 steps 7\n"),
+    Puts(
+        "migrate smallest.cert o",
+        b"bpfcert 2 0 0 2\nfn 0 1 *\nat 0 2\nend\n",
+    ),
+    Puts(
+        "migrate from-4.cert o",
+        b"bpfcert 2 4 4096 2\nfn 0 1 *\nat 0 2\nr1 ctx0..0\nend\n",
+    ),
+    Refuses("migrate 5-to-4.cert o", "no K3 at line 1\n"),
+    Refuses("migrate leading-zero.cert closed", "no K2 at line 3\n"),
+    Fails("migrate nowhere o", 3, "cannot read nowhere\n"),
+    Fails("migrate late.cert o", 3, "cannot read late.cert\n"),
+    Fails("migrate hiccup.cert o", 3, "cannot read hiccup.cert\n"),
+    Fails("migrate smallest.cert closed", 3, "cannot write closed\n"),
+    Fails("migrate smallest.cert full", 3, "cannot write full\n"),
+    Fails("migrate smallest.cert stuck", 3, "cannot write stuck\n"),
 ];
 
 /// All of them.

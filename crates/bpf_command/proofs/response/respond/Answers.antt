@@ -10,4 +10,4 @@ not_so false f n = refl
 pub returns-in-Err-2 : goal.returns-in-Err-2
 returns-in-Err-2 g c =
     let other : kind_of c.in-Err-2.error ≢ OutOfMemory = search rules in
-    inr (inr (not_so _ c.in-Err-2.ensures.accepts other, refl))
+    inr (inr (inr (not_so _ c.in-Err-2.ensures.accepts other, refl)))
