@@ -26,6 +26,13 @@ PROGRAMS = {
         3 * LABELS + 2,
         [f"at {3 * i} {3 * (LABELS - i) + 2}" for i in range(LABELS + 1)],
     ),
+    # the same, with eight stored slots in each label's state
+    "slots": (
+        [(f"7a 0a {256 - 8 * k:02x} ff", 7) for k in range(1, 9)] + [ZERO, ZERO, ("05 00 00 00", 0)] * LABELS + [ZERO, EXIT],
+        3 * LABELS + 10,
+        [f"at 0 {3 * LABELS + 10}"]
+        + [line for i in range(1, LABELS + 1) for line in [f"at {3 * i + 8} {3 * (LABELS - i) + 2}", *(f"s{k} *" for k in range(1, 9))]],
+    ),
     "loop": (
         [("b7 06 00 00", 10**9), ("07 06 00 00", -1), ("55 06 fe ff", 0), ZERO, EXIT],
         2 * 10**9 + 3,
@@ -40,7 +47,7 @@ for name, (slots, steps, labels) in PROGRAMS.items():
 END
 
 # Each must be accepted, else its refusal would be timed. The first call also builds the command, if need be.
-for name in start lines memory labels loop; do
+for name in start lines memory labels slots loop; do
     case $("$bpf" check "$dir/$name.img" "$dir/$name.cert") in
     "yes length 0 bound "*) ;;
     *) echo "check.sh: $name is refused" >&2; exit 1 ;;
@@ -49,7 +56,7 @@ done
 
 TIMEFORMAT='%3U %3S'
 for ((round = 0; round < rounds; round++)); do
-    for name in start lines memory labels loop; do
+    for name in start lines memory labels slots loop; do
         { time for ((i = 0; i < runs; i++)); do "$bpf" check "$dir/$name.img" "$dir/$name.cert" >/dev/null; done; } 2>>"$dir/$name.times"
     done
 done
@@ -72,7 +79,7 @@ print(f"{runs} runs in a loop, median of {rounds} rounds; microseconds of proces
 print(f"{'':34}{'whole':>9}{'less start':>12}{'instructions/second':>21}")
 start = micros("start")
 print(f"{'2 instructions (start)':34}{start:9.0f}")
-for name, count in [("lines", 65_536), ("memory", 65_536), ("labels", 63_002)]:
+for name, count in [("lines", 65_536), ("memory", 65_536), ("labels", 63_002), ("slots", 63_010)]:
     whole = micros(name)
     rate = f"{1e6 * count / (whole - start):21,.0f}" if whole > start else f"{'in the noise':>21}"
     print(f"{f'{count:,} instructions, {name}':34}{whole:9.0f}{whole - start:12.0f}{rate}")

@@ -1,0 +1,97 @@
+/* Preloaded into the command by allocations.sh and io.sh: refuses or shortens one call of the C library, and counts.
+ *
+ *   REFUSE_ALLOC=N   the Nth growth of memory (malloc, calloc, realloc) is refused
+ *   REFUSE_IO=N      the Nth read or write (also open, fsync, rename) fails
+ *   SHORT_IO=N       the Nth read or write of several bytes moves one
+ *   COUNT_FILE=NAME  at the end a line "ALLOCS AFTER IO SHORT" is written there: all growths, those between the last
+ *                    read and the first write, all reads and writes, those of several bytes
+ *
+ * Counting begins at main, so what the loader does isn't seen. */
+#define _GNU_SOURCE
+#include <dlfcn.h>
+#include <errno.h>
+#include <fcntl.h>
+#include <stdarg.h>
+#include <stdint.h>
+#include <stdio.h>
+#include <stdlib.h>
+#include <string.h>
+#include <sys/types.h>
+#include <unistd.h>
+
+extern void *__libc_malloc(size_t);
+extern void *__libc_calloc(size_t, size_t);
+extern void *__libc_realloc(void *, size_t);
+
+static long allocs, after, io, several, wrote;
+static long fail_alloc, fail_io, short_io;
+static int on;
+
+static long number(const char *name) {
+    const char *text = getenv(name);
+    return text ? strtol(text, NULL, 10) : 0;
+}
+
+__attribute__((constructor)) static void begin(void) {
+    fail_alloc = number("REFUSE_ALLOC");
+    fail_io = number("REFUSE_IO");
+    short_io = number("SHORT_IO");
+    on = 1;
+}
+
+__attribute__((destructor)) static void end(void) {
+    const char *name = getenv("COUNT_FILE");
+    char line[96];
+    int file, length;
+    on = 0;
+    if (!name || (file = open(name, O_WRONLY | O_CREAT | O_TRUNC, 0644)) < 0) return;
+    length = snprintf(line, sizeof line, "%ld %ld %ld %ld\n", allocs, after, io, several);
+    if (write(file, line, length) != length) _exit(99);
+    close(file);
+}
+
+static int refused(void) {
+    if (!on) return 0;
+    if (!wrote) after++;
+    return ++allocs == fail_alloc;
+}
+
+void *malloc(size_t n) { return refused() ? (errno = ENOMEM, NULL) : __libc_malloc(n); }
+void *calloc(size_t n, size_t m) { return refused() ? (errno = ENOMEM, NULL) : __libc_calloc(n, m); }
+void *realloc(void *p, size_t n) { return refused() ? (errno = ENOMEM, NULL) : __libc_realloc(p, n); }
+
+/* -1: fail; else how many bytes to ask for. */
+static ssize_t asked(size_t n) {
+    if (!on) return (ssize_t)n;
+    if (++io == fail_io) return -1;
+    if (n > 1 && ++several == short_io) return 1;
+    return (ssize_t)n;
+}
+
+ssize_t read(int fd, void *to, size_t n) {
+    static ssize_t (*real)(int, void *, size_t);
+    ssize_t count = asked(n);
+    if (!real) *(void **)&real = dlsym(RTLD_NEXT, "read");
+    if (on) after = 0;
+    return count < 0 ? (errno = EIO, -1) : real(fd, to, (size_t)count);
+}
+
+ssize_t write(int fd, const void *from, size_t n) {
+    static ssize_t (*real)(int, const void *, size_t);
+    ssize_t count = asked(n);
+    if (!real) *(void **)&real = dlsym(RTLD_NEXT, "write");
+    if (on) wrote = 1;
+    return count < 0 ? (errno = EIO, -1) : real(fd, from, (size_t)count);
+}
+
+int fsync(int fd) {
+    static int (*real)(int);
+    if (!real) *(void **)&real = dlsym(RTLD_NEXT, "fsync");
+    return on && ++io == fail_io ? (errno = EIO, -1) : real(fd);
+}
+
+int rename(const char *from, const char *to) {
+    static int (*real)(const char *, const char *);
+    if (!real) *(void **)&real = dlsym(RTLD_NEXT, "rename");
+    return on && ++io == fail_io ? (errno = EIO, -1) : real(from, to);
+}
