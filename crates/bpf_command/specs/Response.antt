@@ -36,27 +36,25 @@ conflict_of (Migrate certificate output) = None
 
 -- The answer to a request, which was printed with its status; what stood at the names that were read, and what was put at OUT.
 abbrev pub Does : {S : Type 0} → Opening S → Making S → S → S → Option (List ℕ) → Option (List ℕ) → Request → ℕ → Type 0
-Does o m old new before after (Groups input order) status = (answer : Answer) × Says answer status before after × ImageSays o order old input.now new GroupsSay answer
-Does o m old new before after (Asm input output order) status = (answer : Answer) × Says answer status before after × AsmSays o m order old input.now output.now new answer
-Does o m old new before after (ListOf input order) status = (answer : Answer) × Says answer status before after × ImageSays o order old input.now new ListSays answer
-Does o m old new before after (Run input hex steps order) status =
-    (answer : Answer) × (context : List ℕ) × (context_in hex.now ≡ Ok context) × Says answer status before after × ImageSays o order old input.now new (OutcomeSays context steps) answer
-Does o m old new before after (Check input certificate work order) status = (answer : Answer) × Says answer status before after × CheckSays o order old input.now certificate.now new work answer
-Does o m old new before after (RunChecked input certificate hex order) status =
-    (answer : Answer) × (context : List ℕ) × (context_in hex.now ≡ Ok context) × Says answer status before after × RunCheckedSays o order old input.now certificate.now new context answer
-Does o m old new before after (Infer input least most output order) status = (answer : Answer) × Says answer status before after × InferSays o m order old input.now least most output.now new answer
-Does o m old new before after (Migrate certificate output) status = (answer : Answer) × Says answer status before after × MigrateSays o m old certificate.now output.now new answer
+Does o m old new before after (Groups input order) = λ status. (answer : Answer) × Says answer status before after × ImageSays o order old input.now new GroupsSay answer
+Does o m old new before after (Asm input output order) = λ status. (answer : Answer) × Says answer status before after × AsmSays o m order old input.now output.now new answer
+Does o m old new before after (ListOf input order) = λ status. (answer : Answer) × Says answer status before after × ImageSays o order old input.now new ListSays answer
+Does o m old new before after (Run input hex steps order) = λ status. (answer : Answer) × (context : List ℕ) × (context_in hex.now ≡ Ok context) × Says answer status before after × ImageSays o order old input.now new (OutcomeSays context steps) answer
+Does o m old new before after (Check input certificate work order) = λ status. (answer : Answer) × Says answer status before after × CheckSays o order old input.now certificate.now new work answer
+Does o m old new before after (RunChecked input certificate hex order) = λ status. (answer : Answer) × (context : List ℕ) × (context_in hex.now ≡ Ok context) × Says answer status before after × RunCheckedSays o order old input.now certificate.now new context answer
+Does o m old new before after (Infer input least most output order) = λ status. (answer : Answer) × Says answer status before after × InferSays o m order old input.now least most output.now new answer
+Does o m old new before after (Migrate certificate output) = λ status. (answer : Answer) × Says answer status before after × MigrateSays o m old certificate.now output.now new answer
 
 -- What failed of a request without a conflict.
 abbrev pub Misses : {S : Type 0} → Opening S → Making S → S → S → Request → Failure → Type 0
-Misses o m old new (Groups input order) failure = ImageFails o old input.now new failure
-Misses o m old new (Asm input output order) failure = AsmFails o m order old input.now output.now new failure
-Misses o m old new (ListOf input order) failure = ImageFails o old input.now new failure
-Misses o m old new (Run input hex steps order) failure = FailsWith old new hex.now (ImageFails o old input.now new) failure
-Misses o m old new (Check input certificate work order) failure = LoadedFails o order old input.now certificate.now new failure
-Misses o m old new (RunChecked input certificate hex order) failure = FailsWith old new hex.now (LoadedFails o order old input.now certificate.now new) failure
-Misses o m old new (Infer input least most output order) failure = InferFails o m order old input.now least most output.now new failure
-Misses o m old new (Migrate certificate output) failure = MigrateFails o m old certificate.now output.now new failure
+Misses o m old new (Groups input order) = ImageFails o old input.now new
+Misses o m old new (Asm input output order) = AsmFails o m order old input.now output.now new
+Misses o m old new (ListOf input order) = ImageFails o old input.now new
+Misses o m old new (Run input hex steps order) = FailsWith old new hex.now (ImageFails o old input.now new)
+Misses o m old new (Check input certificate work order) = LoadedFails o order old input.now certificate.now new
+Misses o m old new (RunChecked input certificate hex order) = FailsWith old new hex.now (LoadedFails o order old input.now certificate.now new)
+Misses o m old new (Infer input least most output order) = InferFails o m order old input.now least most output.now new
+Misses o m old new (Migrate certificate output) = MigrateFails o m old certificate.now output.now new
 
 -- A request is in conflict, before any name is opened; or something of it failed.
 abbrev pub Fails : {S : Type 0} → Opening S → Making S → S → S → Request → Failure → Type 0

@@ -34,10 +34,14 @@ fn conflict_in(request: Request<'_>) -> Option<Failure<'static>>
         Request::Groups { .. } | Request::Asm { .. } | Request::List { .. } => None,
         Request::Run { .. } | Request::Migrate { .. } => None,
         Request::Check {
-            input, certificate, ..
+            input,
+            certificate,
+            ..
         } => twice(input, certificate),
         Request::RunChecked {
-            input, certificate, ..
+            input,
+            certificate,
+            ..
         } => twice(input, certificate),
         Request::Infer { least, most, .. } => {
             if most < least {

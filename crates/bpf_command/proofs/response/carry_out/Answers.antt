@@ -1,0 +1,10 @@
+use Rattle.bpf_command.proofs.response.carry_out.Goals as goal
+
+pub returns-in-Check-clause-ok : goal.returns-in-Check-clause-ok
+returns-in-Check-clause-ok g c = rw c.in-Check.is c.checked.ensures.ok
+
+pub returns-in-RunChecked-clause-ok : goal.returns-in-RunChecked-clause-ok
+returns-in-RunChecked-clause-ok g c = rw c.in-RunChecked.is c.ran_checked.ensures.ok
+
+pub returns-in-RunChecked-clause-err : goal.returns-in-RunChecked-clause-err
+returns-in-RunChecked-clause-err g c = rw c.in-RunChecked.is c.ran_checked.ensures.err
