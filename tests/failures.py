@@ -62,10 +62,15 @@ def wrong(what, n, got, right):
     sys.exit(1)
 
 
+def opened(got):
+    return [f'cannot {verb} {name}\n' for verb in ('read', 'write') for name in got.words[1:] if not name.startswith('-')]
+
+
 def is_refused_for_memory(got, right):
     if got.status == 1 and got.out in WANT_OF_MEMORY and not got.err:
         return True
-    return got.status == 3 and got.err in ('no memory\n', '') and right.out.startswith(got.out)
+    # where the system has no memory to open a name, that name can't be read or written
+    return got.status == 3 and (got.err == 'no memory\n' or got.err in opened(got)) and right.out.startswith(got.out)
 
 
 def is_failure(got, right):
@@ -79,9 +84,45 @@ def whole_or_old(got, right):
     return got.written in (OLD, right.written) and not got.left
 
 
+def countdown(turns):
+    """The image of a loop of so many turns, and its certificate."""
+    image = bytes.fromhex('b7060000') + turns.to_bytes(4, 'little') + bytes.fromhex('07060000ffffffff5506feff00000000b7000000000000009500000000000000')
+    steps = 2 * turns + 3
+    return image, f'bpfcert 1 0 {steps}\nfn 0 1 *\nat 0 {steps}\nat 1 2 +2*r6\nr6 u1..{turns}\nend\n'.encode()
+
+
+def straight(count):
+    """The image of so many instructions in a row, and its certificate."""
+    return bytes.fromhex('b700000000000000') * (count - 1) + bytes.fromhex('9500000000000000'), f'bpfcert 1 0 {count}\nfn 0 1 *\nat 0 {count}\nend\n'.encode()
+
+
+def takes_no_memory(name, small, large):
+    """Between the last read and the first write the command grows memory as often for a small program as for a large one."""
+    if small.status or large.status or small.counts[1] != large.counts[1]:
+        print(f'failures: {name} takes memory\n  small {small}, {small.counts}\n  large {large}, {large.counts}')
+        sys.exit(1)
+    print(f'{name}: {small.counts[1]} allocations behind the last read, for the answer\'s line, whatever the program')
+
+
+def show_no_memory():
+    # (of each two programs the answers' lines are as long as one another)
+    for name, make, few, many in (('straight', straight, 10000, 65536), ('countdown', countdown, 50000, 400000)):
+        for size, count in (('small', few), ('large', many)):
+            image, certificate = make(count)
+            (FOLDER / f'{name}-{size}.img').write_bytes(image)
+            (FOLDER / f'{name}-{size}.cert').write_bytes(certificate)
+        EXTRA[:] = sorted(FOLDER.iterdir())
+        checks = [Answer(['check', f'{name}-{size}.img', f'{name}-{size}.cert']) for size in ('small', 'large')]
+        takes_no_memory(f'check, {name}', *checks)
+    runs = [Answer(['run', f'countdown-{size}.img', 'none', '--steps', '4000000']) for size in ('small', 'large')]
+    takes_no_memory('run, countdown', *runs)
+    runs = [Answer(['run-checked', f'countdown-{size}.img', f'countdown-{size}.cert', 'none']) for size in ('small', 'large')]
+    takes_no_memory('run-checked, countdown', *runs)
+
+
 def main():
-    global EXTRA
-    extra = pathlib.Path(tempfile.mkdtemp())
+    global EXTRA, FOLDER
+    FOLDER = extra = pathlib.Path(tempfile.mkdtemp())
     EXTRA = []
     (extra / 'bad.asm').write_text('r0 = 0\ngoto x\n')
     subprocess.run([BPF, 'asm', str(EXAMPLES / 'checksum.asm'), str(extra / 'checksum.img')], check=True)
@@ -105,6 +146,7 @@ def main():
         for name, count in zip(totals, (allocs, io, short)):
             totals[name] += count
         print(f'{" ".join(words)}: {allocs} allocations, {io} reads and writes, {short} of several bytes')
+    show_no_memory()
     shutil.rmtree(extra)
     print('failures: ' + ', '.join(f'{count} {name}' for name, count in totals.items()) + ', no wrong answer')
 
