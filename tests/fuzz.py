@@ -172,15 +172,31 @@ def try_certificate(run, r, image, text, order):
             raise Wrong(f'migrated: {answer!r}, {migrated!r}')
 
 
+def try_each_alteration(run, image, text):
+    """Each image that differs from a small one in one byte: where its certificate still certifies it, it is done within the bound."""
+    name, certificate = run.put('i.img', image), run.put('c.cert', text.encode())
+    accepted = 0
+    for at in range(len(image)):
+        for byte in set(range(256)) - {image[at]}:
+            run.put(name, image[:at] + bytes([byte]) + image[at + 1:])
+            status, answer = run.bpf('check', name, certificate)
+            if status == 0:
+                accepted += 1
+                if run.bpf('run', name, 'none', '--steps', answer.split()[-1])[0] != 0:
+                    raise Wrong(f'byte {at} as {byte}: {answer!r}, and the run is not done')
+    print(f'fuzz: {255 * len(image)} alterations of the smallest image, {accepted} of them certified, each done within the bound')
+
+
 def main():
     r = random.Random(SEED)
     images = [p.read_bytes() for p in sorted(EXAMPLES.glob('*.img'))]
     texts = [p.read_text() for p in sorted(EXAMPLES.glob('*.asm'))]
     certificates = [p.read_text() for p in sorted(EXAMPLES.glob('*.cert'))]
-    end = time.time() + SECONDS
     turns = 0
     with tempfile.TemporaryDirectory() as folder:
         run = Runner(folder)
+        try_each_alteration(run, (EXAMPLES / 'smallest.img').read_bytes(), (EXAMPLES / 'smallest.cert').read_text())
+        end = time.time() + SECONDS
         while time.time() < end:
             turns += 1
             order = r.choice([[], [], ['--big']])

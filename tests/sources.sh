@@ -1,6 +1,6 @@
 #!/bin/sh
 # The checker counts all its work: its Rust sources make one `Work`, and call neither `transfer`, `entails` nor `covers`, which
-# count nothing. Contracts (`requires`, `ensures`, `ghost`) and comments aren't looked at.
+# count nothing. And what takes no memory names no allocator. Contracts (`requires`, `ensures`, `ghost`) and comments aren't looked at.
 cd "$(dirname "$0")/../crates/bpf_check/src" || exit 1
 
 # The code of the files without contracts and comments.
@@ -23,7 +23,7 @@ how_often() {
 wants() {
     found=$(how_often "$1")
     if [ "$found" -ne "$2" ]; then
-        echo "$1 stands $found times in bpf_check's sources, and not $2 times:"
+        echo "$1 stands $found times in these sources, and not $2 times:"
         code $files | grep -w -- "$1"
         failed=1
     fi
@@ -41,5 +41,13 @@ wants 'returns_counted' 1
 wants 'transfer' 0
 wants 'entails' 0
 wants 'covers' 0
-[ "$failed" -eq 0 ] && echo "the checker makes one Work, and all its work is counted"
+
+# What takes no memory names no allocator and makes nothing grow: numbers, states, the machine, and the checker but for `verify`, which
+# reads a certificate.
+crates=../..
+files=$(find "$crates/bpf_num/src" "$crates/bpf_state/src" "$crates/bpf_machine/src" . -name '*.rt' ! -name verifier.rt | sort)
+for word in 'allocator' 'Global' 'AllocGlobal' 'reserve' 'push_str' 'Vec::new' 'String::new' 'Box::new'; do
+    wants "$word" 0
+done
+[ "$failed" -eq 0 ] && echo "the checker makes one Work, and all its work is counted; what takes no memory names no allocator"
 exit "$failed"
