@@ -4,12 +4,12 @@ use Rattle.std.proofs.lemmas.Bool.{false≢true}
 use Rattle.bpf_insn.specs.Instruction.{Instructions}
 use Rattle.bpf_insn.specs.Image.{IsImage, IsProgram}
 use Rattle.bpf_insn.specs.Laws.{AreBytes, ImageIsInjective}
-use Rattle.bpf_insn.specs.Run.{IsDone}
+use Rattle.bpf_semantics.specs.Run.{IsDone}
 use Rattle.bpf_insn.specs.declared.order.Order.{Order}
 use Rattle.bpf_machine.specs.Answers.{IsRun}
 use Rattle.bpf_machine.specs.declared.outcome.Outcome.{Outcome}
 use Rattle.bpf_machine.specs.declared.outcome.Outcome.TheVariants.{Done, Fault, OutOfFuel}
-use Rattle.bpf_insn.specs.declared.state.Reason.{Reason}
+use Rattle.bpf_semantics.specs.declared.state.Reason.{Reason}
 use Rattle.bpf_sound.specs.Describes.{LengthWithin}
 use Rattle.bpf_cert.specs.View.{CertificateView}
 use Rattle.bpf_cert.specs.Certificates.{Spells}

@@ -2,7 +2,7 @@
 use Rattle.std.specs.Prelude.{◌≡◌, ◌++◌, ℕ, List, [], ◌∷◌, Option, Some, None, Bool, true, false, codes, decimal, nat_eq, if◌then◌else◌}
 use Rattle.std.specs.Io.KnownBytes.{Appends}
 use Rattle.std.specs.List.{concat, join_with_byte}
-use Rattle.bpf_insn.specs.ReasonNumbers.{reason_number}
+use Rattle.bpf_semantics.specs.ReasonNumbers.{reason_number}
 use Rattle.bpf_insn.specs.RefusalNumbers.{decode_number, decode_slot, build_number, build_slot}
 use Rattle.bpf_insn.specs.declared.instruction.Groups.{Groups}
 use Rattle.bpf_insn.specs.declared.instruction.Insn.{Insn}

@@ -1,3 +1,4 @@
+pub mod RegisterLemmas
 pub mod ProgramLemmas
 pub mod TableLemmas
 pub mod FormLemmas
@@ -11,20 +12,3 @@ pub mod OrderLaw
 pub mod ReadLemmas
 pub mod WriteLemmas
 pub mod LayoutLemmas
-pub mod NumberLemmas
-pub mod StateLemmas
-pub mod StateLaw
-pub mod StuckLaw
-pub mod RunLaw
-pub mod SlotLaw
-pub mod FlatArith
-pub mod FlatBase
-pub mod FlatLoad
-pub mod FlatStore
-pub mod FlatValues
-pub mod FlatBytes
-pub mod FlatInsn
-pub mod FlatAccess
-pub mod FlatCall
-pub mod FlatLaw
-pub mod FlatBytesLaw

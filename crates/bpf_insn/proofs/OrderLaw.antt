@@ -12,7 +12,7 @@ use Rattle.bpf_insn.specs.declared.instruction.Reg.{Reg}
 use Rattle.bpf_insn.specs.declared.instruction.Insn.{Insn}
 use Rattle.bpf_insn.specs.declared.instruction.Insn.TheVariants.{LoadImm64}
 use Rattle.bpf_insn.proofs.FormLemmas.{field_target, field_source, fields-dst, fields-src}
-use Rattle.bpf_insn.proofs.FlatBase.{reg_below}
+use Rattle.bpf_insn.proofs.RegisterLemmas.{reg_below}
 use Rattle.bpf_insn.proofs.WalkLemmas.{image_length}
 
 -- ---- one slot

@@ -10,13 +10,4 @@ pub mod Layout
 pub mod Written
 pub mod Reading
 pub mod Laws
-pub mod State
-pub mod Memory
-pub mod Step
-pub mod Stuck
-pub mod ReasonNumbers
-pub mod Run
-pub mod MachineLaws
-pub mod Flat
-pub mod Placement
-pub mod FlatLaws
+pub mod Effects

@@ -7,25 +7,21 @@ mod codes;
 mod decoding;
 mod encoding;
 mod fields;
-mod flat_laws;
 mod form;
 mod groups;
 mod image;
 pub mod instruction;
 mod laws;
 mod layout;
-mod machine_laws;
 pub mod order;
 mod program;
 pub mod refusal;
 mod slot;
-pub mod state;
 mod view;
 pub mod written;
 
 pub use code::Code;
 pub use encoding::encode;
-pub use flat_laws::{flat_finishes, flat_follows, flat_reads_only, flat_writes_only};
 pub use groups::groups_of;
 pub use image::{decode, decode_from, read_image};
 pub use instruction::{
@@ -36,12 +32,7 @@ pub use laws::{
     image_is_injective, image_length, list_never_both, list_refused_once, never_both,
     orders_exchange, reads_back, refusal_is_exact, refused_once,
 };
-pub use machine_laws::{
-    finish_is_last, runs_are_one, runs_keep_states, start_is_state, step_is_deterministic,
-    step_keeps_context, step_keeps_slots, step_keeps_states, steps_are_computed, stuck_has_reason,
-};
 pub use order::Order;
 pub use program::Program;
 pub use refusal::{BuildError, DecodeError, SlotFault};
-pub use state::{Reason, Region, Value};
 pub use view::ProgramView;

@@ -1,8 +1,8 @@
 -- The places of accesses.
 use Rattle.std.specs.Prelude.{ℕ, ◌+◌, ◌≤◌, length}
-use Rattle.bpf_insn.specs.State.{State, depth, frame_bytes}
-use Rattle.bpf_insn.specs.Memory.{Place as PlaceOf}
-use Rattle.bpf_insn.specs.Memory.Place.{InContext, InFrame}
+use Rattle.bpf_semantics.specs.State.{State, depth, frame_bytes}
+use Rattle.bpf_semantics.specs.Memory.{Place as PlaceOf}
+use Rattle.bpf_semantics.specs.Memory.Place.{InContext, InFrame}
 use Rattle.bpf_machine.specs.declared.machine.Place.{Place}
 use Rattle.bpf_machine.specs.declared.machine.Place.TheVariants.{Context, Frame}
 

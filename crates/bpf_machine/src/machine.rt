@@ -3,10 +3,10 @@
 ghost use Rattle.std.specs.Prelude.{◌≡◌, ◌<◌, ◌≤◌, ◌+◌, ◌%◌, ◌^◌, [], IsTrue, false, nat_le, pos, ◌+ℤ◌, IfSome, IfOk, IfErr, length, option_map, Some};
 ghost use Rattle.bpf_insn.specs.Order.{bytes_of};
 ghost use Rattle.bpf_insn.specs.Instruction.{register_number, byte_count, insn_at, distance};
-ghost use Rattle.bpf_insn.specs.State.{frame_bytes, max_frames, depth, start, register, with_register, at_slot, number_of_register};
-ghost use Rattle.bpf_insn.specs.Memory.{inside, place_of, number_at, pointer_at, stack_of, with_stack, with_bytes, with_parts};
-ghost use Rattle.bpf_insn.specs.Step.{operand, entered, left};
-ghost use Rattle.bpf_insn.specs.Stuck.{unreadable_at};
+ghost use Rattle.bpf_semantics.specs.State.{frame_bytes, max_frames, depth, start, register, with_register, at_slot, number_of_register};
+ghost use Rattle.bpf_semantics.specs.Memory.{inside, place_of, number_at, pointer_at, stack_of, with_stack, with_bytes, with_parts};
+ghost use Rattle.bpf_semantics.specs.Step.{operand, entered, left};
+ghost use Rattle.bpf_semantics.specs.Stuck.{unreadable_at};
 ghost use Rattle.bpf_machine.specs.Places.{place_is, IsInside};
 ghost use Rattle.bpf_machine.specs.Answers.{Leads};
 ghost use Rattle.bpf_machine.specs.Running.{running, moved_to};
@@ -15,7 +15,8 @@ use crate::bytes::{count_of, number_in};
 use crate::stack::Stacks;
 use crate::step::alu::extend;
 use arrayvec::ArrayVec;
-use bpf_insn::{Code, Insn, Operand, Order, Reason, Reg, Region, Size, Value};
+use bpf_insn::{Code, Insn, Operand, Order, Reg, Size};
+use bpf_semantics::{Reason, Region, Value};
 use std::marker::Model;
 
 /// A place in the context, or in the stack at a depth: the index of its first byte.

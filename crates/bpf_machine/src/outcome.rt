@@ -1,6 +1,6 @@
 //! What a step and a run answer.
 
-use bpf_insn::Reason;
+use bpf_semantics::Reason;
 
 /// What a step did.
 #[derive(Clone, Copy, Debug, PartialEq, Eq)]

@@ -4,13 +4,14 @@ ghost use Rattle.std.specs.Prelude.{◌≡◌, ◌==◌, ◌+◌, ◌*◌, ◌^�
 ghost use Rattle.std.specs.Int.{bytes_low_first};
 ghost use Rattle.bpf_insn.specs.Order.{number_of, bytes_of};
 ghost use Rattle.bpf_insn.specs.Instruction.{byte_count};
-ghost use Rattle.bpf_insn.specs.State.{Cell, cell, empty_stack};
-ghost use Rattle.bpf_insn.specs.State.Cell.{Byte};
-ghost use Rattle.bpf_insn.specs.Memory.{bytes_in, pointer_in, with_bytes, with_parts};
-ghost use Rattle.bpf_insn.specs.Stuck.{first_unreadable};
+ghost use Rattle.bpf_semantics.specs.State.{Cell, cell, empty_stack};
+ghost use Rattle.bpf_semantics.specs.State.Cell.{Byte};
+ghost use Rattle.bpf_semantics.specs.Memory.{bytes_in, pointer_in, with_bytes, with_parts};
+ghost use Rattle.bpf_semantics.specs.Stuck.{first_unreadable};
 
 use crate::bytes::{byte_of, count_of, number_in, word_of};
-use bpf_insn::{Order, Reason, Region, Size, Value};
+use bpf_insn::{Order, Size};
+use bpf_semantics::{Reason, Region, Value};
 use std::marker::Model;
 
 /// How many slots of eight bytes there are.
@@ -30,7 +31,7 @@ pub(crate) struct Stack {
 
 impl Model for Stack {
     ghost use Rattle.std.specs.Prelude.{List, Option};
-    ghost use Rattle.bpf_insn.specs.State.{Cell};
+    ghost use Rattle.bpf_semantics.specs.State.{Cell};
     ghost use Rattle.bpf_machine.specs.PackedStack.{packed_cells};
 
     ghost Value = { List (Option Cell) };
@@ -210,7 +211,7 @@ pub(crate) struct Stacks {
 
 impl Model for Stacks {
     ghost use Rattle.std.specs.Prelude.{List, Option};
-    ghost use Rattle.bpf_insn.specs.State.{Cell};
+    ghost use Rattle.bpf_semantics.specs.State.{Cell};
 
     ghost Value = { List (List (Option Cell)) };
 

@@ -12,13 +12,14 @@ ghost use Rattle.bpf_machine.specs.Answers.{Does, IsStep, Leads};
 
 use crate::machine::Machine;
 use crate::outcome::Step;
-use bpf_insn::{Code, Insn, Reason};
+use bpf_insn::{Code, Insn};
+use bpf_semantics::Reason;
 
 impl<'a, C: Code> Machine<'a, C> {
     /// Does the next instruction (RFC 9669, sections 4 and 5): Moved, and the machine is in its next state; Done with
     /// the number in r0 at the exit of the outermost frame; or Fault with the first reason why the instruction can't
     /// be done. After Done and Fault the machine is as it was.
-    #[tactic(auto, unfolding(bpf_insn::specs::Step::step_of, bpf_insn::specs::Step::finish_of, bpf_insn::specs::Stuck::reason_of))]
+    #[tactic(auto, unfolding(bpf_semantics::specs::Step::step_of, bpf_semantics::specs::Step::finish_of, bpf_semantics::specs::Stuck::reason_of))]
     pub fn step(&mut self) -> Step
         ensures { IsStep self.old result self.new }
     {

@@ -4,7 +4,8 @@ use crate::programs::{
     ORDERS, assert_run, assert_run_in, assert_runs, assert_runs_in, by, copy, done, fault, load,
     put, set, set_long, store, with,
 };
-use bpf_insn::{AluOp, AtomicOp, Insn, Modify, Order, Reason, Reg, Size, Width};
+use bpf_insn::{AluOp, AtomicOp, Insn, Modify, Order, Reg, Size, Width};
+use bpf_semantics::Reason;
 use std::test::Fail;
 
 fn atomic(wide: bool, op: AtomicOp, dst: Reg, off: i16, src: Reg) -> Insn {

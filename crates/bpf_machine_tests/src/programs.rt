@@ -2,9 +2,9 @@
 
 ghost use Rattle.std.specs.Prelude.{◌≤◌, length};
 
-use bpf_insn::{
-    AluOp, Cond, Insn, Operand, Order, Program, ProgramView, Reason, Reg, Size, Width, encode,
-};
+use bpf_insn::{AluOp, Cond, Insn, Operand, Order, Program, ProgramView, Reg, Size, Width, encode};
+
+use bpf_semantics::Reason;
 use bpf_machine::{Outcome, run};
 use std::alloc::Global;
 use std::process::Abort;

@@ -3,7 +3,8 @@
 use crate::programs::{
     assert_run, assert_runs, by, call, copy, fault, load, put, set, store, with,
 };
-use bpf_insn::{AluOp, AtomicOp, Cond, Insn, Modify, Operand, Reason, Reg, Size, Width};
+use bpf_insn::{AluOp, AtomicOp, Cond, Insn, Modify, Operand, Reg, Size, Width};
+use bpf_semantics::Reason;
 use std::test::Fail;
 
 const CONTEXT: [u8; 8] = [7, 0, 0, 0, 0, 0, 0, 0];

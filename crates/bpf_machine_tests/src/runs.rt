@@ -4,10 +4,8 @@ use crate::programs::{
     assert_run, assert_runs, assert_runs_in, by, call, copy, done, fault, jump_if, load, put, set,
     set_long, with,
 };
-use bpf_insn::{
-    AluOp, Cond, EndBits, EndKind, Insn, Operand, Order, Program, ProgramView, Reason, Reg,
-    SignBits, Size, Width, encode,
-};
+use bpf_insn::{AluOp, Cond, EndBits, EndKind, Insn, Operand, Order, Program, ProgramView, Reg, SignBits, Size, Width, encode};
+use bpf_semantics::Reason;
 use bpf_machine::{Machine, Outcome, Step};
 use std::test::Fail;
 

@@ -3,7 +3,7 @@ use Rattle.std.proofs.Common.{◌*ℤ◌, not, nat_le, ◌≡◌, ℕ, suc, ◌+
 use Rattle.std.proofs.lemmas.Bool.{false≢true, true≢false, or_parts}
 use Rattle.std.proofs.lemmas.Int.{ints}
 use Rattle.bpf_insn.specs.Instruction.{Instructions}
-use Rattle.bpf_insn.specs.State as machine
+use Rattle.bpf_semantics.specs.State as machine
 use Rattle.bpf_num.specs.Interval.{Interval}
 use Rattle.bpf_state.specs.State.{IsPlace, AbstractState, tightened}
 use Rattle.bpf_sound.specs.Describes.{Describes}

@@ -7,11 +7,11 @@ use Rattle.std.proofs.lemmas.Int.{ints}
 use Rattle.bpf_insn.specs.declared.instruction.Insn.{Insn}
 use Rattle.bpf_insn.specs.declared.instruction.Insn.TheVariants.{CallLocal, Exit}
 use Rattle.bpf_insn.specs.declared.instruction.Reg.TheVariants.{R0}
-use Rattle.bpf_insn.specs.declared.state.Value.{Value}
+use Rattle.bpf_semantics.specs.declared.state.Value.{Value}
 use Rattle.bpf_insn.specs.Instruction.{Instructions, slot_count}
-use Rattle.bpf_insn.specs.State as machine
-use Rattle.bpf_insn.specs.State.{Cell}
-use Rattle.bpf_insn.specs.State.Cell.{Byte, Part}
+use Rattle.bpf_semantics.specs.State as machine
+use Rattle.bpf_semantics.specs.State.{Cell}
+use Rattle.bpf_semantics.specs.State.Cell.{Byte, Part}
 use Rattle.bpf_state.specs.declared.state.RegState.{RegState}
 use Rattle.bpf_state.specs.declared.state.RegState.TheVariants.{Any, Num, Ctx, Frame}
 use Rattle.bpf_state.specs.State.{AbstractState, register}

@@ -7,15 +7,15 @@ use Rattle.std.proofs.lemmas.Int.{ints}
 use Rattle.bpf_insn.specs.declared.instruction.Insn.{Insn}
 use Rattle.bpf_insn.specs.declared.instruction.Insn.TheVariants.{Ja, JaLong, CallLocal, Exit}
 use Rattle.bpf_insn.specs.declared.instruction.Reg.TheVariants.{R0}
-use Rattle.bpf_insn.specs.declared.state.Reason.{Reason}
+use Rattle.bpf_semantics.specs.declared.state.Reason.{Reason}
 use Rattle.bpf_insn.specs.Instruction.{Instructions, insn_at, slots, slot_count, target}
 use Rattle.bpf_insn.specs.Image.{IsProgram}
-use Rattle.bpf_insn.specs.State as machine
-use Rattle.bpf_insn.specs.Step.{Step, IsStuck}
-use Rattle.bpf_insn.specs.Stuck.{reason_of}
-use Rattle.bpf_insn.specs.State.{Cell}
-use Rattle.bpf_insn.specs.State.Cell.{Byte, Part}
-use Rattle.bpf_insn.specs.Run.{Steps}
+use Rattle.bpf_semantics.specs.State as machine
+use Rattle.bpf_semantics.specs.Step.{Step, IsStuck}
+use Rattle.bpf_semantics.specs.Stuck.{reason_of}
+use Rattle.bpf_semantics.specs.State.{Cell}
+use Rattle.bpf_semantics.specs.State.Cell.{Byte, Part}
+use Rattle.bpf_semantics.specs.Run.{Steps}
 use Rattle.bpf_state.specs.declared.state.RegState.{RegState}
 use Rattle.bpf_state.specs.declared.state.RegState.TheVariants.{Any, Num, Ctx, Frame}
 use Rattle.bpf_state.specs.State.{AbstractState, start, register, entered, left}

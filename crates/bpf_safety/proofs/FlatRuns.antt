@@ -5,15 +5,15 @@ use Rattle.bpf_insn.specs.declared.instruction.Insn.{Insn}
 use Rattle.bpf_insn.specs.declared.instruction.Insn.TheVariants.{Exit}
 use Rattle.bpf_insn.specs.Instruction.{Instructions, insn_at}
 use Rattle.bpf_insn.specs.Image.{IsProgram}
-use Rattle.bpf_insn.specs.State as machine
-use Rattle.bpf_insn.specs.Step.{Step, Finish}
-use Rattle.bpf_insn.specs.Stuck.{Access, access_of}
-use Rattle.bpf_insn.specs.Run.{Steps}
-use Rattle.bpf_insn.specs.MachineLaws.{StepKeepsContext, RunsKeepStates}
-use Rattle.bpf_insn.specs.Flat.{addresses, frame_start, Placement, FlatState, FlatStep, FlatFinish, FlatSteps}
-use Rattle.bpf_insn.specs.FlatLaws.{FlatFollows, FlatFinishes, Follows}
-use Rattle.bpf_insn.specs.State.{frame_bytes}
-use Rattle.bpf_insn.specs.Placement.{IsPlacement, IsFlatStart, Fits, StaysInside}
+use Rattle.bpf_semantics.specs.State as machine
+use Rattle.bpf_semantics.specs.Step.{Step, Finish}
+use Rattle.bpf_insn.specs.Effects.{Access, access_of}
+use Rattle.bpf_semantics.specs.Run.{Steps}
+use Rattle.bpf_semantics.specs.MachineLaws.{StepKeepsContext, RunsKeepStates}
+use Rattle.bpf_semantics.specs.Flat.{addresses, frame_start, Placement, FlatState, FlatStep, FlatFinish, FlatSteps}
+use Rattle.bpf_semantics.specs.FlatLaws.{FlatFollows, FlatFinishes, Follows}
+use Rattle.bpf_semantics.specs.State.{frame_bytes}
+use Rattle.bpf_semantics.specs.Placement.{IsPlacement, IsFlatStart, Fits, StaysInside}
 use Rattle.bpf_insn.specs.Laws.{AreBytes}
 use Rattle.bpf_safety.specs.Theorems.{FlatFollowsRun, ProgramIsFlatSafe}
 use Rattle.bpf_safety.proofs.Basics.{some_is}

@@ -4,17 +4,18 @@ use Rattle.std.proofs.lemmas.Bool.{false≢true, true≢false}
 use Rattle.std.proofs.lemmas.Bool.Decides.{nat_tests}
 use Rattle.bpf_insn.specs.declared.instruction.Insn.{Insn}
 use Rattle.bpf_insn.specs.declared.instruction.Insn.TheVariants.{CallLocal}
-use Rattle.bpf_insn.specs.declared.state.Reason.{Reason}
-use Rattle.bpf_insn.specs.declared.state.Reason.TheVariants.{UnsetRegister, UnsetByte, OutOfBounds, ContextWrite, FramePointerWrite, OperandKind, TooManyFrames, PointerResult}
+use Rattle.bpf_semantics.specs.declared.state.Reason.{Reason}
+use Rattle.bpf_semantics.specs.declared.state.Reason.TheVariants.{UnsetRegister, UnsetByte, OutOfBounds, ContextWrite, FramePointerWrite, OperandKind, TooManyFrames, PointerResult}
 use Rattle.bpf_insn.specs.Instruction.{Instructions, insn_at, byte_count}
-use Rattle.bpf_insn.specs.State as machine
-use Rattle.bpf_insn.specs.Stuck as stuck
-use Rattle.bpf_insn.specs.Stuck.{reason_of, reason_of_insn, reason_at, reason_if, first_of, first_unreadable, unreadable_at, unreadable, loads_pointer, accessed, access_of, has_no_frame, exits_with_pointer, writes_context, has_wrong_kind, reads_unset, writes_frame_pointer}
-use Rattle.bpf_insn.specs.State.{Cell}
-use Rattle.bpf_insn.specs.State.Cell.{Byte, Part}
-use Rattle.bpf_insn.specs.Memory as memory
-use Rattle.bpf_insn.specs.Memory.{stack_of}
-use Rattle.bpf_insn.specs.Memory.Place.{InContext, InFrame}
+use Rattle.bpf_semantics.specs.State as machine
+use Rattle.bpf_semantics.specs.Stuck as stuck
+use Rattle.bpf_semantics.specs.Stuck.{reason_of, reason_of_insn, reason_at, reason_if, first_of, first_unreadable, unreadable_at, unreadable, loads_pointer, accessed, has_no_frame, exits_with_pointer, writes_context, has_wrong_kind, reads_unset}
+use Rattle.bpf_insn.specs.Effects.{access_of, writes_frame_pointer}
+use Rattle.bpf_semantics.specs.State.{Cell}
+use Rattle.bpf_semantics.specs.State.Cell.{Byte, Part}
+use Rattle.bpf_semantics.specs.Memory as memory
+use Rattle.bpf_semantics.specs.Memory.{stack_of}
+use Rattle.bpf_semantics.specs.Memory.Place.{InContext, InFrame}
 use Rattle.bpf_safety.proofs.Basics.{some_is}
 
 -- without a CALL there is no reason of too many frames

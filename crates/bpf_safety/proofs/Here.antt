@@ -4,10 +4,10 @@ use Rattle.bpf_insn.specs.declared.order.Order.{Order}
 use Rattle.bpf_insn.specs.declared.instruction.Insn.{Insn}
 use Rattle.bpf_insn.specs.declared.instruction.Insn.TheVariants.{Exit}
 use Rattle.bpf_insn.specs.declared.instruction.Reg.TheVariants.{R0}
-use Rattle.bpf_insn.specs.declared.state.Value.TheVariants.{Number as NumberValue}
+use Rattle.bpf_semantics.specs.declared.state.Value.TheVariants.{Number as NumberValue}
 use Rattle.bpf_insn.specs.Instruction.{Instructions, insn_at, slots}
-use Rattle.bpf_insn.specs.State as machine
-use Rattle.bpf_insn.specs.Run.{Steps}
+use Rattle.bpf_semantics.specs.State as machine
+use Rattle.bpf_semantics.specs.Run.{Steps}
 use Rattle.bpf_state.specs.State.{AbstractState}
 use Rattle.bpf_sound.specs.Describes.{Describes, LengthWithin, IsStored, slot_cell}
 use Rattle.bpf_sound.specs.Laws.{IsAbstract}

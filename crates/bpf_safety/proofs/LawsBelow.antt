@@ -1,5 +1,5 @@
 -- What the safety theorem rests on.
-use Rattle.bpf_insn.specs.MachineLaws as insn
+use Rattle.bpf_semantics.specs.MachineLaws as insn
 use Rattle.bpf_num.specs.Laws.{EntailsIncludes}
 use Rattle.bpf_sound.specs.Laws as abstract
 

@@ -11,18 +11,19 @@ use Rattle.bpf_insn.specs.declared.instruction.Width.{Width}
 use Rattle.bpf_insn.specs.declared.instruction.Operand.{Operand}
 use Rattle.bpf_insn.specs.declared.instruction.Size.{Size}
 use Rattle.bpf_insn.specs.declared.instruction.Size.TheVariants.{B, H, W, DW}
-use Rattle.bpf_insn.specs.declared.state.Value.{Value}
-use Rattle.bpf_insn.specs.declared.state.Value.TheVariants.{Number, Pointer}
-use Rattle.bpf_insn.specs.declared.state.Region.{Region}
+use Rattle.bpf_semantics.specs.declared.state.Value.{Value}
+use Rattle.bpf_semantics.specs.declared.state.Value.TheVariants.{Number, Pointer}
+use Rattle.bpf_semantics.specs.declared.state.Region.{Region}
 use Rattle.bpf_insn.specs.Order.{bytes_of}
 use Rattle.bpf_insn.specs.Arithmetic.{extended}
-use Rattle.bpf_insn.specs.State.{Cell}
-use Rattle.bpf_insn.specs.Memory.{Place, place_of, number_at, with_stack, with_stack_in, with_bytes, with_parts, stack_of, store_number, store_pointer}
-use Rattle.bpf_insn.specs.Memory.Place.{InContext, InFrame}
+use Rattle.bpf_semantics.specs.State.{Cell}
+use Rattle.bpf_semantics.specs.Memory.{Place, place_of, number_at, with_stack, with_stack_in, with_bytes, with_parts, stack_of, store_number, store_pointer}
+use Rattle.bpf_semantics.specs.Memory.Place.{InContext, InFrame}
 use Rattle.std.proofs.lemmas.Bool.Decides.{nat_tests}
 use Rattle.bpf_insn.specs.Instruction.{Instructions, insn_at, slot_count, target, distance, register_number, byte_count, word_size}
-use Rattle.bpf_insn.specs.State as machine
-use Rattle.bpf_insn.specs.Step.{Step, step_of, does, jump, next, operand, test_of_values, alu_result, load, load_extended, store, atomic_result, fetch_register, fetched, entered, saved, left}
+use Rattle.bpf_semantics.specs.State as machine
+use Rattle.bpf_semantics.specs.Step.{Step, step_of, does, jump, next, operand, test_of_values, alu_result, load, load_extended, store, atomic_result, fetched, entered, saved, left}
+use Rattle.bpf_insn.specs.Effects.{fetch_register}
 use Rattle.bpf_state.specs.State.{AbstractState}
 use Rattle.bpf_sound.specs.Laws as abstract
 use Rattle.bpf_safety.proofs.Basics.{some_is}

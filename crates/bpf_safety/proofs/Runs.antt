@@ -2,10 +2,10 @@
 use Rattle.std.proofs.Common.{◌≡◌, ℕ, zero, suc, ◌+◌, ◌≤◌, ◌<◌, ◌⊎◌, inl, inr, refl, sym, ap, ◌∙◌, subst, arith, is_some}
 use Rattle.std.proofs.lemmas.Bool.{cases_order}
 use Rattle.bpf_insn.specs.Instruction.{Instructions}
-use Rattle.bpf_insn.specs.MachineLaws.{FinishIsLast, StuckHasReason, StepKeepsContext}
-use Rattle.bpf_insn.specs.State as machine
-use Rattle.bpf_insn.specs.Step.{Step, Finish}
-use Rattle.bpf_insn.specs.Run.{Steps, IsDone}
+use Rattle.bpf_semantics.specs.MachineLaws.{FinishIsLast, StuckHasReason, StepKeepsContext}
+use Rattle.bpf_semantics.specs.State as machine
+use Rattle.bpf_semantics.specs.Step.{Step, Finish}
+use Rattle.bpf_semantics.specs.Run.{Steps, IsDone}
 use Rattle.bpf_safety.specs.Theorems.{SafeHasNoFault, SafeEnds}
 use Rattle.bpf_safety.proofs.Basics.{some_is}
 

@@ -6,9 +6,9 @@ use Rattle.bpf_insn.specs.declared.instruction.Insn.TheVariants.{Exit}
 use Rattle.bpf_insn.specs.declared.instruction.Reg.TheVariants.{R0}
 use Rattle.bpf_insn.specs.Instruction.{Instructions, insn_at, slots}
 use Rattle.bpf_insn.specs.Image.{IsProgram}
-use Rattle.bpf_insn.specs.State as machine
-use Rattle.bpf_insn.specs.Step.{Step, step_of, Finish, finish_of, IsStuck, result_of_exit}
-use Rattle.bpf_insn.specs.Run.{Steps, IsDone}
+use Rattle.bpf_semantics.specs.State as machine
+use Rattle.bpf_semantics.specs.Step.{Step, step_of, Finish, finish_of, IsStuck, result_of_exit}
+use Rattle.bpf_semantics.specs.Run.{Steps, IsDone}
 use Rattle.bpf_num.specs.Number.{Has}
 use Rattle.bpf_cert.specs.View.{FunctionView, CertificateView}
 use Rattle.bpf_safety.specs.Certified.{Certified}

@@ -3,12 +3,12 @@ use Rattle.std.specs.Prelude.{◌≡◌, ℕ, zero, suc, ◌+◌, ◌*◌, ◌�
 use Rattle.bpf_insn.specs.Instruction.{Instructions, slots}
 use Rattle.bpf_insn.specs.Image.{IsProgram}
 use Rattle.bpf_insn.specs.Laws.{AreBytes}
-use Rattle.bpf_insn.specs.State as machine
-use Rattle.bpf_insn.specs.Step.{IsStuck}
-use Rattle.bpf_insn.specs.declared.state.Reason.{Reason}
-use Rattle.bpf_insn.specs.Run.{Steps, IsDone, IsFault, CanMake}
-use Rattle.bpf_insn.specs.Flat.{Placement, FlatState, FlatStep, FlatFinish, FlatSteps}
-use Rattle.bpf_insn.specs.Placement.{IsPlacement, IsFlatStart, StaysInside}
+use Rattle.bpf_semantics.specs.State as machine
+use Rattle.bpf_semantics.specs.Step.{IsStuck}
+use Rattle.bpf_semantics.specs.declared.state.Reason.{Reason}
+use Rattle.bpf_semantics.specs.Run.{Steps, IsDone, IsFault, CanMake}
+use Rattle.bpf_semantics.specs.Flat.{Placement, FlatState, FlatStep, FlatFinish, FlatSteps}
+use Rattle.bpf_semantics.specs.Placement.{IsPlacement, IsFlatStart, StaysInside}
 use Rattle.bpf_state.specs.State.{AbstractState}
 use Rattle.bpf_sound.specs.Describes.{LengthWithin}
 use Rattle.bpf_sound.specs.Laws.{IsAbstract}

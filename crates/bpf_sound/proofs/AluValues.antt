@@ -8,12 +8,12 @@ use Rattle.bpf_insn.specs.declared.instruction.Width.{Width}
 use Rattle.bpf_insn.specs.declared.instruction.Width.TheVariants.{W32, W64}
 use Rattle.bpf_insn.specs.declared.instruction.AluOp.{AluOp}
 use Rattle.bpf_insn.specs.declared.instruction.AluOp.TheVariants.{Add, Sub, Mov}
-use Rattle.bpf_insn.specs.declared.state.Value.{Value}
-use Rattle.bpf_insn.specs.declared.state.Value.TheVariants.{Number as NumberValue, Pointer as PointerValue}
-use Rattle.bpf_insn.specs.declared.state.Region.{Region}
-use Rattle.bpf_insn.specs.declared.state.Region.TheVariants.{Context, Frame as FrameAt}
+use Rattle.bpf_semantics.specs.declared.state.Value.{Value}
+use Rattle.bpf_semantics.specs.declared.state.Value.TheVariants.{Number as NumberValue, Pointer as PointerValue}
+use Rattle.bpf_semantics.specs.declared.state.Region.{Region}
+use Rattle.bpf_semantics.specs.declared.state.Region.TheVariants.{Context, Frame as FrameAt}
 use Rattle.bpf_insn.specs.Arithmetic.{alu, modulo}
-use Rattle.bpf_insn.specs.Step.{alu_result, same_region}
+use Rattle.bpf_semantics.specs.Step.{alu_result, same_region}
 use Rattle.bpf_num.specs.Number.{Number, IsNumber}
 use Rattle.bpf_num.specs.Laws.{Holds, AluKeeps, TightenKeeps}
 use Rattle.bpf_num.specs.Operation.{num_alu}

@@ -5,8 +5,8 @@ use Rattle.std.specs.Option.{option_map_or}
 use Rattle.std.proofs.lemmas.Bool.{false≢true, or_parts, not-false}
 use Rattle.std.proofs.lemmas.Option.{same_Some}
 use Rattle.bpf_insn.specs.declared.order.Order.{Order}
-use Rattle.bpf_insn.specs.declared.state.Value.{Value}
-use Rattle.bpf_insn.specs.declared.state.Value.TheVariants.{Number as NumberValue}
+use Rattle.bpf_semantics.specs.declared.state.Value.{Value}
+use Rattle.bpf_semantics.specs.declared.state.Value.TheVariants.{Number as NumberValue}
 use Rattle.bpf_insn.specs.declared.instruction.Reg.{Reg}
 use Rattle.bpf_insn.specs.declared.instruction.Reg.TheVariants.{R0}
 use Rattle.bpf_insn.specs.declared.instruction.AtomicOp.{AtomicOp}
@@ -16,12 +16,14 @@ use Rattle.bpf_insn.specs.declared.instruction.Insn.{Insn}
 use Rattle.bpf_insn.specs.declared.instruction.Insn.TheVariants.{Atomic}
 use Rattle.bpf_insn.specs.Instruction.{Instructions, byte_count, word_size}
 use Rattle.bpf_insn.specs.Order.{number_of, bytes_of}
-use Rattle.bpf_insn.specs.Step.{Step, does, next, atomic_result, fetch_register, fetched as machine_fetched}
-use Rattle.bpf_insn.specs.Stuck.{Access, is_frame_pointer, reason_at, unreadable_at}
-use Rattle.bpf_insn.specs.State as machine
-use Rattle.bpf_insn.specs.State.{Cell, IsFrame, number_in}
-use Rattle.bpf_insn.specs.Memory.{Place, with_bytes, store_number}
-use Rattle.bpf_insn.specs.Memory.Place.{InFrame}
+use Rattle.bpf_semantics.specs.Step.{Step, does, next, atomic_result, fetched as machine_fetched}
+use Rattle.bpf_insn.specs.Effects.{fetch_register}
+use Rattle.bpf_semantics.specs.Stuck.{reason_at, unreadable_at}
+use Rattle.bpf_insn.specs.Effects.{Access, is_frame_pointer}
+use Rattle.bpf_semantics.specs.State as machine
+use Rattle.bpf_semantics.specs.State.{Cell, IsFrame, number_in}
+use Rattle.bpf_semantics.specs.Memory.{Place, with_bytes, store_number}
+use Rattle.bpf_semantics.specs.Memory.Place.{InFrame}
 use Rattle.bpf_num.specs.Laws.{TightenKeeps}
 use Rattle.bpf_state.specs.declared.state.RegState.{RegState}
 use Rattle.bpf_state.specs.declared.state.RegState.TheVariants.{Any, Num, Ctx, Frame}

@@ -11,11 +11,11 @@ use Rattle.bpf_insn.specs.declared.instruction.Width.{Width}
 use Rattle.bpf_insn.specs.declared.instruction.Cond.{Cond}
 use Rattle.bpf_insn.specs.declared.instruction.Insn.TheVariants.{JumpIf}
 use Rattle.bpf_insn.specs.declared.order.Order.{Order}
-use Rattle.bpf_insn.specs.declared.state.Value.TheVariants.{Number as NumberValue}
+use Rattle.bpf_semantics.specs.declared.state.Value.TheVariants.{Number as NumberValue}
 use Rattle.bpf_insn.specs.Arithmetic.{jumps}
 use Rattle.bpf_insn.specs.Instruction.{register_number}
-use Rattle.bpf_insn.specs.State as machine
-use Rattle.bpf_insn.specs.Step.{does, next, jump, test_of_values, operand as machine_operand}
+use Rattle.bpf_semantics.specs.State as machine
+use Rattle.bpf_semantics.specs.Step.{does, next, jump, test_of_values, operand as machine_operand}
 use Rattle.bpf_num.specs.Number.{Number, IsNumber, Has}
 use Rattle.bpf_num.specs.Refine.{refine}
 use Rattle.bpf_num.specs.Laws.{ConstantHas, RefineKeeps}

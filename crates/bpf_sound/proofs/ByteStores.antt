@@ -4,9 +4,9 @@ use Rattle.std.specs.Prelude.{slice_index, ◌⊎◌, ⊤}
 use Rattle.std.specs.Int.{bit_at}
 use Rattle.std.proofs.lemmas.Bool.{cases_lt}
 use Rattle.bpf_insn.specs.declared.order.Order.{Order}
-use Rattle.bpf_insn.specs.State.{Cell, StackFrame, IsFrame, IsNumberCell, cell}
-use Rattle.bpf_insn.specs.State.Cell.{Byte, Part}
-use Rattle.bpf_insn.specs.Memory.{with_bytes}
+use Rattle.bpf_semantics.specs.State.{Cell, StackFrame, IsFrame, IsNumberCell, cell}
+use Rattle.bpf_semantics.specs.State.Cell.{Byte, Part}
+use Rattle.bpf_semantics.specs.Memory.{with_bytes}
 use Rattle.bpf_state.specs.declared.state.SlotState.{SlotState}
 use Rattle.bpf_state.specs.declared.state.SlotState.TheVariants.{Bytes, Word, Ptr}
 use Rattle.bpf_state.specs.declared.state.Pointer.TheVariants.{Ctx as CtxIn, Frame as FrameIn}

@@ -5,17 +5,17 @@ use Rattle.std.proofs.lemmas.Int.{ints}
 use Rattle.std.proofs.lemmas.Nat.Bits.{bit_at-zero}
 use Rattle.std.proofs.lemmas.List.{get_or-drop, length-drop}
 use Rattle.std.proofs.lemmas.Option.{same_Some}
-use Rattle.bpf_insn.specs.declared.state.Value.{Value}
-use Rattle.bpf_insn.specs.declared.state.Value.TheVariants.{Number as NumberValue, Pointer as PointerValue}
-use Rattle.bpf_insn.specs.declared.state.Region.TheVariants.{Frame as FrameAt}
+use Rattle.bpf_semantics.specs.declared.state.Value.{Value}
+use Rattle.bpf_semantics.specs.declared.state.Value.TheVariants.{Number as NumberValue, Pointer as PointerValue}
+use Rattle.bpf_semantics.specs.declared.state.Region.TheVariants.{Frame as FrameAt}
 use Rattle.bpf_insn.specs.declared.instruction.Reg.{Reg}
 use Rattle.bpf_insn.specs.declared.instruction.Reg.TheVariants.{R0, R1, R2, R3, R4, R5, R6, R7, R8, R9, R10}
 use Rattle.bpf_insn.specs.declared.instruction.Insn.TheVariants.{CallLocal, Exit}
 use Rattle.bpf_insn.specs.Instruction.{register_number, Instructions, insn_at, target}
-use Rattle.bpf_insn.specs.Step.{Step, does}
-use Rattle.bpf_insn.specs.State as machine
-use Rattle.bpf_insn.specs.State.{IsFrame}
-use Rattle.bpf_insn.specs.Step as step
+use Rattle.bpf_semantics.specs.Step.{Step, does}
+use Rattle.bpf_semantics.specs.State as machine
+use Rattle.bpf_semantics.specs.State.{IsFrame}
+use Rattle.bpf_semantics.specs.Step as step
 use Rattle.bpf_num.specs.Laws.{TightenKeeps}
 use Rattle.bpf_num.specs.Number.{Number, IsNumber, Has}
 use Rattle.bpf_state.specs.declared.state.RegState.{RegState}

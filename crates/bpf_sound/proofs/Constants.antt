@@ -2,7 +2,7 @@
 use Rattle.std.proofs.Common.{ℕ, ℤ, pos, negsuc, ◌<◌, refl, arith, Some}
 use Rattle.std.proofs.lemmas.Nat.{mod_below}
 use Rattle.bpf_insn.specs.Arithmetic.{extended}
-use Rattle.bpf_insn.specs.declared.state.Value.TheVariants.{Number as NumberValue}
+use Rattle.bpf_semantics.specs.declared.state.Value.TheVariants.{Number as NumberValue}
 use Rattle.bpf_num.specs.Word.{M}
 use Rattle.bpf_num.specs.Number.{constant}
 use Rattle.bpf_num.specs.Laws.{ConstantHas}

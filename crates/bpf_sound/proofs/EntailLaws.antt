@@ -6,10 +6,10 @@ use Rattle.std.proofs.lemmas.Int.{ints}
 use Rattle.std.proofs.lemmas.Bool.{false≢true, and_parts, eqb-true}
 use Rattle.std.proofs.lemmas.Nat.Bits.{bit_at_and, bit_at-lt, bit_at-zero}
 use Rattle.bpf_insn.specs.declared.order.Order.{Order}
-use Rattle.bpf_insn.specs.declared.state.Value.{Value}
+use Rattle.bpf_semantics.specs.declared.state.Value.{Value}
 use Rattle.bpf_insn.specs.Instruction.{register_number}
-use Rattle.bpf_insn.specs.State as machine
-use Rattle.bpf_insn.specs.State.{Cell}
+use Rattle.bpf_semantics.specs.State as machine
+use Rattle.bpf_semantics.specs.State.{Cell}
 use Rattle.bpf_num.specs.Laws.{EntailsIncludes}
 use Rattle.bpf_state.specs.declared.state.RegState.{RegState}
 use Rattle.bpf_state.specs.declared.state.RegState.TheVariants.{Any, Num, Ctx, Frame}

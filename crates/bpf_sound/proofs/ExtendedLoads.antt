@@ -6,7 +6,7 @@ use Rattle.std.proofs.lemmas.Int.{ints}
 use Rattle.std.proofs.lemmas.Bool.{false≢true, or_parts, not-false}
 use mir.Val.{bits}
 use Rattle.bpf_insn.specs.declared.order.Order.{Order}
-use Rattle.bpf_insn.specs.declared.state.Value.TheVariants.{Number as NumberValue}
+use Rattle.bpf_semantics.specs.declared.state.Value.TheVariants.{Number as NumberValue}
 use Rattle.bpf_insn.specs.declared.instruction.Reg.{Reg}
 use Rattle.bpf_insn.specs.declared.instruction.Size.{Size}
 use Rattle.bpf_insn.specs.declared.instruction.Size.TheVariants.{B, H, W, DW}
@@ -17,10 +17,10 @@ use Rattle.bpf_insn.specs.Arithmetic.{modulo, sign_type}
 use Rattle.bpf_insn.specs.Instruction.{register_number, Instructions, byte_count}
 use Rattle.bpf_insn.specs.Image.{HasEncoding}
 use Rattle.bpf_insn.specs.Order.{number_of}
-use Rattle.bpf_insn.specs.Step.{Step, does, next, size_type}
-use Rattle.bpf_insn.specs.Stuck.{reason_at}
-use Rattle.bpf_insn.specs.State as machine
-use Rattle.bpf_insn.specs.State.{put}
+use Rattle.bpf_semantics.specs.Step.{Step, does, next, size_type}
+use Rattle.bpf_semantics.specs.Stuck.{reason_at}
+use Rattle.bpf_semantics.specs.State as machine
+use Rattle.bpf_semantics.specs.State.{put}
 use Rattle.bpf_num.specs.Word.{M, sign_extended}
 use Rattle.bpf_num.specs.WordLaws.{modulo_fits}
 use Rattle.bpf_num.specs.SignedLaws.{in_signed_top}

@@ -7,21 +7,22 @@ use Rattle.std.proofs.lemmas.Bool.Decides.{nat_tests}
 use Rattle.std.proofs.Math.Nat.{sub_self}
 use Rattle.std.proofs.lemmas.Option.{same_Some}
 use Rattle.bpf_insn.specs.declared.order.Order.{Order}
-use Rattle.bpf_insn.specs.declared.state.Value.TheVariants.{Number as NumberValue, Pointer as PointerValue}
-use Rattle.bpf_insn.specs.declared.state.Region.TheVariants.{Frame as FrameAt}
+use Rattle.bpf_semantics.specs.declared.state.Value.TheVariants.{Number as NumberValue, Pointer as PointerValue}
+use Rattle.bpf_semantics.specs.declared.state.Region.TheVariants.{Frame as FrameAt}
 use Rattle.bpf_insn.specs.declared.instruction.Reg.{Reg}
 use Rattle.bpf_insn.specs.declared.instruction.Size.{Size}
 use Rattle.bpf_insn.specs.declared.instruction.Size.TheVariants.{B, H, W, DW}
 use Rattle.bpf_insn.specs.declared.instruction.Insn.TheVariants.{Store, StoreImm}
 use Rattle.bpf_insn.specs.Instruction.{Instructions, byte_count}
 use Rattle.bpf_insn.specs.Arithmetic.{extended}
-use Rattle.bpf_insn.specs.Step.{Step, does}
-use Rattle.bpf_insn.specs.Stuck.{Access, reason_at}
+use Rattle.bpf_semantics.specs.Step.{Step, does}
+use Rattle.bpf_semantics.specs.Stuck.{reason_at}
+use Rattle.bpf_insn.specs.Effects.{Access}
 use Rattle.bpf_insn.specs.Order.{bytes_of}
-use Rattle.bpf_insn.specs.State as machine
-use Rattle.bpf_insn.specs.State.{Cell}
-use Rattle.bpf_insn.specs.Memory.{with_bytes, store_number, place_of, stack_of, with_stack, inside}
-use Rattle.bpf_insn.specs.Memory.Place.{InFrame}
+use Rattle.bpf_semantics.specs.State as machine
+use Rattle.bpf_semantics.specs.State.{Cell}
+use Rattle.bpf_semantics.specs.Memory.{with_bytes, store_number, place_of, stack_of, with_stack, inside}
+use Rattle.bpf_semantics.specs.Memory.Place.{InFrame}
 use Rattle.bpf_num.specs.Number.{constant}
 use Rattle.bpf_num.specs.Laws.{ConstantHas}
 use Rattle.bpf_state.specs.declared.state.RegState.{RegState}

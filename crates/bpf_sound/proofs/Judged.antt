@@ -3,10 +3,10 @@ use Rattle.std.proofs.Common.{◌≡◌, ℕ, refl, subst, Option, Some, None, B
 use Rattle.std.proofs.lemmas.Bool.{or_parts}
 use Rattle.bpf_insn.specs.declared.instruction.Insn.{Insn}
 use Rattle.bpf_insn.specs.Instruction.{Instructions, insn_at}
-use Rattle.bpf_insn.specs.State as machine
-use Rattle.bpf_insn.specs.State.{IsFrame}
-use Rattle.bpf_insn.specs.Step.{Step, step_of, does}
-use Rattle.bpf_insn.specs.Stuck.{writes_frame_pointer}
+use Rattle.bpf_semantics.specs.State as machine
+use Rattle.bpf_semantics.specs.State.{IsFrame}
+use Rattle.bpf_semantics.specs.Step.{Step, step_of, does}
+use Rattle.bpf_insn.specs.Effects.{writes_frame_pointer}
 use Rattle.bpf_state.specs.State.{AbstractState}
 use Rattle.bpf_state.specs.Fault.{fault_of, reads_any, has_wrong_kinds, is_out_of_bounds, reads_unknown_byte, writes_protected}
 use Rattle.bpf_sound.specs.Laws.{Leads}

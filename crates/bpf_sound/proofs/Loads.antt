@@ -7,23 +7,24 @@ use Rattle.std.proofs.lemmas.Bool.{false≢true, or_parts, not-false}
 use Rattle.std.proofs.lemmas.Bool.Decides.{Decides-int_eq, Decides-eqb}
 use Rattle.std.proofs.lemmas.Option.{same_Some}
 use Rattle.bpf_insn.specs.declared.order.Order.{Order}
-use Rattle.bpf_insn.specs.declared.state.Value.{Value}
-use Rattle.bpf_insn.specs.declared.state.Value.TheVariants.{Number as NumberValue, Pointer as PointerValue}
-use Rattle.bpf_insn.specs.declared.state.Region.{Region}
-use Rattle.bpf_insn.specs.declared.state.Region.TheVariants.{Context, Frame as FrameAt}
-use Rattle.bpf_insn.specs.declared.state.Reason.{Reason}
+use Rattle.bpf_semantics.specs.declared.state.Value.{Value}
+use Rattle.bpf_semantics.specs.declared.state.Value.TheVariants.{Number as NumberValue, Pointer as PointerValue}
+use Rattle.bpf_semantics.specs.declared.state.Region.{Region}
+use Rattle.bpf_semantics.specs.declared.state.Region.TheVariants.{Context, Frame as FrameAt}
+use Rattle.bpf_semantics.specs.declared.state.Reason.{Reason}
 use Rattle.bpf_insn.specs.declared.instruction.Reg.{Reg}
 use Rattle.bpf_insn.specs.declared.instruction.Size.{Size}
 use Rattle.bpf_insn.specs.declared.instruction.Size.TheVariants.{B, H, W, DW}
 use Rattle.bpf_insn.specs.declared.instruction.Insn.TheVariants.{Load}
 use Rattle.bpf_insn.specs.Instruction.{register_number, Instructions, byte_count}
 use Rattle.bpf_insn.specs.Order.{number_of}
-use Rattle.bpf_insn.specs.Step.{◌>>=◌, load, Step, does}
-use Rattle.bpf_insn.specs.Stuck.{unreadable, unreadable_at, loads_pointer, Access, reason_at}
-use Rattle.bpf_insn.specs.State as machine
-use Rattle.bpf_insn.specs.State.{Cell}
-use Rattle.bpf_insn.specs.Memory.{Place, bytes_at, number_at, pointer_at, pointer_in, place_of}
-use Rattle.bpf_insn.specs.Memory.Place.{InFrame}
+use Rattle.bpf_semantics.specs.Step.{◌>>=◌, load, Step, does}
+use Rattle.bpf_semantics.specs.Stuck.{unreadable, unreadable_at, loads_pointer, reason_at}
+use Rattle.bpf_insn.specs.Effects.{Access}
+use Rattle.bpf_semantics.specs.State as machine
+use Rattle.bpf_semantics.specs.State.{Cell}
+use Rattle.bpf_semantics.specs.Memory.{Place, bytes_at, number_at, pointer_at, pointer_in, place_of}
+use Rattle.bpf_semantics.specs.Memory.Place.{InFrame}
 use Rattle.bpf_num.specs.Laws.{TightenKeeps}
 use Rattle.bpf_state.specs.declared.state.RegState.{RegState}
 use Rattle.bpf_state.specs.declared.state.RegState.TheVariants.{Any, Num, Ctx, Frame}

@@ -13,15 +13,15 @@ use Rattle.std.proofs.Math.Pow.{pow_mono}
 use Rattle.byteorder.specs.Numbers.{length-bytes_high_first, length-bytes_low_first, big_number-reads_back, little_number-reads_back}
 use Rattle.bpf_insn.specs.declared.order.Order.{Order}
 use Rattle.bpf_insn.specs.declared.order.Order.TheVariants.{Little, Big}
-use Rattle.bpf_insn.specs.declared.state.Value.{Value}
-use Rattle.bpf_insn.specs.declared.state.Value.TheVariants.{Number as NumberValue, Pointer as PointerValue}
-use Rattle.bpf_insn.specs.declared.state.Region.{Region}
-use Rattle.bpf_insn.specs.declared.state.Region.TheVariants.{Context, Frame as FrameAt}
+use Rattle.bpf_semantics.specs.declared.state.Value.{Value}
+use Rattle.bpf_semantics.specs.declared.state.Value.TheVariants.{Number as NumberValue, Pointer as PointerValue}
+use Rattle.bpf_semantics.specs.declared.state.Region.{Region}
+use Rattle.bpf_semantics.specs.declared.state.Region.TheVariants.{Context, Frame as FrameAt}
 use Rattle.bpf_insn.specs.Instruction.{Instructions}
 use Rattle.bpf_insn.specs.Order.{number_of, bytes_of}
-use Rattle.bpf_insn.specs.State as machine
-use Rattle.bpf_insn.specs.State.{Cell, IsFrame, cell}
-use Rattle.bpf_insn.specs.Memory.{with_bytes}
+use Rattle.bpf_semantics.specs.State as machine
+use Rattle.bpf_semantics.specs.State.{Cell, IsFrame, cell}
+use Rattle.bpf_semantics.specs.Memory.{with_bytes}
 use Rattle.bpf_num.specs.Word.{M}
 use Rattle.bpf_num.specs.Number.{IsNumber, top}
 use Rattle.bpf_state.specs.declared.state.RegState.{RegState}

@@ -4,8 +4,8 @@ use Rattle.bpf_insn.specs.declared.order.Order.{Order}
 use Rattle.bpf_insn.specs.declared.instruction.Operand.{Operand}
 use Rattle.bpf_insn.specs.declared.instruction.Operand.TheVariants.{Imm, Reg as FromReg}
 use Rattle.bpf_insn.specs.Arithmetic.{extended}
-use Rattle.bpf_insn.specs.State as machine
-use Rattle.bpf_insn.specs.Step.{operand as machine_operand}
+use Rattle.bpf_semantics.specs.State as machine
+use Rattle.bpf_semantics.specs.Step.{operand as machine_operand}
 use Rattle.bpf_num.specs.Laws.{ConstantHas}
 use Rattle.bpf_state.specs.State.{AbstractState}
 use Rattle.bpf_state.specs.Fault.{operand}

@@ -14,14 +14,14 @@ use Rattle.bpf_insn.specs.declared.instruction.EndKind.{EndKind}
 use Rattle.bpf_insn.specs.declared.instruction.Insn.{Insn}
 use Rattle.bpf_insn.specs.declared.instruction.Insn.TheVariants.{Alu, Neg, MovSx, End, LoadImm64, Ja, JaLong}
 use Rattle.bpf_insn.specs.declared.order.Order.{Order}
-use Rattle.bpf_insn.specs.declared.state.Value.{Value}
-use Rattle.bpf_insn.specs.declared.state.Value.TheVariants.{Number as NumberValue}
+use Rattle.bpf_semantics.specs.declared.state.Value.{Value}
+use Rattle.bpf_semantics.specs.declared.state.Value.TheVariants.{Number as NumberValue}
 use Rattle.bpf_insn.specs.Arithmetic.{alu, sign_extend, swapped}
 use Rattle.bpf_insn.specs.Instruction.{Instructions, target}
-use Rattle.bpf_insn.specs.State as machine
-use Rattle.bpf_insn.specs.State.{put, number_in}
-use Rattle.bpf_insn.specs.Step.{Step, does, next, jump, alu_result, operand as machine_operand}
-use Rattle.bpf_insn.specs.Stuck.{register_written}
+use Rattle.bpf_semantics.specs.State as machine
+use Rattle.bpf_semantics.specs.State.{put, number_in}
+use Rattle.bpf_semantics.specs.Step.{Step, does, next, jump, alu_result, operand as machine_operand}
+use Rattle.bpf_insn.specs.Effects.{register_written}
 use Rattle.bpf_num.specs.Number.{Number, constant}
 use Rattle.bpf_num.specs.Operation.{num_neg, num_movsx, num_end}
 use Rattle.bpf_num.specs.Laws.{Member, Holds, ConstantHas, ConstantIs, TightenKeeps, AluKeeps, NegKeeps, MovsxKeeps, EndKeeps}

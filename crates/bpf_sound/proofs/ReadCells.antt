@@ -7,11 +7,11 @@ use Rattle.std.proofs.lemmas.Bool.{false≢true, eqb-true, or_parts}
 use Rattle.std.proofs.lemmas.Nat.Bits.{bit_at_and, bit_at-lt, bit_at_mask_inside}
 use Rattle.bpf_insn.specs.declared.order.Order.{Order}
 use Rattle.bpf_insn.specs.declared.order.Order.TheVariants.{Little, Big}
-use Rattle.bpf_insn.specs.Stuck.{first_unreadable}
+use Rattle.bpf_semantics.specs.Stuck.{first_unreadable}
 use Rattle.bpf_insn.specs.Order.{number_of}
-use Rattle.bpf_insn.specs.State.{Cell, cell}
-use Rattle.bpf_insn.specs.State.Cell.{Byte}
-use Rattle.bpf_insn.specs.Memory.{bytes_in}
+use Rattle.bpf_semantics.specs.State.{Cell, cell}
+use Rattle.bpf_semantics.specs.State.Cell.{Byte}
+use Rattle.bpf_semantics.specs.Memory.{bytes_in}
 use Rattle.bpf_state.specs.declared.state.SlotState.{SlotState}
 use Rattle.bpf_state.specs.declared.state.SlotState.TheVariants.{Bytes, Word, Ptr}
 use Rattle.bpf_state.specs.Access.{any_slot, is_pointer_slot, are_known_bytes, Span, span_end, place_in, touches, touched_bytes}

@@ -5,19 +5,20 @@ use Rattle.std.proofs.lemmas.Int.{ints, clamps}
 use Rattle.std.proofs.lemmas.Bool.{cases_lt, not-false, and_parts}
 use Rattle.std.proofs.lemmas.List.{get_or-take, get_or-drop, get_or_past, length-take}
 use Rattle.bpf_insn.specs.declared.order.Order.{Order}
-use Rattle.bpf_insn.specs.declared.state.Value.{Value}
-use Rattle.bpf_insn.specs.declared.state.Value.TheVariants.{Pointer as PointerValue}
-use Rattle.bpf_insn.specs.declared.state.Region.{Region}
-use Rattle.bpf_insn.specs.declared.state.Region.TheVariants.{Context, Frame as FrameAt}
+use Rattle.bpf_semantics.specs.declared.state.Value.{Value}
+use Rattle.bpf_semantics.specs.declared.state.Value.TheVariants.{Pointer as PointerValue}
+use Rattle.bpf_semantics.specs.declared.state.Region.{Region}
+use Rattle.bpf_semantics.specs.declared.state.Region.TheVariants.{Context, Frame as FrameAt}
 use Rattle.bpf_insn.specs.declared.instruction.Size.{Size}
 use Rattle.bpf_insn.specs.declared.instruction.Size.TheVariants.{B, H, W, DW}
 use Rattle.bpf_insn.specs.Instruction.{byte_count}
-use Rattle.bpf_insn.specs.Stuck.{Access, unreadable_at, first_unreadable}
-use Rattle.bpf_insn.specs.State as machine
-use Rattle.bpf_insn.specs.State.{IsFrame}
-use Rattle.bpf_insn.specs.State.Cell.{Byte}
-use Rattle.bpf_insn.specs.Memory.{Place, bytes_in, bytes_at, pointer_at, pointer_in, place_of, stack_of}
-use Rattle.bpf_insn.specs.Memory.Place.{InContext, InFrame}
+use Rattle.bpf_semantics.specs.Stuck.{unreadable_at, first_unreadable}
+use Rattle.bpf_insn.specs.Effects.{Access}
+use Rattle.bpf_semantics.specs.State as machine
+use Rattle.bpf_semantics.specs.State.{IsFrame}
+use Rattle.bpf_semantics.specs.State.Cell.{Byte}
+use Rattle.bpf_semantics.specs.Memory.{Place, bytes_in, bytes_at, pointer_at, pointer_in, place_of, stack_of}
+use Rattle.bpf_semantics.specs.Memory.Place.{InContext, InFrame}
 use Rattle.bpf_state.specs.declared.state.RegState.{RegState}
 use Rattle.bpf_state.specs.declared.state.RegState.TheVariants.{Ctx}
 use Rattle.bpf_state.specs.State.{AbstractState, slot}

@@ -8,24 +8,24 @@ use Rattle.std.proofs.lemmas.List.{length-set}
 use Rattle.std.specs.List.{list_any}
 use Rattle.std.proofs.lemmas.Option.{same_Some}
 use Rattle.bpf_insn.specs.declared.order.Order.{Order}
-use Rattle.bpf_insn.specs.declared.state.Value.{Value}
-use Rattle.bpf_insn.specs.declared.state.Value.TheVariants.{Number as NumberValue, Pointer as PointerValue}
-use Rattle.bpf_insn.specs.declared.state.Region.{Region}
-use Rattle.bpf_insn.specs.declared.state.Region.TheVariants.{Context, Frame as FrameAt}
+use Rattle.bpf_semantics.specs.declared.state.Value.{Value}
+use Rattle.bpf_semantics.specs.declared.state.Value.TheVariants.{Number as NumberValue, Pointer as PointerValue}
+use Rattle.bpf_semantics.specs.declared.state.Region.{Region}
+use Rattle.bpf_semantics.specs.declared.state.Region.TheVariants.{Context, Frame as FrameAt}
 use Rattle.bpf_insn.specs.declared.instruction.Reg.{Reg}
 use Rattle.bpf_insn.specs.declared.instruction.Size.{Size}
 use Rattle.bpf_insn.specs.declared.instruction.Size.TheVariants.{B, H, W, DW}
 use Rattle.bpf_insn.specs.declared.instruction.Insn.TheVariants.{Store}
 use Rattle.bpf_insn.specs.Instruction.{Instructions, byte_count}
 use Rattle.bpf_insn.specs.Arithmetic.{modulo}
-use Rattle.bpf_insn.specs.Step.{Step, does}
-use Rattle.bpf_insn.specs.Stuck.{reason_at}
+use Rattle.bpf_semantics.specs.Step.{Step, does}
+use Rattle.bpf_semantics.specs.Stuck.{reason_at}
 use Rattle.bpf_insn.specs.Order.{bytes_of}
-use Rattle.bpf_insn.specs.State as machine
-use Rattle.bpf_insn.specs.State.{Cell, cell}
-use Rattle.bpf_insn.specs.State.Cell.{Part}
-use Rattle.bpf_insn.specs.Memory.{with_bytes, with_parts, store_pointer, part_after, place_of, stack_of, with_stack}
-use Rattle.bpf_insn.specs.Memory.Place.{InFrame}
+use Rattle.bpf_semantics.specs.State as machine
+use Rattle.bpf_semantics.specs.State.{Cell, cell}
+use Rattle.bpf_semantics.specs.State.Cell.{Part}
+use Rattle.bpf_semantics.specs.Memory.{with_bytes, with_parts, store_pointer, part_after, place_of, stack_of, with_stack}
+use Rattle.bpf_semantics.specs.Memory.Place.{InFrame}
 use Rattle.bpf_num.specs.Word.{M}
 use Rattle.bpf_state.specs.declared.state.RegState.{RegState}
 use Rattle.bpf_state.specs.declared.state.RegState.TheVariants.{Any, Num, Ctx, Frame}

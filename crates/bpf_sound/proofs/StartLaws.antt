@@ -5,7 +5,7 @@ use Rattle.std.proofs.lemmas.List.{get_or-replicate}
 use Rattle.std.proofs.lemmas.Nat.Bits.{bit_at-zero}
 use Rattle.bpf_insn.specs.declared.instruction.Reg.{Reg}
 use Rattle.bpf_insn.specs.declared.instruction.Reg.TheVariants.{R0, R1, R2, R3, R4, R5, R6, R7, R8, R9, R10}
-use Rattle.bpf_insn.specs.State as machine
+use Rattle.bpf_semantics.specs.State as machine
 use Rattle.std.specs.Option.{option_map_or}
 use Rattle.bpf_num.specs.Laws.{Holds, TightenKeeps}
 use Rattle.bpf_num.specs.Number.{number, tighten}

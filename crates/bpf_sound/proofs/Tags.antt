@@ -12,11 +12,11 @@ use Rattle.bpf_insn.specs.declared.instruction.Width.{Width}
 use Rattle.bpf_insn.specs.declared.instruction.Width.TheVariants.{W32, W64}
 use Rattle.bpf_insn.specs.declared.instruction.AluOp.{AluOp}
 use Rattle.bpf_insn.specs.declared.instruction.AluOp.TheVariants.{Add, Sub, Mov}
-use Rattle.bpf_insn.specs.declared.state.Value.{Value}
-use Rattle.bpf_insn.specs.declared.state.Value.TheVariants.{Number as NumberValue}
+use Rattle.bpf_semantics.specs.declared.state.Value.{Value}
+use Rattle.bpf_semantics.specs.declared.state.Value.TheVariants.{Number as NumberValue}
 use Rattle.bpf_insn.specs.Arithmetic.{alu, modulo}
-use Rattle.bpf_insn.specs.State as machine
-use Rattle.bpf_insn.specs.Step.{operand as machine_operand, alu_result}
+use Rattle.bpf_semantics.specs.State as machine
+use Rattle.bpf_semantics.specs.Step.{operand as machine_operand, alu_result}
 use Rattle.bpf_num.specs.Word.{M, signed}
 use Rattle.bpf_num.specs.WordLaws.{signed_is}
 use Rattle.bpf_num.specs.Number.{Number, IsNumber, Has, is_constant}

@@ -2,11 +2,11 @@
 use Rattle.std.proofs.Common.{ℕ, suc, ◌-◌, ◌<◌, ◌≤◌, refl, ◌∙◌, ap, subst, arith, get_or, Option, None}
 use Rattle.std.specs.Prelude.{option_map, option_and_then}
 use Rattle.bpf_insn.specs.declared.order.Order.{Order}
-use Rattle.bpf_insn.specs.declared.state.Value.{Value}
+use Rattle.bpf_semantics.specs.declared.state.Value.{Value}
 use Rattle.bpf_insn.specs.declared.instruction.Reg.{Reg}
 use Rattle.bpf_insn.specs.Instruction.{register_number}
-use Rattle.bpf_insn.specs.State as machine
-use Rattle.bpf_insn.specs.State.{Cell}
+use Rattle.bpf_semantics.specs.State as machine
+use Rattle.bpf_semantics.specs.State.{Cell}
 use Rattle.bpf_num.specs.Laws.{TightenKeeps}
 use Rattle.bpf_state.specs.declared.state.RegState.{RegState}
 use Rattle.bpf_state.specs.declared.state.RegState.TheVariants.{Any, Num, Ctx, Frame}

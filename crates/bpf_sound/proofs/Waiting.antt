@@ -10,16 +10,17 @@ use Rattle.bpf_insn.specs.declared.instruction.Size.{Size}
 use Rattle.bpf_insn.specs.declared.instruction.Size.TheVariants.{B, H, W, DW}
 use Rattle.bpf_insn.specs.declared.instruction.Insn.{Insn}
 use Rattle.bpf_insn.specs.declared.instruction.Insn.TheVariants.{Alu, Neg, MovSx, End, LoadImm64, Load, LoadSx, Store, StoreImm, Atomic, Ja, JaLong, JumpIf, CallLocal, Exit}
-use Rattle.bpf_insn.specs.declared.state.Value.{Value}
-use Rattle.bpf_insn.specs.declared.state.Value.TheVariants.{Number as NumberValue, Pointer as PointerValue}
+use Rattle.bpf_semantics.specs.declared.state.Value.{Value}
+use Rattle.bpf_semantics.specs.declared.state.Value.TheVariants.{Number as NumberValue, Pointer as PointerValue}
 use Rattle.bpf_insn.specs.Instruction.{Instructions, register_number, target, byte_count, word_size}
 use Rattle.bpf_insn.specs.Arithmetic.{extended}
 use Rattle.bpf_insn.specs.Order.{bytes_of}
-use Rattle.bpf_insn.specs.Step.{does, next, store, fetched, fetch_register, jump, load, load_extended, operand, alu_result, atomic_result, test_of_values}
-use Rattle.bpf_insn.specs.State as machine
-use Rattle.bpf_insn.specs.State.{Cell, StackFrame, put}
-use Rattle.bpf_insn.specs.Memory.{place_of, number_at, stack_of, with_stack, with_bytes, with_parts, store_pointer}
-use Rattle.bpf_insn.specs.Memory.Place.{InFrame}
+use Rattle.bpf_semantics.specs.Step.{does, next, store, fetched, jump, load, load_extended, operand, alu_result, atomic_result, test_of_values}
+use Rattle.bpf_insn.specs.Effects.{fetch_register}
+use Rattle.bpf_semantics.specs.State as machine
+use Rattle.bpf_semantics.specs.State.{Cell, StackFrame, put}
+use Rattle.bpf_semantics.specs.Memory.{place_of, number_at, stack_of, with_stack, with_bytes, with_parts, store_pointer}
+use Rattle.bpf_semantics.specs.Memory.Place.{InFrame}
 use Rattle.bpf_state.specs.State.{AbstractState, register}
 use Rattle.bpf_sound.specs.Laws.{IsJudged, IsCallOrExit, WaitingFramesStay}
 use Rattle.bpf_sound.proofs.Judged.{step_is}

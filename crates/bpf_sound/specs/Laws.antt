@@ -5,13 +5,13 @@ use Rattle.bpf_insn.specs.declared.instruction.Reg.{Reg}
 use Rattle.bpf_insn.specs.declared.instruction.Reg.TheVariants.{R0}
 use Rattle.bpf_insn.specs.declared.instruction.Insn.{Insn}
 use Rattle.bpf_insn.specs.declared.instruction.Insn.TheVariants.{JumpIf, CallLocal, Exit}
-use Rattle.bpf_insn.specs.declared.state.Reason.{Reason}
-use Rattle.bpf_insn.specs.declared.state.Reason.TheVariants.{TooManyFrames}
+use Rattle.bpf_semantics.specs.declared.state.Reason.{Reason}
+use Rattle.bpf_semantics.specs.declared.state.Reason.TheVariants.{TooManyFrames}
 use Rattle.bpf_insn.specs.Instruction.{Instructions, insn_at}
 use Rattle.bpf_insn.specs.Image.{HasEncoding}
-use Rattle.bpf_insn.specs.State as machine
-use Rattle.bpf_insn.specs.Step.{Step, test_of_values, operand, ◌>>=◌}
-use Rattle.bpf_insn.specs.Stuck.{reason_of}
+use Rattle.bpf_semantics.specs.State as machine
+use Rattle.bpf_semantics.specs.Step.{Step, test_of_values, operand, ◌>>=◌}
+use Rattle.bpf_semantics.specs.Stuck.{reason_of}
 use Rattle.bpf_num.specs.Number.{Number, IsNumber, Has}
 use Rattle.bpf_state.specs.declared.state.RegState.{RegState}
 use Rattle.bpf_state.specs.declared.state.RegState.TheVariants.{Num}

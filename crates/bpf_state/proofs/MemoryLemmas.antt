@@ -3,12 +3,12 @@ use Rattle.std.proofs.Common.{◌≡◌, ℕ, ℤ, refl, sym, ◌∙◌, ap, ap�
 use Rattle.std.specs.Prelude.{◌-◌, ◌*◌, ◌^◌, not, ◌&&◌, ◌||◌, option_map, option_and_then}
 use Rattle.std.proofs.lemmas.Option.{none-some}
 use Rattle.bpf_insn.specs.Instruction.{byte_count, word_size}
-use Rattle.bpf_insn.specs.Step.{fetch_register}
+use Rattle.bpf_insn.specs.Effects.{fetch_register}
 use Rattle.std.specs.Option.{option_map_or}
 use Rattle.bpf_insn.specs.declared.instruction.Reg.TheVariants.{R0}
 use Rattle.bpf_insn.specs.declared.instruction.AtomicOp.{AtomicOp}
 use Rattle.bpf_insn.specs.declared.instruction.AtomicOp.TheVariants.{CmpXchg, Xchg, Modify}
-use Rattle.bpf_insn.specs.Stuck.{is_frame_pointer}
+use Rattle.bpf_insn.specs.Effects.{is_frame_pointer}
 use Rattle.bpf_insn.specs.declared.order.Order.{Order}
 use Rattle.bpf_insn.specs.declared.instruction.Reg.{Reg}
 use Rattle.bpf_insn.specs.declared.instruction.Size.{Size}

@@ -1,6 +1,6 @@
 -- What arithmetic makes of what is known of two values, or why it is refused.
 use Rattle.std.specs.Prelude.{Option, Some, None, Result, Ok, Err, IfOk, IfSome, option_map, if◌then◌else◌}
-use Rattle.bpf_insn.specs.Stuck.{is_frame_pointer}
+use Rattle.bpf_insn.specs.Effects.{is_frame_pointer}
 use Rattle.bpf_insn.specs.declared.instruction.Reg.{Reg}
 use Rattle.bpf_insn.specs.declared.instruction.Width.{Width}
 use Rattle.bpf_insn.specs.declared.instruction.AluOp.{AluOp}

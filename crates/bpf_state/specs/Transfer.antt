@@ -1,7 +1,7 @@
 -- The abstract state after each instruction.
 use Rattle.std.specs.Prelude.{ℕ, suc, ◌-◌, ◌*◌, ◌^◌, ◌==◌, ℤ, pos, neg_ℤ, ◌+ℤ◌, int_le, Bool, false, ◌&&◌, List, [], ◌∷◌, Option, Some, None, option_map, option_and_then, if◌then◌else◌, bit_or}
 use Rattle.bpf_insn.specs.Instruction.{register_number, byte_count, word_size}
-use Rattle.bpf_insn.specs.Step.{fetch_register}
+use Rattle.bpf_insn.specs.Effects.{fetch_register}
 use Rattle.bpf_insn.specs.declared.order.Order.{Order}
 use Rattle.bpf_insn.specs.declared.instruction.Reg.{Reg}
 use Rattle.bpf_insn.specs.declared.instruction.Operand.{Operand}

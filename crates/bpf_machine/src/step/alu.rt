@@ -3,15 +3,13 @@
 ghost use Rattle.std.specs.Prelude.{◌≡◌, ◌<◌, ◌%◌, ◌^◌};
 ghost use Rattle.std.specs.Int.{w32, w64};
 ghost use Rattle.bpf_insn.specs.Arithmetic.{compute, compare, alu, jumps, extended, sign_extend, swapped};
-ghost use Rattle.bpf_insn.specs.Step.{alu_of_values, alu_result, moved, test_of_values, same_region, wrapped};
+ghost use Rattle.bpf_semantics.specs.Step.{alu_of_values, alu_result, moved, test_of_values, same_region, wrapped};
 ghost use Rattle.bpf_machine.specs.Answers.{Does};
 
 use crate::machine::Machine;
 use crate::outcome::Step;
-use bpf_insn::{
-    AluOp, Code, Cond, EndBits, EndKind, Insn, Operand, Order, Reason, Reg, Region, SignBits,
-    Value, Width,
-};
+use bpf_insn::{AluOp, Code, Cond, EndBits, EndKind, Insn, Operand, Order, Reg, SignBits, Width};
+use bpf_semantics::{Reason, Region, Value};
 
 /// The result of an operation on 64-bit numbers.
 #[inline(always)]
@@ -272,9 +270,9 @@ pub(crate) fn test_of(width: Width, cond: Cond, a: Value, b: Value) -> Option<bo
     }
 }
 
-#[tactic(auto, unfolding(bpf_insn::specs::Step::does, bpf_insn::specs::Stuck::reason_at))]
+#[tactic(auto, unfolding(bpf_semantics::specs::Step::does, bpf_semantics::specs::Stuck::reason_at))]
 impl<'a, C: Code> Machine<'a, C> {
-    #[tactic(auto, using(crate::proofs::StepLemmas::unset_operand), unfolding(bpf_insn::specs::Step::does, bpf_insn::specs::Stuck::reason_at))]
+    #[tactic(auto, using(crate::proofs::StepLemmas::unset_operand), unfolding(bpf_semantics::specs::Step::does, bpf_semantics::specs::Stuck::reason_at))]
     pub(crate) fn alu(&mut self, op: AluOp, width: Width, dst: Reg, src: Operand) -> Step
         requires { self.old.state.top.slot < 65536 }
         ensures { Does self.old (Insn.Alu op width dst src) result self.new }

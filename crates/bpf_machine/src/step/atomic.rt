@@ -3,13 +3,15 @@
 ghost use Rattle.std.specs.Prelude.{◌≡◌, ◌<◌, ◌%◌, ◌^◌, Some, false};
 ghost use Rattle.std.specs.Option.{option_map, option_map_or};
 ghost use Rattle.bpf_insn.specs.Instruction.{word_size};
-ghost use Rattle.bpf_insn.specs.Step.{atomic_result, fetch_register, modified};
-ghost use Rattle.bpf_insn.specs.Stuck.{is_frame_pointer};
+ghost use Rattle.bpf_semantics.specs.Step.{atomic_result, modified};
+ghost use Rattle.bpf_insn.specs.Effects.{fetch_register};
+ghost use Rattle.bpf_insn.specs.Effects.{is_frame_pointer};
 ghost use Rattle.bpf_machine.specs.Answers.{Does};
 
 use crate::machine::{Machine, Place};
 use crate::outcome::Step;
-use bpf_insn::{AtomicOp, Code, Insn, Modify, Reason, Reg, Size, Value};
+use bpf_insn::{AtomicOp, Code, Insn, Modify, Reg, Size};
+use bpf_semantics::{Reason, Value};
 
 /// The size of the number that is changed.
 fn size_of(wide: bool) -> Size
@@ -66,7 +68,7 @@ fn result_of(op: AtomicOp, wide: bool, old: u64, x: u64, r0: u64) -> u64
     }
 }
 
-#[tactic(auto, unfolding(bpf_insn::specs::Step::does, bpf_insn::specs::Stuck::reason_at))]
+#[tactic(auto, unfolding(bpf_semantics::specs::Step::does, bpf_semantics::specs::Stuck::reason_at))]
 impl<'a, C: Code> Machine<'a, C> {
     pub(crate) fn atomic(&mut self, wide: bool, op: AtomicOp, dst: Reg, off: i16, src: Reg) -> Step
         requires { self.old.state.top.slot < 65536 }

@@ -6,9 +6,10 @@ ghost use Rattle.bpf_machine.specs.Answers.{Does, Leads};
 use crate::machine::Machine;
 use crate::outcome::Step;
 use crate::step::jump::target_of;
-use bpf_insn::{Code, Insn, Reason, Reg, Value};
+use bpf_insn::{Code, Insn, Reg};
+use bpf_semantics::{Reason, Value};
 
-#[tactic(auto, unfolding(bpf_insn::specs::Step::does, bpf_insn::specs::Stuck::reason_at))]
+#[tactic(auto, unfolding(bpf_semantics::specs::Step::does, bpf_semantics::specs::Stuck::reason_at))]
 impl<'a, C: Code> Machine<'a, C> {
     pub(crate) fn call(&mut self, off: i32) -> Step
         requires here { self.old.state.top.slot < 65536 }

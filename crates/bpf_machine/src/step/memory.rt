@@ -4,9 +4,9 @@ ghost use Rattle.std.specs.Prelude.{◌≡◌, ◌==◌, ◌<◌, ◌^◌, IfOk,
 ghost use Rattle.std.specs.Int.{cast_signed};
 ghost use Rattle.bpf_insn.specs.Arithmetic.{modulo};
 ghost use Rattle.bpf_insn.specs.Instruction.{byte_count};
-ghost use Rattle.bpf_insn.specs.Memory.{pointer_at};
-ghost use Rattle.bpf_insn.specs.Step.{size_type, load};
-ghost use Rattle.bpf_insn.specs.Stuck.{unreadable_at};
+ghost use Rattle.bpf_semantics.specs.Memory.{pointer_at};
+ghost use Rattle.bpf_semantics.specs.Step.{size_type, load};
+ghost use Rattle.bpf_semantics.specs.Stuck.{unreadable_at};
 ghost use Rattle.bpf_machine.specs.Places.{place_is, IsInside};
 ghost use Rattle.bpf_machine.specs.Answers.{Does};
 ghost use Rattle.bpf_machine.specs.Stored.{may_be_stored};
@@ -14,7 +14,8 @@ ghost use Rattle.bpf_machine.specs.Stored.{may_be_stored};
 use crate::machine::{Machine, Place, sum_of};
 use crate::outcome::Step;
 use crate::step::alu::extend;
-use bpf_insn::{Code, Insn, Reason, Reg, Size, Value};
+use bpf_insn::{Code, Insn, Reg, Size};
+use bpf_semantics::{Reason, Value};
 
 /// A number of some bytes as two's complement, extended to 64 bits.
 fn sign_extend_from(size: Size, x: u64) -> u64
@@ -51,7 +52,7 @@ fn may_store(size: Size, at: i64, off: i16, value: Value) -> bool
     }
 }
 
-#[tactic(auto, unfolding(bpf_insn::specs::Step::does, bpf_insn::specs::Stuck::reason_at))]
+#[tactic(auto, unfolding(bpf_semantics::specs::Step::does, bpf_semantics::specs::Stuck::reason_at))]
 impl<'a, C: Code> Machine<'a, C> {
     pub(crate) fn load_imm64(&mut self, dst: Reg, value: u64) -> Step
         requires { self.old.state.top.slot < 65536 }
@@ -132,7 +133,7 @@ impl<'a, C: Code> Machine<'a, C> {
     }
 }
 
-#[tactic(auto, unfolding(bpf_insn::specs::Step::does, bpf_insn::specs::Stuck::reason_at, bpf_insn::specs::Memory::store_number, bpf_insn::specs::Memory::store_pointer))]
+#[tactic(auto, unfolding(bpf_semantics::specs::Step::does, bpf_semantics::specs::Stuck::reason_at, bpf_semantics::specs::Memory::store_number, bpf_semantics::specs::Memory::store_pointer))]
 impl<'a, C: Code> Machine<'a, C> {
     pub(crate) fn store_imm(&mut self, size: Size, dst: Reg, off: i16, imm: i32) -> Step
         requires { self.old.state.top.slot < 65536 }

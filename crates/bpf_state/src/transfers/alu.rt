@@ -1,7 +1,7 @@
 //! Arithmetic, moves and byte swaps.
 
 ghost use Rattle.std.specs.Prelude.{◌≡◌, ℕ, ◌^◌, pos, neg_ℤ, ◌+ℤ◌, ◌-ℤ◌, ◌≤ℤ◌, None, IfSome, option_map};
-ghost use Rattle.bpf_insn.specs.Stuck.{is_frame_pointer};
+ghost use Rattle.bpf_insn.specs.Effects.{is_frame_pointer};
 ghost use Rattle.bpf_insn.specs.declared.order.Order.{Order};
 ghost use Rattle.bpf_insn.specs.declared.instruction.Width.{Width};
 ghost use Rattle.bpf_insn.specs.declared.instruction.Width.TheVariants.{W64};

@@ -2,7 +2,7 @@
 
 ghost use Rattle.std.specs.Prelude.{◌≡◌, IsTrue, true, false, Some, option_map, option_and_then};
 ghost use Rattle.bpf_insn.specs.Instruction.{word_size};
-ghost use Rattle.bpf_insn.specs.Step.{fetch_register};
+ghost use Rattle.bpf_insn.specs.Effects.{fetch_register};
 ghost use Rattle.bpf_insn.specs.declared.order.Order.{Order};
 ghost use Rattle.bpf_insn.specs.declared.instruction.Insn.TheVariants.{Atomic};
 ghost use Rattle.bpf_state.specs.Access.{is_inside};

@@ -3,17 +3,18 @@ use Rattle.std.specs.Prelude.{false}
 use Rattle.std.specs.Option.{option_map_or}
 use Rattle.bpf_insn.specs.Order.{bytes_of}
 use Rattle.bpf_insn.specs.Instruction.{byte_count, word_size, register_number}
-use Rattle.bpf_insn.specs.State.{State, register, number_of_register, with_register}
-use Rattle.bpf_insn.specs.Memory.{with_stack, with_bytes, stack_of, place_of, number_at}
-use Rattle.bpf_insn.specs.Memory.Place.{InFrame}
-use Rattle.bpf_insn.specs.Step.{fetch_register, atomic_result}
-use Rattle.bpf_insn.specs.Stuck.{is_frame_pointer}
+use Rattle.bpf_semantics.specs.State.{State, register, number_of_register, with_register}
+use Rattle.bpf_semantics.specs.Memory.{with_stack, with_bytes, stack_of, place_of, number_at}
+use Rattle.bpf_semantics.specs.Memory.Place.{InFrame}
+use Rattle.bpf_semantics.specs.Step.{atomic_result}
+use Rattle.bpf_insn.specs.Effects.{fetch_register}
+use Rattle.bpf_insn.specs.Effects.{is_frame_pointer}
 use Rattle.bpf_insn.specs.declared.instruction.Insn.{Insn}
 use Rattle.bpf_insn.specs.declared.instruction.Insn.TheVariants.{Atomic}
 use Rattle.bpf_insn.specs.declared.order.Order.{Order}
 use Rattle.bpf_insn.specs.declared.instruction.Size.{Size}
 use Rattle.bpf_insn.specs.declared.instruction.Reg.TheVariants.{R0}
-use Rattle.bpf_insn.specs.declared.state.Value.TheVariants.{Number}
+use Rattle.bpf_semantics.specs.declared.state.Value.TheVariants.{Number}
 use Rattle.bpf_machine.proofs.StepLemmas.{atomic_done, changed_at, fetched_none, fetched_some, r0_unused, r0_unused_by_xchg, number_in_register}
 use Rattle.bpf_machine.proofs.machine.Machine.atomic.Goals as goal
 use Rattle.bpf_machine.proofs.machine.Machine.atomic.Goals.{in-CmpXchg+in-Some-register-2, in-Modify, in-Xchg}

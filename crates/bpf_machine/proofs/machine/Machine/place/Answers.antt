@@ -3,9 +3,9 @@ use Rattle.std.specs.Prelude.{◌+ℤ◌, pos}
 use Rattle.std.proofs.lemmas.Int.{ints}
 use Rattle.std.proofs.lemmas.Grind.{common_steps}
 use Rattle.bpf_insn.specs.Instruction.{byte_count}
-use Rattle.bpf_insn.specs.State.{frame_bytes}
-use Rattle.bpf_insn.specs.Memory.{inside}
-use Rattle.bpf_insn.specs.declared.state.Value.TheVariants.{Pointer}
+use Rattle.bpf_semantics.specs.State.{frame_bytes}
+use Rattle.bpf_semantics.specs.Memory.{inside}
+use Rattle.bpf_semantics.specs.declared.state.Value.TheVariants.{Pointer}
 use Rattle.bpf_machine.proofs.FrameLemmas.{live_is, frame_place, no_frame_place, inside_is}
 use Rattle.bpf_machine.proofs.machine.Machine.place.Goals as goal
 

@@ -1,8 +1,8 @@
 use Rattle.std.proofs.Common.{arith, ◌∙◌, ap, slice_set, get_or}
 use Rattle.bpf_insn.specs.Order.{bytes_of}
 use Rattle.bpf_insn.specs.Instruction.{byte_count}
-use Rattle.bpf_insn.specs.State.{empty_stack}
-use Rattle.bpf_insn.specs.Memory.{with_bytes}
+use Rattle.bpf_semantics.specs.State.{empty_stack}
+use Rattle.bpf_semantics.specs.Memory.{with_bytes}
 use Rattle.bpf_machine.proofs.FrameLemmas.{live_is, stack_changed}
 use Rattle.bpf_machine.proofs.machine.Machine.store_number.Goals as goal
 

@@ -1,8 +1,8 @@
 use Rattle.std.proofs.Common.{arith, ◌∙◌, ap, slice_set, get_or}
 use Rattle.std.specs.Int.{w64}
 use Rattle.std.proofs.lemmas.Int.{to_z-of_z}
-use Rattle.bpf_insn.specs.State.{empty_stack}
-use Rattle.bpf_insn.specs.Memory.{with_parts}
+use Rattle.bpf_semantics.specs.State.{empty_stack}
+use Rattle.bpf_semantics.specs.Memory.{with_parts}
 use Rattle.bpf_machine.proofs.FrameLemmas.{live_is, stack_changed}
 use Rattle.bpf_machine.proofs.machine.Machine.store_pointer.Goals as goal
 

@@ -1,6 +1,6 @@
 use Rattle.std.proofs.Common.{◌∙◌, ap, sym, ◌%◌, ◌/◌, [], ◌∷◌, Some, get_or, arith}
-use Rattle.bpf_insn.specs.State.Cell.{Byte}
-use Rattle.bpf_insn.specs.Stuck.{first_unreadable}
+use Rattle.bpf_semantics.specs.State.Cell.{Byte}
+use Rattle.bpf_semantics.specs.Stuck.{first_unreadable}
 use Rattle.bpf_machine.specs.PackedStack.{pointer_cell}
 use Rattle.bpf_machine.proofs.StackLemmas.{byte_held, byte_not_held, get_byte}
 use Rattle.bpf_machine.proofs.stack.Stack.byte.Goals as goal

@@ -1,6 +1,6 @@
 use Rattle.std.proofs.Common.{◌∙◌, ap, sym, arith, get_or, Some, ◌≢◌, below_more}
 use Rattle.std.proofs.lemmas.List.{get_or-set_same, get_or-set_other, length-set}
-use Rattle.bpf_insn.specs.State.Cell.{Byte}
+use Rattle.bpf_semantics.specs.State.Cell.{Byte}
 use Rattle.bpf_machine.proofs.StackLemmas.{bytes_found, reason_found, length_is}
 use Rattle.bpf_machine.proofs.stack.Stack.bytes.Goals as goal
 

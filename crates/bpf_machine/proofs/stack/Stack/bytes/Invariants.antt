@@ -1,6 +1,6 @@
 use Rattle.std.proofs.Common.{◌≡◌, ℕ, ◌<◌, ◌+◌, Some, get_or, length}
-use Rattle.bpf_insn.specs.State.{cell}
-use Rattle.bpf_insn.specs.State.Cell.{Byte}
+use Rattle.bpf_semantics.specs.State.{cell}
+use Rattle.bpf_semantics.specs.State.Cell.{Byte}
 use Rattle.bpf_machine.proofs.stack.Stack.bytes.Given as goal
 
 abbrev pub invariant-loop-i : goal.invariant-loop-i

@@ -1,8 +1,8 @@
 use Rattle.std.proofs.Common.{◌∙◌, ap, sym, ◌%◌, ◌/◌, inl, inr, Some, get_or}
 use Rattle.std.specs.Int.{w64}
 use Rattle.std.proofs.lemmas.Int.{to_z-of_z}
-use Rattle.bpf_insn.specs.Memory.{pointer_in}
-use Rattle.bpf_insn.specs.declared.state.Value.TheVariants.{Pointer}
+use Rattle.bpf_semantics.specs.Memory.{pointer_in}
+use Rattle.bpf_semantics.specs.declared.state.Value.TheVariants.{Pointer}
 use Rattle.bpf_machine.specs.PackedStack.{pointer_cell}
 use Rattle.bpf_machine.proofs.stack.Stack.pointer.Goals.{then-at-ne0-via-then-at-ne0, then-at-ne0-via-else-at-ne0+then-self-at-eq1}
 use Rattle.bpf_machine.proofs.StackLemmas.{no_pointer, slot_pointer}

@@ -1,7 +1,7 @@
 use Rattle.std.proofs.Common.{◌∙◌, ap, ◌%◌, refl, [], ◌∷◌}
 use Rattle.std.specs.Prelude.{set}
 use Rattle.std.specs.Int.{w64, from_le_bytes}
-use Rattle.bpf_insn.specs.Memory.{with_bytes}
+use Rattle.bpf_semantics.specs.Memory.{with_bytes}
 use Rattle.bpf_machine.proofs.StackLemmas.{byte_stored}
 use Rattle.bpf_machine.proofs.stack.Stack.store_byte.Goals as goal
 

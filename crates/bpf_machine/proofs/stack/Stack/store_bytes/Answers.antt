@@ -1,7 +1,7 @@
 use Rattle.std.proofs.Common.{◌∙◌, ap, sym, arith, ◌∷◌, [], ◌+◌, ℕ, List, length, ◌≡◌, ◌<◌, get_or}
 use Rattle.std.proofs.lemmas.List.{take_all}
 use Rattle.bpf_insn.specs.Order.{bytes_of}
-use Rattle.bpf_insn.specs.Memory.{with_bytes}
+use Rattle.bpf_semantics.specs.Memory.{with_bytes}
 use Rattle.bpf_machine.proofs.StackLemmas.{bytes_more, length-bytes_of, take_one}
 use Rattle.bpf_machine.proofs.stack.Stack.store_bytes.Goals as goal
 

@@ -1,6 +1,6 @@
 use Rattle.std.proofs.Common.{◌≡◌, take}
 use Rattle.bpf_insn.specs.Order.{bytes_of}
-use Rattle.bpf_insn.specs.Memory.{with_bytes}
+use Rattle.bpf_semantics.specs.Memory.{with_bytes}
 use Rattle.bpf_machine.proofs.stack.Stack.store_bytes.Given as goal
 
 abbrev pub invariant-loop-i : goal.invariant-loop-i

@@ -1,7 +1,7 @@
 use Rattle.std.proofs.Common.{◌∙◌, ap}
 use Rattle.std.specs.Int.{w64, cast_unsigned}
 use Rattle.std.proofs.lemmas.Int.{to_z-of_z}
-use Rattle.bpf_insn.specs.Memory.{with_parts}
+use Rattle.bpf_semantics.specs.Memory.{with_parts}
 use Rattle.bpf_machine.proofs.StackLemmas.{pointer_stored}
 use Rattle.bpf_machine.proofs.stack.Stack.store_pointer.Goals as goal
 

@@ -1,6 +1,6 @@
 use Rattle.std.proofs.Common.{◌∙◌, ap, ◌*◌}
 use Rattle.std.specs.Int.{bytes_low_first}
-use Rattle.bpf_insn.specs.Memory.{with_bytes}
+use Rattle.bpf_semantics.specs.Memory.{with_bytes}
 use Rattle.bpf_machine.proofs.StackLemmas.{word_stored}
 use Rattle.bpf_machine.proofs.stack.Stack.store_word.Goals as goal
 

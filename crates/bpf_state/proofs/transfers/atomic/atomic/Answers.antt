@@ -1,6 +1,6 @@
 use Rattle.std.proofs.Common.{◌≡◌, rules, sym, ◌∙◌, ap, Some, None}
 use Rattle.bpf_insn.specs.Instruction.{word_size}
-use Rattle.bpf_insn.specs.Step.{fetch_register}
+use Rattle.bpf_insn.specs.Effects.{fetch_register}
 use Rattle.bpf_state.specs.State.{register}
 use Rattle.bpf_state.specs.Access.{span_at}
 use Rattle.bpf_state.specs.Fault.{is_pointer}

@@ -1,5 +1,0 @@
-use Rattle.bpf_insn.proofs.FlatBytesLaw.{flat_reads_only}
-use Rattle.bpf_insn.proofs.flat_laws.flat_reads_only.Goals as goal
-
-pub returns : goal.returns
-returns c = flat_reads_only

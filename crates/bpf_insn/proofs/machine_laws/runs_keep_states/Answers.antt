@@ -1,5 +1,0 @@
-use Rattle.bpf_insn.proofs.RunLaw.{runs_keep_states}
-use Rattle.bpf_insn.proofs.machine_laws.runs_keep_states.Goals as goal
-
-pub returns : goal.returns
-returns c = runs_keep_states

@@ -1,5 +1,0 @@
-use Rattle.bpf_insn.proofs.SlotLaw.{step_keeps_context}
-use Rattle.bpf_insn.proofs.machine_laws.step_keeps_context.Goals as goal
-
-pub returns : goal.returns
-returns c = step_keeps_context

@@ -1,5 +1,0 @@
-use Rattle.bpf_insn.proofs.StateLaw.{step_keeps_states}
-use Rattle.bpf_insn.proofs.machine_laws.step_keeps_states.Goals as goal
-
-pub returns : goal.returns
-returns c = step_keeps_states

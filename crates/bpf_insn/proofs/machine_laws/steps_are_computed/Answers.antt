@@ -1,5 +1,0 @@
-use Rattle.bpf_insn.proofs.RunLaw.{steps_are_computed}
-use Rattle.bpf_insn.proofs.machine_laws.steps_are_computed.Goals as goal
-
-pub returns : goal.returns
-returns c = steps_are_computed

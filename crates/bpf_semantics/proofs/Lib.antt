@@ -1,0 +1,17 @@
+pub mod NumberLemmas
+pub mod StateLemmas
+pub mod StateLaw
+pub mod StuckLaw
+pub mod RunLaw
+pub mod SlotLaw
+pub mod FlatArith
+pub mod FlatBase
+pub mod FlatLoad
+pub mod FlatStore
+pub mod FlatValues
+pub mod FlatBytes
+pub mod FlatInsn
+pub mod FlatAccess
+pub mod FlatCall
+pub mod FlatLaw
+pub mod FlatBytesLaw

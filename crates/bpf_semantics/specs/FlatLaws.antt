@@ -1,0 +1,48 @@
+-- The laws of the flat machine. Each is proved as the contract of a function of its own.
+use Rattle.std.specs.Prelude.{◌≡◌, ℕ, ◌+◌, ◌%◌, ◌<◌, true, length, Some}
+use Rattle.bpf_insn.specs.Instruction.{Instructions, byte_count}
+use Rattle.bpf_insn.specs.Image.{IsProgram}
+use Rattle.bpf_semantics.specs.State.{State, IsState}
+use Rattle.bpf_semantics.specs.Step.{Step, Finish}
+use Rattle.bpf_insn.specs.Effects.{Access, access_of}
+use Rattle.bpf_semantics.specs.Flat.{Placement, FlatState, FlatStep, FlatFinish, addresses, address, flat_does}
+use Rattle.bpf_semantics.specs.Placement.{IsPlacement, Fits, StaysInside}
+use Rattle.bpf_insn.specs.declared.order.Order.{Order}
+use Rattle.bpf_insn.specs.declared.instruction.Insn.{Insn}
+
+-- Where the machine steps, each flat state that fits it has a step; each of these leads to a flat state that fits the
+-- next state; and what it touches lies inside the placed context and the live frames.
+pub record Follows (place : Placement) (p : Instructions) (s t : State) (f : FlatState) : Type 0 where
+  pub has_step : (g : FlatState) × FlatStep place p f g
+  pub fits : (g : FlatState) → FlatStep place p f g → Fits p.order place t g
+  pub inside : StaysInside place (length s.context) p f
+
+abbrev pub FlatFollows : Type 0
+FlatFollows = (place : Placement) (p : Instructions) (s t : State) (f : FlatState) → IsProgram p.list → IsState s → IsPlacement (length s.context) place → Fits p.order place s f → Step p s t → Follows place p s t f
+
+-- and where it ends, so does the flat machine, with the same number
+abbrev pub FlatFinishes : Type 0
+FlatFinishes = (place : Placement) (p : Instructions) (s : State) (f : FlatState) (v : ℕ) → Fits p.order place s f → Finish p s v → FlatFinish p f v × ((g : FlatState) → FlatStep place p f g → ⊥)
+
+-- ---- the bytes that an instruction touches are those of its access
+
+abbrev pub Touches : FlatState → Access → ℕ → Type 0
+Touches f access a = (j : ℕ) × (j < byte_count access.size) × (a ≡ (address f access.base access.offset + j) % addresses)
+
+-- An instruction, calls and exits aside, changes no byte but those that it writes.
+abbrev pub FlatWritesOnly : Type 0
+FlatWritesOnly = (order : Order) (i : Insn) (f g : FlatState) (a : ℕ) → flat_does order i f ≡ Some g → a < addresses → ((w : Access) → access_of i ≡ Some w → w.writes ≡ true → Touches f w a → ⊥) → g.memory a ≡ f.memory a
+
+abbrev pub in_memory : (ℕ → ℕ) → FlatState → FlatState
+in_memory memory f = record { slot = f.slot; registers = f.registers; memory = memory; returns = f.returns }
+
+-- slot, registers and returns are the same, and so is each byte where the memories before had the same
+pub record DoesAlike (order : Order) (i : Insn) (memory : ℕ → ℕ) (f g : FlatState) : Type 0 where
+  pub after : FlatState
+  pub does : flat_does order i (in_memory memory f) ≡ Some after
+  pub same : after ≡ in_memory after.memory g
+  pub bytes : (a : ℕ) → memory a ≡ f.memory a → after.memory a ≡ g.memory a
+
+-- And it depends on no byte but those that it reads: in another memory that agrees on them it does the same.
+abbrev pub FlatReadsOnly : Type 0
+FlatReadsOnly = (order : Order) (i : Insn) (f g : FlatState) (memory : ℕ → ℕ) → flat_does order i f ≡ Some g → ((r : Access) (a : ℕ) → access_of i ≡ Some r → r.reads ≡ true → Touches f r a → memory a ≡ f.memory a) → DoesAlike order i memory f g

@@ -1,0 +1,10 @@
+pub mod State
+pub mod Memory
+pub mod Step
+pub mod Stuck
+pub mod ReasonNumbers
+pub mod Run
+pub mod MachineLaws
+pub mod Flat
+pub mod Placement
+pub mod FlatLaws

@@ -1,0 +1,15 @@
+-- The number of each reason, from 1 to 9.
+use Rattle.std.specs.Prelude.{ℕ}
+use Rattle.bpf_semantics.specs.declared.state.Reason.{Reason}
+use Rattle.bpf_semantics.specs.declared.state.Reason.TheVariants.{UnsetRegister, UnsetByte, OutOfBounds, ContextWrite, FramePointerWrite, OperandKind, TooManyFrames, PastEnd, PointerResult}
+
+abbrev pub reason_number : Reason → ℕ
+reason_number UnsetRegister = 1
+reason_number UnsetByte = 2
+reason_number OutOfBounds = 3
+reason_number ContextWrite = 4
+reason_number FramePointerWrite = 5
+reason_number OperandKind = 6
+reason_number TooManyFrames = 7
+reason_number PastEnd = 8
+reason_number PointerResult = 9

@@ -1,0 +1,23 @@
+//! Laws of the flat machine, each as the contract of a function.
+
+ghost use Rattle.bpf_semantics.specs.FlatLaws.{FlatFollows, FlatFinishes, FlatWritesOnly, FlatReadsOnly};
+
+/// The flat machine follows each step.
+pub fn flat_follows()
+    ensures { FlatFollows }
+{}
+
+/// The flat machine ends where the machine does, with the same number.
+pub fn flat_finishes()
+    ensures { FlatFinishes }
+{}
+
+/// An instruction changes no byte but those that it writes.
+pub fn flat_writes_only()
+    ensures { FlatWritesOnly }
+{}
+
+/// An instruction depends on no byte but those that it reads.
+pub fn flat_reads_only()
+    ensures { FlatReadsOnly }
+{}

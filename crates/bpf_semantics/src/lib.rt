@@ -1,0 +1,13 @@
+//! The machine that runs programs: what its states are, what a step does, when it is stuck, and their laws.
+#![tactic(auto)]
+
+mod flat_laws;
+mod machine_laws;
+pub mod state;
+
+pub use flat_laws::{flat_finishes, flat_follows, flat_reads_only, flat_writes_only};
+pub use machine_laws::{
+    finish_is_last, runs_are_one, runs_keep_states, start_is_state, step_is_deterministic,
+    step_keeps_context, step_keeps_slots, step_keeps_states, steps_are_computed, stuck_has_reason,
+};
+pub use state::{Reason, Region, Value};
