@@ -225,9 +225,63 @@ impl Groups {
     }
 }
 
+impl Reg {
+    ghost use Rattle.std.specs.Prelude.{◌≡◌};
+    ghost use Rattle.bpf_insn.specs.Effects.{is_frame_pointer};
+
+    /// Whether it is r10, which no instruction may write.
+    #[inline(always)]
+    pub fn is_frame_pointer(self) -> bool
+        ensures { result ≡ is_frame_pointer self }
+    {
+        self as u8 == 10
+    }
+}
+
+impl Size {
+    ghost use Rattle.std.specs.Prelude.{◌≡◌};
+    ghost use Rattle.bpf_insn.specs.Instruction.{byte_count, word_size};
+
+    /// How many bytes an access takes: 1, 2, 4 or 8.
+    #[inline(always)]
+    pub fn bytes(self) -> u8
+        ensures { result ≡ byte_count self }
+    {
+        match self {
+            Size::B => 1,
+            Size::H => 2,
+            Size::W => 4,
+            Size::DW => 8,
+        }
+    }
+
+    /// The size of the number that an atomic operation changes: 8 bytes where it is wide, else 4 (RFC 9669, section 5.3).
+    pub fn of_word(wide: bool) -> Size
+        ensures { result ≡ word_size wide }
+    {
+        if wide { Size::DW } else { Size::W }
+    }
+}
+
+impl AtomicOp {
+    ghost use Rattle.std.specs.Prelude.{◌≡◌};
+    ghost use Rattle.bpf_insn.specs.Effects.{fetch_register};
+
+    /// The register that gets the old number, if one does (RFC 9669, section 5.3).
+    pub fn fetch_register(self, src: Reg) -> Option<Reg>
+        ensures { result ≡ fetch_register self src }
+    {
+        match self {
+            AtomicOp::Modify { by: _, fetch } => if fetch { Some(src) } else { None },
+            AtomicOp::Xchg => Some(src),
+            AtomicOp::CmpXchg => Some(Reg::R0),
+        }
+    }
+}
+
 impl Insn {
     ghost use Rattle.std.specs.Prelude.{◌≡◌};
-    ghost use Rattle.bpf_insn.specs.Instruction.{slot_count, group_of};
+    ghost use Rattle.bpf_insn.specs.Instruction.{slot_count, group_of, distance};
 
     /// How many slots of eight bytes it takes: 2 for a 64-bit constant, else 1 (RFC 9669, section 3).
     pub fn slots(&self) -> u32
@@ -236,6 +290,19 @@ impl Insn {
         match self {
             Insn::LoadImm64 { .. } => 2,
             _ => 1,
+        }
+    }
+
+    /// How far a jump or call leads, in slots from the next instruction.
+    pub fn distance(&self) -> Option<i32>
+        ensures { result ≡ distance self.now }
+    {
+        match *self {
+            Insn::Ja { off } => Some(i32::from(off)),
+            Insn::JaLong { off } => Some(off),
+            Insn::JumpIf { off, .. } => Some(i32::from(off)),
+            Insn::CallLocal { off } => Some(off),
+            _ => None,
         }
     }
 
@@ -252,4 +319,17 @@ impl Insn {
             _ => Group::Base,
         }
     }
+}
+
+ghost use Rattle.std.specs.Prelude.{◌≡◌, ◌≤◌};
+ghost use Rattle.bpf_insn.specs.Instruction.{target};
+
+/// The slot at a distance from the one after the slot, if it isn't negative.
+#[inline(always)]
+pub fn target(slot: u32, distance: i32) -> Option<u32>
+    requires { slot ≤ 65536 }
+    ensures { result ≡ target slot distance }
+{
+    let to = i64::from(slot) + 1 + i64::from(distance);
+    if to < 0 { None } else { Some(to as u32) }
 }

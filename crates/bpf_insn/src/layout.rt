@@ -1,7 +1,7 @@
 //! Instructions laid out by slots, and the targets of their jumps.
 
 ghost use Rattle.std.specs.Prelude.{◌≡◌, ◌↔◌, ◌<◌, ◌≤◌, List, Option, IsTrue, IfSome, IfNone, is_some, length};
-ghost use Rattle.bpf_insn.specs.Instruction.{insn_in, distance, EachSlot, FailsFirst};
+ghost use Rattle.bpf_insn.specs.Instruction.{insn_in, EachSlot, FailsFirst};
 ghost use Rattle.bpf_insn.specs.Image.{LeadsInside, HasTarget, max_slots};
 ghost use Rattle.bpf_insn.specs.declared.instruction.Insn.{Insn};
 
@@ -26,19 +26,6 @@ pub trait Layout {
         ensures { result ≡ is_some (insn_in (cells self.now) slot) };
 }
 
-/// How far a jump or call leads.
-fn distance_of(insn: &Insn) -> Option<i32>
-    ensures { result ≡ distance insn.now }
-{
-    match *insn {
-        Insn::Ja { off } => Some(off as i32),
-        Insn::JaLong { off } => Some(off),
-        Insn::JumpIf { off, .. } => Some(off as i32),
-        Insn::CallLocal { off } => Some(off),
-        _ => None,
-    }
-}
-
 /// Whether an instruction begins at this distance from the one after the slot.
 fn leads_inside<L: Layout>(layout: &L, slot: u32, off: i32) -> bool
     requires { slot < max_slots }
@@ -53,7 +40,7 @@ fn has_target<L: Layout>(layout: &L, slot: u32, insn: &Insn) -> bool
     requires { slot < max_slots }
     ensures { IsTrue result ↔ HasTarget (L.cells layout.now) slot insn.now }
 {
-    match distance_of(insn) {
+    match insn.distance() {
         None => true,
         Some(off) => leads_inside(layout, slot, off),
     }

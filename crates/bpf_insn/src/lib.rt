@@ -1,6 +1,7 @@
 //! Instructions, programs and images of the BPF instruction set (RFC 9669, integer profile).
 #![tactic(auto)]
 
+mod arithmetic;
 mod bytes;
 mod code;
 mod codes;
@@ -20,13 +21,14 @@ mod slot;
 mod view;
 pub mod written;
 
+pub use arithmetic::{extended, low_half};
 pub use code::Code;
 pub use encoding::encode;
 pub use groups::groups_of;
 pub use image::{decode, decode_from, read_image};
 pub use instruction::{
     AluOp, AtomicOp, Cond, EndBits, EndKind, Group, Groups, Insn, Modify, Operand, Reg, SignBits,
-    Size, Width,
+    Size, Width, target,
 };
 pub use laws::{
     image_is_injective, image_length, list_never_both, list_refused_once, never_both,

@@ -8,18 +8,6 @@ ghost use Rattle.bpf_insn.specs.Instruction.{byte_count};
 use bpf_insn::{Order, Size};
 use byteorder::{BigEndian, ByteOrder, LittleEndian};
 
-/// How many bytes there are.
-pub(crate) fn count_of(size: Size) -> usize
-    ensures { result ≡ byte_count size }
-{
-    match size {
-        Size::B => 1,
-        Size::H => 2,
-        Size::W => 4,
-        Size::DW => 8,
-    }
-}
-
 /// The number in the first bytes.
 pub(crate) fn number_in(order: Order, size: Size, bytes: &[u8]) -> u64
     requires { byte_count size ≤ length bytes.now }

@@ -11,11 +11,10 @@ ghost use Rattle.bpf_machine.specs.Places.{place_is, IsInside};
 ghost use Rattle.bpf_machine.specs.Answers.{Leads};
 ghost use Rattle.bpf_machine.specs.Running.{running, moved_to};
 
-use crate::bytes::{count_of, number_in};
+use crate::bytes::number_in;
 use crate::stack::Stacks;
-use crate::step::alu::extend;
 use arrayvec::ArrayVec;
-use bpf_insn::{Code, Insn, Operand, Order, Reg, Size};
+use bpf_insn::{Code, Insn, Operand, Order, Reg, Size, extended};
 use bpf_semantics::{Reason, Region, Value};
 use std::marker::Model;
 
@@ -167,7 +166,7 @@ impl<'a, C: Code> Machine<'a, C> {
         ensures { result ≡ operand self.now.state src }
     {
         match src {
-            Operand::Imm(imm) => Some(Value::Number(extend(imm))),
+            Operand::Imm(imm) => Some(Value::Number(extended(imm))),
             Operand::Reg(r) => self.register(r),
         }
     }
@@ -207,7 +206,7 @@ impl<'a, C: Code> Machine<'a, C> {
         ensures place { option_map place_is result ≡ place_of self.now.state (byte_count size) off base }
         ensures inside { IfSome result (IsInside self.now.state (byte_count size)) }
     {
-        let count = count_of(size);
+        let count = usize::from(size.bytes());
         match base {
             Value::Number(_number) => None,
             Value::Pointer(region, at) => match region {

@@ -9,7 +9,7 @@ ghost use Rattle.bpf_semantics.specs.State.Cell.{Byte};
 ghost use Rattle.bpf_semantics.specs.Memory.{bytes_in, pointer_in, with_bytes, with_parts};
 ghost use Rattle.bpf_semantics.specs.Stuck.{first_unreadable};
 
-use crate::bytes::{byte_of, count_of, number_in, word_of};
+use crate::bytes::{byte_of, number_in, word_of};
 use bpf_insn::{Order, Size};
 use bpf_semantics::{Reason, Region, Value};
 use std::marker::Model;
@@ -110,7 +110,7 @@ impl Stack {
         if let Some(word) = self.word(at, size) {
             return Ok(word_of(order, word));
         }
-        match self.bytes(at, count_of(size)) {
+        match self.bytes(at, usize::from(size.bytes())) {
             Ok(bytes) => Ok(number_in(order, size, &bytes)),
             Err(reason) => Err(reason),
         }
@@ -186,7 +186,7 @@ impl Stack {
     {
         match size {
             Size::DW if at % 8 == 0 => self.store_word(at / 8, word_of(order, x)),
-            _ => self.store_bytes(order, at, count_of(size), x),
+            _ => self.store_bytes(order, at, usize::from(size.bytes()), x),
         }
     }
 

@@ -1,8 +1,8 @@
 //! Tristate numbers.
 
 use crate::domain::WordDomain;
-use crate::word::{compute, reversed, sign_extended, truncated};
-use bpf_insn::{AluOp, EndBits, SignBits};
+use crate::word::truncated;
+use bpf_insn::{AluOp, EndBits, EndKind, Order, SignBits, Width};
 use std::marker::Model;
 
 /// What is known of each bit of a number.
@@ -136,8 +136,8 @@ impl KnownBits {
         ensures { result ≡ bits_moved (λ x. exact op x amount) self }
     {
         KnownBits {
-            value: compute(op, self.value, u64::from(amount)),
-            mask: compute(op, self.mask, u64::from(amount)),
+            value: op.compute_64(self.value, u64::from(amount)),
+            mask: op.compute_64(self.mask, u64::from(amount)),
         }
     }
 
@@ -292,15 +292,15 @@ impl WordDomain for KnownBits {
 
     fn sign_extend(self, from: SignBits) -> Self {
         KnownBits {
-            value: sign_extended(from, self.value),
-            mask: sign_extended(from, self.mask),
+            value: from.extend(Width::W64, self.value),
+            mask: from.extend(Width::W64, self.mask),
         }
     }
 
     fn swap(self, size: EndBits) -> Self {
         KnownBits {
-            value: reversed(size, self.value),
-            mask: reversed(size, self.mask),
+            value: size.swap(Order::Little, EndKind::Swap, self.value),
+            mask: size.swap(Order::Little, EndKind::Swap, self.mask),
         }
     }
 }

@@ -2,7 +2,7 @@
 
 use crate::domain::WordDomain;
 use crate::num::Num;
-use crate::word::{compute, reversed, sign_extended, truncated};
+use crate::word::truncated;
 use bpf_insn::{AluOp, EndBits, EndKind, Order, SignBits, Width};
 
 impl Num {
@@ -77,7 +77,7 @@ impl Num {
         ensures { result ≡ num_sign_extend from self }
     {
         if self.is_constant() {
-            return Some(Num::constant(sign_extended(from, self.bits().value())));
+            return Some(Num::constant(from.extend(Width::W64, self.bits().value())));
         }
         Num::of(
             self.bits().sign_extend(from),
@@ -91,7 +91,11 @@ impl Num {
         ensures { result ≡ num_reverse size self }
     {
         if self.is_constant() {
-            return Some(Num::constant(reversed(size, self.bits().value())));
+            return Some(Num::constant(size.swap(
+                Order::Little,
+                EndKind::Swap,
+                self.bits().value(),
+            )));
         }
         Num::of(
             self.bits().swap(size),
@@ -129,7 +133,7 @@ impl Num {
         ensures { result ≡ num_binary op self other }
     {
         if self.is_constant() && other.is_constant() {
-            let number = compute(op, self.bits().value(), other.bits().value());
+            let number = op.compute_64(self.bits().value(), other.bits().value());
             return Some(Num::constant(number));
         }
         Num::of(
@@ -162,7 +166,7 @@ impl Num {
                 Width::W64 => other.bits().value() % 64,
                 Width::W32 => other.bits().value() % 32,
             };
-            return Some(Num::constant(compute(op, self.bits().value(), amount)));
+            return Some(Num::constant(op.compute_64(self.bits().value(), amount)));
         }
         let amount = other.shift_amount(width);
         Num::of(

@@ -33,18 +33,6 @@ ghost use Rattle.bpf_state.specs.Access.{span_at, span_end, is_known, is_slot, i
 ghost use Rattle.bpf_state.specs.State.{IsRegister};
 ghost use Rattle.bpf_state.specs.Parts.{IsSpan, AreTouched, depth_of};
 
-/// The number of bytes of an access.
-pub(crate) fn count_of(size: Size) -> u8
-    ensures { result ≡ byte_count size }
-{
-    match size {
-        Size::B => 1,
-        Size::H => 2,
-        Size::W => 4,
-        Size::DW => 8,
-    }
-}
-
 impl Reach {
     /// The reach of an access at an offset from a pointer.
     pub(crate) fn of(base: RegState, off: i16, size: Size) -> Self
@@ -69,7 +57,7 @@ impl Reach {
             in_frame,
             lowest: lo as i128 + off,
             highest: hi as i128 + off,
-            count: count_of(size),
+            count: size.bytes(),
         }
     }
 

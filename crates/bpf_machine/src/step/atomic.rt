@@ -13,30 +13,12 @@ use crate::outcome::Step;
 use bpf_insn::{AtomicOp, Code, Insn, Modify, Reg, Size};
 use bpf_semantics::{Reason, Value};
 
-/// The size of the number that is changed.
-fn size_of(wide: bool) -> Size
-    ensures { result ≡ word_size wide }
-{
-    if wide { Size::DW } else { Size::W }
-}
-
-/// The register that gets the old number.
-fn fetch_of(op: AtomicOp, src: Reg) -> Option<Reg>
-    ensures { result ≡ fetch_register op src }
-{
-    match op {
-        AtomicOp::Modify { by: _, fetch } => if fetch { Some(src) } else { None },
-        AtomicOp::Xchg => Some(src),
-        AtomicOp::CmpXchg => Some(Reg::R0),
-    }
-}
-
 /// Whether the old number would get into r10.
 fn fetches_to_frame_pointer(op: AtomicOp, src: Reg) -> bool
     ensures { result ≡ option_map_or is_frame_pointer (fetch_register op src) false }
 {
-    match fetch_of(op, src) {
-        Some(r) => r == Reg::R10,
+    match op.fetch_register(src) {
+        Some(r) => r.is_frame_pointer(),
         None => false,
     }
 }
@@ -95,7 +77,7 @@ impl<'a, C: Code> Machine<'a, C> {
         else {
             return Step::Fault(Reason::OperandKind);
         };
-        let size = size_of(wide);
+        let size = Size::of_word(wide);
         match self.place(size, off, Value::Pointer(region, at)) {
             Some(Place::Frame(depth, first)) => {
                 match self.number_at(size, Place::Frame(depth, first)) {
@@ -103,7 +85,7 @@ impl<'a, C: Code> Machine<'a, C> {
                         let new = result_of(op, wide, old, x, r0);
                         self.advance();
                         self.store_number(size, depth, first, new);
-                        if let Some(r) = fetch_of(op, src) {
+                        if let Some(r) = op.fetch_register(src) {
                             self.set_register(r, Value::Number(old));
                         }
                         Step::Moved

@@ -13,8 +13,7 @@ ghost use Rattle.bpf_machine.specs.Stored.{may_be_stored};
 
 use crate::machine::{Machine, Place, sum_of};
 use crate::outcome::Step;
-use crate::step::alu::extend;
-use bpf_insn::{Code, Insn, Reg, Size};
+use bpf_insn::{Code, Insn, Reg, Size, extended};
 use bpf_semantics::{Reason, Value};
 
 /// A number of some bytes as two's complement, extended to 64 bits.
@@ -58,7 +57,7 @@ impl<'a, C: Code> Machine<'a, C> {
         requires { self.old.state.top.slot < 65536 }
         ensures { Does self.old (Insn.LoadImm64 dst value) result self.new }
     {
-        if dst == Reg::R10 {
+        if dst.is_frame_pointer() {
             return Step::Fault(Reason::FramePointerWrite);
         }
         self.set_register(dst, Value::Number(value));
@@ -71,7 +70,7 @@ impl<'a, C: Code> Machine<'a, C> {
         requires { self.old.state.top.slot < 65536 }
         ensures { Does self.old (Insn.Load size dst src off) result self.new }
     {
-        if dst == Reg::R10 {
+        if dst.is_frame_pointer() {
             return Step::Fault(Reason::FramePointerWrite);
         }
         let base = match self.register(src) {
@@ -112,7 +111,7 @@ impl<'a, C: Code> Machine<'a, C> {
         requires { self.old.state.top.slot < 65536 }
         ensures { Does self.old (Insn.LoadSx size dst src off) result self.new }
     {
-        if dst == Reg::R10 {
+        if dst.is_frame_pointer() {
             return Step::Fault(Reason::FramePointerWrite);
         }
         let base = match self.register(src) {
@@ -147,7 +146,7 @@ impl<'a, C: Code> Machine<'a, C> {
         match self.place(size, off, base) {
             Some(Place::Frame(depth, at)) => {
                 self.advance();
-                self.store_number(size, depth, at, extend(imm));
+                self.store_number(size, depth, at, extended(imm));
                 Step::Moved
             }
             Some(Place::Context(_at)) => Step::Fault(Reason::ContextWrite),

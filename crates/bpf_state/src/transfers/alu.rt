@@ -1,7 +1,6 @@
 //! Arithmetic, moves and byte swaps.
 
 ghost use Rattle.std.specs.Prelude.{◌≡◌, ℕ, ◌^◌, pos, neg_ℤ, ◌+ℤ◌, ◌-ℤ◌, ◌≤ℤ◌, None, IfSome, option_map};
-ghost use Rattle.bpf_insn.specs.Effects.{is_frame_pointer};
 ghost use Rattle.bpf_insn.specs.declared.order.Order.{Order};
 ghost use Rattle.bpf_insn.specs.declared.instruction.Width.{Width};
 ghost use Rattle.bpf_insn.specs.declared.instruction.Width.TheVariants.{W64};
@@ -356,12 +355,6 @@ fn alu_tag(state: &State, width: Width, op: AluOp, dst: Reg, src: Operand) -> Op
 
 // ---- instructions
 
-fn is_frame_pointer(r: Reg) -> bool
-    ensures { result ≡ is_frame_pointer r }
-{
-    r as u8 == 10
-}
-
 /// Puts what is known of a result into a register, and its counter. C7 at r10.
 pub(crate) fn put_known(
     dst: Reg,
@@ -373,7 +366,7 @@ pub(crate) fn put_known(
     ensures outcome { outcome_told result state.new ≡ written dst known tag state.old }
     ensures kept { KeepsUnlessDone result state.old state.new }
 {
-    if is_frame_pointer(dst) {
+    if dst.is_frame_pointer() {
         return Err(StateFault::Protected);
     }
     match known {

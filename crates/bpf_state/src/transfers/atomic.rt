@@ -17,24 +17,6 @@ use crate::fault::StateFault;
 use crate::slots::maybe_write;
 use bpf_insn::{AtomicOp, Reg, Size};
 
-/// The size of the number that is changed.
-fn size_of(wide: bool) -> Size
-    ensures { result ≡ word_size wide }
-{
-    if wide { Size::DW } else { Size::W }
-}
-
-/// The register that gets the old number.
-fn fetch_of(op: AtomicOp, src: Reg) -> Option<Reg>
-    ensures { result ≡ fetch_register op src }
-{
-    match op {
-        AtomicOp::Modify { by: _, fetch } => if fetch { Some(src) } else { None },
-        AtomicOp::Xchg => Some(src),
-        AtomicOp::CmpXchg => Some(Reg::R0),
-    }
-}
-
 /// Why the registers that an atomic operation reads are not what it takes.
 fn operand_fault(op: AtomicOp, dst: Reg, src: Reg, state: &State) -> Option<StateFault>
     ensures { option_map fault_number result ≡ atomic_operands op dst src state.now }
@@ -115,8 +97,8 @@ pub(crate) fn atomic(
     if let Some(fault) = operand_fault(op, dst, src, state) {
         return Err(fault);
     }
-    let size = size_of(wide);
-    let fetch = fetch_of(op, src);
+    let size = Size::of_word(wide);
+    let fetch = op.fetch_register(src);
     atomic_at(
         fetch,
         size,

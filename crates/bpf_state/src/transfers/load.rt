@@ -24,7 +24,7 @@ pub(crate) fn load_imm64(dst: Reg, value: u64, state: &mut State) -> Result<bool
         ≡ transfer order (LoadImm64 dst value) least state.old }
     ensures kept { KeepsUnlessDone result state.old state.new }
 {
-    if dst == Reg::R10 {
+    if dst.is_frame_pointer() {
         return Err(StateFault::Protected);
     }
     state.put_register(dst, RegState::Num(Num::constant(value)), None);
@@ -126,7 +126,7 @@ fn load_at(
     if let Some(fault) = read_fault(state, reach, reach.is_slot(), least) {
         return Err(fault);
     }
-    if dst == Reg::R10 {
+    if dst.is_frame_pointer() {
         return Err(StateFault::Protected);
     }
     let Some(value) = loaded(state, reach, size) else {
@@ -179,7 +179,7 @@ fn load_sx_at(
     if let Some(fault) = read_fault(state, reach, false, least) {
         return Err(fault);
     }
-    if dst == Reg::R10 {
+    if dst.is_frame_pointer() {
         return Err(StateFault::Protected);
     }
     let Some(number) = any_signed(size) else {

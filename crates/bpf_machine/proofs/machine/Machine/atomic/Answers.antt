@@ -19,8 +19,8 @@ use Rattle.bpf_machine.proofs.StepLemmas.{atomic_done, changed_at, fetched_none,
 use Rattle.bpf_machine.proofs.machine.Machine.atomic.Goals as goal
 use Rattle.bpf_machine.proofs.machine.Machine.atomic.Goals.{in-CmpXchg+in-Some-register-2, in-Modify, in-Xchg}
 
-pub returns-in-Some-fetch_of : goal.returns-in-Some-fetch_of
-returns-in-Some-fetch_of g c =
+pub returns-in-Some-fetch_register : goal.returns-in-Some-fetch_register
+returns-in-Some-fetch_register g c =
     let s : State = c.args.self.now.state in
     let order : Order = c.args.self.now.program.order in
     let size : Size = word_size c.args.wide in
@@ -41,20 +41,20 @@ returns-in-Some-fetch_of g c =
     ] in
     let stored : c.store_number.new.self.state ≡ changed_at order i size n at new s =
     ap (λ m. m.state) c.store_number.ensures
-    ∙ ap (λ m. with_stack m.state n (with_bytes (bytes_of m.program.order (byte_count c.size_of-size.result) new) at (stack_of m.state n))) c.advance.ensures
-    ∙ ap (λ size. changed_at order i size n at new s) c.size_of-size.ensures in
+    ∙ ap (λ m. with_stack m.state n (with_bytes (bytes_of m.program.order (byte_count c.of_word-size.result) new) at (stack_of m.state n))) c.advance.ensures
+    ∙ ap (λ size. changed_at order i size n at new s) c.of_word-size.ensures in
     let done = atomic_done order s c.args.wide c.args.op c.args.dst c.args.off c.args.src c.in-Some.base x c.in-Ok.old new r0 n at base_is x_is place_is old_is same c.result_of-new.ensures in
     let program = ap (λ m. m.program) c.store_number.ensures ∙ ap (λ m. m.program) c.advance.ensures in
-    let fetches : fetch_register c.args.op c.args.src ≡ Some c.in-Some-fetch_of.r = search rules in
+    let fetches : fetch_register c.args.op c.args.src ≡ Some c.in-Some-fetch_register.r = search rules in
     let kept : option_map_or is_frame_pointer (fetch_register c.args.op c.args.src) false ≡ false = search rules in (
       ap (λ m. m.program) c.set_register.ensures ∙ program,
-      done ∙ fetched_some _ c.in-Some-fetch_of.r c.in-Ok.old _ fetches kept
-          ∙ ap (λ t. Some (with_register t (register_number c.in-Some-fetch_of.r) (Some (Number c.in-Ok.old)))) (sym stored)
+      done ∙ fetched_some _ c.in-Some-fetch_register.r c.in-Ok.old _ fetches kept
+          ∙ ap (λ t. Some (with_register t (register_number c.in-Some-fetch_register.r) (Some (Number c.in-Ok.old)))) (sym stored)
           ∙ ap (λ m. Some m.state) (sym c.set_register.ensures),
     )
 
-pub returns-in_default-fetch_of : goal.returns-in_default-fetch_of
-returns-in_default-fetch_of g c =
+pub returns-in_default-fetch_register : goal.returns-in_default-fetch_register
+returns-in_default-fetch_register g c =
     let s : State = c.args.self.now.state in
     let order : Order = c.args.self.now.program.order in
     let size : Size = word_size c.args.wide in
@@ -75,8 +75,8 @@ returns-in_default-fetch_of g c =
     ] in
     let stored : c.store_number.new.self.state ≡ changed_at order i size n at new s =
     ap (λ m. m.state) c.store_number.ensures
-    ∙ ap (λ m. with_stack m.state n (with_bytes (bytes_of m.program.order (byte_count c.size_of-size.result) new) at (stack_of m.state n))) c.advance.ensures
-    ∙ ap (λ size. changed_at order i size n at new s) c.size_of-size.ensures in
+    ∙ ap (λ m. with_stack m.state n (with_bytes (bytes_of m.program.order (byte_count c.of_word-size.result) new) at (stack_of m.state n))) c.advance.ensures
+    ∙ ap (λ size. changed_at order i size n at new s) c.of_word-size.ensures in
     let done = atomic_done order s c.args.wide c.args.op c.args.dst c.args.off c.args.src c.in-Some.base x c.in-Ok.old new r0 n at base_is x_is place_is old_is same c.result_of-new.ensures in
     let program = ap (λ m. m.program) c.store_number.ensures ∙ ap (λ m. m.program) c.advance.ensures in
     let none : fetch_register c.args.op c.args.src ≡ None = search rules in

@@ -5,5 +5,5 @@ use Rattle.bpf_num.proofs.known_bits.KnownBitsWordDomain.swap.Goals as goal
 
 pub invariant_of-result : goal.invariant_of-result
 invariant_of-result c =
-    rw (c.reversed.ensures, c.reversed-2.ensures)
+    rw (c.swap.ensures, c.swap-2.ensures)
     (moved_is_tristate (reversed c.args.size) (tristate c.self.inside.value c.self.inside.mask) (reversed_moves c.args.size) c.self.invariant)
