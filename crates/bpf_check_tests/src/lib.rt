@@ -1,10 +1,15 @@
-//! Tests of the checker over the crates that it joins: texts and certificates with their verdicts and runs.
+//! Tests of certificates, of the inferrer, and of the checker over the crates that it joins: texts and certificates with
+//! their verdicts and runs.
 #![tactic(auto)]
 
+#[cfg(test)]
+mod cert;
 #[cfg(test)]
 mod examples;
 #[cfg(test)]
 mod flat;
+#[cfg(test)]
+mod infer;
 #[cfg(test)]
 mod orders;
 #[cfg(test)]

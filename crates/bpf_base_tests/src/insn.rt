@@ -1,0 +1,5 @@
+//! Images, programs, and streams of images.
+
+mod images;
+mod instructions;
+mod streams;

@@ -1,0 +1,7 @@
+//! Runs of the machine.
+
+mod arithmetic;
+mod memory;
+mod programs;
+mod reasons;
+mod runs;

@@ -1,0 +1,3 @@
+//! Abstract numbers.
+
+mod examples;

@@ -1,0 +1,5 @@
+//! Abstract states.
+
+mod changes;
+mod comparisons;
+mod swaps;

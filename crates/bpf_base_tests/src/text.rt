@@ -1,0 +1,3 @@
+//! Texts and listings.
+
+mod texts;

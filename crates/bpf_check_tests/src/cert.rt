@@ -1,0 +1,4 @@
+//! Certificates, read and written.
+
+mod reading;
+mod writing;

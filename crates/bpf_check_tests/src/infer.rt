@@ -1,0 +1,3 @@
+//! The inferrer's proposals.
+
+mod proposals;

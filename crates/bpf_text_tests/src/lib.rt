@@ -1,5 +1,0 @@
-//! Tests of `bpf_text`, apart from it, so that they don't have it proved twice.
-#![tactic(auto)]
-
-#[cfg(test)]
-mod texts;
