@@ -11,3 +11,4 @@ pub mod Written
 pub mod Reading
 pub mod Laws
 pub mod Effects
+pub mod Op
