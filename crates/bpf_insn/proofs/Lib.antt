@@ -12,3 +12,4 @@ pub mod OrderLaw
 pub mod ReadLemmas
 pub mod WriteLemmas
 pub mod LayoutLemmas
+pub mod LimitLemmas

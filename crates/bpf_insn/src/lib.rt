@@ -13,6 +13,7 @@ mod image;
 pub mod instruction;
 mod laws;
 mod layout;
+mod limits;
 pub mod order;
 mod program;
 pub mod refusal;
