@@ -10,7 +10,7 @@ use crate::order::Order;
 use byteorder::{BigEndian, ByteOrder, LittleEndian};
 
 /// The number in the first two bytes.
-fn u16_in(order: Order, bytes: &[u8]) -> u16
+pub fn u16_in(order: Order, bytes: &[u8]) -> u16
     requires { 2 ≤ length bytes.now }
     ensures { result ≡ number_of order 2 bytes.now }
 {
@@ -66,7 +66,7 @@ fn register_byte_of(order: Order, dst: u8, src: u8) -> u8
 }
 
 /// The destination and the source in the byte of both.
-fn registers_in(order: Order, byte: u8) -> (u8, u8)
+pub fn registers_in(order: Order, byte: u8) -> (u8, u8)
     ensures dst { result.0 ≡ dst_in order byte }
     ensures src { result.1 ≡ src_in order byte }
 {

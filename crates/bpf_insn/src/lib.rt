@@ -14,6 +14,7 @@ mod image;
 pub mod instruction;
 mod laws;
 mod layout;
+mod limits;
 mod op;
 pub mod order;
 mod program;

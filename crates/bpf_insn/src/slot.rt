@@ -1,13 +1,14 @@
 //! Why no instruction begins at a slot of an image.
 
-ghost use Rattle.std.specs.Prelude.{◌≡◌, ◌≤◌, length, option_map};
+ghost use Rattle.std.specs.Prelude.{◌≡◌, ◌≤◌, length, option_map, None, true};
 ghost use Rattle.bpf_insn.specs.Form.{uses_of, is_other_zero};
 ghost use Rattle.bpf_insn.specs.Refusal.{is_left_out, each_field, is_selected, is_zero_if_unused, reserved_is_zero, refusal_by_uses, refusal_here};
 
-use crate::bytes::fields_from;
+use crate::bytes::{fields_from, registers_in, u16_in, u32_in};
 use crate::fields::Fields;
 use crate::form::{Form, Source, form_of};
 use crate::instruction::Width;
+use crate::limits::limits_of;
 use crate::order::Order;
 use crate::refusal::SlotFault;
 
@@ -102,8 +103,25 @@ fn fault_of(form: Option<Form>, f: &Fields, bytes: &[u8]) -> Option<SlotFault>
     }
 }
 
-/// Why no instruction begins in these bytes; None if one does. The faults come in the order E7, E2, E3, E5, E4, E6.
-pub fn fault_in(order: Order, bytes: &[u8]) -> Option<SlotFault>
+/// Whether the opcode has limits, and the fields in these bytes are within them: then an instruction begins here.
+fn is_within_limits(order: Order, bytes: &[u8]) -> bool
+    requires { 8 ≤ length bytes.now }
+    ensures { result ≡ true → refusal_here order bytes.now ≡ None }
+{
+    let Some(limits) = limits_of(bytes[0]) else {
+        return false;
+    };
+    let (dst, src) = registers_in(order, bytes[1]);
+    limits.allow(
+        dst,
+        src,
+        u16_in(order, &bytes[2..]),
+        u32_in(order, &bytes[4..]),
+    )
+}
+
+/// Why no instruction begins in these bytes, found field by field.
+fn named_fault(order: Order, bytes: &[u8]) -> Option<SlotFault>
     requires { 8 ≤ length bytes.now }
     ensures { result ≡ refusal_here order bytes.now }
 {
@@ -112,5 +130,17 @@ pub fn fault_in(order: Order, bytes: &[u8]) -> Option<SlotFault>
         Some(SlotFault::LeftOut)
     } else {
         fault_of(form_of(f.opcode), &f, bytes)
+    }
+}
+
+/// Why no instruction begins in these bytes; None if one does. The faults come in the order E7, E2, E3, E5, E4, E6.
+pub fn fault_in(order: Order, bytes: &[u8]) -> Option<SlotFault>
+    requires { 8 ≤ length bytes.now }
+    ensures { result ≡ refusal_here order bytes.now }
+{
+    if is_within_limits(order, bytes) {
+        None
+    } else {
+        named_fault(order, bytes)
     }
 }

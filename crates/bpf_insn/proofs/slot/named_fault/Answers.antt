@@ -4,7 +4,7 @@ use Rattle.bpf_insn.specs.Form.{form_in, uses_of}
 use Rattle.bpf_insn.specs.Refusal.{fields_in, is_left_out, refusal_by_uses}
 use Rattle.bpf_insn.specs.declared.fields.Fields.{Fields}
 use Rattle.bpf_insn.proofs.TableLemmas.{refusal-left_out, refusal-by_form}
-use Rattle.bpf_insn.proofs.slot.fault_in.Goals as goal
+use Rattle.bpf_insn.proofs.slot.named_fault.Goals as goal
 
 pub returns-then-is_left_out_here : goal.returns-then-is_left_out_here
 returns-then-is_left_out_here c =
