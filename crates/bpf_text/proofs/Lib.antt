@@ -7,6 +7,7 @@ pub mod SourceLemmas
 pub mod AssemblerLemmas
 pub mod LawLemmas
 pub mod WordLemmas
+pub mod LookupLemmas
 pub mod PartLemmas
 pub mod StatementLemmas
 pub mod AccessLemmas

@@ -7,6 +7,7 @@ mod error;
 mod laws;
 mod line;
 mod lister;
+mod lookup;
 mod source;
 mod spelling;
 mod statement;
