@@ -18,5 +18,6 @@ pub mod TokenReading
 pub mod FormsRead
 pub mod FormsAreRead
 pub mod LinesRead
+pub mod LengthLemmas
 pub mod TextsRead
 pub mod JudgedLemmas

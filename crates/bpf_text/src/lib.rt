@@ -13,7 +13,7 @@ mod spelling;
 mod statement;
 mod token;
 
-pub use assembler::assemble;
+pub use assembler::{MAX_TEXT, assemble};
 pub use error::TextError;
 pub use laws::{
     assembles_or_is_refused, assembles_to_one, listing_assembles, never_both, reads_forms,
