@@ -2,7 +2,7 @@
 
 ghost use Rattle.std.specs.Prelude.{◌≡◌, ℕ, OnOk, OnErr, length, ◌∷◌, [], ◌++◌, ◌/◌, ◌^◌};
 ghost use Rattle.std.specs.Io.KnownBytes.{Appends};
-ghost use Rattle.bpf_insn.specs.Written.{AppendsBeginning};
+ghost use Rattle.bpf_insn.specs.Written.{AppendsBeginning, Gathers};
 ghost use Rattle.bpf_insn.specs.Image.{image, instruction_bytes, second_slot, fields};
 ghost use Rattle.bpf_insn.specs.Order.{bytes_of};
 
@@ -11,7 +11,7 @@ use crate::code::Code;
 use crate::fields::fields_of;
 use crate::instruction::Insn;
 use crate::order::Order;
-use crate::written::write_bytes;
+use crate::written::Pending;
 use std::io::{self, Write};
 
 /// The second slot of a 64-bit constant.
@@ -23,10 +23,15 @@ fn second_slot_of(order: Order, value: u64) -> [u8; 8]
     bytes
 }
 
-/// Writes the bytes of an instruction.
-fn write_insn<W: Write>(out: &mut W, order: Order, insn: &Insn) -> io::Result<()>
-    ensures ok { OnOk result (Appends (W.contents out.old) (W.contents out.new) (instruction_bytes order insn.now)) }
-    ensures err { OnErr result (AppendsBeginning (W.contents out.old) (W.contents out.new) (instruction_bytes order insn.now)) }
+/// Puts the bytes of an instruction behind those that wait.
+fn put_insn<W: Write>(
+    pending: &mut Pending,
+    out: &mut W,
+    order: Order,
+    insn: &Insn,
+) -> io::Result<()>
+    ensures ok { OnOk result (Gathers (W.contents out.old) (W.contents out.new) pending.old pending.new (instruction_bytes order insn.now)) }
+    ensures err { OnErr result (AppendsBeginning (W.contents out.old) (W.contents out.new) (pending.old ++ instruction_bytes order insn.now)) }
 {
     let first = slot_bytes_of(order, &fields_of(insn));
     match *insn {
@@ -34,26 +39,27 @@ fn write_insn<W: Write>(out: &mut W, order: Order, insn: &Insn) -> io::Result<()
             let mut bytes = [0; 16];
             bytes[..8].copy_from_slice(&first);
             bytes[8..].copy_from_slice(&second_slot_of(order, value));
-            write_bytes(out, &bytes)
+            pending.put(out, &bytes)
         }
-        _ => write_bytes(out, &first),
+        _ => pending.put(out, &first),
     }
 }
 
-/// Writes the image of a program, slot by slot. A fault of the writer, or a write of no bytes, ends it; what went out by
-/// then is a beginning of the image.
+/// Writes the image of a program, in pieces of 4,096 bytes. A fault of the writer, or a write of no bytes, ends it; what
+/// went out by then is a beginning of the image.
 pub fn encode<C: Code, W: Write>(code: &C, out: &mut W) -> io::Result<()>
     ensures ok { OnOk result (Appends (W.contents out.old) (W.contents out.new) (image (C.program code.now).order (C.program code.now).list)) }
     ensures err { OnErr result (AppendsBeginning (W.contents out.old) (W.contents out.new) (image (C.program code.now).order (C.program code.now).list)) }
 {
     let order = code.order();
+    let mut pending = Pending::new();
     for slot in 0..code.slots() {
         if let Some(insn) = code.insn(slot) {
-            match write_insn(out, order, &insn) {
+            match put_insn(&mut pending, out, order, &insn) {
                 Ok(()) => {}
                 Err(error) => return Err(error),
             }
         }
     }
-    Ok(())
+    pending.flush(out)
 }

@@ -1,5 +1,5 @@
 -- A list of instructions is a program, or there is a first cause why it is none.
-use Rattle.std.proofs.Common.{◌≡◌, ℕ, zero, suc, ◌<◌, ◌≤◌, List, [], ◌∷◌, Option, Some, None, Result, Ok, Err, inl, inr, ⊎_elim, refl, subst, arith}
+use Rattle.std.proofs.Common.{◌≡◌, ℕ, zero, suc, ◌<◌, ◌≤◌, List, [], ◌∷◌, Option, Some, None, Result, Ok, Err, length, inl, inr, ⊎_elim, refl, subst, arith}
 use Rattle.std.specs.Prelude.{◌⊎◌, ℤ, pos, negsuc, FitsSigned, IfSome, IsSome, option_and_then, ◌^◌}
 use Rattle.std.specs.Int.{w16, w32}
 use Rattle.std.proofs.lemmas.Int.{ints}
@@ -19,8 +19,9 @@ use Rattle.bpf_insn.specs.declared.refusal.BuildError.{BuildError}
 use Rattle.bpf_insn.specs.declared.refusal.BuildError.TheVariants.{Length, NoEncoding, Target}
 use Rattle.bpf_insn.proofs.ProgramLemmas.{all_have_encoding}
 use Rattle.bpf_text.specs.declared.error.TextError.{TextError}
-use Rattle.bpf_text.specs.Assembly.{instructions_of, program_error, Assembles, IsRefused}
-use Rattle.bpf_text.specs.Assembly.IsRefused.{no_instructions, no_program}
+use Rattle.bpf_text.specs.declared.error.TextError.TheVariants.{TooLong}
+use Rattle.bpf_text.specs.Assembly.{instructions_of, program_error, max_text, Assembles, IsRefused}
+use Rattle.bpf_text.specs.Assembly.IsRefused.{too_long, no_instructions, no_program}
 use Rattle.bpf_text.specs.LineReading.{source_of}
 use Rattle.bpf_text.specs.Laws.{AssemblesOrIsRefused}
 use Rattle.bpf_text.proofs.TextsRead.{text_says}
@@ -134,9 +135,9 @@ program_or_not is = counted (count_or_not is)
     counted (inr count) = encoded count (find (λ s i. HasEncoding i) (λ s i. encoding_or_not i) (layout is))
 
 pub judged : AssemblesOrIsRefused
-judged text = go (instructions_of (source_of text)) refl
+judged text = ⊎_elim (λ long. inr (TooLong, too_long long)) (λ short. go (omega (arith, short)) (instructions_of (source_of text)) refl) (less_or_not max_text (length text))
   where
-    go : (r : Result (List Insn) TextError) → instructions_of (source_of text) ≡ r → ((is : List Insn) × Assembles text is) ⊎ ((e : TextError) × IsRefused text e)
-    go (Err e) h = inr (e, no_instructions (text_says text) h)
-    go (Ok is) h = ⊎_elim (λ p. inl (is, record { source = source_of text; says = text_says text; instructions = h; program = p }))
-        (λ found. inr (program_error (source_of text).said found.0, no_program (text_says text) h found.1)) (program_or_not is)
+    go : length text ≤ max_text → (r : Result (List Insn) TextError) → instructions_of (source_of text) ≡ r → ((is : List Insn) × Assembles text is) ⊎ ((e : TextError) × IsRefused text e)
+    go short (Err e) h = inr (e, no_instructions short (text_says text) h)
+    go short (Ok is) h = ⊎_elim (λ p. inl (is, record { short = short; source = source_of text; says = text_says text; instructions = h; program = p }))
+        (λ found. inr (program_error (source_of text).said found.0, no_program short (text_says text) h found.1)) (program_or_not is)

@@ -7,6 +7,7 @@ pub mod SourceLemmas
 pub mod AssemblerLemmas
 pub mod LawLemmas
 pub mod WordLemmas
+pub mod LookupLemmas
 pub mod PartLemmas
 pub mod StatementLemmas
 pub mod AccessLemmas
@@ -17,5 +18,6 @@ pub mod TokenReading
 pub mod FormsRead
 pub mod FormsAreRead
 pub mod LinesRead
+pub mod LengthLemmas
 pub mod TextsRead
 pub mod JudgedLemmas

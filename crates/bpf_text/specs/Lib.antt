@@ -10,6 +10,7 @@ pub mod Grammar
 pub mod Sources
 pub mod Assembly
 pub mod WordReading
+pub mod Lookup
 pub mod StatementReading
 pub mod LineReading
 pub mod Seen

@@ -154,14 +154,20 @@ fn instructions_of(alloc: Global, source: &Source) -> Result<Vec<Insn>, TextErro
     }
 }
 
-/// Assembles a text to a program of a byte order. The refusals come in this order: the lowest line with A1, A2 or A3 (in
-/// this order in one line), the lowest line with A4 or A5, A6; A7 where memory ran out. The time is linear in the text,
-/// but for the search of labels.
+/// The greatest length of a text, in bytes.
+pub const MAX_TEXT: usize = 16_777_216;
+
+/// Assembles a text to a program of a byte order. The refusals come in this order: A8, the lowest line with A1, A2 or A3
+/// (in this order in one line), the lowest line with A4 or A5, A6; A7 where memory ran out. The time is linear in the
+/// text, but for the search of labels.
 pub fn assemble(alloc: Global, text: &str, order: Order) -> Result<Program, TextError>
     ensures ok { IfOk result (λ p. Assembles text.now p.list × (p.order ≡ order)) }
     ensures err { IfErr result (λ e. (e ≡ Memory) ⊎ IsRefused text.now e) }
     ensures accepts { (is : List Insn) → Assembles text.now is → MatchResult result (λ p. p.list ≡ is) (λ e. e ≡ Memory) }
 {
+    if text.len() > MAX_TEXT {
+        return Err(TextError::TooLong);
+    }
     let Ok(source) = source_of(alloc, text.as_bytes()) else {
         return Err(TextError::Memory);
     };

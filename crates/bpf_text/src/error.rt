@@ -30,10 +30,13 @@ pub enum TextError {
     /// A7: memory ran out.
     #[error("out of memory")]
     Memory,
+    /// A8: the text has more than 16,777,216 bytes.
+    #[error("the text is too long")]
+    TooLong,
 }
 
 impl TextError {
-    /// The number of the refusal, from 1 to 7.
+    /// The number of the refusal, from 1 to 8.
     pub fn number(&self) -> u8
         ensures { result ≡ text_number self.now }
     {
@@ -45,10 +48,11 @@ impl TextError {
             TextError::TooFar { .. } => 5,
             TextError::Program { .. } => 6,
             TextError::Memory => 7,
+            TextError::TooLong => 8,
         }
     }
 
-    /// The line that is refused, counted from 1; 0 where memory ran out.
+    /// The line that is refused, counted from 1; 0 where memory ran out or the text is too long.
     pub fn line(&self) -> usize
         ensures { result ≡ text_line self.now }
     {
@@ -59,7 +63,7 @@ impl TextError {
             | TextError::Undefined { line }
             | TextError::TooFar { line }
             | TextError::Program { line, .. } => line,
-            TextError::Memory => 0,
+            TextError::Memory | TextError::TooLong => 0,
         }
     }
 }

@@ -7,12 +7,13 @@ mod error;
 mod laws;
 mod line;
 mod lister;
+mod lookup;
 mod source;
 mod spelling;
 mod statement;
 mod token;
 
-pub use assembler::assemble;
+pub use assembler::{MAX_TEXT, assemble};
 pub use error::TextError;
 pub use laws::{
     assembles_or_is_refused, assembles_to_one, listing_assembles, never_both, reads_forms,

@@ -3,13 +3,13 @@
 ghost use Rattle.std.specs.Prelude.{◌≡◌, ◌⊎◌, ◌++◌, OnOk, OnErr, flat_map, false};
 ghost use Rattle.std.specs.Io.KnownBytes.{Appends};
 ghost use Rattle.std.specs.Fmt.{digits};
-ghost use Rattle.bpf_insn.specs.Written.{AppendsBeginning};
+ghost use Rattle.bpf_insn.specs.Written.{AppendsBeginning, Gathers};
 ghost use Rattle.bpf_text.specs.Listing.{with_sign, line_text, listing, atomic_word, atomic_sign};
 ghost use Rattle.bpf_text.specs.Pieces.{piece_text};
 
 use crate::digits::digits_of;
 use crate::spelling::{Memory, Register, Spelled, Swap};
-use bpf_insn::written::write_bytes;
+use bpf_insn::written::Pending;
 use bpf_insn::{
     AluOp, AtomicOp, Cond, EndBits, EndKind, Insn, Modify, Operand, Program, Reg, SignBits, Size,
     Width,
@@ -78,70 +78,87 @@ fn atomic_sign(op: AtomicOp) -> &'static str
     }
 }
 
-/// Writes a text and the digits of a number.
-#[tactic(auto, using(crate::proofs::WriteLemmas::writes))]
-fn write_number<W: Write>(out: &mut W, front: &str, value: u64, base: u64) -> io::Result<()>
+/// Puts a text and the digits of a number.
+#[tactic(auto, using(crate::proofs::WriteLemmas::gathers))]
+fn put_number<W: Write>(
+    pending: &mut Pending,
+    out: &mut W,
+    front: &str,
+    value: u64,
+    base: u64,
+) -> io::Result<()>
     requires { (base ≡ 10) ⊎ (base ≡ 16) }
-    ensures ok { OnOk result (Appends (W.contents out.old) (W.contents out.new) (front.now ++ digits base false value)) }
-    ensures err { OnErr result (AppendsBeginning (W.contents out.old) (W.contents out.new) (front.now ++ digits base false value)) }
+    ensures ok { OnOk result (Gathers (W.contents out.old) (W.contents out.new) pending.old pending.new (front.now ++ digits base false value)) }
+    ensures err { OnErr result (AppendsBeginning (W.contents out.old) (W.contents out.new) (pending.old ++ (front.now ++ digits base false value))) }
 {
-    write_bytes(out, front.as_bytes())?;
-    write_bytes(out, digits_of(value, base).as_bytes())
+    pending.put(out, front.as_bytes())?;
+    pending.put(out, digits_of(value, base).as_bytes())
 }
 
-/// Writes a number in decimal, with one text in front from 0 on and another below.
-fn write_signed<W: Write>(out: &mut W, plus: &str, minus: &str, value: i32) -> io::Result<()>
-    ensures ok { OnOk result (Appends (W.contents out.old) (W.contents out.new) (with_sign plus.now minus.now value)) }
-    ensures err { OnErr result (AppendsBeginning (W.contents out.old) (W.contents out.new) (with_sign plus.now minus.now value)) }
+/// Puts a number in decimal, with one text in front from 0 on and another below.
+fn put_signed<W: Write>(
+    pending: &mut Pending,
+    out: &mut W,
+    plus: &str,
+    minus: &str,
+    value: i32,
+) -> io::Result<()>
+    ensures ok { OnOk result (Gathers (W.contents out.old) (W.contents out.new) pending.old pending.new (with_sign plus.now minus.now value)) }
+    ensures err { OnErr result (AppendsBeginning (W.contents out.old) (W.contents out.new) (pending.old ++ (with_sign plus.now minus.now value))) }
 {
     let front = if value < 0 { minus } else { plus };
-    write_number(out, front, u64::from(value.unsigned_abs()), 10)
+    put_number(pending, out, front, u64::from(value.unsigned_abs()), 10)
 }
 
-fn write_text<W: Write>(out: &mut W, text: &str) -> io::Result<()>
-    ensures ok { OnOk result (Appends (W.contents out.old) (W.contents out.new) text.now) }
-    ensures err { OnErr result (AppendsBeginning (W.contents out.old) (W.contents out.new) text.now) }
+fn put_text<W: Write>(pending: &mut Pending, out: &mut W, text: &str) -> io::Result<()>
+    ensures ok { OnOk result (Gathers (W.contents out.old) (W.contents out.new) pending.old pending.new text.now) }
+    ensures err { OnErr result (AppendsBeginning (W.contents out.old) (W.contents out.new) (pending.old ++ text.now)) }
 {
-    write_bytes(out, text.as_bytes())
+    pending.put(out, text.as_bytes())
 }
 
-fn write_piece<W: Write>(out: &mut W, piece: &Piece) -> io::Result<()>
-    ensures ok { OnOk result (Appends (W.contents out.old) (W.contents out.new) (piece_text piece.now)) }
-    ensures err { OnErr result (AppendsBeginning (W.contents out.old) (W.contents out.new) (piece_text piece.now)) }
+fn put_piece<W: Write>(pending: &mut Pending, out: &mut W, piece: &Piece) -> io::Result<()>
+    ensures ok { OnOk result (Gathers (W.contents out.old) (W.contents out.new) pending.old pending.new (piece_text piece.now)) }
+    ensures err { OnErr result (AppendsBeginning (W.contents out.old) (W.contents out.new) (pending.old ++ (piece_text piece.now))) }
 {
     match *piece {
-        Piece::Text(text) => write_text(out, text),
-        Piece::Register(width, reg) => write_text(out, Register(width, reg).text()),
-        Piece::Operand(width, Operand::Reg(reg)) => write_text(out, Register(width, reg).text()),
-        Piece::Operand(_, Operand::Imm(imm)) => write_signed(out, "", "-", imm),
-        Piece::Operation(op) => write_text(out, op.text()),
-        Piece::Condition(cond) => write_text(out, cond.text()),
-        Piece::SignBits(bits) => write_text(out, bits.text()),
-        Piece::Swap(kind, bits) => write_text(out, Swap(kind, bits).text()),
-        Piece::Unsigned(size) => write_text(out, Memory::Unsigned(size).text()),
-        Piece::Signed(size) => write_text(out, Memory::Signed(size).text()),
-        Piece::AtomicWord(op) => write_text(out, atomic_word(op)),
-        Piece::AtomicSign(op) => write_text(out, atomic_sign(op)),
-        Piece::Number(number) => write_signed(out, "", "-", number),
-        Piece::Offset(off) => write_signed(out, "+ ", "- ", i32::from(off)),
-        Piece::Distance(off) => write_signed(out, "+", "-", i32::from(off)),
-        Piece::LongDistance(off) => write_signed(out, "+", "-", off),
-        Piece::Hex(value) => write_number(out, "0x", value, 16),
+        Piece::Text(text) => put_text(pending, out, text),
+        Piece::Register(width, reg) => put_text(pending, out, Register(width, reg).text()),
+        Piece::Operand(width, Operand::Reg(reg)) => put_text(
+            pending,
+            out,
+            Register(width, reg).text(),
+        ),
+        Piece::Operand(_, Operand::Imm(imm)) => put_signed(pending, out, "", "-", imm),
+        Piece::Operation(op) => put_text(pending, out, op.text()),
+        Piece::Condition(cond) => put_text(pending, out, cond.text()),
+        Piece::SignBits(bits) => put_text(pending, out, bits.text()),
+        Piece::Swap(kind, bits) => put_text(pending, out, Swap(kind, bits).text()),
+        Piece::Unsigned(size) => put_text(pending, out, Memory::Unsigned(size).text()),
+        Piece::Signed(size) => put_text(pending, out, Memory::Signed(size).text()),
+        Piece::AtomicWord(op) => put_text(pending, out, atomic_word(op)),
+        Piece::AtomicSign(op) => put_text(pending, out, atomic_sign(op)),
+        Piece::Number(number) => put_signed(pending, out, "", "-", number),
+        Piece::Offset(off) => put_signed(pending, out, "+ ", "- ", i32::from(off)),
+        Piece::Distance(off) => put_signed(pending, out, "+", "-", i32::from(off)),
+        Piece::LongDistance(off) => put_signed(pending, out, "+", "-", off),
+        Piece::Hex(value) => put_number(pending, out, "0x", value, 16),
     }
 }
 
-fn write_pieces<W: Write>(out: &mut W, pieces: &[Piece]) -> io::Result<()>
-    ensures ok { OnOk result (Appends (W.contents out.old) (W.contents out.new) (flat_map piece_text pieces.now)) }
-    ensures err { OnErr result (AppendsBeginning (W.contents out.old) (W.contents out.new) (flat_map piece_text pieces.now)) }
+fn put_pieces<W: Write>(pending: &mut Pending, out: &mut W, pieces: &[Piece]) -> io::Result<()>
+    ensures ok { OnOk result (Gathers (W.contents out.old) (W.contents out.new) pending.old pending.new (flat_map piece_text pieces.now)) }
+    ensures err { OnErr result (AppendsBeginning (W.contents out.old) (W.contents out.new) (pending.old ++ (flat_map piece_text pieces.now))) }
 {
     for piece in pieces {
-        write_piece(out, piece)?;
+        put_piece(pending, out, piece)?;
     }
     Ok(())
 }
 
-/// Writes the line of a conditional jump.
-fn write_branch<W: Write>(
+/// Puts the line of a conditional jump.
+fn put_branch<W: Write>(
+    pending: &mut Pending,
     out: &mut W,
     cond: Cond,
     width: Width,
@@ -149,10 +166,11 @@ fn write_branch<W: Write>(
     src: Operand,
     off: i16,
 ) -> io::Result<()>
-    ensures ok { OnOk result (Appends (W.contents out.old) (W.contents out.new) (line_text (Insn.JumpIf cond width dst src off))) }
-    ensures err { OnErr result (AppendsBeginning (W.contents out.old) (W.contents out.new) (line_text (Insn.JumpIf cond width dst src off))) }
+    ensures ok { OnOk result (Gathers (W.contents out.old) (W.contents out.new) pending.old pending.new (line_text (Insn.JumpIf cond width dst src off))) }
+    ensures err { OnErr result (AppendsBeginning (W.contents out.old) (W.contents out.new) (pending.old ++ (line_text (Insn.JumpIf cond width dst src off)))) }
 {
-    write_pieces(
+    put_pieces(
+        pending,
         out,
         &[
             Piece::Text("if "),
@@ -168,10 +186,10 @@ fn write_branch<W: Write>(
     )
 }
 
-/// Writes the line of an instruction.
-fn write_line<W: Write>(out: &mut W, insn: &Insn) -> io::Result<()>
-    ensures ok { OnOk result (Appends (W.contents out.old) (W.contents out.new) (line_text insn.now)) }
-    ensures err { OnErr result (AppendsBeginning (W.contents out.old) (W.contents out.new) (line_text insn.now)) }
+/// Puts the line of an instruction.
+fn put_line<W: Write>(pending: &mut Pending, out: &mut W, insn: &Insn) -> io::Result<()>
+    ensures ok { OnOk result (Gathers (W.contents out.old) (W.contents out.new) pending.old pending.new (line_text insn.now)) }
+    ensures err { OnErr result (AppendsBeginning (W.contents out.old) (W.contents out.new) (pending.old ++ (line_text insn.now))) }
 {
     match *insn {
         Insn::Alu {
@@ -179,7 +197,8 @@ fn write_line<W: Write>(out: &mut W, insn: &Insn) -> io::Result<()>
             width,
             dst,
             src,
-        } => write_pieces(
+        } => put_pieces(
+            pending,
             out,
             &[
                 Piece::Register(width, dst),
@@ -190,7 +209,8 @@ fn write_line<W: Write>(out: &mut W, insn: &Insn) -> io::Result<()>
                 Piece::Text("\n"),
             ],
         ),
-        Insn::Neg { width, dst } => write_pieces(
+        Insn::Neg { width, dst } => put_pieces(
+            pending,
             out,
             &[
                 Piece::Register(width, dst),
@@ -204,7 +224,8 @@ fn write_line<W: Write>(out: &mut W, insn: &Insn) -> io::Result<()>
             bits,
             dst,
             src,
-        } => write_pieces(
+        } => put_pieces(
+            pending,
             out,
             &[
                 Piece::Register(width, dst),
@@ -215,7 +236,8 @@ fn write_line<W: Write>(out: &mut W, insn: &Insn) -> io::Result<()>
                 Piece::Text("\n"),
             ],
         ),
-        Insn::End { kind, bits, dst } => write_pieces(
+        Insn::End { kind, bits, dst } => put_pieces(
+            pending,
             out,
             &[
                 Piece::Register(Width::W64, dst),
@@ -226,7 +248,8 @@ fn write_line<W: Write>(out: &mut W, insn: &Insn) -> io::Result<()>
                 Piece::Text("\n"),
             ],
         ),
-        Insn::LoadImm64 { dst, value } => write_pieces(
+        Insn::LoadImm64 { dst, value } => put_pieces(
+            pending,
             out,
             &[
                 Piece::Register(Width::W64, dst),
@@ -240,7 +263,8 @@ fn write_line<W: Write>(out: &mut W, insn: &Insn) -> io::Result<()>
             dst,
             src,
             off,
-        } => write_pieces(
+        } => put_pieces(
+            pending,
             out,
             &[
                 Piece::Register(Width::W64, dst),
@@ -258,7 +282,8 @@ fn write_line<W: Write>(out: &mut W, insn: &Insn) -> io::Result<()>
             dst,
             src,
             off,
-        } => write_pieces(
+        } => put_pieces(
+            pending,
             out,
             &[
                 Piece::Register(Width::W64, dst),
@@ -276,7 +301,8 @@ fn write_line<W: Write>(out: &mut W, insn: &Insn) -> io::Result<()>
             dst,
             off,
             src,
-        } => write_pieces(
+        } => put_pieces(
+            pending,
             out,
             &[
                 Piece::Text("*("),
@@ -295,7 +321,8 @@ fn write_line<W: Write>(out: &mut W, insn: &Insn) -> io::Result<()>
             dst,
             off,
             imm,
-        } => write_pieces(
+        } => put_pieces(
+            pending,
             out,
             &[
                 Piece::Text("*("),
@@ -315,7 +342,8 @@ fn write_line<W: Write>(out: &mut W, insn: &Insn) -> io::Result<()>
             dst,
             off,
             src,
-        } => write_pieces(
+        } => put_pieces(
+            pending,
             out,
             &[
                 Piece::Text("lock "),
@@ -331,7 +359,8 @@ fn write_line<W: Write>(out: &mut W, insn: &Insn) -> io::Result<()>
                 Piece::Text("\n"),
             ],
         ),
-        Insn::Ja { off } => write_pieces(
+        Insn::Ja { off } => put_pieces(
+            pending,
             out,
             &[
                 Piece::Text("goto "),
@@ -339,7 +368,8 @@ fn write_line<W: Write>(out: &mut W, insn: &Insn) -> io::Result<()>
                 Piece::Text("\n"),
             ],
         ),
-        Insn::JaLong { off } => write_pieces(
+        Insn::JaLong { off } => put_pieces(
+            pending,
             out,
             &[
                 Piece::Text("gotol "),
@@ -353,8 +383,9 @@ fn write_line<W: Write>(out: &mut W, insn: &Insn) -> io::Result<()>
             dst,
             src,
             off,
-        } => write_branch(out, cond, width, dst, src, off),
-        Insn::CallLocal { off } => write_pieces(
+        } => put_branch(pending, out, cond, width, dst, src, off),
+        Insn::CallLocal { off } => put_pieces(
+            pending,
             out,
             &[
                 Piece::Text("call "),
@@ -362,20 +393,22 @@ fn write_line<W: Write>(out: &mut W, insn: &Insn) -> io::Result<()>
                 Piece::Text("\n"),
             ],
         ),
-        Insn::Exit => write_pieces(out, &[Piece::Text("exit\n")]),
+        Insn::Exit => put_pieces(pending, out, &[Piece::Text("exit\n")]),
     }
 }
 
-/// Writes the listing of a program: a line for each instruction, in the one spelling of the language. A fault of the
-/// writer, or a write of no bytes, ends it; what went out is then a beginning of the listing. It takes no memory.
+/// Writes the listing of a program: a line for each instruction, in the one spelling of the language, in pieces of 4,096
+/// bytes. A fault of the writer, or a write of no bytes, ends it; what went out is then a beginning of the listing. It takes
+/// no memory.
 pub fn list<W: Write>(program: &Program, out: &mut W) -> io::Result<()>
     ensures ok { OnOk result (Appends (W.contents out.old) (W.contents out.new) (listing program.now.list)) }
     ensures err { OnErr result (AppendsBeginning (W.contents out.old) (W.contents out.new) (listing program.now.list)) }
 {
+    let mut pending = Pending::new();
     for slot in 0..program.slots() {
         if let Some(insn) = program.at(slot) {
-            write_line(out, insn)?;
+            put_line(&mut pending, out, insn)?;
         }
     }
-    Ok(())
+    pending.flush(out)
 }

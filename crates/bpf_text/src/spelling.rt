@@ -192,31 +192,6 @@ impl Spelled for Keyword {
     }
 }
 
-pub const REGISTERS: [Register; 22] = [
-    Register(Width::W64, Reg::R0),
-    Register(Width::W64, Reg::R1),
-    Register(Width::W64, Reg::R2),
-    Register(Width::W64, Reg::R3),
-    Register(Width::W64, Reg::R4),
-    Register(Width::W64, Reg::R5),
-    Register(Width::W64, Reg::R6),
-    Register(Width::W64, Reg::R7),
-    Register(Width::W64, Reg::R8),
-    Register(Width::W64, Reg::R9),
-    Register(Width::W64, Reg::R10),
-    Register(Width::W32, Reg::R0),
-    Register(Width::W32, Reg::R1),
-    Register(Width::W32, Reg::R2),
-    Register(Width::W32, Reg::R3),
-    Register(Width::W32, Reg::R4),
-    Register(Width::W32, Reg::R5),
-    Register(Width::W32, Reg::R6),
-    Register(Width::W32, Reg::R7),
-    Register(Width::W32, Reg::R8),
-    Register(Width::W32, Reg::R9),
-    Register(Width::W32, Reg::R10),
-];
-
 pub const SWAPS: [Swap; 9] = [
     Swap(EndKind::Le, EndBits::B16),
     Swap(EndKind::Le, EndBits::B32),

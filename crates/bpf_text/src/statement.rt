@@ -7,9 +7,9 @@ ghost use Rattle.bpf_text.specs.StatementReading.{same_width, any_register_in, r
 ghost use Rattle.bpf_text.specs.Statements.{is_extension, load_of, store_of, jump_by};
 ghost use Rattle.bpf_text.specs.Characters.{is_name};
 
+use crate::lookup::{any_register, extension_bits, keyword_in_front, memory, swap};
 use crate::spelling::{
-    CONDITIONS, EXTENSIONS, KEYWORDS, Keyword, MEMORIES, MODIFICATIONS, Memory, OPERATIONS,
-    REGISTERS, Register, SWAPS, Spelled, Swap,
+    CONDITIONS, Keyword, MODIFICATIONS, Memory, OPERATIONS, Register, Spelled, Swap,
 };
 use crate::token::{
     behind, behind_mark, first_spelled, is_digit, number, signed, skip_blanks, unsigned, word,
@@ -74,13 +74,6 @@ fn same_width(left: Width, right: Width) -> bool
         (left, right),
         (Width::W32, Width::W32) | (Width::W64, Width::W64)
     )
-}
-
-#[tactic(auto, unfolding(crate::specs::StatementReading::any_register_in))]
-fn any_register(text: &[u8]) -> Option<(Register, &[u8])>
-    ensures { option_map (λ x. (x.0, x.1.now)) result ≡ any_register_in text.now }
-{
-    first_spelled(&REGISTERS, text)
 }
 
 #[tactic(auto, unfolding(crate::specs::StatementReading::register_in))]
@@ -165,7 +158,7 @@ fn is_extension(width: Width, bits: SignBits) -> bool
 fn extension(width: Width, dst: Reg, text: &[u8]) -> Read<'_, Insn>
     ensures { option_map (λ x. (x.0, x.1.now)) result ≡ extension_in width dst text.now }
 {
-    let (bits, rest) = first_spelled(&EXTENSIONS, text)?;
+    let (bits, rest) = extension_bits(text)?;
     let rest = behind_mark(rest, b')')?;
     let (src, rest) = register(width, rest)?;
     if is_extension(width, bits) {
@@ -193,7 +186,7 @@ pub struct Place {
 fn read_place(text: &[u8]) -> Option<(Place, &[u8])>
     ensures { option_map (λ x. (x.0, x.1.now)) result ≡ place_in text.now }
 {
-    let (memory, rest) = first_spelled(&MEMORIES, behind(text, "*(")?)?;
+    let (memory, rest) = memory(behind(text, "*(")?)?;
     let (base, rest) = register(Width::W64, behind(rest, "*)(")?)?;
     let (off, rest) = signed(rest)?;
     let rest = behind_mark(rest, b')')?;
@@ -282,7 +275,7 @@ fn assigned(width: Width, dst: Reg, text: &[u8]) -> Read<'_, Insn>
     if behind_mark(text, b'*').is_some() {
         return load(width, dst, text);
     }
-    if let Some((found, rest)) = first_spelled(&SWAPS, text) {
+    if let Some((found, rest)) = swap(text) {
         return byte_swap(width, dst, found, rest);
     }
     if let Some((src, rest)) = register(width, text) {
@@ -541,7 +534,7 @@ fn front(text: &[u8]) -> Read<'_, Statement<'_>>
     if let Some((dst, rest)) = any_register(text) {
         return plainly(assignment(dst.0, dst.1, rest));
     }
-    if let Some((word, rest)) = first_spelled(&KEYWORDS, text) {
+    if let Some((word, rest)) = keyword_in_front(text) {
         return keyword(word, rest);
     }
     plainly(store(text))

@@ -4,6 +4,7 @@ ghost use Rattle.std.specs.Prelude.{◌≡◌, ℕ, ◌≤◌, ◌<◌, ◌^◌,
 ghost use Rattle.std.specs.Char.{digit_value};
 ghost use Rattle.bpf_text.specs.Characters.{is_digit, is_word_part, is_blank};
 ghost use Rattle.bpf_text.specs.WordReading.{skip_blanks, word_front, word_rest, word_in, behind_word, behind_mark, behind_marks, behind, first_spelled, unsigned_in, number_in, signed_in, with_sign_of};
+ghost use Rattle.bpf_text.specs.Lookup.{may_begin};
 ghost use Rattle.bpf_text.specs.Numerals.{value_after, value_up_to, word_value};
 
 use crate::spelling::Spelled;
@@ -105,12 +106,36 @@ pub fn behind<'a>(text: &'a [u8], spelling: &str) -> Option<&'a [u8]>
     behind_marks(rest, marks)
 }
 
+/// Whether a spelling may stand in front of a text with no blank in front, by their first bytes.
+fn may_begin(spelling: &[u8], text: &[u8]) -> bool
+    ensures { result ≡ may_begin spelling.now text.now }
+{
+    match (spelling, text) {
+        ([], _) => true,
+        ([_, ..], []) => false,
+        ([first, ..], [byte, ..]) => first == byte,
+    }
+}
+
+/// What stands behind a spelling, where its first byte may be the first one of the text that is no blank.
+fn behind_begun<'a>(text: &'a [u8], begin: &[u8], spelling: &str) -> Option<&'a [u8]>
+    requires { begin.now ≡ skip_blanks text.now }
+    ensures { option_map (λ x. x.now) result ≡ behind spelling.now text.now }
+{
+    if may_begin(spelling.as_bytes(), begin) {
+        behind(text, spelling)
+    } else {
+        None
+    }
+}
+
 /// The first of the things whose spelling stands in front, and what stands behind it.
 pub fn first_spelled<'a, T: Spelled + Copy>(things: &[T], text: &'a [u8]) -> Option<(T, &'a [u8])>
     ensures { option_map (λ x. (x.0, x.1.now)) result ≡ first_spelled T.spelling things.now text.now }
 {
+    let begin = skip_blanks(text);
     for thing in things {
-        if let Some(rest) = behind(text, thing.text()) {
+        if let Some(rest) = behind_begun(text, begin, thing.text()) {
             return Some((*thing, rest));
         }
     }

@@ -1,0 +1,127 @@
+//! Parts of instructions, looked up by the word in front of a text, which is read once.
+
+ghost use Rattle.std.specs.Prelude.{◌≡◌, option_map};
+ghost use Rattle.bpf_insn.specs.declared.instruction.Width.TheVariants.{W32, W64};
+ghost use Rattle.bpf_text.specs.WordReading.{first_spelled};
+ghost use Rattle.bpf_text.specs.StatementReading.{any_register_in};
+ghost use Rattle.bpf_text.specs.Spelling.{sign_bits_text};
+ghost use Rattle.bpf_text.specs.Parts.{swaps, swap_spelling, extensions, memories, memory_text, keywords, keyword_text};
+ghost use Rattle.bpf_text.specs.Lookup.{first_named, by_word, width_named, digit_named, number_named, register_named};
+
+use crate::spelling::{
+    EXTENSIONS, KEYWORDS, Keyword, MEMORIES, Memory, Register, SWAPS, Spelled, Swap,
+};
+use crate::token::word;
+use bpf_insn::{Reg, SignBits, Width};
+
+/// The first of the things that a word spells.
+fn first_named<T: Spelled + Copy>(things: &[T], word: &[u8]) -> Option<T>
+    ensures { result ≡ first_named T.spelling things.now word.now }
+{
+    for thing in things {
+        if word == thing.text().as_bytes() {
+            return Some(*thing);
+        }
+    }
+    None
+}
+
+/// The first of the things that the word in front spells, and what stands behind the word.
+fn by_word<'a, T: Spelled + Copy>(things: &[T], text: &'a [u8]) -> Option<(T, &'a [u8])>
+    ensures { option_map (λ x. (x.0, x.1.now)) result ≡ by_word (first_named T.spelling things.now) text.now }
+{
+    let (word, rest) = word(text)?;
+    Some((first_named(things, word)?, rest))
+}
+
+fn width_named(letter: u8) -> Option<Width>
+    ensures { result ≡ width_named letter }
+{
+    match letter {
+        b'r' => Some(Width::W64),
+        b'w' => Some(Width::W32),
+        _ => None,
+    }
+}
+
+fn digit_named(digit: u8) -> Option<Reg>
+    ensures { result ≡ digit_named digit }
+{
+    match digit {
+        b'0' => Some(Reg::R0),
+        b'1' => Some(Reg::R1),
+        b'2' => Some(Reg::R2),
+        b'3' => Some(Reg::R3),
+        b'4' => Some(Reg::R4),
+        b'5' => Some(Reg::R5),
+        b'6' => Some(Reg::R6),
+        b'7' => Some(Reg::R7),
+        b'8' => Some(Reg::R8),
+        b'9' => Some(Reg::R9),
+        _ => None,
+    }
+}
+
+fn number_named(digits: &[u8]) -> Option<Reg>
+    ensures { result ≡ number_named digits.now }
+{
+    match digits {
+        [digit] => digit_named(*digit),
+        [tens, ones] => {
+            if *tens == b'1' && *ones == b'0' {
+                Some(Reg::R10)
+            } else {
+                None
+            }
+        }
+        _ => None,
+    }
+}
+
+fn register_named(word: &[u8]) -> Option<Register>
+    ensures { result ≡ register_named word.now }
+{
+    let [letter, digits @ ..] = word else {
+        return None;
+    };
+    let width = width_named(*letter)?;
+    Some(Register(width, number_named(digits)?))
+}
+
+fn register_by_word(text: &[u8]) -> Option<(Register, &[u8])>
+    ensures { option_map (λ x. (x.0, x.1.now)) result ≡ by_word register_named text.now }
+{
+    let (word, rest) = word(text)?;
+    Some((register_named(word)?, rest))
+}
+
+/// The register in front of a text, and what stands behind it.
+pub fn any_register(text: &[u8]) -> Option<(Register, &[u8])>
+    ensures { option_map (λ x. (x.0, x.1.now)) result ≡ any_register_in text.now }
+{
+    register_by_word(text)
+}
+
+pub fn swap(text: &[u8]) -> Option<(Swap, &[u8])>
+    ensures { option_map (λ x. (x.0, x.1.now)) result ≡ first_spelled swap_spelling swaps text.now }
+{
+    by_word(&SWAPS, text)
+}
+
+pub fn extension_bits(text: &[u8]) -> Option<(SignBits, &[u8])>
+    ensures { option_map (λ x. (x.0, x.1.now)) result ≡ first_spelled sign_bits_text extensions text.now }
+{
+    by_word(&EXTENSIONS, text)
+}
+
+pub fn memory(text: &[u8]) -> Option<(Memory, &[u8])>
+    ensures { option_map (λ x. (x.0, x.1.now)) result ≡ first_spelled memory_text memories text.now }
+{
+    by_word(&MEMORIES, text)
+}
+
+pub fn keyword_in_front(text: &[u8]) -> Option<(Keyword, &[u8])>
+    ensures { option_map (λ x. (x.0, x.1.now)) result ≡ first_spelled keyword_text keywords text.now }
+{
+    by_word(&KEYWORDS, text)
+}
