@@ -13,3 +13,4 @@ pub mod ReadLemmas
 pub mod WriteLemmas
 pub mod LayoutLemmas
 pub mod LimitLemmas
+pub mod OpcodeLemmas

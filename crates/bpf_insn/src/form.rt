@@ -1,15 +1,23 @@
 //! What an opcode says of its instruction (RFC 9669, sections 3.3, 4 and 5).
 
 ghost use Rattle.std.specs.Prelude.{◌≡◌, ◌<◌};
-ghost use Rattle.bpf_insn.specs.Form.{form_in, neg_form, move_form, end_form, alu_form, jump_form, load_form, store_form, source_in, size_in};
+ghost use Rattle.bpf_insn.specs.Form.{form_in, neg_form, move_form, end_form, alu_form, jump_form, load_form, store_form, source_in, size_in, reach_in, group_in};
 
-use crate::instruction::{AluOp, Cond, EndKind, Size, Width};
+use crate::instruction::{AluOp, Cond, EndKind, Group, Size, Width};
 
 /// Where the second operand comes from: bit 3 of an opcode of arithmetic or of a jump.
 #[derive(Clone, Copy, Debug, PartialEq, Eq)]
 pub enum Source {
     Imm,
     Reg,
+}
+
+/// Which field tells how far an instruction leads, if it leads anywhere.
+#[derive(Clone, Copy, Debug, PartialEq, Eq)]
+pub enum Reach {
+    Nowhere,
+    ByOffset,
+    ByImm,
 }
 
 /// What an opcode says of its instruction; the fields say the rest. Of a division, a remainder and a move from a
@@ -230,5 +238,36 @@ pub fn form_of(opcode: u8) -> Option<Form>
         6 => jump_form_of(Width::W32, opcode),
         7 => alu_form_of(Width::W64, opcode),
         _ => None,
+    }
+}
+
+/// Which field of an instruction with this opcode tells how far it leads.
+pub fn reach_of(opcode: u8) -> Reach
+    ensures { result ≡ reach_in opcode }
+{
+    if opcode % 8 != 5 && opcode % 8 != 6 || opcode == 0x95 {
+        Reach::Nowhere
+    } else if opcode == 0x06 || opcode == 0x85 {
+        Reach::ByImm
+    } else {
+        Reach::ByOffset
+    }
+}
+
+/// The conformance group of an instruction with this opcode (section 2.4).
+pub fn group_by(opcode: u8) -> Group
+    ensures { result ≡ group_in opcode }
+{
+    if opcode == 0xc3 || opcode == 0xdb {
+        Group::Atomic
+    } else if opcode % 8 != 4 && opcode % 8 != 7 {
+        Group::Base
+    } else {
+        match opcode / 16 {
+            2 => Group::Divmul,
+            3 => Group::Divmul,
+            9 => Group::Divmul,
+            _ => Group::Base,
+        }
     }
 }

@@ -1,6 +1,6 @@
 //! Instructions laid out by slots, and the targets of their jumps.
 
-ghost use Rattle.std.specs.Prelude.{◌≡◌, ◌↔◌, ◌<◌, ◌≤◌, List, Option, IsTrue, IfSome, IfNone, is_some, length};
+ghost use Rattle.std.specs.Prelude.{◌≡◌, ◌↔◌, ◌<◌, ◌≤◌, List, Option, IsTrue, IfSome, IfNone, is_some, option_and_then, length};
 ghost use Rattle.bpf_insn.specs.Instruction.{insn_in, distance, EachSlot, FailsFirst};
 ghost use Rattle.bpf_insn.specs.Image.{LeadsInside, HasTarget, max_slots};
 ghost use Rattle.bpf_insn.specs.declared.instruction.Insn.{Insn};
@@ -24,6 +24,16 @@ pub trait Layout {
     /// Whether an instruction begins at the slot.
     fn is_first(&self, slot: u32) -> bool
         ensures { result ≡ is_some (insn_in (cells self.now) slot) };
+
+    /// How far the instruction at the slot leads, if it leads anywhere.
+    fn distance(&self, slot: u32) -> Option<i32>
+        ensures { result ≡ option_and_then distance (insn_in (cells self.now) slot) }
+    {
+        match self.insn(slot) {
+            Some(insn) => distance_of(&insn),
+            None => None,
+        }
+    }
 }
 
 /// How far a jump or call leads.
@@ -48,25 +58,14 @@ fn leads_inside<L: Layout>(layout: &L, slot: u32, off: i32) -> bool
     target >= 0 && layout.is_first(target as u32)
 }
 
-/// Whether the instruction at the slot leads to one, if it leads anywhere.
-fn has_target<L: Layout>(layout: &L, slot: u32, insn: &Insn) -> bool
-    requires { slot < max_slots }
-    ensures { IsTrue result ↔ HasTarget (L.cells layout.now) slot insn.now }
-{
-    match distance_of(insn) {
-        None => true,
-        Some(off) => leads_inside(layout, slot, off),
-    }
-}
-
 /// The lowest slot of a jump or call that leads to no instruction.
 pub fn first_without_target<L: Layout>(layout: &L) -> Option<u32>
     ensures found { IfSome result (λ slot. FailsFirst (HasTarget (L.cells layout.now)) (L.cells layout.now) slot) }
     ensures none { IfNone result (EachSlot (HasTarget (L.cells layout.now)) (L.cells layout.now)) }
 {
     for slot in 0..layout.count() {
-        if let Some(insn) = layout.insn(slot) {
-            if !has_target(layout, slot, &insn) {
+        if let Some(off) = layout.distance(slot) {
+            if !leads_inside(layout, slot, off) {
                 return Some(slot);
             }
         }
