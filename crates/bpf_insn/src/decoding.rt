@@ -7,7 +7,8 @@ ghost use Rattle.bpf_insn.specs.Decoding.{register_in, operand_in, divide_in, re
 
 use crate::bytes::{fields_from, u16_in, u32_in};
 use crate::fields::Fields;
-use crate::form::{Form, Reach, Source, form_of, reach_of};
+use crate::form::{Form, Reach, Source, reach_of};
+use crate::forms::form_of;
 use crate::instruction::{AluOp, AtomicOp, EndBits, Insn, Modify, Operand, Reg, SignBits, Width};
 use crate::order::Order;
 
