@@ -14,3 +14,4 @@ pub mod WriteLemmas
 pub mod LayoutLemmas
 pub mod OpLemmas
 pub mod LimitLemmas
+pub mod OpcodeLemmas

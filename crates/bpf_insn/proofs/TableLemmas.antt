@@ -5,6 +5,7 @@ use Rattle.std.proofs.Common.{slice_index, cond}
 use Rattle.bpf_insn.specs.Refusal.{table, uses_in, fields_in, is_left_out, refusal_by_uses, refusal_here}
 use Rattle.bpf_insn.specs.declared.order.Order.{Order}
 use Rattle.bpf_insn.specs.declared.refusal.SlotFault.TheVariants.{LeftOut}
+use Rattle.bpf_insn.specs.declared.forms.TheConstants.{FORMS}
 use Rattle.bpf_insn.specs.Form.{form_in, uses_of}
 
 -- n, n + 1 and so on, k numbers
@@ -32,6 +33,14 @@ uses_agree = refl
 -- how an opcode's instruction uses its fields, by the table and by its form
 pub uses_in-form : (b : ℕ) → b < 256 → uses_in table b ≡ option_map uses_of (form_in b)
 uses_in-form = same_in_range (λ b. uses_in table b) (λ b. option_map uses_of (form_in b)) None 256 uses_agree
+
+forms_agree : map (λ b. get_or FORMS b None) (numbers_from 0 256) ≡ map (λ b. form_in b) (numbers_from 0 256)
+unfolding numbers_from
+forms_agree = refl
+
+-- the form in the table is that of the opcode
+pub forms_are : (b : ℕ) → b < 256 → get_or FORMS b None ≡ form_in b
+forms_are = same_in_range (λ b. get_or FORMS b None) (λ b. form_in b) None 256 forms_agree
 
 -- ---- the refusal, by the form
 

@@ -1,11 +1,14 @@
 //! The instruction that begins at a slot of an image.
 
-ghost use Rattle.std.specs.Prelude.{◌≡◌, ◌≤◌, ◌<◌, length};
+ghost use Rattle.std.specs.Prelude.{◌≡◌, ◌≤◌, ◌<◌, length, slice_index};
+ghost use Rattle.bpf_insn.specs.Form.{reach_in, reached};
+ghost use Rattle.bpf_insn.specs.Refusal.{fields_in};
 ghost use Rattle.bpf_insn.specs.Decoding.{register_in, operand_in, divide_in, remainder_in, move_in, end_bits_in, atomic_in, insn_of_form, high_in, insn_in_bytes};
 
-use crate::bytes::{fields_from, u32_in};
+use crate::bytes::{fields_from, u16_in, u32_in};
 use crate::fields::Fields;
-use crate::form::{Form, Source, form_of};
+use crate::form::{Form, Reach, Source, reach_of};
+use crate::forms::form_of;
 use crate::instruction::{AluOp, AtomicOp, EndBits, Insn, Modify, Operand, Reg, SignBits, Width};
 use crate::order::Order;
 
@@ -209,4 +212,16 @@ pub fn insn_from(order: Order, bytes: &[u8]) -> Option<Insn>
     let dst = REGISTERS[f.dst as usize]?;
     let src = REGISTERS[f.src as usize]?;
     Some(insn_of(form, dst, src, &f, high_of(order, bytes)))
+}
+
+/// How far the instruction leads that begins in these bytes of an image.
+pub fn distance_from(order: Order, bytes: &[u8]) -> Option<i32>
+    requires { 8 ≤ length bytes.now }
+    ensures { result ≡ reached (reach_in (slice_index bytes.now 0)) (fields_in order bytes.now) }
+{
+    match reach_of(bytes[0]) {
+        Reach::Nowhere => None,
+        Reach::ByOffset => Some(u16_in(order, &bytes[2..]).cast_signed() as i32),
+        Reach::ByImm => Some(u32_in(order, &bytes[4..]).cast_signed()),
+    }
 }

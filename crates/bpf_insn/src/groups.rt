@@ -16,8 +16,8 @@ pub fn groups_of<C: Code>(code: &C) -> Groups
         atomic: false,
     };
     for slot in 0..code.slots() {
-        if let Some(insn) = code.insn(slot) {
-            groups.add(insn.group());
+        if let Some(group) = code.group(slot) {
+            groups.add(group);
         }
     }
     groups

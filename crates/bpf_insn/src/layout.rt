@@ -2,6 +2,8 @@
 
 ghost use Rattle.std.specs.Prelude.{◌≡◌, ◌↔◌, ◌<◌, ◌≤◌, List, Option, IsTrue, IfSome, IfNone, is_some, length};
 ghost use Rattle.bpf_insn.specs.Instruction.{insn_in, EachSlot, FailsFirst};
+ghost use Rattle.std.specs.Prelude.{◌≡◌, ◌↔◌, ◌<◌, ◌≤◌, List, Option, IsTrue, IfSome, IfNone, is_some, option_and_then, length};
+ghost use Rattle.bpf_insn.specs.Instruction.{insn_in, distance, EachSlot, FailsFirst};
 ghost use Rattle.bpf_insn.specs.Image.{LeadsInside, HasTarget, max_slots};
 ghost use Rattle.bpf_insn.specs.declared.instruction.Insn.{Insn};
 
@@ -24,6 +26,16 @@ pub trait Layout {
     /// Whether an instruction begins at the slot.
     fn is_first(&self, slot: u32) -> bool
         ensures { result ≡ is_some (insn_in (cells self.now) slot) };
+
+    /// How far the instruction at the slot leads, if it leads anywhere.
+    fn distance(&self, slot: u32) -> Option<i32>
+        ensures { result ≡ option_and_then distance (insn_in (cells self.now) slot) }
+    {
+        match self.insn(slot) {
+            Some(insn) => distance_of(&insn),
+            None => None,
+        }
+    }
 }
 
 /// Whether an instruction begins at this distance from the one after the slot.
@@ -52,8 +64,8 @@ pub fn first_without_target<L: Layout>(layout: &L) -> Option<u32>
     ensures none { IfNone result (EachSlot (HasTarget (L.cells layout.now)) (L.cells layout.now)) }
 {
     for slot in 0..layout.count() {
-        if let Some(insn) = layout.insn(slot) {
-            if !has_target(layout, slot, &insn) {
+        if let Some(off) = layout.distance(slot) {
+            if !leads_inside(layout, slot, off) {
                 return Some(slot);
             }
         }

@@ -9,6 +9,7 @@ mod decoding;
 mod encoding;
 mod fields;
 mod form;
+mod forms;
 mod groups;
 mod image;
 pub mod instruction;

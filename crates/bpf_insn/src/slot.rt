@@ -6,7 +6,8 @@ ghost use Rattle.bpf_insn.specs.Refusal.{is_left_out, each_field, is_selected, i
 
 use crate::bytes::{fields_from, registers_in, u16_in, u32_in};
 use crate::fields::Fields;
-use crate::form::{Form, Source, form_of};
+use crate::form::{Form, Source};
+use crate::forms::form_of;
 use crate::instruction::Width;
 use crate::limits::limits_of;
 use crate::order::Order;
