@@ -1,0 +1,25 @@
+#!/usr/bin/env bash
+# Times a small filter (examples/hosts/port.asm) through the library for hosts beside the same filter in C: runs a second, by medians
+# of processor time over rounds in turn. Usage: bench/host.sh [RUNS [ROUNDS]], 300000 and 5 if not said.
+set -eu
+runs=${1:-300000} rounds=${2:-5}
+root=$(cd "$(dirname "${BASH_SOURCE[0]}")/.." && pwd)
+dir=$(mktemp -d)
+trap 'rm -rf "$dir"' EXIT
+"$root/install" "$dir" >/dev/null
+"${CC:-cc}" -O2 -I"$dir/include" "$root/bench/host.c" -o "$dir/host" -L"$dir/lib" -lbpf_host
+for ((round = 0; round < rounds; round++)); do
+    "$dir/host" "$root/examples/hosts/port.img" "$root/examples/hosts/port.cert" "$runs"
+done >"$dir/times"
+python3 - "$dir/times" <<'END'
+import collections, pathlib, statistics, sys
+rates = collections.defaultdict(list)
+for line in pathlib.Path(sys.argv[1]).read_text().splitlines():
+    name, runs, seconds = line.split()
+    rates[name].append(int(runs) / float(seconds))
+native = statistics.median(rates['native'])
+print('a filter of 16 instructions, all done; runs a second, processor time, medians')
+for name, found in rates.items():
+    rate = statistics.median(found)
+    print(f'{name:16} {rate:14,.0f}   {1e9 / rate:9,.1f} ns   {native / rate:7.1f} times the native filter')
+END

@@ -1,0 +1,226 @@
+//! The checker, the machine and the inferrer for hosts in C and in Rust. `include/bpf.h` declares these calls, and hands
+//! over no pointer that is null.
+#![tactic(auto)]
+
+ghost use Rattle.std.specs.Prelude.{◌≡◌, ◌++◌, ◌⊎◌, ◌↔◌, ◌<◌, ◌≤◌, ◌+◌, ◌*◌, ◌%◌, ℕ, List, length, take, drop, pos, negsuc};
+ghost use Rattle.bpf_insn.specs.Laws.{IsImageOfProgram};
+ghost use Rattle.bpf_insn.specs.declared.instruction.Insn.{Insn as Instruction};
+ghost use Rattle.bpf_cert.specs.View.{CertificateView};
+ghost use Rattle.bpf_check.specs.Verdicts.{Verified, Promises, Certifies};
+ghost use Rattle.bpf_host.specs.Told.{order_named, IsNumbered};
+ghost use Rattle.bpf_host.specs.Prepared.{IsPrepared};
+ghost use Rattle.bpf_host.specs.Answers.{IsRefusedAsTold, IsNoImage, RanImage, IsUnrun, MayRun, EndsAsPrepared, GivesProposal, WantsRoom, IsNotProposed};
+
+mod answers;
+mod checked;
+mod prepared;
+mod proposal;
+mod texts;
+
+pub use answers::{BpfOutcome, BpfRefusal, BpfVerdict};
+use answers::{
+    BAD_CALL, DONE, NO_MEMORY, REFUSED, TOO_SMALL, of_outcome, of_verify, order_of, unrun,
+};
+use bpf_check::verify;
+use bpf_insn::ProgramView;
+use bpf_machine::run;
+use checked::end_of;
+use prepared::{has_room, put, size_for};
+use proposal::{Unproposed, give, proposal};
+use std::alloc::Global;
+use texts::{give_beginning, text_of};
+
+/// The most bytes of an image.
+const MAX_IMAGE: usize = 524_288;
+
+/// The most bytes of a context.
+const MAX_CONTEXT: usize = 4096;
+
+/// Whether a certificate certifies an image in a byte order, 0 little-endian or 1 big-endian. 1: yes, and `verdict` is what
+/// is promised. 0: no, and `refusal` says why. -1: memory ran out. -2: the order is neither 0 nor 1. What isn't answered
+/// stays as it was.
+#[unsafe(no_mangle)]
+pub extern "C" fn bpf_host_verify(
+    alloc: Global,
+    image: &[u8],
+    order: u32,
+    certificate: &[u8],
+    verdict: &mut BpfVerdict,
+    refusal: &mut BpfRefusal,
+) -> i32
+    ensures yes { result ≡ pos 1 → Verified (order_named order) image.now verdict.new.least verdict.new.most verdict.new.bound }
+    ensures promised { result ≡ pos 1 → Promises (order_named order) image.now certificate.now verdict.new.least verdict.new.most verdict.new.bound }
+    ensures no { result ≡ pos 0 → IsRefusedAsTold (order_named order) image.now certificate.now refusal.new }
+    ensures accepts { (c : CertificateView) → order ≤ 1 → Certifies (order_named order) image.now certificate.now c → ((result ≡ pos 1) × (verdict.new.least ≡ c.least) × (verdict.new.most ≡ c.most) × (verdict.new.bound ≡ c.steps)) ⊎ (result ≡ negsuc 0) }
+    ensures call { (result ≡ negsuc 1) ↔ (1 < order) }
+    ensures answers { (result ≡ pos 1) ⊎ (result ≡ pos 0) ⊎ (result ≡ negsuc 0) ⊎ (result ≡ negsuc 1) }
+    ensures verdict_kept { (result ≡ pos 1) ⊎ (verdict.new ≡ verdict.old) }
+    ensures refusal_kept { (result ≡ pos 0) ⊎ (refusal.new ≡ refusal.old) }
+{
+    let Some(order) = order_of(u64::from(order)) else {
+        return BAD_CALL;
+    };
+    match verify(alloc, image, order, certificate) {
+        Ok(yes) => {
+            *verdict = BpfVerdict {
+                least: yes.least,
+                most: yes.most,
+                bound: yes.bound,
+            };
+            DONE
+        }
+        Err(error) => match of_verify(error) {
+            Some(told) => {
+                *refusal = told;
+                REFUSED
+            }
+            None => NO_MEMORY,
+        },
+    }
+}
+
+/// Runs a program that nobody verified on a context of at most 4,096 bytes, for at most `fuel` instructions, on the exact
+/// machine. 1: it ran, and `outcome` says how it ended. 0: the image is refused, and `outcome` says why. -2: the order is
+/// neither 0 nor 1, or the context is too long, and `outcome` stays as it was. It takes no memory.
+#[unsafe(no_mangle)]
+pub extern "C" fn bpf_host_run(
+    image: &[u8],
+    order: u32,
+    context: &[u8],
+    fuel: u64,
+    outcome: &mut BpfOutcome,
+) -> i32
+    ensures ran { result ≡ pos 1 → RanImage (order_named order) image.now context.now fuel outcome.new }
+    ensures refused { result ≡ pos 0 → IsUnrun (order_named order) image.now outcome.new }
+    ensures call { (result ≡ negsuc 1) ↔ ((1 < order) ⊎ (4096 < length context.now)) }
+    ensures answers { (result ≡ pos 1) ⊎ (result ≡ pos 0) ⊎ (result ≡ negsuc 1) }
+    ensures kept { result ≡ negsuc 1 → outcome.new ≡ outcome.old }
+{
+    let Some(order) = order_of(u64::from(order)) else {
+        return BAD_CALL;
+    };
+    if context.len() > MAX_CONTEXT {
+        return BAD_CALL;
+    }
+    match ProgramView::of(image, order) {
+        Ok(program) => {
+            *outcome = of_outcome(run(&program, context, fuel));
+            DONE
+        }
+        Err(error) => {
+            *outcome = unrun(error);
+            REFUSED
+        }
+    }
+}
+
+/// How many words of eight bytes the prepared program of an image of `image_len` bytes takes; 0 where no image is as long.
+#[unsafe(no_mangle)]
+pub extern "C" fn bpf_host_prepared_size(image_len: usize) -> usize
+    ensures words { image_len ≤ 524288 → image_len % 8 ≡ 0 → 0 < image_len → 8 * result ≡ 16 + image_len }
+    ensures none { (524288 < image_len) ⊎ ((image_len ≡ 0) ⊎ (0 < image_len % 8)) → result ≡ 0 }
+{
+    if image_len == 0 || image_len > MAX_IMAGE || image_len % 8 != 0 {
+        return 0;
+    }
+    size_for(image_len) / 8
+}
+
+/// Prepares the program of an image for `bpf_host_run_checked`, in `memory` of 8 times `bpf_host_prepared_size` bytes.
+/// 1: it is prepared. 0: the image is refused. -2: the order is neither 0 nor 1. -3: the memory has another size. But for
+/// 1 the memory stays as it was. It takes no other memory.
+#[unsafe(no_mangle)]
+pub extern "C" fn bpf_host_prepare(image: &[u8], order: u32, memory: &mut [u8]) -> i32
+    ensures prepared { result ≡ pos 1 → IsPrepared (order_named order) image.now memory.new }
+    ensures program { result ≡ pos 1 → (is : List Instruction) × IsImageOfProgram (order_named order) image.now is }
+    ensures refused { result ≡ pos 0 → IsNoImage (order_named order) image.now }
+    ensures call { (result ≡ negsuc 1) ↔ (1 < order) }
+    ensures small { result ≡ negsuc 2 → length memory.old ≡ 16 + length image.now → ⊥ }
+    ensures answers { (result ≡ pos 1) ⊎ (result ≡ pos 0) ⊎ (result ≡ negsuc 1) ⊎ (result ≡ negsuc 2) }
+    ensures kept { (result ≡ pos 1) ⊎ (memory.new ≡ memory.old) }
+{
+    let Some(order) = order_of(u64::from(order)) else {
+        return BAD_CALL;
+    };
+    let Ok(_program) = ProgramView::of(image, order) else {
+        return REFUSED;
+    };
+    if !has_room(memory, image.len()) {
+        return TOO_SMALL;
+    }
+    put(image, order, memory);
+    DONE
+}
+
+/// Runs a prepared program whose image `bpf_host_verify` says yes to, on a context of a length within that verdict: it ends
+/// with `value`, within the bound, and the answer is 1. It takes no memory.
+#[unsafe(no_mangle)]
+pub extern "C" fn bpf_host_run_checked(memory: &[u8], context: &[u8], value: &mut u64) -> i32
+    requires { MayRun memory.now context.now }
+    ensures always { result ≡ pos 1 }
+    ensures ends { EndsAsPrepared memory.now context.now value.new }
+{
+    match end_of(memory, context) {
+        Some(end) => {
+            *value = end;
+            DONE
+        }
+        // Never reached: a verified program ends.
+        None => REFUSED,
+    }
+}
+
+/// Proposes a certificate for the program of an image, on contexts of `least` to `most` bytes: 1, and its text stands in the
+/// first `wanted` bytes of `text`. 0: none is proposed, and `refusal` says why, by E or I. -1: memory ran out. -2: the order
+/// is neither 0 nor 1, `least` is above `most`, or `most` above 4,096. -3: `text` is too small for `wanted` bytes, and as it
+/// was. Nobody relies on a proposal: `bpf_host_verify` judges it.
+#[unsafe(no_mangle)]
+pub extern "C" fn bpf_host_infer(
+    alloc: Global,
+    image: &[u8],
+    order: u32,
+    least: u32,
+    most: u32,
+    text: &mut [u8],
+    wanted: &mut usize,
+    refusal: &mut BpfRefusal,
+) -> i32
+    ensures given { result ≡ pos 1 → GivesProposal least most wanted.new text.old text.new }
+    ensures small { result ≡ negsuc 2 → WantsRoom least most wanted.new text.old }
+    ensures refused { result ≡ pos 0 → IsNotProposed (order_named order) image.now refusal.new }
+    ensures call { (result ≡ negsuc 1) ↔ ((1 < order) ⊎ ((most < least) ⊎ (4096 < most))) }
+    ensures answers { (result ≡ pos 1) ⊎ (result ≡ pos 0) ⊎ (result ≡ negsuc 0) ⊎ (result ≡ negsuc 1) ⊎ (result ≡ negsuc 2) }
+    ensures text_kept { (result ≡ pos 1) ⊎ (text.new ≡ text.old) }
+    ensures refusal_kept { (result ≡ pos 0) ⊎ (refusal.new ≡ refusal.old) }
+{
+    let Some(order) = order_of(u64::from(order)) else {
+        return BAD_CALL;
+    };
+    if least > most || most > MAX_CONTEXT as u32 {
+        return BAD_CALL;
+    }
+    match proposal(alloc, image, order, least, most) {
+        Ok(words) => give(&words, text, wanted),
+        Err(Unproposed::Memory) => NO_MEMORY,
+        Err(Unproposed::Refused(told)) => {
+            *refusal = told;
+            REFUSED
+        }
+    }
+}
+
+/// What a refusal or a fault says in English, without an end of line: the kind is the letter C, E, F, I or K. The answer is
+/// how many bytes that is, 0 where there is no such refusal; as many as have room stand in `text`.
+#[unsafe(no_mangle)]
+pub extern "C" fn bpf_host_refusal_text(kind: u32, number: u32, text: &mut [u8]) -> usize
+    ensures none { (IsNumbered kind number → ⊥) → result ≡ 0 }
+    ensures given { (words : List ℕ) × (length words ≡ result) × (text.new ≡ take (length text.old) words ++ drop result text.old) }
+{
+    match text_of(kind, number) {
+        Some(words) => {
+            give_beginning(words.as_bytes(), text);
+            words.len()
+        }
+        None => 0,
+    }
+}

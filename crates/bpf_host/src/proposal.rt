@@ -1,0 +1,75 @@
+//! Certificates proposed for images.
+
+ghost use Rattle.std.specs.Prelude.{◌≡◌, ◌≤◌, ◌<◌, ◌++◌, ◌⊎◌, IfOk, IfErr, IfSome, length, drop, pos, negsuc};
+ghost use Rattle.bpf_cert.specs.Spelling.{certificate_text};
+ghost use Rattle.bpf_host.specs.Answers.{IsProposal, IsToldUnproposed};
+
+use crate::answers::{BpfRefusal, DONE, TOO_SMALL, of_image, of_inference};
+use bpf_cert::{Certificate, write};
+use bpf_infer::{InferError, infer};
+use bpf_insn::{DecodeError, Order, decode};
+use std::alloc::Global;
+
+/// Why there is no proposal.
+#[derive(Clone, Copy)]
+pub(crate) enum Unproposed {
+    /// Memory ran out.
+    Memory,
+    /// The image is refused, or no certificate is proposed for its program.
+    Refused(BpfRefusal),
+}
+
+/// The text of a certificate; None where memory ran out.
+fn text_of(alloc: Global, certificate: &Certificate) -> Option<Vec<u8>>
+    ensures { IfSome result (λ text. text.items ≡ certificate_text certificate.now) }
+{
+    let mut text = Vec::new(alloc);
+    match write(certificate, &mut text) {
+        Ok(()) => Some(text),
+        Err(_) => None,
+    }
+}
+
+/// The text of a certificate that is proposed for the program of an image, on contexts of `least` to `most` bytes.
+pub(crate) fn proposal(
+    alloc: Global,
+    image: &[u8],
+    order: Order,
+    least: u32,
+    most: u32,
+) -> Result<Vec<u8>, Unproposed>
+    requires order { least ≤ most }
+    requires short { most ≤ 4096 }
+    ensures ok { IfOk result (λ text. IsProposal least most text.items) }
+    ensures err { IfErr result (IsToldUnproposed order image.now) }
+{
+    let program = match decode(alloc, image, order) {
+        Ok(program) => program,
+        Err(DecodeError::Memory) => return Err(Unproposed::Memory),
+        Err(error) => return Err(Unproposed::Refused(of_image(error))),
+    };
+    let certificate = match infer(alloc, &program, least, most) {
+        Ok(certificate) => certificate,
+        Err(InferError::Memory) => return Err(Unproposed::Memory),
+        Err(error) => return Err(Unproposed::Refused(of_inference(error))),
+    };
+    match text_of(alloc, &certificate) {
+        Some(text) => Ok(text),
+        None => Err(Unproposed::Memory),
+    }
+}
+
+/// Gives a text where there is room for it, and says how many bytes it has.
+pub(crate) fn give(words: &[u8], text: &mut [u8], wanted: &mut usize) -> i32
+    ensures given { result ≡ pos 1 → text.new ≡ words.now ++ drop (length words.now) text.old }
+    ensures small { result ≡ negsuc 2 → (length text.old < length words.now) × (text.new ≡ text.old) }
+    ensures wanted { wanted.new ≡ length words.now }
+    ensures answers { (result ≡ pos 1) ⊎ (result ≡ negsuc 2) }
+{
+    *wanted = words.len();
+    if text.len() < words.len() {
+        return TOO_SMALL;
+    }
+    text[..words.len()].copy_from_slice(words);
+    DONE
+}

@@ -1,0 +1,271 @@
+//! filter.rs: runs a filter that somebody else wrote over the frames of a pcap file, as filter.c does.
+//!
+//!     filter [--big] IMAGE CERTIFICATE FRAMES [ROUNDS]
+//!
+//! The module `bpf` has the library's calls as safe functions: what a call asks of its caller is kept by types.
+
+use std::io::{self, Write};
+use std::process::ExitCode;
+use std::time::Instant;
+use std::{env, fs};
+
+mod bpf {
+    use std::ffi::c_void;
+
+    /// The byte order of an image and of the memory that it runs on.
+    #[derive(Clone, Copy)]
+    pub enum Order {
+        Little = 0,
+        Big = 1,
+    }
+
+    #[repr(C)]
+    #[derive(Clone, Copy, Default)]
+    pub struct Verdict {
+        pub least: u32,
+        pub most: u32,
+        pub bound: u32,
+    }
+
+    #[repr(C)]
+    #[derive(Clone, Copy, Default)]
+    pub struct Refusal {
+        pub kind: u32,
+        pub number: u32,
+        pub place: u64,
+        pub condition: u64,
+    }
+
+    #[link(name = "bpf_host", kind = "static")]
+    unsafe extern "C" {
+        fn bpf_host_verify(
+            image: *const u8,
+            image_len: usize,
+            order: u32,
+            certificate: *const u8,
+            certificate_len: usize,
+            verdict: &mut Verdict,
+            refusal: &mut Refusal,
+        ) -> i32;
+        fn bpf_host_prepared_size(image_len: usize) -> usize;
+        fn bpf_host_prepare(
+            image: *const u8,
+            image_len: usize,
+            order: u32,
+            memory: *mut c_void,
+            memory_len: usize,
+        ) -> i32;
+        fn bpf_host_run_checked(
+            memory: *const c_void,
+            memory_len: usize,
+            context: *const u8,
+            context_len: usize,
+            value: &mut u64,
+        ) -> i32;
+        fn bpf_host_refusal_text(kind: u32, number: u32, text: *mut u8, text_len: usize) -> usize;
+    }
+
+    impl Refusal {
+        /// What the refusal says.
+        pub fn text(&self) -> String {
+            let mut text = [0; 128];
+            // SAFETY: the pointer and the length are the array's.
+            let len = unsafe {
+                bpf_host_refusal_text(self.kind, self.number, text.as_mut_ptr(), text.len())
+            };
+            String::from_utf8_lossy(&text[..len.min(text.len())]).into_owned()
+        }
+    }
+
+    /// Why a filter isn't loaded.
+    pub enum LoadError {
+        Refused(Refusal),
+        NoMemory,
+    }
+
+    /// A filter that was judged: what is promised of it, and its program, ready to run. Nothing changes its words.
+    pub struct Filter {
+        verdict: Verdict,
+        words: Vec<u64>,
+    }
+
+    impl Filter {
+        /// Judges an image by a certificate, and prepares its program.
+        pub fn load(image: &[u8], certificate: &[u8], order: Order) -> Result<Filter, LoadError> {
+            let (mut verdict, mut refusal) = (Verdict::default(), Refusal::default());
+            // SAFETY: the pointers and lengths are those of slices.
+            let answer = unsafe {
+                bpf_host_verify(
+                    image.as_ptr(),
+                    image.len(),
+                    order as u32,
+                    certificate.as_ptr(),
+                    certificate.len(),
+                    &mut verdict,
+                    &mut refusal,
+                )
+            };
+            match answer {
+                1 => Filter::prepared(image, order, verdict).ok_or(LoadError::NoMemory),
+                0 => Err(LoadError::Refused(refusal)),
+                _ => Err(LoadError::NoMemory),
+            }
+        }
+
+        fn prepared(image: &[u8], order: Order, verdict: Verdict) -> Option<Filter> {
+            // SAFETY: a number goes in and a number comes back.
+            let mut words = vec![0u64; unsafe { bpf_host_prepared_size(image.len()) }];
+            // SAFETY: the pointers and lengths are those of a slice and of a vector's words.
+            let answer = unsafe {
+                bpf_host_prepare(
+                    image.as_ptr(),
+                    image.len(),
+                    order as u32,
+                    words.as_mut_ptr().cast(),
+                    8 * words.len(),
+                )
+            };
+            (answer == 1).then_some(Filter { verdict, words })
+        }
+
+        /// What is promised of the filter.
+        pub fn verdict(&self) -> Verdict {
+            self.verdict
+        }
+
+        /// What the filter says of a context; None if its length isn't one of the verdict's.
+        pub fn run(&self, context: &[u8]) -> Option<u64> {
+            if !(self.verdict.least as usize..=self.verdict.most as usize).contains(&context.len())
+            {
+                return None;
+            }
+            let mut value = 0;
+            // SAFETY: the words are those that were prepared of the image that was judged, and the context's length is one
+            // of the verdict's.
+            let answer = unsafe {
+                bpf_host_run_checked(
+                    self.words.as_ptr().cast(),
+                    8 * self.words.len(),
+                    context.as_ptr(),
+                    context.len(),
+                    &mut value,
+                )
+            };
+            (answer == 1).then_some(value)
+        }
+    }
+}
+
+/// The frames of a pcap file: a head of 24 bytes, then for each frame one of 16 and its bytes.
+struct Frames<'a> {
+    rest: &'a [u8],
+    big: bool,
+}
+
+fn number_at(bytes: &[u8], at: usize, big: bool) -> Option<u32> {
+    let four = bytes.get(at..at + 4)?.try_into().ok()?;
+    Some(if big {
+        u32::from_be_bytes(four)
+    } else {
+        u32::from_le_bytes(four)
+    })
+}
+
+impl<'a> Frames<'a> {
+    fn of(file: &'a [u8]) -> Option<Frames<'a>> {
+        let rest = file.get(24..)?;
+        match number_at(file, 0, false)? {
+            0xa1b2c3d4 | 0xa1b23c4d => Some(Frames { rest, big: false }),
+            0xd4c3b2a1 | 0x4d3cb2a1 => Some(Frames { rest, big: true }),
+            _ => None,
+        }
+    }
+}
+
+impl<'a> Iterator for Frames<'a> {
+    type Item = &'a [u8];
+
+    fn next(&mut self) -> Option<&'a [u8]> {
+        let len = number_at(self.rest, 8, self.big)? as usize;
+        let frame = self.rest.get(16..)?.get(..len)?;
+        self.rest = &self.rest[16 + len..];
+        Some(frame)
+    }
+}
+
+/// Whether the filter accepts a frame. A short one is dropped unread, a long one is cut.
+fn accepts(filter: &bpf::Filter, frame: &[u8]) -> bool {
+    let most = filter.verdict().most as usize;
+    filter
+        .run(&frame[..frame.len().min(most)])
+        .is_some_and(|value| value != 0)
+}
+
+/// Tells the answer on each frame, and then how many frames there were a second.
+fn filter_all(filter: &bpf::Filter, file: &[u8], rounds: usize) -> Result<(), String> {
+    let broken = "no pcap file";
+    let mut out = io::BufWriter::new(io::stdout());
+    for frame in Frames::of(file).ok_or(broken)? {
+        let line = if accepts(filter, frame) {
+            "accept"
+        } else {
+            "drop"
+        };
+        writeln!(out, "{line}").map_err(|error| error.to_string())?;
+    }
+    out.flush().map_err(|error| error.to_string())?;
+    let start = Instant::now();
+    let (mut count, mut accepted) = (0, 0);
+    for _ in 0..rounds {
+        for frame in Frames::of(file).ok_or(broken)? {
+            count += 1;
+            accepted += usize::from(accepts(filter, frame));
+        }
+    }
+    let rate = count as f64 / start.elapsed().as_secs_f64();
+    eprintln!("{accepted} of {count} frames accepted, {rate:.0} frames a second");
+    Ok(())
+}
+
+fn run(words: &[String]) -> Result<(), String> {
+    let order = if words.first().is_some_and(|word| word == "--big") {
+        bpf::Order::Big
+    } else {
+        bpf::Order::Little
+    };
+    let words = &words[order as usize..];
+    let [image, certificate, frames, rest @ ..] = words else {
+        return Err("usage: filter [--big] IMAGE CERTIFICATE FRAMES [ROUNDS]".to_owned());
+    };
+    let read =
+        |name: &String| fs::read(name).map_err(|error| format!("cannot read {name}: {error}"));
+    let rounds = rest
+        .first()
+        .map_or(Ok(1), |word| word.parse())
+        .map_err(|_| "bad ROUNDS".to_owned())?;
+    match bpf::Filter::load(&read(image)?, &read(certificate)?, order) {
+        Ok(filter) => filter_all(&filter, &read(frames)?, rounds),
+        Err(bpf::LoadError::NoMemory) => Err("no memory".to_owned()),
+        Err(bpf::LoadError::Refused(why)) => {
+            let kind = char::from_u32(why.kind).unwrap_or('?');
+            let place = if kind == 'K' { "line" } else { "slot" };
+            Err(format!(
+                "refused by {kind}{} at {place} {}: {}",
+                why.number,
+                why.place,
+                why.text()
+            ))
+        }
+    }
+}
+
+fn main() -> ExitCode {
+    let words: Vec<String> = env::args().skip(1).collect();
+    match run(&words) {
+        Ok(()) => ExitCode::SUCCESS,
+        Err(error) => {
+            eprintln!("filter: {error}");
+            ExitCode::FAILURE
+        }
+    }
+}

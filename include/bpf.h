@@ -1,0 +1,205 @@
+/* bpf.h: the proved checker, machine and inferrer of eBPF (RFC 9669, integer profile), for C and C++.
+ *
+ * Link libbpf_host.a. docs/HOSTS.md has each call's duty, answers, memory and threads.
+ *
+ * The functions of this header look at what can be wrong with pointers and lengths, and hand the rest to the library, whose
+ * own functions (bpf_host_..) take no pointer that is null. None keeps what it was given, or changes anything but what the
+ * answer says; none has state, so any number of threads may call at once, each with memory of its own for the answers.
+ * What isn't wanted of an answer may be null. A null pointer is bytes only with the length 0.
+ */
+#ifndef BPF_HOST_H
+#define BPF_HOST_H
+
+#include <stddef.h>
+#include <stdint.h>
+
+#ifdef __cplusplus
+extern "C" {
+#endif
+
+/* ---- what the calls answer */
+
+enum bpf_answer {
+    BPF_YES = 1,        /* done, and the answer stands where it was asked for */
+    BPF_NO = 0,         /* refused, and the refusal says why */
+    BPF_NO_MEMORY = -1, /* malloc gave none */
+    BPF_BAD_CALL = -2,  /* an argument that no call takes: see each call */
+    BPF_TOO_SMALL = -3  /* the memory for the answer is too small */
+};
+
+/* The byte order of an image and of the memory that it runs on. */
+enum bpf_order { BPF_LITTLE = 0, BPF_BIG = 1 };
+
+/* The letter of a refusal, or F of a fault. */
+enum bpf_kind {
+    BPF_CHECK = 'C',       /* the certificate doesn't certify the program */
+    BPF_IMAGE = 'E',       /* the bytes are no image */
+    BPF_FAULT = 'F',       /* an instruction that the machine can't do */
+    BPF_INFERENCE = 'I',   /* no certificate is proposed */
+    BPF_CERTIFICATE = 'K'  /* the text is no certificate */
+};
+
+/* On every context of `least` to `most` bytes the program ends within `bound` instructions. */
+struct bpf_verdict {
+    uint32_t least; /* 0 to 4,096 */
+    uint32_t most;  /* least to 4,096 */
+    uint32_t bound; /* 1 to 2^32 - 1 */
+};
+
+struct bpf_refusal {
+    uint32_t kind;      /* enum bpf_kind, but BPF_FAULT */
+    uint32_t number;    /* from 1 */
+    uint64_t place;     /* the slot, from 0; of BPF_CERTIFICATE the line, from 1 */
+    uint64_t condition; /* of I4: the number of the checker's condition, 3 to 12; else 0 */
+};
+
+enum bpf_end {
+    BPF_DONE = 0,        /* with `value`, after `steps` instructions */
+    BPF_FAULTED = 1,     /* by fault `number` at `slot`, after `steps` instructions */
+    BPF_OUT_OF_FUEL = 2, /* as many instructions were done as there was fuel for */
+    BPF_NOT_RUN = 3      /* the image is refused by E `number` at `slot` */
+};
+
+struct bpf_outcome {
+    uint32_t kind;   /* enum bpf_end */
+    uint32_t number; /* of the fault or refusal, else 0 */
+    uint64_t slot;   /* of the fault or refusal, else 0 */
+    uint64_t value;  /* what r0 holds, else 0 */
+    uint64_t steps;  /* the instructions done */
+};
+
+/* ---- the library's functions; call those below them */
+
+int32_t bpf_host_verify(const uint8_t *image, size_t image_len, uint32_t order, const uint8_t *certificate,
+                        size_t certificate_len, struct bpf_verdict *verdict, struct bpf_refusal *refusal);
+size_t bpf_host_prepared_size(size_t image_len);
+int32_t bpf_host_prepare(const uint8_t *image, size_t image_len, uint32_t order, uint8_t *memory, size_t memory_len);
+int32_t bpf_host_run_checked(const uint8_t *memory, size_t memory_len, const uint8_t *context, size_t context_len,
+                             uint64_t *value);
+int32_t bpf_host_run(const uint8_t *image, size_t image_len, uint32_t order, const uint8_t *context, size_t context_len,
+                     uint64_t fuel, struct bpf_outcome *outcome);
+int32_t bpf_host_infer(const uint8_t *image, size_t image_len, uint32_t order, uint32_t least, uint32_t most, uint8_t *text,
+                       size_t text_len, size_t *wanted, struct bpf_refusal *refusal);
+size_t bpf_host_refusal_text(uint32_t kind, uint32_t number, uint8_t *text, size_t text_len);
+
+/* ---- bytes, as C hands them over */
+
+/* Whether there are such bytes: a null pointer has none, and no object is larger than PTRDIFF_MAX. */
+static inline int bpf_are_bytes(const void *at, size_t len) {
+    return (at || !len) && len <= (size_t)PTRDIFF_MAX;
+}
+
+/* The same bytes, by a pointer that isn't null. */
+static inline const uint8_t *bpf_bytes(const void *at) {
+    static const uint8_t none = 0;
+    return at ? (const uint8_t *)at : &none;
+}
+
+/* Whether memory that is written shares a byte with memory that is read. */
+static inline int bpf_overlap(const void *out, size_t out_len, const void *in, size_t in_len) {
+    uintptr_t o = (uintptr_t)out, i = (uintptr_t)in;
+    return out_len && in_len && (o < i ? i - o < out_len : o - i < in_len);
+}
+
+/* Whether memory is that of so many words: there, in line, and no larger than an object. */
+static inline int bpf_are_words(const uint64_t *words, size_t words_len) {
+    return words && (uintptr_t)words % sizeof(uint64_t) == 0 && words_len <= (size_t)PTRDIFF_MAX / sizeof(uint64_t);
+}
+
+/* ---- the calls */
+
+/* Whether a certificate certifies an image. BPF_YES: *verdict is promised of the image, whoever made the certificate. BPF_NO:
+ * *refusal says why, by E, K or C. BPF_NO_MEMORY. BPF_BAD_CALL: an order that isn't one, or no bytes. */
+static inline int32_t bpf_verify(const void *image, size_t image_len, uint32_t order, const void *certificate,
+                                 size_t certificate_len, struct bpf_verdict *verdict, struct bpf_refusal *refusal) {
+    struct bpf_verdict promised = {0, 0, 0};
+    struct bpf_refusal why = {0, 0, 0, 0};
+    int32_t answer;
+    if (!bpf_are_bytes(image, image_len) || !bpf_are_bytes(certificate, certificate_len)) return BPF_BAD_CALL;
+    answer = bpf_host_verify(bpf_bytes(image), image_len, order, bpf_bytes(certificate), certificate_len, &promised, &why);
+    if (answer == BPF_YES && verdict) *verdict = promised;
+    if (answer == BPF_NO && refusal) *refusal = why;
+    return answer;
+}
+
+/* How many words of memory the prepared program of an image of so many bytes takes; 0 where no image is as long. */
+static inline size_t bpf_prepared_size(size_t image_len) {
+    return bpf_host_prepared_size(image_len);
+}
+
+/* Prepares the program of an image for bpf_run_checked, in words of the caller; what they hold is the library's, and may be
+ * other in another version. It may be copied and moved. BPF_YES. BPF_NO: the image is refused (bpf_verify says why).
+ * BPF_TOO_SMALL: there are fewer words than bpf_prepared_size(image_len). BPF_BAD_CALL: an order that isn't one, no bytes, no
+ * words, or words that lie in the image. Only BPF_YES changes the words. Nothing is allocated. */
+static inline int32_t bpf_prepare(const void *image, size_t image_len, uint32_t order, uint64_t *words, size_t words_len) {
+    size_t size = bpf_host_prepared_size(image_len);
+    if (!bpf_are_bytes(image, image_len) || !bpf_are_words(words, words_len)) return BPF_BAD_CALL;
+    if (words_len < size) return BPF_TOO_SMALL;
+    if (bpf_overlap(words, 8 * size, image, image_len)) return BPF_BAD_CALL;
+    return bpf_host_prepare(bpf_bytes(image), image_len, order, (uint8_t *)words, 8 * size);
+}
+
+/* Runs a prepared program, without a test that could fail: BPF_YES, and *result is what r0 holds at its end, which comes
+ * within the verdict's bound. Nothing is allocated. BPF_BAD_CALL: no words or no bytes.
+ *
+ * The caller's duty, which nobody looks at here: bpf_prepare said BPF_YES to these words, and they are as it left them; bpf_verify
+ * said BPF_YES to the same image in the same order; and context_len is from `least` to `most` of that verdict. Where one isn't
+ * so, nothing is promised of what comes. */
+static inline int32_t bpf_run_checked(const uint64_t *words, size_t words_len, const void *context, size_t context_len,
+                                      uint64_t *result) {
+    uint64_t value = 0;
+    int32_t answer;
+    if (!bpf_are_words(words, words_len) || !bpf_are_bytes(context, context_len)) return BPF_BAD_CALL;
+    answer = bpf_host_run_checked((const uint8_t *)words, 8 * words_len, bpf_bytes(context), context_len, &value);
+    if (answer == BPF_YES && result) *result = value;
+    return answer;
+}
+
+/* Runs an image that nobody verified, on the exact machine, for at most `fuel` instructions. BPF_YES: it ran, and *outcome says
+ * how that ended. BPF_NO: the image is refused, as *outcome says. BPF_BAD_CALL: an order that isn't one, no bytes, or a context
+ * of more than 4,096; *outcome stays. Nothing is allocated. */
+static inline int32_t bpf_run(const void *image, size_t image_len, uint32_t order, const void *context, size_t context_len,
+                              uint64_t fuel, struct bpf_outcome *outcome) {
+    struct bpf_outcome end = {0, 0, 0, 0, 0};
+    int32_t answer;
+    if (!bpf_are_bytes(image, image_len) || !bpf_are_bytes(context, context_len)) return BPF_BAD_CALL;
+    answer = bpf_host_run(bpf_bytes(image), image_len, order, bpf_bytes(context), context_len, fuel, &end);
+    if (answer != BPF_BAD_CALL && outcome) *outcome = end;
+    return answer;
+}
+
+/* Proposes a certificate for an image, on contexts of `least` to `most` bytes. BPF_YES: its text stands in the first *wanted
+ * bytes of `text`. BPF_TOO_SMALL: it has *wanted bytes, and `text`, which may be null with the length 0, is as it was. BPF_NO:
+ * none is proposed, and *refusal says why, by E or I. BPF_NO_MEMORY. BPF_BAD_CALL: an order that isn't one, `least` above `most`,
+ * `most` above 4,096, no bytes, or a text that lies in the image. Nobody relies on a proposal: bpf_verify judges it. */
+static inline int32_t bpf_infer(const void *image, size_t image_len, uint32_t order, uint32_t least, uint32_t most, char *text,
+                                size_t text_len, size_t *wanted, struct bpf_refusal *refusal) {
+    struct bpf_refusal why = {0, 0, 0, 0};
+    size_t count = 0;
+    uint8_t none = 0;
+    int32_t answer;
+    if (!bpf_are_bytes(image, image_len) || !bpf_are_bytes(text, text_len)) return BPF_BAD_CALL;
+    if (bpf_overlap(text, text_len, image, image_len)) return BPF_BAD_CALL;
+    answer = bpf_host_infer(bpf_bytes(image), image_len, order, least, most, text ? (uint8_t *)text : &none, text_len, &count, &why);
+    if ((answer == BPF_YES || answer == BPF_TOO_SMALL) && wanted) *wanted = count;
+    if (answer == BPF_NO && refusal) *refusal = why;
+    return answer;
+}
+
+/* What a refusal or a fault says in English, as snprintf gives it: `text` gets as much as has room, and a 0 behind it; the answer
+ * is the length of the whole text without the 0, and 0 where there is no such refusal. With text_len 0, `text` may be null. */
+static inline size_t bpf_refusal_text(uint32_t kind, uint32_t number, char *text, size_t text_len) {
+    uint8_t none = 0;
+    size_t room, len;
+    if (!bpf_are_bytes(text, text_len)) return 0;
+    room = text_len ? text_len - 1 : 0;
+    len = bpf_host_refusal_text(kind, number, text ? (uint8_t *)text : &none, room);
+    if (text_len) text[len < room ? len : room] = 0;
+    return len;
+}
+
+#ifdef __cplusplus
+}
+#endif
+
+#endif

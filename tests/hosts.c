@@ -1,0 +1,360 @@
+/* hosts.c: a host that is looked at by hosts.py. `table` answers lines of standard input as the command answers its words,
+ * each with the command's status in front; `bad` makes the calls that no caller should; `threads` judges and runs in two
+ * threads; `many` runs one prepared program a million times. */
+#include <bpf.h>
+#include <pthread.h>
+#include <stdio.h>
+#include <stdlib.h>
+#include <string.h>
+
+struct bytes {
+    uint8_t *at;
+    size_t len;
+};
+
+/* Memory of exactly this size, so that the sanitizer sees each byte beyond it. */
+static struct bytes of_size(size_t len) {
+    struct bytes b = {malloc(len ? len : 1), len};
+    if (!b.at) abort();
+    return b;
+}
+
+static struct bytes read_file(const char *name) {
+    FILE *file = fopen(name, "rb");
+    struct bytes b;
+    if (!file || fseek(file, 0, SEEK_END)) abort();
+    b = of_size((size_t)ftell(file));
+    rewind(file);
+    if (fread(b.at, 1, b.len, file) != b.len) abort();
+    fclose(file);
+    return b;
+}
+
+static struct bytes from_hex(const char *hex) {
+    struct bytes b = of_size(strcmp(hex, "none") ? strlen(hex) / 2 : 0);
+    for (size_t i = 0; i < b.len; i++) {
+        unsigned byte;
+        if (sscanf(hex + 2 * i, "%2x", &byte) != 1) abort();
+        b.at[i] = (uint8_t)byte;
+    }
+    return b;
+}
+
+/* A program ready to run, and what is promised of it. */
+struct prepared {
+    uint64_t *words;
+    size_t len;
+    struct bpf_verdict verdict;
+};
+
+static struct prepared prepare(const struct bytes *image, uint32_t order, struct bpf_verdict verdict) {
+    struct prepared p = {NULL, bpf_prepared_size(image->len), verdict};
+    p.words = malloc(p.len * sizeof *p.words);
+    if (!p.words || bpf_prepare(image->at, image->len, order, p.words, p.len) != BPF_YES) abort();
+    return p;
+}
+
+/* ---- the table */
+
+static int say_refusal(const struct bpf_refusal *why) {
+    char text[128];
+    if (!bpf_refusal_text(why->kind, why->number, text, sizeof text)) abort();
+    if (why->condition)
+        printf("1 no I%u (C%u) at slot %u\n", (unsigned)why->number, (unsigned)why->condition, (unsigned)why->place);
+    else
+        printf("1 no %c%u at %s %u\n", (int)why->kind, (unsigned)why->number,
+               why->kind == BPF_CERTIFICATE ? "line" : "slot", (unsigned)why->place);
+    return 0;
+}
+
+static void say_lengths(const struct bpf_verdict *v) {
+    printf(v->least == v->most ? "%u" : "%u..%u", (unsigned)v->least, (unsigned)v->most);
+}
+
+static void say_check(uint32_t order, const struct bytes *image, const struct bytes *certificate) {
+    struct bpf_verdict v;
+    struct bpf_refusal why;
+    if (bpf_verify(image->at, image->len, order, certificate->at, certificate->len, &v, &why) == BPF_NO) {
+        say_refusal(&why);
+        return;
+    }
+    printf("0 yes length ");
+    say_lengths(&v);
+    printf(" bound %u\n", (unsigned)v.bound);
+}
+
+static void say_run(uint32_t order, const struct bytes *image, const struct bytes *context, uint64_t fuel) {
+    struct bpf_outcome end;
+    char text[128];
+    if (bpf_run(image->at, image->len, order, context->at, context->len, fuel, &end) == BPF_BAD_CALL) {
+        puts("2 context too long");
+        return;
+    }
+    switch (end.kind) {
+    case BPF_DONE: printf("0 done %llu steps %llu\n", (unsigned long long)end.value, (unsigned long long)end.steps); break;
+    case BPF_FAULTED:
+        if (!bpf_refusal_text(BPF_FAULT, end.number, text, sizeof text)) abort();
+        printf("1 fault F%u at slot %u steps %llu\n", (unsigned)end.number, (unsigned)end.slot, (unsigned long long)end.steps);
+        break;
+    case BPF_OUT_OF_FUEL: puts("1 out of fuel"); break;
+    default: printf("1 no E%u at slot %u\n", (unsigned)end.number, (unsigned)end.slot);
+    }
+}
+
+static void say_run_checked(uint32_t order, const struct bytes *image, const struct bytes *certificate,
+                            const struct bytes *context) {
+    struct bpf_verdict v;
+    struct bpf_refusal why;
+    struct prepared p;
+    uint64_t value = 0;
+    if (bpf_verify(image->at, image->len, order, certificate->at, certificate->len, &v, &why) == BPF_NO) {
+        say_refusal(&why);
+        return;
+    }
+    if (context->len < v.least || context->len > v.most) {
+        printf("1 no context of %zu bytes, want ", context->len);
+        say_lengths(&v);
+        puts("");
+        return;
+    }
+    p = prepare(image, order, v);
+    if (bpf_run_checked(p.words, p.len, context->at, context->len, &value) != BPF_YES) abort();
+    printf("0 done %llu\n", (unsigned long long)value);
+    free(p.words);
+}
+
+/* The size is asked for first; then the text is written, and judged. */
+static void say_infer(uint32_t order, const struct bytes *image, uint32_t least, uint32_t most, const char *out) {
+    size_t wanted = 0, again = 0;
+    struct bpf_refusal why;
+    struct bytes text;
+    FILE *file;
+    switch (bpf_infer(image->at, image->len, order, least, most, NULL, 0, &wanted, &why)) {
+    case BPF_NO: say_refusal(&why); return;
+    case BPF_BAD_CALL: puts("2 most below least"); return;
+    case BPF_TOO_SMALL: break;
+    default: abort();
+    }
+    text = of_size(wanted);
+    if (bpf_infer(image->at, image->len, order, least, most, (char *)text.at, wanted - 1, &again, &why) != BPF_TOO_SMALL) abort();
+    if (bpf_infer(image->at, image->len, order, least, most, (char *)text.at, wanted, &again, &why) != BPF_YES) abort();
+    file = fopen(out, "wb");
+    if (!file || again != wanted || fwrite(text.at, 1, wanted, file) != wanted) abort();
+    fclose(file);
+    free(text.at);
+    puts("0 ");
+}
+
+static void answer(char **word) {
+    uint32_t order = strcmp(word[1], "big") ? BPF_LITTLE : BPF_BIG;
+    struct bytes image = read_file(word[2]), second = {NULL, 0}, third = {NULL, 0};
+    if (!strcmp(word[0], "check")) {
+        second = read_file(word[3]);
+        say_check(order, &image, &second);
+    } else if (!strcmp(word[0], "run")) {
+        second = from_hex(word[3]);
+        say_run(order, &image, &second, strtoull(word[4], NULL, 10));
+    } else if (!strcmp(word[0], "run-checked")) {
+        second = read_file(word[3]);
+        third = from_hex(word[4]);
+        say_run_checked(order, &image, &second, &third);
+    } else {
+        say_infer(order, &image, (uint32_t)atol(word[3]), (uint32_t)atol(word[4]), word[5]);
+    }
+    free(image.at), free(second.at), free(third.at);
+}
+
+static int table(void) {
+    static char line[1 << 14];
+    while (fgets(line, sizeof line, stdin)) {
+        char *word[8] = {0};
+        int count = 0;
+        for (char *at = strtok(line, " \n"); at && count < 8; at = strtok(NULL, " \n")) word[count++] = at;
+        answer(word);
+    }
+    return 0;
+}
+
+/* ---- calls that no caller should make */
+
+static int wrong;
+
+static void wants(const char *what, long got, long want) {
+    if (got != want) {
+        printf("%s: %ld, not %ld\n", what, got, want);
+        wrong++;
+    }
+}
+
+#define WANTS(call, want) wants(#call, (long)(call), (long)(want))
+
+static const uint8_t image[16] = {0xb7, 0, 0, 0, 0, 0, 0, 0, 0x95}; /* r0 = 0; exit */
+static const char certificate[] = "bpfcert 1 0 2\nfn 0 1 *\nat 0 2\nend\n";
+#define IMAGE image, sizeof image
+#define CERTIFICATE certificate, sizeof certificate - 1
+#define HUGE_LEN ((size_t)PTRDIFF_MAX + 1)
+
+static void bad_checks(void) {
+    struct bpf_verdict v = {7, 7, 7};
+    struct bpf_refusal why = {7, 7, 7, 7};
+    WANTS(bpf_verify(IMAGE, BPF_LITTLE, CERTIFICATE, NULL, NULL), BPF_YES);
+    WANTS(bpf_verify(NULL, 16, BPF_LITTLE, CERTIFICATE, &v, &why), BPF_BAD_CALL);
+    WANTS(bpf_verify(IMAGE, BPF_LITTLE, NULL, 9, &v, &why), BPF_BAD_CALL);
+    WANTS(bpf_verify(image, HUGE_LEN, BPF_LITTLE, CERTIFICATE, &v, &why), BPF_BAD_CALL);
+    WANTS(bpf_verify(IMAGE, BPF_LITTLE, certificate, SIZE_MAX, &v, &why), BPF_BAD_CALL);
+    WANTS(bpf_verify(IMAGE, 2, CERTIFICATE, &v, &why), BPF_BAD_CALL);
+    WANTS(bpf_verify(IMAGE, UINT32_MAX, CERTIFICATE, &v, &why), BPF_BAD_CALL);
+    WANTS(v.least == 7 && why.kind == 7, 1);
+    WANTS(bpf_verify(NULL, 0, BPF_LITTLE, CERTIFICATE, &v, &why), BPF_NO);
+    WANTS(why.kind == BPF_IMAGE && why.number == 1 && v.least == 7, 1);
+    WANTS(bpf_verify(IMAGE, BPF_BIG, NULL, 0, &v, &why), BPF_NO);
+    WANTS(why.kind == BPF_CERTIFICATE && why.number == 1 && why.place == 1, 1);
+}
+
+static void bad_runs(void) {
+    static const uint8_t long_context[4097];
+    struct bpf_outcome end = {7, 7, 7, 7, 7};
+    WANTS(bpf_run(NULL, 16, BPF_LITTLE, NULL, 0, 9, &end), BPF_BAD_CALL);
+    WANTS(bpf_run(IMAGE, BPF_LITTLE, NULL, 1, 9, &end), BPF_BAD_CALL);
+    WANTS(bpf_run(IMAGE, BPF_LITTLE, long_context, 4097, 9, &end), BPF_BAD_CALL);
+    WANTS(bpf_run(IMAGE, BPF_LITTLE, long_context, HUGE_LEN, 9, &end), BPF_BAD_CALL);
+    WANTS(bpf_run(IMAGE, 2, NULL, 0, 9, &end), BPF_BAD_CALL);
+    WANTS(end.kind == 7 && end.steps == 7, 1);
+    WANTS(bpf_run(IMAGE, BPF_LITTLE, long_context, 4096, 9, NULL), BPF_YES);
+    WANTS(bpf_run(IMAGE, BPF_LITTLE, NULL, 0, 1, &end), BPF_YES);
+    WANTS(end.kind, BPF_OUT_OF_FUEL);
+    WANTS(bpf_run(image, 15, BPF_LITTLE, NULL, 0, 1, &end), BPF_NO);
+    WANTS(end.kind == BPF_NOT_RUN && end.number == 1, 1);
+}
+
+static void bad_preparing(void) {
+    uint64_t words[8] = {7, 7, 7, 7, 7, 7, 7, 7};
+    size_t size = bpf_prepared_size(sizeof image);
+    uint64_t value = 7;
+    WANTS(size > 0 && size <= 8, 1);
+    WANTS(bpf_prepared_size(0), 0);
+    WANTS(bpf_prepared_size(12), 0);
+    WANTS(bpf_prepared_size(524296), 0);
+    WANTS(bpf_prepared_size(SIZE_MAX), 0);
+    WANTS(bpf_prepared_size(524288) > 0, 1);
+    WANTS(bpf_prepare(NULL, 16, BPF_LITTLE, words, 8), BPF_BAD_CALL);
+    WANTS(bpf_prepare(IMAGE, BPF_LITTLE, NULL, 8), BPF_BAD_CALL);
+    WANTS(bpf_prepare(IMAGE, BPF_LITTLE, words, SIZE_MAX), BPF_BAD_CALL);
+    WANTS(bpf_prepare(IMAGE, BPF_LITTLE, (uint64_t *)(void *)((char *)words + 1), 7), BPF_BAD_CALL);
+    WANTS(bpf_prepare(IMAGE, 2, words, 8), BPF_BAD_CALL);
+    WANTS(bpf_prepare(IMAGE, BPF_LITTLE, words, size - 1), BPF_TOO_SMALL);
+    WANTS(bpf_prepare(image, 12, BPF_LITTLE, words, 8), BPF_NO);
+    WANTS(bpf_prepare(words, 16, BPF_LITTLE, words, 8), BPF_BAD_CALL);
+    WANTS(bpf_prepare((char *)words + 8 * size - 8, 16, BPF_LITTLE, words, 8), BPF_BAD_CALL);
+    for (int i = 0; i < 8; i++) WANTS(words[i], 7);
+    WANTS(bpf_prepare(IMAGE, BPF_LITTLE, words, 8), BPF_YES);
+    for (size_t i = size; i < 8; i++) WANTS(words[i], 7);
+    WANTS(bpf_run_checked(NULL, 8, NULL, 0, &value), BPF_BAD_CALL);
+    WANTS(bpf_run_checked(words, size, NULL, 1, &value), BPF_BAD_CALL);
+    WANTS(value, 7);
+    WANTS(bpf_run_checked(words, size, NULL, 0, NULL), BPF_YES);
+    WANTS(bpf_run_checked(words, 8, NULL, 0, &value), BPF_YES);
+    WANTS(value, 0);
+}
+
+static void bad_proposals(void) {
+    char text[256] = "as it was";
+    size_t wanted = 7;
+    struct bpf_refusal why = {7, 7, 7, 7};
+    WANTS(bpf_infer(NULL, 16, BPF_LITTLE, 0, 0, text, 256, &wanted, &why), BPF_BAD_CALL);
+    WANTS(bpf_infer(IMAGE, 2, 0, 0, text, 256, &wanted, &why), BPF_BAD_CALL);
+    WANTS(bpf_infer(IMAGE, BPF_LITTLE, 1, 0, text, 256, &wanted, &why), BPF_BAD_CALL);
+    WANTS(bpf_infer(IMAGE, BPF_LITTLE, 0, 4097, text, 256, &wanted, &why), BPF_BAD_CALL);
+    WANTS(bpf_infer(IMAGE, BPF_LITTLE, 0, 0, NULL, 256, &wanted, &why), BPF_BAD_CALL);
+    WANTS(bpf_infer(text, 16, BPF_LITTLE, 0, 0, text, 256, &wanted, &why), BPF_BAD_CALL);
+    WANTS(wanted == 7 && why.kind == 7 && !strcmp(text, "as it was"), 1);
+    WANTS(bpf_infer(IMAGE, BPF_LITTLE, 0, 0, text, 3, &wanted, &why), BPF_TOO_SMALL);
+    WANTS(wanted > 7 && wanted < 256 && !strcmp(text, "as it was"), 1);
+    WANTS(bpf_infer(IMAGE, BPF_LITTLE, 0, 0, text, 256, NULL, NULL), BPF_YES);
+    WANTS(bpf_verify(IMAGE, BPF_LITTLE, text, wanted, NULL, NULL), BPF_YES);
+}
+
+static void bad_texts(void) {
+    static const struct { char kind; uint32_t count; } kinds[] = {{'C', 13}, {'E', 10}, {'F', 9}, {'I', 5}, {'K', 5}};
+    char text[128] = "as it was";
+    for (int i = 0; i < 5; i++) {
+        WANTS(bpf_refusal_text((uint32_t)kinds[i].kind, 0, text, sizeof text), 0);
+        for (uint32_t n = 1; n <= kinds[i].count; n++) {
+            size_t len = bpf_refusal_text((uint32_t)kinds[i].kind, n, text, sizeof text);
+            WANTS(len > 8 && len < sizeof text && strlen(text) == len, 1);
+        }
+        WANTS(bpf_refusal_text((uint32_t)kinds[i].kind, kinds[i].count + 1, text, sizeof text), 0);
+    }
+    WANTS(bpf_refusal_text('D', 1, text, sizeof text), 0);
+    WANTS(bpf_refusal_text('K', 4, NULL, 0), 13);
+    WANTS(bpf_refusal_text('K', 4, NULL, 5), 0);
+    WANTS(bpf_refusal_text('K', 4, text, 4), 13);
+    WANTS(strcmp(text, "out"), 0);
+}
+
+static int bad(void) {
+    bad_checks();
+    bad_runs();
+    bad_preparing();
+    bad_proposals();
+    bad_texts();
+    return wrong != 0;
+}
+
+/* ---- threads, and many runs */
+
+static struct bytes shared_image, shared_certificate;
+
+/* The sum of a checksum's context, by the library and by hand. */
+static void *judge_and_run(void *arg) {
+    long *bad_ones = arg;
+    for (int k = 0; k < 5000; k++) {
+        struct bpf_verdict v;
+        uint8_t context[16];
+        uint64_t value = 0, want = 0;
+        for (int i = 0; i < 16; i++) want += context[i] = (uint8_t)(k + i);
+        if (bpf_verify(shared_image.at, shared_image.len, 0, shared_certificate.at, shared_certificate.len, &v, NULL) != BPF_YES) {
+            *bad_ones += 1;
+            continue;
+        }
+        struct prepared p = prepare(&shared_image, 0, v);
+        if (bpf_run_checked(p.words, p.len, context, 16, &value) != BPF_YES || value != want) *bad_ones += 1;
+        free(p.words);
+    }
+    return NULL;
+}
+
+static int threads(char **word) {
+    pthread_t thread[2];
+    long bad_ones[2] = {0, 0};
+    shared_image = read_file(word[0]), shared_certificate = read_file(word[1]);
+    for (int i = 0; i < 2; i++)
+        if (pthread_create(&thread[i], NULL, judge_and_run, &bad_ones[i])) abort();
+    for (int i = 0; i < 2; i++) pthread_join(thread[i], NULL);
+    free(shared_image.at), free(shared_certificate.at);
+    return bad_ones[0] + bad_ones[1] != 0;
+}
+
+static int many(char **word) {
+    struct bytes program = read_file(word[0]), text = read_file(word[1]);
+    struct bpf_verdict v;
+    uint64_t value, sum = 0, want = 0;
+    if (bpf_verify(program.at, program.len, BPF_LITTLE, text.at, text.len, &v, NULL) != BPF_YES) return 1;
+    struct prepared p = prepare(&program, BPF_LITTLE, v);
+    for (int k = 0; k < 1000000; k++) {
+        uint8_t context[1] = {(uint8_t)k};
+        if (bpf_run_checked(p.words, p.len, context, 1, &value) != BPF_YES) return 1;
+        sum += value;
+        want += context[0];
+    }
+    free(program.at), free(text.at), free(p.words);
+    return sum != want;
+}
+
+int main(int argc, char **argv) {
+    if (argc == 2 && !strcmp(argv[1], "table")) return table();
+    if (argc == 2 && !strcmp(argv[1], "bad")) return bad();
+    if (argc == 4 && !strcmp(argv[1], "threads")) return threads(argv + 2);
+    if (argc == 4 && !strcmp(argv[1], "many")) return many(argv + 2);
+    return 2;
+}

@@ -1,0 +1,196 @@
+"""hosts.py BPF EXAMPLES FOLDER: holds what FOLDER/hosts (hosts.c), filter_c and filter_rs answer to what the command answers."""
+import pathlib
+import re
+import struct
+import subprocess
+import sys
+
+BPF, EXAMPLES, FOLDER = sys.argv[1], pathlib.Path(sys.argv[2]), pathlib.Path(sys.argv[3])
+HOSTS = FOLDER / 'hosts'
+CONTEXTS = ['none', '2a', '00' * 4, bytes(range(16)).hex(), '01' * 64, 'ff' * 4096]
+FUELS = [0, 1, 5, 1000]
+
+# Images that are refused: E1 to E8.
+NO_IMAGES = {
+    'empty': '',
+    'cut': 'b700000000000000 95000000',
+    'opcode': 'ff00000000000000',
+    'register': 'b70b000000000000 9500000000000000',
+    'unused': 'b700000000000000 9510000000000000',
+    'selector': 'd700000011000000 9500000000000000',
+    'truncated': '1800000000000000',
+    'left-out': '8500000001000000 9500000000000000',
+    'target': '0500050000000000 9500000000000000',
+}
+
+# Programs of which runs end otherwise, F1 to F9, and for which no certificate is proposed.
+TEXTS = {
+    'f1': 'r0 = r3\nexit\n',
+    'f2': 'r0 = *(u64 *)(r10 - 8)\nexit\n',
+    'f3': 'r0 = *(u8 *)(r1 + 9)\nexit\n',
+    'f4': '*(u8 *)(r1 + 0) = 1\nr0 = 0\nexit\n',
+    'f5': 'r10 = 0\nexit\n',
+    'f6': 'r1 *= 2\nr0 = 0\nexit\n',
+    'f7': 'call -1\nexit\n',
+    'f8': 'r0 = 0\n',
+    'f9': 'r0 = r1\nexit\n',
+    'endless': 'goto -1\n',
+    'order': 'r0 = 0x1122334455667788 ll\n*(u64 *)(r10 - 8) = r0\nr0 = *(u16 *)(r10 - 8)\nexit\n',
+}
+
+SMALLEST = 'bpfcert 1 0 2\nfn 0 1 *\nat 0 2\nend\n'
+
+# A program and a certificate for each refusal K1 to K3 and C1 to C13.
+CERTIFIED = {
+    'k1': ('r0 = 0\nexit\n', 'bpfcert 1 0 2\nfn 0 1 *\nat 0 2\n'),
+    'k2': ('r0 = 0\nexit\n', 'bpfcert 1 0 2\nfn 0 1 *\nat 0 02\nend\n'),
+    'k3': ('r0 = 0\nexit\n', 'bpfcert 1 4097 2\nfn 0 1 *\nat 0 2\nend\n'),
+    'c0': ('r0 = 0\nexit\n', SMALLEST),
+    'c1': ('goto +0\nexit\n', SMALLEST),
+    'c2': ('r0 = 0x5 ll\nexit\n', 'bpfcert 1 0 2\nfn 0 1 *\nat 0 2\nat 1 2\nend\n'),
+    'c3': ('r0 = r3\nexit\n', SMALLEST),
+    'c4': ('r0 = r1\nexit\n', 'bpfcert 1 0 2\nfn 0 1 *\nat 0 2\nr1 ctx0..0\nend\n'),
+    'c5': ('r0 = *(u8 *)(r1 + 3)\nexit\n', 'bpfcert 1 3 2\nfn 0 1 *\nat 0 2\nr1 ctx0..0\nend\n'),
+    'c6': ('r0 = *(u64 *)(r10 - 8)\nexit\n', SMALLEST),
+    'c7': ('r10 = 0\nexit\n', SMALLEST),
+    'c8': ('r0 = 0\nexit\n', 'bpfcert 1 0 2\nfn 0 1 u1..1\nat 0 2\nend\n'),
+    'c9': ('r0 = 0\nexit\n', 'bpfcert 1 0 2\nfn 0 1 *\nat 0 1\nend\n'),
+    'c10': ('call -1\nexit\n', SMALLEST),
+    'c11': ('r0 = 0\n', SMALLEST),
+    'c12': ('call +0\nexit\n', SMALLEST),
+    'c13': ('r0 = 0\nexit\n', 'bpfcert 1 0 2\nfn 0 1 *\nat 0 2\nr3 *\nend\n'),
+}
+
+KINDS = {f'{letter}{number}' for letter, first, last in [('C', 1, 13), ('E', 1, 8), ('F', 1, 9), ('I', 2, 4), ('K', 1, 3)] for number in range(first, last + 1)}
+
+
+def bpf(*words):
+    done = subprocess.run([BPF, *map(str, words)], capture_output=True, text=True, timeout=60)
+    return done.returncode, done.stdout + done.stderr
+
+
+def made(name, data):
+    path = FOLDER / name
+    path.write_bytes(data)
+    return path
+
+
+def assembled(name, text):
+    image = {}
+    for order in ['little', 'big']:
+        image[order] = FOLDER / f'{name}.{order}.img'
+        status, out = bpf('asm', *big(order), made(f'{name}.asm', text.encode()), image[order])
+        assert status == 0, (name, out)
+    return image
+
+
+def big(order):
+    return ['--big'] if order == 'big' else []
+
+
+class Table:
+    """Lines for hosts, and the command's answers to the same."""
+
+    def __init__(self):
+        self.lines, self.wants = [], []
+
+    def add(self, want, *words):
+        self.lines.append(' '.join(map(str, words)))
+        self.wants.append(f'{want[0]} {want[1].rstrip()}')
+
+    def check(self, order, image, certificate):
+        self.add(bpf('check', *big(order), image, certificate), 'check', order, image, certificate)
+
+    def run(self, order, image, context, fuel):
+        self.add(bpf('run', *big(order), image, context, '--steps', fuel), 'run', order, image, context, fuel)
+
+    def run_checked(self, order, image, certificate, context):
+        self.add(bpf('run-checked', *big(order), image, certificate, context), 'run-checked', order, image, certificate, context)
+
+    def infer(self, order, image, least, most):
+        here, there = FOLDER / f'{len(self.lines)}.here', FOLDER / f'{len(self.lines)}.there'
+        self.add(bpf('infer', *big(order), image, least, there, '--most', most), 'infer', order, image, least, most, here)
+        return here, there
+
+    def compare(self):
+        done = subprocess.run([HOSTS, 'table'], input='\n'.join(self.lines) + '\n', capture_output=True, text=True, timeout=120)
+        assert done.returncode == 0 and not done.stderr, (done.returncode, done.stderr)
+        got = [line.rstrip() for line in done.stdout.splitlines()]
+        wants = [want.rstrip() for want in self.wants]
+        wrong = [row for row in zip(self.lines, got, wants) if row[1] != row[2]]
+        assert len(got) == len(wants) and not wrong, wrong[:5]
+        seen = {kind for line in got for kind in re.findall(r'(?:no|fault) ([A-Z]\d+)', line)}
+        assert KINDS <= seen, sorted(KINDS - seen)
+        return len(got)
+
+
+def fill(table):
+    images = {path.stem: {'little': path, 'big': path} for path in sorted(EXAMPLES.glob('*.img'))}
+    certificates = sorted(EXAMPLES.glob('*.cert'))
+    for name, text in [*TEXTS.items(), *[(path.stem, path.read_text()) for path in sorted(EXAMPLES.glob('*.asm'))]]:
+        images[f'{name}.text'] = assembled(name, text)
+    for name, data in NO_IMAGES.items():
+        path = made(f'{name}.img', bytes.fromhex(data))
+        images[name] = {'little': path, 'big': path}
+    proposals = []
+    for image in images.values():
+        for order in ['little', 'big']:
+            for certificate in certificates:
+                table.check(order, image[order], certificate)
+            for context in CONTEXTS:
+                for fuel in FUELS:
+                    table.run(order, image[order], context, fuel)
+            for least, most in [(0, 0), (4, 4), (16, 16), (0, 4096), (16, 64), (3, 2)]:
+                proposals.append((order, image[order], *table.infer(order, image[order], least, most)))
+    for name, (text, certificate) in CERTIFIED.items():
+        image = assembled(name, text)
+        for order in ['little', 'big']:
+            table.check(order, image[order], made(f'{name}.cert', certificate.encode()))
+            table.run_checked(order, image[order], FOLDER / f'{name}.cert', 'none')
+    for order, image, here, there in proposals:
+        if there.exists():
+            table.check(order, image, there)
+            for context in CONTEXTS:
+                table.run_checked(order, image, there, context)
+    return proposals
+
+
+def frames_of(data):
+    at, frames = 24, []
+    while at < len(data):
+        (length,) = struct.unpack_from('<I', data, at + 8)
+        frames.append(data[at + 16:at + 16 + length])
+        at += 16 + length
+    return frames
+
+
+def filters():
+    frames, image, certificate = FOLDER / 'frames.pcap', EXAMPLES / 'hosts/port.img', EXAMPLES / 'hosts/port.cert'
+    subprocess.run([FOLDER / 'filter_c', '--make', frames], check=True)
+    want = ''
+    for frame in frames_of(frames.read_bytes()):
+        status, out = bpf('run-checked', image, certificate, frame.hex())
+        want += 'accept\n' if status == 0 and out != 'done 0\n' else 'drop\n'
+    assert want.split() == ['accept', 'drop', 'drop', 'drop', 'accept', 'drop', 'drop', 'accept'], want
+    for name in ['filter_c', 'filter_rs']:
+        done = subprocess.run([FOLDER / name, image, certificate, frames, '1000'], capture_output=True, text=True, timeout=60)
+        assert done.returncode == 0 and done.stdout == want, (name, done)
+        assert done.stderr.startswith('3000 of 8000 frames accepted'), (name, done.stderr)
+        refused = subprocess.run([FOLDER / name, image, EXAMPLES / 'countdown.cert', frames], capture_output=True, text=True, timeout=60)
+        assert refused.returncode == 1 and 'refused by C8 at slot 0: a state' in refused.stderr, (name, refused)
+
+
+table = Table()
+proposals = fill(table)
+count = table.compare()
+for order, image, here, there in proposals:
+    assert here.exists() == there.exists() and (not there.exists() or here.read_bytes() == there.read_bytes()), (order, image)
+print(f'{count} answers are the command\'s, of each kind of refusal that bytes can have but I1')
+checksum = assembled('sum', (EXAMPLES / 'checksum.asm').read_text())['little']
+assert bpf('infer', checksum, 16, FOLDER / 'sum.cert')[0] == 0
+for words in [['bad'], ['threads', checksum, FOLDER / 'sum.cert'], ['many', EXAMPLES / 'first-byte.img', EXAMPLES / 'first-byte.cert']]:
+    done = subprocess.run([HOSTS, *words], capture_output=True, text=True, timeout=100)
+    assert done.returncode == 0 and not done.stderr, (words, done)
+print('bad calls, two threads and a million runs: as they should be')
+filters()
+print('the filters in C and Rust answer as the command on each frame')
