@@ -11,6 +11,7 @@ mod labels;
 mod loops;
 mod places;
 mod rounds;
+mod search;
 mod walk;
 mod widen;
 
