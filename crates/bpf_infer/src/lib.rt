@@ -13,6 +13,7 @@ mod lines;
 mod loops;
 mod places;
 mod rounds;
+mod search;
 mod walk;
 mod widen;
 
