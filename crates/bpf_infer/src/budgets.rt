@@ -5,8 +5,9 @@ ghost use Rattle.bpf_infer.specs.RefusalNumbers.{IsRefusalIn};
 
 use crate::error::InferError;
 use crate::functions::Depths;
+use crate::lines::{Line, Span};
 use crate::loops::{Counter, Loop, Loops};
-use crate::places::{number_at, place};
+use crate::places::place;
 use crate::rounds::{Rounds, put};
 use crate::walk::{Edge, Visitor, Walk};
 use bpf_state::{State, Tag};
@@ -17,80 +18,6 @@ const MAX_BASE: i128 = 1 << 40;
 
 /// The greatest weight of a term.
 const MAX_WEIGHT: i128 = 1 << 20;
-
-/// Numbers from `lo` to `hi`.
-#[derive(Clone, Copy, Debug)]
-struct Span {
-    lo: u64,
-    hi: u64,
-}
-
-impl Span {
-    const ALL: Span = Span {
-        lo: 0,
-        hi: u64::MAX,
-    };
-
-    /// What a place may hold.
-    fn of(state: &State, number: usize) -> Span {
-        match number_at(state, number) {
-            Some(held) => Span {
-                lo: held.unsigned().lo(),
-                hi: held.unsigned().hi(),
-            },
-            None => Span::ALL,
-        }
-    }
-}
-
-/// A term of a budget: a constant and a slope times what its place holds.
-#[derive(Clone, Copy, Debug)]
-struct Line {
-    constant: i128,
-    slope: i128,
-}
-
-impl Line {
-    const ZERO: Line = Line {
-        constant: 0,
-        slope: 0,
-    };
-
-    fn of(counter: Counter, weight: i128) -> Line {
-        match counter {
-            Counter::Falling(_) => Line {
-                constant: 0,
-                slope: weight,
-            },
-            Counter::Rising(_, limit) => Line {
-                constant: weight.saturating_mul(limit as i128),
-                slope: 0i128.saturating_sub(weight),
-            },
-        }
-    }
-
-    /// The line at a place that holds an offset more.
-    fn moved(self, offset: i64) -> Line {
-        let more = self.slope.saturating_mul(offset as i128);
-        Line {
-            constant: self.constant.saturating_add(more),
-            slope: self.slope,
-        }
-    }
-
-    fn minus(self, other: Line) -> Line {
-        Line {
-            constant: self.constant.saturating_sub(other.constant),
-            slope: self.slope.saturating_sub(other.slope),
-        }
-    }
-
-    fn greatest(self, span: Span) -> i128 {
-        let at_lo = self.slope.saturating_mul(span.lo as i128);
-        let at_hi = self.slope.saturating_mul(span.hi as i128);
-        self.constant.saturating_add(at_lo.max(at_hi))
-    }
-}
 
 /// What the place of an edge's target holds: an offset more than the place of the label before did, or any number of
 /// some.

@@ -1,7 +1,7 @@
 //! Why no certificate is proposed.
 
-ghost use Rattle.std.specs.Prelude.{◌≡◌};
-ghost use Rattle.bpf_infer.specs.RefusalNumbers.{infer_number, infer_slot};
+ghost use Rattle.std.specs.Prelude.{◌≡◌, ◌<◌};
+ghost use Rattle.bpf_infer.specs.RefusalNumbers.{infer_number, infer_slot, IsRefusalIn};
 
 use std::alloc::{AllocError, AllocFailed};
 use thiserror::Error;
@@ -50,6 +50,31 @@ impl InferError {
             | InferError::Recursion { slot }
             | InferError::Fault { slot, .. } => slot,
             InferError::Memory => 0,
+        }
+    }
+
+    /// The same refusal with a slot of a program of so many slots, its last one in the place of one behind it, and a
+    /// condition from 3 to 12.
+    pub(crate) fn within(self, slots: u32) -> InferError
+        requires { 0 < slots }
+        ensures { IsRefusalIn slots result }
+    {
+        let last = slots - 1;
+        match self {
+            InferError::Unstable { slot } => InferError::Unstable {
+                slot: slot.min(last),
+            },
+            InferError::NoBudget { slot } => InferError::NoBudget {
+                slot: slot.min(last),
+            },
+            InferError::Recursion { slot } => InferError::Recursion {
+                slot: slot.min(last),
+            },
+            InferError::Fault { slot, condition } => InferError::Fault {
+                slot: slot.min(last),
+                condition: condition.clamp(3, 12),
+            },
+            InferError::Memory => InferError::Memory,
         }
     }
 }

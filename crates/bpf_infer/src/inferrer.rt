@@ -43,6 +43,13 @@ fn budget_of(budgets: &Budgets, block: usize) -> Budget {
     }
 }
 
+fn no_budget() -> Budget {
+    Budget {
+        base: 0,
+        terms: ArrayVec::new(),
+    }
+}
+
 /// Takes the state of a block.
 fn taken(states: &mut Vec<Option<State>>, block: usize) -> Option<State> {
     states.get_mut(block)?.take()
@@ -53,7 +60,7 @@ fn labels_of(
     alloc: Global,
     outline: &Outline,
     rounds: &mut Rounds,
-    budgets: &Budgets,
+    budgets: Option<&Budgets>,
     first: usize,
     end: usize,
 ) -> Result<Vec<Label>, AllocError>
@@ -65,7 +72,10 @@ fn labels_of(
             labels.push(Label {
                 slot: outline.label(block),
                 state,
-                budget: budget_of(budgets, block),
+                budget: match budgets {
+                    Some(budgets) => budget_of(budgets, block),
+                    None => no_budget(),
+                },
             })?;
         }
     }
@@ -76,7 +86,7 @@ fn functions_of(
     alloc: Global,
     outline: &Outline,
     rounds: &mut Rounds,
-    budgets: &Budgets,
+    budgets: Option<&Budgets>,
     depths: &Depths,
 ) -> Result<Vec<Function>, AllocError>
     requires { 0 < outline.now }
@@ -131,9 +141,31 @@ pub fn infer(
     let Ok(steps) = steps else {
         return Err(InferError::NoBudget { slot: 0 });
     };
-    let functions = functions_of(alloc, &outline, &mut rounds, &budgets, &depths)?;
+    let functions = functions_of(alloc, &outline, &mut rounds, Some(&budgets), &depths)?;
     match Certificate::new(2, least, most, steps, functions) {
         Ok(certificate) => Ok(certificate),
         Err(_) => Err(InferError::NoBudget { slot: 0 }),
     }
+}
+
+/// The functions of a program with the states that `infer` finds, and with budgets of 0.
+pub(crate) fn draft(
+    alloc: Global,
+    program: &Program,
+    least: u32,
+    most: u32,
+) -> Result<Vec<Function>, InferError>
+    requires { least ≤ most }
+{
+    let outline = Outline::of(alloc, program)?;
+    let depths = depths_of(alloc, program, &outline)?;
+    check_bounds(program, &outline)?;
+    let walk = Walk {
+        program,
+        outline: &outline,
+        least,
+        most,
+    };
+    let mut rounds = states_of(alloc, &walk, &depths, &State::start(least, most))?;
+    Ok(functions_of(alloc, &outline, &mut rounds, None, &depths)?)
 }

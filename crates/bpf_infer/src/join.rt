@@ -40,7 +40,7 @@ fn greatest(old: i64, new: i64, stops: Option<&Stops>) -> i64
 }
 
 /// What is known of a register that is in one of two states; unlike kinds leave nothing.
-fn join_register(old: RegState, new: RegState, stops: Option<&Stops>) -> RegState
+pub fn join_register(old: RegState, new: RegState, stops: Option<&Stops>) -> RegState
     requires old { IsRegister old }
     requires new { IsRegister new }
     ensures { IsRegister result }
@@ -90,7 +90,7 @@ fn join_pointer(old: Pointer, new: Pointer, stops: Option<&Stops>) -> Option<Poi
 }
 
 /// What is known of a slot that is in one of two states; unlike kinds leave the bytes that both know.
-fn join_slot(old: SlotState, new: SlotState, stops: Option<&Stops>) -> SlotState
+pub fn join_slot(old: SlotState, new: SlotState, stops: Option<&Stops>) -> SlotState
     requires old { IsSlot old }
     requires new { IsSlot new }
     ensures { IsSlot result }

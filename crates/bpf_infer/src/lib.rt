@@ -2,17 +2,21 @@
 #![tactic(auto)]
 
 mod budgets;
+mod deep;
 mod error;
 mod flow;
 mod functions;
 mod inferrer;
 mod join;
 mod labels;
+mod lines;
 mod loops;
 mod places;
 mod rounds;
+mod search;
 mod walk;
 mod widen;
 
+pub use deep::search;
 pub use error::InferError;
 pub use inferrer::infer;

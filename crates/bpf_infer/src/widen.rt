@@ -42,10 +42,7 @@ impl Stops {
         least: u32,
         most: u32,
     ) -> Result<Stops, AllocError> {
-        let mut stops = Stops {
-            unsigned: Vec::new(alloc),
-            signed: Vec::new(alloc),
-        };
+        let mut stops = Stops::new(alloc);
         stops.add(least as i64)?;
         stops.add(most as i64)?;
         for slot in 0..program.slots() {
@@ -53,16 +50,37 @@ impl Stops {
                 stops.add(constant)?;
             }
         }
-        stops.unsigned.sort()?;
-        stops.signed.sort()?;
+        stops.sort()?;
         Ok(stops)
     }
 
-    fn add(&mut self, constant: i64) -> Result<(), AllocError> {
-        for stop in [constant.wrapping_sub(1), constant, constant.wrapping_add(1)] {
-            self.signed.push(stop)?;
-            self.unsigned.push(stop.cast_unsigned())?;
+    /// No stops: bounds that move are moved to their extremes.
+    pub fn new(alloc: Global) -> Stops {
+        Stops {
+            unsigned: Vec::new(alloc),
+            signed: Vec::new(alloc),
         }
+    }
+
+    /// Adds a constant and its neighbours. Sort when all are there.
+    pub fn add(&mut self, constant: i64) -> Result<(), AllocError> {
+        for stop in [constant.wrapping_sub(1), constant, constant.wrapping_add(1)] {
+            self.add_alone(stop)?;
+        }
+        Ok(())
+    }
+
+    /// Adds a stop. Sort when all are there.
+    pub fn add_alone(&mut self, stop: i64) -> Result<(), AllocError> {
+        self.signed.push(stop)?;
+        self.unsigned.push(stop.cast_unsigned())?;
+        Ok(())
+    }
+
+    /// Puts the stops in order.
+    pub fn sort(&mut self) -> Result<(), AllocError> {
+        self.unsigned.sort()?;
+        self.signed.sort()?;
         Ok(())
     }
 

@@ -1,0 +1,3 @@
+//! The deep search for a certificate.
+
+pub mod states;

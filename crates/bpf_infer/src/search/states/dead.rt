@@ -1,0 +1,197 @@
+//! Labels for instructions that nothing reaches.
+
+use super::judge::{Fault, Report, Wrong, walk_all};
+use super::repair::{access_at, fill_registers, fill_slots, point};
+use super::sums::{Held, held, no_states, take_in_at};
+use super::task::{Task, Watcher};
+use crate::flow::Flow;
+use crate::rounds::put;
+use bpf_insn::{Insn, Reg};
+use bpf_state::{State, StateFault};
+use std::alloc::{AllocError, Global};
+
+/// States for slots that nothing reaches, as if dead edges to them were alive.
+#[derive(Drop)]
+pub struct Seeds {
+    alloc: Global,
+    first: u32,
+    /// By slots from the function's first on.
+    states: Vec<Held>,
+}
+
+impl Seeds {
+    /// None, for a function of so many slots.
+    pub fn new(alloc: Global, first: u32, slots: usize) -> Result<Seeds, AllocError> {
+        Ok(Seeds {
+            alloc,
+            first,
+            states: no_states(alloc, slots)?,
+        })
+    }
+
+    fn place(&self, slot: u32) -> usize {
+        slot.saturating_sub(self.first) as usize
+    }
+
+    /// The state for a slot.
+    pub fn at(&self, slot: u32) -> Option<&State> {
+        held(&self.states, self.place(slot))
+    }
+
+    fn add(&mut self, slot: u32, state: &State) -> Result<(), AllocError> {
+        let place = self.place(slot);
+        take_in_at(self.alloc, &mut self.states, place, state)
+    }
+
+    /// The slots that have a state, rising.
+    pub fn slots(&self) -> Result<Vec<u32>, AllocError> {
+        let mut slots = Vec::new(self.alloc);
+        let mut slot = self.first;
+        for place in 0..self.states.len() {
+            if held(&self.states, place).is_some() {
+                slots.push(slot)?;
+            }
+            slot = slot.saturating_add(1);
+        }
+        Ok(slots)
+    }
+
+    /// Gives each register that a state doesn't know a number, and each slot too if that is asked for. Whether there is one.
+    fn fill(&mut self, has_slots: bool) -> bool {
+        let mut is_filled = false;
+        for place in 0..self.states.len() {
+            if let Some(Some(state)) = self.states.get_mut(place) {
+                let has_registers = fill_registers(&mut **state);
+                let has_filled = has_slots && fill_slots(&mut **state);
+                is_filled = is_filled || has_registers || has_filled;
+            }
+        }
+        is_filled
+    }
+
+    /// Makes a register in the state for a slot point into the frame. Whether that is something new.
+    fn lead(&mut self, slot: u32, base: Reg, off: i16) -> bool {
+        let place = self.place(slot);
+        match self.states.get_mut(place) {
+            Some(Some(state)) => point(&mut **state, base, off),
+            _ => false,
+        }
+    }
+
+    /// Changes the states so that a fault may go away. Whether something was changed.
+    pub fn repair(&mut self, task: Task, fault: Fault) -> bool {
+        let Wrong::Fault(kind) = fault.wrong else {
+            return false;
+        };
+        match kind {
+            StateFault::UnsetRegister => self.fill(false),
+            StateFault::UnsetByte => self.fill(true),
+            StateFault::WrongKinds | StateFault::OutOfBounds => {
+                match access_at(task, fault.slot) {
+                    Some((label, base, off)) => self.lead(label, base, off),
+                    None => false,
+                }
+            }
+            StateFault::Protected => false,
+        }
+    }
+
+    /// Takes over the states of others.
+    fn take_over(&mut self, others: Seeds) {
+        let mut states = others.states;
+        for place in 0..states.len() {
+            if let Some(state) = states.get_mut(place) {
+                if state.is_some() {
+                    put(&mut self.states, place, state.take());
+                }
+            }
+        }
+    }
+}
+
+/// A walk that looks for what reached instructions lead to and is not reached.
+#[derive(Drop)]
+struct Seeker<'a> {
+    task: Task<'a>,
+    report: &'a Report,
+    found: Seeds,
+}
+
+impl<'a> Watcher for Seeker<'a> {
+    fn before(&mut self, slot: u32, insn: &Insn, state: &State) -> Result<(), AllocError> {
+        self.seek(slot.saturating_add(insn.slots()), state)?;
+        if let Some(target) = Flow::of(slot, insn).jump() {
+            self.seek(target, state)?;
+        }
+        Ok(())
+    }
+
+    fn edge(&mut self, _from: usize, _to: usize, _state: &State) -> Result<(), AllocError> {
+        Ok(())
+    }
+
+    fn call(&mut self, _callee: usize, _state: &State) -> Result<(), AllocError> {
+        Ok(())
+    }
+
+    fn exit(&mut self, _state: &State) {}
+
+    fn fault(&mut self, _slot: u32, _wrong: Wrong) {}
+}
+
+impl<'a> Seeker<'a> {
+    fn seek(&mut self, slot: u32, state: &State) -> Result<(), AllocError> {
+        let region = self.task.region;
+        if slot < region.end() && !self.report.is_reached(slot) {
+            self.found.add(slot, state)?;
+        }
+        Ok(())
+    }
+
+    /// What stands behind a jump or an EXIT that isn't reached, and is no jump's target, takes the last state before it.
+    fn seek_behind(&mut self) -> Result<(), AllocError> {
+        let region = self.task.region;
+        let mut last = region.first();
+        let mut is_cut = false;
+        for slot in region.first()..region.end() {
+            let Some(insn) = self.task.program.at(slot) else {
+                continue;
+            };
+            if self.found.at(slot).is_some() {
+                last = slot;
+            } else if is_cut && !self.report.is_reached(slot) && !region.has_label(slot) {
+                self.repeat(last, slot)?;
+            }
+            is_cut = !Flow::of(slot, insn).goes_on();
+        }
+        Ok(())
+    }
+
+    /// Gives a slot the state of another one.
+    fn repeat(&mut self, from: u32, to: u32) -> Result<(), AllocError> {
+        let state = match self.found.at(from) {
+            Some(state) => state.copy(),
+            None => return Ok(()),
+        };
+        self.found.add(to, &state)
+    }
+}
+
+/// Adds states for slots that aren't reached, so that at least the lowest one is.
+pub fn add_seeds(
+    alloc: Global,
+    task: Task,
+    states: &[Held],
+    report: &Report,
+    seeds: &mut Seeds,
+) -> Result<(), AllocError> {
+    let mut seeker = Seeker {
+        task,
+        report,
+        found: Seeds::new(alloc, task.region.first(), task.region.slots())?,
+    };
+    walk_all(task, states, &mut seeker)?;
+    seeker.seek_behind()?;
+    seeds.take_over(seeker.found);
+    Ok(())
+}

@@ -1,0 +1,92 @@
+//! Changes of a state under which dead code isn't refused.
+
+use super::task::Task;
+use crate::places::REGISTERS;
+use bpf_insn::{AluOp, Insn, Operand, Reg, Width};
+use bpf_num::{Num, WordDomain};
+use bpf_state::{RegState, SlotState, State};
+
+/// Where in the frame an access of dead code is led to.
+const MIDDLE: i64 = -256;
+
+/// Gives each register that isn't known a number. Whether there is one.
+pub fn fill_registers(state: &mut State) -> bool {
+    let mut is_filled = false;
+    for r in REGISTERS {
+        if matches!(state.reg(r), RegState::Any) {
+            state.set_reg(r, RegState::Num(Num::constant(0)));
+            is_filled = true;
+        }
+    }
+    is_filled
+}
+
+/// Gives each slot of which not all bytes are known a number. Whether there is one.
+pub fn fill_slots(state: &mut State) -> bool {
+    let mut is_filled = false;
+    for k in 1..65u8 {
+        if matches!(state.slot(k), SlotState::Bytes(_)) {
+            state.set_slot(k, SlotState::Word(Num::top()));
+            is_filled = true;
+        }
+    }
+    is_filled
+}
+
+/// The register by which an instruction accesses memory, and the offset.
+fn base_of(insn: &Insn) -> Option<(Reg, i16)> {
+    match *insn {
+        Insn::Load { src, off, .. } => Some((src, off)),
+        Insn::LoadSx { src, off, .. } => Some((src, off)),
+        Insn::Store { dst, off, .. } => Some((dst, off)),
+        Insn::StoreImm { dst, off, .. } => Some((dst, off)),
+        Insn::Atomic { dst, off, .. } => Some((dst, off)),
+        _ => None,
+    }
+}
+
+/// The register that held before an instruction what one holds after it.
+fn source(insn: &Insn, r: Reg) -> Reg {
+    match *insn {
+        Insn::Alu {
+            op: AluOp::Mov,
+            width: Width::W64,
+            dst,
+            src: Operand::Reg(src),
+        } => if dst == r { src } else { r },
+        _ => r,
+    }
+}
+
+/// The register at a label whose value is the base of the access at a slot behind it.
+fn traced(task: Task, label: u32, slot: u32, base: Reg) -> Reg {
+    let mut r = base;
+    for before in (label..slot).rev() {
+        if let Some(insn) = task.program.at(before) {
+            r = source(insn, r);
+        }
+    }
+    r
+}
+
+/// Makes a register point into the frame, such that an access at an offset from it lies in the middle, among known slots.
+/// Whether it didn't.
+pub fn point(state: &mut State, base: Reg, off: i16) -> bool {
+    let at = MIDDLE.saturating_sub((off as i64) & !7);
+    let has_pointed = match state.reg(base) {
+        RegState::Frame { lo, hi } => lo == at && hi == at,
+        RegState::Any | RegState::Num(_) | RegState::Ctx { .. } => false,
+    };
+    if base != Reg::R10 {
+        state.set_reg(base, RegState::Frame { lo: at, hi: at });
+    }
+    let is_filled = fill_slots(state);
+    is_filled || !has_pointed
+}
+
+/// The label of the access at a slot, the register there that is its base, and the offset.
+pub fn access_at(task: Task, slot: u32) -> Option<(u32, Reg, i16)> {
+    let (base, off) = base_of(task.program.at(slot)?)?;
+    let label = task.region.slot(task.region.segment(slot));
+    Some((label, traced(task, label, slot, base), off))
+}

@@ -1,0 +1,220 @@
+//! What is known after an instruction that may be at fault.
+
+ghost use Rattle.bpf_state.specs.State.{IsRegister};
+
+use bpf_insn::{AluOp, AtomicOp, Insn, Operand, Reg, Size, Width};
+use bpf_num::{KnownBits, Num, Signed, Unsigned, WordDomain};
+use bpf_state::{RegState, SlotState, State};
+
+/// The farthest offset of a pointer in a certificate.
+const FARTHEST: i64 = 1 << 31;
+
+/// The lowest offset in the frame.
+const LOWEST: i64 = -512;
+
+fn any_number(size: Size) -> Num {
+    let unsigned = match size {
+        Size::B => Unsigned::new(0, u8::MAX as u64),
+        Size::H => Unsigned::new(0, u16::MAX as u64),
+        Size::W => Unsigned::new(0, u32::MAX as u64),
+        Size::DW => Unsigned::new(0, u64::MAX),
+    };
+    let number = Num::of(KnownBits::top(), unsigned, Signed::top());
+    number.tighten().unwrap_or(number)
+}
+
+fn any_signed(size: Size) -> Num {
+    let signed = match size {
+        Size::B => Signed::new(i8::MIN as i64, i8::MAX as i64),
+        Size::H => Signed::new(i16::MIN as i64, i16::MAX as i64),
+        Size::W => Signed::new(i32::MIN as i64, i32::MAX as i64),
+        Size::DW => Signed::new(i64::MIN, i64::MAX),
+    };
+    let number = Num::of(KnownBits::top(), Unsigned::top(), signed);
+    number.tighten().unwrap_or(number)
+}
+
+/// A pointer whose offset moved by a distance between two bounds, cut to the farthest offsets.
+fn moved(pointer: RegState, least: i64, greatest: i64) -> RegState
+    requires { IsRegister pointer }
+    ensures { IsRegister result }
+{
+    match pointer {
+        RegState::Ctx { lo, hi } => {
+            let lo = lo.saturating_add(least).max(-FARTHEST).min(FARTHEST);
+            let hi = hi.saturating_add(greatest).min(FARTHEST).max(lo);
+            RegState::Ctx { lo, hi }
+        }
+        RegState::Frame { lo, hi } => {
+            let lo = lo.saturating_add(least).max(-FARTHEST).min(FARTHEST);
+            let hi = hi.saturating_add(greatest).min(FARTHEST).max(lo);
+            RegState::Frame { lo, hi }
+        }
+        RegState::Any | RegState::Num(_) => RegState::Num(Num::top()),
+    }
+}
+
+fn plus(pointer: RegState, by: Num) -> RegState
+    requires { IsRegister pointer }
+    ensures { IsRegister result }
+{
+    moved(pointer, by.signed().lo(), by.signed().hi())
+}
+
+fn minus(pointer: RegState, by: Num) -> RegState
+    requires { IsRegister pointer }
+    ensures { IsRegister result }
+{
+    let least = 0i64.saturating_sub(by.signed().hi());
+    let greatest = 0i64.saturating_sub(by.signed().lo());
+    moved(pointer, least, greatest)
+}
+
+fn operand(state: &State, src: Operand) -> RegState
+    ensures { IsRegister result }
+{
+    match src {
+        Operand::Imm(imm) => RegState::Num(Num::constant((imm as i64).cast_unsigned())),
+        Operand::Reg(r) => state.reg(r),
+    }
+}
+
+/// Any number, or a pointer where one was moved too far.
+fn result_of(op: AluOp, width: Width, a: RegState, b: RegState) -> RegState
+    requires left { IsRegister a }
+    requires right { IsRegister b }
+    ensures { IsRegister result }
+{
+    match (op, width) {
+        (AluOp::Add, Width::W64) => match (a, b) {
+            (_, RegState::Num(by)) => plus(a, by),
+            (RegState::Num(by), _) => plus(b, by),
+            _ => RegState::Num(Num::top()),
+        },
+        (AluOp::Sub, Width::W64) => match b {
+            RegState::Num(by) => minus(a, by),
+            RegState::Any | RegState::Ctx { .. } | RegState::Frame { .. } => {
+                RegState::Num(Num::top())
+            }
+        },
+        _ => RegState::Num(Num::top()),
+    }
+}
+
+fn set(state: &mut State, r: Reg, value: RegState)
+    requires { IsRegister value }
+{
+    if r != Reg::R10 {
+        state.set_reg(r, value);
+    }
+}
+
+fn size_of(wide: bool) -> Size {
+    if wide { Size::DW } else { Size::W }
+}
+
+fn bytes_of(size: Size) -> i64 {
+    match size {
+        Size::B => 1,
+        Size::H => 2,
+        Size::W => 4,
+        Size::DW => 8,
+    }
+}
+
+/// The number of the slot that a byte of the frame lies in, by its offset, cut to the frame.
+pub fn slot_of(offset: i64) -> u8 {
+    let below = 0i64.saturating_sub(offset.max(LOWEST).min(-1));
+    u8::try_from(below.saturating_add(7) >> 3).unwrap_or(64)
+}
+
+/// The slots of the frame that an access may touch: the first, and the one after the last. None elsewhere.
+pub fn touched(base: RegState, off: i16, size: Size) -> Option<(u8, u8)> {
+    let RegState::Frame { lo, hi } = base else {
+        return None;
+    };
+    let lowest = lo.saturating_add(off as i64);
+    let highest = hi
+        .saturating_add(off as i64)
+        .saturating_add(bytes_of(size))
+        .saturating_sub(1);
+    if highest < LOWEST || lowest >= 0 {
+        return None;
+    }
+    Some((slot_of(highest), slot_of(lowest).saturating_add(1)))
+}
+
+/// Forgets what the slots held that an access may write.
+fn spoil(state: &mut State, base: Reg, off: i16, size: Size) {
+    if let Some((first, end)) = touched(state.reg(base), off, size) {
+        for k in 1..65u8 {
+            if first <= k && k < end {
+                spoil_slot(state, k);
+            }
+        }
+    }
+}
+
+fn spoil_slot(state: &mut State, k: u8) {
+    if 1 <= k && k <= 64 {
+        match state.slot(k) {
+            SlotState::Bytes(_) => {}
+            SlotState::Word(_) => state.set_slot(k, SlotState::Word(Num::top())),
+            SlotState::Ptr(_) => state.set_slot(k, SlotState::Bytes(0)),
+        }
+    }
+}
+
+/// The register that an atomic operation writes.
+pub fn fetched(op: AtomicOp, src: Reg) -> Option<Reg> {
+    match op {
+        AtomicOp::Modify { by: _, fetch } => if fetch { Some(src) } else { None },
+        AtomicOp::Xchg => Some(src),
+        AtomicOp::CmpXchg => Some(Reg::R0),
+    }
+}
+
+/// Makes the state at an instruction that may be at fault one after it, as if it did no wrong.
+pub fn go_on(insn: &Insn, state: &mut State) {
+    match *insn {
+        Insn::Alu {
+            op,
+            width,
+            dst,
+            src,
+        } => {
+            let value = result_of(op, width, state.reg(dst), operand(state, src));
+            set(state, dst, value);
+        }
+        Insn::Neg { dst, .. } => set(state, dst, RegState::Num(Num::top())),
+        Insn::MovSx { dst, .. } => set(state, dst, RegState::Num(Num::top())),
+        Insn::End { dst, .. } => set(state, dst, RegState::Num(Num::top())),
+        Insn::Load {
+            size,
+            dst,
+            off: _off,
+            ..
+        } => set(state, dst, RegState::Num(any_number(size))),
+        Insn::LoadSx {
+            size,
+            dst,
+            off: _off,
+            ..
+        } => set(state, dst, RegState::Num(any_signed(size))),
+        Insn::Store { size, dst, off, .. } => spoil(state, dst, off, size),
+        Insn::StoreImm { size, dst, off, .. } => spoil(state, dst, off, size),
+        Insn::Atomic {
+            wide,
+            op,
+            dst,
+            off,
+            src,
+        } => {
+            spoil(state, dst, off, size_of(wide));
+            if let Some(r) = fetched(op, src) {
+                set(state, r, RegState::Num(any_number(size_of(wide))));
+            }
+        }
+        _ => {}
+    }
+}
