@@ -1,7 +1,5 @@
 //! Instructions laid out by slots, and the targets of their jumps.
 
-ghost use Rattle.std.specs.Prelude.{◌≡◌, ◌↔◌, ◌<◌, ◌≤◌, List, Option, IsTrue, IfSome, IfNone, is_some, length};
-ghost use Rattle.bpf_insn.specs.Instruction.{insn_in, EachSlot, FailsFirst};
 ghost use Rattle.std.specs.Prelude.{◌≡◌, ◌↔◌, ◌<◌, ◌≤◌, List, Option, IsTrue, IfSome, IfNone, is_some, option_and_then, length};
 ghost use Rattle.bpf_insn.specs.Instruction.{insn_in, distance, EachSlot, FailsFirst};
 ghost use Rattle.bpf_insn.specs.Image.{LeadsInside, HasTarget, max_slots};
@@ -32,7 +30,7 @@ pub trait Layout {
         ensures { result ≡ option_and_then distance (insn_in (cells self.now) slot) }
     {
         match self.insn(slot) {
-            Some(insn) => distance_of(&insn),
+            Some(insn) => insn.distance(),
             None => None,
         }
     }
@@ -45,17 +43,6 @@ fn leads_inside<L: Layout>(layout: &L, slot: u32, off: i32) -> bool
 {
     let target = slot as i64 + 1 + off as i64;
     target >= 0 && layout.is_first(target as u32)
-}
-
-/// Whether the instruction at the slot leads to one, if it leads anywhere.
-fn has_target<L: Layout>(layout: &L, slot: u32, insn: &Insn) -> bool
-    requires { slot < max_slots }
-    ensures { IsTrue result ↔ HasTarget (L.cells layout.now) slot insn.now }
-{
-    match insn.distance() {
-        None => true,
-        Some(off) => leads_inside(layout, slot, off),
-    }
 }
 
 /// The lowest slot of a jump or call that leads to no instruction.
