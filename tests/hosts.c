@@ -1,6 +1,6 @@
 /* hosts.c: a host that is looked at by hosts.py. `table` answers lines of standard input as the command answers its words,
- * each with the command's status in front; `bad` makes the calls that no caller should; `threads` judges and runs in two
- * threads; `many` runs one prepared program a million times. */
+ * each with the command's status in front; `bad` makes the calls that no caller should; `memory` refuses each growth of memory in
+ * turn; `threads` judges and runs in two threads; `many` runs one prepared program a million times. */
 #include <bpf.h>
 #include <pthread.h>
 #include <stdio.h>
@@ -301,6 +301,70 @@ static int bad(void) {
     return wrong != 0;
 }
 
+/* ---- want of memory; the linker puts these in place of malloc and realloc */
+
+static long growths = -1; /* how many are granted; all if negative */
+
+static int is_granted(void) {
+    if (growths > 0) growths--;
+    else if (!growths) return 0;
+    return 1;
+}
+
+void *__real_malloc(size_t size);
+void *__real_realloc(void *at, size_t size);
+void *__wrap_malloc(size_t size);
+void *__wrap_realloc(void *at, size_t size);
+
+void *__wrap_malloc(size_t size) {
+    return is_granted() ? __real_malloc(size) : NULL;
+}
+
+void *__wrap_realloc(void *at, size_t size) {
+    return is_granted() ? __real_realloc(at, size) : NULL;
+}
+
+/* Runs and preparing take no memory. */
+static void refuse_runs(const struct bytes *program) {
+    static uint64_t words[4096];
+    static uint8_t context[16];
+    struct bpf_outcome end;
+    growths = 0;
+    WANTS(bpf_prepare(program->at, program->len, BPF_LITTLE, words, 4096), BPF_YES);
+    WANTS(bpf_run_checked(words, 4096, context, 16, NULL), BPF_YES);
+    WANTS(bpf_run(program->at, program->len, BPF_LITTLE, context, 16, 1000, &end), BPF_YES);
+    WANTS(end.kind, BPF_DONE);
+    growths = -1;
+}
+
+static int memory(char **word) {
+    struct bytes program = read_file(word[0]), text = read_file(word[1]);
+    static char proposal[65536];
+    int32_t answer = BPF_NO_MEMORY;
+    long granted;
+    refuse_runs(&program);
+    for (granted = 0; answer == BPF_NO_MEMORY; granted++) {
+        struct bpf_verdict v = {7, 7, 7};
+        struct bpf_refusal why = {7, 7, 7, 7};
+        growths = granted;
+        answer = bpf_verify(program.at, program.len, BPF_LITTLE, text.at, text.len, &v, &why);
+        growths = -1;
+        WANTS(why.kind == 7 && (answer == BPF_YES) == (v.least == 16), 1);
+    }
+    WANTS(answer == BPF_YES && granted > 2, 1);
+    answer = BPF_NO_MEMORY;
+    for (granted = 0; answer == BPF_NO_MEMORY; granted++) {
+        size_t wanted = 7;
+        growths = granted;
+        answer = bpf_infer(program.at, program.len, BPF_LITTLE, 16, 16, proposal, sizeof proposal, &wanted, NULL);
+        growths = -1;
+        WANTS((answer == BPF_YES) == (wanted != 7) && (answer == BPF_YES) == (proposal[0] != 0), 1);
+    }
+    WANTS(answer == BPF_YES && granted > 10, 1);
+    free(program.at), free(text.at);
+    return wrong != 0;
+}
+
 /* ---- threads, and many runs */
 
 static struct bytes shared_image, shared_certificate;
@@ -354,6 +418,7 @@ static int many(char **word) {
 int main(int argc, char **argv) {
     if (argc == 2 && !strcmp(argv[1], "table")) return table();
     if (argc == 2 && !strcmp(argv[1], "bad")) return bad();
+    if (argc == 4 && !strcmp(argv[1], "memory")) return memory(argv + 2);
     if (argc == 4 && !strcmp(argv[1], "threads")) return threads(argv + 2);
     if (argc == 4 && !strcmp(argv[1], "many")) return many(argv + 2);
     return 2;

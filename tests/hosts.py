@@ -188,9 +188,9 @@ for order, image, here, there in proposals:
 print(f'{count} answers are the command\'s, of each kind of refusal that bytes can have but I1')
 checksum = assembled('sum', (EXAMPLES / 'checksum.asm').read_text())['little']
 assert bpf('infer', checksum, 16, FOLDER / 'sum.cert')[0] == 0
-for words in [['bad'], ['threads', checksum, FOLDER / 'sum.cert'], ['many', EXAMPLES / 'first-byte.img', EXAMPLES / 'first-byte.cert']]:
+for words in [['bad'], ['memory', checksum, FOLDER / 'sum.cert'], ['threads', checksum, FOLDER / 'sum.cert'], ['many', EXAMPLES / 'first-byte.img', EXAMPLES / 'first-byte.cert']]:
     done = subprocess.run([HOSTS, *words], capture_output=True, text=True, timeout=100)
     assert done.returncode == 0 and not done.stderr, (words, done)
-print('bad calls, two threads and a million runs: as they should be')
+print('bad calls, refused memory, two threads and a million runs: as they should be')
 filters()
 print('the filters in C and Rust answer as the command on each frame')

@@ -15,6 +15,8 @@ mod answers;
 mod checked;
 mod prepared;
 mod proposal;
+#[cfg(test)]
+mod tests;
 mod texts;
 
 pub use answers::{BpfOutcome, BpfRefusal, BpfVerdict};
@@ -50,6 +52,7 @@ pub extern "C" fn bpf_host_verify(
 ) -> i32
     ensures yes { result ≡ pos 1 → Verified (order_named order) image.now verdict.new.least verdict.new.most verdict.new.bound }
     ensures promised { result ≡ pos 1 → Promises (order_named order) image.now certificate.now verdict.new.least verdict.new.most verdict.new.bound }
+    ensures limits { result ≡ pos 1 → (verdict.new.least ≤ verdict.new.most) × (verdict.new.most ≤ 4096) }
     ensures no { result ≡ pos 0 → IsRefusedAsTold (order_named order) image.now certificate.now refusal.new }
     ensures accepts { (c : CertificateView) → order ≤ 1 → Certifies (order_named order) image.now certificate.now c → ((result ≡ pos 1) × (verdict.new.least ≡ c.least) × (verdict.new.most ≡ c.most) × (verdict.new.bound ≡ c.steps)) ⊎ (result ≡ negsuc 0) }
     ensures call { (result ≡ negsuc 1) ↔ (1 < order) }
