@@ -6,3 +6,6 @@ pub mod LoadedLemmas
 pub mod TextLemmas
 pub mod MadeLemmas
 pub mod JudgedLemmas
+pub mod TakenLemmas
+pub mod LinesLemmas
+pub mod EachLemmas

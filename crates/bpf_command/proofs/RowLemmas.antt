@@ -1,5 +1,5 @@
 -- What stands in the rows of a parse is what its matches hold.
-use Rattle.std.proofs.Common.{◌≡◌, ℕ, Bool, true, false, cond, List, [], ◌∷◌, map, Option, Some, None, Result, refl, ap, ◌∙◌}
+use Rattle.std.proofs.Common.{◌≡◌, ℕ, Bool, true, false, cond, List, [], ◌∷◌, map, Option, Some, None, Result, refl, ap, subst, ◌∙◌}
 use Rattle.std.specs.Prelude.{find, option_map, option_and_then, slice_get, unwrap_or, codes, Box}
 use Rattle.std.specs.Box.{box_value}
 use Rattle.std.specs.Str.Parse.{ParsesUnsigned, ExplainsUnsignedError, HasUnsignedDigitsIfOk}
@@ -9,7 +9,8 @@ use Rattle.std.specs.Borrow.{Bor}
 use Rattle.clap.specs.Words.{ReadsOne, Row, Text, first_of, first_value, one_of, one_text, subcommand_rows}
 use Rattle.clap.specs.declared.parser.matches.SubCommand.{SubCommand}
 use Rattle.clap.specs.declared.parser.matches.ArgMatches.TheViews.{out-SubCommand}
-use Rattle.bpf_command.specs.CommandLine.{IsCount, IsFlag}
+use Rattle.bpf_command.specs.CommandLine.{GivenBy, IsCount, IsFlag}
+use Rattle.bpf_command.specs.declared.contexts.Contexts.{Contexts}
 use Rattle.clap.specs.Walk.{row_of, rows_of, row_text, texts}
 use Rattle.clap.specs.declared.parser.matches.MatchedArg.{MatchedArg}
 use Rattle.clap.specs.Values.{read_as}
@@ -89,3 +90,9 @@ count_is default (Some t) parsed n none value is = (parsed, plainly t parsed (va
 pub flag_is : (o : Option Text) (given : Bool) → (o ≡ None → given ≡ false) → (o ≡ Some (codes "true") → given ≡ true) → (o ≡ Some (codes "false") → given ≡ false) → IsFlag o given
 flag_is None given none is isnt = none refl
 flag_is (Some t) given none is isnt = (λ e. is (ap Some e), λ e. isnt (ap Some e))
+
+-- ---- contexts
+
+pub given_along : (a b c d e f : Option Text) (contexts : Contexts) → a ≡ d → b ≡ e → c ≡ f → GivenBy a b c contexts → GivenBy d e f contexts
+given_along a b c d e f contexts p q r h =
+    subst (λ x. GivenBy x e f contexts) p (subst (λ y. GivenBy a y f contexts) q (subst (λ z. GivenBy a b z contexts) r h))

@@ -1,5 +1,5 @@
 -- The command line, as its parser sees it.
-use Rattle.std.specs.Prelude.{◌≡◌, ◌≢◌, ℕ, Bool, List, [], Option, Some, None, unwrap_or, pos, codes, true, false}
+use Rattle.std.specs.Prelude.{◌≡◌, ◌≢◌, ℕ, Bool, List, [], Option, Some, None, is_some, ◌&&◌, ◌||◌, unwrap_or, pos, codes, true, false}
 use Rattle.std.specs.Str.Parse.{ParsesUnsigned}
 use Rattle.std.specs.declared.num.ParseIntError.{ParseIntError}
 use Rattle.clap.specs.Words.{App, ReadsOne, Row, Rule, Text, first_of, one_of, new_app, new_rule, with_rule, with_subcommand}
@@ -9,6 +9,8 @@ use Rattle.clap.specs.declared.builder.value_parser.ValueParser.TheVariants as p
 use Rattle.clap.specs.declared.builder.action.ArgAction.TheVariants.{SetTrue}
 use Rattle.bpf_insn.specs.declared.order.Order.{Order}
 use Rattle.bpf_insn.specs.declared.order.Order.TheVariants.{Little, Big}
+use Rattle.bpf_command.specs.declared.contexts.Contexts.{Contexts}
+use Rattle.bpf_command.specs.declared.contexts.Contexts.TheVariants.{Word, Bytes, Lines, Nothing, Several}
 use Rattle.bpf_command.specs.declared.words.Request.{Request}
 use Rattle.bpf_command.specs.declared.words.Request.TheVariants.{Groups, Asm, List as ListOf, Run, Check, RunChecked, Infer, Migrate}
 
@@ -23,6 +25,14 @@ place id = record (new_rule id) { required = true }
 -- the required option `--steps`, with a number below 2 ^ 32
 abbrev pub steps : Rule
 steps = record (new_rule (codes "steps")) { long = Some (codes "steps"); value_names = 1; parser = Some (parser.Signed (pos 0) (pos 4294967295)); required = true }
+
+-- an option with a name to read
+abbrev pub file : Text → Rule
+file name = record (new_rule name) { long = Some name; value_names = 1 }
+
+-- the three ways to give contexts
+abbrev pub with_contexts : App → App
+with_contexts a = with_rule (with_rule (with_rule a (new_rule (codes "HEX"))) (file (codes "context"))) (file (codes "contexts"))
 
 -- a flag, false where it isn't given
 abbrev pub flag : Text → Rule
@@ -41,8 +51,11 @@ asm = with_rule (with_rule (with_rule (new_app (codes "asm")) (place (codes "IN"
 abbrev pub list : App
 list = with_rule (with_rule (new_app (codes "list")) (place (codes "IN"))) big
 
+abbrev pub run_places : App
+run_places = with_rule (new_app (codes "run")) (place (codes "IN"))
+
 abbrev pub run : App
-run = with_rule (with_rule (with_rule (with_rule (new_app (codes "run")) (place (codes "IN"))) (place (codes "HEX"))) steps) big
+run = with_rule (with_rule (with_contexts run_places) steps) big
 
 abbrev pub top : App
 top = let named = new_app (codes "bpf") in record named { top = record named.top { has_version = true; subcommand_required = true } }
@@ -54,8 +67,11 @@ without_certificates = with_subcommand (with_subcommand (with_subcommand (with_s
 abbrev pub check : App
 check = with_rule (with_rule (with_rule (with_rule (new_app (codes "check")) (place (codes "IN"))) (place (codes "CERT"))) (flag (codes "work"))) big
 
+abbrev pub run_checked_places : App
+run_checked_places = with_rule (with_rule (new_app (codes "run-checked")) (place (codes "IN"))) (place (codes "CERT"))
+
 abbrev pub run_checked : App
-run_checked = with_rule (with_rule (with_rule (with_rule (new_app (codes "run-checked")) (place (codes "IN"))) (place (codes "CERT"))) (place (codes "HEX"))) big
+run_checked = with_rule (with_contexts run_checked_places) big
 
 -- the required word `LEN`, a number up to 4096
 abbrev pub context_length : Rule
@@ -103,6 +119,18 @@ IsOrder rows Little = IsFlag (one_of (codes "big") rows) false
 abbrev pub IsInput : List Row → Text → Order → Type 0
 IsInput rows input order = (input ≡ word_of (codes "IN") rows) × IsOrder rows order
 
+-- by the word for a context, the name of one, and the name of lines
+abbrev pub GivenBy : Option Text → Option Text → Option Text → Contexts → Type 0
+GivenBy word bytes lines (Word hex) = (word ≡ Some hex.now) × (bytes ≡ None) × (lines ≡ None)
+GivenBy word bytes lines (Bytes name) = (word ≡ None) × (bytes ≡ Some name.now) × (lines ≡ None)
+GivenBy word bytes lines (Lines name) = (word ≡ None) × (bytes ≡ None) × (lines ≡ Some name.now)
+GivenBy word bytes lines Nothing = (word ≡ None) × (bytes ≡ None) × (lines ≡ None)
+GivenBy word bytes lines Several = ((is_some word && is_some bytes) || (is_some word && is_some lines) || (is_some bytes && is_some lines)) ≡ true
+
+-- the contexts that HEX, `--context` and `--contexts` give
+abbrev pub AreContexts : List Row → Contexts → Type 0
+AreContexts rows contexts = GivenBy (first_of (codes "HEX") rows) (first_of (codes "context") rows) (first_of (codes "contexts") rows) contexts
+
 -- the request of a subcommand with these matches
 abbrev pub Asks : Text → List Row → Request → Type 0
 Asks name rows (Groups input order) =
@@ -110,11 +138,11 @@ Asks name rows (Groups input order) =
     × (name ≢ codes "migrate") × IsInput rows input.now order
 Asks name rows (Asm input output order) = (name ≡ codes "asm") × IsInput rows input.now order × (output.now ≡ word_of (codes "OUT") rows)
 Asks name rows (ListOf input order) = (name ≡ codes "list") × IsInput rows input.now order
-Asks name rows (Run input hex count order) = (name ≡ codes "run") × IsInput rows input.now order × (hex.now ≡ word_of (codes "HEX") rows) × IsCount 0 (one_of (codes "steps") rows) count
+Asks name rows (Run input contexts count order) = (name ≡ codes "run") × IsInput rows input.now order × AreContexts rows contexts × IsCount 0 (one_of (codes "steps") rows) count
 Asks name rows (Check input certificate work order) =
     (name ≡ codes "check") × IsInput rows input.now order × (certificate.now ≡ word_of (codes "CERT") rows) × IsFlag (one_of (codes "work") rows) work
-Asks name rows (RunChecked input certificate hex order) =
-    (name ≡ codes "run-checked") × IsInput rows input.now order × (certificate.now ≡ word_of (codes "CERT") rows) × (hex.now ≡ word_of (codes "HEX") rows)
+Asks name rows (RunChecked input certificate contexts order) =
+    (name ≡ codes "run-checked") × IsInput rows input.now order × (certificate.now ≡ word_of (codes "CERT") rows) × AreContexts rows contexts
 Asks name rows (Infer input least most output order) =
     (name ≡ codes "infer") × IsInput rows input.now order × IsCount 0 (one_of (codes "LEN") rows) least × IsCount least (one_of (codes "most") rows) most × (output.now ≡ word_of (codes "OUT") rows)
 Asks name rows (Migrate certificate output) = (name ≡ codes "migrate") × (certificate.now ≡ word_of (codes "CERT") rows) × (output.now ≡ word_of (codes "OUT") rows)

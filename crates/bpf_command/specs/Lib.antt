@@ -1,9 +1,13 @@
 pub mod Context
+pub mod Taken
+pub mod Lines
 pub mod Opened
 pub mod CommandLine
 pub mod Told
+pub mod Each
 pub mod Loaded
 pub mod Made
 pub mod Answer
 pub mod Printed
+pub mod Given
 pub mod Response

@@ -1,16 +1,19 @@
 -- What the command answers to its words, whatever they ask for.
-use Rattle.std.specs.Prelude.{◌≡◌, ◌⊎◌, ◌&&◌, List, ℕ, Option, Some, None, Ok, false, nat_lt, codes, if◌then◌else◌}
+use Rattle.std.specs.Prelude.{◌≡◌, ◌⊎◌, ◌&&◌, List, [], ℕ, Option, Some, None, false, nat_lt, codes, if◌then◌else◌}
+use Rattle.std.specs.Option.{option_or}
 use Rattle.std.specs.Io.KnownBytes.{Keeps}
 use Rattle.clap.specs.Words.{Text, subcommand_of, takes}
 use Rattle.bpf_command.specs.CommandLine.{IsAsked, bpf}
-use Rattle.bpf_command.specs.Context.{context_in}
 use Rattle.bpf_command.specs.Opened.{Opening}
 use Rattle.bpf_command.specs.Made.{Making}
 use Rattle.bpf_command.specs.Loaded.{ImageFails}
 use Rattle.bpf_command.specs.Answer.{Answer, Says}
-use Rattle.bpf_command.specs.Printed.{FailsWith, LoadedFails, ImageSays, GroupsSay, ListSays, OutcomeSays, AsmSays, AsmFails, InferSays, InferFails, MigrateSays, MigrateFails, CheckSays, RunCheckedSays}
+use Rattle.bpf_command.specs.Printed.{LoadedFails, ImageSays, GroupsSay, ListSays, AsmSays, AsmFails, InferSays, InferFails, MigrateSays, MigrateFails, CheckSays}
+use Rattle.bpf_command.specs.Given.{CheckedFails, CheckedSays, RunFails, RunSays}
 use Rattle.bpf_command.specs.Told.{IsTold}
 use Rattle.std.specs.Str.{bytes_eq}
+use Rattle.bpf_command.specs.declared.contexts.Contexts.{Contexts}
+use Rattle.bpf_command.specs.declared.contexts.Contexts.TheVariants.{Word, Bytes, Lines, Nothing, Several}
 use Rattle.bpf_command.specs.declared.words.Request.{Request}
 use Rattle.bpf_command.specs.declared.words.Request.TheVariants.{Groups, Asm, List as ListOf, Run, Check, RunChecked, Infer, Migrate}
 use Rattle.bpf_command.specs.declared.failure.Failure.{Failure}
@@ -22,13 +25,22 @@ use Rattle.bpf_command.specs.declared.failure.Failure.TheVariants.{NoMemory, Mos
 abbrev pub twice : List ℕ → List ℕ → Option Failure
 twice first second = if bytes_eq first (codes "-") && bytes_eq second (codes "-") then Some InputTwice else None
 
+-- the name at which contexts are read
+abbrev pub name_of : Contexts → List ℕ
+name_of (Word hex) = []
+name_of (Bytes name) = name.now
+name_of (Lines name) = name.now
+name_of Nothing = []
+name_of Several = []
+
 abbrev pub conflict_of : Request → Option Failure
 conflict_of (Groups input order) = None
 conflict_of (Asm input output order) = None
 conflict_of (ListOf input order) = None
-conflict_of (Run input hex steps order) = None
+conflict_of (Run input contexts steps order) = twice input.now (name_of contexts)
 conflict_of (Check input certificate work order) = twice input.now certificate.now
-conflict_of (RunChecked input certificate hex order) = twice input.now certificate.now
+conflict_of (RunChecked input certificate contexts order) =
+    option_or (option_or (twice input.now certificate.now) (twice input.now (name_of contexts))) (twice certificate.now (name_of contexts))
 conflict_of (Infer input least most output order) = if nat_lt most least then Some MostBelowLeast else None
 conflict_of (Migrate certificate output) = None
 
@@ -39,9 +51,9 @@ abbrev pub Does : {S : Type 0} → Opening S → Making S → S → S → Option
 Does o m old new before after (Groups input order) = λ status. (answer : Answer) × Says answer status before after × ImageSays o order old input.now new GroupsSay answer
 Does o m old new before after (Asm input output order) = λ status. (answer : Answer) × Says answer status before after × AsmSays o m order old input.now output.now new answer
 Does o m old new before after (ListOf input order) = λ status. (answer : Answer) × Says answer status before after × ImageSays o order old input.now new ListSays answer
-Does o m old new before after (Run input hex steps order) = λ status. (answer : Answer) × (context : List ℕ) × (context_in hex.now ≡ Ok context) × Says answer status before after × ImageSays o order old input.now new (OutcomeSays context steps) answer
+Does o m old new before after (Run input contexts steps order) = λ status. RunSays o order old input.now contexts steps new before after status
 Does o m old new before after (Check input certificate work order) = λ status. (answer : Answer) × Says answer status before after × CheckSays o order old input.now certificate.now new work answer
-Does o m old new before after (RunChecked input certificate hex order) = λ status. (answer : Answer) × (context : List ℕ) × (context_in hex.now ≡ Ok context) × Says answer status before after × RunCheckedSays o order old input.now certificate.now new context answer
+Does o m old new before after (RunChecked input certificate contexts order) = λ status. CheckedSays o order old input.now certificate.now contexts new before after status
 Does o m old new before after (Infer input least most output order) = λ status. (answer : Answer) × Says answer status before after × InferSays o m order old input.now least most output.now new answer
 Does o m old new before after (Migrate certificate output) = λ status. (answer : Answer) × Says answer status before after × MigrateSays o m old certificate.now output.now new answer
 
@@ -50,9 +62,9 @@ abbrev pub Misses : {S : Type 0} → Opening S → Making S → S → S → Requ
 Misses o m old new (Groups input order) = ImageFails o old input.now new
 Misses o m old new (Asm input output order) = AsmFails o m order old input.now output.now new
 Misses o m old new (ListOf input order) = ImageFails o old input.now new
-Misses o m old new (Run input hex steps order) = FailsWith old new hex.now (ImageFails o old input.now new)
+Misses o m old new (Run input contexts steps order) = λ failure. (before : Option (List ℕ)) × (after : Option (List ℕ)) × RunFails o order old input.now contexts steps new before after failure
 Misses o m old new (Check input certificate work order) = LoadedFails o order old input.now certificate.now new
-Misses o m old new (RunChecked input certificate hex order) = FailsWith old new hex.now (LoadedFails o order old input.now certificate.now new)
+Misses o m old new (RunChecked input certificate contexts order) = λ failure. (before : Option (List ℕ)) × (after : Option (List ℕ)) × CheckedFails o order old input.now certificate.now contexts new before after failure
 Misses o m old new (Infer input least most output order) = InferFails o m order old input.now least most output.now new
 Misses o m old new (Migrate certificate output) = MigrateFails o m old certificate.now output.now new
 

@@ -3,6 +3,7 @@
 mod asm;
 mod certificate;
 mod check;
+mod each;
 mod groups;
 mod image;
 mod infer;
@@ -12,6 +13,7 @@ mod migrate;
 mod output;
 mod run;
 mod run_checked;
+mod whole;
 
 pub use asm::assembled;
 pub use check::checked;
@@ -19,5 +21,5 @@ pub use groups::grouped;
 pub use infer::inferred;
 pub use list::listed;
 pub use migrate::migrated;
-pub use run::ran;
-pub use run_checked::ran_checked;
+pub use run::ran_on;
+pub use run_checked::ran_checked_on;

@@ -2,11 +2,12 @@
 
 ghost use Rattle.std.specs.Prelude.{◌≡◌, ◌++◌, IfErr, OnOk, OnErr};
 ghost use Rattle.bpf_insn.specs.Written.{AppendsBeginning};
-ghost use Rattle.bpf_command.specs.Told.{OutputFails, failure_line, failure_text, status_of_failure};
+ghost use Rattle.bpf_command.specs.Told.{OutputFails, failure_line, failure_text, line_text, status_of_context, status_of_failure};
 ghost use Rattle.std.specs.Io.KnownBytes.{Appends};
 
 use crate::context::ContextError;
 use bpf_insn::written::write_bytes;
+use itoa::Buffer;
 use std::alloc::AllocError;
 use std::io::{self, Write};
 
@@ -25,12 +26,41 @@ pub enum Failure<'a> {
     CannotRead(&'a str),
     CannotWrite(&'a str),
     NoMemory,
-    /// The word for the context is none.
+    /// The word for the context, or what stands at its name, is none.
     BadContext(ContextError),
+    /// The line of a context is none. The first line is 1.
+    BadLine { error: ContextError, line: u64 },
+    /// No context is given.
+    NoContext,
+    /// A context is given in two ways.
+    ContextTwice,
     /// The greatest length of contexts is below the least.
     MostBelowLeast,
     /// Two names to read are standard input.
     InputTwice,
+}
+
+impl ContextError {
+    /// The status of a command that it ends.
+    fn status(self) -> u8
+        ensures { result ≡ status_of_context self }
+    {
+        match self {
+            ContextError::BadHex | ContextError::TooLong => BAD_WORDS,
+            ContextError::Memory => FAILED,
+        }
+    }
+
+    /// What is told of a line, before its number.
+    fn line_text(self) -> &'static str
+        ensures { result.now ≡ line_text self }
+    {
+        match self {
+            ContextError::BadHex => "bad hex at line ",
+            ContextError::TooLong => "context too long at line ",
+            ContextError::Memory => "no memory at line ",
+        }
+    }
 }
 
 impl<'a> Failure<'a> {
@@ -40,14 +70,14 @@ impl<'a> Failure<'a> {
     {
         match self {
             Failure::CannotRead(_) | Failure::CannotWrite(_) | Failure::NoMemory => FAILED,
-            Failure::BadContext(ContextError::Memory) => FAILED,
-            Failure::BadContext(ContextError::BadHex | ContextError::TooLong) => BAD_WORDS,
+            Failure::BadContext(error) | Failure::BadLine { error, .. } => error.status(),
+            Failure::NoContext | Failure::ContextTwice => BAD_WORDS,
             Failure::MostBelowLeast | Failure::InputTwice => BAD_WORDS,
         }
     }
 
-    /// What the failure is, and the name that it is of.
-    fn text(self) -> (&'static str, &'a str)
+    /// What the failure is, and the name or the number of the line that it is of.
+    fn text(self, buffer: &'a mut Buffer) -> (&'static str, &'a str)
         ensures { result.0.now ++ result.1.now ≡ failure_text self.entry }
     {
         match self {
@@ -56,6 +86,9 @@ impl<'a> Failure<'a> {
             Failure::BadContext(ContextError::BadHex) => ("bad hex", ""),
             Failure::BadContext(ContextError::TooLong) => ("context too long", ""),
             Failure::BadContext(ContextError::Memory) | Failure::NoMemory => ("no memory", ""),
+            Failure::BadLine { error, line } => (error.line_text(), buffer.format(line)),
+            Failure::NoContext => ("no context", ""),
+            Failure::ContextTwice => ("context twice", ""),
             Failure::MostBelowLeast => ("most below least", ""),
             Failure::InputTwice => ("standard input twice", ""),
         }
@@ -89,7 +122,8 @@ pub fn tell<W: Write>(failure: Failure<'_>, err: &mut W) -> io::Result<()>
     ensures ok { OnOk result (Appends (W.contents err.old) (W.contents err.new) (failure_line failure.entry)) }
     ensures err { OnErr result (AppendsBeginning (W.contents err.old) (W.contents err.new) (failure_line failure.entry)) }
 {
-    let (text, name) = failure.text();
+    let mut buffer = Buffer::new();
+    let (text, name) = failure.text(&mut buffer);
     write_bytes(err, text.as_bytes())?;
     write_bytes(err, name.as_bytes())?;
     write_bytes(err, b"\n")

@@ -3,8 +3,10 @@
 
 mod commands;
 mod context;
+mod contexts;
 mod failure;
 mod files;
+mod line_reader;
 mod places;
 mod response;
 mod words;

@@ -7,7 +7,9 @@ ghost use Rattle.bpf_command.specs.Made.{making};
 ghost use Rattle.bpf_command.specs.Response.{Does, Fails, Misses, Responds, conflict_of, twice};
 ghost use Rattle.bpf_command.specs.Told.{IsTold};
 
-use crate::commands::{assembled, checked, grouped, inferred, listed, migrated, ran, ran_checked};
+use crate::commands::{
+    assembled, checked, grouped, inferred, listed, migrated, ran_checked_on, ran_on,
+};
 use crate::failure::{BAD_WORDS, FAILED, Failure, tell};
 use crate::places::Places;
 use crate::words::{Request, request_of};
@@ -32,7 +34,12 @@ fn conflict_in(request: Request<'_>) -> Option<Failure<'static>>
 {
     match request {
         Request::Groups { .. } | Request::Asm { .. } | Request::List { .. } => None,
-        Request::Run { .. } | Request::Migrate { .. } => None,
+        Request::Migrate { .. } => None,
+        Request::Run {
+            input,
+            contexts,
+            ..
+        } => twice(input, contexts.name()),
         Request::Check {
             input,
             certificate,
@@ -41,8 +48,14 @@ fn conflict_in(request: Request<'_>) -> Option<Failure<'static>>
         Request::RunChecked {
             input,
             certificate,
+            contexts,
             ..
-        } => twice(input, certificate),
+        } => {
+            let name = contexts.name();
+            twice(input, certificate)
+                .or(twice(input, name))
+                .or(twice(certificate, name))
+        }
         Request::Infer { least, most, .. } => {
             if most < least {
                 Some(Failure::MostBelowLeast)
@@ -73,10 +86,10 @@ fn carry_out<'a, P: Places, W: Write>(
         Request::List { input, order } => listed(alloc, places, out, input, order),
         Request::Run {
             input,
-            hex,
+            contexts,
             steps,
             order,
-        } => ran(alloc, places, out, input, hex, steps, order),
+        } => ran_on(alloc, places, out, input, contexts, steps, order),
         Request::Check {
             input,
             certificate,
@@ -86,9 +99,9 @@ fn carry_out<'a, P: Places, W: Write>(
         Request::RunChecked {
             input,
             certificate,
-            hex,
+            contexts,
             order,
-        } => ran_checked(alloc, places, out, input, certificate, hex, order),
+        } => ran_checked_on(alloc, places, out, input, certificate, contexts, order),
         Request::Infer {
             input,
             least,

@@ -1,11 +1,12 @@
 //! The words of a command line.
 
-ghost use Rattle.std.specs.Prelude.{◌≡◌, IfOk, IfErr, map, true, false};
+ghost use Rattle.std.specs.Prelude.{◌≡◌, IfOk, IfErr, map, option_map, true, false};
 ghost use Rattle.std.specs.String.{string_bytes};
-ghost use Rattle.clap.specs.Words.{app_of, found_of, kind_of, one_of, rows_of, rule_of, subcommand_of, takes};
-ghost use Rattle.bpf_command.specs.CommandLine.{Asks, IsAsked, IsCount, IsFlag, IsOrder, asm, big, bpf, check, flag, groups, has_globals, infer, infer_places, list, migrate, place, run, run_checked, without_certificates, word_of};
+ghost use Rattle.clap.specs.Words.{app_of, found_of, kind_of, new_rule, one_of, rows_of, rule_of, subcommand_of, takes};
+ghost use Rattle.bpf_command.specs.CommandLine.{AreContexts, Asks, GivenBy, IsAsked, IsCount, IsFlag, IsOrder, asm, big, bpf, check, file, flag, groups, has_globals, infer, infer_places, list, migrate, place, run, run_checked, run_checked_places, run_places, with_contexts, without_certificates, word_of};
 ghost use Rattle.clap.specs.declared.error.ErrorKind.TheVariants.{OutOfMemory};
 
+use crate::contexts::Contexts;
 use bpf_insn::Order;
 use clap::{Arg, ArgAction, ArgMatches, Command, Error, value_parser};
 use std::alloc::{AllocError, Global};
@@ -29,10 +30,10 @@ pub enum Request<'a> {
         input: &'a str,
         order: Order,
     },
-    /// A run of an image on a context, for at most so many instructions.
+    /// Runs of an image on contexts, each for at most so many instructions.
     Run {
         input: &'a str,
-        hex: &'a str,
+        contexts: Contexts<'a>,
         steps: u32,
         order: Order,
     },
@@ -43,11 +44,11 @@ pub enum Request<'a> {
         work: bool,
         order: Order,
     },
-    /// A run of an image on a context, once its certificate certifies it.
+    /// Runs of an image on contexts, once its certificate certifies it.
     RunChecked {
         input: &'a str,
         certificate: &'a str,
-        hex: &'a str,
+        contexts: Contexts<'a>,
         order: Order,
     },
     /// A certificate for an image and contexts of `least` to `most` bytes.
@@ -80,6 +81,22 @@ fn flag<'a>(alloc: Global, id: &'a str, help: &'a str) -> Arg<'a>
         .long(id)
         .action(ArgAction::SetTrue)
         .help(help)
+}
+
+/// A word that may be left out.
+fn extra<'a>(alloc: Global, id: &'a str, help: &'a str) -> Arg<'a>
+    ensures rule { rule_of result ≡ new_rule id.entry.now }
+    ensures local { result.global ≡ false }
+{
+    Arg::new(alloc, id).help(help)
+}
+
+/// An option with a name to read.
+fn file<'a>(alloc: Global, id: &'a str, help: &'a str) -> Arg<'a>
+    ensures rule { rule_of result ≡ file id.entry.now }
+    ensures local { result.global ≡ false }
+{
+    Arg::new(alloc, id).long(id).value_name("FILE").help(help)
 }
 
 fn big<'a>(alloc: Global) -> Arg<'a>
@@ -120,14 +137,40 @@ fn list_command<'a>(alloc: Global) -> Result<Command<'a>, AllocError>
         .arg(big(alloc))
 }
 
+/// The command with the three ways to give contexts.
+fn with_contexts<'a>(alloc: Global, command: Command<'a>) -> Result<Command<'a>, AllocError>
+    ensures app { IfOk result (λ c. app_of c ≡ with_contexts (app_of command.entry)) }
+    ensures local { has_globals command.entry ≡ false → IfOk result (λ c. has_globals c ≡ false) }
+{
+    command
+        .arg(extra(alloc, "HEX", "the context in hexadecimal, or `none`"))?
+        .arg(file(
+            alloc,
+            "context",
+            "in place of HEX: the bytes of FILE are the context",
+        ))?
+        .arg(file(
+            alloc,
+            "contexts",
+            "in place of HEX: contexts as HEX, one a line of FILE",
+        ))
+}
+
+fn run_places<'a>(alloc: Global) -> Result<Command<'a>, AllocError>
+    ensures app { IfOk result (λ c. app_of c ≡ run_places) }
+    ensures local { IfOk result (λ c. has_globals c ≡ false) }
+{
+    Command::new(alloc, "run")
+        .about("Runs an image on contexts, and prints how each run ends")
+        .arg(place(alloc, "IN", "an image"))
+}
+
 fn run_command<'a>(alloc: Global) -> Result<Command<'a>, AllocError>
     ensures app { IfOk result (λ c. app_of c ≡ run) }
     ensures local { IfOk result (λ c. has_globals c ≡ false) }
 {
-    Command::new(alloc, "run")
-        .about("Runs an image on a context, and prints how it ends")
-        .arg(place(alloc, "IN", "an image"))?
-        .arg(place(alloc, "HEX", "the context in hexadecimal, or `none`"))?
+    let places = run_places(alloc)?;
+    with_contexts(alloc, places)?
         .arg(
             Arg::new(alloc, "steps")
                 .long("steps")
@@ -169,16 +212,22 @@ fn check_command<'a>(alloc: Global) -> Result<Command<'a>, AllocError>
         .arg(big(alloc))
 }
 
+fn run_checked_places<'a>(alloc: Global) -> Result<Command<'a>, AllocError>
+    ensures app { IfOk result (λ c. app_of c ≡ run_checked_places) }
+    ensures local { IfOk result (λ c. has_globals c ≡ false) }
+{
+    Command::new(alloc, "run-checked")
+        .about("Runs an image that its certificate certifies, and prints each result")
+        .arg(place(alloc, "IN", "an image"))?
+        .arg(place(alloc, "CERT", "a certificate"))
+}
+
 fn run_checked_command<'a>(alloc: Global) -> Result<Command<'a>, AllocError>
     ensures app { IfOk result (λ c. app_of c ≡ run_checked) }
     ensures local { IfOk result (λ c. has_globals c ≡ false) }
 {
-    Command::new(alloc, "run-checked")
-        .about("Runs an image that its certificate certifies, and prints the result")
-        .arg(place(alloc, "IN", "an image"))?
-        .arg(place(alloc, "CERT", "a certificate"))?
-        .arg(place(alloc, "HEX", "the context in hexadecimal, or `none`"))?
-        .arg(big(alloc))
+    let places = run_checked_places(alloc)?;
+    with_contexts(alloc, places)?.arg(big(alloc))
 }
 
 /// `infer` with its words for names and the length.
@@ -267,6 +316,32 @@ fn order_of(matches: &ArgMatches<'_>) -> Order
     }
 }
 
+/// The one way in which contexts are given.
+fn chosen<'a>(word: Option<&'a str>, bytes: Option<&'a str>, lines: Option<&'a str>) -> Contexts<'a>
+    ensures { GivenBy (option_map (λ s. s.now) word.entry) (option_map (λ s. s.now) bytes.entry) (option_map (λ s. s.now) lines.entry) result }
+{
+    match (word, bytes, lines) {
+        (Some(word), None, None) => Contexts::Word(word),
+        (None, Some(name), None) => Contexts::Bytes(name),
+        (None, None, Some(name)) => Contexts::Lines(name),
+        (None, None, None) => Contexts::Nothing,
+        (Some(_), Some(_), _) => Contexts::Several,
+        (Some(_), None, Some(_)) => Contexts::Several,
+        (None, Some(_), Some(_)) => Contexts::Several,
+    }
+}
+
+/// Where the contexts are.
+fn contexts_of<'a>(matches: &ArgMatches<'a>) -> Contexts<'a>
+    ensures { AreContexts (rows_of (found_of matches.now)) result }
+{
+    chosen(
+        matches.get_str("HEX"),
+        matches.get_str("context"),
+        matches.get_str("contexts"),
+    )
+}
+
 /// What the words of the command with this name ask for.
 fn request_in<'a>(name: &str, matches: &ArgMatches<'a>) -> Request<'a>
     ensures { Asks name.now (rows_of (found_of matches.now)) result }
@@ -282,7 +357,7 @@ fn request_in<'a>(name: &str, matches: &ArgMatches<'a>) -> Request<'a>
         "list" => Request::List { input, order },
         "run" => Request::Run {
             input,
-            hex: word(matches, "HEX"),
+            contexts: contexts_of(matches),
             steps: number(matches, "steps", 0),
             order,
         },
@@ -295,7 +370,7 @@ fn request_in<'a>(name: &str, matches: &ArgMatches<'a>) -> Request<'a>
         "run-checked" => Request::RunChecked {
             input,
             certificate: word(matches, "CERT"),
-            hex: word(matches, "HEX"),
+            contexts: contexts_of(matches),
             order,
         },
         "infer" => {

@@ -77,7 +77,7 @@ const LOW_BYTE_BIG: &[u8] = &[
     0,
 ];
 
-static CONTENTS: [Content; 61] = [
+static CONTENTS: [Content; 75] = [
     // `r1 += 287454020` in big-endian and in little-endian order.
     (
         "sum.big",
@@ -223,6 +223,21 @@ static CONTENTS: [Content; 61] = [
     ("broken.txt", b"r0 = 0\nexit", After(4)),
     ("longer.txt", b"r0 = 0\nr0 = 0\nexit", Never),
     ("three.txt", b"r0 = 0\nr0 = 1\nexit", Never),
+    // Contexts.
+    ("byte", &[0x2a], Never),
+    ("longest", &[0; 4096], Never),
+    ("too-long", &[0; 4097], Never),
+    ("three-bytes", b"2a\nfF\n00\n", Never),
+    ("last-byte-unended", b"2a\nff", Never),
+    ("one-none", b"2a\nnone\nff\n", Never),
+    ("empty-line", b"\n2a\n", Never),
+    ("bad-second", b"2a\nzz\n00\n", Never),
+    ("odd-third", b"2a\n00\n2\nff\n", Never),
+    ("carriage-return", b"2a\r\n", Never),
+    ("longest-line", &[b'0'; 8192], Never),
+    ("too-long-line", &[b'z'; 8193], Never),
+    ("late-contexts", b"2a\nff\n", After(3)),
+    ("hiccup-contexts", b"2a\nff\n", Once),
 ];
 
 /// All of them.

@@ -8,9 +8,11 @@ ghost use Rattle.bpf_command.specs.Answer.{Answer, Says, work_line, yes_line, no
 ghost use Rattle.bpf_command.specs.Answer.Answer.{Yes, NoContext, Ends};
 ghost use Rattle.bpf_command.specs.Loaded.{CertificateFails};
 ghost use Rattle.bpf_command.specs.Printed.{JudgedSays, ResultSays, WishSays};
+ghost use Rattle.bpf_command.specs.Given.{JudgedEachFails, JudgedEachSays};
 ghost use Rattle.bpf_command.specs.Told.{OutputFails};
 
 use crate::commands::certificate::{certificate_at, refuse_program, refuse_text};
+use crate::commands::each::{Runner, answered};
 use crate::failure::{DONE, Failure, REFUSED, say};
 use crate::places::Places;
 use bpf_check::{Checked, check};
@@ -148,6 +150,44 @@ fn grant<'a, C: Code, W: Write>(
         Wish::Promise { counted: false } => say_yes(alloc, out, checked),
         Wish::Promise { counted: true } => say_counted(alloc, out, checked),
         Wish::Run { context } => run_on(alloc, out, checked, context),
+    }
+}
+
+impl<'p, C: Code> Runner for Checked<'p, C> {
+    ghost use Rattle.bpf_command.specs.Printed.{ResultSays};
+
+    ghost says = { λ k context answer. ResultSays context k answer };
+
+    fn answer<'a, W: Write>(
+        &self,
+        alloc: Global,
+        out: &mut W,
+        context: &[u8],
+    ) -> Result<u8, Failure<'a>> {
+        run_on(alloc, out, self, context)
+    }
+}
+
+/// Reads the certificate at a name, judges whether it certifies the program, and answers the contexts of the lines at
+/// another name, which is opened last.
+pub fn judged_each<'a, P: Places, C: Code, W: Write>(
+    alloc: Global,
+    places: &mut P,
+    out: &mut W,
+    program: &C,
+    certificate: &'a str,
+    contexts: &'a str,
+) -> Result<u8, Failure<'a>>
+    ensures ok { IfOk result (JudgedEachSays (opening P.opens P.Reader.remaining) places.old certificate.entry.now contexts.entry.now places.new (C.program program.now) (W.contents out.old) (W.contents out.new)) }
+    ensures err { IfErr result (JudgedEachFails (opening P.opens P.Reader.remaining) places.old certificate.entry.now contexts.entry.now places.new (C.program program.now) (W.contents out.old) (W.contents out.new)) }
+{
+    let certificate = match certificate_at(alloc, places, certificate)? {
+        Ok(certificate) => certificate,
+        Err(error) => return refuse_text(alloc, out, error),
+    };
+    match check(program, &certificate) {
+        Ok(checked) => answered(alloc, places, out, &checked, contexts),
+        Err(refusal) => refuse_program(alloc, out, refusal),
     }
 }
 

@@ -1,6 +1,6 @@
-//! `bpf run IN HEX --steps N`.
+//! `bpf run IN HEX --steps N`, and the same with `--context FILE` or `--contexts FILE` in place of HEX.
 
-ghost use Rattle.std.specs.Prelude.{◌≡◌, ℕ, List, Ok, IfOk, IfErr};
+ghost use Rattle.std.specs.Prelude.{◌≡◌, ◌≤◌, ℕ, List, Ok, IfOk, IfErr, length};
 ghost use Rattle.std.specs.String.{string_bytes};
 ghost use Rattle.bpf_command.specs.Context.{context_in};
 ghost use Rattle.bpf_command.specs.Opened.{opening};
@@ -8,13 +8,17 @@ ghost use Rattle.bpf_command.specs.Answer.{Answer, Says, status_of, text_of};
 ghost use Rattle.bpf_command.specs.Answer.Answer.{Ran};
 ghost use Rattle.bpf_command.specs.Loaded.{ImageFails};
 ghost use Rattle.bpf_command.specs.Printed.{FailsWith, ImageSays, OutcomeSays};
+ghost use Rattle.bpf_command.specs.Given.{FailsBehind, RunAtSays, RunEachFails, RunEachSays, RunFails, RunSays};
 ghost use Rattle.bpf_command.specs.Told.{OutputFails};
 
+use crate::commands::each::{Runner, answered};
 use crate::commands::image::{program_at, refuse};
+use crate::commands::whole::context_at;
 use crate::context::context_of;
+use crate::contexts::Contexts;
 use crate::failure::{DONE, Failure, REFUSED, say};
 use crate::places::Places;
-use bpf_insn::Order;
+use bpf_insn::{Order, Program};
 use bpf_machine::{Outcome, run};
 use std::alloc::{AllocError, Global};
 use std::io::Write;
@@ -56,9 +60,30 @@ fn say_outcome<'a, W: Write>(
     Ok(status)
 }
 
+/// Runs the image on a context, and prints how it ends. A program of its own is decoded once, where a view would be at
+/// each step.
+fn run_image<'a, P: Places, W: Write>(
+    alloc: Global,
+    places: &mut P,
+    out: &mut W,
+    input: &'a str,
+    context: &[u8],
+    steps: u32,
+    order: Order,
+) -> Result<u8, Failure<'a>>
+    requires { length context.now ≤ 4096 }
+    ensures ok { IfOk result (λ status. (answer : Answer) × Says answer status (W.contents out.old) (W.contents out.new) × ImageSays (opening P.opens P.Reader.remaining) order places.old input.entry.now places.new (OutcomeSays context.now steps) answer) }
+    ensures err { IfErr result (ImageFails (opening P.opens P.Reader.remaining) places.old input.entry.now places.new) }
+{
+    match program_at(alloc, places, input, order)? {
+        Ok(program) => say_outcome(alloc, out, run(&program, context, u64::from(steps))),
+        Err(error) => refuse(alloc, out, error),
+    }
+}
+
 /// Runs the image on the context, for at most so many instructions, and prints how it ends. The context is judged first,
-/// then the image. A program of its own is decoded once, where a view would be at each step.
-pub fn ran<'a, P: Places, W: Write>(
+/// then the image.
+fn ran<'a, P: Places, W: Write>(
     alloc: Global,
     places: &mut P,
     out: &mut W,
@@ -74,8 +99,94 @@ pub fn ran<'a, P: Places, W: Write>(
         Ok(context) => context,
         Err(error) => return Err(Failure::BadContext(error)),
     };
-    match program_at(alloc, places, input, order)? {
-        Ok(program) => say_outcome(alloc, out, run(&program, &context, u64::from(steps))),
-        Err(error) => refuse(alloc, out, error),
+    run_image(alloc, places, out, input, &context, steps, order)
+}
+
+/// The same with the context at a name, which is read first.
+fn ran_at<'a, P: Places, W: Write>(
+    alloc: Global,
+    places: &mut P,
+    out: &mut W,
+    input: &'a str,
+    context: &'a str,
+    steps: u32,
+    order: Order,
+) -> Result<u8, Failure<'a>>
+    ensures ok { IfOk result (λ status. RunAtSays (opening P.opens P.Reader.remaining) order places.old input.entry.now context.entry.now steps places.new (W.contents out.old) (W.contents out.new) status) }
+    ensures err { IfErr result (FailsBehind (opening P.opens P.Reader.remaining) places.old context.entry.now places.new (λ between. ImageFails (opening P.opens P.Reader.remaining) between input.entry.now places.new)) }
+{
+    let context = context_at(alloc, places, context)?;
+    run_image(alloc, places, out, input, &context, steps, order)
+}
+
+/// A program and the most instructions that each run of it does.
+#[derive(Clone, Copy)]
+struct Fueled<'a> {
+    program: &'a Program,
+    steps: u32,
+}
+
+impl<'a> Runner for Fueled<'a> {
+    ghost use Rattle.bpf_command.specs.Printed.{OutcomeSays};
+
+    ghost says = { λ f context answer. OutcomeSays context f.steps f.program.now answer };
+
+    fn answer<'b, W: Write>(
+        &self,
+        alloc: Global,
+        out: &mut W,
+        context: &[u8],
+    ) -> Result<u8, Failure<'b>> {
+        say_outcome(
+            alloc,
+            out,
+            run(self.program, context, u64::from(self.steps)),
+        )
+    }
+}
+
+/// The same with each context of the lines at a name, which is opened once the image is judged.
+fn ran_each<'a, P: Places, W: Write>(
+    alloc: Global,
+    places: &mut P,
+    out: &mut W,
+    input: &'a str,
+    contexts: &'a str,
+    steps: u32,
+    order: Order,
+) -> Result<u8, Failure<'a>>
+    ensures ok { IfOk result (RunEachSays (opening P.opens P.Reader.remaining) order places.old input.entry.now contexts.entry.now steps places.new (W.contents out.old) (W.contents out.new)) }
+    ensures err { IfErr result (RunEachFails (opening P.opens P.Reader.remaining) order places.old input.entry.now contexts.entry.now steps places.new (W.contents out.old) (W.contents out.new)) }
+{
+    let program = match program_at(alloc, places, input, order)? {
+        Ok(program) => program,
+        Err(error) => return refuse(alloc, out, error),
+    };
+    let runner = Fueled {
+        program: &program,
+        steps,
+    };
+    answered(alloc, places, out, &runner, contexts)
+}
+
+/// Runs the image on the contexts that are given.
+pub fn ran_on<'a, P: Places, W: Write>(
+    alloc: Global,
+    places: &mut P,
+    out: &mut W,
+    input: &'a str,
+    contexts: Contexts<'a>,
+    steps: u32,
+    order: Order,
+) -> Result<u8, Failure<'a>>
+    ensures ok { IfOk result (RunSays (opening P.opens P.Reader.remaining) order places.old input.entry.now contexts.entry steps places.new (W.contents out.old) (W.contents out.new)) }
+    ensures err { IfErr result (RunFails (opening P.opens P.Reader.remaining) order places.old input.entry.now contexts.entry steps places.new (W.contents out.old) (W.contents out.new)) }
+{
+    match contexts {
+        Contexts::Word(hex) => ran(alloc, places, out, input, hex, steps, order),
+        Contexts::Bytes(name) => ran_at(alloc, places, out, input, name, steps, order),
+        Contexts::Lines(name) => ran_each(alloc, places, out, input, name, steps, order),
+        Contexts::Nothing => Err(Failure::NoContext),
+        Contexts::Several => Err(Failure::ContextTwice),
     }
 }

@@ -1,23 +1,48 @@
-//! `bpf run-checked IN CERT HEX`.
+//! `bpf run-checked IN CERT HEX`, and the same with `--context FILE` or `--contexts FILE` in place of HEX.
 
 ghost use Rattle.std.specs.Prelude.{◌≡◌, ℕ, List, Ok, IfOk, IfErr};
 ghost use Rattle.bpf_command.specs.Context.{context_in};
 ghost use Rattle.bpf_command.specs.Opened.{opening};
 ghost use Rattle.bpf_command.specs.Answer.{Answer, Says};
+ghost use Rattle.bpf_command.specs.Given.{CheckedAtSays, CheckedEachFails, CheckedEachSays, CheckedFails, CheckedSays, FailsBehind};
 ghost use Rattle.bpf_command.specs.Printed.{RunCheckedSays, LoadedFails, FailsWith};
 
 use crate::commands::image::{program_at, refuse};
-use crate::commands::judged::{Wish, judged};
+use crate::commands::judged::{Wish, judged, judged_each};
+use crate::commands::whole::context_at;
 use crate::context::context_of;
+use crate::contexts::Contexts;
 use crate::failure::Failure;
 use crate::places::Places;
 use bpf_insn::Order;
 use std::alloc::Global;
 use std::io::Write;
 
+/// Runs the image's program on a context once the certificate has certified it, and prints the result.
+fn run_certified<'a, P: Places, W: Write>(
+    alloc: Global,
+    places: &mut P,
+    out: &mut W,
+    input: &'a str,
+    certificate: &'a str,
+    context: &[u8],
+    order: Order,
+) -> Result<u8, Failure<'a>>
+    ensures ok { IfOk result (λ status. (answer : Answer) × Says answer status (W.contents out.old) (W.contents out.new) × RunCheckedSays (opening P.opens P.Reader.remaining) order places.old input.entry.now certificate.entry.now places.new context.now answer) }
+    ensures err { IfErr result (LoadedFails (opening P.opens P.Reader.remaining) order places.old input.entry.now certificate.entry.now places.new) }
+{
+    match program_at(alloc, places, input, order)? {
+        Ok(program) => {
+            let wish = Wish::Run { context };
+            judged(alloc, places, out, &program, certificate, wish)
+        }
+        Err(error) => refuse(alloc, out, error),
+    }
+}
+
 /// Runs the image's program on the context once the certificate has certified it, and prints the result. The context's
 /// word is judged first, then the image, the certificate, the check, and the context's length last.
-pub fn ran_checked<'a, P: Places, W: Write>(
+fn ran_checked<'a, P: Places, W: Write>(
     alloc: Global,
     places: &mut P,
     out: &mut W,
@@ -33,11 +58,79 @@ pub fn ran_checked<'a, P: Places, W: Write>(
         Ok(context) => context,
         Err(error) => return Err(Failure::BadContext(error)),
     };
+    run_certified(alloc, places, out, input, certificate, &context, order)
+}
+
+/// The same with the context at a name, which is read first.
+fn ran_checked_at<'a, P: Places, W: Write>(
+    alloc: Global,
+    places: &mut P,
+    out: &mut W,
+    input: &'a str,
+    certificate: &'a str,
+    context: &'a str,
+    order: Order,
+) -> Result<u8, Failure<'a>>
+    ensures ok { IfOk result (CheckedAtSays (opening P.opens P.Reader.remaining) order places.old input.entry.now certificate.entry.now context.entry.now places.new (W.contents out.old) (W.contents out.new)) }
+    ensures err { IfErr result (FailsBehind (opening P.opens P.Reader.remaining) places.old context.entry.now places.new (λ between. LoadedFails (opening P.opens P.Reader.remaining) order between input.entry.now certificate.entry.now places.new)) }
+{
+    let context = context_at(alloc, places, context)?;
+    run_certified(alloc, places, out, input, certificate, &context, order)
+}
+
+/// The same with each context of the lines at a name, which is opened once the certificate has certified the program.
+fn ran_checked_each<'a, P: Places, W: Write>(
+    alloc: Global,
+    places: &mut P,
+    out: &mut W,
+    input: &'a str,
+    certificate: &'a str,
+    contexts: &'a str,
+    order: Order,
+) -> Result<u8, Failure<'a>>
+    ensures ok { IfOk result (CheckedEachSays (opening P.opens P.Reader.remaining) order places.old input.entry.now certificate.entry.now contexts.entry.now places.new (W.contents out.old) (W.contents out.new)) }
+    ensures err { IfErr result (CheckedEachFails (opening P.opens P.Reader.remaining) order places.old input.entry.now certificate.entry.now contexts.entry.now places.new (W.contents out.old) (W.contents out.new)) }
+{
     match program_at(alloc, places, input, order)? {
-        Ok(program) => {
-            let wish = Wish::Run { context: &context };
-            judged(alloc, places, out, &program, certificate, wish)
-        }
+        Ok(program) => judged_each(alloc, places, out, &program, certificate, contexts),
         Err(error) => refuse(alloc, out, error),
+    }
+}
+
+/// Runs the image's program on the contexts that are given, once the certificate has certified it.
+pub fn ran_checked_on<'a, P: Places, W: Write>(
+    alloc: Global,
+    places: &mut P,
+    out: &mut W,
+    input: &'a str,
+    certificate: &'a str,
+    contexts: Contexts<'a>,
+    order: Order,
+) -> Result<u8, Failure<'a>>
+    ensures ok { IfOk result (CheckedSays (opening P.opens P.Reader.remaining) order places.old input.entry.now certificate.entry.now contexts.entry places.new (W.contents out.old) (W.contents out.new)) }
+    ensures err { IfErr result (CheckedFails (opening P.opens P.Reader.remaining) order places.old input.entry.now certificate.entry.now contexts.entry places.new (W.contents out.old) (W.contents out.new)) }
+{
+    match contexts {
+        Contexts::Word(hex) => ran_checked(alloc, places, out, input, certificate, hex, order),
+        Contexts::Bytes(name) => ran_checked_at(
+            alloc,
+            places,
+            out,
+            input,
+            certificate,
+            name,
+            order,
+        ),
+        Contexts::Lines(name) => ran_checked_each(
+            alloc,
+            places,
+            out,
+            input,
+            certificate,
+            name,
+            order,
+        ),
+        Contexts::Nothing => Err(Failure::NoContext),
+        Contexts::Several => Err(Failure::ContextTwice),
     }
 }
