@@ -168,8 +168,9 @@ fn write_branch<W: Write>(
     )
 }
 
-/// Writes the line of an instruction.
-fn write_line<W: Write>(out: &mut W, insn: &Insn) -> io::Result<()>
+/// Writes the line of an instruction, in the one spelling of the language. A fault of the writer, or a write of no bytes, ends
+/// it; what went out is then a beginning of the line.
+pub fn write_line<W: Write>(out: &mut W, insn: &Insn) -> io::Result<()>
     ensures ok { OnOk result (Appends (W.contents out.old) (W.contents out.new) (line_text insn.now)) }
     ensures err { OnErr result (AppendsBeginning (W.contents out.old) (W.contents out.new) (line_text insn.now)) }
 {
