@@ -28,6 +28,8 @@ pub use error::CertError;
 pub use laws::{
     each_form_has_one_line, fault_stays, faultless_is_spelled, spelled_is_faultless, spelled_once,
 };
+pub use limits::is_limited_term;
 pub use migration::migrate;
 pub use reading::read;
-pub use writing::write;
+pub use spelling::{LineText, entry_text};
+pub use writing::{value_slot, write};

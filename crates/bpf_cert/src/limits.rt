@@ -270,7 +270,8 @@ fn is_limited_place(place: Place) -> bool
     }
 }
 
-fn is_limited_term(term: &Term) -> bool
+/// Whether a term is one of a certificate: its weight is 1 to 2^20, and its place is a register or a slot.
+pub fn is_limited_term(term: &Term) -> bool
     ensures { result ≡ limits.is_limited_term term.now }
 {
     let is_limited_measure = match term.measure {

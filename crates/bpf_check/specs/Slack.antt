@@ -1,10 +1,11 @@
 -- What code computes of budgets.
-use Rattle.std.specs.Prelude.{ℕ, ℤ, pos, neg_ℤ, ◌-ℤ◌, ◌≤ℤ◌, Option, option_map, unwrap_or}
+use Rattle.std.specs.Prelude.{ℕ, ℤ, pos, neg_ℤ, ◌+ℤ◌, ◌-ℤ◌, ◌≤ℤ◌, Option, option_map, unwrap_or}
 use Rattle.bpf_state.specs.State.{AbstractState, blank}
 use Rattle.bpf_cert.specs.declared.certificate.Term.{Term}
 use Rattle.bpf_cert.specs.View.{LabelView}
 use Rattle.bpf_safety.specs.Budget.{bounds, place_of, tag_of, term_value, least_at_ends, shares, free_part, each_term, sum_if}
 use Rattle.bpf_safety.specs.Flow.{label_state}
+use Rattle.bpf_check.specs.declared.spending.Slack.{Slack}
 
 -- the state at a label that gives one
 abbrev pub at_label : LabelView → AbstractState
@@ -27,3 +28,7 @@ free_term edge j t = free_part edge (tag_of edge (place_of t)) t
 
 abbrev pub free_of : AbstractState → LabelView → Option ℤ
 free_of edge new = sum_if (each_term (free_term edge) 0 new.terms)
+
+-- what is left, from its parts
+abbrev pub total : Slack → ℤ
+total s = (s.base +ℤ s.kept) -ℤ s.free

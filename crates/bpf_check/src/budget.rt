@@ -210,7 +210,7 @@ fn least_left(j: usize, term: &Term, range: Unsigned, edge: &State, terms: &[Ter
 }
 
 /// The least of what the terms of an old label keep on an edge into a new one.
-fn kept(old: &Label, edge: &State, new: &Label) -> Option<i128>
+pub fn kept(old: &Label, edge: &State, new: &Label) -> Option<i128>
     requires old { IsTrue (is_limited_label (label_view old.now)) }
     requires alive { IsSome (label_state (label_view old.now)) }
     requires new { IsTrue (is_limited_label (label_view new.now)) }
@@ -245,7 +245,7 @@ fn greatest_free(edge: &State, term: &Term) -> Option<i128>
 }
 
 /// The greatest of what the terms of a new label take beside the old places.
-fn free(edge: &State, new: &Label) -> Option<i128>
+pub fn free(edge: &State, new: &Label) -> Option<i128>
     requires { IsTrue (is_limited_label (label_view new.now)) }
     ensures value { result ≡ free_of edge.now (label_view new.now) }
     ensures small { IfSome result (λ z. IsWithin (2 ^ 93) z) }
@@ -262,7 +262,7 @@ fn free(edge: &State, new: &Label) -> Option<i128>
 }
 
 /// What is left of an old base after a cost and a new base.
-fn base_left(old: u64, cost: i128, new: u64) -> i128
+pub fn base_left(old: u64, cost: i128, new: u64) -> i128
     requires { IsWithin (2 ^ 112) cost }
     ensures value { result ≡ (pos old -ℤ cost) -ℤ pos new }
     ensures small { IsWithin (2 ^ 113) result }

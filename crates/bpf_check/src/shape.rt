@@ -35,7 +35,7 @@ fn is_bad_limit(tight: Option<&State>, term: &Term) -> bool
 }
 
 /// A term's place is no number, or may be above the term's limit.
-fn is_bad_term(label: &Label, tight: Option<&State>, term: &Term) -> bool
+pub fn is_bad_term(label: &Label, tight: Option<&State>, term: &Term) -> bool
     requires limited { IsTrue (is_limited_term term.now) }
     requires state { option_copied tight ≡ tightened label.now.state }
     ensures { result ≡ is_bad_term (label_view label.now) term.now }
@@ -58,7 +58,7 @@ fn has_bad_term(label: &Label, tight: Option<&State>) -> bool
 }
 
 /// A label lies in another function than the one it belongs to, or in none.
-fn is_outside(certificate: &Certificate, function: &Function, label: &Label) -> bool
+pub fn is_outside(certificate: &Certificate, function: &Function, label: &Label) -> bool
     ensures { result ≡ is_outside certificate.now (function_view function.now) (label_view label.now) }
 {
     match function_at(certificate, label.slot) {
@@ -81,7 +81,7 @@ fn is_misshapen(
 }
 
 /// A function's first label stands where it begins.
-fn is_first_label(function: &Function) -> bool
+pub fn is_first_label(function: &Function) -> bool
     ensures { result ≡ is_first_label (function_view function.now) }
 {
     match function.labels.first() {

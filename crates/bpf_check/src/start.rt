@@ -20,7 +20,7 @@ use bpf_cert::{Certificate, Function};
 use bpf_state::{State, Work};
 
 /// No function begins at slot 0.
-fn begins_elsewhere(functions: &[Function]) -> bool
+pub fn begins_elsewhere(functions: &[Function]) -> bool
     ensures { result ≡ begins_elsewhere (map function_view functions.now) }
 {
     match functions.first() {
@@ -57,7 +57,7 @@ fn begins_wrongly(certificate: &Certificate, work: &mut Work) -> bool
 }
 
 /// The budget at the start may be above the steps that are promised.
-fn starts_over_budget(certificate: &Certificate) -> bool
+pub fn starts_over_budget(certificate: &Certificate) -> bool
     ensures { result ≡ starts_over_budget certificate.now }
 {
     let Some(label) = label_at(certificate, 0) else {

@@ -31,7 +31,7 @@ pub struct Judged {
 }
 
 /// Judges an instruction that a state reaches, and makes the walk what goes on from it: C3 to C7 if it isn't allowed there.
-fn judge<'a, P: Code>(
+pub fn judge<'a, P: Code>(
     program: &P,
     certificate: &'a Certificate,
     slot: u32,
@@ -142,7 +142,7 @@ fn visit_arrival<'a, P: Code>(
 
 /// Makes the walk what reaches a slot: a label's own state, or what goes on from the instruction before. True if nothing
 /// does and no label stands there.
-fn arrive<'a>(certificate: &'a Certificate, slot: u32, walk: &mut Walk<'a>) -> bool
+pub fn arrive<'a>(certificate: &'a Certificate, slot: u32, walk: &mut Walk<'a>) -> bool
     requires { IfSome walk.old.here (λ h. IsReaching slot h) }
     ensures arrival { walk_of walk.new ≡ arrives certificate.now slot (walk_of walk.old) }
     ensures valid { IfSome walk.new.here (λ h. IsReaching slot h) }

@@ -19,4 +19,4 @@ pub use laws::{
     assembles_or_is_refused, assembles_to_one, listing_assembles, never_both, reads_forms,
     reads_text, refused_once,
 };
-pub use lister::list;
+pub use lister::{list, write_line};

@@ -397,6 +397,17 @@ fn put_line<W: Write>(pending: &mut Pending, out: &mut W, insn: &Insn) -> io::Re
     }
 }
 
+/// Writes the line of an instruction, in the one spelling of the language. A fault of the writer, or a write of no bytes, ends
+/// it; what went out is then a beginning of the line.
+pub fn write_line<W: Write>(out: &mut W, insn: &Insn) -> io::Result<()>
+    ensures ok { OnOk result (Appends (W.contents out.old) (W.contents out.new) (line_text insn.now)) }
+    ensures err { OnErr result (AppendsBeginning (W.contents out.old) (W.contents out.new) (line_text insn.now)) }
+{
+    let mut pending = Pending::new();
+    put_line(&mut pending, out, insn)?;
+    pending.flush(out)
+}
+
 /// Writes the listing of a program: a line for each instruction, in the one spelling of the language, in pieces of 4,096
 /// bytes. A fault of the writer, or a write of no bytes, ends it; what went out is then a beginning of the listing. It takes
 /// no memory.

@@ -1,0 +1,193 @@
+//! What is known, as text.
+
+use arrayvec::ArrayVec;
+use bpf_insn::{Insn, Reg};
+use bpf_num::Num;
+use bpf_state::{Place, Pointer, RegState, SlotState};
+use std::fmt;
+use std::str::from_utf8;
+
+/// A register or slot by its name, as `r6` or `s1`.
+#[derive(Clone, Copy)]
+pub struct Name(pub Place);
+
+impl fmt::Display for Name {
+    fn fmt<W: fmt::Write>(&self, f: &mut fmt::Formatter<W>) -> fmt::Result {
+        match self.0 {
+            Place::Register(r) => {
+                let number = r as u8;
+                write!(f, "r{number}")
+            }
+            Place::Slot(k) => write!(f, "s{k}"),
+        }
+    }
+}
+
+/// What is known of a number. A part that follows from the unsigned bounds is left out.
+#[derive(Clone, Copy)]
+pub struct Number(pub Num);
+
+/// The signed bounds that follow from the unsigned ones.
+fn signed_bounds(lo: u64, hi: u64) -> (i64, i64) {
+    if lo >> 63 == hi >> 63 {
+        (lo.cast_signed(), hi.cast_signed())
+    } else {
+        (i64::MIN, i64::MAX)
+    }
+}
+
+/// The bits that may differ among the numbers between two bounds.
+fn open_bits(lo: u64, hi: u64) -> u64 {
+    let differing = lo ^ hi;
+    if differing == 0 {
+        0
+    } else {
+        u64::MAX >> differing.leading_zeros().min(63)
+    }
+}
+
+fn says_more_signed(n: Num) -> bool {
+    let (lo, hi) = signed_bounds(n.unsigned().lo(), n.unsigned().hi());
+    n.signed().lo() > lo || n.signed().hi() < hi
+}
+
+fn says_more_bits(n: Num) -> bool {
+    let open = open_bits(n.unsigned().lo(), n.unsigned().hi());
+    !n.bits().mask() & open != 0
+}
+
+fn write_constant<W: fmt::Write>(f: &mut fmt::Formatter<W>, value: u64) -> fmt::Result {
+    let signed = value.cast_signed();
+    if signed < 0 {
+        write!(f, "{value} ({signed})")
+    } else {
+        write!(f, "{value}")
+    }
+}
+
+/// The parts of a number with what stands between them. Whether one was there.
+fn write_parts<W: fmt::Write>(f: &mut fmt::Formatter<W>, n: Num) -> Result<bool, fmt::Error> {
+    let mut some = false;
+    let (lo, hi) = (n.unsigned().lo(), n.unsigned().hi());
+    if lo != 0 || hi != u64::MAX {
+        write!(f, "u{lo}..{hi}")?;
+        some = true;
+    }
+    if says_more_signed(n) {
+        let (lo, hi) = (n.signed().lo(), n.signed().hi());
+        let comma = if some { "," } else { "" };
+        write!(f, "{comma}s{lo}..{hi}")?;
+        some = true;
+    }
+    if says_more_bits(n) {
+        let (value, mask) = (n.bits().value(), n.bits().mask());
+        let comma = if some { "," } else { "" };
+        write!(f, "{comma}k{value}/{mask}")?;
+        some = true;
+    }
+    Ok(some)
+}
+
+impl fmt::Display for Number {
+    fn fmt<W: fmt::Write>(&self, f: &mut fmt::Formatter<W>) -> fmt::Result {
+        let bounds = self.0.unsigned();
+        if bounds.lo() == bounds.hi() {
+            return write_constant(f, bounds.lo());
+        }
+        if write_parts(f, self.0)? {
+            Ok(())
+        } else {
+            write!(f, "any number")
+        }
+    }
+}
+
+/// What is known of a place.
+#[derive(Clone, Copy)]
+pub struct Known(pub SlotState);
+
+impl fmt::Display for Known {
+    fn fmt<W: fmt::Write>(&self, f: &mut fmt::Formatter<W>) -> fmt::Result {
+        match self.0 {
+            SlotState::Bytes(0) => write!(f, "anything"),
+            SlotState::Bytes(mask) => write!(f, "b{mask}"),
+            SlotState::Word(number) => {
+                let number = Number(number);
+                write!(f, "{number}")
+            }
+            SlotState::Ptr(Pointer::Ctx { lo, hi }) => write!(f, "ctx{lo}..{hi}"),
+            SlotState::Ptr(Pointer::Frame { lo, hi }) => write!(f, "fp{lo}..{hi}"),
+        }
+    }
+}
+
+/// What is known of a register.
+pub fn known_register(state: RegState) -> Known {
+    Known(bpf_cert::value_slot(state))
+}
+
+/// An instruction in the one spelling of the language, without the line's end.
+#[derive(Clone, Copy)]
+pub struct Spelled(pub Insn);
+
+/// The bytes of an instruction's spelling, at most 64.
+pub fn spelling_of(insn: &Insn) -> ArrayVec<u8, 64> {
+    let mut text: ArrayVec<u8, 64> = ArrayVec::new();
+    let _ = bpf_text::write_line(&mut text, insn);
+    let _ = text.pop();
+    text
+}
+
+impl fmt::Display for Spelled {
+    fn fmt<W: fmt::Write>(&self, f: &mut fmt::Formatter<W>) -> fmt::Result {
+        let text = spelling_of(&self.0);
+        f.write_str(from_utf8(text.as_slice()).unwrap_or(""))
+    }
+}
+
+/// An offset with its sign and a blank between, as `+ 8`.
+#[derive(Clone, Copy)]
+pub struct Offset(pub i16);
+
+impl fmt::Display for Offset {
+    fn fmt<W: fmt::Write>(&self, f: &mut fmt::Formatter<W>) -> fmt::Result {
+        let amount = self.0.unsigned_abs();
+        if self.0 < 0 {
+            write!(f, "- {amount}")
+        } else {
+            write!(f, "+ {amount}")
+        }
+    }
+}
+
+/// What a place holds, as a certificate's line spells it behind the place's name.
+#[derive(Clone, Copy)]
+pub struct Written(pub Place, pub SlotState);
+
+/// A number, as a certificate's line spells it.
+pub fn written_number(number: Num) -> Written {
+    Written(Place::Register(Reg::R0), SlotState::Word(number))
+}
+
+/// What stands behind the first blank of a line, without the line's end.
+fn behind_blank(line: &[u8]) -> &[u8] {
+    for (index, byte) in line.iter().enumerate() {
+        if *byte == b' ' {
+            return line
+                .get(index.saturating_add(1)..line.len().saturating_sub(1))
+                .unwrap_or(&[]);
+        }
+    }
+    line
+}
+
+impl fmt::Display for Written {
+    fn fmt<W: fmt::Write>(&self, f: &mut fmt::Formatter<W>) -> fmt::Result {
+        if let SlotState::Bytes(0) = self.1 {
+            return write!(f, "nothing");
+        }
+        let line = bpf_cert::entry_text(self.0, self.1);
+        let text = behind_blank(line.as_slice());
+        f.write_str(from_utf8(text).unwrap_or(""))
+    }
+}

@@ -1,0 +1,139 @@
+//! States that don't lie in the label that they lead to.
+
+use crate::known::{Known, Name, Written, known_register, written_number};
+use crate::places::{PLACES, content, place_at, take_over};
+use crate::sight::{Edge, Sight};
+use bpf_cert::Certificate;
+use bpf_check::{callee, function_at, label_at};
+use bpf_insn::{Insn, Reg};
+use bpf_state::{Place, State, Work, enter};
+use std::io::{self, Write};
+
+/// Whether what a state knows of a place doesn't lie in what another one says.
+fn differs_at(state: &State, claimed: &State, place: Place) -> bool {
+    if let Place::Register(reg) = place {
+        return !state.reg(reg).entails(claimed.reg(reg));
+    }
+    let mut one = State::blank();
+    let mut other = State::blank();
+    take_over(&mut one, state, place);
+    take_over(&mut other, claimed, place);
+    !one.entails(&other)
+}
+
+/// The first place at which a state doesn't lie in another.
+pub fn first_difference(state: &State, claimed: &State) -> Option<Place> {
+    for index in 0..PLACES {
+        let place = place_at(index);
+        if differs_at(state, claimed, place) {
+            return Some(place);
+        }
+    }
+    None
+}
+
+/// `r3 at slot 9 is anything; the label says u0..7`
+fn tell_edge<W: Write>(
+    out: &mut W,
+    certificate: &Certificate,
+    to: u32,
+    state: &State,
+) -> io::Result<bool> {
+    let Some(label) = label_at(certificate, to) else {
+        return Ok(false);
+    };
+    if state.entails(&label.state) {
+        return Ok(false);
+    }
+    if let Some(place) = first_difference(state, &label.state) {
+        let held = Known(content(state, place));
+        let name = Name(place);
+        let said = Written(place, content(&label.state, place));
+        write!(out, "{name} at slot {to} is {held}; the label says {said}")?;
+    }
+    Ok(true)
+}
+
+/// Tells of an edge whose state doesn't lie in the label at its end. Whether there was something to tell.
+fn tell_if_refused<W: Write>(
+    out: &mut W,
+    certificate: &Certificate,
+    edge: Option<Edge>,
+    state: &State,
+) -> io::Result<bool> {
+    match edge {
+        Some(edge) if edge.is_live => tell_edge(out, certificate, edge.to, state),
+        _ => Ok(false),
+    }
+}
+
+fn tell_entry<W: Write>(
+    out: &mut W,
+    certificate: &Certificate,
+    first: u32,
+    state: &State,
+) -> io::Result<bool> {
+    let mut entry = state.copy();
+    enter(&mut entry);
+    let Some(label) = label_at(certificate, first) else {
+        return Ok(false);
+    };
+    match first_difference(&entry, &label.state) {
+        Some(place) => {
+            let held = Known(content(&entry, place));
+            let name = Name(place);
+            let said = Written(place, content(&label.state, place));
+            write!(
+                out,
+                "{name} is {held} where the function at slot {first} begins; its label says {said}"
+            )?;
+            Ok(true)
+        }
+        None => Ok(false),
+    }
+}
+
+fn tell_result<'a, W: Write>(
+    out: &mut W,
+    certificate: &Certificate,
+    sight: &Sight<'a>,
+) -> io::Result<bool> {
+    let Some(function) = function_at(certificate, sight.slot) else {
+        return Ok(false);
+    };
+    if Work::new().returns_counted(&sight.before, &function.ret) {
+        return Ok(false);
+    }
+    let held = known_register(sight.before.reg(Reg::R0));
+    let said = written_number(function.ret);
+    let first = function.first;
+    write!(
+        out,
+        "r0 at exit is {held}; the function at slot {first} returns {said}"
+    )?;
+    Ok(true)
+}
+
+/// C8: a state doesn't lie in what is claimed where it leads to.
+pub fn tell_difference<'a, W: Write>(
+    out: &mut W,
+    certificate: &Certificate,
+    sight: &Sight<'a>,
+) -> io::Result<()> {
+    if let Insn::Exit = sight.insn {
+        let _ = tell_result(out, certificate, sight)?;
+        return Ok(());
+    }
+    if sight.slot <= 65_535 {
+        if let Some(function) = callee(certificate, sight.slot, &sight.insn) {
+            if tell_entry(out, certificate, function.first, &sight.before)? {
+                return Ok(());
+            }
+        }
+    }
+    if tell_if_refused(out, certificate, sight.jump, &sight.jump_state)? {
+        return Ok(());
+    }
+    let _ = tell_if_refused(out, certificate, sight.next, &sight.next_state)?;
+    Ok(())
+}

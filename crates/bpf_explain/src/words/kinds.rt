@@ -1,0 +1,178 @@
+//! Registers of which nothing is known, and operands of the wrong kinds.
+
+use crate::effects::{Access, access_of, unknown_register};
+use crate::known::{Known, Name, Offset, known_register};
+use crate::places::content;
+use crate::sight::Sight;
+use crate::words::register;
+use bpf_insn::{AluOp, AtomicOp, Insn, Operand, Reg, Width};
+use bpf_state::{Place, RegState, SlotState, State};
+use std::io::{self, Write};
+
+/// C3: a register that is read may be uninitialised.
+pub fn tell_unknown<'a, W: Write>(out: &mut W, sight: &Sight<'a>) -> io::Result<()> {
+    match unknown_register(&sight.insn, &sight.before) {
+        Some(reg) => {
+            let name = register(reg);
+            write!(out, "reads {name}, of which nothing is known")
+        }
+        None => write!(out, "reads a register of which nothing is known"),
+    }
+}
+
+fn is_pointer(state: &State, reg: Reg) -> bool {
+    matches!(
+        state.reg(reg),
+        RegState::Ctx { .. } | RegState::Frame { .. }
+    )
+}
+
+fn tell_register<W: Write>(out: &mut W, state: &State, reg: Reg) -> io::Result<()> {
+    let name = register(reg);
+    let held = known_register(state.reg(reg));
+    write!(out, "{name} is {held}")
+}
+
+/// What the operands hold, as far as they are registers.
+fn tell_operands<W: Write>(out: &mut W, state: &State, dst: Reg, src: Operand) -> io::Result<()> {
+    tell_register(out, state, dst)?;
+    match src {
+        Operand::Reg(src) => {
+            write!(out, " and ")?;
+            tell_register(out, state, src)
+        }
+        Operand::Imm(_) => Ok(()),
+    }
+}
+
+/// What an operation at 64 bits takes.
+fn rule_of(op: AluOp, state: &State, dst: Reg) -> &'static str {
+    match op {
+        AluOp::Add => "two pointers can't be added",
+        AluOp::Sub => {
+            if is_pointer(state, dst) {
+                "only pointers of one kind can be subtracted"
+            } else {
+                "a pointer can't be subtracted from a number"
+            }
+        }
+        _ => "this operation takes numbers alone",
+    }
+}
+
+fn tell_operation<W: Write>(
+    out: &mut W,
+    state: &State,
+    op: AluOp,
+    width: Width,
+    dst: Reg,
+    src: Operand,
+) -> io::Result<()> {
+    let rule = match width {
+        Width::W32 => "an operation at 32 bits takes numbers alone",
+        Width::W64 => rule_of(op, state, dst),
+    };
+    write!(out, "{rule}: ")?;
+    match (op, src) {
+        (AluOp::Mov, Operand::Reg(src)) => tell_register(out, state, src),
+        _ => tell_operands(out, state, dst, src),
+    }
+}
+
+fn tell_number_wanted<W: Write>(out: &mut W, state: &State, reg: Reg) -> io::Result<()> {
+    write!(out, "this operation takes numbers alone: ")?;
+    tell_register(out, state, reg)
+}
+
+/// The first slot that an access may touch and that holds a pointer.
+fn pointer_slot(state: &State, access: Access) -> Option<u8> {
+    let (low, high) = access.reach(state)?.slots()?;
+    for slot in low..=high {
+        if let SlotState::Ptr(_) = content(state, Place::Slot(slot)) {
+            return Some(slot);
+        }
+    }
+    None
+}
+
+fn tell_part<W: Write>(out: &mut W, state: &State, access: Access) -> io::Result<()> {
+    match pointer_slot(state, access) {
+        Some(slot) => {
+            let place = Place::Slot(slot);
+            let (name, held) = (Name(place), Known(content(state, place)));
+            write!(
+                out,
+                "may read a part of {name}, which holds the pointer {held}: a pointer is read as 8 bytes at its slot"
+            )
+        }
+        None => write!(out, "takes operands of other kinds"),
+    }
+}
+
+/// The registers that an access to memory takes as numbers: the source, and r0 of a comparison.
+fn number_wanted(insn: &Insn, state: &State) -> Option<Reg> {
+    match *insn {
+        Insn::Atomic { src, .. } if is_pointer(state, src) => Some(src),
+        Insn::Atomic {
+            op: AtomicOp::CmpXchg,
+            ..
+        } if is_pointer(state, Reg::R0) => Some(Reg::R0),
+        _ => None,
+    }
+}
+
+fn tell_access<W: Write>(
+    out: &mut W,
+    state: &State,
+    insn: &Insn,
+    access: Access,
+) -> io::Result<()> {
+    if !is_pointer(state, access.base) {
+        let (name, off) = (register(access.base), Offset(access.off));
+        write!(out, "the address {name} {off} isn't in a pointer: ")?;
+        return tell_register(out, state, access.base);
+    }
+    if let Some(reg) = number_wanted(insn, state) {
+        return tell_number_wanted(out, state, reg);
+    }
+    match *insn {
+        Insn::Store { src, .. } => {
+            write!(
+                out,
+                "a pointer is stored as 8 bytes at one known multiple of 8 of the frame: "
+            )?;
+            tell_operands(out, state, src, Operand::Reg(access.base))
+        }
+        _ => tell_part(out, state, access),
+    }
+}
+
+/// C4: operands or slots are of the wrong kinds.
+pub fn tell_kinds<'a, W: Write>(out: &mut W, sight: &Sight<'a>) -> io::Result<()> {
+    let state = &sight.before;
+    match sight.insn {
+        Insn::Alu {
+            op,
+            width,
+            dst,
+            src,
+        } => tell_operation(out, state, op, width, dst, src),
+        Insn::Neg { dst, .. } | Insn::End { dst, .. } => tell_number_wanted(out, state, dst),
+        Insn::MovSx { src, .. } => tell_number_wanted(out, state, src),
+        Insn::JumpIf { dst, src, .. } => {
+            write!(
+                out,
+                "a pointer is compared by == and != at 64 bits alone, with a pointer of its kind: "
+            )?;
+            tell_operands(out, state, dst, src)
+        }
+        Insn::Exit => {
+            write!(out, "the result must be a number: ")?;
+            tell_register(out, state, Reg::R0)
+        }
+        _ => match access_of(&sight.insn) {
+            Some(access) => tell_access(out, state, &sight.insn, access),
+            None => write!(out, "takes operands of other kinds"),
+        },
+    }
+}

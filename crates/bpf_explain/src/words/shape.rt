@@ -1,0 +1,126 @@
+//! Conditions on where instructions lead to.
+
+use crate::sight::Sight;
+use bpf_cert::Certificate;
+use bpf_check::{callee, function_at, goes_on, jump_target};
+use bpf_insn::{Code, Insn};
+use std::io::{self, Write};
+
+/// Why no state goes on to an instruction without a label.
+#[derive(Clone, Copy, PartialEq, Eq)]
+pub enum Silence {
+    /// The program's first slot has no label.
+    Start,
+    /// The instruction at the slot is refused.
+    Refused(u32),
+    /// The instruction at the slot doesn't go on at the next one.
+    Ends(u32),
+}
+
+/// C11: no state reaches an instruction.
+pub fn tell_silence<W: Write>(out: &mut W, silence: Silence) -> io::Result<()> {
+    match silence {
+        Silence::Start => write!(out, "no state goes on here: no label stands at slot 0"),
+        Silence::Refused(slot) => {
+            write!(out, "no state goes on behind the refusal at slot {slot}")
+        }
+        Silence::Ends(slot) => write!(
+            out,
+            "no state goes on from slot {slot}, and no label stands here"
+        ),
+    }
+}
+
+/// C11: the last instruction can go on.
+pub fn tell_end<W: Write>(out: &mut W) -> io::Result<()> {
+    write!(
+        out,
+        "goes on past the program's end: the last instruction must be an exit or a jump"
+    )
+}
+
+/// C1: no label stands at a jump's target.
+pub fn tell_missing_label<'a, W: Write>(out: &mut W, sight: &Sight<'a>) -> io::Result<()> {
+    if sight.slot > 65_535 {
+        return Ok(());
+    }
+    match jump_target(sight.slot, &sight.insn) {
+        Some(to) => write!(out, "jumps to slot {to}, where no label stands"),
+        None => Ok(()),
+    }
+}
+
+/// C10: a callee's depth isn't below its caller's.
+pub fn tell_depth<'a, W: Write>(
+    out: &mut W,
+    certificate: &Certificate,
+    sight: &Sight<'a>,
+) -> io::Result<()> {
+    if sight.slot > 65_535 {
+        return Ok(());
+    }
+    let called = callee(certificate, sight.slot, &sight.insn);
+    let (Some(callee), Some(caller)) = (called, function_at(certificate, sight.slot)) else {
+        return Ok(());
+    };
+    let (first, depth, own) = (callee.first, callee.depth, caller.depth);
+    write!(
+        out,
+        "calls the function at slot {first} of depth {depth} from depth {own}: a callee's depth must be below its caller's"
+    )
+}
+
+/// Whether a slot lies in the function that begins at `first`.
+fn lies_in(certificate: &Certificate, slot: u32, first: u32) -> bool {
+    match function_at(certificate, slot) {
+        Some(function) => function.first == first,
+        None => false,
+    }
+}
+
+fn tell_nowhere<W: Write>(out: &mut W, slot: u32, off: i32) -> io::Result<()> {
+    let to = i64::from(slot)
+        .saturating_add(1)
+        .saturating_add(i64::from(off));
+    write!(
+        out,
+        "calls slot {to}, where no function of the certificate begins"
+    )
+}
+
+/// C12: a jump or the next instruction lies in another function, or a call leads to none.
+pub fn tell_leaving<'a, W: Write, C: Code>(
+    out: &mut W,
+    program: &C,
+    certificate: &Certificate,
+    sight: &Sight<'a>,
+) -> io::Result<()> {
+    if sight.slot > 65_535 {
+        return Ok(());
+    }
+    if let Insn::CallLocal { off } = sight.insn {
+        if callee(certificate, sight.slot, &sight.insn).is_none() {
+            return tell_nowhere(out, sight.slot, off);
+        }
+    }
+    let Some(function) = function_at(certificate, sight.slot) else {
+        return Ok(());
+    };
+    let first = function.first;
+    if let Some(to) = jump_target(sight.slot, &sight.insn) {
+        if !lies_in(certificate, to, first) {
+            return write!(
+                out,
+                "jumps to slot {to}, out of the function at slot {first}"
+            );
+        }
+    }
+    let next = sight.slot + sight.insn.slots();
+    if goes_on(&sight.insn) && next < program.slots() {
+        return write!(
+            out,
+            "goes on to slot {next}, out of the function at slot {first}"
+        );
+    }
+    Ok(())
+}

@@ -1,0 +1,9 @@
+//! Tests of `bpf_explain`: programs, certificates and other inputs with the exact text that explains them.
+#![tactic(auto)]
+
+#[cfg(test)]
+mod listings;
+#[cfg(test)]
+mod reasons;
+#[cfg(test)]
+mod refusals;
