@@ -403,9 +403,9 @@ pub fn write_line<W: Write>(out: &mut W, insn: &Insn) -> io::Result<()>
     ensures ok { OnOk result (Appends (W.contents out.old) (W.contents out.new) (line_text insn.now)) }
     ensures err { OnErr result (AppendsBeginning (W.contents out.old) (W.contents out.new) (line_text insn.now)) }
 {
-    let mut pending = Pending::new();
-    put_line(&mut pending, out, insn)?;
-    pending.flush(out)
+    let mut line = Pending::new();
+    put_line(&mut line, out, insn)?;
+    line.flush(out)
 }
 
 /// Writes the listing of a program: a line for each instruction, in the one spelling of the language, in pieces of 4,096
