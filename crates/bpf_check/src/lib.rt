@@ -6,6 +6,7 @@ mod budget;
 mod checked;
 mod checker;
 mod edge;
+mod index;
 mod judge;
 mod labels;
 mod least;
