@@ -20,6 +20,12 @@ PROGRAMS = {
     "lines": ([ZERO] * 65_535 + [EXIT], 65_536, ["at 0 65536"]),
     # a store to a stack slot and a load of it, in turn
     "memory": ([STORE, LOAD] * 32_767 + [ZERO, EXIT], 65_536, ["at 0 65536"]),
+    # 255 functions of 256 instructions
+    "functions": (
+        ([ZERO] * 255 + [EXIT]) * 255,
+        256,
+        ["at 0 256"] + [line for i in range(1, 255) for line in [f"fn {256 * i} 1 *", f"at {256 * i} 256"]],
+    ),
     # two instructions and a jump to the next label
     "labels": (
         [ZERO, ZERO, ("05 00 00 00", 0)] * LABELS + [ZERO, EXIT],
@@ -47,7 +53,7 @@ for name, (slots, steps, labels) in PROGRAMS.items():
 END
 
 # Each must be accepted, else its refusal would be timed. The first call also builds the command, if need be.
-for name in start lines memory labels slots loop; do
+for name in start lines functions memory labels slots loop; do
     case $("$bpf" check "$dir/$name.img" "$dir/$name.cert") in
     "yes length 0 bound "*) ;;
     *) echo "check.sh: $name is refused" >&2; exit 1 ;;
@@ -56,7 +62,7 @@ done
 
 TIMEFORMAT='%3U %3S'
 for ((round = 0; round < rounds; round++)); do
-    for name in start lines memory labels slots loop; do
+    for name in start lines functions memory labels slots loop; do
         { time for ((i = 0; i < runs; i++)); do "$bpf" check "$dir/$name.img" "$dir/$name.cert" >/dev/null; done; } 2>>"$dir/$name.times"
     done
 done
@@ -79,7 +85,7 @@ print(f"{runs} runs in a loop, median of {rounds} rounds; microseconds of proces
 print(f"{'':34}{'whole':>9}{'less start':>12}{'instructions/second':>21}")
 start = micros("start")
 print(f"{'2 instructions (start)':34}{start:9.0f}")
-for name, count in [("lines", 65_536), ("memory", 65_536), ("labels", 63_002), ("slots", 63_010)]:
+for name, count in [("lines", 65_536), ("functions", 65_280), ("memory", 65_536), ("labels", 63_002), ("slots", 63_010)]:
     whole = micros(name)
     rate = f"{1e6 * count / (whole - start):21,.0f}" if whole > start else f"{'in the noise':>21}"
     print(f"{f'{count:,} instructions, {name}':34}{whole:9.0f}{whole - start:12.0f}{rate}")

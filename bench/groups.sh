@@ -1,5 +1,5 @@
 #!/usr/bin/env bash
-# Times `bpf groups` on two images of the greatest length, against `cat` of the same files.
+# Times `bpf groups` on three images of the greatest length, against `cat` of the same files.
 # Usage: bench/groups.sh [RUNS [ROUNDS]], 200 runs and 5 rounds if not said. BPF names another command than ./bpf.
 set -eu
 runs=${1:-200}
@@ -15,6 +15,20 @@ SLOTS = 65_536
 IMAGES = {
     "start": ["95 00 00 00 00 00 00 00"],
     "lines": ["b7 00 00 00 00 00 00 00"] * (SLOTS - 1) + ["95 00 00 00 00 00 00 00"],
+    # r1 += r2, r3 = r1, r3 <<= 7, r3 ^= 255, w1 += 5, w2 = w1, r0 = 1, r1 &= r3
+    "arithmetic": [
+        "0f 21 00 00 00 00 00 00",
+        "bf 13 00 00 00 00 00 00",
+        "67 03 00 00 07 00 00 00",
+        "a7 03 00 00 ff 00 00 00",
+        "04 01 00 00 05 00 00 00",
+        "bc 12 00 00 00 00 00 00",
+        "b7 00 00 00 01 00 00 00",
+        "5f 31 00 00 00 00 00 00",
+    ]
+    * (SLOTS // 8 - 1)
+    + ["b7 00 00 00 00 00 00 00"] * 7
+    + ["95 00 00 00 00 00 00 00"],
     "jumps": ["05 00 ff ff 00 00 00 00"] * SLOTS,
 }
 for name, slots in IMAGES.items():
@@ -22,7 +36,7 @@ for name, slots in IMAGES.items():
 END
 
 # Each image must be a program, else its refusal would be timed. The first call also builds the command, if need be.
-for image in start lines jumps; do
+for image in start lines arithmetic jumps; do
     [ "$("$bpf" groups "$dir/$image")" = base ] || { echo "groups.sh: $image is refused" >&2; exit 1; }
 done
 
@@ -38,9 +52,11 @@ loop() {
 for ((round = 0; round < rounds; round++)); do
     loop empty "$empty"
     loop cat-lines cat "$dir/lines"
+    loop cat-arithmetic cat "$dir/arithmetic"
     loop cat-jumps cat "$dir/jumps"
     loop bpf-start "$bpf" groups "$dir/start"
     loop bpf-lines "$bpf" groups "$dir/lines"
+    loop bpf-arithmetic "$bpf" groups "$dir/arithmetic"
     loop bpf-jumps "$bpf" groups "$dir/jumps"
 done
 
@@ -71,7 +87,7 @@ empty, clock = micros("empty")
 print(f"{'true':30}{clock:9.0f}{empty:11.0f}")
 start, clock = micros("bpf-start")
 print(f"{'bpf groups, 8 bytes (start)':30}{clock:9.0f}{start:11.0f}{start - empty:11.0f}")
-for image in ["lines", "jumps"]:
+for image in ["lines", "arithmetic", "jumps"]:
     cat, clock = micros(f"cat-{image}")
     print(f"{f'cat, {image}':30}{clock:9.0f}{cat:11.0f}{cat - empty:11.0f}{rate(cat - empty)}")
     bpf, clock = micros(f"bpf-{image}")

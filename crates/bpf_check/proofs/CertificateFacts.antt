@@ -46,7 +46,7 @@ label_at_limited c slot l valid e = first_with_passes is_limited_label (λ x. x.
 
 -- ---- functions up to a slot
 
-last_from_passes : (p : FunctionView → Bool) (found : Option FunctionView) (slot : ℕ) (fs : List FunctionView) (f : FunctionView) → list_all p fs ≡ true → (found ≡ Some f → p f ≡ true) → last_from found slot fs ≡ Some f → p f ≡ true
+pub last_from_passes : (p : FunctionView → Bool) (found : Option FunctionView) (slot : ℕ) (fs : List FunctionView) (f : FunctionView) → list_all p fs ≡ true → (found ≡ Some f → p f ≡ true) → last_from found slot fs ≡ Some f → p f ≡ true
 last_from_passes p found slot [] f all before e = before e
 last_from_passes p found slot (g ∷ gs) f all before e =
     here (nat_le g.first slot) e (last_from_passes p (Some g) slot gs f (and_parts _ _ all).1 (λ q. subst (λ h. p h ≡ true) (same_Some g f q) (and_parts _ _ all).0))
@@ -58,7 +58,7 @@ last_from_passes p found slot (g ∷ gs) f all before e =
 pub function_at_limited : (c : CertificateView) (slot : ℕ) (f : FunctionView) → IsCertificate c → function_at c slot ≡ Some f → is_limited_function f ≡ true
 function_at_limited c slot f valid e = last_from_passes is_limited_function None slot c.functions f (functions_limited c valid) (λ q. absurd (none-some f q)) e
 
-last_from_is : (found : Option FunctionView) (slot : ℕ) (fs : List FunctionView) → last_from found slot fs ≡ last_up_to (λ f. f.first) found slot fs
+pub last_from_is : (found : Option FunctionView) (slot : ℕ) (fs : List FunctionView) → last_from found slot fs ≡ last_up_to (λ f. f.first) found slot fs
 last_from_is found slot [] = refl
 last_from_is found slot (f ∷ fs) = ap (λ o. cond (nat_le f.first slot) o found) (last_from_is (Some f) slot fs)
 

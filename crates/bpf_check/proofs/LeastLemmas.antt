@@ -1,5 +1,5 @@
 -- The least flaws of lists.
-use Rattle.std.proofs.Common.{◌≡◌, ℕ, ◌+◌, ◌<◌, ◌≤◌, ◌⊎◌, Bool, List, [], ◌∷◌, ◌++◌, length, map, take, get_or, Option, Some, None, refl, sym, ap, subst, ◌∙◌, arith}
+use Rattle.std.proofs.Common.{◌≡◌, ℕ, ◌+◌, ◌<◌, ◌≤◌, ◌⊎◌, ◌||◌, Bool, true, false, List, [], ◌∷◌, ◌++◌, length, map, take, get_or, Option, Some, None, refl, sym, ap, subst, ◌∙◌, arith}
 use mathlib.Core.Logic.{inl, inr, ⊎_elim}
 use Rattle.std.specs.List.{Contains, flat_map}
 use Rattle.std.proofs.lemmas.List.Elements.{Contains-append_left, Contains-append_right, Contains-append_cases}
@@ -70,3 +70,13 @@ least_more f view xs i x o h e least =
 pub least_of_all : {A B : Type 0} (f : B → List (ℕ × ℕ)) (view : A → B) (xs : List A) (ys : List B) (i : ℕ) (o : Option (ℕ × ℕ)) → length xs ≤ i → map view xs ≡ ys → IsLeastIn (flat_map f (map view (take i xs))) o → IsLeastIn (flat_map f ys) o
 least_of_all f view xs ys i o h e least =
     least_same _ _ o (ap (λ l. flat_map f (map view l)) (take_all i xs h) ∙ ap (flat_map f) e) least
+
+-- ---- where no condition fails
+
+-- nothing is added by conditions that don't fail
+pub least_beside : (slot l m n k : ℕ) (a b c d : Bool) (xs : List (ℕ × ℕ)) (o : Option (ℕ × ℕ)) → (a || b || c || d) ≡ false → IsLeastIn xs o → IsLeastIn (at slot (number_if l a) ++ xs ++ at slot (number_if m b) ++ at slot (number_if n c) ++ at slot (number_if k d)) o
+least_beside slot l m n k false false false false xs o e h = least_same xs (xs ++ [] ++ [] ++ []) o (sym (append-nil (xs ++ [] ++ []) ∙ append-nil (xs ++ []) ∙ append-nil xs)) h
+least_beside slot l m n k true b c d xs o e h = cc
+least_beside slot l m n k false true c d xs o e h = cc
+least_beside slot l m n k false false true d xs o e h = cc
+least_beside slot l m n k false false false true xs o e h = cc

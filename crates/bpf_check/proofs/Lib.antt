@@ -11,3 +11,4 @@ pub mod PassLemmas
 pub mod LoopLimits
 pub mod CheckLemmas
 pub mod Promise
+pub mod PlaceLemmas

@@ -23,7 +23,7 @@ pub rises_tail : {A : Type 0} (key : A → ℕ) (x : A) (xs : List A) → rises 
 rises_tail key x [] r = refl
 rises_tail key x (y ∷ ys) r = (and_parts _ _ r).1
 
-rises_head : {A : Type 0} (key : A → ℕ) (x y : A) (ys : List A) → rises key (x ∷ y ∷ ys) ≡ true → key x < key y
+pub rises_head : {A : Type 0} (key : A → ℕ) (x y : A) (ys : List A) → rises key (x ∷ y ∷ ys) ≡ true → key x < key y
 rises_head key x y ys r = ltb-true _ _ (and_parts _ _ r).0
 
 -- the first lies below each other

@@ -9,3 +9,4 @@ pub mod Counting
 pub mod CheckedProgram
 pub mod Runs
 pub mod Verdicts
+pub mod Places

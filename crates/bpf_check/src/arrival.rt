@@ -10,8 +10,9 @@ ghost use Rattle.bpf_check.specs.Arrivals.{arrival_of, walk_of, IsReaching};
 
 use crate::budget::{greatest_budget, place_of};
 use crate::edge::callee;
+use crate::index::Index;
 use crate::labels::label_at;
-use bpf_cert::{Certificate, Function, Label};
+use bpf_cert::{Function, Label};
 use bpf_insn::Insn;
 use bpf_state::{State, Tag};
 
@@ -86,7 +87,7 @@ pub fn start_at<'a>(label: &'a Label, walk: &mut Walk<'a>)
 }
 
 /// What a call costs beside itself: the callee's budget at its entry, at its greatest.
-fn call_cost(certificate: &Certificate, function: Option<&Function>, state: &State) -> Option<i128>
+fn call_cost(certificate: &Index, function: Option<&Function>, state: &State) -> Option<i128>
     ensures value { result ≡ call_cost certificate.now (option_map function_view (option_copied function.entry)) state.now }
     ensures small { IfSome result (λ z. IsWithin (2 ^ 93) z) }
 {
@@ -112,7 +113,7 @@ fn with_more(slot: u32, spent: i128, more: i128) -> i128
 
 /// The cost after an instruction since the last label, if it is known.
 pub fn cost_after(
-    certificate: &Certificate,
+    certificate: &Index,
     slot: u32,
     insn: &Insn,
     here: &Here,

@@ -6,6 +6,7 @@ ghost use Rattle.bpf_check.specs.CheckedProgram.{IsCertifiedBy, checked};
 ghost use Rattle.bpf_check.specs.RefusalNumbers.{refusal_number, refusal_slot};
 
 use crate::checked::Checked;
+use crate::index::Index;
 use crate::least::lesser;
 use crate::pass::visit_flaw;
 use crate::refusal::Refusal;
@@ -32,9 +33,10 @@ pub fn check<'a, C: Code>(
     certified_work();
     comparisons_are_few();
     let mut work = Work::new();
-    let start = start_flaw(certificate, &mut work);
-    let visits = visit_flaw(program, certificate, &mut work);
-    let labels = label_flaw(program, certificate);
+    let index = Index::of(certificate);
+    let start = start_flaw(&index, &mut work);
+    let visits = visit_flaw(program, &index, &mut work);
+    let labels = label_flaw(program, &index);
     match lesser(lesser(start, visits), labels) {
         Some(refusal) => Err(refusal),
         None => Ok(Checked {

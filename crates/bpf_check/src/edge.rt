@@ -9,8 +9,9 @@ ghost use Rattle.bpf_safety.specs.Flow.{callee, jump_target, goes_on};
 ghost use Rattle.bpf_safety.specs.Flaw.{lacks_label, calls_no_deeper, leaves_function, leaves_for, next_slot, calls_nowhere, is_not};
 ghost use Rattle.bpf_check.specs.Edges.{visit};
 
+use crate::index::Index;
 use crate::labels::{function_at, function_from, label_at};
-use bpf_cert::{Certificate, Function};
+use bpf_cert::Function;
 use bpf_insn::{Code, Insn};
 
 /// The slot at a distance from the next one, if it isn't negative.
@@ -47,7 +48,7 @@ pub fn jump_target(slot: u32, insn: &Insn) -> Option<u32>
 }
 
 /// The function that an instruction calls.
-pub fn callee<'a>(certificate: &'a Certificate, slot: u32, insn: &Insn) -> Option<&'a Function>
+pub fn callee<'a>(certificate: &'a Index, slot: u32, insn: &Insn) -> Option<&'a Function>
     requires { slot ≤ 65536 }
     ensures value { option_map function_view (option_copied result) ≡ callee certificate.now slot insn.now }
     ensures limited { IfSome result (λ f. IsTrue (is_limited_function (function_view f.now))) }
@@ -69,7 +70,7 @@ pub fn goes_on(insn: &Insn) -> bool
 }
 
 /// Whether no label stands at a jump's target.
-pub fn lacks_label(certificate: &Certificate, slot: u32, insn: &Insn) -> bool
+pub fn lacks_label(certificate: &Index, slot: u32, insn: &Insn) -> bool
     requires { slot ≤ 65536 }
     ensures { result ≡ lacks_label certificate.now (visit slot insn.now) }
 {
@@ -80,7 +81,7 @@ pub fn lacks_label(certificate: &Certificate, slot: u32, insn: &Insn) -> bool
 }
 
 /// Whether a callee's depth isn't below its caller's.
-pub fn calls_no_deeper(certificate: &Certificate, slot: u32, insn: &Insn) -> bool
+pub fn calls_no_deeper(certificate: &Index, slot: u32, insn: &Insn) -> bool
     requires { slot ≤ 65536 }
     ensures { result ≡ calls_no_deeper certificate.now (visit slot insn.now) }
 {
@@ -94,7 +95,7 @@ pub fn calls_no_deeper(certificate: &Certificate, slot: u32, insn: &Insn) -> boo
 }
 
 /// Whether a slot isn't in the function that begins at `first`.
-fn is_elsewhere(certificate: &Certificate, first: u32, to: u32) -> bool
+fn is_elsewhere(certificate: &Index, first: u32, to: u32) -> bool
     ensures { result ≡ is_not (option_map (λ g. g.first) (function_at certificate.now to)) first }
 {
     match function_at(certificate, to) {
@@ -104,7 +105,7 @@ fn is_elsewhere(certificate: &Certificate, first: u32, to: u32) -> bool
 }
 
 /// Whether a jump, if there is one, leads out of the function that begins at `first`.
-fn leaves_for(certificate: &Certificate, first: u32, to: Option<u32>) -> bool
+fn leaves_for(certificate: &Index, first: u32, to: Option<u32>) -> bool
     ensures { (f : FunctionView) → f.first ≡ first → result ≡ leaves_for certificate.now f to }
 {
     match to {
@@ -127,7 +128,7 @@ fn next_slot<P: Code>(program: &P, slot: u32, insn: &Insn) -> Option<u32>
 }
 
 /// Whether a call leads to no function.
-fn calls_nowhere(certificate: &Certificate, slot: u32, insn: &Insn) -> bool
+fn calls_nowhere(certificate: &Index, slot: u32, insn: &Insn) -> bool
     requires { slot ≤ 65536 }
     ensures { result ≡ calls_nowhere certificate.now (visit slot insn.now) insn.now }
 {
@@ -135,12 +136,7 @@ fn calls_nowhere(certificate: &Certificate, slot: u32, insn: &Insn) -> bool
 }
 
 /// Whether a jump or the next instruction lies in another function, or a call leads to none.
-pub fn leaves_function<P: Code>(
-    program: &P,
-    certificate: &Certificate,
-    slot: u32,
-    insn: &Insn,
-) -> bool
+pub fn leaves_function<P: Code>(program: &P, certificate: &Index, slot: u32, insn: &Insn) -> bool
     requires { slot ≤ 65536 }
     ensures { result ≡ leaves_function (P.program program.now) certificate.now (visit slot insn.now) }
 {

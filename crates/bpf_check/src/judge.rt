@@ -18,8 +18,9 @@ ghost use Rattle.bpf_check.specs.Counting.{compared};
 use crate::arrival::Here;
 use crate::budget::{least_budget, least_slack};
 use crate::edge::{callee, goes_on, jump_target};
+use crate::index::Index;
 use crate::labels::{function_at, label_at};
-use bpf_cert::{Certificate, Label};
+use bpf_cert::Label;
 use bpf_insn::Insn;
 use bpf_state::{State, Work, branch, enter, leave};
 
@@ -51,7 +52,7 @@ pub struct EdgeFlaws {
 
 /// Judges a live edge.
 pub fn judge_edge(
-    certificate: &Certificate,
+    certificate: &Index,
     to: u32,
     state: &State,
     old: &Label,
@@ -79,7 +80,7 @@ pub fn judge_edge(
 
 /// Whether the state at a callee's entry doesn't lie in the label at its first slot.
 pub fn enters_wrongly(
-    certificate: &Certificate,
+    certificate: &Index,
     slot: u32,
     insn: &Insn,
     state: &State,
@@ -105,7 +106,7 @@ pub fn enters_wrongly(
 
 /// Whether the result at EXIT doesn't lie in what the function returns.
 pub fn returns_wrongly(
-    certificate: &Certificate,
+    certificate: &Index,
     slot: u32,
     insn: &Insn,
     state: &State,
@@ -143,7 +144,7 @@ pub fn exits_unpaid(slot: u32, insn: &Insn, here: &Here, cost: Option<i128>) -> 
 
 /// Judges the edge of a jump, if it has a live one. The state is the one after the instruction.
 pub fn judge_jump(
-    certificate: &Certificate,
+    certificate: &Index,
     slot: u32,
     insn: &Insn,
     state: &State,
@@ -179,7 +180,7 @@ pub fn judge_jump(
 }
 
 /// Makes the state after an instruction the one on its edge to the next one. False if that edge is dead or isn't there.
-pub fn go_to_next(certificate: &Certificate, slot: u32, insn: &Insn, state: &mut State) -> bool
+pub fn go_to_next(certificate: &Index, slot: u32, insn: &Insn, state: &mut State) -> bool
     requires { slot ≤ 65535 }
     ensures { edge_told result state.new ≡ next_of certificate.now slot insn.now state.old }
 {
@@ -196,7 +197,7 @@ pub fn go_to_next(certificate: &Certificate, slot: u32, insn: &Insn, state: &mut
 /// Judges the live edges of an instruction, and makes the state after it the one on its edge to the next one. False if
 /// that edge is dead or isn't there.
 pub fn judge_edges(
-    certificate: &Certificate,
+    certificate: &Index,
     slot: u32,
     insn: &Insn,
     state: &mut State,

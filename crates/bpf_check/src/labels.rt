@@ -6,8 +6,10 @@ ghost use Rattle.bpf_cert.specs.View.{label_view, function_view};
 ghost use Rattle.bpf_cert.specs.Limits.{slot_before, first_before, is_limited_label, is_limited_function};
 ghost use Rattle.bpf_safety.specs.Labels.{first_with, label_at, function_at, function_from};
 ghost use Rattle.bpf_check.specs.Search.{last_up_to};
+ghost use Rattle.bpf_check.specs.Places.{are_in_place};
 
-use bpf_cert::{Certificate, Function, Label};
+use crate::index::Index;
+use bpf_cert::{Function, Label};
 
 /// The last label that stands at a slot or before it.
 fn last_label(labels: &[Label], slot: u32) -> Option<&Label>
@@ -44,10 +46,9 @@ fn label_among(labels: &[Label], slot: u32) -> Option<&Label>
     }
 }
 
-/// The label at a slot, of two the earlier.
-pub fn label_at(certificate: &Certificate, slot: u32) -> Option<&Label>
-    ensures value { option_map label_view (option_copied result) ≡ label_at certificate.now slot }
-    ensures limited { IfSome result (λ l. IsTrue (is_limited_label (label_view l.now))) }
+/// The label at a slot among all labels, of two the earlier.
+fn first_label<'a>(certificate: &'a Index, slot: u32) -> Option<&'a Label>
+    ensures { option_map label_view (option_copied result) ≡ label_at certificate.now slot }
 {
     certificate.valid();
     let functions = certificate.functions();
@@ -57,6 +58,31 @@ pub fn label_at(certificate: &Certificate, slot: u32) -> Option<&Label>
         }
     }
     None
+}
+
+/// The label at a slot among the labels of the function there.
+fn label_in_place<'a>(certificate: &'a Index, slot: u32) -> Option<&'a Label>
+    requires { IsTrue (are_in_place certificate.now) }
+    ensures { option_map label_view (option_copied result) ≡ label_at certificate.now slot }
+{
+    certificate.valid();
+    let Some(function) = function_at(certificate, slot) else {
+        return None;
+    };
+    label_among(&function.labels, slot)
+}
+
+/// The label at a slot, of two the earlier.
+pub fn label_at<'a>(certificate: &'a Index, slot: u32) -> Option<&'a Label>
+    ensures value { option_map label_view (option_copied result) ≡ label_at certificate.now slot }
+    ensures limited { IfSome result (λ l. IsTrue (is_limited_label (label_view l.now))) }
+{
+    certificate.valid();
+    if certificate.is_in_place() {
+        label_in_place(certificate, slot)
+    } else {
+        first_label(certificate, slot)
+    }
 }
 
 /// The last function that begins at a slot or before it.
@@ -76,7 +102,7 @@ fn last_function(functions: &[Function], slot: u32) -> Option<&Function>
 }
 
 /// The function that a slot lies in.
-pub fn function_at(certificate: &Certificate, slot: u32) -> Option<&Function>
+pub fn function_at<'a>(certificate: &'a Index, slot: u32) -> Option<&'a Function>
     ensures value { option_map function_view (option_copied result) ≡ function_at certificate.now slot }
     ensures limited { IfSome result (λ f. IsTrue (is_limited_function (function_view f.now))) }
 {
@@ -85,7 +111,7 @@ pub fn function_at(certificate: &Certificate, slot: u32) -> Option<&Function>
 }
 
 /// The function that begins at a slot.
-pub fn function_from(certificate: &Certificate, slot: u32) -> Option<&Function>
+pub fn function_from<'a>(certificate: &'a Index, slot: u32) -> Option<&'a Function>
     ensures value { option_map function_view (option_copied result) ≡ function_from certificate.now slot }
     ensures limited { IfSome result (λ f. IsTrue (is_limited_function (function_view f.now))) }
 {

@@ -9,18 +9,14 @@ ghost use Rattle.bpf_check.specs.RefusalNumbers.{flaw_of};
 ghost use Rattle.bpf_check.specs.Counting.{worked_through};
 
 use crate::arrival::Walk;
+use crate::index::Index;
 use crate::refusal::Refusal;
 use crate::visit::visit;
-use bpf_cert::Certificate;
 use bpf_insn::Code;
 use bpf_state::Work;
 
 /// The least refusal of a program's instructions: the slots are visited in their order, so the first is the least.
-pub fn visit_flaw<P: Code>(
-    program: &P,
-    certificate: &Certificate,
-    work: &mut Work,
-) -> Option<Refusal>
+pub fn visit_flaw<P: Code>(program: &P, certificate: &Index, work: &mut Work) -> Option<Refusal>
     ensures refusal { IsLeastIn (flat_map (λ v. at v.slot (numbers_of_visit (P.program program.now) certificate.now v)) (visits (P.program program.now) certificate.now)) (option_map flaw_of result) }
     ensures work { work.new ≡ worked_through (P.program program.now) certificate.now (visits (P.program program.now) certificate.now) work.old }
 {

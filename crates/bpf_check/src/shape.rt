@@ -10,10 +10,11 @@ ghost use Rattle.bpf_check.specs.Least.{IsLeastIn};
 ghost use Rattle.bpf_check.specs.RefusalNumbers.{flaw_of};
 
 use crate::budget::bounds;
+use crate::index::Index;
 use crate::labels::function_at;
 use crate::least::{lesser, refused_if};
 use crate::refusal::{Cause, Refusal};
-use bpf_cert::{Certificate, Function, Label, Measure, Term};
+use bpf_cert::{Function, Label, Measure, Term};
 use bpf_insn::Code;
 use bpf_state::State;
 
@@ -58,7 +59,7 @@ fn has_bad_term(label: &Label, tight: Option<&State>) -> bool
 }
 
 /// A label lies in another function than the one it belongs to, or in none.
-pub fn is_outside(certificate: &Certificate, function: &Function, label: &Label) -> bool
+pub fn is_outside(certificate: &Index, function: &Function, label: &Label) -> bool
     ensures { result ≡ is_outside certificate.now (function_view function.now) (label_view label.now) }
 {
     match function_at(certificate, label.slot) {
@@ -69,7 +70,7 @@ pub fn is_outside(certificate: &Certificate, function: &Function, label: &Label)
 
 /// A label lies outside of its function, or gives no state.
 fn is_misshapen(
-    certificate: &Certificate,
+    certificate: &Index,
     function: &Function,
     label: &Label,
     tight: Option<&State>,
@@ -93,7 +94,7 @@ pub fn is_first_label(function: &Function) -> bool
 /// The least flaw of a label, from its state tightened: C2, C9 or C13 at its slot.
 fn flaw_of_label<C: Code>(
     program: &C,
-    certificate: &Certificate,
+    certificate: &Index,
     function: &Function,
     label: &Label,
     tight: Option<&State>,
@@ -114,7 +115,7 @@ fn flaw_of_label<C: Code>(
 /// The least flaw of a label, with room for its state tightened.
 fn judge_label<C: Code>(
     program: &C,
-    certificate: &Certificate,
+    certificate: &Index,
     function: &Function,
     label: &Label,
     room: &mut State,
@@ -133,7 +134,7 @@ fn judge_label<C: Code>(
 /// The least flaw of a function's labels.
 fn flaw_of_labels<C: Code>(
     program: &C,
-    certificate: &Certificate,
+    certificate: &Index,
     function: &Function,
     room: &mut State,
 ) -> Option<Refusal>
@@ -152,7 +153,7 @@ fn flaw_of_labels<C: Code>(
 /// The least flaw of a function and its labels.
 fn flaw_of_function<C: Code>(
     program: &C,
-    certificate: &Certificate,
+    certificate: &Index,
     function: &Function,
     room: &mut State,
 ) -> Option<Refusal>
@@ -167,7 +168,7 @@ fn flaw_of_function<C: Code>(
 }
 
 /// The least flaw of functions and labels: C2, C9 or C13 at a label, or C13 where a function begins.
-pub fn label_flaw<C: Code>(program: &C, certificate: &Certificate) -> Option<Refusal>
+pub fn label_flaw<C: Code>(program: &C, certificate: &Index) -> Option<Refusal>
     ensures { IsLeastIn (flat_map (function_flaws (C.program program.now) certificate.now) certificate.now.functions) (option_map flaw_of result) }
 {
     certificate.valid();

@@ -13,10 +13,11 @@ ghost use Rattle.bpf_check.specs.Least.{IsLeastIn};
 ghost use Rattle.bpf_check.specs.RefusalNumbers.{flaw_of};
 
 use crate::budget::greatest_budget;
+use crate::index::Index;
 use crate::labels::label_at;
 use crate::least::{lesser, refused_if};
 use crate::refusal::{Cause, Refusal};
-use bpf_cert::{Certificate, Function};
+use bpf_cert::Function;
 use bpf_state::{State, Work};
 
 /// No function begins at slot 0.
@@ -30,7 +31,7 @@ pub fn begins_elsewhere(functions: &[Function]) -> bool
 }
 
 /// The state at the start: r2 is the length of a context, from the least to the greatest.
-fn start_state(certificate: &Certificate) -> State
+fn start_state(certificate: &Index) -> State
     ensures { result ≡ start certificate.now.least certificate.now.most }
 {
     certificate.valid();
@@ -38,7 +39,7 @@ fn start_state(certificate: &Certificate) -> State
 }
 
 /// The state at the start doesn't lie in the label at slot 0.
-fn starts_outside(certificate: &Certificate, work: &mut Work) -> bool
+fn starts_outside(certificate: &Index, work: &mut Work) -> bool
     ensures answer { result ≡ some_passes (λ l. not (state_entails (start certificate.now.least certificate.now.most) l.state)) (label_at certificate.now 0) }
     ensures work { work.new ≡ compared (compared_at_start certificate.now) work.old }
 {
@@ -48,7 +49,7 @@ fn starts_outside(certificate: &Certificate, work: &mut Work) -> bool
     !work.entails_counted(&start_state(certificate), &label.state)
 }
 
-fn begins_wrongly(certificate: &Certificate, work: &mut Work) -> bool
+fn begins_wrongly(certificate: &Index, work: &mut Work) -> bool
     ensures answer { result ≡ begins_wrongly certificate.now }
     ensures work { work.new ≡ compared (compared_at_start certificate.now) work.old }
 {
@@ -57,7 +58,7 @@ fn begins_wrongly(certificate: &Certificate, work: &mut Work) -> bool
 }
 
 /// The budget at the start may be above the steps that are promised.
-pub fn starts_over_budget(certificate: &Certificate) -> bool
+pub fn starts_over_budget(certificate: &Index) -> bool
     ensures { result ≡ starts_over_budget certificate.now }
 {
     let Some(label) = label_at(certificate, 0) else {
@@ -70,7 +71,7 @@ pub fn starts_over_budget(certificate: &Certificate) -> bool
 }
 
 /// The least flaw at the start: C9 or C13 at slot 0.
-pub fn start_flaw(certificate: &Certificate, work: &mut Work) -> Option<Refusal>
+pub fn start_flaw(certificate: &Index, work: &mut Work) -> Option<Refusal>
     ensures refusal { IsLeastIn (at 0 (number_if 13 (begins_wrongly certificate.now) ++ number_if 9 (starts_over_budget certificate.now))) (option_map flaw_of result) }
     ensures work { work.new ≡ compared (compared_at_start certificate.now) work.old }
 {

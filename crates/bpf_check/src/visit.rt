@@ -1,11 +1,11 @@
 //! Visits: each instruction with what reaches it.
 
-ghost use Rattle.std.specs.Prelude.{◌≡◌, ◌+◌, ◌≤◌, option_map, IfSome, IfOk, IfErr, Some, None};
+ghost use Rattle.std.specs.Prelude.{◌≡◌, ℕ, ◌+◌, ◌≤◌, List, ◌++◌, option_map, IfSome, IfOk, IfErr, Some, None};
 ghost use Rattle.bpf_insn.specs.Instruction.{slot_count};
 ghost use Rattle.bpf_state.specs.Fault.{fault_of};
 ghost use Rattle.bpf_state.specs.Answer.{fault_number};
 ghost use Rattle.bpf_safety.specs.Flow.{arrives};
-ghost use Rattle.bpf_safety.specs.Flaw.{at, numbers_of_visit};
+ghost use Rattle.bpf_safety.specs.Flaw.{at, number_if, numbers_of_visit};
 ghost use Rattle.bpf_check.specs.Least.{IsLeastIn};
 ghost use Rattle.bpf_check.specs.RefusalNumbers.{cause_number, flaw_of};
 ghost use Rattle.bpf_check.specs.Arrivals.{arrival_of, walk_of, IsReaching};
@@ -14,11 +14,11 @@ ghost use Rattle.bpf_check.specs.Counting.{worked_at};
 
 use crate::arrival::{Here, Walk, cost_after, start_at};
 use crate::edge::{calls_no_deeper, lacks_label, leaves_function};
+use crate::index::Index;
 use crate::judge::{enters_wrongly, exits_unpaid, judge_edges, returns_wrongly};
 use crate::labels::label_at;
 use crate::least::{lesser, refused_if};
 use crate::refusal::{Cause, Refusal};
-use bpf_cert::Certificate;
 use bpf_insn::{Code, Insn};
 use bpf_state::{StateFault, Work};
 
@@ -33,7 +33,7 @@ pub struct Judged {
 /// Judges an instruction that a state reaches, and makes the walk what goes on from it: C3 to C7 if it isn't allowed there.
 pub fn judge<'a, P: Code>(
     program: &P,
-    certificate: &'a Certificate,
+    certificate: &'a Index,
     slot: u32,
     insn: &Insn,
     here: Here<'a>,
@@ -113,7 +113,7 @@ fn cause_of(fault: StateFault) -> Cause
 /// Visits an instruction with what reaches it, as far as a state is judged, and makes the walk what goes on from it.
 fn visit_arrival<'a, P: Code>(
     program: &P,
-    certificate: &'a Certificate,
+    certificate: &'a Index,
     slot: u32,
     insn: &Insn,
     walk: &mut Walk<'a>,
@@ -131,18 +131,59 @@ fn visit_arrival<'a, P: Code>(
     };
     match judge(program, certificate, slot, insn, here, walk, work) {
         Err(fault) => refused_if(true, slot, cause_of(fault)),
-        Ok(judged) => {
-            let state = refused_if(judged.not_entailed, slot, Cause::NotEntailed);
-            let budget = refused_if(judged.over_budget, slot, Cause::OverBudget);
-            let end = refused_if(judged.past_end, slot, Cause::FallsOff);
-            lesser(lesser(state, budget), end)
-        }
+        Ok(judged) => flaw_of_state(slot, judged),
     }
+}
+
+/// The least refusal of what is found with a state. Mostly there is none, so that is looked at first.
+fn flaw_of_state(slot: u32, judged: Judged) -> Option<Refusal>
+    ensures { IsLeastIn (at slot (number_if 8 judged.not_entailed) ++ at slot (number_if 9 judged.over_budget) ++ at slot (number_if 11 judged.past_end)) (option_map flaw_of result) }
+{
+    let is_flawed = judged.not_entailed | judged.over_budget | judged.past_end;
+    if !is_flawed {
+        return None;
+    }
+    let state = refused_if(judged.not_entailed, slot, Cause::NotEntailed);
+    let budget = refused_if(judged.over_budget, slot, Cause::OverBudget);
+    let end = refused_if(judged.past_end, slot, Cause::FallsOff);
+    lesser(lesser(state, budget), end)
+}
+
+/// The conditions on an instruction that need no state.
+#[derive(Clone, Copy)]
+struct Place {
+    /// No label stands at a jump's target.
+    lacks_label: bool,
+    /// A callee's depth isn't below its caller's.
+    no_deeper: bool,
+    /// Nothing reaches the instruction.
+    never: bool,
+    /// Another function is reached otherwise than by a call.
+    leaves: bool,
+}
+
+/// The least refusal of an instruction, from the least of what is found with a state. Mostly no other condition fails, so
+/// that is looked at first.
+fn flaw_with(slot: u32, place: Place, refusal: Option<Refusal>) -> Option<Refusal>
+    ensures { (xs : List (ℕ × ℕ)) → IsLeastIn xs (option_map flaw_of refusal) → IsLeastIn (at slot (number_if 1 place.lacks_label) ++ xs ++ at slot (number_if 10 place.no_deeper) ++ at slot (number_if 11 place.never) ++ at slot (number_if 12 place.leaves)) (option_map flaw_of result) }
+{
+    let is_flawed = place.lacks_label | place.no_deeper | place.never | place.leaves;
+    if !is_flawed {
+        return refusal;
+    }
+    let label = refused_if(place.lacks_label, slot, Cause::NoLabel);
+    let depth = refused_if(place.no_deeper, slot, Cause::NoDeeper);
+    let never = refused_if(place.never, slot, Cause::FallsOff);
+    let elsewhere = refused_if(place.leaves, slot, Cause::LeavesFunction);
+    lesser(
+        lesser(lesser(lesser(label, refusal), depth), never),
+        elsewhere,
+    )
 }
 
 /// Makes the walk what reaches a slot: a label's own state, or what goes on from the instruction before. True if nothing
 /// does and no label stands there.
-pub fn arrive<'a>(certificate: &'a Certificate, slot: u32, walk: &mut Walk<'a>) -> bool
+pub fn arrive<'a>(certificate: &'a Index, slot: u32, walk: &mut Walk<'a>) -> bool
     requires { IfSome walk.old.here (λ h. IsReaching slot h) }
     ensures arrival { walk_of walk.new ≡ arrives certificate.now slot (walk_of walk.old) }
     ensures valid { IfSome walk.new.here (λ h. IsReaching slot h) }
@@ -160,7 +201,7 @@ pub fn arrive<'a>(certificate: &'a Certificate, slot: u32, walk: &mut Walk<'a>) 
 /// Visits an instruction with what goes on to it from the one before, and makes the walk what goes on from it.
 pub fn visit<'a, P: Code>(
     program: &P,
-    certificate: &'a Certificate,
+    certificate: &'a Index,
     slot: u32,
     insn: &Insn,
     walk: &mut Walk<'a>,
@@ -173,19 +214,14 @@ pub fn visit<'a, P: Code>(
     ensures work { work.new ≡ worked_at (P.program program.now) certificate.now (visit_of certificate.now slot insn.now (walk_of walk.old)) work.old }
     ensures valid { IfSome walk.new.here (λ h. IsReaching (slot + slot_count insn.now) h) }
 {
-    let is_never = arrive(certificate, slot, walk);
-    let label = refused_if(lacks_label(certificate, slot, insn), slot, Cause::NoLabel);
+    let never = arrive(certificate, slot, walk);
+    let lacks_label = lacks_label(certificate, slot, insn);
     let refusal = visit_arrival(program, certificate, slot, insn, walk, work);
-    let depth = refused_if(
-        calls_no_deeper(certificate, slot, insn),
-        slot,
-        Cause::NoDeeper,
-    );
-    let never = refused_if(is_never, slot, Cause::FallsOff);
-    let leaves = leaves_function(program, certificate, slot, insn);
-    let elsewhere = refused_if(leaves, slot, Cause::LeavesFunction);
-    lesser(
-        lesser(lesser(lesser(label, refusal), depth), never),
-        elsewhere,
-    )
+    let place = Place {
+        lacks_label,
+        no_deeper: calls_no_deeper(certificate, slot, insn),
+        never,
+        leaves: leaves_function(program, certificate, slot, insn),
+    };
+    flaw_with(slot, place, refusal)
 }

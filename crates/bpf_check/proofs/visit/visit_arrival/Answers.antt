@@ -15,6 +15,6 @@ returns-in-Err-clause-refusal g c =
 
 pub returns-in-Ok-clause-refusal : goal.returns-in-Ok-clause-refusal
 returns-in-Ok-clause-refusal g c =
-    subst (λ o. IsLeastIn (at c.args.slot (numbers_with (g.P.Code.program c.args.program.now) c.args.certificate.now c.args.slot c.args.insn.now (option_map (arrival_of c.args.walk.now.state) o))) (option_map flaw_of c.lesser-in-Ok.result)) (sym c.in-Some.is)
-    (sound_least (g.P.Code.program c.args.program.now) c.args.certificate.now c.args.slot c.args.insn.now (arrival_of c.args.walk.now.state c.in-Some.here) c.in-Ok.judged.not_entailed c.in-Ok.judged.over_budget c.in-Ok.judged.past_end (option_map flaw_of c.lesser-in-Ok.result) c.in-Ok.ensures.ok.no_fault c.in-Ok.ensures.ok.not_entailed c.in-Ok.ensures.ok.over_budget c.in-Ok.ensures.ok.past_end
-    (c.lesser-in-Ok.ensures _ _ (c.lesser.ensures _ _ c.refused_if-state.ensures c.refused_if-budget.ensures) c.refused_if-end.ensures))
+    subst (λ o. IsLeastIn (at c.args.slot (numbers_with (g.P.Code.program c.args.program.now) c.args.certificate.now c.args.slot c.args.insn.now (option_map (arrival_of c.args.walk.now.state) o))) (option_map flaw_of c.flaw_of_state.result)) (sym c.in-Some.is)
+    (sound_least (g.P.Code.program c.args.program.now) c.args.certificate.now c.args.slot c.args.insn.now (arrival_of c.args.walk.now.state c.in-Some.here) c.in-Ok.judged.not_entailed c.in-Ok.judged.over_budget c.in-Ok.judged.past_end (option_map flaw_of c.flaw_of_state.result) c.in-Ok.ensures.ok.no_fault c.in-Ok.ensures.ok.not_entailed c.in-Ok.ensures.ok.over_budget c.in-Ok.ensures.ok.past_end
+    c.flaw_of_state.ensures)
