@@ -4,8 +4,8 @@ use crate::effects::{Way, access_of, registers_read};
 use crate::known::{Known, Name, Number, Written, spelling_of};
 use crate::places::{PLACES, content, is_same, is_unknown, place_at, take_over};
 use crate::sight::{Edge, Outcome, Sight, total_of};
-use bpf_cert::{Certificate, Function, Label, Measure};
-use bpf_check::label_at;
+use bpf_cert::{Function, Label, Measure};
+use bpf_check::{Index, label_at};
 use bpf_insn::Insn;
 use bpf_state::{Place, State};
 use std::io::{self, Write};
@@ -16,7 +16,7 @@ const WIDTH: usize = 36;
 const BLANKS: [u8; WIDTH] = [b' '; WIDTH];
 
 /// `16 bytes` or `0 to 64 bytes`
-pub fn write_lengths<W: Write>(out: &mut W, certificate: &Certificate) -> io::Result<()> {
+pub fn write_lengths<W: Write>(out: &mut W, certificate: &Index) -> io::Result<()> {
     let (least, most) = (certificate.least(), certificate.most());
     if least != most {
         write!(out, "{least} to {most} bytes")
@@ -28,7 +28,7 @@ pub fn write_lengths<W: Write>(out: &mut W, certificate: &Certificate) -> io::Re
 }
 
 /// `contexts of 16 bytes, at most 24 steps`
-pub fn write_header<W: Write>(out: &mut W, certificate: &Certificate) -> io::Result<()> {
+pub fn write_header<W: Write>(out: &mut W, certificate: &Index) -> io::Result<()> {
     write!(out, "contexts of ")?;
     write_lengths(out, certificate)?;
     let steps = certificate.steps();
@@ -221,7 +221,7 @@ fn have_terms(old: &Label, new: &Label) -> bool {
 /// `; slack 0: base 23, cost 1, base there 2, kept 0, taken 20`
 fn write_slack<'a, W: Write>(
     out: &mut W,
-    certificate: &Certificate,
+    certificate: &Index,
     sight: &Sight<'a>,
     edge: Edge,
 ) -> io::Result<()> {
@@ -247,7 +247,7 @@ fn write_slack<'a, W: Write>(
 /// The line of an edge: where it leads, what is known there more, and what is left of the budget.
 fn write_edge<'a, W: Write>(
     out: &mut W,
-    certificate: &Certificate,
+    certificate: &Index,
     sight: &Sight<'a>,
     edge: Edge,
     state: &State,
@@ -281,7 +281,7 @@ fn tells_more<'a>(sight: &Sight<'a>, edge: Edge) -> bool {
 
 fn write_next<'a, W: Write>(
     out: &mut W,
-    certificate: &Certificate,
+    certificate: &Index,
     sight: &Sight<'a>,
     edge: Edge,
     shown: &mut State,
@@ -313,7 +313,7 @@ fn write_exit<'a, W: Write>(out: &mut W, sight: &Sight<'a>) -> io::Result<()> {
 /// The lines of an instruction's edges.
 pub fn write_edges<'a, W: Write>(
     out: &mut W,
-    certificate: &Certificate,
+    certificate: &Index,
     sight: &Sight<'a>,
     shown: &mut State,
 ) -> io::Result<()> {

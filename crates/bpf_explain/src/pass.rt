@@ -8,8 +8,8 @@ ghost use Rattle.bpf_check.specs.Arrivals.{IsReaching};
 ghost use Rattle.bpf_check.specs.Slack.{IsWithin};
 
 use crate::sight::{Edge, Outcome, Sight};
-use bpf_cert::{Certificate, Label};
-use bpf_check::{
+use bpf_cert::Label;
+use bpf_check::{Index, 
     Cause, Here, Judged, Slack, Walk, arrive, calls_no_deeper, cost_after, go_to_next,
     judge_reached, jump_target, label_at, lacks_label, least_budget, leaves_function, slack_on,
 };
@@ -39,7 +39,7 @@ fn slack_of(slot: u32, here: &Here, cost: Option<i128>, edge: &State, new: &Labe
 
 /// An edge with the state that goes along it.
 fn edge_to(
-    certificate: &Certificate,
+    certificate: &Index,
     slot: u32,
     here: &Here,
     cost: Option<i128>,
@@ -62,7 +62,7 @@ fn edge_to(
 }
 
 fn see_jump<'a>(
-    certificate: &Certificate,
+    certificate: &Index,
     slot: u32,
     insn: &Insn,
     here: &Here,
@@ -86,7 +86,7 @@ fn see_jump<'a>(
 }
 
 fn see_next<'a>(
-    certificate: &Certificate,
+    certificate: &Index,
     slot: u32,
     insn: &Insn,
     here: &Here,
@@ -114,7 +114,7 @@ fn see_next<'a>(
 /// Sees what an instruction does in the state in front of it.
 fn see_effect<'a, P: Code>(
     program: &P,
-    certificate: &Certificate,
+    certificate: &Index,
     slot: u32,
     insn: &Insn,
     here: &Here,
@@ -159,7 +159,7 @@ fn note_judged<'a>(judged: Judged, sight: &mut Sight<'a>) {
 /// Judges an instruction that a state reaches, as the checker does.
 fn judge_here<'a, P: Code>(
     program: &P,
-    certificate: &'a Certificate,
+    certificate: &'a Index,
     here: Here<'a>,
     slot: u32,
     insn: &Insn,
@@ -187,7 +187,7 @@ fn judge_here<'a, P: Code>(
 /// What is found without a state.
 fn see_shape<'a, P: Code>(
     program: &P,
-    certificate: &Certificate,
+    certificate: &Index,
     slot: u32,
     insn: &Insn,
     sight: &mut Sight<'a>,
@@ -205,7 +205,7 @@ fn see_shape<'a, P: Code>(
 /// Sees an instruction with what goes on to it, and makes the walk what goes on from it.
 pub fn see<'a, P: Code>(
     program: &P,
-    certificate: &'a Certificate,
+    certificate: &'a Index,
     slot: u32,
     insn: &Insn,
     walk: &mut Walk<'a>,

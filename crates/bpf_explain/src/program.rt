@@ -12,7 +12,7 @@ use crate::report::{Report, View};
 use crate::sight::Sight;
 use crate::standing::last_slot;
 use bpf_cert::Certificate;
-use bpf_check::{Refusal, Walk, check};
+use bpf_check::{Index, Refusal, Walk, check};
 use bpf_insn::Code;
 use std::io::{self, Write};
 
@@ -30,7 +30,7 @@ fn refusal_of<C: Code>(program: &C, certificate: &Certificate) -> Option<Refusal
 /// Goes over the slots of a program, and over those behind it at which labels stand.
 fn tell_all<C: Code, W: Write>(
     program: &C,
-    certificate: &Certificate,
+    certificate: &Index,
     view: View,
     out: &mut W,
 ) -> io::Result<()> {
@@ -45,7 +45,7 @@ fn tell_all<C: Code, W: Write>(
 /// Goes over the instructions of a program. The slot behind the last one.
 fn tell_program<C: Code, W: Write>(
     program: &C,
-    certificate: &Certificate,
+    certificate: &Index,
     report: &mut Report,
     out: &mut W,
 ) -> io::Result<u32> {
@@ -72,7 +72,7 @@ fn tell_program<C: Code, W: Write>(
 /// The last lines: the answer, and all flaws.
 fn write_answer<C: Code, W: Write>(
     program: &C,
-    certificate: &Certificate,
+    certificate: &Index,
     refusal: Option<Refusal>,
     out: &mut W,
 ) -> io::Result<()> {
@@ -106,9 +106,10 @@ pub fn explain<C: Code, W: Write>(
 {
     let refusal = refusal_of(program, certificate);
     let mut page = Page::new(out);
-    write_header(&mut page, certificate)?;
-    tell_all(program, certificate, View::Listing, &mut page)?;
-    write_answer(program, certificate, refusal, &mut page)?;
+    let index = Index::of(certificate);
+    write_header(&mut page, &index)?;
+    tell_all(program, &index, View::Listing, &mut page)?;
+    write_answer(program, &index, refusal, &mut page)?;
     page.flush()?;
     Ok(refusal)
 }
@@ -122,9 +123,10 @@ pub fn explain_slot<C: Code, W: Write>(
     out: &mut W,
 ) -> io::Result<()> {
     let mut page = Page::new(out);
+    let index = Index::of(certificate);
     if program.insn(slot).is_none() {
         write!(page, "no instruction begins at slot {slot}\n")?;
     }
-    tell_all(program, certificate, View::Slot(slot), &mut page)?;
+    tell_all(program, &index, View::Slot(slot), &mut page)?;
     page.flush()
 }

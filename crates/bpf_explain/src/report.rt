@@ -7,8 +7,8 @@ use crate::sight::{Outcome, Sight};
 use crate::standing::{label_flaws, label_in, lacks_first_label, standing_flaws, start_flaws};
 use crate::whole::write_whole;
 use crate::words::{Silence, tell, tell_function, tell_label, tell_silence, tell_start};
-use bpf_cert::{Certificate, Function};
-use bpf_check::Cause;
+use bpf_cert::Function;
+use bpf_check::{Index, Cause};
 use bpf_insn::Code;
 use bpf_state::State;
 use std::io::{self, Write};
@@ -107,7 +107,7 @@ impl Report {
         &self,
         out: &mut W,
         program: &C,
-        certificate: &Certificate,
+        certificate: &Index,
         sight: &Sight<'a>,
         cause: Cause,
     ) -> io::Result<()> {
@@ -124,7 +124,7 @@ impl Report {
         &mut self,
         out: &mut W,
         program: &C,
-        certificate: &Certificate,
+        certificate: &Index,
         function: &Function,
         slot: u32,
         cause: Cause,
@@ -151,7 +151,7 @@ impl Report {
         &mut self,
         out: &mut W,
         program: &C,
-        certificate: &Certificate,
+        certificate: &Index,
         slot: u32,
         cause: Cause,
     ) -> io::Result<()> {
@@ -166,7 +166,7 @@ impl Report {
         &mut self,
         out: &mut W,
         program: &C,
-        certificate: &Certificate,
+        certificate: &Index,
         slot: u32,
         sight: Option<&Sight<'a>>,
         found: &Found,
@@ -197,7 +197,7 @@ impl Report {
     fn found_at<'a, C: Code>(
         &mut self,
         program: &C,
-        certificate: &Certificate,
+        certificate: &Index,
         slot: u32,
         sight: Option<&Sight<'a>>,
     ) -> Found {
@@ -252,7 +252,7 @@ impl Report {
     fn write_standing<W: Write>(
         &mut self,
         out: &mut W,
-        certificate: &Certificate,
+        certificate: &Index,
         slot: u32,
     ) -> io::Result<()> {
         for function in certificate.functions() {
@@ -271,7 +271,7 @@ impl Report {
         &mut self,
         out: &mut W,
         program: &C,
-        certificate: &Certificate,
+        certificate: &Index,
         slot: u32,
     ) -> io::Result<()> {
         match self.view {
@@ -289,7 +289,7 @@ impl Report {
     fn write_lines<'a, W: Write>(
         &mut self,
         out: &mut W,
-        certificate: &Certificate,
+        certificate: &Index,
         sight: &Sight<'a>,
     ) -> io::Result<()> {
         self.write_standing(out, certificate, sight.slot)?;
@@ -319,7 +319,7 @@ impl Report {
         &mut self,
         out: &mut W,
         program: &C,
-        certificate: &Certificate,
+        certificate: &Index,
         sight: &Sight<'a>,
     ) -> io::Result<()> {
         let slot = sight.slot;
@@ -341,7 +341,7 @@ impl Report {
         &mut self,
         out: &mut W,
         program: &C,
-        certificate: &Certificate,
+        certificate: &Index,
         sight: &Sight<'a>,
     ) -> io::Result<()> {
         let is_told = match self.view {

@@ -4,8 +4,8 @@ ghost use Rattle.std.specs.Prelude.{◌≡◌, option_copied};
 ghost use Rattle.bpf_state.specs.State.{tightened};
 
 use crate::flaws::Flaws;
-use bpf_cert::{Certificate, Function, Label, Term, is_limited_term};
-use bpf_check::{
+use bpf_cert::{Function, Label, Term, is_limited_term};
+use bpf_check::{Index, 
     Cause, begins_elsewhere, is_bad_term, is_first_label, is_outside, label_at, starts_over_budget,
 };
 use bpf_insn::Code;
@@ -51,7 +51,7 @@ fn bad_term(label: &Label, tight: Option<&State>) -> Option<Term>
 
 fn flaws_with<C: Code>(
     program: &C,
-    certificate: &Certificate,
+    certificate: &Index,
     function: &Function,
     label: &Label,
     tight: Option<&State>,
@@ -70,7 +70,7 @@ fn flaws_with<C: Code>(
 /// What is wrong with a label of a function, with room for its state.
 pub fn label_flaws<C: Code>(
     program: &C,
-    certificate: &Certificate,
+    certificate: &Index,
     function: &Function,
     label: &Label,
     room: &mut State,
@@ -91,7 +91,7 @@ pub fn lacks_first_label(function: &Function, slot: u32) -> bool {
 /// What is wrong with the labels and functions at a slot.
 pub fn standing_flaws<C: Code>(
     program: &C,
-    certificate: &Certificate,
+    certificate: &Index,
     slot: u32,
     room: &mut State,
 ) -> Flaws {
@@ -107,7 +107,7 @@ pub fn standing_flaws<C: Code>(
 }
 
 /// What is wrong at the start.
-pub fn start_flaws(certificate: &Certificate) -> Flaws {
+pub fn start_flaws(certificate: &Index) -> Flaws {
     certificate.valid();
     let start = State::start(certificate.least(), certificate.most());
     let is_outside = match label_at(certificate, 0) {
@@ -122,7 +122,7 @@ pub fn start_flaws(certificate: &Certificate) -> Flaws {
 }
 
 /// The last slot at which a label or function of a certificate stands.
-pub fn last_slot(certificate: &Certificate) -> u32 {
+pub fn last_slot(certificate: &Index) -> u32 {
     let mut last = 0;
     for function in certificate.functions() {
         last = last.max(function.first);

@@ -9,8 +9,7 @@ mod shape;
 
 use crate::known::Name;
 use crate::sight::Sight;
-use bpf_cert::Certificate;
-use bpf_check::Cause;
+use bpf_check::{Index, Cause};
 use bpf_insn::{Code, Reg};
 use bpf_state::Place;
 pub use labels::{tell_function, tell_label, tell_start};
@@ -26,7 +25,7 @@ pub fn register(reg: Reg) -> Name {
 pub fn tell<'a, W: Write, C: Code>(
     out: &mut W,
     program: &C,
-    certificate: &Certificate,
+    certificate: &Index,
     sight: &Sight<'a>,
     cause: Cause,
 ) -> io::Result<()> {

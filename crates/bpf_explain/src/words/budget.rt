@@ -3,8 +3,8 @@
 use crate::known::{Known, Name};
 use crate::places::{content, tag_at};
 use crate::sight::{Edge, Sight, total_of};
-use bpf_cert::{Certificate, Label, Measure, Term};
-use bpf_check::{label_at, place_of};
+use bpf_cert::{Label, Measure, Term};
+use bpf_check::{Index, label_at, place_of};
 use bpf_insn::Insn;
 use bpf_state::{Place, SlotState, State, Tag};
 use std::io::{self, Write};
@@ -76,7 +76,7 @@ fn tell_terms<W: Write>(out: &mut W, old: &Label, new: &Label, state: &State) ->
 /// Tells of an edge that isn't paid. Whether there was something to tell.
 fn tell_edge<'a, W: Write>(
     out: &mut W,
-    certificate: &Certificate,
+    certificate: &Index,
     sight: &Sight<'a>,
     edge: Edge,
     state: &State,
@@ -122,7 +122,7 @@ fn tell_exit<'a, W: Write>(out: &mut W, sight: &Sight<'a>) -> io::Result<()> {
 /// C9: the budget at the last label doesn't cover the cost on an edge or at EXIT.
 pub fn tell_unpaid<'a, W: Write>(
     out: &mut W,
-    certificate: &Certificate,
+    certificate: &Index,
     sight: &Sight<'a>,
 ) -> io::Result<()> {
     if let Insn::Exit = sight.insn {

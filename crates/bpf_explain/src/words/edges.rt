@@ -3,8 +3,7 @@
 use crate::known::{Known, Name, Written, known_register, written_number};
 use crate::places::{PLACES, content, place_at, take_over};
 use crate::sight::{Edge, Sight};
-use bpf_cert::Certificate;
-use bpf_check::{callee, function_at, label_at};
+use bpf_check::{Index, callee, function_at, label_at};
 use bpf_insn::{Insn, Reg};
 use bpf_state::{Place, State, Work, enter};
 use std::io::{self, Write};
@@ -35,7 +34,7 @@ pub fn first_difference(state: &State, claimed: &State) -> Option<Place> {
 /// `r3 at slot 9 is anything; the label says u0..7`
 fn tell_edge<W: Write>(
     out: &mut W,
-    certificate: &Certificate,
+    certificate: &Index,
     to: u32,
     state: &State,
 ) -> io::Result<bool> {
@@ -57,7 +56,7 @@ fn tell_edge<W: Write>(
 /// Tells of an edge whose state doesn't lie in the label at its end. Whether there was something to tell.
 fn tell_if_refused<W: Write>(
     out: &mut W,
-    certificate: &Certificate,
+    certificate: &Index,
     edge: Option<Edge>,
     state: &State,
 ) -> io::Result<bool> {
@@ -69,7 +68,7 @@ fn tell_if_refused<W: Write>(
 
 fn tell_entry<W: Write>(
     out: &mut W,
-    certificate: &Certificate,
+    certificate: &Index,
     first: u32,
     state: &State,
 ) -> io::Result<bool> {
@@ -95,7 +94,7 @@ fn tell_entry<W: Write>(
 
 fn tell_result<'a, W: Write>(
     out: &mut W,
-    certificate: &Certificate,
+    certificate: &Index,
     sight: &Sight<'a>,
 ) -> io::Result<bool> {
     let Some(function) = function_at(certificate, sight.slot) else {
@@ -117,7 +116,7 @@ fn tell_result<'a, W: Write>(
 /// C8: a state doesn't lie in what is claimed where it leads to.
 pub fn tell_difference<'a, W: Write>(
     out: &mut W,
-    certificate: &Certificate,
+    certificate: &Index,
     sight: &Sight<'a>,
 ) -> io::Result<()> {
     if let Insn::Exit = sight.insn {

@@ -3,8 +3,8 @@
 use crate::known::{Known, Name, Written};
 use crate::places::{PLACES, content, place_at};
 use crate::words::edges::first_difference;
-use bpf_cert::{Certificate, Function, Label, Measure, Term};
-use bpf_check::{Cause, begins_elsewhere, function_at, greatest_budget, label_at, place_of};
+use bpf_cert::{Function, Label, Measure, Term};
+use bpf_check::{Index, Cause, begins_elsewhere, function_at, greatest_budget, label_at, place_of};
 use bpf_insn::Code;
 use bpf_state::{Place, SlotState, State};
 use std::io::{self, Write};
@@ -64,7 +64,7 @@ fn empty_place(label: &Label) -> Option<Place> {
 /// C13: a label lies outside of its function, or has no member.
 fn tell_shape<W: Write>(
     out: &mut W,
-    certificate: &Certificate,
+    certificate: &Index,
     function: &Function,
     label: &Label,
 ) -> io::Result<()> {
@@ -99,7 +99,7 @@ fn tell_shape<W: Write>(
 pub fn tell_label<W: Write, C: Code>(
     out: &mut W,
     program: &C,
-    certificate: &Certificate,
+    certificate: &Index,
     function: &Function,
     label: &Label,
     cause: Cause,
@@ -141,7 +141,7 @@ fn tell_outside<W: Write>(out: &mut W, start: &State, label: &Label) -> io::Resu
 /// Tells why a condition fails at the start.
 pub fn tell_start<W: Write>(
     out: &mut W,
-    certificate: &Certificate,
+    certificate: &Index,
     cause: Cause,
 ) -> io::Result<()> {
     certificate.valid();

@@ -5,7 +5,7 @@ use crate::known::{Name, Offset, known_register};
 use crate::places::content;
 use crate::sight::Sight;
 use crate::words::register;
-use bpf_cert::Certificate;
+use bpf_check::Index;
 use bpf_insn::{Insn, Operand};
 use bpf_state::{Place, SlotState, State};
 use std::io::{self, Write};
@@ -27,7 +27,7 @@ fn tell_what<W: Write>(out: &mut W, access: Access) -> io::Result<()> {
 }
 
 /// The byte that lies outside of the context or the frame.
-fn tell_outside<W: Write>(out: &mut W, certificate: &Certificate, reach: Reach) -> io::Result<()> {
+fn tell_outside<W: Write>(out: &mut W, certificate: &Index, reach: Reach) -> io::Result<()> {
     let (first, last) = (reach.first, reach.last);
     let least = certificate.least();
     if reach.in_frame {
@@ -67,7 +67,7 @@ fn tell_far<W: Write>(out: &mut W, state: &State, insn: &Insn) -> io::Result<()>
 /// C5: an access may leave the context or the frame, or a pointer its bounds.
 pub fn tell_bounds<'a, W: Write>(
     out: &mut W,
-    certificate: &Certificate,
+    certificate: &Index,
     sight: &Sight<'a>,
 ) -> io::Result<()> {
     let state = &sight.before;

@@ -1,8 +1,7 @@
 //! Conditions on where instructions lead to.
 
 use crate::sight::Sight;
-use bpf_cert::Certificate;
-use bpf_check::{callee, function_at, goes_on, jump_target};
+use bpf_check::{Index, callee, function_at, goes_on, jump_target};
 use bpf_insn::{Code, Insn};
 use std::io::{self, Write};
 
@@ -53,7 +52,7 @@ pub fn tell_missing_label<'a, W: Write>(out: &mut W, sight: &Sight<'a>) -> io::R
 /// C10: a callee's depth isn't below its caller's.
 pub fn tell_depth<'a, W: Write>(
     out: &mut W,
-    certificate: &Certificate,
+    certificate: &Index,
     sight: &Sight<'a>,
 ) -> io::Result<()> {
     if sight.slot > 65_535 {
@@ -71,7 +70,7 @@ pub fn tell_depth<'a, W: Write>(
 }
 
 /// Whether a slot lies in the function that begins at `first`.
-fn lies_in(certificate: &Certificate, slot: u32, first: u32) -> bool {
+fn lies_in(certificate: &Index, slot: u32, first: u32) -> bool {
     match function_at(certificate, slot) {
         Some(function) => function.first == first,
         None => false,
@@ -92,7 +91,7 @@ fn tell_nowhere<W: Write>(out: &mut W, slot: u32, off: i32) -> io::Result<()> {
 pub fn tell_leaving<'a, W: Write, C: Code>(
     out: &mut W,
     program: &C,
-    certificate: &Certificate,
+    certificate: &Index,
     sight: &Sight<'a>,
 ) -> io::Result<()> {
     if sight.slot > 65_535 {
