@@ -69,6 +69,7 @@ struct Analysis<'a> {
     program: &'a Program,
     outline: &'a Outline,
     least: u32,
+    most: u32,
     /// The first slots, and at the end how many slots there are.
     firsts: Vec<u32>,
     /// What each returns.
@@ -102,6 +103,7 @@ impl<'a> Analysis<'a> {
         program: &'a Program,
         outline: &'a Outline,
         least: u32,
+        most: u32,
     ) -> Result<Analysis<'a>, AllocError>
         requires { 0 < outline.now }
     {
@@ -116,6 +118,7 @@ impl<'a> Analysis<'a> {
             program,
             outline,
             least,
+            most,
             firsts,
             rets: vec![in alloc; Num::top(); count]?,
             is_changed: vec![in alloc; false; count]?,
@@ -135,6 +138,7 @@ impl<'a> Analysis<'a> {
             outline: self.outline,
             region,
             least: self.least,
+            most: self.most,
             rets: &self.rets,
         }
     }
@@ -385,9 +389,13 @@ impl<'a> Analysis<'a> {
 
     /// The labels of a function; its states are taken.
     fn labels(&mut self, function: usize) -> Result<Vec<Label>, AllocError> {
-        let mut labels = Vec::new(self.alloc);
+        let count = match self.judged.get(function) {
+            Some(Some(judged)) => judged.states.len(),
+            _ => 0,
+        };
+        let mut labels = Vec::with_capacity(self.alloc, count)?;
         if let Some(Some(judged)) = self.judged.get_mut(function) {
-            for label in 0..judged.states.len() {
+            for label in 0..count {
                 if let Some(Some(state)) = judged.states.get_mut(label).map(|held| held.take()) {
                     labels.push(Label {
                         slot: judged.region.slot(label),
@@ -433,13 +441,11 @@ fn lower(a: Option<Fault>, b: Option<Fault>) -> Option<Fault> {
 }
 
 /// A slot, cut to those of the program.
-fn inside(slot: u32, outline: &Outline) -> u32
-    requires { 0 < outline.now }
-    ensures { result < outline.now }
+fn inside(slot: u32, program: &Program) -> u32
+    requires { 0 < slots program.now.list }
+    ensures { result < slots program.now.list }
 {
-    outline.label(outline.block_of(slot)).max(slot.min(
-        outline.end(outline.block_of(slot)).saturating_sub(1),
-    ))
+    slot.min(program.slots() - 1)
 }
 
 /// The functions of a program on contexts of at least `least` bytes, with their depths, what they return, and their labels with their
@@ -457,15 +463,15 @@ pub fn draft(
     let depths = depths_of(alloc, program, &outline)?;
     check_bounds(program, &outline)?;
     let start = State::start(least, most);
-    let mut analysis = Analysis::new(alloc, program, &outline, least)?;
+    let mut analysis = Analysis::new(alloc, program, &outline, least, most)?;
     if let Some(function) = analysis.settle(&depths, &start)? {
         return Err(InferError::Unstable {
-            slot: inside(analysis.first(function), &outline),
+            slot: inside(analysis.first(function), program),
         });
     }
     if let Some(fault) = analysis.fault() {
         return Err(InferError::Fault {
-            slot: inside(fault.slot, &outline),
+            slot: inside(fault.slot, program),
             condition: fault.wrong.condition(),
         });
     }

@@ -218,6 +218,8 @@ impl<'a> Settler<'a> {
     /// The thresholds of a loop's jumps.
     fn thresholds_of(&self, found: Loop) -> Result<Thresholds, AllocError> {
         let mut thresholds = Thresholds::new(self.alloc);
+        thresholds.add_length(self.task.least)?;
+        thresholds.add_length(self.task.most)?;
         for place in found.head..found.end {
             let label = self.nest.label(place);
             let region = self.task.region;

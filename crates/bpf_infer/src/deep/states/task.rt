@@ -28,13 +28,14 @@ pub trait Watcher {
     fn fault(&mut self, slot: u32, wrong: Wrong);
 }
 
-/// A function to be judged on contexts of at least `least` bytes.
+/// A function to be judged on contexts of `least` to `most` bytes.
 #[derive(Clone, Copy)]
 pub struct Task<'a> {
     pub program: &'a Program,
     pub outline: &'a Outline,
     pub region: &'a Region,
     pub least: u32,
+    pub most: u32,
     /// By the functions' numbers, what each returns.
     pub rets: &'a [Num],
 }

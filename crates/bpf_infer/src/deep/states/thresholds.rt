@@ -43,7 +43,7 @@ pub enum Reach {
 }
 
 impl Thresholds {
-    /// Those of no jumps, with the lengths of contexts.
+    /// Those of no jumps.
     pub fn new(alloc: Global) -> Thresholds {
         Thresholds {
             alloc,
@@ -53,8 +53,13 @@ impl Thresholds {
         }
     }
 
+    /// Adds a length of contexts, for all that isn't compared with anything.
+    pub fn add_length(&mut self, length: u32) -> Result<(), AllocError> {
+        self.add(REGISTERS.len(), length as i64)
+    }
+
     /// A register is compared with a number.
-    pub fn add(&mut self, register: usize, number: i64) -> Result<(), AllocError> {
+    fn add(&mut self, register: usize, number: i64) -> Result<(), AllocError> {
         self.compared.push(Compared { register, number })?;
         Ok(())
     }
