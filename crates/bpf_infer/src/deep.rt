@@ -1,6 +1,7 @@
 //! The deep inferrer.
 
 mod ranking;
+mod states;
 
 ghost use Rattle.std.specs.Prelude.{◌≡◌, ◌<◌, ◌≤◌, IfOk, IfErr};
 ghost use Rattle.bpf_insn.specs.Instruction.{slots};
@@ -8,8 +9,9 @@ ghost use Rattle.bpf_infer.specs.RefusalNumbers.{infer_slot, IsCondition, IsRefu
 ghost use Rattle.bpf_cert.specs.Limits.{IsCertificate};
 
 use crate::deep::ranking::ranked;
+use crate::deep::states::draft;
 use crate::error::InferError;
-use crate::inferrer::{draft, infer};
+use crate::inferrer::infer;
 use bpf_cert::Certificate;
 use bpf_insn::{Code, Program};
 use std::alloc::Global;

@@ -43,13 +43,6 @@ fn budget_of(budgets: &Budgets, block: usize) -> Budget {
     }
 }
 
-fn no_budget() -> Budget {
-    Budget {
-        base: 0,
-        terms: ArrayVec::new(),
-    }
-}
-
 /// Takes the state of a block.
 fn taken(states: &mut Vec<Option<State>>, block: usize) -> Option<State> {
     states.get_mut(block)?.take()
@@ -60,7 +53,7 @@ fn labels_of(
     alloc: Global,
     outline: &Outline,
     rounds: &mut Rounds,
-    budgets: Option<&Budgets>,
+    budgets: &Budgets,
     first: usize,
     end: usize,
 ) -> Result<Vec<Label>, AllocError>
@@ -72,10 +65,7 @@ fn labels_of(
             labels.push(Label {
                 slot: outline.label(block),
                 state,
-                budget: match budgets {
-                    Some(budgets) => budget_of(budgets, block),
-                    None => no_budget(),
-                },
+                budget: budget_of(budgets, block),
             })?;
         }
     }
@@ -86,7 +76,7 @@ fn functions_of(
     alloc: Global,
     outline: &Outline,
     rounds: &mut Rounds,
-    budgets: Option<&Budgets>,
+    budgets: &Budgets,
     depths: &Depths,
 ) -> Result<Vec<Function>, AllocError>
     requires { 0 < outline.now }
@@ -141,31 +131,9 @@ pub fn infer(
     let Ok(steps) = steps else {
         return Err(InferError::NoBudget { slot: 0 });
     };
-    let functions = functions_of(alloc, &outline, &mut rounds, Some(&budgets), &depths)?;
+    let functions = functions_of(alloc, &outline, &mut rounds, &budgets, &depths)?;
     match Certificate::new(2, least, most, steps, functions) {
         Ok(certificate) => Ok(certificate),
         Err(_) => Err(InferError::NoBudget { slot: 0 }),
     }
-}
-
-/// The functions of a program with the states that `infer` finds, and with budgets of 0.
-pub(crate) fn draft(
-    alloc: Global,
-    program: &Program,
-    least: u32,
-    most: u32,
-) -> Result<Vec<Function>, InferError>
-    requires { least ≤ most }
-{
-    let outline = Outline::of(alloc, program)?;
-    let depths = depths_of(alloc, program, &outline)?;
-    check_bounds(program, &outline)?;
-    let walk = Walk {
-        program,
-        outline: &outline,
-        least,
-        most,
-    };
-    let mut rounds = states_of(alloc, &walk, &depths, &State::start(least, most))?;
-    Ok(functions_of(alloc, &outline, &mut rounds, None, &depths)?)
 }

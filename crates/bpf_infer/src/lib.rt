@@ -13,7 +13,6 @@ mod lines;
 mod loops;
 mod places;
 mod rounds;
-mod search;
 mod walk;
 mod widen;
 

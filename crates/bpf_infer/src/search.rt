@@ -1,3 +1,0 @@
-//! The deep search for a certificate.
-
-pub mod states;
