@@ -228,12 +228,10 @@ fn filter_all(filter: &bpf::Filter, file: &[u8], rounds: usize) -> Result<(), St
 }
 
 fn run(words: &[String]) -> Result<(), String> {
-    let order = if words.first().is_some_and(|word| word == "--big") {
-        bpf::Order::Big
-    } else {
-        bpf::Order::Little
+    let (order, words) = match words.split_first() {
+        Some((first, rest)) if first == "--big" => (bpf::Order::Big, rest),
+        _ => (bpf::Order::Little, words),
     };
-    let words = &words[order as usize..];
     let [image, certificate, frames, rest @ ..] = words else {
         return Err("usage: filter [--big] IMAGE CERTIFICATE FRAMES [ROUNDS]".to_owned());
     };
