@@ -2,6 +2,7 @@
 #![tactic(auto)]
 
 mod budgets;
+mod deep;
 mod error;
 mod flow;
 mod functions;
@@ -14,5 +15,6 @@ mod rounds;
 mod walk;
 mod widen;
 
+pub use deep::search;
 pub use error::InferError;
 pub use inferrer::infer;
