@@ -85,7 +85,7 @@ abbrev pub infer_places : App
 infer_places = with_rule (with_rule (with_rule (new_app (codes "infer")) (place (codes "IN"))) context_length) (place (codes "OUT"))
 
 abbrev pub infer : App
-infer = with_rule (with_rule infer_places most) big
+infer = with_rule (with_rule (with_rule infer_places most) (flag (codes "deep"))) big
 
 abbrev pub migrate : App
 migrate = with_rule (with_rule (new_app (codes "migrate")) (place (codes "CERT"))) (place (codes "OUT"))
@@ -143,8 +143,8 @@ Asks name rows (Check input certificate work order) =
     (name ≡ codes "check") × IsInput rows input.now order × (certificate.now ≡ word_of (codes "CERT") rows) × IsFlag (one_of (codes "work") rows) work
 Asks name rows (RunChecked input certificate contexts order) =
     (name ≡ codes "run-checked") × IsInput rows input.now order × (certificate.now ≡ word_of (codes "CERT") rows) × AreContexts rows contexts
-Asks name rows (Infer input least most output order) =
-    (name ≡ codes "infer") × IsInput rows input.now order × IsCount 0 (one_of (codes "LEN") rows) least × IsCount least (one_of (codes "most") rows) most × (output.now ≡ word_of (codes "OUT") rows)
+Asks name rows (Infer input least most deep output order) =
+    (name ≡ codes "infer") × IsInput rows input.now order × IsCount 0 (one_of (codes "LEN") rows) least × IsCount least (one_of (codes "most") rows) most × IsFlag (one_of (codes "deep") rows) deep × (output.now ≡ word_of (codes "OUT") rows)
 Asks name rows (Migrate certificate output) = (name ≡ codes "migrate") × (certificate.now ≡ word_of (codes "CERT") rows) × (output.now ≡ word_of (codes "OUT") rows)
 
 -- the request of a command line on which the parser found this subcommand

@@ -41,7 +41,7 @@ conflict_of (Run input contexts steps order) = twice input.now (name_of contexts
 conflict_of (Check input certificate work order) = twice input.now certificate.now
 conflict_of (RunChecked input certificate contexts order) =
     option_or (option_or (twice input.now certificate.now) (twice input.now (name_of contexts))) (twice certificate.now (name_of contexts))
-conflict_of (Infer input least most output order) = if nat_lt most least then Some MostBelowLeast else None
+conflict_of (Infer input least most deep output order) = if nat_lt most least then Some MostBelowLeast else None
 conflict_of (Migrate certificate output) = None
 
 -- ---- what is done, and why not
@@ -54,7 +54,7 @@ Does o m old new before after (ListOf input order) = λ status. (answer : Answer
 Does o m old new before after (Run input contexts steps order) = λ status. RunSays o order old input.now contexts steps new before after status
 Does o m old new before after (Check input certificate work order) = λ status. (answer : Answer) × Says answer status before after × CheckSays o order old input.now certificate.now new work answer
 Does o m old new before after (RunChecked input certificate contexts order) = λ status. CheckedSays o order old input.now certificate.now contexts new before after status
-Does o m old new before after (Infer input least most output order) = λ status. (answer : Answer) × Says answer status before after × InferSays o m order old input.now least most output.now new answer
+Does o m old new before after (Infer input least most deep output order) = λ status. (answer : Answer) × Says answer status before after × InferSays o m order old input.now least most output.now new answer
 Does o m old new before after (Migrate certificate output) = λ status. (answer : Answer) × Says answer status before after × MigrateSays o m old certificate.now output.now new answer
 
 -- What failed of a request without a conflict.
@@ -65,7 +65,7 @@ Misses o m old new (ListOf input order) = ImageFails o old input.now new
 Misses o m old new (Run input contexts steps order) = λ failure. (before : Option (List ℕ)) × (after : Option (List ℕ)) × RunFails o order old input.now contexts steps new before after failure
 Misses o m old new (Check input certificate work order) = LoadedFails o order old input.now certificate.now new
 Misses o m old new (RunChecked input certificate contexts order) = λ failure. (before : Option (List ℕ)) × (after : Option (List ℕ)) × CheckedFails o order old input.now certificate.now contexts new before after failure
-Misses o m old new (Infer input least most output order) = InferFails o m order old input.now least most output.now new
+Misses o m old new (Infer input least most deep output order) = InferFails o m order old input.now least most output.now new
 Misses o m old new (Migrate certificate output) = MigrateFails o m old certificate.now output.now new
 
 -- A request is in conflict, before any name is opened; or something of it failed.

@@ -106,9 +106,10 @@ fn carry_out<'a, P: Places, W: Write>(
             input,
             least,
             most,
+            deep,
             output,
             order,
-        } => inferred(alloc, places, out, input, least, most, output, order),
+        } => inferred(alloc, places, out, input, least, most, deep, output, order),
         Request::Migrate {
             certificate,
             output,

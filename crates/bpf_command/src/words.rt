@@ -51,11 +51,12 @@ pub enum Request<'a> {
         contexts: Contexts<'a>,
         order: Order,
     },
-    /// A certificate for an image and contexts of `least` to `most` bytes.
+    /// A certificate for an image and contexts of `least` to `most` bytes, by the deep search where that is asked for.
     Infer {
         input: &'a str,
         least: u32,
         most: u32,
+        deep: bool,
         output: &'a str,
         order: Order,
     },
@@ -259,6 +260,7 @@ fn infer_command<'a>(alloc: Global) -> Result<Command<'a>, AllocError>
                 .value_parser(value_parser!(u32).range(0..=4096))
                 .help("the greatest length of the contexts in bytes, else LEN"),
         )?
+        .arg(flag(alloc, "deep", "searches longer, and finds more certificates"))?
         .arg(big(alloc))
 }
 
@@ -379,6 +381,7 @@ fn request_in<'a>(name: &str, matches: &ArgMatches<'a>) -> Request<'a>
                 input,
                 least,
                 most: number(matches, "most", least),
+                deep: has_flag(matches, "deep"),
                 output: word(matches, "OUT"),
                 order,
             }

@@ -60,6 +60,8 @@ fn words_are_refused(rt: HostRuntime) -> Result<(), Fail> {
         "infer smallest 4097 o",
         "infer smallest 0 o --most 4097",
         "infer smallest none o",
+        "infer smallest 0 o --deep yes",
+        "run smallest --context --steps 9",
         "--help",
         "--version",
         "check --help",
@@ -156,6 +158,16 @@ fn proposals_are_accepted(rt: HostRuntime) -> Result<(), Fail> {
             "infer fourth-byte 4096 out",
             "check fourth-byte out",
             "yes length 4096 bound 2\n",
+        ),
+        (
+            "infer --deep countdown 0 out",
+            "check countdown out",
+            "yes length 0 bound 23\n",
+        ),
+        (
+            "infer --deep fourth-byte 4 out --most 4096",
+            "check fourth-byte out",
+            "yes length 4..4096 bound 2\n",
         ),
     ] {
         let mut places = Shelf::new(rt.alloc(), b"");

@@ -1,7 +1,10 @@
-//! `bpf infer IN LEN OUT`.
+//! `bpf infer IN LEN OUT`, and the same with `--deep`.
 
-ghost use Rattle.std.specs.Prelude.{◌≡◌, IfOk, IfErr};
+ghost use Rattle.std.specs.Prelude.{◌≡◌, ◌≤◌, ◌<◌, IfOk, IfErr};
 ghost use Rattle.std.specs.String.{string_bytes};
+ghost use Rattle.bpf_insn.specs.Instruction.{slots};
+ghost use Rattle.bpf_cert.specs.Limits.{IsCertificate};
+ghost use Rattle.bpf_infer.specs.RefusalNumbers.{infer_slot};
 ghost use Rattle.bpf_command.specs.Answer.{Answer, Says, text_of};
 ghost use Rattle.bpf_command.specs.Answer.Answer.{NotProposed};
 ghost use Rattle.bpf_command.specs.Made.{making};
@@ -14,8 +17,9 @@ use crate::commands::output::put;
 use crate::context::MAX_CONTEXT;
 use crate::failure::{Failure, REFUSED, say};
 use crate::places::Places;
-use bpf_infer::{InferError, infer};
-use bpf_insn::Order;
+use bpf_cert::Certificate;
+use bpf_infer::{InferError, infer, search};
+use bpf_insn::{Order, Program};
 use std::alloc::{AllocError, Global};
 use std::io::Write;
 
@@ -48,6 +52,29 @@ fn refuse_inference<'a, W: Write>(
     Ok(REFUSED)
 }
 
+/// The certificate that the table of the inferrer proposes, or the deep search.
+fn proposed(
+    alloc: Global,
+    program: &Program,
+    least: u32,
+    most: u32,
+    deep: bool,
+) -> Result<Certificate, InferError>
+    requires order { least ≤ most }
+    requires short { most ≤ 4096 }
+    ensures version { IfOk result (λ c. c.version ≡ 2) }
+    ensures least { IfOk result (λ c. c.least ≡ least) }
+    ensures most { IfOk result (λ c. c.most ≡ most) }
+    ensures certificate { IfOk result (λ c. IsCertificate c) }
+    ensures slot { IfErr result (λ e. infer_slot e < slots program.now.list) }
+{
+    if deep {
+        search(alloc, program, least, most)
+    } else {
+        infer(alloc, program, least, most)
+    }
+}
+
 /// Writes a certificate for an image and contexts of `least` to `most` bytes. The place for it is made only where there is
 /// one.
 pub fn inferred<'a, P: Places, W: Write>(
@@ -57,6 +84,7 @@ pub fn inferred<'a, P: Places, W: Write>(
     input: &'a str,
     least: u32,
     most: u32,
+    deep: bool,
     output: &'a str,
     order: Order,
 ) -> Result<u8, Failure<'a>>
@@ -69,7 +97,7 @@ pub fn inferred<'a, P: Places, W: Write>(
     };
     // The words' parser has seen that the lengths are in order, and at most the greatest.
     let most = most.min(MAX_CONTEXT as u32);
-    match infer(alloc, &program, least.min(most), most) {
+    match proposed(alloc, &program, least.min(most), most, deep) {
         Ok(certificate) => put(places, output, &certificate),
         Err(error) => refuse_inference(alloc, out, error),
     }
