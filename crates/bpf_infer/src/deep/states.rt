@@ -27,7 +27,7 @@ use bpf_num::Num;
 use bpf_state::State;
 use dead::{Seeds, add_seeds};
 use judge::{Fault, Report};
-use least::{Places, places_read, spare};
+use least::{Places, least_number, places_read, spare};
 use nest::Nest;
 use region::{Graph, Region};
 use settle::Settler;
@@ -411,13 +411,21 @@ impl<'a> Analysis<'a> {
         Ok(labels)
     }
 
+    /// What the certificate says that a function returns; nobody asks for the first one's.
+    fn ret(&self, function: usize) -> Num {
+        match self.rets.get(function) {
+            Some(ret) if function > 0 => least_number(*ret),
+            _ => Num::top(),
+        }
+    }
+
     fn functions(&mut self, depths: &Depths) -> Result<Vec<Function>, AllocError> {
         let mut functions = Vec::new(self.alloc);
         for number in 0..self.judged.len() {
             functions.push(Function {
                 first: self.first(number),
                 depth: depths.get(number).copied().unwrap_or(0),
-                ret: self.rets.get(number).copied().unwrap_or(Num::top()),
+                ret: self.ret(number),
                 labels: self.labels(number)?,
             })?;
         }

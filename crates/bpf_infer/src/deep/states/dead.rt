@@ -1,12 +1,12 @@
 //! Labels for instructions that nothing reaches.
 
 use super::judge::{Fault, Report, Wrong, walk_all};
-use super::repair::{access_at, fill_registers, fill_slots, point};
+use super::repair::{fill_registers, fill_slots, lead, make_numbers};
 use super::sums::{Held, held, no_states, take_in_at};
 use super::task::{Task, Watcher};
 use crate::flow::Flow;
 use crate::rounds::put;
-use bpf_insn::{Insn, Reg};
+use bpf_insn::Insn;
 use bpf_state::{State, StateFault};
 use std::alloc::{AllocError, Global};
 
@@ -69,11 +69,15 @@ impl Seeds {
         is_filled
     }
 
-    /// Makes a register in the state for a slot point into the frame. Whether that is something new.
-    fn lead(&mut self, slot: u32, base: Reg, off: i16) -> bool {
-        let place = self.place(slot);
+    /// Changes the state for the label before a slot so that the instruction there takes its kinds. Whether that is a change.
+    fn change_kinds(&mut self, task: Task, slot: u32) -> bool {
+        let label = task.region.slot(task.region.segment(slot));
+        let place = self.place(label);
         match self.states.get_mut(place) {
-            Some(Some(state)) => point(&mut **state, base, off),
+            Some(Some(state)) => {
+                make_numbers(task, label, slot, &mut **state)
+                    || lead(task, label, slot, &mut **state)
+            }
             _ => false,
         }
     }
@@ -86,12 +90,7 @@ impl Seeds {
         match kind {
             StateFault::UnsetRegister => self.fill(false),
             StateFault::UnsetByte => self.fill(true),
-            StateFault::WrongKinds | StateFault::OutOfBounds => {
-                match access_at(task, fault.slot) {
-                    Some((label, base, off)) => self.lead(label, base, off),
-                    None => false,
-                }
-            }
+            StateFault::WrongKinds | StateFault::OutOfBounds => self.change_kinds(task, fault.slot),
             StateFault::Protected => false,
         }
     }

@@ -125,7 +125,7 @@ fn slot_written(state: &State, base: Reg, off: i16, size: Size) -> Places {
     Places::NONE
 }
 
-fn access(state: &State, dst: Reg, src: Reg, off: i16, size: Size) -> Needs {
+fn load(state: &State, dst: Reg, src: Reg, off: i16, size: Size) -> Needs {
     Needs {
         read: Places::register(src).and(slots_touched(state, src, off, size)),
         written: Places::register(dst),
@@ -157,6 +157,13 @@ fn alu(op: AluOp, dst: Reg, src: Operand) -> Needs {
     Needs { read, written }
 }
 
+fn reading(read: Places) -> Needs {
+    Needs {
+        read,
+        written: Places::NONE,
+    }
+}
+
 fn one(r: Reg) -> Needs {
     Needs {
         read: Places::register(r),
@@ -172,18 +179,36 @@ fn needs_of(insn: &Insn, state: &State) -> Needs {
         Insn::End { dst, .. } => one(dst),
         Insn::MovSx { dst, src, .. } => alu(AluOp::Mov, dst, Operand::Reg(src)),
         Insn::LoadImm64 { dst, .. } => alu(AluOp::Mov, dst, Operand::Imm(0)),
+        Insn::JumpIf {
+            dst,
+            src,
+            off: _off,
+            ..
+        } => reading(Places::register(dst).and(operand(src))),
+        Insn::CallLocal { off: _off } => Needs {
+            read: Places::NONE,
+            written: Places::WRITTEN_BY_CALL,
+        },
+        Insn::Exit => reading(Places::register(Reg::R0)),
+        _ => needs_of_access(insn, state),
+    }
+}
+
+/// What an access to memory reads and writes in a state.
+fn needs_of_access(insn: &Insn, state: &State) -> Needs {
+    match *insn {
         Insn::Load {
             size,
             dst,
             src,
             off,
-        } => access(state, dst, src, off, size),
+        } => load(state, dst, src, off, size),
         Insn::LoadSx {
             size,
             dst,
             src,
             off,
-        } => access(state, dst, src, off, size),
+        } => load(state, dst, src, off, size),
         Insn::Store {
             size,
             dst,
@@ -204,31 +229,7 @@ fn needs_of(insn: &Insn, state: &State) -> Needs {
             off,
             src,
         } => atomic(state, wide, op, dst, off, src),
-        Insn::JumpIf {
-            dst,
-            src,
-            off: _off,
-            ..
-        } => Needs {
-            read: Places::register(dst).and(operand(src)),
-            written: Places::NONE,
-        },
-        Insn::CallLocal { off: _off } => Needs {
-            read: Places::NONE,
-            written: Places::WRITTEN_BY_CALL,
-        },
-        Insn::Exit => Needs {
-            read: Places::register(Reg::R0),
-            written: Places::NONE,
-        },
-        Insn::Ja { off: _off } => Needs {
-            read: Places::NONE,
-            written: Places::NONE,
-        },
-        Insn::JaLong { off: _off } => Needs {
-            read: Places::NONE,
-            written: Places::NONE,
-        },
+        _ => reading(Places::NONE),
     }
 }
 
@@ -324,15 +325,11 @@ pub fn places_read(
     states: &[Held],
     callees: &[Places],
 ) -> Result<Vec<Places>, AllocError> {
-    let none = Needs {
-        read: Places::NONE,
-        written: Places::NONE,
-    };
     let count = task.region.labels();
     let mut liveness = Liveness {
         task,
         callees,
-        needs: vec![in alloc; none; task.region.slots()]?,
+        needs: vec![in alloc; reading(Places::NONE); task.region.slots()]?,
         live: vec![in alloc; Places::NONE; count]?,
     };
     walk_all(task, states, &mut liveness)?;
@@ -347,7 +344,7 @@ pub fn places_read(
 // ---- less to say
 
 /// The same number by fewer parts, where those that are left imply the others.
-fn least_number(number: Num) -> Num {
+pub fn least_number(number: Num) -> Num {
     let Some(full) = number.tighten() else {
         return number;
     };

@@ -71,7 +71,7 @@ fn traced(task: Task, label: u32, slot: u32, base: Reg) -> Reg {
 
 /// Makes a register point into the frame, such that an access at an offset from it lies in the middle, among known slots.
 /// Whether it didn't.
-pub fn point(state: &mut State, base: Reg, off: i16) -> bool {
+fn point(state: &mut State, base: Reg, off: i16) -> bool {
     let at = MIDDLE.saturating_sub((off as i64) & !7);
     let has_pointed = match state.reg(base) {
         RegState::Frame { lo, hi } => lo == at && hi == at,
@@ -84,9 +84,69 @@ pub fn point(state: &mut State, base: Reg, off: i16) -> bool {
     is_filled || !has_pointed
 }
 
-/// The label of the access at a slot, the register there that is its base, and the offset.
-pub fn access_at(task: Task, slot: u32) -> Option<(u32, Reg, i16)> {
-    let (base, off) = base_of(task.program.at(slot)?)?;
-    let label = task.region.slot(task.region.segment(slot));
-    Some((label, traced(task, label, slot, base), off))
+/// Makes the base of the access at a slot point into the frame by a change of the state at the label before it. Whether that
+/// is a change.
+pub fn lead(task: Task, label: u32, slot: u32, state: &mut State) -> bool {
+    let found = match task.program.at(slot) {
+        Some(insn) => base_of(insn),
+        None => None,
+    };
+    match found {
+        Some((base, off)) => point(state, traced(task, label, slot, base), off),
+        None => false,
+    }
+}
+
+/// The registers that an instruction takes numbers from.
+fn operands_of(insn: &Insn) -> [Option<Reg>; 2] {
+    match *insn {
+        Insn::Alu { dst, src, .. } => [Some(dst), register_in(src)],
+        Insn::JumpIf {
+            dst,
+            src,
+            off: _off,
+            ..
+        } => [Some(dst), register_in(src)],
+        Insn::Neg { dst, .. } => [Some(dst), None],
+        Insn::End { dst, .. } => [Some(dst), None],
+        Insn::MovSx { src, .. } => [Some(src), None],
+        Insn::Store { src, off: _off, .. } => [Some(src), None],
+        Insn::Atomic { src, off: _off, .. } => [Some(src), Some(Reg::R0)],
+        Insn::Exit => [Some(Reg::R0), None],
+        _ => [None, None],
+    }
+}
+
+fn register_in(operand: Operand) -> Option<Reg> {
+    match operand {
+        Operand::Imm(_imm) => None,
+        Operand::Reg(r) => Some(r),
+    }
+}
+
+/// Makes what the instruction at a slot takes numbers from numbers, where they are pointers, by a change of the state at the
+/// label before it. Whether that is a change.
+pub fn make_numbers(task: Task, label: u32, slot: u32, state: &mut State) -> bool {
+    let Some(insn) = task.program.at(slot) else {
+        return false;
+    };
+    let mut is_changed = false;
+    for operand in operands_of(insn) {
+        if let Some(r) = operand {
+            is_changed = make_number(state, traced(task, label, slot, r)) || is_changed;
+        }
+    }
+    is_changed
+}
+
+fn make_number(state: &mut State, r: Reg) -> bool {
+    match state.reg(r) {
+        RegState::Any | RegState::Num(_) => false,
+        RegState::Ctx { .. } | RegState::Frame { .. } => {
+            if r != Reg::R10 {
+                state.set_reg(r, RegState::Num(Num::top()));
+            }
+            r != Reg::R10
+        }
+    }
 }

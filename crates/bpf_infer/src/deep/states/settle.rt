@@ -22,6 +22,17 @@ const LEARNED_TURNS: u32 = 3;
 /// The most times that a loop is narrowed.
 const NARROWINGS: u32 = 3;
 
+/// The most segments of a function that are gone over before bounds are moved to extremes at once.
+const MOST_PATIENCE: usize = 2_000_000;
+
+/// How many segments are gone over in a function of so many labels before that.
+fn patience_for(labels: usize) -> usize {
+    labels
+        .saturating_mul(400)
+        .saturating_add(2000)
+        .min(MOST_PATIENCE)
+}
+
 /// What a turn of a loop is for.
 #[derive(Clone, Copy, Debug, PartialEq, Eq)]
 enum Phase {
@@ -114,7 +125,7 @@ impl<'a> Settler<'a> {
             states: no_states(alloc, nest.labels())?,
             changes: vec![in alloc; 0; nest.loops()]?,
             active: Vec::new(alloc),
-            patience: nest.labels().saturating_mul(400).saturating_add(2000),
+            patience: patience_for(nest.labels()),
         })
     }
 

@@ -174,6 +174,12 @@ pub fn fetched(op: AtomicOp, src: Reg) -> Option<Reg> {
     }
 }
 
+fn set_fetched(state: &mut State, op: AtomicOp, src: Reg, size: Size) {
+    if let Some(r) = fetched(op, src) {
+        set(state, r, RegState::Num(any_number(size)));
+    }
+}
+
 /// Makes the state at an instruction that may be at fault one after it, as if it did no wrong.
 pub fn go_on(insn: &Insn, state: &mut State) {
     match *insn {
@@ -194,13 +200,17 @@ pub fn go_on(insn: &Insn, state: &mut State) {
             dst,
             off: _off,
             ..
-        } => set(state, dst, RegState::Num(any_number(size))),
+        } => {
+            set(state, dst, RegState::Num(any_number(size)));
+        }
         Insn::LoadSx {
             size,
             dst,
             off: _off,
             ..
-        } => set(state, dst, RegState::Num(any_signed(size))),
+        } => {
+            set(state, dst, RegState::Num(any_signed(size)));
+        }
         Insn::Store { size, dst, off, .. } => spoil(state, dst, off, size),
         Insn::StoreImm { size, dst, off, .. } => spoil(state, dst, off, size),
         Insn::Atomic {
@@ -211,9 +221,7 @@ pub fn go_on(insn: &Insn, state: &mut State) {
             src,
         } => {
             spoil(state, dst, off, size_of(wide));
-            if let Some(r) = fetched(op, src) {
-                set(state, r, RegState::Num(any_number(size_of(wide))));
-            }
+            set_fetched(state, op, src, size_of(wide));
         }
         _ => {}
     }
