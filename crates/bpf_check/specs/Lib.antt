@@ -7,5 +7,4 @@ pub mod Arrivals
 pub mod Visits
 pub mod Counting
 pub mod CheckedProgram
-pub mod Runs
 pub mod Verdicts
