@@ -1,33 +1,22 @@
 -- What a check that says yes promises.
 use Rattle.std.proofs.Common.{◌≡◌, ℕ, ◌≤◌, List, sym, ◌∙◌, ap, subst, Bool, true, false, IfSome, Option, Some, None}
-use Rattle.std.proofs.lemmas.Bool.{false≢true}
 use Rattle.bpf_insn.specs.Instruction.{Instructions}
 use Rattle.bpf_insn.specs.Image.{IsImage, IsProgram}
 use Rattle.bpf_insn.specs.Laws.{AreBytes, ImageIsInjective}
 use Rattle.bpf_semantics.specs.Run.{IsDone}
 use Rattle.bpf_insn.specs.declared.order.Order.{Order}
-use Rattle.bpf_machine.specs.Answers.{IsRun}
-use Rattle.bpf_machine.specs.declared.outcome.Outcome.{Outcome}
-use Rattle.bpf_machine.specs.declared.outcome.Outcome.TheVariants.{Done, Fault, OutOfFuel}
-use Rattle.bpf_semantics.specs.declared.state.Reason.{Reason}
 use Rattle.bpf_sound.specs.Describes.{LengthWithin}
 use Rattle.bpf_cert.specs.View.{CertificateView}
 use Rattle.bpf_cert.specs.Certificates.{Spells}
 use Rattle.bpf_safety.specs.Certified.{Certified, IsLeastFlaw}
 use Rattle.bpf_safety.specs.Theorems.{IsSafe, IsFlatSafe, CertifiedIsSafe, CertifiedIsFlatSafe}
 use Rattle.bpf_check.specs.CheckedProgram.{IsCertifiedBy}
-use Rattle.bpf_check.specs.Runs.{RunsTo}
+use Rattle.bpf_flat.specs.Runs.{RunsTo, Ends}
 use Rattle.bpf_check.specs.Verdicts.{Verified, Promises, HasFlaw, Certifies, program_in}
 use Rattle.bpf_check.specs.RefusalNumbers.{refusal_slot, refusal_number}
 use Rattle.bpf_check.specs.declared.refusal.Refusal.{Refusal}
 
 -- ---- runs
-
--- the run of a certified program has the outcome that it ends, and no other
-pub ends : CertifiedIsSafe → (p : Instructions) (c : CertificateView) → IsCertifiedBy p c → (context : List ℕ) → AreBytes context → LengthWithin c.least c.most context → (outcome : Outcome) → ((other : Outcome) → IsRun p context c.steps other → other ≡ outcome) → (v : ℕ) × (k : ℕ) × (outcome ≡ Done v k)
-ends safe p c by context bytes len outcome only =
-    let e = (safe p c by.program by.certificate by.certified).ends context (record { bytes = bytes; length_within = len }) in
-    (e.value, e.steps, sym (only (Done e.value e.steps) (e.done, e.in_time)))
 
 pub runs_to : CertifiedIsFlatSafe → (p : Instructions) (c : CertificateView) → IsCertifiedBy p c → (context : List ℕ) → AreBytes context → LengthWithin c.least c.most context → (v k : ℕ) → IsDone p context v k → k ≤ c.steps → RunsTo p c.steps context v
 runs_to flat p c by context bytes len v k done le = record {
@@ -37,17 +26,10 @@ runs_to flat p c by context bytes len v k done le = record {
   flat = λ place f g j is_place starts made. flat p c by.program by.certificate by.certified context place f g v k j (record { bytes = bytes; length_within = len }) is_place starts done made;
 }
 
--- an end is neither a fault nor want of fuel
-abbrev is_done : Outcome → Bool
-is_done (Done v k) = true
-is_done (Fault slot why k) = false
-is_done OutOfFuel = false
-
-pub not_fault : (v k slot : ℕ) (why : Reason) (j : ℕ) → Done v k ≡ Fault slot why j → ⊥
-not_fault v k slot why j e = false≢true (sym (ap is_done e))
-
-pub not_out : (v k : ℕ) → Done v k ≡ OutOfFuel → ⊥
-not_out v k e = false≢true (sym (ap is_done e))
+pub ends : CertifiedIsSafe → CertifiedIsFlatSafe → (p : Instructions) (c : CertificateView) → IsCertifiedBy p c → (context : List ℕ) → AreBytes context → LengthWithin c.least c.most context → Ends p c.steps context
+ends safe flat p c by context bytes len =
+    let e = (safe p c by.program by.certificate by.certified).ends context (record { bytes = bytes; length_within = len }) in
+    (e.value, runs_to flat p c by context bytes len e.value e.steps e.done e.in_time)
 
 -- ---- verdicts
 

@@ -7,6 +7,5 @@ pub mod Arrivals
 pub mod Visits
 pub mod Counting
 pub mod CheckedProgram
-pub mod Runs
 pub mod Verdicts
 pub mod Places

@@ -3,11 +3,11 @@
 ghost use Rattle.std.specs.Prelude.{◌≡◌};
 ghost use Rattle.bpf_sound.specs.Describes.{LengthWithin};
 ghost use Rattle.bpf_check.specs.CheckedProgram.{IsCertifiedBy, IsChecked, work_of};
-ghost use Rattle.bpf_check.specs.Runs.{RunsTo};
+ghost use Rattle.bpf_flat.specs.Runs.{RunsTo};
 
 use bpf_cert::Certificate;
+use bpf_flat::run;
 use bpf_insn::Code;
-use bpf_machine::{Outcome, run};
 use bpf_safety::{certified_is_flat_safe, certified_is_safe};
 use bpf_state::Work;
 use std::marker::Model;
@@ -21,11 +21,7 @@ fn result_of<C: Code>(program: &C, certificate: &Certificate, context: &[u8]) ->
     certified_is_safe();
     certified_is_flat_safe();
     certificate.valid();
-    match run(program, context, u64::from(certificate.steps())) {
-        Outcome::Done { value, .. } => value,
-        // Never reached: a certified program ends in time.
-        Outcome::Fault { .. } | Outcome::OutOfFuel => 0,
-    }
+    run(program, context, certificate.steps())
 }
 
 /// A program with the certificate that certifies it.

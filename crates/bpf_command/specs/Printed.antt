@@ -14,7 +14,7 @@ use Rattle.bpf_cert.specs.declared.error.CertError.TheVariants.{Memory as NoCopy
 use Rattle.bpf_safety.specs.Certified.{IsLeastFlaw}
 use Rattle.bpf_check.specs.CheckedProgram.{CheckedProgram, IsCertifiedBy, checked, work_of}
 use Rattle.bpf_check.specs.RefusalNumbers.{refusal_slot, refusal_number}
-use Rattle.bpf_check.specs.Runs.{RunsTo}
+use Rattle.bpf_flat.specs.Runs.{RunsTo}
 use Rattle.bpf_check.specs.Verdicts.{Verified}
 use Rattle.bpf_infer.specs.RefusalNumbers.{infer_slot}
 use Rattle.bpf_command.specs.Context.{context_in, max_context}

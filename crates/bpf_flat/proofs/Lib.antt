@@ -1,0 +1,7 @@
+pub mod ByteLemmas
+pub mod PartLemmas
+pub mod CallLemmas
+pub mod MoveLemmas
+pub mod FlowLemmas
+pub mod PlaceLemmas
+pub mod RunLemmas
