@@ -11,8 +11,10 @@ mod labels;
 mod loops;
 mod places;
 mod rounds;
+mod sketch;
 mod walk;
 mod widen;
 
 pub use error::InferError;
 pub use inferrer::infer;
+pub use sketch::{Obstacle, Sketch, Trial, sketch_of};
