@@ -2,8 +2,12 @@
 //! refused.
 #![tactic(auto)]
 
+mod certificate;
 mod effects;
 mod flaws;
+mod form;
+mod image;
+mod inferred;
 mod known;
 mod listing;
 mod page;
@@ -13,7 +17,12 @@ mod program;
 mod report;
 mod sight;
 mod standing;
+mod text;
 mod whole;
 mod words;
 
+pub use certificate::explain_certificate;
+pub use image::explain_image;
+pub use inferred::explain_inferred;
 pub use program::{explain, explain_slot};
+pub use text::explain_text;

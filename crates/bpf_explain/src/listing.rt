@@ -80,11 +80,14 @@ fn write_claims<W: Write>(out: &mut W, state: &State) -> io::Result<()> {
     Ok(())
 }
 
-/// `at 1: budget 2 + 5*r6; r6 u1..10`
-pub fn write_label<W: Write>(out: &mut W, label: &Label) -> io::Result<()> {
+/// `at 1: budget 2 + 5*r6; r6 u1..10`, or without the budget `at 1; r6 u1..10`
+pub fn write_label<W: Write>(out: &mut W, label: &Label, has_budgets: bool) -> io::Result<()> {
     let slot = label.slot;
-    write!(out, "at {slot}: budget ")?;
-    write_budget(out, label)?;
+    write!(out, "at {slot}")?;
+    if has_budgets {
+        write!(out, ": budget ")?;
+        write_budget(out, label)?;
+    }
     write_claims(out, &label.state)?;
     write!(out, "\n")
 }
@@ -257,7 +260,7 @@ fn write_edge<'a, W: Write>(
     write!(out, "       to {to}{condition}")?;
     if edge.is_live {
         note_changes(out, &sight.after, state, "is")?;
-        if edge.is_labelled {
+        if edge.is_labelled && sight.has_budgets {
             write_slack(out, certificate, sight, edge)?;
         }
     } else {
@@ -318,7 +321,11 @@ pub fn write_edges<'a, W: Write>(
     shown: &mut State,
 ) -> io::Result<()> {
     if let (Insn::Exit, Outcome::Done) = (sight.insn, sight.outcome) {
-        return write_exit(out, sight);
+        return if sight.has_budgets {
+            write_exit(out, sight)
+        } else {
+            Ok(())
+        };
     }
     if let Some(edge) = sight.jump {
         let condition = match sight.insn {

@@ -49,7 +49,7 @@ fn tell_program<C: Code, W: Write>(
     report: &mut Report,
     out: &mut W,
 ) -> io::Result<u32> {
-    let mut sight = Sight::new();
+    let mut sight = Sight::new(report.has_budgets());
     let mut walk = Walk::new();
     let mut slot = 0;
     'visits: for _ in 0..65_536u32 {
@@ -92,6 +92,47 @@ fn write_answer<C: Code, W: Write>(
     }
 }
 
+/// Explains a program with a certificate on a page.
+pub fn explain_on<C: Code, W: Write>(
+    program: &C,
+    certificate: &Certificate,
+    page: &mut W,
+) -> io::Result<Option<Refusal>>
+    ensures accepted { IfOk result (λ o. IfNone o (IsCertifiedBy (C.program program.now) certificate.now)) }
+    ensures refused { IfOk result (λ o. IfSome o (λ r. IsLeastFlaw (C.program program.now) certificate.now (refusal_slot r) (refusal_number r))) }
+{
+    let refusal = refusal_of(program, certificate);
+    let index = Index::of(certificate);
+    write_header(page, &index)?;
+    tell_all(program, &index, View::Listing, page)?;
+    write_answer(program, &index, refusal, page)?;
+    Ok(refusal)
+}
+
+/// Writes the listing of a program with the states of a certificate without budgets, and the flaw with a number at a slot.
+pub fn tell_sketch<C: Code, W: Write>(
+    program: &C,
+    certificate: &Certificate,
+    slot: u32,
+    number: u8,
+    page: &mut W,
+) -> io::Result<()> {
+    let index = Index::of(certificate);
+    tell_all(program, &index, View::Sketch(slot, number), page)
+}
+
+/// Writes the flaw with a number at a slot, judged without budgets.
+pub fn tell_reason<C: Code, W: Write>(
+    program: &C,
+    certificate: &Certificate,
+    slot: u32,
+    number: u8,
+    page: &mut W,
+) -> io::Result<()> {
+    let index = Index::of(certificate);
+    tell_all(program, &index, View::Reason(slot, number), page)
+}
+
 /// Writes the listing of a program with what the certificate and the checker's pass know at each instruction, and the
 /// checker's answer: accepted, or refused with all flaws, the first one first. The answer is given back: None if the
 /// certificate certifies the program, else the least flaw. A fault of the writer, or a write of no bytes, ends it. It takes
@@ -104,12 +145,8 @@ pub fn explain<C: Code, W: Write>(
     ensures accepted { IfOk result (λ o. IfNone o (IsCertifiedBy (C.program program.now) certificate.now)) }
     ensures refused { IfOk result (λ o. IfSome o (λ r. IsLeastFlaw (C.program program.now) certificate.now (refusal_slot r) (refusal_number r))) }
 {
-    let refusal = refusal_of(program, certificate);
     let mut page = Page::new(out);
-    let index = Index::of(certificate);
-    write_header(&mut page, &index)?;
-    tell_all(program, &index, View::Listing, &mut page)?;
-    write_answer(program, &index, refusal, &mut page)?;
+    let refusal = explain_on(program, certificate, &mut page)?;
     page.flush()?;
     Ok(refusal)
 }

@@ -22,6 +22,10 @@ pub enum View {
     List,
     /// One instruction, with its flaws.
     Slot(u32),
+    /// The listing of states without budgets, with one flaw by its slot and number.
+    Sketch(u32, u8),
+    /// One flaw alone, by its slot and number.
+    Reason(u32, u8),
 }
 
 /// Slots at which no state is known, for one reason and without another flaw.
@@ -81,6 +85,11 @@ impl Report {
         }
     }
 
+    /// Whether budgets are told.
+    pub fn has_budgets(&self) -> bool {
+        !matches!(self.view, View::Sketch(..) | View::Reason(..))
+    }
+
     /// What a flaw's line begins with.
     fn begin<'a, W: Write>(
         &self,
@@ -90,7 +99,7 @@ impl Report {
         sight: Option<&Sight<'a>>,
     ) -> io::Result<()> {
         let number = cause.number();
-        if self.view == View::Listing {
+        if let View::Listing | View::Sketch(..) = self.view {
             return write!(out, "     ! C{number}: ");
         }
         match sight {
@@ -260,7 +269,7 @@ impl Report {
                 write_function(out, function)?;
             }
             if let Some(label) = label_in(function, slot) {
-                write_label(out, label)?;
+                write_label(out, label, self.view == View::Listing)?;
             }
         }
         Ok(())
@@ -276,6 +285,8 @@ impl Report {
     ) -> io::Result<()> {
         match self.view {
             View::Listing => self.write_standing(out, certificate, slot)?,
+            View::Sketch(..) => return self.write_standing(out, certificate, slot),
+            View::Reason(..) => return Ok(()),
             View::Slot(wanted) if wanted != slot => return Ok(()),
             View::Slot(_) | View::List => {}
         }
@@ -336,6 +347,23 @@ impl Report {
         self.tell_found(out, program, certificate, slot, Some(sight), &found)
     }
 
+    /// Tells the flaw with a number of an instruction, if it has it.
+    fn tell_one<'a, W: Write, C: Code>(
+        &mut self,
+        out: &mut W,
+        program: &C,
+        certificate: &Index,
+        sight: &Sight<'a>,
+        number: u8,
+    ) -> io::Result<()> {
+        for cause in CAUSES {
+            if cause.number() == number && sight.flaws.has(cause) {
+                self.tell_visit(out, program, certificate, sight, cause)?;
+            }
+        }
+        Ok(())
+    }
+
     /// Tells of an instruction.
     pub fn tell_sight<'a, W: Write, C: Code>(
         &mut self,
@@ -344,21 +372,26 @@ impl Report {
         certificate: &Index,
         sight: &Sight<'a>,
     ) -> io::Result<()> {
-        let is_told = match self.view {
+        match self.view {
             View::Listing => {
                 self.write_lines(out, certificate, sight)?;
-                true
+                self.tell_flaws(out, program, certificate, sight)?;
             }
-            View::List => true,
-            View::Slot(wanted) => {
-                if wanted == sight.slot {
-                    write_whole(out, sight)?;
+            View::List => self.tell_flaws(out, program, certificate, sight)?,
+            View::Slot(slot) if slot == sight.slot => {
+                write_whole(out, sight)?;
+                self.tell_flaws(out, program, certificate, sight)?;
+            }
+            View::Sketch(slot, number) => {
+                self.write_lines(out, certificate, sight)?;
+                if slot == sight.slot {
+                    self.tell_one(out, program, certificate, sight, number)?;
                 }
-                wanted == sight.slot
             }
-        };
-        if is_told {
-            self.tell_flaws(out, program, certificate, sight)?;
+            View::Reason(slot, number) if slot == sight.slot => {
+                self.tell_one(out, program, certificate, sight, number)?;
+            }
+            View::Slot(_) | View::Reason(..) => {}
         }
         self.note_silence(sight);
         Ok(())

@@ -34,6 +34,8 @@ pub struct Edge {
 /// What the pass sees at an instruction.
 #[derive(Drop)]
 pub struct Sight<'a> {
+    /// Whether the certificate has budgets.
+    pub has_budgets: bool,
     pub slot: u32,
     pub insn: Insn,
     /// The label that stands here.
@@ -62,8 +64,9 @@ pub struct Sight<'a> {
 
 impl<'a> Sight<'a> {
     /// Nothing is seen yet.
-    pub fn new() -> Self {
+    pub fn new(has_budgets: bool) -> Self {
         Sight {
+            has_budgets,
             slot: 0,
             insn: Insn::Exit,
             label: None,

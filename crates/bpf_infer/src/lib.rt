@@ -13,9 +13,11 @@ mod lines;
 mod loops;
 mod places;
 mod rounds;
+mod sketch;
 mod walk;
 mod widen;
 
 pub use deep::search;
 pub use error::InferError;
 pub use inferrer::infer;
+pub use sketch::{Obstacle, Sketch, Trial, sketch_of};

@@ -38,7 +38,7 @@ pub struct Loop {
 /// The loops of a program by their heads, and the number of the one that each block is in.
 #[derive(Drop)]
 pub struct Loops {
-    loops: Vec<Loop>,
+    pub loops: Vec<Loop>,
     loop_of: Vec<Option<usize>>,
 }
 
@@ -55,7 +55,7 @@ impl Loops {
     }
 
     /// I2 at the head of the lowest loop in which another one begins.
-    fn of(alloc: Global, walk: &Walk, rounds: &Rounds) -> Result<Loops, InferError>
+    pub fn of(alloc: Global, walk: &Walk, rounds: &Rounds) -> Result<Loops, InferError>
         requires { 0 < walk.now.outline.now }
         ensures { IfErr result (IsRefusalIn walk.now.outline.now) }
     {
@@ -105,9 +105,9 @@ impl Loops {
 
 /// By how much each place has moved on the ways to a label, at the least and at the most.
 #[derive(Clone, Copy, Debug)]
-struct Moves {
-    least: [i64; PLACES],
-    greatest: [i64; PLACES],
+pub struct Moves {
+    pub least: [i64; PLACES],
+    pub greatest: [i64; PLACES],
 }
 
 impl Moves {
@@ -135,15 +135,15 @@ impl Moves {
 
 /// A walk over the blocks of a loop that looks where its places go.
 #[derive(Drop)]
-struct Search {
+pub struct Search {
     head: usize,
     last: usize,
     /// Whether each place holds on each edge what it held at the label before, and an offset more.
-    is_tagged: [bool; PLACES],
+    pub is_tagged: [bool; PLACES],
     /// The moves from the head to each block from it on, None where no way leads.
     moves: Vec<Option<Moves>>,
     /// The moves on all ways from the head to itself.
-    around: Option<Moves>,
+    pub around: Option<Moves>,
 }
 
 fn taken_in(held: Option<Moves>, moves: &Moves) -> Moves {
@@ -260,13 +260,13 @@ impl Search {
     }
 }
 
-/// What falls on each way from the head of a loop to itself, or rises up to a limit. I2 at the head if nothing does.
-fn counter_of(
+/// Where the places of a loop go on the ways from its head to itself.
+pub fn searched(
     alloc: Global,
     walk: &Walk,
     rounds: &Rounds,
     found: Loop,
-) -> Result<Option<Counter>, InferError>
+) -> Result<Search, InferError>
     requires { 0 < walk.now.outline.now }
     ensures { IfErr result (IsRefusalIn walk.now.outline.now) }
 {
@@ -280,6 +280,20 @@ fn counter_of(
     };
     put(&mut search.moves, 0, Some(Moves::NONE));
     search.walk_over(walk, rounds)?;
+    Ok(search)
+}
+
+/// What falls on each way from the head of a loop to itself, or rises up to a limit. I2 at the head if nothing does.
+fn counter_of(
+    alloc: Global,
+    walk: &Walk,
+    rounds: &Rounds,
+    found: Loop,
+) -> Result<Option<Counter>, InferError>
+    requires { 0 < walk.now.outline.now }
+    ensures { IfErr result (IsRefusalIn walk.now.outline.now) }
+{
+    let search = searched(alloc, walk, rounds, found)?;
     let Some(around) = search.around else {
         return Ok(None);
     };

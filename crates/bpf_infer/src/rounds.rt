@@ -95,7 +95,8 @@ impl Visitor for Rounds {
 }
 
 impl Rounds {
-    fn new(alloc: Global, walk: &Walk) -> Result<Rounds, AllocError> {
+    /// No state is reached yet.
+    pub fn new(alloc: Global, walk: &Walk) -> Result<Rounds, AllocError> {
         let count = walk.outline.block_count();
         Ok(Rounds {
             states: no_states(alloc, count)?,
@@ -115,7 +116,8 @@ impl Rounds {
         }
     }
 
-    fn reach(&mut self, block: usize, state: &State, is_wide: bool) {
+    /// Takes note that a label is reached in a state.
+    pub fn reach(&mut self, block: usize, state: &State, is_wide: bool) {
         if self.lies_in(block, state) {
             return;
         }
@@ -182,7 +184,13 @@ impl Rounds {
         })
     }
 
-    fn settle_depth(&mut self, walk: &Walk, depths: &Depths, depth: u32) -> Result<(), InferError>
+    /// Goes over the functions of a depth until nothing changes.
+    pub fn settle_depth(
+        &mut self,
+        walk: &Walk,
+        depths: &Depths,
+        depth: u32,
+    ) -> Result<(), InferError>
         requires { 0 < walk.now.outline.now }
         ensures { IfErr result (IsRefusalIn walk.now.outline.now) }
     {
