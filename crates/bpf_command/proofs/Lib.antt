@@ -8,4 +8,5 @@ pub mod MadeLemmas
 pub mod JudgedLemmas
 pub mod TakenLemmas
 pub mod LinesLemmas
+pub mod WholeLemmas
 pub mod EachLemmas

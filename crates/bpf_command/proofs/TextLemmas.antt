@@ -1,5 +1,5 @@
 -- What was read of a text.
-use Rattle.std.proofs.Common.{◌≡◌, ◌<◌, ℕ, length, length-append, arith, List, [], ◌++◌, take, Option, Some, None, IfSome, refl, ap, sym, ◌∙◌, subst}
+use Rattle.std.proofs.Common.{◌≡◌, ℕ, List, [], ◌++◌, take, Option, Some, None, IfSome, refl, ap, sym, ◌∙◌, subst}
 use Rattle.std.proofs.lemmas.List.{append-nil}
 use Rattle.std.specs.Io.KnownBytes.{Consumes, IsAtEnd}
 use Rattle.std.proofs.KnownBytes.{Consumes-trans}
@@ -7,7 +7,7 @@ use Rattle.bpf_command.specs.Opened.{Fails, Opening}
 use Rattle.bpf_command.specs.Loaded.{TextAt}
 
 -- behind the last byte, all were taken
-pub at_end : (known rest : Option (List ℕ)) (got : List ℕ) → Consumes known rest got → IsAtEnd rest → IfSome known (λ bytes. got ≡ bytes)
+at_end : (known rest : Option (List ℕ)) (got : List ℕ) → Consumes known rest got → IsAtEnd rest → IfSome known (λ bytes. got ≡ bytes)
 at_end None rest got c e = tt
 at_end (Some xs) None got c e = absurd c
 at_end (Some xs) (Some ys) got c e = sym (c ∙ ap (λ zs. got ++ zs) e ∙ append-nil got)
@@ -34,13 +34,3 @@ read_is items read v known Q is h q = if_some known (λ bytes same. subst Q same
 -- what is said of the text that was read is said of the one at the name
 pub text_says : {S : Type 0} (opening : Opening S) (old : S) (name : List ℕ) (new : S) (text : List ℕ) (Q : List ℕ → Type 0) → TextAt opening old name new (λ bytes. text ≡ bytes) → Q text → TextAt opening old name new Q
 text_says opening old name new text Q h q = (h.0, h.1, if_some h.0 (λ bytes same. subst Q same q) h.2)
-
-pub some_is : {V : Type 0} (read : Option V) (v : V) (P : V → Type 0) → read ≡ Some v → IfSome read P → P v
-some_is read v P is h = subst (λ r. IfSome r P) is h
-
--- where so many were taken, there are as many
-pub too_many : (known rest : Option (List ℕ)) (got : List ℕ) (n : ℕ) → Consumes known rest got → n < length got → IfSome known (λ text. n < length text)
-too_many None rest got n took h = tt
-too_many (Some xs) None got n took h = absurd took
-too_many (Some xs) (Some ys) got n took h =
-    let all = ap (λ zs. length zs) took ∙ length-append got ys in omega (arith, all, h)

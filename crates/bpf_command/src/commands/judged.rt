@@ -15,9 +15,11 @@ use crate::commands::certificate::{certificate_at, refuse_program, refuse_text};
 use crate::commands::each::{Runner, answered};
 use crate::failure::{DONE, Failure, REFUSED, say};
 use crate::places::Places;
+use arrayvec::ArrayString;
 use bpf_check::{Checked, check};
 use bpf_insn::Code;
 use bpf_state::Work;
+use itoa::Buffer;
 use std::alloc::{AllocError, Global};
 use std::io::Write;
 
@@ -107,12 +109,16 @@ fn refuse_context<'a, W: Write>(
     Ok(REFUSED)
 }
 
-/// Prints the number with which a program ends.
-fn say_result<'a, W: Write>(alloc: Global, out: &mut W, value: u64) -> Result<u8, Failure<'a>>
+/// Prints the number with which a program ends. Takes no memory.
+fn say_result<'a, W: Write>(out: &mut W, value: u64) -> Result<u8, Failure<'a>>
     ensures ok { IfOk result (λ status. Says (Ends value) status (W.contents out.old) (W.contents out.new)) }
     ensures err { IfErr result OutputFails }
 {
-    let line = format!(in alloc; "done {value}\n")?;
+    let mut digits = Buffer::new();
+    let mut line: ArrayString<32> = ArrayString::new();
+    line.push_str("done ");
+    line.push_str(digits.format(value));
+    line.push_str("\n");
     say(out, line.as_str())?;
     Ok(DONE)
 }
@@ -133,7 +139,7 @@ fn run_on<'a, C: Code, W: Write>(
     if count < least as usize || count > most as usize {
         return refuse_context(alloc, out, count, least, most);
     }
-    say_result(alloc, out, checked.run(context))
+    say_result(out, checked.run(context))
 }
 
 /// Prints what is wanted of a checked program.
