@@ -12,9 +12,9 @@ mod task;
 mod thresholds;
 mod tolerant;
 
-ghost use Rattle.std.specs.Prelude.{◌≡◌, ◌<◌, ◌≤◌, IfErr};
+ghost use Rattle.std.specs.Prelude.{◌<◌, ◌≤◌, IfErr};
 ghost use Rattle.bpf_insn.specs.Instruction.{slots};
-ghost use Rattle.bpf_infer.specs.RefusalNumbers.{infer_slot, IsCondition, IsRefusalIn};
+ghost use Rattle.bpf_infer.specs.RefusalNumbers.{IsRefusalIn};
 
 use crate::error::InferError;
 use crate::functions::{Depths, check_bounds, depths_of};
@@ -22,7 +22,7 @@ use crate::labels::Outline;
 use crate::rounds::put;
 use arrayvec::ArrayVec;
 use bpf_cert::{Budget, Function, Label};
-use bpf_insn::{Code, Program};
+use bpf_insn::Program;
 use bpf_num::Num;
 use bpf_state::State;
 use dead::{Seeds, add_seeds};

@@ -2,7 +2,7 @@
 
 ghost use Rattle.std.specs.Prelude.{◌≤◌};
 
-use super::sums::{Held, held, take_in};
+use super::sums::{Held, held};
 use super::task::{Task, Watcher};
 use crate::rounds::put;
 use bpf_insn::{Insn, Reg};

@@ -1,8 +1,7 @@
 //! States that say no more than what is read.
 
 use super::judge::{Wrong, walk_all};
-use super::region::Region;
-use super::sums::{Held, held};
+use super::sums::Held;
 use super::task::{Task, Watcher};
 use super::tolerant::{fetched, touched};
 use crate::flow::Flow;

@@ -1,7 +1,7 @@
 //! A function cut into segments at its labels.
 
 use crate::flow::Flow;
-use bpf_insn::{Code, Insn, Program};
+use bpf_insn::{Insn, Program};
 use std::alloc::{AllocError, Global};
 
 /// The slots of a function, cut at its first, at the targets of its jumps and at further slots that are asked for. From a

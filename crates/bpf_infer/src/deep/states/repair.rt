@@ -3,7 +3,7 @@
 use super::task::Task;
 use crate::places::REGISTERS;
 use bpf_insn::{AluOp, Insn, Operand, Reg, Width};
-use bpf_num::{Num, WordDomain};
+use bpf_num::Num;
 use bpf_state::{RegState, SlotState, State};
 
 /// Where in the frame an access of dead code is led to.
