@@ -216,12 +216,12 @@ pub extern "C" fn bpf_host_infer(
 /// how many bytes that is, 0 where there is no such refusal; as many as have room stand in `text`.
 #[unsafe(no_mangle)]
 pub extern "C" fn bpf_host_refusal_text(kind: u32, number: u32, text: &mut [u8]) -> usize
-    ensures none { (IsNumbered kind number → ⊥) → result ≡ 0 }
+    ensures numbered { (0 < result) ↔ IsNumbered kind number }
     ensures given { (words : List ℕ) × (length words ≡ result) × (text.new ≡ take (length text.old) words ++ drop result text.old) }
 {
     match text_of(kind, number) {
         Some(words) => {
-            give_beginning(words.as_bytes(), text);
+            give_beginning(words, text);
             words.len()
         }
         None => 0,
