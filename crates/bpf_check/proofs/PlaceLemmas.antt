@@ -1,14 +1,13 @@
 -- Where each label lies in its function, the label at a slot is one of the function there.
-use Rattle.std.proofs.Common.{◌≡◌, ℕ, ◌+◌, ◌<◌, ◌≤◌, Bool, true, false, cond, not, List, [], ◌∷◌, ◌++◌, length, map, take, get_or, Option, Some, None, refl, sym, ap, subst, ◌∙◌, arith}
-use Rattle.std.specs.Prelude.{option_map, option_and_then, nat_le, ◌==◌, IsSome}
+use Rattle.std.proofs.Common.{◌≡◌, ℕ, ◌<◌, ◌≤◌, Bool, true, false, cond, not, List, [], ◌∷◌, ◌++◌, Option, Some, None, refl, sym, ap, subst, ◌∙◌, arith}
+use Rattle.std.specs.Prelude.{option_map, nat_le, ◌==◌}
 use Rattle.std.specs.List.{list_all, flat_map}
-use Rattle.std.proofs.lemmas.Bool.{true≢false, and_parts, leb-true, leb-false, le-leb, lt-leb, eq-eqb, ne_eqb, cond-true, cond-false}
+use Rattle.std.proofs.lemmas.Bool.{true≢false, and_parts, le-leb, lt-leb, eq-eqb, ne_eqb, cond-true, cond-false}
 use Rattle.std.proofs.lemmas.Bool.Decides.{Decides-eqb}
 use Rattle.std.proofs.lemmas.Option.{none-some, same_Some}
-use Rattle.bpf_cert.specs.View.{LabelView, FunctionView, CertificateView, function_view, label_view}
+use Rattle.bpf_cert.specs.View.{LabelView, FunctionView, CertificateView}
 use Rattle.bpf_cert.specs.Limits.{IsCertificate, is_canonical_function}
-use Rattle.bpf_cert.specs.Faults.{is_rising}
-use Rattle.bpf_safety.specs.Labels.{labels, label_at, last_from, function_at, first_with}
+use Rattle.bpf_safety.specs.Labels.{label_at, function_at, first_with}
 use Rattle.bpf_safety.specs.Flaw.{is_not, is_outside}
 use Rattle.bpf_check.specs.Search.{last_up_to, with_key}
 use Rattle.bpf_check.specs.Places.{holds_labels, are_in_place}
