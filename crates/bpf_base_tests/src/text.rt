@@ -1,3 +1,4 @@
 //! Texts and listings.
 
+mod pieces;
 mod texts;

@@ -1,11 +1,14 @@
 -- What stands at names: the image of a program, and a certificate.
-use Rattle.std.specs.Prelude.{◌≡◌, ◌⊎◌, ℕ, Bool, true, false, List, Option, Some, None, IfSome}
+use Rattle.std.specs.Prelude.{◌≡◌, ◌⊎◌, ◌<◌, length, ℕ, Bool, true, false, List, Option, Some, None, IfSome}
 use Rattle.bpf_insn.specs.Instruction.{Instructions}
 use Rattle.bpf_insn.specs.Laws.{IsImageOfProgram}
 use Rattle.bpf_insn.specs.Refusal.{IsRefused}
 use Rattle.bpf_insn.specs.declared.order.Order.{Order}
 use Rattle.bpf_insn.specs.declared.refusal.DecodeError.{DecodeError}
 use Rattle.bpf_insn.specs.declared.refusal.DecodeError.TheVariants.{Memory}
+use Rattle.bpf_text.specs.Assembly.{max_text}
+use Rattle.bpf_text.specs.declared.error.TextError.{TextError}
+use Rattle.bpf_text.specs.declared.error.TextError.TheVariants.{TooLong}
 use Rattle.bpf_cert.specs.View.{CertificateView}
 use Rattle.bpf_cert.specs.Certificates.{Spells}
 use Rattle.bpf_cert.specs.ReadAnswers.{IsFaultOf}
@@ -45,6 +48,14 @@ ImageFails opening old input new failure = OutputFails failure
 -- what the name is opened to, with what is said of its text, where that is known
 abbrev pub TextAt : {S : Type 0} → Opening S → S → List ℕ → S → (List ℕ → Type 0) → Type 0
 TextAt opening old name new says = (text : Option (List ℕ)) × opening old name (Some text) new × IfSome text says
+
+-- all bytes of a text were read, or it has more than a text may have and so have those that were read
+abbrev pub ReadsText : List ℕ → List ℕ → Type 0
+ReadsText read bytes = (read ≡ bytes) ⊎ ((max_text < length read) × (max_text < length bytes))
+
+-- the text at the name is too long
+abbrev pub TextTooLong : {S : Type 0} → Opening S → S → List ℕ → S → TextError → Type 0
+TextTooLong opening old name new e = (e ≡ TooLong) × TextAt opening old name new (λ text. max_text < length text)
 
 -- the name can't be opened, its reader fails, or its text isn't UTF-8
 abbrev pub TextFails : {S : Type 0} → Opening S → S → List ℕ → S → Failure → Type 0

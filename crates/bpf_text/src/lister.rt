@@ -91,8 +91,10 @@ fn put_number<W: Write>(
     ensures ok { OnOk result (Gathers (W.contents out.old) (W.contents out.new) pending.old pending.new (front.now ++ digits base false value)) }
     ensures err { OnErr result (AppendsBeginning (W.contents out.old) (W.contents out.new) (pending.old ++ (front.now ++ digits base false value))) }
 {
-    pending.put(out, front.as_bytes())?;
-    pending.put(out, digits_of(value, base).as_bytes())
+    match pending.put(out, front.as_bytes()) {
+        Ok(()) => pending.put(out, digits_of(value, base).as_bytes()),
+        Err(error) => Err(error),
+    }
 }
 
 /// Puts a number in decimal, with one text in front from 0 on and another below.
@@ -151,7 +153,10 @@ fn put_pieces<W: Write>(pending: &mut Pending, out: &mut W, pieces: &[Piece]) ->
     ensures err { OnErr result (AppendsBeginning (W.contents out.old) (W.contents out.new) (pending.old ++ (flat_map piece_text pieces.now))) }
 {
     for piece in pieces {
-        put_piece(pending, out, piece)?;
+        match put_piece(pending, out, piece) {
+            Ok(()) => {}
+            Err(error) => return Err(error),
+        }
     }
     Ok(())
 }

@@ -1,11 +1,11 @@
 //! `bpf asm IN OUT`.
 
-ghost use Rattle.std.specs.Prelude.{◌≡◌, IfOk, IfErr, IfSome};
+ghost use Rattle.std.specs.Prelude.{◌≡◌, IfOk, IfErr, IfSome, MatchResult};
 ghost use Rattle.std.specs.String.{string_bytes};
 ghost use Rattle.bpf_command.specs.Answer.{Answer, Says, text_of};
 ghost use Rattle.bpf_command.specs.Answer.Answer.{NoText};
 ghost use Rattle.bpf_command.specs.Opened.{opening};
-ghost use Rattle.bpf_command.specs.Loaded.{TextAt, TextFails};
+ghost use Rattle.bpf_command.specs.Loaded.{TextAt, TextFails, ReadsText, TextTooLong};
 ghost use Rattle.bpf_command.specs.Made.{making};
 ghost use Rattle.bpf_command.specs.Printed.{AsmSays, AsmFails};
 ghost use Rattle.bpf_command.specs.Told.{OutputFails};
@@ -14,13 +14,13 @@ use crate::commands::output::put;
 use crate::failure::{Failure, REFUSED, say};
 use crate::places::Places;
 use bpf_insn::Order;
-use bpf_text::{TextError, assemble};
+use bpf_text::{MAX_TEXT, TextError, assemble};
 use std::alloc::{AllocError, Global};
 use std::io::{Read, Write};
 
-/// The bytes of a reader to its end; None if it fails.
+/// The bytes of a reader to its end, or the first of more than a text may have; None if it fails.
 fn read_all<R: Read>(alloc: Global, reader: &mut R) -> Result<Option<Vec<u8>>, AllocError>
-    ensures { IfOk result (λ read. IfSome read (λ v. IfSome (R.remaining reader.old) (λ bytes. v.items ≡ bytes))) }
+    ensures { IfOk result (λ read. IfSome read (λ v. IfSome (R.remaining reader.old) (λ bytes. ReadsText v.items bytes))) }
 {
     let mut bytes = Vec::new(alloc);
     let mut chunk = [0; 4096];
@@ -32,17 +32,20 @@ fn read_all<R: Read>(alloc: Global, reader: &mut R) -> Result<Option<Vec<u8>>, A
             return Ok(Some(bytes));
         }
         bytes.extend_from_slice(&chunk[..count])?;
+        if bytes.len() > MAX_TEXT {
+            return Ok(Some(bytes));
+        }
     }
     Ok(None)
 }
 
-/// The text at a name. It can't be read where it isn't UTF-8.
+/// The text at a name, or A8. It can't be read where it isn't UTF-8.
 fn text_at<'a, P: Places>(
     alloc: Global,
     places: &mut P,
     name: &'a str,
-) -> Result<String, Failure<'a>>
-    ensures ok { IfOk result (λ text. TextAt (opening P.opens P.Reader.remaining) places.old name.entry.now places.new (λ bytes. string_bytes text ≡ bytes)) }
+) -> Result<Result<String, TextError>, Failure<'a>>
+    ensures ok { IfOk result (λ read. MatchResult read (λ text. TextAt (opening P.opens P.Reader.remaining) places.old name.entry.now places.new (λ bytes. string_bytes text ≡ bytes)) (TextTooLong (opening P.opens P.Reader.remaining) places.old name.entry.now places.new)) }
     ensures err { IfErr result (TextFails (opening P.opens P.Reader.remaining) places.old name.entry.now places.new) }
 {
     let Ok(mut reader) = places.open(name) else {
@@ -51,10 +54,13 @@ fn text_at<'a, P: Places>(
     let Some(bytes) = read_all(alloc, &mut reader)? else {
         return Err(Failure::CannotRead(name));
     };
+    if bytes.len() > MAX_TEXT {
+        return Ok(Err(TextError::TooLong));
+    }
     let Ok(text) = String::from_utf8(bytes) else {
         return Err(Failure::CannotRead(name));
     };
-    Ok(text)
+    Ok(Ok(text))
 }
 
 /// The line of a refusal.
@@ -73,6 +79,7 @@ fn line_of(alloc: Global, error: TextError) -> Result<String, AllocError>
             format!(in alloc; "no A6 at line {line} (E{cause} at slot {slot})\n")
         }
         TextError::Memory => String::from_str(alloc, "no A7 at line 0\n"),
+        TextError::TooLong => String::from_str(alloc, "no A8 at line 0\n"),
     }
 }
 
@@ -102,7 +109,10 @@ pub fn assembled<'a, P: Places, W: Write>(
     ensures ok { IfOk result (λ status. (answer : Answer) × Says answer status (W.contents out.old) (W.contents out.new) × AsmSays (opening P.opens P.Reader.remaining) (making P.creates P.ends P.Writer.contents) order places.old input.entry.now output.entry.now places.new answer) }
     ensures err { IfErr result (AsmFails (opening P.opens P.Reader.remaining) (making P.creates P.ends P.Writer.contents) order places.old input.entry.now output.entry.now places.new) }
 {
-    let text = text_at(alloc, places, input)?;
+    let text = match text_at(alloc, places, input)? {
+        Ok(text) => text,
+        Err(error) => return refuse_text(alloc, out, error),
+    };
     match assemble(alloc, text.as_str(), order) {
         Ok(program) => put(places, output, &program),
         Err(error) => refuse_text(alloc, out, error),
