@@ -50,7 +50,7 @@ impl Row {
     }
 }
 
-static ROWS: [Row; 179] = [
+static ROWS: [Row; 178] = [
     Prints("groups smallest", "base\n"),
     Prints("groups remainder", "base divmul\n"),
     Prints("groups fetch", "base atomic\n"),
@@ -405,10 +405,6 @@ static ROWS: [Row; 179] = [
         "standard input twice\n",
     ),
     // The deep search is asked for as the inferrer is.
-    Puts(
-        "infer --deep smallest 0 o",
-        b"bpfcert 2 0 0 2\nfn 0 1 *\nat 0 2\nend\n",
-    ),
     Refuses("infer --deep one-byte 0 o", "no E1 at slot 0\n"),
     Refuses("infer --deep recursive 0 o", "no I3 at slot 0\n"),
     Fails("infer --deep nowhere 0 o", 3, "cannot read nowhere\n"),
