@@ -4,6 +4,7 @@ use crate::deep::ranking::draft::{Price, span_at};
 use crate::deep::ranking::ways::{Way, Ways};
 use crate::lines::{Line, Span};
 use crate::loops::Counter;
+use crate::places::number_at;
 use crate::rounds::put;
 use bpf_cert::Function;
 use bpf_state::Tag;
@@ -77,6 +78,14 @@ impl<'a> Plan<'a> {
         match self.function.labels.get(label) {
             Some(label) => span_at(label, number),
             None => Span::ALL,
+        }
+    }
+
+    /// Whether a place holds a number at a label.
+    pub fn is_number(&self, label: usize, number: usize) -> bool {
+        match self.function.labels.get(label) {
+            Some(label) => number_at(&label.state, number).is_some(),
+            None => false,
         }
     }
 
