@@ -2,6 +2,10 @@
 #![tactic(auto)]
 
 #[cfg(test)]
+mod inferred;
+#[cfg(test)]
+mod inputs;
+#[cfg(test)]
 mod listings;
 #[cfg(test)]
 mod reasons;
