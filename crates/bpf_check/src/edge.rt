@@ -3,7 +3,6 @@
 ghost use Rattle.std.specs.Prelude.{◌≡◌, ◌≤◌, option_map, option_copied, IfSome, IsTrue};
 ghost use Rattle.bpf_cert.specs.View.{FunctionView, function_view};
 ghost use Rattle.bpf_cert.specs.Limits.{is_limited_function};
-ghost use Rattle.bpf_insn.specs.Instruction.{target};
 ghost use Rattle.bpf_safety.specs.Labels.{function_at};
 ghost use Rattle.bpf_safety.specs.Flow.{callee, jump_target, goes_on};
 ghost use Rattle.bpf_safety.specs.Flaw.{lacks_label, calls_no_deeper, leaves_function, leaves_for, next_slot, calls_nowhere, is_not};
@@ -12,16 +11,7 @@ ghost use Rattle.bpf_check.specs.Edges.{visit};
 use crate::index::Index;
 use crate::labels::{function_at, function_from, label_at};
 use bpf_cert::Function;
-use bpf_insn::{Code, Insn};
-
-/// The slot at a distance from the next one, if it isn't negative.
-fn target(slot: u32, off: i32) -> Option<u32>
-    requires { slot ≤ 65536 }
-    ensures { result ≡ target slot off }
-{
-    let to = i64::from(slot) + 1 + i64::from(off);
-    if to < 0 { None } else { Some(to as u32) }
-}
+use bpf_insn::{Code, Insn, target};
 
 /// Where a jump leads.
 pub fn jump_target(slot: u32, insn: &Insn) -> Option<u32>
