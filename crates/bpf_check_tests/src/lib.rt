@@ -5,6 +5,8 @@
 #[cfg(test)]
 mod cert;
 #[cfg(test)]
+mod deep;
+#[cfg(test)]
 mod examples;
 #[cfg(test)]
 mod flat;
