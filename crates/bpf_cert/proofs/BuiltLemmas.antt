@@ -11,9 +11,9 @@ use Rattle.bpf_cert.specs.Faults.{is_canonical, is_limited, has_room, judged, ma
 use Rattle.bpf_cert.specs.Reading.{line_in}
 use Rattle.bpf_cert.specs.View.{label_view}
 use Rattle.bpf_cert.specs.Spelling.{is_unknown, contents, header_line, label_lines, label_line, lines_from, entry_lines, place_at, place_of, content_of}
-use Rattle.bpf_cert.specs.Standing.{Stands, IsEntry, ruled, stage_of, is_start, may_have_label, may_have_entry}
-use Rattle.bpf_cert.specs.Sound.{IsSound}
-use Rattle.bpf_cert.specs.Building.{IsBuilt, IsOpen, Closes, ClosesLabel, Puts, Takes, closed_lines, open_lines, lines_at, index_of, next_index, fault_at}
+use Rattle.bpf_cert.specs.code.Standing.{Stands, IsEntry, ruled, stage_of, is_start, may_have_label, may_have_entry}
+use Rattle.bpf_cert.specs.code.Sound.{IsSound}
+use Rattle.bpf_cert.specs.code.Building.{IsBuilt, IsOpen, Closes, ClosesLabel, Puts, Takes, closed_lines, open_lines, lines_at, index_of, next_index, fault_at}
 use Rattle.bpf_cert.specs.declared.finding.Flaw.{Flaw}
 use Rattle.bpf_cert.specs.declared.finding.Flaw.TheVariants as flaws
 use Rattle.bpf_cert.specs.declared.error.CertError.{CertError}

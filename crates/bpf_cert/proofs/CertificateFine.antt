@@ -10,7 +10,7 @@ use Rattle.bpf_cert.specs.Faults.{is_rising, comes_after, is_function}
 use Rattle.bpf_cert.specs.View.{LabelView, FunctionView, CertificateView, header_of}
 use Rattle.bpf_cert.specs.Limits.{IsCertificate, is_canonical, is_limited, is_canonical_function, is_canonical_label, is_limited_function, is_limited_label, is_limited_num, slot_before, first_before, label_count}
 use Rattle.bpf_cert.specs.Spelling.{label_lines, function_line, function_lines, header_line, certificate_lines, number_of}
-use Rattle.bpf_cert.specs.Standing.{is_start, may_have_label}
+use Rattle.bpf_cert.specs.code.Standing.{is_start, may_have_label}
 use Rattle.bpf_cert.specs.declared.header.Header.{Header}
 use Rattle.bpf_cert.specs.declared.standing.Stage.{Stage}
 use Rattle.bpf_cert.specs.declared.standing.Stage.TheVariants as stage

@@ -7,10 +7,10 @@ use Rattle.std.proofs.lemmas.Int.{ints}
 use Rattle.bpf_cert.specs.Numeral.{SignedDigits, is_numeral, is_plain, number, is_plain_signed}
 use Rattle.bpf_cert.specs.Line.{Place, Content, Number, is_content}
 use Rattle.bpf_cert.specs.Faults.{is_int_range, is_canonical_content, is_limited_content}
-use Rattle.bpf_cert.specs.Findings.{tested, found, valued}
+use Rattle.bpf_cert.specs.code.Findings.{tested, found, valued}
 use Rattle.bpf_cert.specs.Reading.{◌>>=◌, or_else, pointer_in, bytes_in, number_in, content_in}
-use Rattle.bpf_cert.specs.Seen.{capped_signed}
-use Rattle.bpf_cert.specs.Contents.{digits_of_bounds, are_plain_bounds, are_limited_bounds}
+use Rattle.bpf_cert.specs.code.Seen.{capped_signed}
+use Rattle.bpf_cert.specs.code.Contents.{digits_of_bounds, are_plain_bounds, are_limited_bounds}
 use Rattle.bpf_cert.proofs.NumeralLaws.{plain_decimal}
 use Rattle.bpf_cert.proofs.Bools.{both_true}
 use Rattle.bpf_cert.proofs.NumLemmas.{not_true, tested_ok, AreBounds, capped_range, in_range, signed_again}

@@ -2,7 +2,7 @@
 use Rattle.std.proofs.Common.{◌≡◌, Bool, true, false, cond, not, List, [], ◌∷◌, ◌++◌, Result, Ok, Err, refl, ap, ◌∙◌}
 use Rattle.std.specs.Prelude.{◌&&◌}
 use Rattle.std.specs.List.{list_all}
-use Rattle.bpf_cert.specs.Findings.{tested, joined, valued}
+use Rattle.bpf_cert.specs.code.Findings.{tested, joined, valued}
 use Rattle.bpf_cert.specs.declared.finding.Flaw.{Flaw}
 use Rattle.bpf_cert.specs.declared.finding.Flaw.TheVariants.{NotCanonical, Limit}
 

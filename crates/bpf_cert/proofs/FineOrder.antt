@@ -11,7 +11,7 @@ use Rattle.bpf_cert.specs.Faults.{is_rising, place_before, last_first, last_slot
 use Rattle.bpf_cert.specs.View.{LabelView}
 use Rattle.bpf_cert.specs.Limits.{is_canonical_state, is_canonical_label, is_limited_label, is_limited_state, is_limited_register, is_limited_slot, is_limited_term, term_before}
 use Rattle.bpf_cert.specs.Spelling.{is_unknown, contents, content_of, place_at, lines_from, label_line, label_lines, term_of}
-use Rattle.bpf_cert.specs.Standing.{stage_of, may_have_label, may_have_entry}
+use Rattle.bpf_cert.specs.code.Standing.{stage_of, may_have_label, may_have_entry}
 use Rattle.bpf_cert.specs.declared.standing.Stage.{Stage}
 use Rattle.bpf_cert.specs.declared.standing.Stage.TheVariants as stage
 use Rattle.bpf_state.specs.State.{AbstractState, value_slot}

@@ -5,7 +5,7 @@ use Rattle.std.specs.Str.{bytes_eq}
 use Rattle.bpf_cert.specs.Numeral.{is_numeral}
 use Rattle.bpf_cert.specs.Line.{Line, Lengths}
 use Rattle.bpf_cert.specs.Reading.{◌>>=◌, numeral_in, one_length_in, two_lengths_in, header_in}
-use Rattle.bpf_cert.specs.Standing.{HeaderIs, uncons, two_of, three_of}
+use Rattle.bpf_cert.specs.code.Standing.{HeaderIs, uncons, two_of, three_of}
 use Rattle.bpf_cert.proofs.Bools.{both_true}
 use Rattle.bpf_cert.proofs.StandingLemmas.{three_is, numeral_yes, numeral_no, uncons_none, uncons_some}
 

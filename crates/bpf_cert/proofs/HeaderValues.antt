@@ -6,7 +6,7 @@ use Rattle.bpf_cert.specs.Numeral.{is_numeral, is_plain, number, is_from_to}
 use Rattle.bpf_cert.specs.Line.{Line, Lengths, is_line}
 use Rattle.bpf_cert.specs.Faults.{is_canonical, is_limited}
 use Rattle.bpf_cert.specs.Limits.{is_version, is_limited_header}
-use Rattle.bpf_cert.specs.Findings.{tested, found, valued}
+use Rattle.bpf_cert.specs.code.Findings.{tested, found, valued}
 use Rattle.bpf_cert.specs.Spelling.{lengths_of, header_line}
 use Rattle.bpf_cert.specs.declared.finding.Flaw.{Flaw}
 use Rattle.bpf_cert.specs.declared.header.Header.{Header}

@@ -7,11 +7,11 @@ use Rattle.bpf_cert.specs.Numeral.{is_plain, number, is_from_to}
 use Rattle.bpf_cert.specs.Line.{Line, Place, Number, Content, Term, Lengths}
 use Rattle.bpf_cert.specs.Faults.{is_canonical, is_limited, comes_after, place_before, last_first, last_slot, is_function, ends_bare, is_canonical_number, is_limited_number, is_canonical_content, is_limited_content, is_plain_place, is_limited_place, is_rising, is_limited_term}
 use Rattle.bpf_cert.specs.Reading.{number_in, content_in, header_in, function_in, label_in, entry_in, end_in, line_in, line_of_fields}
-use Rattle.bpf_cert.specs.Findings.{tested, found, joined, valued}
-use Rattle.bpf_cert.specs.TermSums.{terms_in, are_canonical_terms, are_limited_terms, is_plain_term, term_before}
+use Rattle.bpf_cert.specs.code.Findings.{tested, found, joined, valued}
+use Rattle.bpf_cert.specs.code.TermSums.{terms_in, are_canonical_terms, are_limited_terms, is_plain_term, term_before}
 use Rattle.bpf_cert.specs.Spelling.{place_of}
-use Rattle.bpf_cert.specs.Standing.{Stands, HeaderIs, FunctionIs, LabelIs, EntryIs, stage_of, is_start, may_have_label, may_have_entry, ruled, fields_in, uncons}
-use Rattle.bpf_cert.specs.Seen.{header_seen}
+use Rattle.bpf_cert.specs.code.Standing.{Stands, HeaderIs, FunctionIs, LabelIs, EntryIs, stage_of, is_start, may_have_label, may_have_entry, ruled, fields_in, uncons}
+use Rattle.bpf_cert.specs.code.Seen.{header_seen}
 use Rattle.bpf_cert.specs.declared.header.HeaderForm.{HeaderForm}
 use Rattle.bpf_cert.specs.declared.header.HeaderForm.TheVariants as header
 use Rattle.bpf_cert.specs.declared.finding.Flaw.{Flaw}

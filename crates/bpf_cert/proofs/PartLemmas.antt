@@ -5,10 +5,10 @@ use Rattle.std.specs.List.{list_all}
 use Rattle.std.proofs.lemmas.Bool.{leb-true, le-leb, ltb-true, ltb-false}
 use Rattle.bpf_cert.specs.Line.{Part, Number, is_part}
 use Rattle.bpf_cert.specs.Faults.{is_rising, part_before, part_rank, is_limited_part, is_plain_part, is_top, is_canonical_number, is_limited_number}
-use Rattle.bpf_cert.specs.Findings.{tested, found, joined, valued}
+use Rattle.bpf_cert.specs.code.Findings.{tested, found, joined, valued}
 use Rattle.bpf_cert.specs.Spelling.{unsigned_parts, signed_parts, bits_parts, number_of, of_parts}
-use Rattle.bpf_cert.specs.Seen.{is_canonical_part}
-use Rattle.bpf_cert.specs.PartSums.{are_canonical, next_rank, Says, IsSum, IsKept}
+use Rattle.bpf_cert.specs.code.Seen.{is_canonical_part}
+use Rattle.bpf_cert.specs.code.PartSums.{are_canonical, next_rank, Says, IsSum, IsKept}
 use Rattle.bpf_cert.specs.declared.num.Parts.{Parts}
 use Rattle.bpf_cert.specs.declared.finding.Flaw.{Flaw}
 use Rattle.bpf_cert.proofs.FindingLemmas.{found_tested, joined_tested, joined_ok, tested_true, list_all_both, list_all_end}

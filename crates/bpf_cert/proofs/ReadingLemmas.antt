@@ -17,10 +17,10 @@ use Rattle.bpf_cert.specs.declared.source.Stop.{Stop}
 use Rattle.bpf_cert.specs.declared.source.Stop.TheVariants as stop
 use Rattle.bpf_cert.specs.ReadAnswers.{IsFaultOf, FailsAt}
 use Rattle.bpf_cert.specs.Certificates.{Spells}
-use Rattle.bpf_cert.specs.Building.{Takes, Finishes}
+use Rattle.bpf_cert.specs.code.Building.{Takes, Finishes}
 use Rattle.bpf_cert.specs.declared.building.Builder.{Builder}
-use Rattle.bpf_cert.specs.Behind.{AnswersBehindEnd}
-use Rattle.bpf_cert.specs.Taken.{IsOneLine, TakesLine}
+use Rattle.bpf_cert.specs.code.Behind.{AnswersBehindEnd}
+use Rattle.bpf_cert.specs.code.Taken.{IsOneLine, TakesLine}
 use Rattle.std.specs.Prelude.{IfOk, IfErr}
 
 abbrev pub pieces : List ℕ → List (List ℕ)

@@ -10,7 +10,7 @@ use Rattle.bpf_cert.specs.Faults.{is_function, is_label, ends_bare, is_limited_p
 use Rattle.bpf_cert.specs.View.{CertificateView, certificate_of}
 use Rattle.bpf_cert.specs.Limits.{IsCertificate, label_count}
 use Rattle.bpf_cert.specs.Spelling.{lines_from, label_lines, function_lines, certificate_lines}
-use Rattle.bpf_cert.specs.Standing.{stage_of, is_start}
+use Rattle.bpf_cert.specs.code.Standing.{stage_of, is_start}
 use Rattle.bpf_cert.proofs.Bools.{both_true}
 use Rattle.bpf_cert.proofs.HeaderValues.{header_said, header_back}
 use Rattle.bpf_cert.proofs.AfterLemmas.{IsFine}

@@ -10,7 +10,7 @@ use Rattle.bpf_cert.specs.Numeral.{SignedDigits, is_numeral, is_plain, number, s
 use Rattle.bpf_cert.specs.Line.{Part, Number, is_part, is_number}
 use Rattle.bpf_cert.specs.Faults.{is_rising, part_before, is_plain_part, is_top, is_limited_part, is_canonical_number, is_limited_number}
 use Rattle.bpf_cert.specs.Limits.{is_limited_num}
-use Rattle.bpf_cert.specs.Sums.{least, greatest}
+use Rattle.bpf_cert.specs.code.Sums.{least, greatest}
 use Rattle.bpf_cert.specs.Spelling.{unsigned_parts, signed_parts, bits_parts, of_parts, number_of}
 use Rattle.bpf_cert.proofs.NumeralLaws.{plain_decimal}
 use Rattle.bpf_cert.proofs.Bools.{both_true}

@@ -10,7 +10,7 @@ use Rattle.bpf_cert.specs.Line.{Content, Place, Line, is_place, is_content}
 use Rattle.bpf_cert.specs.Faults.{is_plain_place, is_limited_place, place_before, last_place, comes_after}
 use Rattle.bpf_cert.specs.Limits.{is_limited_slot}
 use Rattle.bpf_cert.specs.Spelling.{lines_from}
-use Rattle.bpf_cert.specs.Standing.{stage_of, may_have_entry}
+use Rattle.bpf_cert.specs.code.Standing.{stage_of, may_have_entry}
 use Rattle.bpf_cert.proofs.Bools.{both_true}
 use Rattle.bpf_cert.proofs.LineValues.{content_said}
 use Rattle.bpf_cert.proofs.LineStates.{place_index}

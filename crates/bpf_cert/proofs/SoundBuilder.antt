@@ -9,9 +9,9 @@ use Rattle.bpf_cert.specs.Faults.{is_ended, is_function, ends_bare}
 use Rattle.bpf_cert.specs.View.{label_view, function_view, certificate_of}
 use Rattle.bpf_cert.specs.Spelling.{header_line, function_line, label_line, place_of, content_of}
 use Rattle.bpf_cert.specs.Limits.{is_limited_num, is_limited_term, is_limited_header, IsCertificate}
-use Rattle.bpf_cert.specs.Standing.{Stands, ruled, stage_of, is_start, may_have_label}
-use Rattle.bpf_cert.specs.Sound.{IsLabelState, AreWhole, HasFunction, IsSoundAt, IsSound, closed, function_at, functions_at, with_label}
-use Rattle.bpf_cert.specs.Building.{IsBuilt, Closes, ClosesLabel, Puts}
+use Rattle.bpf_cert.specs.code.Standing.{Stands, ruled, stage_of, is_start, may_have_label}
+use Rattle.bpf_cert.specs.code.Sound.{IsLabelState, AreWhole, HasFunction, IsSoundAt, IsSound, closed, function_at, functions_at, with_label}
+use Rattle.bpf_cert.specs.code.Building.{IsBuilt, Closes, ClosesLabel, Puts}
 use Rattle.bpf_cert.specs.declared.building.Builder.{Builder}
 use Rattle.bpf_cert.specs.declared.standing.Stage.{Stage}
 use Rattle.bpf_cert.specs.declared.standing.Stage.TheVariants as stage

@@ -12,7 +12,7 @@ use Rattle.bpf_state.specs.declared.state.RegState.{RegState}
 use Rattle.bpf_state.specs.declared.state.RegState.TheVariants as reg
 use Rattle.bpf_state.specs.declared.state.SlotState.{SlotState}
 use Rattle.bpf_cert.specs.Limits.{is_frame_end, is_limited_register, is_limited_slot, has_shape}
-use Rattle.bpf_cert.specs.Sound.{IsLabelState}
+use Rattle.bpf_cert.specs.code.Sound.{IsLabelState}
 use Rattle.bpf_cert.proofs.Bools.{both_true}
 
 pub all_set : {A : Type 0} (p : A → Bool) (xs : List A) (i : ℕ) (v : A) → list_all p xs ≡ true → p v ≡ true → list_all p (set xs i v) ≡ true

@@ -2,7 +2,7 @@
 use Rattle.std.proofs.Common.{◌≡◌, ℕ, suc, ◌+◌, ◌-◌, ◌<◌, ◌≤◌, List, [], ◌∷◌, ◌++◌, length, get_or, take, drop, Option, Some, None, refl, sym, ap, ◌∙◌, arith}
 use Rattle.std.proofs.lemmas.List.{drop_more}
 use Rattle.std.specs.Io.KnownBytes.{Consumes, Keeps}
-use Rattle.bpf_cert.specs.Taken.{left}
+use Rattle.bpf_cert.specs.code.Taken.{left}
 
 sub_suc : (a b : ℕ) → a < b → b - a ≡ suc (b - (a + 1))
 sub_suc a b h = omega arith

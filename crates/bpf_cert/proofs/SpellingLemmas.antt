@@ -5,7 +5,7 @@ use Rattle.std.specs.Fmt.{signed_decimal}
 use Rattle.bpf_cert.specs.Numeral.{digits_of_int}
 use Rattle.bpf_cert.specs.Line.{signed_text, term_text}
 use Rattle.bpf_cert.specs.Spelling.{term_of}
-use Rattle.bpf_cert.specs.SpellingParts.{terms_tail}
+use Rattle.bpf_cert.specs.code.SpellingParts.{terms_tail}
 use Rattle.bpf_cert.specs.declared.certificate.Term.{Term}
 
 pub signed_text_digits : (z : ℤ) → signed_text (digits_of_int z) ≡ signed_decimal z

@@ -6,9 +6,9 @@ use Rattle.bpf_cert.specs.Numeral.{is_numeral, is_plain, number, is_from_to}
 use Rattle.bpf_cert.specs.Line.{Line, Place, Number, Content, Term, Lengths}
 use Rattle.bpf_cert.specs.Faults.{is_canonical, is_limited, may_stand, is_in_order, has_room, comes_after}
 use Rattle.bpf_cert.specs.Reading.{◌>>=◌, numeral_in, all_there, term_in, place_in, number_in, content_in, function_in, label_in, entry_in}
-use Rattle.bpf_cert.specs.Findings.{tested, found, joined, valued}
-use Rattle.bpf_cert.specs.TermSums.{terms_in}
-use Rattle.bpf_cert.specs.Standing.{FunctionIs, LabelIs, EntryIs, stage_of, is_start, may_have_label, may_have_entry, ruled, fields_in, uncons, three_of}
+use Rattle.bpf_cert.specs.code.Findings.{tested, found, joined, valued}
+use Rattle.bpf_cert.specs.code.TermSums.{terms_in}
+use Rattle.bpf_cert.specs.code.Standing.{FunctionIs, LabelIs, EntryIs, stage_of, is_start, may_have_label, may_have_entry, ruled, fields_in, uncons, three_of}
 use Rattle.bpf_cert.specs.declared.finding.Flaw.{Flaw}
 use Rattle.bpf_cert.specs.declared.finding.Flaw.TheVariants.{Syntax}
 use Rattle.bpf_cert.proofs.Bools.{both_true}

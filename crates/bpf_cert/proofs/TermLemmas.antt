@@ -11,11 +11,11 @@ use Rattle.bpf_cert.specs.Numeral.{is_numeral, is_plain, number}
 use Rattle.bpf_cert.specs.Line.{Place, Measure, Term, is_place, is_measure, is_term}
 use Rattle.bpf_cert.specs.Faults.{is_rising, place_before, place_of, comes_after, is_plain_place, is_plain_measure, is_limited_place, is_limited_measure, is_limited_term}
 use Rattle.bpf_cert.specs.Limits as limits
-use Rattle.bpf_cert.specs.Findings.{tested, found, joined, valued}
+use Rattle.bpf_cert.specs.code.Findings.{tested, found, joined, valued}
 use Rattle.bpf_cert.specs.Spelling.{term_of, place_of as spelled_place}
-use Rattle.bpf_cert.specs.Seen.{place_seen, measure_seen, term_seen}
+use Rattle.bpf_cert.specs.code.Seen.{place_seen, measure_seen, term_seen}
 use Rattle.bpf_cert.specs.Reading.{term_in}
-use Rattle.bpf_cert.specs.TermSums.{is_plain_term, term_before, are_canonical_terms, are_limited_terms, last, IsTermSum, IsPlainPlace}
+use Rattle.bpf_cert.specs.code.TermSums.{is_plain_term, term_before, are_canonical_terms, are_limited_terms, last, IsTermSum, IsPlainPlace}
 use Rattle.bpf_cert.specs.declared.term.TermForm.{TermForm}
 use Rattle.bpf_cert.specs.declared.term.Terms.{Terms}
 use Rattle.bpf_cert.specs.declared.place.PlaceForm.{PlaceForm}

@@ -2,8 +2,8 @@
 
 ghost use Rattle.std.specs.Prelude.{◌≡◌, ◌≤◌, ◌∷◌, [], List, length, true, false, IfOk, Some, Ok};
 ghost use Rattle.bpf_cert.specs.Line.{Line};
-ghost use Rattle.bpf_cert.specs.Standing.{IsValue, IsEntry, value_line, ruled};
-ghost use Rattle.bpf_cert.specs.Building.{IsBuilt, IsRegisterContent, ClosesLabel, Closes, Puts, fault_at, Takes, AreLinesOf};
+ghost use Rattle.bpf_cert.specs.code.Standing.{IsValue, IsEntry, value_line, ruled};
+ghost use Rattle.bpf_cert.specs.code.Building.{IsBuilt, IsRegisterContent, ClosesLabel, Closes, Puts, fault_at, Takes, AreLinesOf};
 ghost use Rattle.bpf_cert.specs.Faults.{is_ended};
 ghost use Rattle.bpf_state.specs.State.{value_slot, IsRegister};
 

@@ -5,10 +5,10 @@ ghost use Rattle.bpf_cert.specs.Numeral.{is_numeral};
 ghost use Rattle.bpf_cert.specs.Line.{Place, Content, is_content};
 ghost use Rattle.bpf_cert.specs.Reading.{pointer_in, bytes_in, number_in, content_in};
 ghost use Rattle.bpf_cert.specs.Faults.{is_pointer_range, is_canonical_content, is_limited_content};
-ghost use Rattle.bpf_cert.specs.Findings.{found, valued};
+ghost use Rattle.bpf_cert.specs.code.Findings.{found, valued};
 ghost use Rattle.bpf_cert.specs.Spelling.{content_of};
-ghost use Rattle.bpf_cert.specs.Seen.{signed_seen, place_seen, pointer_seen};
-ghost use Rattle.bpf_cert.specs.Contents.{IsContent, digits_of_bounds, are_plain_bounds, are_limited_bounds};
+ghost use Rattle.bpf_cert.specs.code.Seen.{signed_seen, place_seen, pointer_seen};
+ghost use Rattle.bpf_cert.specs.code.Contents.{IsContent, digits_of_bounds, are_plain_bounds, are_limited_bounds};
 
 use crate::cut::behind;
 use crate::finding::{Flaw, tested};

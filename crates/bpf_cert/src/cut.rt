@@ -2,7 +2,7 @@
 
 ghost use Rattle.std.specs.Prelude.{◌≡◌, ◌+◌, ◌<◌, length, option_map, IfSome};
 ghost use Rattle.bpf_cert.specs.Reading.{cut, behind};
-ghost use Rattle.bpf_cert.specs.Standing.{fields_in, uncons, two_of, three_of};
+ghost use Rattle.bpf_cert.specs.code.Standing.{fields_in, uncons, two_of, three_of};
 
 /// What stands before the first such byte and after it.
 pub fn cut(text: &[u8], mark: u8) -> Option<(&[u8], &[u8])>

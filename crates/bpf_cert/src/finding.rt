@@ -1,7 +1,7 @@
 //! What is found in a part of a line: its value, or the gravest flaw.
 
 ghost use Rattle.std.specs.Prelude.{◌≡◌, ◌&&◌};
-ghost use Rattle.bpf_cert.specs.Findings.{tested, joined, graver};
+ghost use Rattle.bpf_cert.specs.code.Findings.{tested, joined, graver};
 
 /// Why a part of a line is refused, the gravest first.
 #[derive(Clone, Copy, Debug, PartialEq, Eq)]

@@ -6,11 +6,11 @@ ghost use Rattle.bpf_cert.specs.Line.Lengths.{one, range};
 ghost use Rattle.bpf_cert.specs.Numeral.{is_numeral};
 ghost use Rattle.bpf_cert.specs.Faults.{is_canonical, is_limited};
 ghost use Rattle.bpf_cert.specs.Limits.{is_limited_header};
-ghost use Rattle.bpf_cert.specs.Findings.{found, valued};
+ghost use Rattle.bpf_cert.specs.code.Findings.{found, valued};
 ghost use Rattle.bpf_cert.specs.Reading.{one_length_in, two_lengths_in, header_in};
-ghost use Rattle.bpf_cert.specs.Seen.{header_seen};
+ghost use Rattle.bpf_cert.specs.code.Seen.{header_seen};
 ghost use Rattle.bpf_cert.specs.Spelling.{header_line};
-ghost use Rattle.bpf_cert.specs.Standing.{HeaderIs, fields_in};
+ghost use Rattle.bpf_cert.specs.code.Standing.{HeaderIs, fields_in};
 
 use crate::cut::{next_field, three_fields, two_fields};
 use crate::finding::{Flaw, both, tested};

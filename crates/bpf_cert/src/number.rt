@@ -4,7 +4,7 @@ ghost use Rattle.std.specs.Prelude.{◌≡◌, ◌^◌, min, nat_lt, option_map}
 ghost use Rattle.std.specs.List.{list_all};
 ghost use Rattle.bpf_cert.specs.Numeral.{is_decimal_digit, is_numeral, is_plain, number, is_from_to};
 ghost use Rattle.bpf_cert.specs.Reading.{signed_in};
-ghost use Rattle.bpf_cert.specs.Seen.{signed_seen, IsPlainNumeral};
+ghost use Rattle.bpf_cert.specs.code.Seen.{signed_seen, IsPlainNumeral};
 
 use crate::cut::behind;
 

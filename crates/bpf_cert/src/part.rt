@@ -3,7 +3,7 @@
 ghost use Rattle.std.specs.Prelude.{◌≡◌, option_map};
 ghost use Rattle.bpf_cert.specs.Numeral.{is_numeral};
 ghost use Rattle.bpf_cert.specs.Reading.{range_in, signed_in, unsigned_part_in, signed_part_in, bits_part_in, part_in};
-ghost use Rattle.bpf_cert.specs.Seen.{ends_in, signed_seen, part_seen};
+ghost use Rattle.bpf_cert.specs.code.Seen.{ends_in, signed_seen, part_seen};
 
 use crate::cut::{behind, cut};
 use crate::number::{SignedForm, is_numeral, signed};
@@ -17,7 +17,7 @@ pub enum PartForm<'a> {
 }
 
 /// Both ends of `lo..hi`.
-#[tactic(auto, unfolding(crate::specs::Seen::ends_in))]
+#[tactic(auto, unfolding(crate::specs::code::Seen::ends_in))]
 pub fn ends(text: &[u8]) -> Option<(&[u8], &[u8])>
     ensures { option_map (λ x. (x.0.now, x.1.now)) result ≡ ends_in text.now }
 {

@@ -6,7 +6,7 @@ ghost use Rattle.bpf_cert.specs.Faults.{place_before, is_plain_place, is_limited
 ghost use Rattle.bpf_cert.specs.Line.{is_place};
 ghost use Rattle.bpf_cert.specs.Limits as limits;
 ghost use Rattle.bpf_cert.specs.Spelling.{place_of};
-ghost use Rattle.bpf_cert.specs.Seen.{place_seen};
+ghost use Rattle.bpf_cert.specs.code.Seen.{place_seen};
 
 use crate::cut::behind;
 use crate::limits::numbered;

@@ -5,8 +5,8 @@ ghost use Rattle.bpf_cert.specs.Line.{Line};
 ghost use Rattle.bpf_cert.specs.Faults.{is_ended};
 ghost use Rattle.bpf_cert.specs.View.{CertificateView};
 ghost use Rattle.bpf_cert.specs.Certificates.{Spells};
-ghost use Rattle.bpf_cert.specs.Building.{IsBuilt};
-ghost use Rattle.bpf_cert.specs.Behind.{AnswersBehindEnd};
+ghost use Rattle.bpf_cert.specs.code.Building.{IsBuilt};
+ghost use Rattle.bpf_cert.specs.code.Behind.{AnswersBehindEnd};
 ghost use Rattle.bpf_cert.specs.ReadAnswers.{IsFaultOf, IsFromOutside, FailsAt};
 
 use crate::building::Builder;

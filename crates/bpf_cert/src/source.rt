@@ -36,7 +36,7 @@ pub struct Source<R: Read + Drop> {
 
 impl<R: Read + Drop> Model for Source<R> {
     ghost use Rattle.std.specs.Prelude.{◌≤◌, List, ℕ, Option};
-    ghost use Rattle.bpf_cert.specs.Taken.{left};
+    ghost use Rattle.bpf_cert.specs.code.Taken.{left};
 
     ghost Value = { Option (List ℕ) };
 
@@ -46,7 +46,7 @@ impl<R: Read + Drop> Model for Source<R> {
 }
 
 impl<R: Read + Drop> Source<R> {
-    ghost use Rattle.bpf_cert.specs.Taken.{left, TakesByte, TakesLine, IsOneLine};
+    ghost use Rattle.bpf_cert.specs.code.Taken.{left, TakesByte, TakesLine, IsOneLine};
 
     pub fn new(reader: R) -> Self
         ensures { result ≡ R.remaining reader }

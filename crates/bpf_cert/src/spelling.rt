@@ -4,7 +4,7 @@ ghost use Rattle.std.specs.Prelude.{◌≡◌, ◌≤◌, ◌<◌, ◌+◌, ◌+
 ghost use Rattle.bpf_cert.specs.Numeral.{digits_of_int};
 ghost use Rattle.bpf_cert.specs.Line.{range_text, signed_text, number_text, place_text, content_text, measure_text, term_text};
 ghost use Rattle.bpf_cert.specs.Spelling.{unsigned_parts, signed_parts, bits_parts, number_of, content_of, place_of, measure_of, term_of, header_line, function_line, label_line, line_with_end};
-ghost use Rattle.bpf_cert.specs.SpellingParts.{is_cons, parts_tail, terms_tail};
+ghost use Rattle.bpf_cert.specs.code.SpellingParts.{is_cons, parts_tail, terms_tail};
 ghost use Rattle.bpf_cert.specs.View.{function_view, label_view};
 ghost use Rattle.bpf_cert.specs.Line.Line.{entry};
 ghost use Rattle.bpf_state.specs.declared.state.SlotState.TheVariants.{Ptr};

@@ -6,10 +6,10 @@ ghost use Rattle.bpf_cert.specs.Faults.{comes_after, place_before, is_canonical,
 ghost use Rattle.bpf_cert.specs.Numeral.{is_numeral};
 ghost use Rattle.bpf_insn.specs.Instruction.{register_number};
 ghost use Rattle.bpf_cert.specs.Reading.{header_in, function_in, label_in, entry_in, end_in, line_in};
-ghost use Rattle.bpf_cert.specs.Findings.{found, valued};
+ghost use Rattle.bpf_cert.specs.code.Findings.{found, valued};
 ghost use Rattle.bpf_cert.specs.Spelling.{place_of};
-ghost use Rattle.bpf_cert.specs.Seen.{place_seen};
-ghost use Rattle.bpf_cert.specs.Standing.{Stands, IsValue, FunctionIs, LabelIs, EntryIs, value_line, value_place, stage_of, is_start, may_have_label, may_have_entry, ruled, fields_in};
+ghost use Rattle.bpf_cert.specs.code.Seen.{place_seen};
+ghost use Rattle.bpf_cert.specs.code.Standing.{Stands, IsValue, FunctionIs, LabelIs, EntryIs, value_line, value_place, stage_of, is_start, may_have_label, may_have_entry, ruled, fields_in};
 
 use crate::certificate::Term;
 use crate::content::content;

@@ -6,10 +6,10 @@ ghost use Rattle.bpf_cert.specs.Line.{Term as TermText, is_term};
 ghost use Rattle.bpf_cert.specs.Reading.{measure_in, term_in};
 ghost use Rattle.bpf_cert.specs.Faults.{is_limited_term, comes_after, place_before, place_of};
 ghost use Rattle.bpf_cert.specs.Limits as limits;
-ghost use Rattle.bpf_cert.specs.Findings.{found, valued};
+ghost use Rattle.bpf_cert.specs.code.Findings.{found, valued};
 ghost use Rattle.bpf_cert.specs.Spelling.{term_of};
-ghost use Rattle.bpf_cert.specs.Seen.{place_seen, measure_seen, term_seen};
-ghost use Rattle.bpf_cert.specs.TermSums.{IsTermSum, is_plain_term, IsPlainPlace, are_canonical_terms, are_limited_terms, terms_in};
+ghost use Rattle.bpf_cert.specs.code.Seen.{place_seen, measure_seen, term_seen};
+ghost use Rattle.bpf_cert.specs.code.TermSums.{IsTermSum, is_plain_term, IsPlainPlace, are_canonical_terms, are_limited_terms, terms_in};
 
 use crate::certificate::{Measure, Term};
 use crate::cut::{behind, cut};

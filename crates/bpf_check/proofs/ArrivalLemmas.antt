@@ -10,9 +10,9 @@ use Rattle.bpf_safety.specs.Flow.{Arrival, passed_on, label_state, arrives, arri
 use Rattle.bpf_safety.specs.Labels.{label_at}
 use Rattle.bpf_state.specs.State.{tightened}
 use Rattle.bpf_safety.specs.Flaw.{at, number_if, numbers_of_arrival, numbers_of_visit, lacks_label, calls_no_deeper, leaves_function, is_not_entailed, is_over_budget, falls_past_end}
-use Rattle.bpf_check.specs.Least.{IsLeastIn}
-use Rattle.bpf_check.specs.Edges.{visit}
-use Rattle.bpf_check.specs.Visits.{numbers_with, passed_with, never_reached, visit_of}
+use Rattle.bpf_check.specs.code.Least.{IsLeastIn}
+use Rattle.bpf_check.specs.code.Edges.{visit}
+use Rattle.bpf_check.specs.code.Visits.{numbers_with, passed_with, never_reached, visit_of}
 use Rattle.bpf_check.proofs.LeastLemmas.{least_three, at-append}
 
 fault_numbers : (p : Instructions) (c : CertificateView) (slot : ℕ) (i : Insn) (a : Arrival) (n : ℕ) → fault_of c.least a.state i ≡ Some n → numbers_with p c slot i (Some a) ≡ n ∷ []

@@ -20,7 +20,7 @@ use Rattle.bpf_cert.specs.declared.certificate.Term.{Term}
 use Rattle.bpf_cert.specs.View.{LabelView}
 use Rattle.bpf_safety.specs.Budget.{place_of, held, unsigned_bounds, bounds}
 use Rattle.bpf_safety.specs.Flow.{with_tag, with_tags, label_state}
-use Rattle.bpf_check.specs.Slack.{at_label}
+use Rattle.bpf_check.specs.code.Slack.{at_label}
 
 each_if_get : {A : Type 0} (f : A → Option A) (d : A) → f d ≡ Some d → (xs ys : List A) → each_if f xs ≡ Some ys → (i : ℕ) → f (get_or xs i d) ≡ Some (get_or ys i d)
 each_if_get f d keeps [] ys e i = keeps ∙ ap (λ l. Some (get_or l i d)) (same_Some [] ys e)

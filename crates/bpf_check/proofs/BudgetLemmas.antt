@@ -17,7 +17,7 @@ use Rattle.bpf_cert.specs.Limits.{is_limited_label, is_limited_term}
 use Rattle.bpf_safety.specs.Budget.{sum_if, each_term, shares, share_of, tag_of, place_of, bounds, term_value, greatest_at_ends, least_at_ends}
 use Rattle.bpf_num.specs.Interval.{Interval}
 use Rattle.std.specs.Prelude.{◌-ℤ◌}
-use Rattle.bpf_check.specs.Slack.{IsWithin, kept_part}
+use Rattle.bpf_check.specs.code.Slack.{IsWithin, kept_part}
 use Rattle.bpf_check.proofs.SearchLemmas.{list_all_get}
 
 within_abs : (n : ℕ) (z : ℤ) → IsWithin n z → unsigned_abs z ≤ n

@@ -14,9 +14,9 @@ use Rattle.bpf_safety.specs.Flaw.{at, flaws, number_if, begins_wrongly, starts_o
 use Rattle.bpf_safety.specs.Certified.{Certified, IsLeastFlaw}
 use Rattle.bpf_safety.specs.Work.{transfers, comparisons, transferred_at, compared_at, compared_at_start}
 use Rattle.bpf_safety.specs.Theorems.{CertifiedWork, ComparisonsAreFew}
-use Rattle.bpf_check.specs.Least.{IsLeastIn}
+use Rattle.bpf_check.specs.code.Least.{IsLeastIn}
 use Rattle.bpf_check.specs.CheckedProgram.{work_of}
-use Rattle.bpf_check.specs.Counting.{counted_times, compared, if_faultless, worked_at, worked_through}
+use Rattle.bpf_check.specs.code.Counting.{counted_times, compared, if_faultless, worked_at, worked_through}
 use Rattle.bpf_check.proofs.PassLemmas.{flaws_of, one_slot}
 use Rattle.bpf_check.proofs.CountLemmas.{times_more, counts_all}
 

@@ -2,7 +2,7 @@
 use Rattle.std.proofs.Common.{◌≡◌, ℕ, zero, suc, ◌+◌, ◌-◌, ◌^◌, ◌≤◌, ◌∙◌, refl, ap, arith}
 use Rattle.std.proofs.Math.Nat.{min-eq_left}
 use Rattle.bpf_state.specs.Work.{counted}
-use Rattle.bpf_check.specs.Counting.{counted_times}
+use Rattle.bpf_check.specs.code.Counting.{counted_times}
 
 pub times_more : (a b n : ℕ) → counted_times b (counted_times a n) ≡ counted_times (a + b) n
 times_more a zero n = let same : a ≡ a + 0 = omega arith in ap (λ k. counted_times k n) same

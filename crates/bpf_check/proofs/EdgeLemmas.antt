@@ -5,7 +5,7 @@ use Rattle.std.specs.Prelude.{count_by}
 use Rattle.std.proofs.lemmas.List.Sums.{sum_by-append}
 use Rattle.bpf_state.specs.Work.{Counts}
 use Rattle.bpf_state.specs.Answer.{edge_told}
-use Rattle.bpf_check.specs.Counting.{counted_times, compared}
+use Rattle.bpf_check.specs.code.Counting.{counted_times, compared}
 use Rattle.bpf_check.proofs.CountLemmas.{times_more}
 use Rattle.std.proofs.lemmas.Option.{none-some, same_Some}
 use Rattle.bpf_insn.specs.Instruction.{Instructions}
@@ -24,7 +24,7 @@ use Rattle.bpf_check.proofs.BudgetLemmas.{limited_here}
 use Rattle.bpf_safety.specs.Budget.{place_of}
 use Rattle.bpf_safety.specs.Flow.{Arrival, next_state}
 use Rattle.bpf_safety.specs.Flaw.{Edge, edge_to, edges}
-use Rattle.bpf_check.specs.Edges.{visit, next_of, edges_of}
+use Rattle.bpf_check.specs.code.Edges.{visit, next_of, edges_of}
 
 pub list_any-append : {A : Type 0} (p : A → Bool) (xs ys : List A) → list_any p (xs ++ ys) ≡ (list_any p xs || list_any p ys)
 list_any-append p [] ys = refl

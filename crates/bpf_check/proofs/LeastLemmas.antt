@@ -6,7 +6,7 @@ use Rattle.std.proofs.lemmas.List.Elements.{Contains-append_left, Contains-appen
 use Rattle.std.proofs.lemmas.List.{take_more, take_all, map-append, append-nil}
 use Rattle.std.proofs.lemmas.Grind.{flat_map-append}
 use Rattle.bpf_safety.specs.Flaw.{at, number_if}
-use Rattle.bpf_check.specs.Least.{IsAtMost, IsLeastIn}
+use Rattle.bpf_check.specs.code.Least.{IsAtMost, IsLeastIn}
 
 at_most_across : (a b c : ℕ × ℕ) → IsAtMost a b → IsAtMost b c → IsAtMost a c
 at_most_across a b c (inl h) (inl k) = inl (omega arith)

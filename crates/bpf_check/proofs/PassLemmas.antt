@@ -12,9 +12,9 @@ use Rattle.bpf_safety.specs.Flow.{Arrival, Visit, visits, visits_from, arrives}
 use Rattle.bpf_safety.specs.Flaw.{at, numbers_of_visit}
 use Rattle.std.proofs.lemmas.Grind.{flat_map-append}
 use Rattle.std.proofs.lemmas.List.{append-nil}
-use Rattle.bpf_check.specs.Least.{IsLeastIn}
-use Rattle.bpf_check.specs.Visits.{passed_with, visit_of}
-use Rattle.bpf_check.specs.Counting.{if_faultless, worked_at, worked_through}
+use Rattle.bpf_check.specs.code.Least.{IsLeastIn}
+use Rattle.bpf_check.specs.code.Visits.{passed_with, visit_of}
+use Rattle.bpf_check.specs.code.Counting.{if_faultless, worked_at, worked_through}
 use Rattle.bpf_state.specs.Work.{Counts}
 use Rattle.bpf_check.proofs.LeastLemmas.{least_right}
 

@@ -9,7 +9,7 @@ use Rattle.std.proofs.Common.{add-zero}
 use Rattle.std.proofs.lemmas.Bool.{true≢false, leb-true, eq-eqb, and_parts, and_from, ltb-true, leb-false, le-leb, lt-leb, ne_eqb, cond-true, cond-false}
 use Rattle.bpf_cert.specs.Faults.{is_rising}
 use Rattle.bpf_safety.specs.Labels.{first_with}
-use Rattle.bpf_check.specs.Search.{last_up_to, with_key}
+use Rattle.bpf_check.specs.code.Search.{last_up_to, with_key}
 
 abbrev pub rises : {A : Type 0} → (A → ℕ) → List A → Bool
 rises key xs = is_rising (λ x y. nat_lt (key x) (key y)) xs

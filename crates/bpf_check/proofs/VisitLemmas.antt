@@ -19,11 +19,11 @@ use Rattle.bpf_cert.specs.View.{CertificateView, label_view}
 use Rattle.bpf_safety.specs.Flow.{Arrival, Visit, sound_arrival, next_state, cost_after}
 use Rattle.bpf_safety.specs.Work.{leads_into_label, edges_from, one_if, enters_label, returns_result}
 use Rattle.bpf_safety.specs.Flaw.{Edge, edges, is_refused_by, is_unpaid, enters_wrongly, returns_wrongly, exits_unpaid, is_not_entailed, is_over_budget}
-use Rattle.bpf_check.specs.Slack.{IsWithin}
-use Rattle.bpf_check.specs.Arrivals.{arrival_of, IsReaching}
-use Rattle.bpf_check.specs.Edges.{visit, next_of, edges_of, unpaid_from}
-use Rattle.bpf_check.specs.Visits.{IsJudged, visit_with}
-use Rattle.bpf_check.specs.Counting.{counted_times, compared, worked_at}
+use Rattle.bpf_check.specs.code.Slack.{IsWithin}
+use Rattle.bpf_check.specs.code.Arrivals.{arrival_of, IsReaching}
+use Rattle.bpf_check.specs.code.Edges.{visit, next_of, edges_of, unpaid_from}
+use Rattle.bpf_check.specs.code.Visits.{IsJudged, visit_with}
+use Rattle.bpf_check.specs.code.Counting.{counted_times, compared, worked_at}
 use Rattle.bpf_check.specs.declared.arrival.Here.{Here}
 use Rattle.bpf_check.proofs.CountLemmas.{times_more}
 use Rattle.bpf_check.proofs.EdgeLemmas.{edges_live, edges_dead, next_live, next_dead}

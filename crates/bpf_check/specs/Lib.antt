@@ -1,11 +1,5 @@
-pub mod Search
-pub mod Slack
+pub mod code
 pub mod RefusalNumbers
-pub mod Least
-pub mod Edges
-pub mod Arrivals
-pub mod Visits
-pub mod Counting
 pub mod CheckedProgram
 pub mod Verdicts
 pub mod Places

@@ -5,8 +5,8 @@ ghost use Rattle.bpf_cert.specs.View.{label_view, function_view};
 ghost use Rattle.bpf_cert.specs.Limits.{is_limited_label};
 ghost use Rattle.bpf_state.specs.Answer.{edge_told};
 ghost use Rattle.bpf_safety.specs.Flow.{label_state, at_label_arrival, call_cost, cost_after};
-ghost use Rattle.bpf_check.specs.Slack.{IsWithin};
-ghost use Rattle.bpf_check.specs.Arrivals.{arrival_of, walk_of, IsReaching};
+ghost use Rattle.bpf_check.specs.code.Slack.{IsWithin};
+ghost use Rattle.bpf_check.specs.code.Arrivals.{arrival_of, walk_of, IsReaching};
 
 use crate::budget::{greatest_budget, place_of};
 use crate::edge::callee;

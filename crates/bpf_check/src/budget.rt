@@ -9,7 +9,7 @@ ghost use Rattle.bpf_cert.specs.View.{label_view};
 ghost use Rattle.bpf_cert.specs.Limits.{is_limited_label, is_limited_term};
 ghost use Rattle.bpf_safety.specs.Budget.{budget, place_of, held, unsigned_bounds, measured, term_value, least_at_ends, greatest_at_ends, each_term, sum_if, bounds, shares, share_of, free_part, tag_of, greatest_budget, least_budget, least_slack};
 ghost use Rattle.bpf_safety.specs.Flow.{label_state};
-ghost use Rattle.bpf_check.specs.Slack.{at_label, kept_of, free_of, IsWithin};
+ghost use Rattle.bpf_check.specs.code.Slack.{at_label, kept_of, free_of, IsWithin};
 
 use bpf_cert::{Label, Measure, Term};
 use bpf_num::{Num, Unsigned};

@@ -6,7 +6,7 @@ ghost use Rattle.bpf_cert.specs.Limits.{is_limited_function};
 ghost use Rattle.bpf_safety.specs.Labels.{function_at};
 ghost use Rattle.bpf_safety.specs.Flow.{callee, jump_target, goes_on};
 ghost use Rattle.bpf_safety.specs.Flaw.{lacks_label, calls_no_deeper, leaves_function, leaves_for, next_slot, calls_nowhere, is_not};
-ghost use Rattle.bpf_check.specs.Edges.{visit};
+ghost use Rattle.bpf_check.specs.code.Edges.{visit};
 
 use crate::index::Index;
 use crate::labels::{function_at, function_from, label_at};

@@ -9,11 +9,11 @@ ghost use Rattle.bpf_state.specs.Answer.{edge_told};
 ghost use Rattle.bpf_safety.specs.Budget.{budget, least_slack};
 ghost use Rattle.bpf_safety.specs.Flow.{Arrival, label_state, jump_target, jump_state};
 ghost use Rattle.bpf_safety.specs.Flaw.{is_negative_if, is_refused_by, edge_to, enters_wrongly, returns_wrongly, exits_unpaid};
-ghost use Rattle.bpf_check.specs.Slack.{at_label, IsWithin};
-ghost use Rattle.bpf_check.specs.Arrivals.{arrival_of, IsReaching};
+ghost use Rattle.bpf_check.specs.code.Slack.{at_label, IsWithin};
+ghost use Rattle.bpf_check.specs.code.Arrivals.{arrival_of, IsReaching};
 ghost use Rattle.bpf_safety.specs.Work.{leads_into_label, one_if, enters_label, returns_result};
-ghost use Rattle.bpf_check.specs.Edges.{visit, unpaid_from, next_of, edges_of};
-ghost use Rattle.bpf_check.specs.Counting.{compared};
+ghost use Rattle.bpf_check.specs.code.Edges.{visit, unpaid_from, next_of, edges_of};
+ghost use Rattle.bpf_check.specs.code.Counting.{compared};
 
 use crate::arrival::Here;
 use crate::budget::{least_budget, least_slack};

@@ -2,7 +2,7 @@
 
 ghost use Rattle.std.specs.Prelude.{◌≡◌, ℕ, ◌⊎◌, List, ◌++◌, Option, option_map};
 ghost use Rattle.bpf_safety.specs.Flaw.{at, number_if};
-ghost use Rattle.bpf_check.specs.Least.{IsAtMost, IsLeastIn};
+ghost use Rattle.bpf_check.specs.code.Least.{IsAtMost, IsLeastIn};
 ghost use Rattle.bpf_check.specs.RefusalNumbers.{cause_number, flaw_of};
 
 use crate::refusal::{Cause, Refusal};

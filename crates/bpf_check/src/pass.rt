@@ -4,9 +4,9 @@ ghost use Rattle.std.specs.Prelude.{◌≡◌, option_map};
 ghost use Rattle.std.specs.List.{flat_map};
 ghost use Rattle.bpf_safety.specs.Flow.{visits};
 ghost use Rattle.bpf_safety.specs.Flaw.{at, numbers_of_visit};
-ghost use Rattle.bpf_check.specs.Least.{IsLeastIn};
+ghost use Rattle.bpf_check.specs.code.Least.{IsLeastIn};
 ghost use Rattle.bpf_check.specs.RefusalNumbers.{flaw_of};
-ghost use Rattle.bpf_check.specs.Counting.{worked_through};
+ghost use Rattle.bpf_check.specs.code.Counting.{worked_through};
 
 use crate::arrival::Walk;
 use crate::index::Index;

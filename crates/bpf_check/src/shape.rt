@@ -6,7 +6,7 @@ ghost use Rattle.bpf_state.specs.State.{tightened};
 ghost use Rattle.bpf_cert.specs.View.{label_view, function_view};
 ghost use Rattle.bpf_cert.specs.Limits.{is_limited_label, is_limited_function, is_limited_term};
 ghost use Rattle.bpf_safety.specs.Flaw.{at, is_bad_limit, is_bad_term, is_first_label, is_outside, numbers_of_label, function_flaws};
-ghost use Rattle.bpf_check.specs.Least.{IsLeastIn};
+ghost use Rattle.bpf_check.specs.code.Least.{IsLeastIn};
 ghost use Rattle.bpf_check.specs.RefusalNumbers.{flaw_of};
 
 use crate::budget::bounds;

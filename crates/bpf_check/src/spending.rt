@@ -5,8 +5,8 @@ ghost use Rattle.bpf_cert.specs.View.{label_view};
 ghost use Rattle.bpf_cert.specs.Limits.{is_limited_label};
 ghost use Rattle.bpf_state.specs.State.{AbstractState};
 ghost use Rattle.bpf_safety.specs.Budget.{budget, least_slack};
-ghost use Rattle.bpf_check.specs.Slack.{at_label, total, IsWithin};
-ghost use Rattle.bpf_check.specs.Arrivals.{IsReaching};
+ghost use Rattle.bpf_check.specs.code.Slack.{at_label, total, IsWithin};
+ghost use Rattle.bpf_check.specs.code.Arrivals.{IsReaching};
 
 use crate::arrival::Here;
 use crate::budget::{base_left, free, kept};

@@ -8,8 +8,8 @@ ghost use Rattle.bpf_state.specs.Entails.{state_entails};
 ghost use Rattle.bpf_safety.specs.Labels.{label_at};
 ghost use Rattle.bpf_safety.specs.Flaw.{at, number_if, begins_elsewhere, begins_wrongly, starts_over_budget};
 ghost use Rattle.bpf_safety.specs.Work.{compared_at_start};
-ghost use Rattle.bpf_check.specs.Counting.{compared};
-ghost use Rattle.bpf_check.specs.Least.{IsLeastIn};
+ghost use Rattle.bpf_check.specs.code.Counting.{compared};
+ghost use Rattle.bpf_check.specs.code.Least.{IsLeastIn};
 ghost use Rattle.bpf_check.specs.RefusalNumbers.{flaw_of};
 
 use crate::budget::greatest_budget;

@@ -6,11 +6,11 @@ ghost use Rattle.bpf_state.specs.Fault.{fault_of};
 ghost use Rattle.bpf_state.specs.Answer.{fault_number};
 ghost use Rattle.bpf_safety.specs.Flow.{arrives};
 ghost use Rattle.bpf_safety.specs.Flaw.{at, number_if, numbers_of_visit};
-ghost use Rattle.bpf_check.specs.Least.{IsLeastIn};
+ghost use Rattle.bpf_check.specs.code.Least.{IsLeastIn};
 ghost use Rattle.bpf_check.specs.RefusalNumbers.{cause_number, flaw_of};
-ghost use Rattle.bpf_check.specs.Arrivals.{arrival_of, walk_of, IsReaching};
-ghost use Rattle.bpf_check.specs.Visits.{IsJudged, numbers_with, passed_with, never_reached, visit_of, visit_with};
-ghost use Rattle.bpf_check.specs.Counting.{worked_at};
+ghost use Rattle.bpf_check.specs.code.Arrivals.{arrival_of, walk_of, IsReaching};
+ghost use Rattle.bpf_check.specs.code.Visits.{IsJudged, numbers_with, passed_with, never_reached, visit_of, visit_with};
+ghost use Rattle.bpf_check.specs.code.Counting.{worked_at};
 
 use crate::arrival::{Here, Walk, cost_after, start_at};
 use crate::edge::{calls_no_deeper, lacks_label, leaves_function};

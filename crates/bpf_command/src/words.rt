@@ -260,7 +260,11 @@ fn infer_command<'a>(alloc: Global) -> Result<Command<'a>, AllocError>
                 .value_parser(value_parser!(u32).range(0..=4096))
                 .help("the greatest length of the contexts in bytes, else LEN"),
         )?
-        .arg(flag(alloc, "deep", "searches longer, and finds more certificates"))?
+        .arg(flag(
+            alloc,
+            "deep",
+            "searches longer, and finds more certificates",
+        ))?
         .arg(big(alloc))
 }
 

@@ -4,13 +4,13 @@ ghost use Rattle.std.specs.Prelude.{◌≡◌, ◌+◌, ◌*◌, ◌^◌, ◌≤
 ghost use Rattle.bpf_insn.specs.Instruction.{slot_count};
 ghost use Rattle.bpf_cert.specs.View.{label_view};
 ghost use Rattle.bpf_cert.specs.Limits.{is_limited_label};
-ghost use Rattle.bpf_check.specs.Arrivals.{IsReaching};
-ghost use Rattle.bpf_check.specs.Slack.{IsWithin};
+ghost use Rattle.bpf_check.specs.code.Arrivals.{IsReaching};
+ghost use Rattle.bpf_check.specs.code.Slack.{IsWithin};
 
 use crate::sight::{Edge, Outcome, Sight};
 use bpf_cert::Label;
-use bpf_check::{Index, 
-    Cause, Here, Judged, Slack, Walk, arrive, calls_no_deeper, cost_after, go_to_next,
+use bpf_check::{
+    Cause, Here, Index, Judged, Slack, Walk, arrive, calls_no_deeper, cost_after, go_to_next,
     judge_reached, jump_target, label_at, lacks_label, least_budget, leaves_function, slack_on,
 };
 use bpf_insn::{Code, Insn};
@@ -61,13 +61,7 @@ fn edge_to(
     }
 }
 
-fn see_jump<'a>(
-    certificate: &Index,
-    slot: u32,
-    insn: &Insn,
-    here: &Here,
-    sight: &mut Sight<'a>,
-)
+fn see_jump<'a>(certificate: &Index, slot: u32, insn: &Insn, here: &Here, sight: &mut Sight<'a>)
     requires slot { slot ≤ 65535 }
     requires valid { IsReaching slot here.now }
 {
@@ -85,13 +79,7 @@ fn see_jump<'a>(
     sight.jump = Some(edge);
 }
 
-fn see_next<'a>(
-    certificate: &Index,
-    slot: u32,
-    insn: &Insn,
-    here: &Here,
-    sight: &mut Sight<'a>,
-)
+fn see_next<'a>(certificate: &Index, slot: u32, insn: &Insn, here: &Here, sight: &mut Sight<'a>)
     requires slot { slot ≤ 65535 }
     requires valid { IsReaching slot here.now }
 {

@@ -8,7 +8,7 @@ use crate::standing::{label_flaws, label_in, lacks_first_label, standing_flaws, 
 use crate::whole::write_whole;
 use crate::words::{Silence, tell, tell_function, tell_label, tell_silence, tell_start};
 use bpf_cert::Function;
-use bpf_check::{Index, Cause};
+use bpf_check::{Cause, Index};
 use bpf_insn::Code;
 use bpf_state::State;
 use std::io::{self, Write};

@@ -5,8 +5,9 @@ ghost use Rattle.bpf_state.specs.State.{tightened};
 
 use crate::flaws::Flaws;
 use bpf_cert::{Function, Label, Term, is_limited_term};
-use bpf_check::{Index, 
-    Cause, begins_elsewhere, is_bad_term, is_first_label, is_outside, label_at, starts_over_budget,
+use bpf_check::{
+    Cause, Index, begins_elsewhere, is_bad_term, is_first_label, is_outside, label_at,
+    starts_over_budget,
 };
 use bpf_insn::Code;
 use bpf_state::State;

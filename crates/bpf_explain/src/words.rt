@@ -9,7 +9,7 @@ mod shape;
 
 use crate::known::Name;
 use crate::sight::Sight;
-use bpf_check::{Index, Cause};
+use bpf_check::{Cause, Index};
 use bpf_insn::{Code, Reg};
 use bpf_state::Place;
 pub use labels::{tell_function, tell_label, tell_start};

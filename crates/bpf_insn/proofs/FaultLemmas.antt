@@ -12,8 +12,8 @@ use Rattle.bpf_insn.specs.Instruction.{register_number, slot_count}
 use Rattle.bpf_insn.specs.Image.{fields, slot_bytes, second_slot, instruction_bytes, alu_offset, atomic_code, swap_bits, HasEncoding, code_opcode, memory_opcode, alu_class, alu_code, jump_class, jump_code, swap_opcode}
 use Rattle.bpf_insn.specs.Refusal.Use.{Selects, Zero}
 use Rattle.bpf_insn.specs.Refusal.{Use, Uses, table, uses_in, atomic_codes, each_field, is_selected, is_zero_if_unused, is_wide, is_left_out, reserved_is_zero, fields_in, refusal_by_uses, refusal_of_fields, refusal_here}
-use Rattle.bpf_insn.specs.Form.{form_in, uses_of}
-use Rattle.bpf_insn.specs.Decoding.{register_in, divide_in, remainder_in, move_in, end_bits_in, atomic_in, insn_of_form, insn_of_parts, insn_of_fields, high_in, insn_in_bytes}
+use Rattle.bpf_insn.specs.code.Form.{form_in, uses_of}
+use Rattle.bpf_insn.specs.code.Decoding.{register_in, divide_in, remainder_in, move_in, end_bits_in, atomic_in, insn_of_form, insn_of_parts, insn_of_fields, high_in, insn_in_bytes}
 use Rattle.bpf_insn.specs.declared.fields.Fields.{Fields}
 use Rattle.bpf_insn.specs.declared.form.Source.{Source}
 use Rattle.bpf_insn.specs.declared.form.Source.TheVariants.{Imm as FromImm, Reg as FromReg}

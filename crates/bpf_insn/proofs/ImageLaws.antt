@@ -6,8 +6,8 @@ use Rattle.bpf_insn.specs.Instruction.{layout, slots, slot_count, FailsFirst, Ea
 use Rattle.bpf_insn.specs.Image.{image, instruction_bytes, HasEncoding, AllHaveEncoding, HasTarget, IsImage, IsProgram, max_slots}
 use Rattle.bpf_insn.specs.Refusal.{refusal_here, IsRefused, BeginsAt, IsBadLength}
 use Rattle.bpf_insn.specs.Refusal.IsRefused.{bad_length, bad_slot, bad_target}
-use Rattle.bpf_insn.specs.Decoding.{insn_in_bytes}
-use Rattle.bpf_insn.specs.Layout.{instructions_in, cells_from}
+use Rattle.bpf_insn.specs.code.Decoding.{insn_in_bytes}
+use Rattle.bpf_insn.specs.code.Layout.{instructions_in, cells_from}
 use Rattle.bpf_insn.specs.Laws.{AreBytes, BeginsWithInsn, IsImageOfProgram}
 use Rattle.bpf_insn.specs.declared.order.Order.{Order}
 use Rattle.bpf_insn.specs.declared.refusal.SlotFault.{SlotFault}

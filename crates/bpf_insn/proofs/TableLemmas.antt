@@ -6,7 +6,7 @@ use Rattle.bpf_insn.specs.Refusal.{table, uses_in, fields_in, is_left_out, refus
 use Rattle.bpf_insn.specs.declared.order.Order.{Order}
 use Rattle.bpf_insn.specs.declared.refusal.SlotFault.TheVariants.{LeftOut}
 use Rattle.bpf_insn.specs.declared.forms.TheConstants.{FORMS}
-use Rattle.bpf_insn.specs.Form.{form_in, uses_of}
+use Rattle.bpf_insn.specs.code.Form.{form_in, uses_of}
 
 -- n, n + 1 and so on, k numbers
 unfoldable pub numbers_from : ℕ → ℕ → List ℕ

@@ -3,7 +3,7 @@ use Rattle.std.specs.Prelude.{◌≡◌, ℕ, ◌+◌, ◌*◌, ◌/◌, ◌%◌
 use Rattle.bpf_insn.specs.Instruction.{slots}
 use Rattle.bpf_insn.specs.Image.{image, instruction_bytes, HasEncoding, AllHaveEncoding, IsProgram}
 use Rattle.bpf_insn.specs.Refusal.{refusal_here, IsRefused, IsNoProgram}
-use Rattle.bpf_insn.specs.Decoding.{insn_in_bytes}
+use Rattle.bpf_insn.specs.code.Decoding.{insn_in_bytes}
 use Rattle.bpf_insn.specs.declared.order.Order.{Order}
 use Rattle.bpf_insn.specs.declared.order.Order.TheVariants.{Little, Big}
 use Rattle.bpf_insn.specs.declared.instruction.Insn.{Insn}

@@ -4,9 +4,7 @@ pub mod Arithmetic
 pub mod Image
 pub mod Refusal
 pub mod RefusalNumbers
-pub mod Form
-pub mod Decoding
-pub mod Layout
+pub mod code
 pub mod Written
 pub mod Reading
 pub mod Laws

@@ -1,9 +1,9 @@
 //! The instruction that begins at a slot of an image.
 
 ghost use Rattle.std.specs.Prelude.{◌≡◌, ◌≤◌, ◌<◌, length, slice_index};
-ghost use Rattle.bpf_insn.specs.Form.{reach_in, reached};
+ghost use Rattle.bpf_insn.specs.code.Form.{reach_in, reached};
 ghost use Rattle.bpf_insn.specs.Refusal.{fields_in};
-ghost use Rattle.bpf_insn.specs.Decoding.{register_in, operand_in, divide_in, remainder_in, move_in, end_bits_in, atomic_in, insn_of_form, high_in, insn_in_bytes};
+ghost use Rattle.bpf_insn.specs.code.Decoding.{register_in, operand_in, divide_in, remainder_in, move_in, end_bits_in, atomic_in, insn_of_form, high_in, insn_in_bytes};
 
 use crate::bytes::{fields_from, u16_in, u32_in};
 use crate::fields::Fields;
@@ -202,7 +202,7 @@ fn high_of(order: Order, bytes: &[u8]) -> u32
 }
 
 /// The instruction that begins in these bytes of an image; None in the second slot of a wide one.
-#[tactic(auto, unfolding(crate::specs::Decoding::insn_in_bytes))]
+#[tactic(auto, unfolding(crate::specs::code::Decoding::insn_in_bytes))]
 pub fn insn_from(order: Order, bytes: &[u8]) -> Option<Insn>
     requires { 8 ≤ length bytes.now }
     ensures { result ≡ insn_in_bytes order bytes.now }

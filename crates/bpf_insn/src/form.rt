@@ -1,7 +1,7 @@
 //! What an opcode says of its instruction (RFC 9669, sections 3.3, 4 and 5).
 
 ghost use Rattle.std.specs.Prelude.{◌≡◌};
-ghost use Rattle.bpf_insn.specs.Form.{reach_in, group_in};
+ghost use Rattle.bpf_insn.specs.code.Form.{reach_in, group_in};
 
 use crate::instruction::{AluOp, Cond, EndKind, Group, Size, Width};
 

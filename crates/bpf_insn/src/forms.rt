@@ -1,7 +1,7 @@
 //! The form of each opcode (RFC 9669, sections 3.3, 4 and 5).
 
 ghost use Rattle.std.specs.Prelude.{◌≡◌};
-ghost use Rattle.bpf_insn.specs.Form.{form_in};
+ghost use Rattle.bpf_insn.specs.code.Form.{form_in};
 
 use crate::form::{Form, Source};
 use crate::instruction::{AluOp, Cond, EndKind, Size, Width};

@@ -1,7 +1,7 @@
 //! Why no instruction begins at a slot of an image.
 
 ghost use Rattle.std.specs.Prelude.{◌≡◌, ◌≤◌, length, option_map, None, true};
-ghost use Rattle.bpf_insn.specs.Form.{uses_of, is_other_zero};
+ghost use Rattle.bpf_insn.specs.code.Form.{uses_of, is_other_zero};
 ghost use Rattle.bpf_insn.specs.Refusal.{is_left_out, each_field, is_selected, is_zero_if_unused, reserved_is_zero, refusal_by_uses, refusal_here};
 
 use crate::bytes::{fields_from, registers_in, u16_in, u32_in};

@@ -7,10 +7,10 @@ use Rattle.std.proofs.lemmas.Bool.Decides.{nat_tests}
 use Rattle.std.proofs.lemmas.Nat.{pow_pos}
 use Rattle.std.proofs.lemmas.Nat.Bits.{bit_at-zero, same_from_bits_below}
 use Rattle.bpf_num.specs.Word.{M}
-use Rattle.bpf_num.specs.SignedLaws.{in_signed_top}
-use Rattle.bpf_num.specs.TristateKeeps.{in_bits_constant}
-use Rattle.bpf_num.specs.IntervalLaws.{in_unsigned_constant}
-use Rattle.bpf_num.specs.SignedKeeps.{in_signed_constant}
+use Rattle.bpf_num.specs.Laws.SignedLaws.{in_signed_top}
+use Rattle.bpf_num.specs.Laws.TristateKeeps.{in_bits_constant}
+use Rattle.bpf_num.specs.Laws.IntervalLaws.{in_unsigned_constant}
+use Rattle.bpf_num.specs.Laws.SignedKeeps.{in_signed_constant}
 use Rattle.bpf_num.specs.Number.{Number, IsNumber, Has, constant, is_constant}
 use Rattle.bpf_num.specs.Laws.{Holds}
 

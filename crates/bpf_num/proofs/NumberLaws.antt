@@ -21,13 +21,13 @@ use Rattle.bpf_insn.specs.declared.instruction.EndBits.{EndBits}
 use Rattle.bpf_insn.specs.declared.instruction.EndBits.TheVariants.{B16 as E16, B32 as E32, B64 as E64}
 use Rattle.bpf_insn.specs.declared.instruction.EndKind.{EndKind}
 use Rattle.bpf_num.specs.Word.{M, exact, signed, truncated, sign_extended, reversed}
-use Rattle.bpf_num.specs.WordLaws.{bit_at_truncated, no_bit}
-use Rattle.bpf_num.specs.ExactLaws.{exact_fits}
-use Rattle.bpf_num.specs.MovedLaws.{cast_low, cast_high, truncated_moves, sign_extended_moves, reversed_moves}
+use Rattle.bpf_num.specs.Laws.WordLaws.{bit_at_truncated, no_bit}
+use Rattle.bpf_num.specs.Laws.ExactLaws.{exact_fits}
+use Rattle.bpf_num.specs.Laws.MovedLaws.{cast_low, cast_high, truncated_moves, sign_extended_moves, reversed_moves}
 use Rattle.bpf_num.specs.Tristate.{Tristate, HasBits}
-use Rattle.bpf_num.specs.TristateKeeps.{at_most_word, bits_binary_keeps, bits_shift_keeps, bits_truncate_keeps, bits_sign_extend_keeps, bits_swap_keeps}
-use Rattle.bpf_num.specs.IntervalLaws.{unsigned_binary_keeps, unsigned_shift_keeps, unsigned_truncate_keeps, unsigned_sign_extend_keeps, unsigned_swap_keeps}
-use Rattle.bpf_num.specs.SignedKeeps.{signed_modulo, extended_range, signed_binary_keeps, signed_shift_keeps, signed_truncate_keeps, signed_sign_extend_keeps, signed_swap_keeps}
+use Rattle.bpf_num.specs.Laws.TristateKeeps.{at_most_word, bits_binary_keeps, bits_shift_keeps, bits_truncate_keeps, bits_sign_extend_keeps, bits_swap_keeps}
+use Rattle.bpf_num.specs.Laws.IntervalLaws.{unsigned_binary_keeps, unsigned_shift_keeps, unsigned_truncate_keeps, unsigned_sign_extend_keeps, unsigned_swap_keeps}
+use Rattle.bpf_num.specs.Laws.SignedKeeps.{signed_modulo, extended_range, signed_binary_keeps, signed_shift_keeps, signed_truncate_keeps, signed_sign_extend_keeps, signed_swap_keeps}
 use Rattle.bpf_num.specs.Number.{Number, IsNumber, Has, constant, is_constant, tighten}
 use Rattle.bpf_num.specs.Operation.{of_one, of_two, masked, truncate_parts, num_truncate, sign_extend_parts, num_sign_extend, reverse_parts, num_reverse, binary_parts, num_binary, shift_amount, shift_parts, num_shift, num_wide, num_signed32, num_left32, num_right32, num_alu32, num_alu, num_neg, num_movsx, num_end}
 use Rattle.bpf_num.specs.Laws.{Holds}

@@ -7,9 +7,9 @@ use Rattle.std.proofs.lemmas.Int.{ints, clamps}
 use Rattle.std.proofs.lemmas.Nat.{or_lt, xor_lt}
 use Rattle.std.proofs.lemmas.Nat.Bits.{bit_at_or}
 use Rattle.bpf_num.specs.Word.{complement}
-use Rattle.bpf_num.specs.WordLaws.{bit_at_and_not, no_bit, same_bits}
+use Rattle.bpf_num.specs.Laws.WordLaws.{bit_at_and_not, no_bit, same_bits}
 use Rattle.bpf_num.specs.Tristate.{Tristate, IsTristate, HasBits, bits_join, bits_entail}
-use Rattle.bpf_num.specs.TristateLaws.{bit_at_forget}
+use Rattle.bpf_num.specs.Laws.TristateLaws.{bit_at_forget}
 use Rattle.bpf_num.specs.Interval.{unsigned_entail}
 use Rattle.bpf_num.specs.SignedInterval.{signed_entail}
 use Rattle.bpf_num.specs.Number.{Number, IsNumber, Has, join, entails}

@@ -11,13 +11,13 @@ use Rattle.std.proofs.Math.Pow.{pow_mono}
 use Rattle.bpf_insn.specs.declared.instruction.AluOp.{AluOp}
 use Rattle.bpf_insn.specs.declared.instruction.AluOp.TheVariants.{Lsh, Rsh, Arsh}
 use Rattle.bpf_num.specs.Word.{M, exact, complement, word_sub}
-use Rattle.bpf_num.specs.WordLaws.{bit_at_and_not, no_bit, same_bits, zero_from_bits, sub_is, below_length, ones_fit}
-use Rattle.bpf_num.specs.TristateBitLaws.{apart_at}
-use Rattle.bpf_num.specs.MovedLaws.{Moves, lsh_moves, rsh_moves, arsh_moves}
+use Rattle.bpf_num.specs.Laws.WordLaws.{bit_at_and_not, no_bit, same_bits, zero_from_bits, sub_is, below_length, ones_fit}
+use Rattle.bpf_num.specs.Laws.TristateBitLaws.{apart_at}
+use Rattle.bpf_num.specs.Laws.MovedLaws.{Moves, lsh_moves, rsh_moves, arsh_moves}
 use Rattle.bpf_num.specs.Tristate.{Tristate, IsTristate, HasBits, IsShift, tristate, bits_setting, bits_clearing}
 use Rattle.bpf_num.specs.Interval.{Interval, IsInterval, interval, unsigned_or, unsigned_truncate}
 use Rattle.bpf_num.specs.SignedInterval.{SignedInterval, IsSignedInterval, signed_interval, least, most}
-use Rattle.bpf_num.specs.SignedKeeps.{halved_ok}
+use Rattle.bpf_num.specs.Laws.SignedKeeps.{halved_ok}
 
 -- ---- known bits
 

@@ -18,11 +18,11 @@ use Rattle.bpf_insn.specs.declared.instruction.Width.TheVariants.{W32, W64}
 use Rattle.bpf_insn.specs.declared.instruction.SignBits.TheVariants.{B32 as S32}
 use Rattle.bpf_insn.specs.declared.instruction.EndBits.TheVariants.{B32 as E32}
 use Rattle.bpf_num.specs.Word.{M, signed, sign_extended, complement}
-use Rattle.bpf_num.specs.WordLaws.{bit_at_and_not, no_bit, zero_from_bits}
+use Rattle.bpf_num.specs.Laws.WordLaws.{bit_at_and_not, no_bit, zero_from_bits}
 use Rattle.bpf_num.specs.Tristate.{Tristate, IsTristate, HasBits, tristate, greatest, bits_meet, bits_setting, bits_clearing}
-use Rattle.bpf_num.specs.TristateBitLaws.{apart_at}
+use Rattle.bpf_num.specs.Laws.TristateBitLaws.{apart_at}
 use Rattle.bpf_num.specs.Interval.{Interval, IsInterval, Within, interval, unsigned_meet, unsigned_without}
-use Rattle.bpf_num.specs.IntervalLaws.{extended_low}
+use Rattle.bpf_num.specs.Laws.IntervalLaws.{extended_low}
 use Rattle.bpf_num.specs.SignedInterval.{SignedInterval, IsSignedInterval, SignedWithin, signed_interval, signed_meet, signed_without, least, most}
 use Rattle.bpf_num.specs.Number.{Number, IsNumber, Has, number, is_constant, tighten}
 use Rattle.bpf_num.specs.Refine.{both, meet, without, without_constant, unsigned_above, signed_above, exchanged, is_one_bit, with_common_bit, with_no_common_bit, where_holds, where_fails, tightened_both, refine64, is_signed, tested32, is_read_whole, refine32, refine}

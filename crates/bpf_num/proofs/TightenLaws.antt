@@ -12,8 +12,8 @@ use Rattle.std.proofs.lemmas.Nat.Bits.{bit_at-lt, bit_at-zero, bit_at_and, bit_a
 use Rattle.std.proofs.Math.Nat.{lt_of_le_of_lt}
 use Rattle.bpf_num.specs.Word.{M, signed, unsigned, complement, bit_length}
 use Rattle.bpf_num.specs.Tristate.{Tristate, IsTristate, HasBits, tristate, greatest}
-use Rattle.bpf_num.specs.TristateLaws.{member_between}
-use Rattle.bpf_num.specs.WordLaws.{Half, signed_is, le_from_bits, shared_bits, above_ones, ones_fit}
+use Rattle.bpf_num.specs.Laws.TristateLaws.{member_between}
+use Rattle.bpf_num.specs.Laws.WordLaws.{Half, signed_is, le_from_bits, shared_bits, above_ones, ones_fit}
 use Rattle.bpf_num.specs.Interval.{Interval, IsInterval, Within, interval, unsigned_meet}
 use Rattle.bpf_num.specs.SignedInterval.{SignedInterval, IsSignedInterval, SignedWithin, signed_interval, signed_meet, least, most}
 use Rattle.bpf_num.specs.Number.{Number, IsNumber, Has, tighten, unsigned_from_bits, signed_from_unsigned, unsigned_from_signed, bits_from_unsigned}

@@ -16,12 +16,12 @@ use Rattle.bpf_insn.specs.declared.instruction.SignBits.{SignBits}
 use Rattle.bpf_insn.specs.declared.instruction.EndBits.{EndBits}
 use Rattle.bpf_insn.specs.declared.instruction.EndBits.TheVariants.{B16 as E16, B32 as E32, B64 as E64}
 use Rattle.bpf_num.specs.Word.{M, exact, complement, low_zeros, truncated, sign_extended, reversed, word_add, word_sub}
-use Rattle.bpf_num.specs.WordLaws.{bit_at_and_not, zero_from_bits, modulo_fits, ones_fit}
-use Rattle.bpf_num.specs.MovedLaws.{moved_is_tristate, truncated_moves, lsh_moves, rsh_moves, arsh_moves, sign_extended_moves, reversed_moves}
-use Rattle.bpf_num.specs.TristateKeeps.{at_most_word}
-use Rattle.bpf_num.specs.IntervalLaws.{div_between}
-use Rattle.bpf_num.specs.SignedMulLaws.{least_corner, greatest_corner}
-use Rattle.bpf_num.specs.SignedKeeps.{halved_ok, scaled_order, toward_zero_ok, within_word, abs_small, width_ok}
+use Rattle.bpf_num.specs.Laws.WordLaws.{bit_at_and_not, zero_from_bits, modulo_fits, ones_fit}
+use Rattle.bpf_num.specs.Laws.MovedLaws.{moved_is_tristate, truncated_moves, lsh_moves, rsh_moves, arsh_moves, sign_extended_moves, reversed_moves}
+use Rattle.bpf_num.specs.Laws.TristateKeeps.{at_most_word}
+use Rattle.bpf_num.specs.Laws.IntervalLaws.{div_between}
+use Rattle.bpf_num.specs.Laws.SignedMulLaws.{least_corner, greatest_corner}
+use Rattle.bpf_num.specs.Laws.SignedKeeps.{halved_ok, scaled_order, toward_zero_ok, within_word, abs_small, width_ok}
 use Rattle.bpf_num.specs.Tristate.{Tristate, IsTristate, forget, greatest, bits_top, bits_binary, bits_shift, bits_moved}
 use Rattle.bpf_num.specs.Interval.{Interval, IsInterval, interval, unsigned_top, unsigned_if, unsigned_binary, unsigned_shift, unsigned_truncate, unsigned_sign_extend, unsigned_swap}
 use Rattle.bpf_num.specs.SignedInterval.{SignedInterval, IsSignedInterval, signed_interval, signed_top, signed_if, if_fits, least, most, signed_binary, signed_shift, signed_truncate, signed_sign_extend, signed_swap}

@@ -1,4 +1,17 @@
 -- What operations on abstract numbers promise: members in, the exact result on members out.
+pub mod WordLaws
+pub mod ExactLaws
+pub mod Carry
+pub mod TristateLaws
+pub mod TristateSubLaws
+pub mod TristateBitLaws
+pub mod MovedLaws
+pub mod TristateKeeps
+pub mod IntervalLaws
+pub mod SignedLaws
+pub mod IntegerLaws
+pub mod SignedMulLaws
+pub mod SignedKeeps
 use Rattle.std.specs.Prelude.{◌≡◌, ℕ, ◌<◌, Bool, true, Option, Some}
 use Rattle.bpf_insn.specs.declared.order.Order.{Order}
 use Rattle.bpf_insn.specs.declared.instruction.AluOp.{AluOp}

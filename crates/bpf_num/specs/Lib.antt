@@ -5,17 +5,4 @@ pub mod SignedInterval
 pub mod Number
 pub mod Operation
 pub mod Refine
-pub mod WordLaws
-pub mod ExactLaws
-pub mod Carry
-pub mod TristateLaws
-pub mod TristateSubLaws
-pub mod TristateBitLaws
-pub mod MovedLaws
-pub mod TristateKeeps
-pub mod IntervalLaws
-pub mod SignedLaws
-pub mod IntegerLaws
-pub mod SignedMulLaws
-pub mod SignedKeeps
 pub mod Laws

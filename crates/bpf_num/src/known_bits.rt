@@ -198,8 +198,8 @@ impl WordDomain for KnownBits {
     ghost use Rattle.bpf_insn.specs.Arithmetic.{swap_size};
     ghost use Rattle.bpf_num.specs.Word.{truncated, sign_extended, reversed};
     ghost use Rattle.bpf_num.specs.Tristate.{IsTristate, HasBits, bits_top, bits_constant, bits_binary, bits_shift, bits_moved};
-    ghost use Rattle.bpf_num.specs.TristateBitLaws.{in_bits_top};
-    ghost use Rattle.bpf_num.specs.TristateKeeps.{in_bits_constant, bits_binary_keeps, bits_shift_keeps, bits_truncate_keeps, bits_sign_extend_keeps, bits_swap_keeps};
+    ghost use Rattle.bpf_num.specs.Laws.TristateBitLaws.{in_bits_top};
+    ghost use Rattle.bpf_num.specs.Laws.TristateKeeps.{in_bits_constant, bits_binary_keeps, bits_shift_keeps, bits_truncate_keeps, bits_sign_extend_keeps, bits_swap_keeps};
 
     ghost is_valid = { IsTristate };
 

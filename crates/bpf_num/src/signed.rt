@@ -212,8 +212,8 @@ impl WordDomain for Signed {
     ghost use mir.Val.{bits};
     ghost use Rattle.bpf_insn.specs.Arithmetic.{swap_size, sign_type};
     ghost use Rattle.bpf_num.specs.SignedInterval.{IsSignedInterval, SignedWithin, signed_top, signed_constant, signed_binary, signed_shift, signed_truncate, signed_sign_extend, signed_swap};
-    ghost use Rattle.bpf_num.specs.SignedLaws.{in_signed_top};
-    ghost use Rattle.bpf_num.specs.SignedKeeps.{in_signed_constant, signed_binary_keeps, signed_shift_keeps, signed_truncate_keeps, signed_sign_extend_keeps, signed_swap_keeps};
+    ghost use Rattle.bpf_num.specs.Laws.SignedLaws.{in_signed_top};
+    ghost use Rattle.bpf_num.specs.Laws.SignedKeeps.{in_signed_constant, signed_binary_keeps, signed_shift_keeps, signed_truncate_keeps, signed_sign_extend_keeps, signed_swap_keeps};
 
     ghost is_valid = { IsSignedInterval };
 

@@ -220,7 +220,7 @@ impl WordDomain for Unsigned {
     ghost use mir.Val.{bits};
     ghost use Rattle.bpf_insn.specs.Arithmetic.{swap_size, sign_type};
     ghost use Rattle.bpf_num.specs.Interval.{IsInterval, Within, unsigned_top, unsigned_constant, unsigned_binary, unsigned_shift, unsigned_truncate, unsigned_sign_extend, unsigned_swap};
-    ghost use Rattle.bpf_num.specs.IntervalLaws.{in_unsigned_top, in_unsigned_constant, unsigned_binary_keeps, unsigned_shift_keeps, unsigned_truncate_keeps, unsigned_sign_extend_keeps, unsigned_swap_keeps};
+    ghost use Rattle.bpf_num.specs.Laws.IntervalLaws.{in_unsigned_top, in_unsigned_constant, unsigned_binary_keeps, unsigned_shift_keeps, unsigned_truncate_keeps, unsigned_sign_extend_keeps, unsigned_swap_keeps};
 
     ghost is_valid = { IsInterval };
 

@@ -26,7 +26,7 @@ use Rattle.bpf_safety.proofs.Facts.{passes_none}
 use Rattle.std.proofs.Math.IntN.{zero-*ℤ, *ℤ_comm}
 use Rattle.std.proofs.lemmas.Bool.Decides.{nat_tests}
 use Rattle.std.proofs.lemmas.Option.{slice_get_within, get_or_from_slice_get}
-use Rattle.bpf_num.specs.IntegerLaws.{mul_le_pos}
+use Rattle.bpf_num.specs.Laws.IntegerLaws.{mul_le_pos}
 use Rattle.bpf_state.specs.declared.state.Tag.{Tag}
 
 -- what is known at the label, with the values that the label's places hold

@@ -3,7 +3,7 @@ use Rattle.std.proofs.Common.{◌≡◌, ℕ, suc, ◌+◌, refl, sym, ap, ◌�
 use Rattle.std.proofs.lemmas.Bool.{false≢true}
 use Rattle.std.proofs.lemmas.Int.{ints}
 use Rattle.bpf_num.specs.Interval.{Interval}
-use Rattle.bpf_num.specs.IntegerLaws.{least_at_end}
+use Rattle.bpf_num.specs.Laws.IntegerLaws.{least_at_end}
 use Rattle.bpf_state.specs.State.{AbstractState}
 use Rattle.bpf_state.specs.declared.state.Tag.{Tag}
 use Rattle.bpf_cert.specs.declared.certificate.Term.{Term}

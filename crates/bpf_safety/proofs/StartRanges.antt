@@ -13,11 +13,11 @@ use Rattle.std.proofs.lemmas.Nat.Bits.{bit_at-lt, bit_at-zero, bit_at_and, bit_a
 use Rattle.std.proofs.Math.Pow.{shr_mono, pow_mono}
 use Rattle.std.proofs.Math.Nat.{div-eq_of_lt}
 use Rattle.bpf_num.specs.Word.{M, signed, unsigned, complement, bit_length}
-use Rattle.bpf_num.specs.WordLaws.{le_from_bits, shared_bits, ones_fit, below_length, no_bit, same_bits, signed_low, bit_at_and_not}
+use Rattle.bpf_num.specs.Laws.WordLaws.{le_from_bits, shared_bits, ones_fit, below_length, no_bit, same_bits, signed_low, bit_at_and_not}
 use Rattle.bpf_num.specs.Tristate.{Tristate, tristate, bits_top, bits_entail, greatest}
 use Rattle.bpf_num.specs.Interval.{Interval, interval, unsigned_meet, unsigned_entail}
 use Rattle.bpf_num.specs.SignedInterval.{SignedInterval, signed_interval, signed_top, signed_meet, signed_entail}
-use Rattle.bpf_num.specs.IntegerLaws.{least_at_end}
+use Rattle.bpf_num.specs.Laws.IntegerLaws.{least_at_end}
 use Rattle.bpf_num.specs.Number.{Number, number, tighten, entails, unsigned_from_bits, signed_from_unsigned, unsigned_from_signed, bits_from_unsigned}
 use Rattle.bpf_state.specs.declared.state.RegState.{RegState}
 use Rattle.bpf_state.specs.declared.state.RegState.TheVariants.{Any, Num, Ctx, Frame}

@@ -22,9 +22,9 @@ use Rattle.bpf_semantics.specs.Stuck.{reason_at}
 use Rattle.bpf_semantics.specs.State as machine
 use Rattle.bpf_semantics.specs.State.{put}
 use Rattle.bpf_num.specs.Word.{M, sign_extended}
-use Rattle.bpf_num.specs.WordLaws.{modulo_fits}
-use Rattle.bpf_num.specs.SignedLaws.{in_signed_top}
-use Rattle.bpf_num.specs.SignedKeeps.{signed_sign_extend_keeps}
+use Rattle.bpf_num.specs.Laws.WordLaws.{modulo_fits}
+use Rattle.bpf_num.specs.Laws.SignedLaws.{in_signed_top}
+use Rattle.bpf_num.specs.Laws.SignedKeeps.{signed_sign_extend_keeps}
 use Rattle.bpf_num.specs.Number.{number, tighten}
 use Rattle.bpf_num.specs.Laws.{Holds, TightenKeeps}
 use Rattle.bpf_num.specs.Tristate.{bits_top}

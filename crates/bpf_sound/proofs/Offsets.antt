@@ -9,14 +9,14 @@ use Rattle.bpf_semantics.specs.declared.state.Region.{Region}
 use Rattle.bpf_insn.specs.Arithmetic.{modulo}
 use Rattle.bpf_semantics.specs.Step.{wrapped}
 use Rattle.bpf_num.specs.Word.{M, signed}
-use Rattle.bpf_num.specs.WordLaws.{modulo_fits}
+use Rattle.bpf_num.specs.Laws.WordLaws.{modulo_fits}
 use Rattle.bpf_num.specs.Tristate.{bits_top}
-use Rattle.bpf_num.specs.TristateBitLaws.{in_bits_top}
+use Rattle.bpf_num.specs.Laws.TristateBitLaws.{in_bits_top}
 use Rattle.bpf_num.specs.Interval.{unsigned_top}
-use Rattle.bpf_num.specs.IntervalLaws.{in_unsigned_top}
+use Rattle.bpf_num.specs.Laws.IntervalLaws.{in_unsigned_top}
 use Rattle.bpf_num.specs.SignedInterval.{SignedInterval, IsSignedInterval, signed_interval, signed_top, signed_sub, least, most}
-use Rattle.bpf_num.specs.SignedLaws.{fits_64, if_fits_keeps}
-use Rattle.bpf_num.specs.SignedKeeps.{signed_modulo}
+use Rattle.bpf_num.specs.Laws.SignedLaws.{fits_64, if_fits_keeps}
+use Rattle.bpf_num.specs.Laws.SignedKeeps.{signed_modulo}
 use Rattle.bpf_num.specs.Number.{Number, Has, number, tighten}
 use Rattle.bpf_num.specs.Laws.{Holds, TightenKeeps}
 use Rattle.bpf_sound.specs.Describes.{PointsInto}

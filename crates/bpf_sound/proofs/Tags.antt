@@ -18,7 +18,7 @@ use Rattle.bpf_insn.specs.Arithmetic.{alu, modulo}
 use Rattle.bpf_semantics.specs.State as machine
 use Rattle.bpf_semantics.specs.Step.{operand as machine_operand, alu_result}
 use Rattle.bpf_num.specs.Word.{M, signed}
-use Rattle.bpf_num.specs.WordLaws.{signed_is}
+use Rattle.bpf_num.specs.Laws.WordLaws.{signed_is}
 use Rattle.bpf_num.specs.Number.{Number, IsNumber, Has, is_constant}
 use Rattle.bpf_num.specs.Laws.{ConstantHas, ConstantIs}
 use Rattle.bpf_state.specs.declared.state.RegState.{RegState}

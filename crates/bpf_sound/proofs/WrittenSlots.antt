@@ -11,7 +11,7 @@ use Rattle.bpf_semantics.specs.State.{Cell}
 use Rattle.bpf_semantics.specs.State.Cell.{Byte}
 use Rattle.bpf_num.specs.Word.{M}
 use Rattle.bpf_num.specs.Number.{Has, top}
-use Rattle.bpf_num.specs.SignedLaws.{in_signed_top}
+use Rattle.bpf_num.specs.Laws.SignedLaws.{in_signed_top}
 use Rattle.bpf_state.specs.declared.state.SlotState.{SlotState}
 use Rattle.bpf_state.specs.declared.state.SlotState.TheVariants.{Bytes, Word, Ptr}
 use Rattle.bpf_state.specs.Transfer.{slot_written, slot_maybe_written}

@@ -11,7 +11,7 @@ use Rattle.bpf_insn.specs.Instruction.{byte_count}
 use Rattle.bpf_insn.specs.declared.instruction.Size.{Size}
 use Rattle.bpf_insn.specs.declared.instruction.Size.TheVariants.{B, H, W, DW}
 use Rattle.bpf_state.specs.Access.{Span, first_byte, span_end, place_in}
-use Rattle.bpf_state.specs.Parts.{IsSpan, AreTouched, depth_of}
+use Rattle.bpf_state.specs.code.Parts.{IsSpan, AreTouched, depth_of}
 
 same_tests : (a b : Bool) → (a ≡ true → b ≡ true) → (b ≡ true → a ≡ true) → a ≡ b
 same_tests true b f g = sym (f refl)

@@ -10,7 +10,7 @@ use Rattle.bpf_state.specs.declared.state.SlotState.{SlotState}
 use Rattle.bpf_state.specs.declared.state.SlotState.TheVariants.{Bytes, Word, Ptr}
 use Rattle.bpf_state.specs.declared.masked.Whole.{Whole}
 use Rattle.bpf_state.specs.State.{IsSlot}
-use Rattle.bpf_state.specs.Masked.{held_slots, mask_of, AreSlots}
+use Rattle.bpf_state.specs.code.Masked.{held_slots, mask_of, AreSlots}
 use Rattle.bpf_state.specs.Entails.{slot_entails, all_pairs}
 use Rattle.bpf_state.specs.Covers.{Covers}
 use Rattle.bpf_state.proofs.MaskedLemmas.{full_keeps, mask_held}

@@ -10,7 +10,7 @@ use Rattle.bpf_state.specs.declared.masked.Whole.{Whole}
 use Rattle.bpf_state.specs.declared.masked.Whole.TheVariants.{Word as Number, Ptr as Pointer}
 use Rattle.bpf_state.specs.declared.state.Pointer.TheVariants.{Ctx as CtxIn}
 use Rattle.bpf_state.specs.State.{IsSlot, tightened_slot}
-use Rattle.bpf_state.specs.Masked.{whole_slot, held, held_slots, mask_of, AreSlots}
+use Rattle.bpf_state.specs.code.Masked.{whole_slot, held, held_slots, mask_of, AreSlots}
 
 -- ---- one slot
 

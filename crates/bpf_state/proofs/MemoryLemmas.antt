@@ -26,7 +26,7 @@ use Rattle.bpf_state.specs.Access.{Span, span_at, is_slot, is_inside, touches, t
 use Rattle.bpf_state.specs.Fault.{is_any, is_number, is_pointer, can_store, have_right_kinds, reads_part, some_passes, fault_of, reads_any, has_wrong_kinds, is_out_of_bounds, reads_unknown_byte, writes_protected}
 use Rattle.bpf_state.specs.Transfer.{transfer, unless, live, after, loaded, loaded_tag, any_number, any_signed, set_number, stored, fetched, modified_by}
 use Rattle.bpf_state.specs.Transfer.Outcome.{Faulty}
-use Rattle.bpf_state.specs.Parts.{read_fault, or_protected, load_outcome, load_sx_outcome, store_fault, store_outcome, compares, atomic_operands, atomic_outcome}
+use Rattle.bpf_state.specs.code.Parts.{read_fault, or_protected, load_outcome, load_sx_outcome, store_fault, store_outcome, compares, atomic_operands, atomic_outcome}
 
 -- ---- from a fault to an outcome
 

@@ -13,7 +13,7 @@ use Rattle.bpf_state.specs.declared.state.SlotState.TheVariants.{Bytes}
 use Rattle.bpf_state.specs.declared.state.Tag.{Tag}
 use Rattle.bpf_state.specs.Access.{Span, touches, touched_bytes, any_slot, is_known, is_slot, place_in, first_byte, span_end}
 use Rattle.bpf_state.specs.Transfer.{each_slot, each_slot_tag}
-use Rattle.bpf_state.specs.Parts.{IsSpan, AreTouched}
+use Rattle.bpf_state.specs.code.Parts.{IsSpan, AreTouched}
 
 -- ---- a test of some slot
 

@@ -1,5 +1,5 @@
 pub mod State
-pub mod Masked
+pub mod code
 pub mod Covers
 pub mod Access
 pub mod Fault
@@ -7,5 +7,3 @@ pub mod Transfer
 pub mod Entails
 pub mod Answer
 pub mod Work
-pub mod Parts
-pub mod Results

@@ -15,7 +15,7 @@ pub(crate) struct Reach {
 
 impl Model for Reach {
     ghost use Rattle.bpf_state.specs.Access.{Span};
-    ghost use Rattle.bpf_state.specs.Parts.{IsSpan};
+    ghost use Rattle.bpf_state.specs.code.Parts.{IsSpan};
 
     ghost Value = { Span };
 
@@ -31,7 +31,7 @@ ghost use Rattle.bpf_state.specs.Fault.{is_pointer};
 ghost use Rattle.bpf_insn.specs.Instruction.{byte_count};
 ghost use Rattle.bpf_state.specs.Access.{span_at, span_end, is_known, is_slot, is_inside, slot_number, first_byte, place_in, touched_bytes};
 ghost use Rattle.bpf_state.specs.State.{IsRegister};
-ghost use Rattle.bpf_state.specs.Parts.{IsSpan, AreTouched, depth_of};
+ghost use Rattle.bpf_state.specs.code.Parts.{IsSpan, AreTouched, depth_of};
 
 impl Reach {
     /// The reach of an access at an offset from a pointer.

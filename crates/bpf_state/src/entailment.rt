@@ -3,7 +3,7 @@
 ghost use Rattle.std.specs.Prelude.{◌≡◌, ◌<◌, ◌-◌, get_or, bit_and, All};
 ghost use Rattle.bpf_state.specs.declared.state.SlotState.TheVariants.{Bytes};
 ghost use Rattle.bpf_state.specs.State.{IsSlot};
-ghost use Rattle.bpf_state.specs.Masked.{mask_of};
+ghost use Rattle.bpf_state.specs.code.Masked.{mask_of};
 ghost use Rattle.bpf_state.specs.Entails.{register_entails, slot_entails, all_pairs, state_entails};
 
 use crate::abstract_state::State;

@@ -27,7 +27,7 @@ impl Model for Slots {
 
     ghost Value = { List SlotState };
 
-    ghost use Rattle.bpf_state.specs.Masked.{held_slots, AreSlots};
+    ghost use Rattle.bpf_state.specs.code.Masked.{held_slots, AreSlots};
 
     ghost view = { λ s. held_slots s.masks s.wholes };
 
@@ -39,7 +39,7 @@ impl Slots {
     ghost use Rattle.bpf_state.specs.declared.state.SlotState.TheVariants.{Bytes};
     ghost use Rattle.bpf_state.specs.State.{IsSlot};
     ghost use Rattle.bpf_state.specs.Access.{are_known_bytes};
-    ghost use Rattle.bpf_state.specs.Masked.{mask_of};
+    ghost use Rattle.bpf_state.specs.code.Masked.{mask_of};
     ghost use Rattle.bpf_state.specs.Covers.{Covers};
 
     /// Nothing is known of any byte.

@@ -23,11 +23,11 @@ use Rattle.bpf_text.specs.declared.spelling.Memory.{Memory}
 use Rattle.bpf_text.specs.declared.spelling.Memory.TheVariants.{Unsigned, Signed}
 use Rattle.bpf_text.specs.declared.statement.Jump.{Jump}
 use Rattle.bpf_text.specs.declared.statement.Jump.TheVariants.{If as OnTest}
-use Rattle.bpf_text.specs.WordReading.{word_in, behind, behind_word, behind_mark, first_spelled, signed_in}
+use Rattle.bpf_text.specs.code.WordReading.{word_in, behind, behind_word, behind_mark, first_spelled, signed_in}
 use Rattle.bpf_text.specs.Statements.{plain}
 use Rattle.bpf_text.specs.Spelling.{register_text, cond_text, modify_text, unsigned_text, signed_text}
 use Rattle.bpf_text.specs.Parts.{memories, memory_text}
-use Rattle.bpf_text.specs.StatementReading.{load_in, place_in, assigned_in, store_in, change_in, exchange_in, atomic_in, wide_of, target_in, branch_in, register_in}
+use Rattle.bpf_text.specs.code.StatementReading.{load_in, place_in, assigned_in, store_in, change_in, exchange_in, atomic_in, wide_of, target_in, branch_in, register_in}
 use Rattle.bpf_text.specs.Statements.{store_of, jump_by}
 use Rattle.bpf_text.specs.Listing.{r_text, offset_text, distance_text, operand_text, atomic_word, atomic_sign}
 use Rattle.bpf_text.proofs.WordLemmas.{Stops, decimal_number, unsigned_here, unsigned_behind_blank, word_behind_blank}

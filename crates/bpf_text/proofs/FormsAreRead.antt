@@ -39,7 +39,7 @@ use Rattle.bpf_text.specs.Spelling.{register_text, operation_text, cond_text, mo
 use Rattle.bpf_text.specs.Statements.{plain, to_label}
 use Rattle.bpf_text.specs.Numerals.{fits_32, fits_wide}
 use Rattle.bpf_text.specs.Statements.{is_extension, load_of, store_of}
-use Rattle.bpf_text.specs.StatementReading.{wide_of}
+use Rattle.bpf_text.specs.code.StatementReading.{wide_of}
 use Rattle.bpf_text.specs.Grammar.{Token, tokens, Numeral, Number, number_value, constant_tokens, signed_tokens, Name, Address, Target, one_word, operand_tokens, address_tokens, target_tokens, atomic_marks, is_loaded, Form, form_tokens, form_said, operand_said, offset_said, target_said, branch_said}
 use Rattle.bpf_text.specs.Grammar.{OperandForm}
 use Rattle.bpf_text.specs.Grammar.Token.{word, mark}

@@ -36,11 +36,11 @@ use Rattle.bpf_text.specs.declared.statement.Place.{Place}
 use Rattle.bpf_text.specs.declared.statement.Jump.{Jump}
 use Rattle.bpf_text.specs.declared.statement.Jump.TheVariants.{Goto as ToSlot, GotoLong as FarToSlot, Call as CallSlot, If as OnTest}
 use Rattle.bpf_text.specs.Parts.{registers, operations, conditions, modifications, extensions, swaps, memories, keywords, register_spelling, swap_spelling, memory_text, keyword_text}
-use Rattle.bpf_text.specs.WordReading.{◌>>=◌, or_else}
+use Rattle.bpf_text.specs.code.WordReading.{◌>>=◌, or_else}
 use Rattle.bpf_text.specs.Numerals.{word_value}
 use Rattle.bpf_text.specs.Spelling.{register_text, operation_text, cond_text, modify_text, sign_bits_text, swap_text}
 use Rattle.bpf_text.specs.Statements.{Statement, plain, to_label}
-use Rattle.bpf_text.specs.StatementReading.{first_way, same_width, unsigned_size, wide_of}
+use Rattle.bpf_text.specs.code.StatementReading.{first_way, same_width, unsigned_size, wide_of}
 use Rattle.bpf_text.specs.Numerals.{fits_16, fits_32, fits_wide}
 use Rattle.bpf_text.specs.Statements.{is_extension, load_of, store_of, jump_by}
 use Rattle.bpf_text.specs.Characters.{is_name}

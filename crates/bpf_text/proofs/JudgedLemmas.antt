@@ -22,7 +22,7 @@ use Rattle.bpf_text.specs.declared.error.TextError.{TextError}
 use Rattle.bpf_text.specs.declared.error.TextError.TheVariants.{TooLong}
 use Rattle.bpf_text.specs.Assembly.{instructions_of, program_error, max_text, Assembles, IsRefused}
 use Rattle.bpf_text.specs.Assembly.IsRefused.{too_long, no_instructions, no_program}
-use Rattle.bpf_text.specs.LineReading.{source_of}
+use Rattle.bpf_text.specs.code.LineReading.{source_of}
 use Rattle.bpf_text.specs.Laws.{AssemblesOrIsRefused}
 use Rattle.bpf_text.proofs.TextsRead.{text_says}
 

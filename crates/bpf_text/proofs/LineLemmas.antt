@@ -3,7 +3,7 @@ use Rattle.std.proofs.Common.{◌≡◌, ℕ, Bool, true, false, cond, eqb, List
 use Rattle.std.specs.Prelude.{is_some, option_to_list, if◌then◌else◌}
 use Rattle.std.specs.List.{slice_split, onto_first}
 use Rattle.bpf_text.specs.Sources.{before}
-use Rattle.bpf_text.specs.LineReading.{behind_it, label_in, labels_in, last_part}
+use Rattle.bpf_text.specs.code.LineReading.{behind_it, label_in, labels_in, last_part}
 
 -- the parts of what stands behind a mark
 abbrev pub rest_split : ℕ → Option (List ℕ) → List (List ℕ)

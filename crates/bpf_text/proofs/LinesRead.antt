@@ -19,13 +19,13 @@ use Rattle.bpf_insn.specs.declared.instruction.AtomicOp.TheVariants.{Modify as C
 use Rattle.bpf_text.specs.declared.line.LineFault.{LineFault}
 use Rattle.bpf_text.specs.declared.line.LineFault.TheVariants.{NoForm}
 use Rattle.bpf_text.specs.Spelling.{operation_text, cond_text, modify_text}
-use Rattle.bpf_text.specs.WordReading.{◌>>=◌, skip_blanks}
+use Rattle.bpf_text.specs.code.WordReading.{◌>>=◌, skip_blanks}
 use Rattle.bpf_text.specs.Characters.{is_word_part, is_blank}
 use Rattle.bpf_text.specs.Characters.{is_name}
-use Rattle.bpf_text.specs.StatementReading.{if_blank}
+use Rattle.bpf_text.specs.code.StatementReading.{if_blank}
 use Rattle.bpf_text.specs.Statements.{Statement}
 use Rattle.bpf_text.specs.Sources.{before}
-use Rattle.bpf_text.specs.LineReading.{behind_it, label_in, labels_in, last_part, parts_of, checked, said_in, part_said, line_in}
+use Rattle.bpf_text.specs.code.LineReading.{behind_it, label_in, labels_in, last_part, parts_of, checked, said_in, part_said, line_in}
 use Rattle.bpf_text.specs.Grammar.{Token, word_ends, tokens_after, tokens, Name, Target, operand_tokens, constant_tokens, register_tokens, address_tokens, target_tokens, atomic_word, atomic_marks, Form, form_tokens, form_said, label_tokens, may_be_form, IsLine}
 use Rattle.bpf_text.specs.Grammar.{OperandForm}
 use Rattle.bpf_text.specs.Grammar.Token.{word, mark}

@@ -30,11 +30,11 @@ use Rattle.bpf_insn.specs.declared.instruction.AtomicOp.TheVariants.{Modify as C
 use Rattle.bpf_insn.specs.declared.instruction.Insn.{Insn}
 use Rattle.bpf_insn.specs.declared.instruction.Insn.TheVariants.{Alu, Neg, MovSx, End, LoadImm64, Load, LoadSx, Store, StoreImm, Atomic, Ja, JaLong, JumpIf, CallLocal, Exit}
 use Rattle.bpf_text.specs.Characters.{is_word_part}
-use Rattle.bpf_text.specs.WordReading.{skip_blanks}
+use Rattle.bpf_text.specs.code.WordReading.{skip_blanks}
 use Rattle.bpf_text.specs.Spelling.{register_text, operation_text, cond_text, sign_bits_text, swap_text, unsigned_text, signed_text}
 use Rattle.bpf_text.specs.Listing.{pieces, line_text, with_sign, number_text, offset_text, distance_text, operand_text, hex_text, atomic_word, atomic_sign}
 use Rattle.bpf_text.specs.Sources.{before, lines_of}
-use Rattle.bpf_text.specs.LineReading.{parts_of}
+use Rattle.bpf_text.specs.code.LineReading.{parts_of}
 use Rattle.bpf_text.proofs.WordLemmas.{both_true, decimal_number, hex_number, IsNumber}
 use Rattle.bpf_text.proofs.AccessLemmas.{IsShort, short_16, short_32}
 

@@ -12,8 +12,8 @@ use Rattle.bpf_text.specs.declared.spelling.Register.{Register}
 use Rattle.bpf_text.specs.Spelling.{sign_bits_text, register_text}
 use Rattle.bpf_text.specs.Characters.{is_word_part}
 use Rattle.bpf_text.specs.Parts.{registers, register, register_spelling, swaps, swap_spelling, extensions, memories, memory_text, keywords, keyword_text}
-use Rattle.bpf_text.specs.WordReading.{Read, skip_blanks, word_in, word_of, word_front, word_rest, behind, behind_word, behind_mark, behind_first, behind_marks, behind_front, first_spelled, found_here, or_else}
-use Rattle.bpf_text.specs.StatementReading.{any_register_in}
+use Rattle.bpf_text.specs.code.WordReading.{Read, skip_blanks, word_in, word_of, word_front, word_rest, behind, behind_word, behind_mark, behind_first, behind_marks, behind_front, first_spelled, found_here, or_else}
+use Rattle.bpf_text.specs.code.StatementReading.{any_register_in}
 use Rattle.bpf_text.specs.Lookup.{first_named, by_word, may_begin, width_named, digit_named, number_named, register_named}
 
 -- ---- words

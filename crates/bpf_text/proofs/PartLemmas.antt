@@ -19,10 +19,10 @@ use Rattle.bpf_insn.specs.declared.instruction.Cond.TheVariants.{Eq, Gt, Ge, Set
 use Rattle.bpf_insn.specs.declared.instruction.Modify.{Modify}
 use Rattle.bpf_insn.specs.declared.instruction.Modify.TheVariants.{Add as AddTo, Or as OrTo, And as AndTo, Xor as XorTo}
 use Rattle.bpf_text.specs.declared.spelling.Memory.TheVariants.{Unsigned, Signed}
-use Rattle.bpf_text.specs.WordReading.{word_in, behind, behind_word, behind_mark, first_spelled}
+use Rattle.bpf_text.specs.code.WordReading.{word_in, behind, behind_word, behind_mark, first_spelled}
 use Rattle.bpf_text.specs.Spelling.{register_text, operation_text, cond_text, modify_text, sign_bits_text, swap_text, unsigned_text, signed_text}
 use Rattle.bpf_text.specs.Parts.{register, operations, conditions, modifications, extensions, swaps, memories, swap_spelling, memory_text, swap}
-use Rattle.bpf_text.specs.StatementReading.{any_register_in, register_in}
+use Rattle.bpf_text.specs.code.StatementReading.{any_register_in, register_in}
 use Rattle.bpf_text.proofs.WordLemmas.{Stops}
 
 -- ---- registers

@@ -16,14 +16,14 @@ use Rattle.bpf_insn.specs.declared.instruction.Insn.{Insn}
 use Rattle.bpf_insn.specs.declared.instruction.Insn.TheVariants.{Alu, Neg, MovSx, End, LoadImm64, Load, LoadSx, Store, StoreImm, Atomic, Ja, JaLong, JumpIf, CallLocal, Exit}
 use Rattle.bpf_text.specs.declared.statement.Jump.TheVariants.{Goto as ToSlot, GotoLong as FarToSlot, Call as CallSlot}
 use Rattle.bpf_text.specs.declared.spelling.Keyword.TheVariants as keyword
-use Rattle.bpf_text.specs.WordReading.{word_in, behind, behind_word, first_spelled}
+use Rattle.bpf_text.specs.code.WordReading.{word_in, behind, behind_word, first_spelled}
 use Rattle.bpf_text.specs.Statements.{plain}
 use Rattle.bpf_text.specs.Spelling.{register_text}
 use Rattle.bpf_text.specs.Parts.{keywords, keyword_text}
-use Rattle.bpf_text.specs.StatementReading.{any_register_in, assignment_in, atomic_in, branch_in, target_in, store_in, statement_in, whole_statement}
+use Rattle.bpf_text.specs.code.StatementReading.{any_register_in, assignment_in, atomic_in, branch_in, target_in, store_in, statement_in, whole_statement}
 use Rattle.bpf_text.specs.Listing.{pieces, listing, operand_text}
 use Rattle.bpf_text.specs.Sources.{Said, Source, lines_of}
-use Rattle.bpf_text.specs.LineReading.{parts_of, last_part, part_said, said_in, checked, line_in, source_from, source_of}
+use Rattle.bpf_text.specs.code.LineReading.{parts_of, last_part, part_said, said_in, checked, line_in, source_from, source_of}
 use Rattle.bpf_text.specs.Assembly.{linked, slot_of, instructions_of}
 use Rattle.bpf_text.specs.Laws.{ListingAssembles}
 use Rattle.bpf_text.proofs.LengthLemmas.{listing_short}

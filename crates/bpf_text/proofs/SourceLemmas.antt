@@ -8,7 +8,7 @@ use Rattle.bpf_insn.specs.declared.instruction.Insn.TheVariants.{LoadImm64}
 use Rattle.bpf_text.specs.declared.error.TextError.{TextError}
 use Rattle.bpf_text.specs.Statements.{Statement, plain, to_label}
 use Rattle.bpf_text.specs.Sources.{Label, Said, Source, before, lines_of, without_comment, said_at, in_front, ends_with, statement_slots}
-use Rattle.bpf_text.specs.LineReading.{behind_it, line_in, labels_at, line_before, slots_said, source_from, source_of}
+use Rattle.bpf_text.specs.code.LineReading.{behind_it, line_in, labels_at, line_before, slots_said, source_from, source_of}
 use Rattle.bpf_text.proofs.LineLemmas.{rest_split, split_cut}
 
 -- the source of what is left of a text

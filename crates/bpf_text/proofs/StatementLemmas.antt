@@ -21,10 +21,10 @@ use Rattle.bpf_insn.specs.declared.instruction.Insn.{Insn}
 use Rattle.bpf_insn.specs.declared.instruction.Insn.TheVariants.{Alu, Neg, MovSx, End, LoadImm64}
 use Rattle.bpf_insn.specs.Image.{OperandFits}
 use Rattle.bpf_text.specs.Characters.{is_digit}
-use Rattle.bpf_text.specs.WordReading.{word_in, behind, behind_word, behind_mark, first_spelled, unsigned_in, number_in}
+use Rattle.bpf_text.specs.code.WordReading.{word_in, behind, behind_word, behind_mark, first_spelled, unsigned_in, number_in}
 use Rattle.bpf_text.specs.Spelling.{register_text, operation_text, sign_bits_text, swap_text}
 use Rattle.bpf_text.specs.Parts.{swaps, swap_spelling}
-use Rattle.bpf_text.specs.StatementReading.{Checked, any_register_in, register_in, operand_in, constant_in, negative_in, extension_in, swap_in, assigned_in, operation_in, assignment_in}
+use Rattle.bpf_text.specs.code.StatementReading.{Checked, any_register_in, register_in, operand_in, constant_in, negative_in, extension_in, swap_in, assigned_in, operation_in, assignment_in}
 use Rattle.bpf_text.specs.Numerals.{fits_16, fits_32}
 use Rattle.bpf_text.specs.Statements.{is_extension}
 use Rattle.bpf_text.specs.Listing.{operand_text, hex_text}

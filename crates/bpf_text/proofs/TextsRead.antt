@@ -6,7 +6,7 @@ use Rattle.bpf_text.specs.Statements.{Statement}
 use Rattle.bpf_text.specs.Grammar.{Name, Form, IsLine, form_said, line_said}
 use Rattle.bpf_text.specs.Sources.{Source, lines_of, without_comment, statement_slots, said_at, in_front, labels_of, IsSource, TextSays}
 use Rattle.bpf_text.specs.Sources.IsSource.{nothing, says, out_of_range, no_form}
-use Rattle.bpf_text.specs.LineReading.{checked, line_in, labels_at, line_before, slots_said, source_from, source_of}
+use Rattle.bpf_text.specs.code.LineReading.{checked, line_in, labels_at, line_before, slots_said, source_from, source_of}
 use Rattle.bpf_text.specs.Laws.{ReadsText}
 use Rattle.bpf_text.proofs.LinesRead.{line_answer, spelled_line, line_reads}
 

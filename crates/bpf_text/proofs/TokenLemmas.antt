@@ -5,7 +5,7 @@ use Rattle.std.specs.List.{list_all}
 use Rattle.std.specs.Str.{bytes_eq}
 use Rattle.std.proofs.lemmas.Bool.{eqb-true}
 use Rattle.std.proofs.lemmas.Bool.Decides.{nat_tests}
-use Rattle.bpf_text.specs.WordReading.{◌>>=◌, skip_blanks, word_front, word_rest, word_in, behind_word, behind_mark, behind_marks, behind_front, behind, found_here, or_else, first_spelled}
+use Rattle.bpf_text.specs.code.WordReading.{◌>>=◌, skip_blanks, word_front, word_rest, word_in, behind_word, behind_mark, behind_marks, behind_front, behind, found_here, or_else, first_spelled}
 use Rattle.bpf_text.specs.Characters.{is_word_part, is_blank}
 use Rattle.bpf_text.specs.Grammar.{Token, word_ends, tokens_after, tokens}
 use Rattle.bpf_text.specs.Grammar.Token.{word, mark}

@@ -22,11 +22,11 @@ use Rattle.bpf_text.specs.Parts.{registers, operations, conditions, modification
 use Rattle.bpf_text.specs.declared.statement.Place.{Place}
 use Rattle.bpf_text.specs.declared.statement.Jump.{Jump}
 use Rattle.bpf_text.specs.declared.statement.Jump.TheVariants.{Goto as ToSlot, GotoLong as FarToSlot, Call as CallSlot, If as OnTest}
-use Rattle.bpf_text.specs.WordReading.{◌>>=◌, skip_blanks, behind, unsigned_in, with_sign_of, number_behind, number_in, signed_behind, signed_in}
+use Rattle.bpf_text.specs.code.WordReading.{◌>>=◌, skip_blanks, behind, unsigned_in, with_sign_of, number_behind, number_in, signed_behind, signed_in}
 use Rattle.bpf_text.specs.Numerals.{word_value}
 use Rattle.bpf_text.specs.Spelling.{register_text, operation_text, cond_text, modify_text, sign_bits_text}
 use Rattle.bpf_text.specs.Statements.{Statement, plain, to_label}
-use Rattle.bpf_text.specs.StatementReading.{first_way, same_width, any_register_in, register_in, operand_in, wide_if, constant_in, negative_in, extension_in, swap_in, place_in, load_in, assigned_in, operation_in, assignment_in, unsigned_size, store_in, wide_of, change_in, exchange_in, atomic_in, name_in, target_in, test_in, branch_in, plainly, keyword_in, statement_in, if_blank, whole_statement}
+use Rattle.bpf_text.specs.code.StatementReading.{first_way, same_width, any_register_in, register_in, operand_in, wide_if, constant_in, negative_in, extension_in, swap_in, place_in, load_in, assigned_in, operation_in, assignment_in, unsigned_size, store_in, wide_of, change_in, exchange_in, atomic_in, name_in, target_in, test_in, branch_in, plainly, keyword_in, statement_in, if_blank, whole_statement}
 use Rattle.bpf_text.specs.Numerals.{fits_16, fits_32, fits_wide}
 use Rattle.bpf_text.specs.Statements.{is_extension, load_of, store_of, jump_by}
 use Rattle.bpf_text.specs.Characters.{is_name}

@@ -8,7 +8,7 @@ use Rattle.std.proofs.lemmas.Bool.Decides.{nat_tests, Decides-eqb}
 use Rattle.std.proofs.Math.Nat.{div-eq_of_lt, div-lt_iff_lt-mul, pow-suc, pow-zero, mod-lt}
 use Rattle.std.proofs.lemmas.Nat.{div-add-mod'}
 use Rattle.bpf_text.specs.Characters.{is_digit, is_word_part, is_blank}
-use Rattle.bpf_text.specs.WordReading.{skip_blanks, word_front, word_rest, word_of, word_in, unsigned_in}
+use Rattle.bpf_text.specs.code.WordReading.{skip_blanks, word_front, word_rest, word_of, word_in, unsigned_in}
 use Rattle.bpf_text.specs.Numerals.{value_after, value_up_to, word_value, begins_hex}
 
 -- no word goes on in front of this text

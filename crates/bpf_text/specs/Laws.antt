@@ -7,8 +7,8 @@ use Rattle.bpf_text.specs.Sources.{Source, TextSays}
 use Rattle.bpf_text.specs.Assembly.{Assembles, IsRefused}
 use Rattle.bpf_text.specs.Listing.{listing}
 use Rattle.bpf_text.specs.Statements.{Statement}
-use Rattle.bpf_text.specs.StatementReading.{whole_statement}
-use Rattle.bpf_text.specs.LineReading.{source_of}
+use Rattle.bpf_text.specs.code.StatementReading.{whole_statement}
+use Rattle.bpf_text.specs.code.LineReading.{source_of}
 use Rattle.bpf_text.specs.Grammar.{Form, tokens, form_tokens, form_said}
 
 -- ---- the grammar

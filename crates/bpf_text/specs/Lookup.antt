@@ -7,7 +7,7 @@ use Rattle.bpf_insn.specs.declared.instruction.Width.{Width}
 use Rattle.bpf_insn.specs.declared.instruction.Width.TheVariants.{W32, W64}
 use Rattle.bpf_text.specs.declared.spelling.Register.{Register}
 use Rattle.bpf_text.specs.Parts.{register}
-use Rattle.bpf_text.specs.WordReading.{Read, ◌>>=◌, word_in}
+use Rattle.bpf_text.specs.code.WordReading.{Read, ◌>>=◌, word_in}
 
 -- the first of these things that a word spells
 abbrev pub first_named : {A : Type 0} → (A → List ℕ) → List A → List ℕ → Option A

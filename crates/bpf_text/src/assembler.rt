@@ -2,9 +2,9 @@
 
 ghost use Rattle.std.specs.Prelude.{◌≡◌, ◌⊎◌, ℕ, List, [], map, option_map, IfOk, IfErr, OnOk, MatchResult, Some, None, Ok, Err, pos, ◌-ℤ◌, ◌+◌};
 ghost use Rattle.bpf_text.specs.declared.error.TextError.TheVariants.{DefinedAgain, Memory};
-ghost use Rattle.bpf_text.specs.Seen.{label_seen};
-ghost use Rattle.bpf_text.specs.SourceSeen.{said_seen, source_seen};
-ghost use Rattle.bpf_text.specs.Slots.{slots_in};
+ghost use Rattle.bpf_text.specs.code.Seen.{label_seen};
+ghost use Rattle.bpf_text.specs.code.SourceSeen.{said_seen, source_seen};
+ghost use Rattle.bpf_text.specs.code.Slots.{slots_in};
 ghost use Rattle.bpf_text.specs.Assembly.{slot_of, redefined, jump_over, jump_from, insn_of, linked, instructions_of, line_at, program_error, Assembles, IsRefused};
 
 use crate::error::TextError;

@@ -1,10 +1,10 @@
 //! The lines of a text and their parts.
 
 ghost use Rattle.std.specs.Prelude.{◌≡◌, ℕ, ◌+◌, ◌<◌, option_map, OnOk, map, ◌++◌, length, Ok, Some};
-ghost use Rattle.bpf_text.specs.WordReading.{skip_blanks};
+ghost use Rattle.bpf_text.specs.code.WordReading.{skip_blanks};
 ghost use Rattle.bpf_text.specs.Sources.{before};
-ghost use Rattle.bpf_text.specs.LineReading.{behind_it, label_in, labels_in, last_part, parts_of, labels_at, said_in, line_in};
-ghost use Rattle.bpf_text.specs.Seen.{line_seen, label_seen, size_left};
+ghost use Rattle.bpf_text.specs.code.LineReading.{behind_it, label_in, labels_in, last_part, parts_of, labels_at, said_in, line_in};
+ghost use Rattle.bpf_text.specs.code.Seen.{line_seen, label_seen, size_left};
 
 use crate::statement::{Statement, is_name, statement_of};
 use crate::token::{skip_blanks, word};
@@ -29,7 +29,7 @@ pub fn cut(text: &[u8], mark: u8) -> (&[u8], Option<&[u8]>)
 }
 
 /// The name of a label, with nothing but blanks about it.
-#[tactic(auto, unfolding(crate::specs::LineReading::label_in))]
+#[tactic(auto, unfolding(crate::specs::code::LineReading::label_in))]
 pub fn label_name(part: &[u8]) -> Option<&[u8]>
     ensures { option_map (λ x. x.now) result ≡ label_in part.now }
 {
@@ -107,7 +107,7 @@ fn said(part: &[u8]) -> Result<Option<Statement<'_>>, LineFault>
 }
 
 /// What a line without its comment says behind its labels.
-#[tactic(auto, unfolding(crate::specs::LineReading::line_in))]
+#[tactic(auto, unfolding(crate::specs::code::LineReading::line_in))]
 pub fn statement_in(line: &[u8]) -> Result<Option<Statement<'_>>, LineFault>
     ensures { line_seen result ≡ line_in line.now }
 {

@@ -5,7 +5,7 @@ ghost use Rattle.std.specs.Io.KnownBytes.{Appends};
 ghost use Rattle.std.specs.Fmt.{digits};
 ghost use Rattle.bpf_insn.specs.Written.{AppendsBeginning, Gathers};
 ghost use Rattle.bpf_text.specs.Listing.{with_sign, line_text, listing, atomic_word, atomic_sign};
-ghost use Rattle.bpf_text.specs.Pieces.{piece_text};
+ghost use Rattle.bpf_text.specs.code.Pieces.{piece_text};
 
 use crate::digits::digits_of;
 use crate::spelling::{Memory, Register, Spelled, Swap};

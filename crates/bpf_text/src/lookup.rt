@@ -2,8 +2,8 @@
 
 ghost use Rattle.std.specs.Prelude.{◌≡◌, option_map};
 ghost use Rattle.bpf_insn.specs.declared.instruction.Width.TheVariants.{W32, W64};
-ghost use Rattle.bpf_text.specs.WordReading.{first_spelled};
-ghost use Rattle.bpf_text.specs.StatementReading.{any_register_in};
+ghost use Rattle.bpf_text.specs.code.WordReading.{first_spelled};
+ghost use Rattle.bpf_text.specs.code.StatementReading.{any_register_in};
 ghost use Rattle.bpf_text.specs.Spelling.{sign_bits_text};
 ghost use Rattle.bpf_text.specs.Parts.{swaps, swap_spelling, extensions, memories, memory_text, keywords, keyword_text};
 ghost use Rattle.bpf_text.specs.Lookup.{first_named, by_word, width_named, digit_named, number_named, register_named};

@@ -1,9 +1,9 @@
 //! The labels and statements of a text.
 
 ghost use Rattle.std.specs.Prelude.{◌≡◌, IfOk, OnOk, ◌+◌};
-ghost use Rattle.bpf_text.specs.LineReading.{source_of};
+ghost use Rattle.bpf_text.specs.code.LineReading.{source_of};
 ghost use Rattle.bpf_text.specs.Sources.{statement_slots};
-ghost use Rattle.bpf_text.specs.SourceSeen.{source_seen};
+ghost use Rattle.bpf_text.specs.code.SourceSeen.{source_seen};
 ghost use Rattle.bpf_text.specs.Statements.{seen};
 
 use crate::error::TextError;

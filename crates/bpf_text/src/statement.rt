@@ -3,7 +3,7 @@
 ghost use Rattle.std.specs.Prelude.{◌≡◌, ℕ, option_map};
 ghost use Rattle.bpf_text.specs.Statements.{seen, plain};
 ghost use Rattle.bpf_text.specs.Numerals.{fits_16, fits_32, fits_wide};
-ghost use Rattle.bpf_text.specs.StatementReading.{same_width, any_register_in, register_in, operand_in, wide_if, constant_in, negative_in, extension_in, swap_in, place_in, load_in, assigned_in, operation_in, assignment_in, unsigned_size, store_in, wide_of, change_in, exchange_in, atomic_in, name_in, target_in, test_in, branch_in, plainly, keyword_in, statement_in, whole_statement};
+ghost use Rattle.bpf_text.specs.code.StatementReading.{same_width, any_register_in, register_in, operand_in, wide_if, constant_in, negative_in, extension_in, swap_in, place_in, load_in, assigned_in, operation_in, assignment_in, unsigned_size, store_in, wide_of, change_in, exchange_in, atomic_in, name_in, target_in, test_in, branch_in, plainly, keyword_in, statement_in, whole_statement};
 ghost use Rattle.bpf_text.specs.Statements.{is_extension, load_of, store_of, jump_by};
 ghost use Rattle.bpf_text.specs.Characters.{is_name};
 
@@ -76,7 +76,7 @@ fn same_width(left: Width, right: Width) -> bool
     )
 }
 
-#[tactic(auto, unfolding(crate::specs::StatementReading::register_in))]
+#[tactic(auto, unfolding(crate::specs::code::StatementReading::register_in))]
 fn register(width: Width, text: &[u8]) -> Option<(Reg, &[u8])>
     ensures { option_map (λ x. (x.0, x.1.now)) result ≡ register_in width text.now }
 {
@@ -88,7 +88,7 @@ fn register(width: Width, text: &[u8]) -> Option<(Reg, &[u8])>
     }
 }
 
-#[tactic(auto, unfolding(crate::specs::StatementReading::operand_in))]
+#[tactic(auto, unfolding(crate::specs::code::StatementReading::operand_in))]
 fn operand(width: Width, text: &[u8]) -> Read<'_, Operand>
     ensures { option_map (λ x. (x.0, x.1.now)) result ≡ operand_in width text.now }
 {
@@ -120,7 +120,7 @@ fn load_constant(dst: Reg, number: i128) -> Option<Insn>
 }
 
 /// A constant, with `ll` behind it one of 64 bits.
-#[tactic(auto, unfolding(crate::specs::StatementReading::constant_in))]
+#[tactic(auto, unfolding(crate::specs::code::StatementReading::constant_in))]
 fn constant(width: Width, dst: Reg, number: i128, text: &[u8]) -> Read<'_, Insn>
     ensures { option_map (λ x. (x.0, x.1.now)) result ≡ constant_in width dst number text.now }
 {
@@ -132,7 +132,7 @@ fn constant(width: Width, dst: Reg, number: i128, text: &[u8]) -> Read<'_, Insn>
 }
 
 /// What stands behind `= -`: the same register, or a number.
-#[tactic(auto, unfolding(crate::specs::StatementReading::negative_in))]
+#[tactic(auto, unfolding(crate::specs::code::StatementReading::negative_in))]
 fn negative(width: Width, dst: Reg, text: &[u8]) -> Read<'_, Insn>
     ensures { option_map (λ x. (x.0, x.1.now)) result ≡ negative_in width dst text.now }
 {
@@ -154,7 +154,7 @@ fn is_extension(width: Width, bits: SignBits) -> bool
 }
 
 /// What stands behind `= (`.
-#[tactic(auto, unfolding(crate::specs::StatementReading::extension_in))]
+#[tactic(auto, unfolding(crate::specs::code::StatementReading::extension_in))]
 fn extension(width: Width, dst: Reg, text: &[u8]) -> Read<'_, Insn>
     ensures { option_map (λ x. (x.0, x.1.now)) result ≡ extension_in width dst text.now }
 {
@@ -182,7 +182,7 @@ pub struct Place {
     pub off: Option<i16>,
 }
 
-#[tactic(auto, unfolding(crate::specs::StatementReading::place_in))]
+#[tactic(auto, unfolding(crate::specs::code::StatementReading::place_in))]
 fn read_place(text: &[u8]) -> Option<(Place, &[u8])>
     ensures { option_map (λ x. (x.0, x.1.now)) result ≡ place_in text.now }
 {
@@ -219,7 +219,7 @@ fn load_of(place: Place, dst: Reg) -> Option<Insn>
     })
 }
 
-#[tactic(auto, unfolding(crate::specs::StatementReading::load_in))]
+#[tactic(auto, unfolding(crate::specs::code::StatementReading::load_in))]
 fn load(width: Width, dst: Reg, text: &[u8]) -> Read<'_, Insn>
     ensures { option_map (λ x. (x.0, x.1.now)) result ≡ load_in width dst text.now }
 {
@@ -232,7 +232,7 @@ fn load(width: Width, dst: Reg, text: &[u8]) -> Read<'_, Insn>
     }
 }
 
-#[tactic(auto, unfolding(crate::specs::StatementReading::swap_in))]
+#[tactic(auto, unfolding(crate::specs::code::StatementReading::swap_in))]
 fn byte_swap(width: Width, dst: Reg, swap: Swap, text: &[u8]) -> Read<'_, Insn>
     ensures { option_map (λ x. (x.0, x.1.now)) result ≡ swap_in width dst swap text.now }
 {
@@ -262,7 +262,7 @@ fn move_register(width: Width, dst: Reg, src: Reg) -> Insn
 }
 
 /// What stands behind `=`.
-#[tactic(auto, unfolding(crate::specs::StatementReading::assigned_in))]
+#[tactic(auto, unfolding(crate::specs::code::StatementReading::assigned_in))]
 fn assigned(width: Width, dst: Reg, text: &[u8]) -> Read<'_, Insn>
     ensures { option_map (λ x. (x.0, x.1.now)) result ≡ assigned_in width dst text.now }
 {
@@ -297,7 +297,7 @@ fn operation_of(op: AluOp, width: Width, dst: Reg, src: Option<Operand>) -> Opti
 }
 
 /// What stands behind a register.
-#[tactic(auto, unfolding(crate::specs::StatementReading::assignment_in))]
+#[tactic(auto, unfolding(crate::specs::code::StatementReading::assignment_in))]
 fn assignment(width: Width, dst: Reg, text: &[u8]) -> Read<'_, Insn>
     ensures { option_map (λ x. (x.0, x.1.now)) result ≡ assignment_in width dst text.now }
 {
@@ -338,7 +338,7 @@ fn store_of(size: Size, dst: Reg, off: Option<i16>, src: Option<Operand>) -> Opt
     })
 }
 
-#[tactic(auto, unfolding(crate::specs::StatementReading::store_in))]
+#[tactic(auto, unfolding(crate::specs::code::StatementReading::store_in))]
 fn store(text: &[u8]) -> Read<'_, Insn>
     ensures { option_map (λ x. (x.0, x.1.now)) result ≡ store_in text.now }
 {
@@ -372,7 +372,7 @@ fn atomic_of(wide: bool, op: AtomicOp, place: Place, src: Reg) -> Option<Insn>
     })
 }
 
-#[tactic(auto, unfolding(crate::specs::StatementReading::change_in))]
+#[tactic(auto, unfolding(crate::specs::code::StatementReading::change_in))]
 fn change(fetch: bool, text: &[u8]) -> Read<'_, Insn>
     ensures { option_map (λ x. (x.0, x.1.now)) result ≡ change_in fetch text.now }
 {
@@ -384,7 +384,7 @@ fn change(fetch: bool, text: &[u8]) -> Read<'_, Insn>
     Some((atomic_of(wide, op, place, src), rest))
 }
 
-#[tactic(auto, unfolding(crate::specs::StatementReading::exchange_in))]
+#[tactic(auto, unfolding(crate::specs::code::StatementReading::exchange_in))]
 fn exchange(op: AtomicOp, text: &[u8]) -> Read<'_, Insn>
     ensures { option_map (λ x. (x.0, x.1.now)) result ≡ exchange_in op text.now }
 {
@@ -395,7 +395,7 @@ fn exchange(op: AtomicOp, text: &[u8]) -> Read<'_, Insn>
 }
 
 /// What stands behind `lock`.
-#[tactic(auto, unfolding(crate::specs::StatementReading::atomic_in))]
+#[tactic(auto, unfolding(crate::specs::code::StatementReading::atomic_in))]
 fn atomic(text: &[u8]) -> Read<'_, Insn>
     ensures { option_map (λ x. (x.0, x.1.now)) result ≡ atomic_in text.now }
 {
@@ -446,7 +446,7 @@ pub fn is_name(word: &[u8]) -> bool
     }
 }
 
-#[tactic(auto, unfolding(crate::specs::StatementReading::name_in))]
+#[tactic(auto, unfolding(crate::specs::code::StatementReading::name_in))]
 fn name(jump: Jump, text: &[u8]) -> Read<'_, Statement<'_>>
     ensures { option_map (λ x. (option_map seen x.0, x.1.now)) result ≡ name_in jump text.now }
 {
@@ -465,7 +465,7 @@ fn plain(insn: Option<Insn>) -> Option<Statement<'static>>
 }
 
 /// The target of a jump or call: a distance or a name.
-#[tactic(auto, unfolding(crate::specs::StatementReading::target_in))]
+#[tactic(auto, unfolding(crate::specs::code::StatementReading::target_in))]
 fn target(jump: Jump, text: &[u8]) -> Read<'_, Statement<'_>>
     ensures { option_map (λ x. (option_map seen x.0, x.1.now)) result ≡ target_in jump text.now }
 {
@@ -495,7 +495,7 @@ fn test(
 }
 
 /// What stands behind `if`.
-#[tactic(auto, unfolding(crate::specs::StatementReading::branch_in))]
+#[tactic(auto, unfolding(crate::specs::code::StatementReading::branch_in))]
 fn branch(text: &[u8]) -> Read<'_, Statement<'_>>
     ensures { option_map (λ x. (option_map seen x.0, x.1.now)) result ≡ branch_in text.now }
 {
@@ -527,7 +527,7 @@ fn keyword(word: Keyword, text: &[u8]) -> Read<'_, Statement<'_>>
 }
 
 /// The statement in front of a text.
-#[tactic(auto, unfolding(crate::specs::StatementReading::statement_in))]
+#[tactic(auto, unfolding(crate::specs::code::StatementReading::statement_in))]
 fn front(text: &[u8]) -> Read<'_, Statement<'_>>
     ensures { option_map (λ x. (option_map seen x.0, x.1.now)) result ≡ statement_in text.now }
 {
@@ -541,7 +541,7 @@ fn front(text: &[u8]) -> Read<'_, Statement<'_>>
 }
 
 /// The statement that a text is: None where it is none, `Some(None)` where a number is out of its range.
-#[tactic(auto, unfolding(crate::specs::StatementReading::whole_statement))]
+#[tactic(auto, unfolding(crate::specs::code::StatementReading::whole_statement))]
 pub fn statement_of(text: &[u8]) -> Option<Option<Statement<'_>>>
     ensures { option_map (λ s. option_map seen s) result ≡ whole_statement text.now }
 {

@@ -3,7 +3,7 @@
 ghost use Rattle.std.specs.Prelude.{◌≡◌, ℕ, ◌≤◌, ◌<◌, ◌^◌, List, option_map, length, IfSome};
 ghost use Rattle.std.specs.Char.{digit_value};
 ghost use Rattle.bpf_text.specs.Characters.{is_digit, is_word_part, is_blank};
-ghost use Rattle.bpf_text.specs.WordReading.{skip_blanks, word_front, word_rest, word_in, behind_word, behind_mark, behind_marks, behind, first_spelled, unsigned_in, number_in, signed_in, with_sign_of};
+ghost use Rattle.bpf_text.specs.code.WordReading.{skip_blanks, word_front, word_rest, word_in, behind_word, behind_mark, behind_marks, behind, first_spelled, unsigned_in, number_in, signed_in, with_sign_of};
 ghost use Rattle.bpf_text.specs.Lookup.{may_begin};
 ghost use Rattle.bpf_text.specs.Numerals.{value_after, value_up_to, word_value};
 
@@ -53,7 +53,7 @@ fn split_word(text: &[u8]) -> (&[u8], &[u8])
 }
 
 /// A word, and what stands behind it.
-#[tactic(auto, unfolding(crate::specs::WordReading::word_in))]
+#[tactic(auto, unfolding(crate::specs::code::WordReading::word_in))]
 pub fn word(text: &[u8]) -> Option<(&[u8], &[u8])>
     ensures { option_map (λ x. (x.0.now, x.1.now)) result ≡ word_in text.now }
 {
@@ -65,7 +65,7 @@ pub fn word(text: &[u8]) -> Option<(&[u8], &[u8])>
     }
 }
 
-#[tactic(auto, unfolding(crate::specs::WordReading::behind_word))]
+#[tactic(auto, unfolding(crate::specs::code::WordReading::behind_word))]
 fn behind_word<'a>(text: &'a [u8], word: &[u8]) -> Option<&'a [u8]>
     ensures { option_map (λ x. x.now) result ≡ behind_word word.now text.now }
 {
@@ -74,7 +74,7 @@ fn behind_word<'a>(text: &'a [u8], word: &[u8]) -> Option<&'a [u8]>
 }
 
 /// What stands behind a mark.
-#[tactic(auto, unfolding(crate::specs::WordReading::behind_mark))]
+#[tactic(auto, unfolding(crate::specs::code::WordReading::behind_mark))]
 pub fn behind_mark(text: &[u8], mark: u8) -> Option<&[u8]>
     ensures { option_map (λ x. x.now) result ≡ behind_mark mark text.now }
 {
@@ -93,7 +93,7 @@ fn behind_marks<'a>(text: &'a [u8], marks: &[u8]) -> Option<&'a [u8]>
 }
 
 /// What stands behind a spelling: a word, marks, or a word and then marks.
-#[tactic(auto, unfolding(crate::specs::WordReading::behind))]
+#[tactic(auto, unfolding(crate::specs::code::WordReading::behind))]
 pub fn behind<'a>(text: &'a [u8], spelling: &str) -> Option<&'a [u8]>
     ensures { option_map (λ x. x.now) result ≡ behind spelling.now text.now }
 {
@@ -195,7 +195,7 @@ fn word_value(word: &[u8]) -> Option<u128>
     }
 }
 
-#[tactic(auto, unfolding(crate::specs::WordReading::unsigned_in))]
+#[tactic(auto, unfolding(crate::specs::code::WordReading::unsigned_in))]
 pub fn unsigned(text: &[u8]) -> Option<(u128, &[u8])>
     ensures value { option_map (λ x. (x.0, x.1.now)) result ≡ unsigned_in text.now }
     ensures small { IfSome result (λ x. x.0 < 2 ^ 80) }
@@ -214,7 +214,7 @@ fn with_sign(minus: bool, text: &[u8]) -> Option<(i128, &[u8])>
 }
 
 /// A number, behind a `-` or with no sign.
-#[tactic(auto, unfolding(crate::specs::WordReading::number_in))]
+#[tactic(auto, unfolding(crate::specs::code::WordReading::number_in))]
 pub fn number(text: &[u8]) -> Option<(i128, &[u8])>
     ensures { option_map (λ x. (x.0, x.1.now)) result ≡ number_in text.now }
 {
@@ -225,7 +225,7 @@ pub fn number(text: &[u8]) -> Option<(i128, &[u8])>
 }
 
 /// A number behind a `-` or a `+`.
-#[tactic(auto, unfolding(crate::specs::WordReading::signed_in))]
+#[tactic(auto, unfolding(crate::specs::code::WordReading::signed_in))]
 pub fn signed(text: &[u8]) -> Option<(i128, &[u8])>
     ensures { option_map (λ x. (x.0, x.1.now)) result ≡ signed_in text.now }
 {

@@ -4,7 +4,7 @@ use crate::known::{Known, Name, Written};
 use crate::places::{PLACES, content, place_at};
 use crate::words::edges::first_difference;
 use bpf_cert::{Function, Label, Measure, Term};
-use bpf_check::{Index, Cause, begins_elsewhere, function_at, greatest_budget, label_at, place_of};
+use bpf_check::{Cause, Index, begins_elsewhere, function_at, greatest_budget, label_at, place_of};
 use bpf_insn::Code;
 use bpf_state::{Place, SlotState, State};
 use std::io::{self, Write};
@@ -139,11 +139,7 @@ fn tell_outside<W: Write>(out: &mut W, start: &State, label: &Label) -> io::Resu
 }
 
 /// Tells why a condition fails at the start.
-pub fn tell_start<W: Write>(
-    out: &mut W,
-    certificate: &Index,
-    cause: Cause,
-) -> io::Result<()> {
+pub fn tell_start<W: Write>(out: &mut W, certificate: &Index, cause: Cause) -> io::Result<()> {
     certificate.valid();
     let start = State::start(certificate.least(), certificate.most());
     if let Cause::Misshapen = cause {

@@ -12,7 +12,7 @@ ghost use Rattle.bpf_state.specs.State.{IsRegister};
 ghost use Rattle.bpf_state.specs.Fault.{difference, reads_any};
 ghost use Rattle.bpf_state.specs.Transfer.{constant_of, added, never_wraps, shifted_tag, tag_after, alu_tag, transfer};
 ghost use Rattle.bpf_state.specs.Answer.{outcome_told, KeepsUnlessDone};
-ghost use Rattle.bpf_state.specs.Results.{IsKnown, near, numbers_result, result_of, written};
+ghost use Rattle.bpf_state.specs.code.Results.{IsKnown, near, numbers_result, result_of, written};
 
 use crate::abstract_state::State;
 use crate::fault::StateFault;

@@ -7,7 +7,7 @@ ghost use Rattle.bpf_insn.specs.declared.order.Order.{Order};
 ghost use Rattle.bpf_insn.specs.declared.instruction.Insn.TheVariants.{Atomic};
 ghost use Rattle.bpf_state.specs.Access.{is_inside};
 ghost use Rattle.bpf_state.specs.Transfer.{transfer, loaded, fetched, modified_by};
-ghost use Rattle.bpf_state.specs.Parts.{atomic_operands, atomic_outcome};
+ghost use Rattle.bpf_state.specs.code.Parts.{atomic_operands, atomic_outcome};
 ghost use Rattle.bpf_state.specs.Answer.{fault_number, outcome_told, edge_told, KeepsUnlessDone};
 
 use super::load::{loaded, read_fault};

@@ -7,7 +7,7 @@ ghost use Rattle.bpf_insn.specs.declared.instruction.Insn.TheVariants.{Load, Loa
 ghost use Rattle.bpf_state.specs.State.{IsRegister};
 ghost use Rattle.bpf_state.specs.Access.{is_inside};
 ghost use Rattle.bpf_state.specs.Transfer.{transfer, any_number, any_signed, loaded, loaded_tag};
-ghost use Rattle.bpf_state.specs.Parts.{byte_fault, read_fault, load_outcome, load_sx_outcome};
+ghost use Rattle.bpf_state.specs.code.Parts.{byte_fault, read_fault, load_outcome, load_sx_outcome};
 ghost use Rattle.bpf_state.specs.Answer.{fault_number, outcome_told, KeepsUnlessDone};
 
 use crate::abstract_state::State;

@@ -6,7 +6,7 @@ ghost use Rattle.bpf_insn.specs.declared.instruction.Insn.TheVariants.{Store, St
 ghost use Rattle.bpf_state.specs.State.{IsRegister, IsSlot, value_slot};
 ghost use Rattle.bpf_state.specs.Access.{is_inside};
 ghost use Rattle.bpf_state.specs.Transfer.{transfer, stored};
-ghost use Rattle.bpf_state.specs.Parts.{store_fault, store_outcome};
+ghost use Rattle.bpf_state.specs.code.Parts.{store_fault, store_outcome};
 ghost use Rattle.bpf_state.specs.Answer.{fault_number, outcome_told, KeepsUnlessDone};
 
 use crate::abstract_state::State;

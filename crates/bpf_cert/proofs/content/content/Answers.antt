@@ -1,8 +1,8 @@
 use Rattle.std.proofs.Common.{◌≡◌, None, sym, ◌∙◌, ap, refl, []}
-use Rattle.bpf_cert.specs.Seen.{place_seen, pointer_seen}
+use Rattle.bpf_cert.specs.code.Seen.{place_seen, pointer_seen}
 use Rattle.bpf_cert.specs.Line.{Content, Place}
 use Rattle.bpf_cert.specs.Faults.{is_canonical_content, is_limited_content}
-use Rattle.bpf_cert.specs.Findings.{found}
+use Rattle.bpf_cert.specs.code.Findings.{found}
 use Rattle.bpf_cert.specs.Reading.{bytes_in}
 use Rattle.bpf_cert.proofs.ContentLemmas.{content_any, content_pointer, content_bytes, content_number, no_bytes, pointer_form, bytes_form}
 use Rattle.bpf_cert.proofs.content.content.Goals as goal

@@ -1,6 +1,6 @@
 use Rattle.std.proofs.Common.{sym, ◌∙◌, ◌++◌, ◌∷◌, []}
 use Rattle.bpf_cert.specs.Reading.{part_in}
-use Rattle.bpf_cert.specs.Seen.{part_seen}
+use Rattle.bpf_cert.specs.code.Seen.{part_seen}
 use Rattle.bpf_cert.proofs.PieceLemmas.{taken_none, taken_more, taken_all, no_piece, no_last}
 use Rattle.bpf_cert.proofs.PartLemmas.{found_star, part_form, found_none, found_parts}
 use Rattle.bpf_cert.proofs.num.number_in.Goals as goal

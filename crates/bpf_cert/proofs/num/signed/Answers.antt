@@ -2,7 +2,7 @@ use Rattle.std.proofs.Common.{sym, rules}
 use mir.Val.{SFits}
 use mir.Syntax.{w64, w128}
 use Rattle.std.proofs.lemmas.Int.{to_z-of_z}
-use Rattle.bpf_cert.specs.Seen.{signed_seen}
+use Rattle.bpf_cert.specs.code.Seen.{signed_seen}
 use Rattle.bpf_cert.proofs.NumLemmas.{signed_ok, signed_err}
 use Rattle.bpf_cert.proofs.num.signed.Goals as goal
 

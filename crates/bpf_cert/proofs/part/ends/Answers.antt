@@ -1,6 +1,6 @@
 use Rattle.std.proofs.Common.{rules}
 use Rattle.bpf_cert.specs.Reading.{◌>>=◌}
-use Rattle.bpf_cert.specs.Seen.{ends_in}
+use Rattle.bpf_cert.specs.code.Seen.{ends_in}
 use Rattle.bpf_cert.proofs.part.ends.Goals as goal
 
 pub returns-in_err-low : goal.returns-in_err-low

@@ -1,6 +1,6 @@
 use Rattle.std.proofs.Common.{rules}
 use Rattle.bpf_cert.specs.Reading.{◌>>=◌, range_in, numeral_in}
-use Rattle.bpf_cert.specs.Seen.{ends_in}
+use Rattle.bpf_cert.specs.code.Seen.{ends_in}
 use Rattle.bpf_cert.proofs.part.unsigned_part.Goals as goal
 
 pub returns-in_err-range : goal.returns-in_err-range

@@ -1,5 +1,5 @@
 use Rattle.std.proofs.Common.{◌+◌, ◌∷◌, [], sym, ◌∙◌, subst, Ok, Err}
-use Rattle.bpf_cert.specs.Building.{Takes}
+use Rattle.bpf_cert.specs.code.Building.{Takes}
 use Rattle.bpf_cert.specs.declared.error.CertError.TheVariants as errors
 use Rattle.bpf_cert.proofs.ReadingLemmas.{start, cut, ended_fails, bad_fails, ended_given, end_given, failed_given, long_given, bad_given, fine_given, given_ok, given_err, memory_given}
 use Rattle.bpf_cert.proofs.SpelledLaws.{given_accepts}

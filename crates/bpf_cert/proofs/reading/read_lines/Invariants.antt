@@ -1,6 +1,6 @@
 use Rattle.std.proofs.Common.{◌+◌, List}
 use Rattle.bpf_cert.specs.Line.{Line}
-use Rattle.bpf_cert.specs.Building.{IsBuilt}
+use Rattle.bpf_cert.specs.code.Building.{IsBuilt}
 use Rattle.bpf_cert.proofs.ReadingLemmas.{Progresses}
 use Rattle.bpf_cert.proofs.reading.read_lines.Given as goal
 

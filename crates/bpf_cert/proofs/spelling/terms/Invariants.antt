@@ -1,5 +1,5 @@
 use Rattle.std.proofs.Common.{◌≡◌, ◌≤◌, ◌+◌, ◌*◌, ◌++◌, length, take}
-use Rattle.bpf_cert.specs.SpellingParts.{terms_tail}
+use Rattle.bpf_cert.specs.code.SpellingParts.{terms_tail}
 use Rattle.bpf_cert.proofs.spelling.terms.Given as goal
 
 abbrev pub invariant-loop-item : goal.invariant-loop-item

@@ -2,8 +2,8 @@ use Rattle.std.proofs.Common.{sym}
 use Rattle.bpf_cert.proofs.StandingLemmas.{no_entry, entry_long, entry_then, entry_nowhere, uncons_none}
 use Rattle.bpf_cert.proofs.standing.entry_form.Goals as goal
 use Rattle.std.specs.Prelude.{option_map}
-use Rattle.bpf_cert.specs.Standing.{fields_in}
-use Rattle.bpf_cert.specs.Seen.{place_seen}
+use Rattle.bpf_cert.specs.code.Standing.{fields_in}
+use Rattle.bpf_cert.specs.code.Seen.{place_seen}
 
 pub returns-in_default : goal.returns-in_default
 returns-in_default c = no_entry c.args.name.now _ (uncons_none _ (sym c.in_default.ensures))

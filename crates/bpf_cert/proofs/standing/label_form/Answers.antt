@@ -2,7 +2,7 @@ use Rattle.std.proofs.Common.{sym}
 use Rattle.bpf_cert.proofs.StandingLemmas.{no_label, label_short, label_then, label_else, uncons_none}
 use Rattle.bpf_cert.proofs.standing.label_form.Goals as goal
 use Rattle.std.specs.Prelude.{option_map}
-use Rattle.bpf_cert.specs.Standing.{fields_in}
+use Rattle.bpf_cert.specs.code.Standing.{fields_in}
 
 pub returns-in_default : goal.returns-in_default
 returns-in_default c = no_label _ (uncons_none _ (sym c.in_default.ensures))

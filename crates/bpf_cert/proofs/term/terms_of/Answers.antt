@@ -1,8 +1,8 @@
 use Rattle.std.proofs.Common.{sym, ◌∙◌, ◌++◌, ◌∷◌, [], ap}
 use Rattle.bpf_cert.specs.Reading.{term_in}
-use Rattle.bpf_cert.specs.Seen.{term_seen}
-use Rattle.bpf_cert.specs.Findings.{found}
-use Rattle.bpf_cert.specs.TermSums.{are_canonical_terms, are_limited_terms}
+use Rattle.bpf_cert.specs.code.Seen.{term_seen}
+use Rattle.bpf_cert.specs.code.Findings.{found}
+use Rattle.bpf_cert.specs.code.TermSums.{are_canonical_terms, are_limited_terms}
 use Rattle.bpf_cert.proofs.PieceLemmas.{taken_none, taken_more, taken_all, no_piece, no_last}
 use Rattle.bpf_cert.proofs.TermLemmas.{term_form}
 use Rattle.bpf_cert.proofs.term.terms_of.Goals as goal

@@ -1,7 +1,7 @@
 use Rattle.std.proofs.Common.{List, length}
 use Rattle.bpf_cert.specs.Line.{Term}
 use Rattle.bpf_cert.specs.Reading.{term_in}
-use Rattle.bpf_cert.specs.TermSums.{IsTermSum}
+use Rattle.bpf_cert.specs.code.TermSums.{IsTermSum}
 use Rattle.bpf_cert.proofs.PieceLemmas.{Taken}
 use Rattle.bpf_cert.proofs.term.terms_of.Given as goal
 

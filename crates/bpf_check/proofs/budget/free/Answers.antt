@@ -1,7 +1,7 @@
 use Rattle.std.proofs.Common.{sym, arith}
 use Rattle.std.specs.Int.{w128, cast_signed}
 use Rattle.bpf_cert.specs.View.{label_view}
-use Rattle.bpf_check.specs.Slack.{free_term}
+use Rattle.bpf_check.specs.code.Slack.{free_term}
 use Rattle.bpf_check.proofs.BudgetLemmas.{limited_here, few_here, next_sum}
 use Rattle.bpf_check.proofs.budget.free.Goals as goal
 

@@ -1,6 +1,6 @@
 use Rattle.std.proofs.Common.{◌≡◌, ◌+◌, ◌*◌, ◌^◌}
 use Rattle.bpf_cert.specs.View.{label_view}
-use Rattle.bpf_check.specs.Slack.{free_of, free_term, IsWithin}
+use Rattle.bpf_check.specs.code.Slack.{free_of, free_term, IsWithin}
 use Rattle.bpf_check.proofs.BudgetLemmas.{rest_sum}
 use Rattle.bpf_check.proofs.budget.free.Given as goal
 

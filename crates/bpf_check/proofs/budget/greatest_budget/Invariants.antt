@@ -1,7 +1,7 @@
 use Rattle.std.proofs.Common.{◌≡◌, ◌+◌, ◌*◌, ◌^◌}
 use Rattle.bpf_cert.specs.View.{label_view}
 use Rattle.bpf_safety.specs.Budget.{budget, greatest_budget}
-use Rattle.bpf_check.specs.Slack.{IsWithin}
+use Rattle.bpf_check.specs.code.Slack.{IsWithin}
 use Rattle.bpf_check.proofs.BudgetLemmas.{rest_sum, greatest_part}
 use Rattle.bpf_check.proofs.budget.greatest_budget.Given as goal
 

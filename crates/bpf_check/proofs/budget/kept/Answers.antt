@@ -1,7 +1,7 @@
 use Rattle.std.proofs.Common.{arith}
 use Rattle.std.specs.Int.{w128, cast_signed}
 use Rattle.bpf_cert.specs.View.{label_view}
-use Rattle.bpf_check.specs.Slack.{at_label, kept_part}
+use Rattle.bpf_check.specs.code.Slack.{at_label, kept_part}
 use Rattle.bpf_check.proofs.BudgetLemmas.{limited_here, few_here, next_sum, kept_here}
 use Rattle.bpf_check.proofs.budget.kept.Goals as goal
 

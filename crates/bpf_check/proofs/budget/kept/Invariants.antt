@@ -1,6 +1,6 @@
 use Rattle.std.proofs.Common.{◌≡◌, ◌+◌, ◌*◌, ◌^◌}
 use Rattle.bpf_cert.specs.View.{label_view}
-use Rattle.bpf_check.specs.Slack.{at_label, kept_of, kept_part, IsWithin}
+use Rattle.bpf_check.specs.code.Slack.{at_label, kept_of, kept_part, IsWithin}
 use Rattle.bpf_check.proofs.BudgetLemmas.{rest_sum}
 use Rattle.bpf_check.proofs.budget.kept.Given as goal
 

@@ -4,7 +4,7 @@ use Rattle.std.specs.Int.{w128, cast_signed}
 use Rattle.bpf_cert.specs.View.{label_view}
 use Rattle.bpf_safety.specs.Budget.{term_value, least_at_ends}
 use Rattle.bpf_check.proofs.BudgetLemmas.{limited_here, few_here, least_part, next_sum}
-use Rattle.bpf_check.specs.Slack.{at_label}
+use Rattle.bpf_check.specs.code.Slack.{at_label}
 use Rattle.bpf_check.proofs.budget.least_budget.Goals as goal
 
 pub bounds_at_label-requires-clause-limited : goal.bounds_at_label-requires-clause-limited

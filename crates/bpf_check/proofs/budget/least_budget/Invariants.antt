@@ -1,7 +1,7 @@
 use Rattle.std.proofs.Common.{◌≡◌, ◌+◌, ◌*◌, ◌^◌}
 use Rattle.bpf_cert.specs.View.{label_view}
 use Rattle.bpf_safety.specs.Budget.{budget, least_budget}
-use Rattle.bpf_check.specs.Slack.{at_label, IsWithin}
+use Rattle.bpf_check.specs.code.Slack.{at_label, IsWithin}
 use Rattle.bpf_check.proofs.BudgetLemmas.{rest_sum, least_part}
 use Rattle.bpf_check.proofs.budget.least_budget.Given as goal
 

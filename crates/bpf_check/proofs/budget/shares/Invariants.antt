@@ -1,6 +1,6 @@
 use Rattle.std.proofs.Common.{◌≡◌, ◌*◌, ◌^◌, pos, ◌+ℤ◌, drop}
 use Rattle.bpf_safety.specs.Budget.{shares}
-use Rattle.bpf_check.specs.Slack.{IsWithin}
+use Rattle.bpf_check.specs.code.Slack.{IsWithin}
 use Rattle.bpf_check.proofs.budget.shares.Given as goal
 
 abbrev pub invariant-loop-term : goal.invariant-loop-term

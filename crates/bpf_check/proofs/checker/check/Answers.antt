@@ -3,8 +3,8 @@ use Rattle.bpf_cert.specs.View.{CertificateView}
 use Rattle.bpf_safety.specs.Flaw.{flaws}
 use Rattle.bpf_safety.specs.Flow.{visits}
 use Rattle.bpf_safety.specs.Work.{compared_at_start}
-use Rattle.bpf_check.specs.Counting.{compared, worked_through}
-use Rattle.bpf_check.specs.Least.{IsLeastIn}
+use Rattle.bpf_check.specs.code.Counting.{compared, worked_through}
+use Rattle.bpf_check.specs.code.Least.{IsLeastIn}
 use Rattle.bpf_check.specs.RefusalNumbers.{flaw_of}
 use Rattle.bpf_check.proofs.CheckLemmas.{least_is_flaw, none_certifies, visits_faultless, check_work}
 use Rattle.bpf_check.proofs.checker.check.Goals as goal

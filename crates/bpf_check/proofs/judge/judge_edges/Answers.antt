@@ -3,7 +3,7 @@ use Rattle.bpf_insn.specs.Instruction.{slot_count}
 use Rattle.bpf_safety.specs.Flow.{jump_target, jump_state}
 use Rattle.bpf_safety.specs.Flaw.{edge_to}
 use Rattle.bpf_safety.specs.Work.{leads_into_label}
-use Rattle.bpf_check.specs.Edges.{next_of}
+use Rattle.bpf_check.specs.code.Edges.{next_of}
 use Rattle.bpf_check.proofs.EdgeLemmas.{both_compared}
 use Rattle.bpf_check.proofs.judge.judge_edges.Goals as goal
 

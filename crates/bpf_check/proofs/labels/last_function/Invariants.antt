@@ -1,5 +1,5 @@
 use Rattle.std.proofs.Common.{◌≡◌, true, None, length}
-use Rattle.bpf_check.specs.Search.{last_up_to}
+use Rattle.bpf_check.specs.code.Search.{last_up_to}
 use Rattle.bpf_check.proofs.SearchLemmas.{rises}
 use Rattle.bpf_check.proofs.labels.last_function.Given as goal
 

@@ -1,7 +1,7 @@
 use Rattle.std.proofs.Common.{ap, subst}
 use mathlib.Core.Logic.{inl, inr, ⊎_elim}
 use Rattle.std.specs.Prelude.{option_map}
-use Rattle.bpf_check.specs.Least.{IsLeastIn}
+use Rattle.bpf_check.specs.code.Least.{IsLeastIn}
 use Rattle.bpf_check.specs.RefusalNumbers.{flaw_of}
 use Rattle.bpf_check.proofs.LeastLemmas.{least_both, least_left, least_right}
 use Rattle.bpf_check.proofs.least.lesser.Goals as goal

@@ -7,12 +7,12 @@ use Rattle.bpf_cert.specs.View.{CertificateView}
 use Rattle.bpf_safety.specs.Flow.{Arrival, visits}
 use Rattle.std.specs.List.{flat_map}
 use Rattle.bpf_check.specs.declared.refusal.Refusal.{Refusal}
-use Rattle.bpf_check.specs.Arrivals.{walk_of, IsReaching}
-use Rattle.bpf_check.specs.Least.{IsLeastIn}
+use Rattle.bpf_check.specs.code.Arrivals.{walk_of, IsReaching}
+use Rattle.bpf_check.specs.code.Least.{IsLeastIn}
 use Rattle.bpf_check.specs.RefusalNumbers.{flaw_of}
 use Rattle.bpf_state.specs.Work.{Counts}
-use Rattle.bpf_check.specs.Counting.{worked_at, worked_through}
-use Rattle.bpf_check.specs.Visits.{visit_of}
+use Rattle.bpf_check.specs.code.Counting.{worked_at, worked_through}
+use Rattle.bpf_check.specs.code.Visits.{visit_of}
 use Rattle.bpf_check.proofs.PassLemmas.{IsAt, flaws_of, at_next, at_flaw, work_at_flaw, at_last, work_at_last}
 use Rattle.bpf_check.proofs.pass.visit_flaw.Goals as goal
 

@@ -1,7 +1,7 @@
 use Rattle.std.proofs.Common.{◌-◌}
 use Rattle.std.specs.Prelude.{IfSome}
 use Rattle.bpf_insn.specs.Instruction.{slots}
-use Rattle.bpf_check.specs.Arrivals.{walk_of, IsReaching}
+use Rattle.bpf_check.specs.code.Arrivals.{walk_of, IsReaching}
 use Rattle.bpf_check.proofs.PassLemmas.{IsAt}
 use Rattle.bpf_check.proofs.pass.visit_flaw.Given as goal
 

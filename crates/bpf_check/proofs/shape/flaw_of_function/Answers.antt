@@ -1,7 +1,7 @@
 use Rattle.std.proofs.Common.{not, subst}
 use Rattle.std.specs.Prelude.{option_map}
 use Rattle.bpf_safety.specs.Flaw.{at, number_if}
-use Rattle.bpf_check.specs.Least.{IsLeastIn}
+use Rattle.bpf_check.specs.code.Least.{IsLeastIn}
 use Rattle.bpf_check.specs.RefusalNumbers.{flaw_of}
 use Rattle.bpf_check.proofs.shape.flaw_of_function.Goals as goal
 

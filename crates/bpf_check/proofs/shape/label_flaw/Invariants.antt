@@ -2,7 +2,7 @@ use Rattle.std.proofs.Common.{map, take}
 use Rattle.std.specs.Prelude.{option_map, flat_map}
 use Rattle.bpf_cert.specs.View.{function_view}
 use Rattle.bpf_safety.specs.Flaw.{function_flaws}
-use Rattle.bpf_check.specs.Least.{IsLeastIn}
+use Rattle.bpf_check.specs.code.Least.{IsLeastIn}
 use Rattle.bpf_check.specs.RefusalNumbers.{flaw_of}
 use Rattle.bpf_check.proofs.shape.label_flaw.Given as goal
 

@@ -1,6 +1,6 @@
 use Rattle.std.proofs.Common.{refl, ap₂, ◌∙◌, ◌+◌, nat_eq}
 use Rattle.bpf_state.specs.Transfer.{transfer}
-use Rattle.bpf_check.specs.Arrivals.{arrival_of}
+use Rattle.bpf_check.specs.code.Arrivals.{arrival_of}
 use Rattle.bpf_check.proofs.VisitLemmas.{cost_fits, transfer_fault, dead_judged, stop_judged, pass_judged, next_cost, fault_worked, dead_worked, live_worked}
 use Rattle.bpf_check.proofs.visit.judge.Goals as goal
 

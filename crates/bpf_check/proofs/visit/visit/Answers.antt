@@ -1,5 +1,5 @@
 use Rattle.std.specs.Prelude.{option_map}
-use Rattle.bpf_check.specs.Arrivals.{walk_of}
+use Rattle.bpf_check.specs.code.Arrivals.{walk_of}
 use Rattle.bpf_check.specs.RefusalNumbers.{flaw_of}
 use Rattle.bpf_check.proofs.ArrivalLemmas.{visit_refused}
 use Rattle.bpf_check.proofs.visit.visit.Goals as goal

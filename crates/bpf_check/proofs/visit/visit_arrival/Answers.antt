@@ -1,10 +1,10 @@
 use Rattle.std.proofs.Common.{sym, subst}
 use Rattle.std.specs.Prelude.{option_map}
 use Rattle.bpf_safety.specs.Flaw.{at}
-use Rattle.bpf_check.specs.Least.{IsLeastIn}
-use Rattle.bpf_check.specs.Arrivals.{arrival_of}
+use Rattle.bpf_check.specs.code.Least.{IsLeastIn}
+use Rattle.bpf_check.specs.code.Arrivals.{arrival_of}
 use Rattle.bpf_check.specs.RefusalNumbers.{flaw_of}
-use Rattle.bpf_check.specs.Visits.{numbers_with}
+use Rattle.bpf_check.specs.code.Visits.{numbers_with}
 use Rattle.bpf_check.proofs.ArrivalLemmas.{faulty_least, sound_least}
 use Rattle.bpf_check.proofs.visit.visit_arrival.Goals as goal
 

@@ -1,5 +1,5 @@
 use Rattle.std.specs.Prelude.{IfSome}
-use Rattle.bpf_check.specs.Arrivals.{IsReaching}
+use Rattle.bpf_check.specs.code.Arrivals.{IsReaching}
 use Rattle.bpf_explain.proofs.program.tell_program.Given as goal
 
 abbrev pub invariant-visits : goal.invariant-visits

@@ -2,7 +2,7 @@ use Rattle.std.proofs.Common.{◌≡◌, ◌≤◌, ◌+◌, ◌<◌, sym, ◌�
 use Rattle.bpf_insn.specs.Instruction.{slots, layout, insn_at}
 use Rattle.bpf_insn.specs.Image.{image, instruction_bytes}
 use Rattle.bpf_insn.specs.Written.{AppendsBeginning, Gathers}
-use Rattle.bpf_insn.specs.Layout.{instructions_in}
+use Rattle.bpf_insn.specs.code.Layout.{instructions_in}
 use Rattle.bpf_insn.proofs.LayoutLemmas.{insns_below, below_insn, below_second, below_all, below_rest}
 use Rattle.bpf_insn.proofs.WriteLemmas.{gathers_nothing, gathers_image, begins_more, gathered_all, gathered_some, on_ok_map, on_err_map}
 use Rattle.bpf_insn.proofs.encoding.encode.Goals as goal

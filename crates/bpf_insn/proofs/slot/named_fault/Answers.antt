@@ -1,6 +1,6 @@
 use Rattle.std.proofs.Common.{◌≡◌, ◌<◌, sym, ◌∙◌, ap, slice_index, true, false, arith}
 use Rattle.std.specs.Prelude.{option_map}
-use Rattle.bpf_insn.specs.Form.{form_in, uses_of}
+use Rattle.bpf_insn.specs.code.Form.{form_in, uses_of}
 use Rattle.bpf_insn.specs.Refusal.{fields_in, is_left_out, refusal_by_uses}
 use Rattle.bpf_insn.specs.declared.fields.Fields.{Fields}
 use Rattle.bpf_insn.proofs.TableLemmas.{refusal-left_out, refusal-by_form}

@@ -1,6 +1,6 @@
 use Rattle.std.proofs.Common.{refl}
 use lib.Count.{count_leading_zeros}
-use Rattle.bpf_num.specs.WordLaws.{ones_of_length}
+use Rattle.bpf_num.specs.Laws.WordLaws.{ones_of_length}
 use Rattle.bpf_num.proofs.word.ones_up_to.Goals as goal
 
 pub returns-then-number-eq0 : goal.returns-then-number-eq0

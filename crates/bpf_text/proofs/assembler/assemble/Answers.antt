@@ -4,9 +4,9 @@ use Rattle.bpf_insn.specs.Refusal.{IsNoProgram}
 use Rattle.bpf_insn.specs.declared.instruction.Insn.{Insn}
 use Rattle.bpf_insn.specs.declared.refusal.BuildError.{BuildError}
 use Rattle.bpf_text.specs.declared.error.TextError.{TextError}
-use Rattle.bpf_text.specs.SourceSeen.{source_seen, said_seen}
+use Rattle.bpf_text.specs.code.SourceSeen.{source_seen, said_seen}
 use Rattle.bpf_text.specs.Sources.{Source}
-use Rattle.bpf_text.specs.LineReading.{source_of}
+use Rattle.bpf_text.specs.code.LineReading.{source_of}
 use Rattle.bpf_text.specs.Assembly.{instructions_of, program_error, max_text, Assembles, IsRefused}
 use Rattle.bpf_text.specs.Assembly.IsRefused.{too_long, no_instructions, no_program}
 use Rattle.bpf_text.specs.Sources.{TextSays}

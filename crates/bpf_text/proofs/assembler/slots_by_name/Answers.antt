@@ -5,8 +5,8 @@ use Rattle.std.specs.Str.{bytes_eq}
 use Rattle.std.proofs.lemmas.Map.Text.{btree_map_updates_str}
 use Rattle.bpf_text.specs.declared.line.Label.{Label as Written}
 use Rattle.bpf_text.specs.Assembly.{slot_of, redefined}
-use Rattle.bpf_text.specs.Seen.{label_seen}
-use Rattle.bpf_text.specs.Slots.{slots_in}
+use Rattle.bpf_text.specs.code.Seen.{label_seen}
+use Rattle.bpf_text.specs.code.Slots.{slots_in}
 use Rattle.bpf_text.proofs.AssemblerLemmas.{Next, next}
 use Rattle.bpf_text.proofs.assembler.slots_by_name.Goals as goal
 

@@ -1,7 +1,7 @@
 use Rattle.std.proofs.Common.{◌≡◌, ℕ, List, [], map, take, drop}
 use Rattle.bpf_text.specs.Assembly.{slot_of, redefined}
-use Rattle.bpf_text.specs.Seen.{label_seen}
-use Rattle.bpf_text.specs.Slots.{slots_in}
+use Rattle.bpf_text.specs.code.Seen.{label_seen}
+use Rattle.bpf_text.specs.code.Slots.{slots_in}
 use Rattle.bpf_text.proofs.assembler.slots_by_name.Given as goal
 
 abbrev pub invariant-loop-label : goal.invariant-loop-label

@@ -1,5 +1,5 @@
 use Rattle.std.proofs.Common.{◌≡◌, Some, None, option_map, ap, sym, ◌∙◌}
-use Rattle.bpf_text.specs.LineReading.{behind_it}
+use Rattle.bpf_text.specs.code.LineReading.{behind_it}
 use Rattle.bpf_text.proofs.LineLemmas.{last_here, last_stops, last_goes}
 use Rattle.bpf_text.proofs.line.behind_labels.Goals as goal
 

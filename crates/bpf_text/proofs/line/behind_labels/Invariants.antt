@@ -1,5 +1,5 @@
 use Rattle.std.proofs.Common.{◌≡◌, length}
-use Rattle.bpf_text.specs.LineReading.{last_part, parts_of}
+use Rattle.bpf_text.specs.code.LineReading.{last_part, parts_of}
 use Rattle.bpf_text.proofs.line.behind_labels.Given as goal
 
 abbrev pub invariant-labels : goal.invariant-labels

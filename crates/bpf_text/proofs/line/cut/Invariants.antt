@@ -1,6 +1,6 @@
 use Rattle.std.proofs.Common.{◌≡◌, ◌≤◌, ◌++◌, length, take, drop, ◌-◌}
 use Rattle.bpf_text.specs.Sources.{before}
-use Rattle.bpf_text.specs.LineReading.{behind_it}
+use Rattle.bpf_text.specs.code.LineReading.{behind_it}
 use Rattle.bpf_text.proofs.line.cut.Given as goal
 
 abbrev pub invariant-front : goal.invariant-front

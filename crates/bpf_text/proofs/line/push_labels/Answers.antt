@@ -1,8 +1,8 @@
 use Rattle.std.proofs.Common.{◌≡◌, ℕ, List, [], ◌∷◌, ◌++◌, Some, None, option_map, map, ap, sym, ◌∙◌, append_assoc, append-nil}
 use Rattle.std.proofs.lemmas.List.{map-append}
 use Rattle.bpf_text.specs.Sources.{Label, before}
-use Rattle.bpf_text.specs.LineReading.{behind_it, label_in, labels_at}
-use Rattle.bpf_text.specs.Seen.{label_seen}
+use Rattle.bpf_text.specs.code.LineReading.{behind_it, label_in, labels_at}
+use Rattle.bpf_text.specs.code.Seen.{label_seen}
 use Rattle.bpf_text.proofs.LineLemmas.{labels_here, labels_go}
 use Rattle.bpf_text.proofs.line.push_labels.Goals as goal
 

@@ -1,6 +1,6 @@
 use Rattle.std.proofs.Common.{◌≡◌, ◌++◌, map, length}
-use Rattle.bpf_text.specs.LineReading.{labels_at}
-use Rattle.bpf_text.specs.Seen.{label_seen}
+use Rattle.bpf_text.specs.code.LineReading.{labels_at}
+use Rattle.bpf_text.specs.code.Seen.{label_seen}
 use Rattle.bpf_text.proofs.line.push_labels.Given as goal
 
 abbrev pub invariant-labels : goal.invariant-labels

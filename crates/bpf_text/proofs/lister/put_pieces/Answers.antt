@@ -1,5 +1,5 @@
 use Rattle.bpf_insn.proofs.WriteLemmas.{gathers_nothing}
-use Rattle.bpf_text.specs.Pieces.{piece_text}
+use Rattle.bpf_text.specs.code.Pieces.{piece_text}
 use Rattle.bpf_text.proofs.WriteLemmas.{put_more, began_more}
 use Rattle.bpf_text.proofs.lister.put_pieces.Goals as goal
 

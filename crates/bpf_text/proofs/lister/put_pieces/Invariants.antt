@@ -1,6 +1,6 @@
 use Rattle.std.proofs.Common.{take, flat_map}
 use Rattle.bpf_insn.specs.Written.{Gathers}
-use Rattle.bpf_text.specs.Pieces.{piece_text}
+use Rattle.bpf_text.specs.code.Pieces.{piece_text}
 use Rattle.bpf_text.proofs.lister.put_pieces.Given as goal
 
 abbrev pub invariant-loop-piece : goal.invariant-loop-piece

@@ -4,10 +4,10 @@ use Rattle.bpf_text.specs.declared.line.LineFault.{LineFault}
 use Rattle.bpf_text.specs.declared.line.LineFault.TheVariants.{NoForm, OutOfRange}
 use Rattle.bpf_text.specs.declared.error.TextError.TheVariants.{Form, Range}
 use Rattle.bpf_text.specs.Statements.{seen}
-use Rattle.bpf_text.specs.Seen.{label_seen, line_seen, size_left}
-use Rattle.bpf_text.specs.SourceSeen.{said_seen}
+use Rattle.bpf_text.specs.code.Seen.{label_seen, line_seen, size_left}
+use Rattle.bpf_text.specs.code.SourceSeen.{said_seen}
 use Rattle.bpf_text.specs.Sources.{in_front, statement_slots}
-use Rattle.bpf_text.specs.LineReading.{line_in, source_of}
+use Rattle.bpf_text.specs.code.LineReading.{line_in, source_of}
 use Rattle.bpf_text.proofs.SourceLemmas.{all_left, none_left, stops, ended, goes_on, says_something, few_slots}
 use Rattle.bpf_text.proofs.source.source_of.Goals as goal
 use Rattle.bpf_text.proofs.source.source_of.Goals.{in-Some-statement+in_ok-push, in_default-statement}

@@ -1,8 +1,8 @@
 use Rattle.std.proofs.Common.{◌≡◌, ◌+◌, ◌≤◌, map, length, option_map}
 use Rattle.bpf_text.specs.Sources.{in_front}
-use Rattle.bpf_text.specs.LineReading.{source_of}
-use Rattle.bpf_text.specs.Seen.{label_seen, size_left}
-use Rattle.bpf_text.specs.SourceSeen.{said_seen}
+use Rattle.bpf_text.specs.code.LineReading.{source_of}
+use Rattle.bpf_text.specs.code.Seen.{label_seen, size_left}
+use Rattle.bpf_text.specs.code.SourceSeen.{said_seen}
 use Rattle.bpf_text.proofs.SourceLemmas.{source_left}
 use Rattle.bpf_text.proofs.source.source_of.Given as goal
 

@@ -1,5 +1,5 @@
 use Rattle.std.proofs.Common.{◌≡◌, false, sym, ap, ◌∙◌}
-use Rattle.bpf_text.specs.WordReading.{skip_blanks}
+use Rattle.bpf_text.specs.code.WordReading.{skip_blanks}
 use Rattle.bpf_text.specs.Lookup.{may_begin}
 use Rattle.bpf_text.proofs.LookupLemmas.{begins_not}
 use Rattle.bpf_text.proofs.token.behind_begun.Goals as goal

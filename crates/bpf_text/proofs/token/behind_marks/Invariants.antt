@@ -1,5 +1,5 @@
 use Rattle.std.proofs.Common.{◌≡◌, drop}
-use Rattle.bpf_text.specs.WordReading.{behind_marks}
+use Rattle.bpf_text.specs.code.WordReading.{behind_marks}
 use Rattle.bpf_text.proofs.token.behind_marks.Given as goal
 
 abbrev pub invariant-loop-mark : goal.invariant-loop-mark

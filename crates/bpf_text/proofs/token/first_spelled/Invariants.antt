@@ -1,5 +1,5 @@
 use Rattle.std.proofs.Common.{◌≡◌, drop}
-use Rattle.bpf_text.specs.WordReading.{first_spelled}
+use Rattle.bpf_text.specs.code.WordReading.{first_spelled}
 use Rattle.bpf_text.proofs.token.first_spelled.Given as goal
 
 abbrev pub invariant-loop-thing : goal.invariant-loop-thing

@@ -1,5 +1,5 @@
 use Rattle.std.proofs.Common.{◌≡◌, length}
-use Rattle.bpf_text.specs.WordReading.{skip_blanks}
+use Rattle.bpf_text.specs.code.WordReading.{skip_blanks}
 use Rattle.bpf_text.proofs.token.skip_blanks.Given as goal
 
 abbrev pub invariant-loop-rest : goal.invariant-loop-rest

@@ -1,5 +1,5 @@
 use Rattle.std.proofs.Common.{◌≡◌, ◌≤◌, ◌++◌, length, take, drop, ◌-◌}
-use Rattle.bpf_text.specs.WordReading.{word_front, word_rest}
+use Rattle.bpf_text.specs.code.WordReading.{word_front, word_rest}
 use Rattle.bpf_text.proofs.token.split_word.Given as goal
 
 abbrev pub invariant-parts : goal.invariant-parts

@@ -1,11 +1,11 @@
 use Rattle.std.proofs.Common.{◌<◌, ◌^◌, map, ap, sym, subst, ◌∙◌, arith}
 use Rattle.std.specs.List.{list_all}
-use Rattle.bpf_cert.specs.Standing.{value_line, value_place}
+use Rattle.bpf_cert.specs.code.Standing.{value_line, value_place}
 use Rattle.bpf_cert.specs.Spelling.{header_line, function_line, label_line}
 use Rattle.bpf_cert.specs.Limits.{is_limited_num, is_limited_term, is_limited_header}
 use Rattle.bpf_cert.specs.View.{label_view, function_view}
-use Rattle.bpf_cert.specs.Building.{closed_lines, open_lines}
-use Rattle.bpf_cert.specs.Sound.{IsLabelState, closed}
+use Rattle.bpf_cert.specs.code.Building.{closed_lines, open_lines}
+use Rattle.bpf_cert.specs.code.Sound.{IsLabelState, closed}
 use Rattle.bpf_cert.proofs.BuiltLemmas.{built_header, built_function, built_label, built_entry, built_end}
 use Rattle.bpf_cert.proofs.SoundStates.{blank_state}
 use Rattle.bpf_cert.proofs.SoundSteps.{limited_number}

@@ -7,7 +7,7 @@ use Rattle.bpf_cert.proofs.Bools.{both_true}
 use Rattle.bpf_cert.proofs.WritingLemmas.{length-contents}
 use Rattle.bpf_cert.proofs.BuildingLemmas.{contents_register, contents_slot, front_length}
 use Rattle.bpf_cert.proofs.SoundStates.{state_register, state_slot}
-use Rattle.bpf_cert.specs.Sound.{IsLabelState}
+use Rattle.bpf_cert.specs.code.Sound.{IsLabelState}
 use Rattle.bpf_cert.proofs.building.Builder.put.Goals as goal
 
 pub set_slot-requires-clause-low : goal.set_slot-requires-clause-low

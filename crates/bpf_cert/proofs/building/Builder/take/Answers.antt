@@ -1,5 +1,5 @@
 use Rattle.std.proofs.Common.{sym}
-use Rattle.bpf_cert.specs.Standing.{value_line}
+use Rattle.bpf_cert.specs.code.Standing.{value_line}
 use Rattle.bpf_cert.proofs.BuiltLemmas.{takes_flaw, takes_line}
 use Rattle.bpf_cert.proofs.building.Builder.take.Goals as goal
 

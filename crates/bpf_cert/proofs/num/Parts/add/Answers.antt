@@ -1,4 +1,4 @@
-use Rattle.bpf_cert.specs.Seen.{part_seen}
+use Rattle.bpf_cert.specs.code.Seen.{part_seen}
 use Rattle.bpf_cert.proofs.PartLemmas.{sum_more}
 use Rattle.bpf_cert.proofs.num.Parts.add.Goals as goal
 

@@ -1,8 +1,8 @@
 use Rattle.std.proofs.Common.{refl}
-use Rattle.bpf_cert.specs.Seen.{is_canonical_part}
+use Rattle.bpf_cert.specs.code.Seen.{is_canonical_part}
 use Rattle.bpf_cert.specs.Faults.{is_limited_part}
 use Rattle.bpf_cert.specs.Spelling.{signed_parts}
-use Rattle.bpf_cert.specs.Seen.{signed_seen}
+use Rattle.bpf_cert.specs.code.Seen.{signed_seen}
 use Rattle.bpf_cert.specs.Line.{Part}
 use Rattle.bpf_cert.proofs.FindingLemmas.{found_single}
 use Rattle.bpf_cert.proofs.num.Parts.keep.Goals as goal

@@ -1,6 +1,6 @@
 use Rattle.std.proofs.Common.{◌∙◌, ◌∷◌, sym, ap, Ok}
 use Rattle.bpf_cert.specs.Line.{Number}
-use Rattle.bpf_cert.specs.Findings.{valued}
+use Rattle.bpf_cert.specs.code.Findings.{valued}
 use Rattle.bpf_cert.proofs.PartLemmas.{sum_found, sum_value}
 use Rattle.bpf_cert.proofs.num.Parts.value.Goals as goal
 

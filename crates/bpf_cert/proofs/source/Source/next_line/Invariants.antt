@@ -1,6 +1,6 @@
 use Rattle.std.proofs.Common.{◌≡◌, ◌≤◌, length}
 use Rattle.std.specs.Io.KnownBytes.{Consumes}
-use Rattle.bpf_cert.specs.Taken.{IsOneLine}
+use Rattle.bpf_cert.specs.code.Taken.{IsOneLine}
 use Rattle.bpf_cert.proofs.source.Source.next_line.Given as goal
 
 abbrev pub invariant-loop : goal.invariant-loop

@@ -1,9 +1,9 @@
 use Rattle.std.proofs.Common.{◌∙◌, ap}
 use Rattle.bpf_cert.proofs.JudgeLemmas.{end_none, end_never, end_found}
 use Rattle.std.specs.Prelude.{option_map}
-use Rattle.bpf_cert.specs.Standing.{fields_in}
+use Rattle.bpf_cert.specs.code.Standing.{fields_in}
 use Rattle.bpf_cert.specs.Line.{Line}
-use Rattle.bpf_cert.specs.Findings.{valued}
+use Rattle.bpf_cert.specs.code.Findings.{valued}
 use Rattle.bpf_cert.proofs.standing.Standing.end.Goals as goal
 
 pub returns-in_default-clause-value : goal.returns-in_default-clause-value

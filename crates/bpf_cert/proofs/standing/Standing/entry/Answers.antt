@@ -2,12 +2,12 @@ use Rattle.std.proofs.Common.{sym, ◌∙◌, ap, Ok}
 use Rattle.bpf_cert.proofs.JudgeLemmas.{entry_found, entry_plain, entry_never}
 use Rattle.std.proofs.Common.{[], subst}
 use Rattle.std.specs.Prelude.{IfOk}
-use Rattle.bpf_cert.specs.Contents.{IsContent}
-use Rattle.bpf_cert.specs.Findings.{valued}
+use Rattle.bpf_cert.specs.code.Contents.{IsContent}
+use Rattle.bpf_cert.specs.code.Findings.{valued}
 use Rattle.bpf_cert.proofs.FindingLemmas.{joined_ok}
 use Rattle.bpf_cert.proofs.ContentLemmas.{content_form}
-use Rattle.bpf_cert.specs.Seen.{place_seen}
-use Rattle.bpf_cert.specs.Standing.{ruled}
+use Rattle.bpf_cert.specs.code.Seen.{place_seen}
+use Rattle.bpf_cert.specs.code.Standing.{ruled}
 use Rattle.bpf_cert.specs.Spelling.{content_of}
 use Rattle.bpf_cert.proofs.standing.Standing.entry.Goals as goal
 

@@ -1,6 +1,6 @@
 use Rattle.std.proofs.Common.{sym, ap, Ok}
 use Rattle.bpf_cert.proofs.JudgeLemmas.{function_found, function_spelled, function_never}
-use Rattle.bpf_cert.specs.Standing.{ruled}
+use Rattle.bpf_cert.specs.code.Standing.{ruled}
 use Rattle.bpf_cert.specs.Spelling.{number_of}
 use Rattle.bpf_cert.proofs.standing.Standing.function.Goals as goal
 

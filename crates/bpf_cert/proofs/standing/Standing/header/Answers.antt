@@ -1,6 +1,6 @@
 use Rattle.std.proofs.Common.{sym, ◌∙◌, ap}
 use Rattle.bpf_cert.proofs.JudgeLemmas.{header_never, header_ruled}
-use Rattle.bpf_cert.specs.Standing.{ruled}
+use Rattle.bpf_cert.specs.code.Standing.{ruled}
 use Rattle.bpf_cert.proofs.standing.Standing.header.Goals as goal
 
 pub returns-in_default-clause-value : goal.returns-in_default-clause-value

@@ -1,6 +1,6 @@
 use Rattle.std.proofs.Common.{sym, ◌∙◌, ap}
 use Rattle.std.specs.Prelude.{option_map}
-use Rattle.bpf_cert.specs.Standing.{ruled, fields_in}
+use Rattle.bpf_cert.specs.code.Standing.{ruled, fields_in}
 use Rattle.bpf_cert.proofs.JudgeLemmas.{line_by, line_none, by_header, by_function, by_label, by_end, by_entry}
 use Rattle.bpf_cert.proofs.standing.Standing.judge.Goals as goal
 

@@ -6,7 +6,7 @@ use Rattle.bpf_cert.specs.Limits.{is_limited_term}
 use Rattle.bpf_cert.proofs.FindingLemmas.{joined_ok}
 use Rattle.bpf_cert.proofs.JudgeLemmas.{label_found, label_spelled, label_never}
 use Rattle.std.specs.Prelude.{option_map, map}
-use Rattle.bpf_cert.specs.Standing.{ruled}
+use Rattle.bpf_cert.specs.code.Standing.{ruled}
 use Rattle.bpf_cert.specs.Spelling.{term_of}
 use Rattle.bpf_cert.proofs.standing.Standing.label.Goals as goal
 

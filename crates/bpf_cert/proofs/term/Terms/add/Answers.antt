@@ -1,5 +1,5 @@
 use Rattle.std.proofs.Common.{sym, ◌∙◌}
-use Rattle.bpf_cert.specs.Seen.{term_seen}
+use Rattle.bpf_cert.specs.code.Seen.{term_seen}
 use Rattle.bpf_cert.proofs.TermLemmas.{fine, sum_more, found_last, pushed, limited_more}
 use Rattle.bpf_cert.proofs.term.Terms.add.Goals as goal
 

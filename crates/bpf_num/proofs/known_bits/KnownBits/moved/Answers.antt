@@ -1,6 +1,6 @@
 use Rattle.bpf_num.specs.Word.{exact}
 use Rattle.bpf_num.specs.Tristate.{tristate}
-use Rattle.bpf_num.specs.MovedLaws.{moved_is_tristate}
+use Rattle.bpf_num.specs.Laws.MovedLaws.{moved_is_tristate}
 use Rattle.bpf_num.proofs.Parts.{shift_moves}
 use Rattle.bpf_num.proofs.known_bits.KnownBits.moved.Goals as goal
 

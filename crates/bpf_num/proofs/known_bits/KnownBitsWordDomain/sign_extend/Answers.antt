@@ -1,6 +1,6 @@
 use Rattle.bpf_num.specs.Word.{sign_extended}
 use Rattle.bpf_num.specs.Tristate.{tristate}
-use Rattle.bpf_num.specs.MovedLaws.{moved_is_tristate, sign_extended_moves}
+use Rattle.bpf_num.specs.Laws.MovedLaws.{moved_is_tristate, sign_extended_moves}
 use Rattle.bpf_num.proofs.known_bits.KnownBitsWordDomain.sign_extend.Goals as goal
 
 pub invariant_of-result : goal.invariant_of-result

@@ -1,6 +1,6 @@
 use Rattle.bpf_num.specs.Word.{reversed}
 use Rattle.bpf_num.specs.Tristate.{tristate}
-use Rattle.bpf_num.specs.MovedLaws.{moved_is_tristate, reversed_moves}
+use Rattle.bpf_num.specs.Laws.MovedLaws.{moved_is_tristate, reversed_moves}
 use Rattle.bpf_num.proofs.known_bits.KnownBitsWordDomain.swap.Goals as goal
 
 pub invariant_of-result : goal.invariant_of-result

@@ -2,8 +2,8 @@ use Rattle.std.proofs.Common.{◌*◌}
 use Rattle.bpf_insn.specs.Arithmetic.{swap_size}
 use Rattle.bpf_num.specs.Word.{truncated}
 use Rattle.bpf_num.specs.Tristate.{tristate}
-use Rattle.bpf_num.specs.MovedLaws.{moved_is_tristate, truncated_moves}
-use Rattle.bpf_num.specs.TristateKeeps.{at_most_word}
+use Rattle.bpf_num.specs.Laws.MovedLaws.{moved_is_tristate, truncated_moves}
+use Rattle.bpf_num.specs.Laws.TristateKeeps.{at_most_word}
 use Rattle.bpf_num.proofs.known_bits.KnownBitsWordDomain.truncate.Goals as goal
 
 pub invariant_of-result : goal.invariant_of-result

@@ -1,7 +1,7 @@
 use Rattle.std.proofs.Common.{pos, ◌*ℤ◌, ◌^◌, ◌∙◌, ap, arith}
 use Rattle.std.specs.Int.{w128}
 use Rattle.std.proofs.lemmas.Int.{ints, to_z-of_z}
-use Rattle.bpf_num.specs.SignedKeeps.{scaled_order}
+use Rattle.bpf_num.specs.Laws.SignedKeeps.{scaled_order}
 use Rattle.bpf_num.proofs.Parts.{held_is}
 use Rattle.bpf_num.proofs.signed.Signed.multiple.Goals as goal
 

@@ -2,7 +2,7 @@ use Rattle.std.proofs.Common.{ap, sym, subst, ◌∙◌, ◌/◌, ◌+◌, arith
 use Rattle.std.proofs.lemmas.Bool.{not-false}
 use Rattle.std.proofs.lemmas.Int.{ints}
 use Rattle.bpf_state.specs.Access.{Span}
-use Rattle.bpf_state.specs.Parts.{IsSpan, depth_of}
+use Rattle.bpf_state.specs.code.Parts.{IsSpan, depth_of}
 use Rattle.bpf_state.proofs.AccessLemmas.{touched_are, held_is}
 use Rattle.bpf_state.proofs.access.Reach.slots.Goals as goal
 

@@ -1,5 +1,5 @@
 use Rattle.std.proofs.Common.{sym, ap, ap₂, ◌∙◌, Ok, Err}
-use Rattle.bpf_state.specs.Results.{result_of, written}
+use Rattle.bpf_state.specs.code.Results.{result_of, written}
 use Rattle.bpf_state.proofs.AluLemmas.{alu_known}
 use Rattle.bpf_state.proofs.transfers.alu.alu.Goals as goal
 

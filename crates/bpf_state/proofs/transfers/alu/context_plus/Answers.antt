@@ -1,7 +1,7 @@
 use Rattle.std.proofs.Common.{◌+ℤ◌, rules, ap, ap₂, ◌∙◌}
 use Rattle.bpf_num.specs.SignedInterval.{SignedInterval}
 use Rattle.bpf_state.specs.declared.state.RegState.TheVariants.{Ctx}
-use Rattle.bpf_state.specs.Results.{near}
+use Rattle.bpf_state.specs.code.Results.{near}
 use Rattle.bpf_state.proofs.AluLemmas.{sum_is}
 use Rattle.bpf_state.proofs.transfers.alu.context_plus.Goals as goal
 

@@ -2,7 +2,7 @@ use Rattle.std.proofs.Common.{◌-ℤ◌, arith, rules, ap, ap₂, ◌∙◌}
 use Rattle.std.proofs.lemmas.Int.{ints}
 use Rattle.bpf_num.specs.SignedInterval.{SignedInterval}
 use Rattle.bpf_state.specs.declared.state.RegState.TheVariants.{Frame}
-use Rattle.bpf_state.specs.Results.{near}
+use Rattle.bpf_state.specs.code.Results.{near}
 use Rattle.bpf_state.proofs.AluLemmas.{rest_is}
 use Rattle.bpf_state.proofs.transfers.alu.frame_minus.Goals as goal
 

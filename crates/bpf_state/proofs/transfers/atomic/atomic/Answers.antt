@@ -4,7 +4,7 @@ use Rattle.bpf_insn.specs.Effects.{fetch_register}
 use Rattle.bpf_state.specs.State.{register}
 use Rattle.bpf_state.specs.Access.{span_at}
 use Rattle.bpf_state.specs.Fault.{is_pointer}
-use Rattle.bpf_state.specs.Parts.{atomic_operands, atomic_outcome}
+use Rattle.bpf_state.specs.code.Parts.{atomic_operands, atomic_outcome}
 use Rattle.bpf_state.specs.Answer.{outcome_told}
 use Rattle.bpf_state.proofs.MemoryLemmas.{atomic_refused, atomic_is, atomic_base}
 use Rattle.bpf_state.proofs.transfers.atomic.atomic.Goals as goal

@@ -3,7 +3,7 @@ use Rattle.std.specs.Prelude.{◌||◌}
 use Rattle.bpf_state.specs.State.{register, register_tag}
 use Rattle.bpf_state.specs.Access.{span_at}
 use Rattle.bpf_state.specs.Fault.{is_any, is_pointer}
-use Rattle.bpf_state.specs.Parts.{store_outcome}
+use Rattle.bpf_state.specs.code.Parts.{store_outcome}
 use Rattle.bpf_state.specs.Answer.{outcome_told}
 use Rattle.bpf_state.proofs.MemoryLemmas.{store_is}
 use Rattle.bpf_state.proofs.transfers.store.store.Goals as goal

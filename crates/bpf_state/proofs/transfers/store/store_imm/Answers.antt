@@ -4,7 +4,7 @@ use Rattle.bpf_num.specs.Number.{constant}
 use Rattle.bpf_state.specs.declared.state.RegState.TheVariants.{Num}
 use Rattle.bpf_state.specs.State.{register}
 use Rattle.bpf_state.specs.Access.{span_at}
-use Rattle.bpf_state.specs.Parts.{store_outcome}
+use Rattle.bpf_state.specs.code.Parts.{store_outcome}
 use Rattle.bpf_state.specs.Answer.{outcome_told}
 use Rattle.bpf_state.proofs.MemoryLemmas.{store_imm_is}
 use Rattle.bpf_state.proofs.transfers.store.store_imm.Goals as goal

@@ -6,7 +6,7 @@ use Rattle.bpf_cert.specs.declared.error.CertError.{CertError}
 use Rattle.bpf_cert.specs.declared.error.CertError.TheVariants as errors
 use Rattle.bpf_cert.specs.declared.source.Stop.{Stop}
 use Rattle.bpf_cert.specs.declared.source.Stop.TheVariants as stop
-use Rattle.bpf_cert.specs.Building.{Finishes}
+use Rattle.bpf_cert.specs.code.Building.{Finishes}
 
 abbrev pub AnswersBehindEnd : Stop → Bool → ℕ → List Line → Result CertificateView CertError → Type 0
 AnswersBehindEnd stop.End true n before r = Finishes before r

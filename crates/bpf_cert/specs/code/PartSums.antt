@@ -3,9 +3,9 @@ use Rattle.std.specs.Prelude.{◌≡◌, ℕ, ◌+◌, ◌≤◌, Bool, ◌&&◌
 use Rattle.std.specs.List.{list_all}
 use Rattle.bpf_cert.specs.Line.{Part}
 use Rattle.bpf_cert.specs.Faults.{is_rising, part_before, part_rank, is_limited_part}
-use Rattle.bpf_cert.specs.Findings.{tested}
+use Rattle.bpf_cert.specs.code.Findings.{tested}
 use Rattle.bpf_cert.specs.Spelling.{unsigned_parts, signed_parts, bits_parts}
-use Rattle.bpf_cert.specs.Seen.{is_canonical_part}
+use Rattle.bpf_cert.specs.code.Seen.{is_canonical_part}
 use Rattle.bpf_cert.specs.declared.num.Parts.{Parts}
 
 abbrev pub are_canonical : List Part → Bool

@@ -7,9 +7,9 @@ use Rattle.std.proofs.lemmas.Nat.Bits.{bit_at_or, bit_at_not}
 use Rattle.bpf_insn.specs.declared.instruction.AluOp.TheVariants.{Sub}
 use Rattle.bpf_num.specs.Word.{M, exact, complement, word_add, word_sub}
 use Rattle.bpf_num.specs.Tristate.{Tristate, IsTristate, HasBits, bits_sub}
-use Rattle.bpf_num.specs.Carry.{Between, carry_known}
-use Rattle.bpf_num.specs.TristateLaws.{member_between, known_ends, bit_at_forget}
-use Rattle.bpf_num.specs.WordLaws.{bit_at_low, same_bits, sub_is}
+use Rattle.bpf_num.specs.Laws.Carry.{Between, carry_known}
+use Rattle.bpf_num.specs.Laws.TristateLaws.{member_between, known_ends, bit_at_forget}
+use Rattle.bpf_num.specs.Laws.WordLaws.{bit_at_low, same_bits, sub_is}
 
 -- a number between two has its complement between theirs
 Between-complement : (i p x q : ℕ) → i < 64 → p < M → x < M → q < M → Between i p x q → Between i (complement q) (complement x) (complement p)

@@ -6,9 +6,9 @@ use Rattle.std.proofs.lemmas.Nat.{mod_below, pow_pos}
 use Rattle.std.proofs.Math.IntN.{*ℤ_comm}
 use Rattle.bpf_insn.specs.declared.instruction.AluOp.TheVariants.{Mul}
 use Rattle.bpf_num.specs.Word.{M, exact, signed}
-use Rattle.bpf_num.specs.IntegerLaws.{least_at_end, product_affine}
+use Rattle.bpf_num.specs.Laws.IntegerLaws.{least_at_end, product_affine}
 use Rattle.bpf_num.specs.SignedInterval.{SignedInterval, IsSignedInterval, SignedWithin, signed_interval, signed_mul, least, most}
-use Rattle.bpf_num.specs.SignedLaws.{fits_64, if_fits_keeps}
+use Rattle.bpf_num.specs.Laws.SignedLaws.{fits_64, if_fits_keeps}
 
 -- a product of members lies between the least and the greatest product of ends
 abbrev pub least_corner : ℤ → ℤ → ℤ → ℤ → ℤ

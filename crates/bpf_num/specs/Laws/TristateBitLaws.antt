@@ -8,7 +8,7 @@ use Rattle.std.proofs.lemmas.Nat.Bits.{bit_at-lt, bit_at-zero, bit_at_and, bit_a
 use Rattle.std.proofs.Math.Nat.{lt_of_le_of_lt}
 use Rattle.bpf_num.specs.Word.{M, exact, complement, low_zeros}
 use Rattle.bpf_insn.specs.declared.instruction.AluOp.TheVariants.{And, Or, Xor, Mul}
-use Rattle.bpf_num.specs.WordLaws.{bit_at_low, bit_at_and_not, no_bit, low_bits_of_product, bit_at_truncated}
+use Rattle.bpf_num.specs.Laws.WordLaws.{bit_at_low, bit_at_and_not, no_bit, low_bits_of_product, bit_at_truncated}
 use Rattle.bpf_num.specs.Tristate.{Tristate, IsTristate, HasBits, bits_top, greatest, bits_and, bits_or, bits_xor, bits_mul}
 
 -- every number is a member of the whole set

@@ -9,8 +9,8 @@ use Rattle.bpf_safety.specs.Labels.{label_at}
 use Rattle.bpf_cert.specs.View.{CertificateView}
 use Rattle.bpf_safety.specs.Flow.{Arrival, Visit, arrives, passed_on, sound_arrival}
 use Rattle.bpf_safety.specs.Flaw.{numbers_of_arrival, is_not_entailed, is_over_budget, falls_past_end}
-use Rattle.bpf_check.specs.Arrivals.{walk_of, IsReaching}
-use Rattle.bpf_check.specs.Edges.{visit}
+use Rattle.bpf_check.specs.code.Arrivals.{walk_of, IsReaching}
+use Rattle.bpf_check.specs.code.Edges.{visit}
 use Rattle.bpf_check.specs.declared.arrival.Walk.{Walk}
 use Rattle.bpf_check.specs.declared.visit.Judged.{Judged}
 

@@ -6,11 +6,11 @@ use Rattle.bpf_state.specs.declared.state.Place.{Place as PlaceValue}
 use Rattle.bpf_state.specs.declared.state.SlotState.{SlotState}
 use Rattle.bpf_cert.specs.Numeral.{is_numeral}
 use Rattle.bpf_cert.specs.Reading.{number_in, content_in, function_in, label_in, entry_in}
-use Rattle.bpf_cert.specs.TermSums.{terms_in}
+use Rattle.bpf_cert.specs.code.TermSums.{terms_in}
 use Rattle.bpf_cert.specs.Faults.{is_canonical, is_limited, may_stand, is_in_order, has_room, last_first, last_slot, last_place, is_function, is_label}
 use Rattle.bpf_cert.specs.Limits.{is_limited_place, is_limited_term, is_limited_header}
 use Rattle.bpf_cert.specs.Spelling.{place_of, term_of, number_of, content_of, header_line}
-use Rattle.bpf_cert.specs.Contents.{IsContent}
+use Rattle.bpf_cert.specs.code.Contents.{IsContent}
 use Rattle.bpf_cert.specs.declared.finding.Flaw.{Flaw}
 use Rattle.bpf_cert.specs.declared.finding.Flaw.TheVariants.{Syntax, NotCanonical, Limit}
 use Rattle.bpf_cert.specs.declared.standing.Stage.{Stage}

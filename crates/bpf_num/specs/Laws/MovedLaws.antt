@@ -18,9 +18,9 @@ use Rattle.bpf_insn.specs.declared.instruction.SignBits.TheVariants.{B8 as S8, B
 use Rattle.bpf_insn.specs.declared.instruction.EndBits.{EndBits}
 use Rattle.bpf_insn.specs.declared.instruction.EndBits.TheVariants.{B16 as E16, B32 as E32, B64 as E64}
 use Rattle.bpf_num.specs.Word.{M, exact, signed, truncated, sign_extended, reversed}
-use Rattle.bpf_num.specs.WordLaws.{Half, signed_is, bit_at_low, bit_at_truncated, zero_from_bits, modulo_fits}
+use Rattle.bpf_num.specs.Laws.WordLaws.{Half, signed_is, bit_at_low, bit_at_truncated, zero_from_bits, modulo_fits}
 use Rattle.bpf_num.specs.Tristate.{Tristate, IsTristate, HasBits, bits_moved}
-use Rattle.bpf_num.specs.TristateBitLaws.{apart_at}
+use Rattle.bpf_num.specs.Laws.TristateBitLaws.{apart_at}
 
 -- a bit of f x is 0, or the bit j of x
 abbrev pub IsGone : (ℕ → ℕ) → ℕ → Type 0

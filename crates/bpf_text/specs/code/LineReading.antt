@@ -6,8 +6,8 @@ use Rattle.bpf_text.specs.declared.line.LineFault.{LineFault}
 use Rattle.bpf_text.specs.declared.line.LineFault.TheVariants.{NoForm, OutOfRange}
 use Rattle.bpf_text.specs.Characters.{is_name}
 use Rattle.bpf_text.specs.Statements.{Statement}
-use Rattle.bpf_text.specs.WordReading.{skip_blanks, ◌>>=◌, word_in}
-use Rattle.bpf_text.specs.StatementReading.{if_blank, whole_statement}
+use Rattle.bpf_text.specs.code.WordReading.{skip_blanks, ◌>>=◌, word_in}
+use Rattle.bpf_text.specs.code.StatementReading.{if_blank, whole_statement}
 use Rattle.bpf_text.specs.Sources.{lines_of, without_comment, Label, Source, statement_slots, said_at, in_front, ends_with}
 
 -- what stands behind the first such character, if it is there

@@ -4,7 +4,7 @@ use Rattle.std.specs.List.{list_all}
 use Rattle.bpf_state.specs.State.{AbstractState}
 use Rattle.bpf_cert.specs.Numeral.{is_from_to}
 use Rattle.bpf_cert.specs.Faults.{is_rising, comes_after}
-use Rattle.bpf_cert.specs.TermSums.{last}
+use Rattle.bpf_cert.specs.code.TermSums.{last}
 use Rattle.bpf_cert.specs.View.{LabelView, FunctionView, label_view, function_view, certificate_of}
 use Rattle.bpf_cert.specs.Limits.{is_canonical_state, is_limited_state, slot_before, is_canonical_label, is_limited_label, first_before, is_canonical_function, is_limited_function, is_limited_num, label_count, is_limited_header, IsCertificate}
 use Rattle.bpf_cert.specs.declared.standing.Stage.{Stage}

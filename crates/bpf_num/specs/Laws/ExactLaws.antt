@@ -8,7 +8,7 @@ use Rattle.bpf_insn.specs.Arithmetic.{modulo, quotient}
 use Rattle.bpf_insn.specs.declared.instruction.AluOp.{AluOp}
 use Rattle.bpf_insn.specs.declared.instruction.AluOp.TheVariants.{Add, Sub, Mul, Div, SDiv, Or, And, Lsh, Rsh, Mod, SMod, Xor, Mov, Arsh}
 use Rattle.bpf_num.specs.Word.{M, exact, signed, word_sub}
-use Rattle.bpf_num.specs.WordLaws.{sub_is, modulo_fits}
+use Rattle.bpf_num.specs.Laws.WordLaws.{sub_is, modulo_fits}
 
 either_fits : (b : Bool) (x y : ℕ) → x < M → y < M → cond b x y < M
 either_fits true x y h k = h

@@ -16,9 +16,9 @@ use Rattle.bpf_insn.specs.declared.instruction.SignBits.TheVariants.{B8 as S8, B
 use Rattle.bpf_insn.specs.declared.instruction.EndBits.{EndBits}
 use Rattle.bpf_insn.specs.declared.instruction.EndBits.TheVariants.{B16 as E16, B32 as E32, B64 as E64}
 use Rattle.bpf_num.specs.Word.{M, exact, signed, truncated, sign_extended, reversed, bit_length}
-use Rattle.bpf_num.specs.WordLaws.{modulo_fits, below_length, signed_is, Half, signed_low}
-use Rattle.bpf_num.specs.ExactLaws.{exact_fits, sub_down, sub_up}
-use Rattle.bpf_num.specs.MovedLaws.{reversed_is, turned_below, cast_low}
+use Rattle.bpf_num.specs.Laws.WordLaws.{modulo_fits, below_length, signed_is, Half, signed_low}
+use Rattle.bpf_num.specs.Laws.ExactLaws.{exact_fits, sub_down, sub_up}
+use Rattle.bpf_num.specs.Laws.MovedLaws.{reversed_is, turned_below, cast_low}
 use Rattle.bpf_num.specs.Interval.{Interval, IsInterval, Within, interval, unsigned_top, unsigned_constant, unsigned_if, unsigned_add, unsigned_sub, unsigned_mul, unsigned_div, unsigned_mod, unsigned_or, unsigned_and, unsigned_xor, unsigned_binary, unsigned_shift, unsigned_truncate, unsigned_sign_extend, unsigned_swap}
 
 pub in_unsigned_top : (x : ℕ) → x < M → Within unsigned_top x

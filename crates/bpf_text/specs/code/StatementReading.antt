@@ -29,7 +29,7 @@ use Rattle.bpf_text.specs.declared.spelling.Keyword.TheVariants as keyword
 use Rattle.bpf_text.specs.Characters.{is_name}
 use Rattle.bpf_text.specs.Numerals.{fits_16, fits_32, fits_wide}
 use Rattle.bpf_text.specs.Statements.{Statement, is_extension, load_of, store_of, jump_by, plain, to_label}
-use Rattle.bpf_text.specs.WordReading.{skip_blanks, Read, ◌>>=◌, word_in, behind_mark, behind, first_spelled, unsigned_in, number_in, signed_in}
+use Rattle.bpf_text.specs.code.WordReading.{skip_blanks, Read, ◌>>=◌, word_in, behind_mark, behind, first_spelled, unsigned_in, number_in, signed_in}
 
 -- one way where it can be gone, else the other
 abbrev pub first_way : {A B : Type 0} → Option A → (A → B) → B → B

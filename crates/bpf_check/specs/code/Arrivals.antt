@@ -4,7 +4,7 @@ use Rattle.bpf_state.specs.State.{AbstractState}
 use Rattle.bpf_cert.specs.View.{label_view}
 use Rattle.bpf_cert.specs.Limits.{is_limited_label}
 use Rattle.bpf_safety.specs.Flow.{Arrival, label_state}
-use Rattle.bpf_check.specs.Slack.{at_label, IsWithin}
+use Rattle.bpf_check.specs.code.Slack.{at_label, IsWithin}
 use Rattle.bpf_check.specs.declared.arrival.Here.{Here}
 use Rattle.bpf_check.specs.declared.arrival.Walk.{Walk}
 

@@ -3,7 +3,7 @@ use Rattle.std.specs.Prelude.{map}
 use Rattle.bpf_text.specs.declared.source.Said.{Said as WrittenSaid}
 use Rattle.bpf_text.specs.declared.source.Source.{Source as Written}
 use Rattle.bpf_text.specs.Statements.{seen}
-use Rattle.bpf_text.specs.Seen.{label_seen}
+use Rattle.bpf_text.specs.code.Seen.{label_seen}
 use Rattle.bpf_text.specs.Sources.{Said, Source}
 
 abbrev pub said_seen : WrittenSaid → Said

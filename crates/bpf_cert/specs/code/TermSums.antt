@@ -6,9 +6,9 @@ use Rattle.bpf_cert.specs.Numeral.{is_plain}
 use Rattle.bpf_cert.specs.Line.{Place, Term, is_place, is_term}
 use Rattle.bpf_cert.specs.Faults.{is_rising, place_before, place_of, is_plain_place, is_plain_measure, is_limited_term}
 use Rattle.bpf_cert.specs.Limits as limits
-use Rattle.bpf_cert.specs.Findings.{tested}
+use Rattle.bpf_cert.specs.code.Findings.{tested}
 use Rattle.bpf_cert.specs.Spelling.{term_of}
-use Rattle.bpf_cert.specs.Seen.{place_seen}
+use Rattle.bpf_cert.specs.code.Seen.{place_seen}
 use Rattle.bpf_cert.specs.declared.term.Terms.{Terms}
 
 -- the terms in the text behind a label's base

@@ -9,7 +9,7 @@ use Rattle.std.proofs.lemmas.Nat.{mod_below, pow_pos, shr_le}
 use Rattle.std.proofs.Math.Nat.{div-le_self, mod-le, mod-eq_of_lt}
 use Rattle.std.proofs.Math.Pow.{shr_mono}
 use Rattle.std.proofs.Math.IntN.{*ℤ_comm}
-use Rattle.bpf_num.specs.IntegerLaws.{mul_le_pos}
+use Rattle.bpf_num.specs.Laws.IntegerLaws.{mul_le_pos}
 use Rattle.bpf_insn.specs.Arithmetic.{modulo, quotient, swap_size, sign_type}
 use Rattle.bpf_insn.specs.declared.instruction.AluOp.{AluOp}
 use Rattle.bpf_insn.specs.declared.instruction.AluOp.TheVariants.{Add, Sub, Mul, SDiv, SMod, Lsh, Rsh, Arsh}
@@ -18,12 +18,12 @@ use Rattle.bpf_insn.specs.declared.instruction.SignBits.TheVariants.{B8 as S8, B
 use Rattle.bpf_insn.specs.declared.instruction.EndBits.{EndBits}
 use Rattle.bpf_insn.specs.declared.instruction.EndBits.TheVariants.{B16 as E16, B32 as E32, B64 as E64}
 use Rattle.bpf_num.specs.Word.{M, exact, signed, truncated, sign_extended, reversed}
-use Rattle.bpf_num.specs.WordLaws.{sub_is, Half, signed_is, signed_low, signed_high, modulo_fits}
-use Rattle.bpf_num.specs.ExactLaws.{exact_fits}
-use Rattle.bpf_num.specs.MovedLaws.{reversed_is, turned_below, cast_low, cast_high}
+use Rattle.bpf_num.specs.Laws.WordLaws.{sub_is, Half, signed_is, signed_low, signed_high, modulo_fits}
+use Rattle.bpf_num.specs.Laws.ExactLaws.{exact_fits}
+use Rattle.bpf_num.specs.Laws.MovedLaws.{reversed_is, turned_below, cast_low, cast_high}
 use Rattle.bpf_num.specs.SignedInterval.{SignedInterval, IsSignedInterval, SignedWithin, signed_interval, signed_top, signed_constant, signed_if, least, most, signed_sub, signed_sdiv, signed_smod, toward_zero, signed_binary, signed_halved, signed_shift, signed_truncate, signed_of_width, signed_entail, signed_sign_extend, signed_swap}
-use Rattle.bpf_num.specs.SignedLaws.{fits_64, in_signed_top, if_fits_keeps, signed_add_keeps}
-use Rattle.bpf_num.specs.SignedMulLaws.{signed_mul_keeps}
+use Rattle.bpf_num.specs.Laws.SignedLaws.{fits_64, in_signed_top, if_fits_keeps, signed_add_keeps}
+use Rattle.bpf_num.specs.Laws.SignedMulLaws.{signed_mul_keeps}
 
 -- an integer that fits is read back from its number
 pub signed_modulo : (z : ℤ) → least ≤ℤ z → z ≤ℤ most → signed (modulo z (2 ^ 64)) ≡ z

@@ -10,8 +10,8 @@ use Rattle.bpf_cert.specs.declared.error.CertError.{CertError}
 use Rattle.bpf_cert.specs.declared.error.CertError.TheVariants as errors
 use Rattle.bpf_cert.specs.View.{CertificateView, label_view, function_view}
 use Rattle.bpf_cert.specs.Spelling.{is_unknown, contents, header_line, function_lines, label_lines, certificate_lines}
-use Rattle.bpf_cert.specs.Standing.{Stands}
-use Rattle.bpf_cert.specs.Sound.{IsLabelState, IsSound, closed, function_at, functions_at}
+use Rattle.bpf_cert.specs.code.Standing.{Stands}
+use Rattle.bpf_cert.specs.code.Sound.{IsLabelState, IsSound, closed, function_at, functions_at}
 use Rattle.bpf_insn.specs.Instruction.{register_number}
 use Rattle.bpf_state.specs.State.{AbstractState, IsSlot}
 use Rattle.bpf_state.specs.declared.state.Place.{Place}

@@ -11,7 +11,7 @@ use Rattle.bpf_safety.specs.Labels.{label_at}
 use Rattle.bpf_safety.specs.Budget.{budget, least_slack}
 use Rattle.bpf_safety.specs.Flow.{Visit, callee, goes_on, jump_target, jump_state}
 use Rattle.bpf_safety.specs.Flaw.{Edge, edge_to, is_negative_if}
-use Rattle.bpf_check.specs.Slack.{at_label}
+use Rattle.bpf_check.specs.code.Slack.{at_label}
 
 -- a visit, of which the arrival isn't looked at
 abbrev pub visit : ℕ → Insn → Visit

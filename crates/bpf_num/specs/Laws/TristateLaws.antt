@@ -7,8 +7,8 @@ use Rattle.std.proofs.lemmas.Nat.Bits.{bit_at-lt, bit_at_and, bit_at_or, bit_at_
 use Rattle.bpf_num.specs.Word.{M, exact, complement, word_add}
 use Rattle.bpf_insn.specs.declared.instruction.AluOp.TheVariants.{Add}
 use Rattle.bpf_num.specs.Tristate.{Tristate, IsTristate, HasBits, forget, bits_add}
-use Rattle.bpf_num.specs.Carry.{Between, carry_known}
-use Rattle.bpf_num.specs.WordLaws.{bit_at_low, same_bits}
+use Rattle.bpf_num.specs.Laws.Carry.{Between, carry_known}
+use Rattle.bpf_num.specs.Laws.WordLaws.{bit_at_low, same_bits}
 
 -- the same of three digits
 digit_between : (v m x : ℕ) → min v m ≡ 0 → v < 2 → m < 2 → x < 2 → (m ≡ 0 → x ≡ v) → (v ≤ x) × (x ≤ max v m)

@@ -8,11 +8,11 @@ use Rattle.bpf_insn.specs.declared.instruction.SignBits.{SignBits}
 use Rattle.bpf_insn.specs.declared.instruction.EndBits.{EndBits}
 use Rattle.bpf_insn.specs.declared.instruction.EndBits.TheVariants.{B16 as E16, B32 as E32, B64 as E64}
 use Rattle.bpf_num.specs.Word.{M, exact, truncated, sign_extended, reversed}
-use Rattle.bpf_num.specs.ExactLaws.{exact_fits}
-use Rattle.bpf_num.specs.TristateLaws.{bits_add_keeps}
-use Rattle.bpf_num.specs.TristateSubLaws.{bits_sub_keeps}
-use Rattle.bpf_num.specs.TristateBitLaws.{in_bits_top, bits_and_keeps, bits_or_keeps, bits_xor_keeps, bits_mul_keeps}
-use Rattle.bpf_num.specs.MovedLaws.{moved_keeps, truncated_moves, lsh_moves, rsh_moves, arsh_moves, sign_extended_moves, reversed_moves}
+use Rattle.bpf_num.specs.Laws.ExactLaws.{exact_fits}
+use Rattle.bpf_num.specs.Laws.TristateLaws.{bits_add_keeps}
+use Rattle.bpf_num.specs.Laws.TristateSubLaws.{bits_sub_keeps}
+use Rattle.bpf_num.specs.Laws.TristateBitLaws.{in_bits_top, bits_and_keeps, bits_or_keeps, bits_xor_keeps, bits_mul_keeps}
+use Rattle.bpf_num.specs.Laws.MovedLaws.{moved_keeps, truncated_moves, lsh_moves, rsh_moves, arsh_moves, sign_extended_moves, reversed_moves}
 use Rattle.bpf_num.specs.Tristate.{Tristate, IsTristate, HasBits, bits_constant, bits_binary, bits_shift, bits_moved}
 
 pub in_bits_constant : (x : ℕ) → x < M → HasBits (bits_constant x) x
