@@ -1,6 +1,6 @@
 //! What the command answers to words, on places in memory.
 
-use crate::rows::{Seen, rows};
+use crate::rows::{Row, Seen, contexts, rows};
 use crate::shelf::{Fault, Paper, Shelf};
 use bpf_command::{ContextError, context_of, respond};
 use std::alloc::{AllocError, Global};
@@ -36,12 +36,21 @@ fn assert_row(rt: &(impl Abort + Alloc<A = Global>), row: &Seen) -> Result<(), F
     Ok(())
 }
 
-#[test]
-fn answers_are_as_told(rt: HostRuntime) -> Result<(), Fail> {
-    for row in rows() {
-        assert_row(&rt, &row.seen())?;
+fn assert_rows(rt: &(impl Abort + Alloc<A = Global>), rows: &[Row]) -> Result<(), Fail> {
+    for row in rows {
+        assert_row(rt, &row.seen())?;
     }
     Ok(())
+}
+
+#[test]
+fn answers_are_as_told(rt: HostRuntime) -> Result<(), Fail> {
+    assert_rows(&rt, rows())
+}
+
+#[test]
+fn contexts_in_files_are_answered_as_told(rt: HostRuntime) -> Result<(), Fail> {
+    assert_rows(&rt, contexts::rows())
 }
 
 #[test]
@@ -106,6 +115,17 @@ fn assert_output_fails(rt: &(impl Abort + Alloc<A = Global>), row: &Seen) -> Res
 #[test]
 fn output_fails(rt: HostRuntime) -> Result<(), Fail> {
     for row in rows() {
+        let row = row.seen();
+        if !row.out.is_empty() {
+            assert_output_fails(&rt, &row)?;
+        }
+    }
+    Ok(())
+}
+
+#[test]
+fn output_of_contexts_in_files_fails(rt: HostRuntime) -> Result<(), Fail> {
+    for row in contexts::rows() {
         let row = row.seen();
         if !row.out.is_empty() {
             assert_output_fails(&rt, &row)?;
