@@ -1,5 +1,6 @@
 -- How a run of a verified image ends.
-use Rattle.std.proofs.Common.{◌≡◌, ◌≤◌, ◌<◌, ◌^◌, ℕ, List, sym, ap, subst, ◌∙◌, arith, Option, Some, None, IsSomeAnd}
+use Rattle.std.proofs.Common.{◌≡◌, ◌≤◌, ◌<◌, ◌^◌, ℕ, List, sym, ap, subst, ◌∙◌, arith, Bool, true, false, Option, Some, None, IsSomeAnd}
+use Rattle.std.proofs.lemmas.Bool.{false≢true}
 use Rattle.bpf_insn.specs.Instruction.{Instructions}
 use Rattle.bpf_insn.specs.Image.{IsProgram, image as image_of}
 use Rattle.bpf_insn.specs.Laws.{AreBytes}
@@ -13,7 +14,6 @@ use Rattle.bpf_machine.specs.declared.outcome.Outcome.TheVariants.{Done, Fault, 
 use Rattle.bpf_sound.specs.Describes.{LengthWithin}
 use Rattle.bpf_safety.specs.Theorems.{IsSafe, EndsWithin}
 use Rattle.bpf_check.specs.Verdicts.{Verified, program_in}
-use Rattle.bpf_check.proofs.Promise.{not_fault, not_out}
 use Rattle.bpf_host.specs.Answers.{IsVerifiedFor, EndsAsVerified}
 
 -- what a run with much fuel tells of a program that an image has
@@ -51,6 +51,18 @@ done_as_verified {order} {image} {context} {p} r v k is done least most bound ve
       in_time = subst (steps_within bound) (e.1 ∙ is) e.0.in_time;
       done = subst (λ q. IsDone q context v k) (program_is r verified.program verified.is_image.program verified.is_image.bytes_are) done;
     }
+
+-- an end is neither a fault nor want of fuel
+abbrev is_done : Outcome → Bool
+is_done (Done v k) = true
+is_done (Fault slot why k) = false
+is_done OutOfFuel = false
+
+not_fault : (v k slot : ℕ) (why : Reason) (j : ℕ) → Done v k ≡ Fault slot why j → ⊥
+not_fault v k slot why j e = false≢true (sym (ap is_done e))
+
+not_out : (v k : ℕ) → Done v k ≡ OutOfFuel → ⊥
+not_out v k e = false≢true (sym (ap is_done e))
 
 -- so it is no other
 pub never_fault : {order : Order} {image context : List ℕ} {p : Instructions} {outcome : Outcome} → Ran order image context p outcome → IsVerifiedFor order image context → (slot : ℕ) (why : Reason) (k : ℕ) → outcome ≡ Fault slot why k → ⊥
