@@ -1,5 +1,6 @@
 #!/usr/bin/env bash
-# Times `bpf infer` on straight lines, on many branches, on a loop over many branches, and on many functions.
+# Times `bpf infer` on straight lines, on many branches, on a loop over many branches, and on many functions, and
+# `bpf infer --deep` on these, on 5,000 loops in a row, and on nests of loops of 4,000 slots.
 # Usage: bench/infer.sh [ROUNDS], 5 if not said. BPF names another command than ./bpf.
 set -eu
 rounds=${1:-5}
@@ -10,64 +11,106 @@ import pathlib
 import struct
 import sys
 
-ZERO, EXIT = bytes.fromhex("b7 00 00 00 00 00 00 00"), bytes.fromhex("95 00 00 00 00 00 00 00")
+
+def insn(opcode, dst=0, src=0, off=0, imm=0):
+    return struct.pack("<BBhi", opcode, dst | src << 4, off, imm)
+
+
+ZERO, EXIT = insn(0xB7), insn(0x95)
 # r0 = *(u8 *)(r1 + 0); if r0 == 0 goto +1; r0 += 1
-BRANCH = bytes.fromhex("71 10 00 00 00 00 00 00 15 00 01 00 00 00 00 00 07 00 00 00 01 00 00 00")
-few = 7_000
-LOOP = (
-    bytes.fromhex("b7 06 00 00 0a 00 00 00")
-    + BRANCH * few
-    + bytes.fromhex("07 06 00 00 ff ff ff ff 15 06 01 00 00 00 00 00")
-    + bytes.fromhex("06 00 00 00") + struct.pack("<i", -(3 * few + 3)) + EXIT
-)
+BRANCH = insn(0x71, 0, 1) + insn(0x15, off=1) + insn(0x07, imm=1)
+
+
+def loop(register, turns, body):
+    """A countdown around a body, which may be too long for a jump of 16 bits."""
+    back = -(len(body) // 8 + 3)
+    return insn(0xB7, register, imm=turns) + body + insn(0x07, register, imm=-1) + insn(0x15, register, off=1) + insn(0x06, imm=back)
+
+
+def nest(depth, slots):
+    """Loops in one another over branches."""
+    body = BRANCH * ((slots - 4 * depth - 2) // 3)
+    for register in range(6, 6 + depth):
+        body = loop(register, 3, body)
+    return ZERO + body + EXIT
+
+
+def nests(depth, slots):
+    """Nests in a row, with two branches in each."""
+    one = BRANCH * 2
+    for register in range(6, 6 + depth):
+        one = loop(register, 3, one)
+    return ZERO + one * ((slots - 2) // (len(one) // 8)) + EXIT
+
+
 functions = 255
 # each function calls none; slot 0 calls them all
-CALLS = b"".join(bytes.fromhex("85 10 00 00") + struct.pack("<i", functions - i + 2 * i) for i in range(functions)) + EXIT
+CALLS = b"".join(insn(0x85, src=1, imm=functions + i) for i in range(functions)) + EXIT
 PROGRAMS = {
     "start": ZERO + EXIT,
     "lines": ZERO * 65_535 + EXIT,
     "branches": BRANCH * 21_845 + EXIT,
-    "loop": LOOP,
+    "loop": loop(6, 10, BRANCH * 7_000) + EXIT,
     "functions": CALLS + (ZERO + EXIT) * functions,
+    "loops": ZERO + (insn(0xB7, 6, imm=5) + insn(0x07, 6, imm=-1) + insn(0x55, 6, off=-2)) * 5_000 + EXIT,
 }
+for depth in range(1, 5):
+    PROGRAMS[f"nest-{depth}"] = nest(depth, 4_000)
+    PROGRAMS[f"nests-{depth}"] = nests(depth, 4_000)
 for name, image in PROGRAMS.items():
     pathlib.Path(sys.argv[1], name).write_bytes(image)
 END
 
+PLAIN="start lines branches loop functions"
+DEEP="start lines branches loop functions loops nest-1 nest-2 nest-3 nest-4 nests-1 nests-2 nests-3 nests-4"
+
 # Each must get a certificate that is accepted, else a refusal would be timed.
-for name in start lines branches loop functions; do
-    "$bpf" infer "$dir/$name" 1 "$dir/$name.cert"
-    case $("$bpf" check "$dir/$name" "$dir/$name.cert") in
+judge() {
+    case $("$bpf" check "$dir/$1" "$dir/$1.cert") in
     "yes length 1 bound "*) ;;
-    *) echo "infer.sh: $name is refused" >&2; exit 1 ;;
+    *) echo "infer.sh: $1 is refused" >&2; exit 1 ;;
     esac
+}
+for name in $PLAIN; do
+    "$bpf" infer "$dir/$name" 1 "$dir/$name.cert"
+    judge "$name"
+done
+for name in $DEEP; do
+    "$bpf" infer --deep "$dir/$name" 1 "$dir/$name.cert"
+    judge "$name"
 done
 
-TIMEFORMAT='%3U %3S'
-for ((round = 0; round < rounds; round++)); do
-    for name in start lines branches loop functions; do
-        { time "$bpf" infer "$dir/$name" 1 "$dir/$name.cert" >/dev/null; } 2>>"$dir/$name.times"
-    done
-done
-
-python3 - "$dir" <<'END'
+python3 - "$bpf" "$dir" "$rounds" "$PLAIN" "$DEEP" <<'END'
+import os
 import pathlib
 import statistics
 import sys
 
-folder = pathlib.Path(sys.argv[1])
+bpf, folder, rounds, plain, deep = sys.argv[1], pathlib.Path(sys.argv[2]), int(sys.argv[3]), sys.argv[4].split(), sys.argv[5].split()
 
 
-def seconds(name):
-    """The median of the seconds of processor time of one run."""
-    return statistics.median(sum(float(word) for word in line.split()) for line in (folder / f"{name}.times").read_text().splitlines())
+def run(words):
+    """The seconds of processor time of one run, and its greatest memory in megabytes."""
+    child = os.posix_spawn(bpf, [bpf] + words, os.environ)
+    _, status, usage = os.wait4(child, 0)
+    if status:
+        sys.exit(f"infer.sh: {' '.join(words)} failed")
+    return usage.ru_utime + usage.ru_stime, usage.ru_maxrss / 1024
 
 
-start = seconds("start")
-print("seconds of processor time, medians")
-for name in ["lines", "branches", "loop", "functions"]:
-    count = (folder / name).stat().st_size // 8
-    time = seconds(name) - start
-    rate = f"{count / time:12,.0f} instructions/second" if time > 0 else "in the noise"
-    print(f"{name:10} {count:7,} instructions {time:8.3f} s {rate}")
+def measure(flags, name):
+    runs = [run(["infer", *flags, str(folder / name), "1", str(folder / "timed.cert")]) for _ in range(rounds)]
+    return statistics.median(time for time, _ in runs), max(memory for _, memory in runs)
+
+
+print("seconds of processor time, medians, and the greatest memory")
+for title, flags, names in [("infer", [], plain), ("infer --deep", ["--deep"], deep)]:
+    print(title)
+    start, _ = measure(flags, "start")
+    for name in names[1:]:
+        count = (folder / name).stat().st_size // 8
+        time, memory = measure(flags, name)
+        time -= start
+        rate = f"{count / time:12,.0f} instructions/second" if time > 0 else "in the noise"
+        print(f"{name:10} {count:7,} instructions {time:8.3f} s {memory:7.1f} MB {rate}")
 END

@@ -10,6 +10,8 @@ import tempfile
 BPF, EXAMPLES, SHIM = sys.argv[1], pathlib.Path(sys.argv[2]), sys.argv[3]
 OLD = b'what stood here before\n'
 WANT_OF_MEMORY = {'no E9 at slot 0\n', 'no A7 at line 0\n', 'no K4 at line 0\n', 'no I5 at slot 0\n'}
+# the same in words
+WANT_OF_MEMORY |= {'A7: out of memory\n', 'K4 at line 0: memory ran out\n', 'no certificate: I5, memory ran out\n'}
 
 COMMANDS = [
     ['groups', 'fetch.img'],
@@ -17,6 +19,7 @@ COMMANDS = [
     ['asm', 'bad.asm', 'OUT'],
     ['list', 'fetch.img'],
     ['list', 'reserved.img'],
+    ['list', '--slots', '--bytes', 'fetch.img'],
     ['infer', 'checksum.img', '16', 'OUT'],
     ['infer', 'checksum.img', '15', 'OUT'],
     ['check', 'countdown.img', 'countdown.cert'],
@@ -27,6 +30,15 @@ COMMANDS = [
     ['run-checked', 'first-byte.img', 'first-byte.cert', '2a'],
     ['run-checked', 'first-byte.img', 'first-byte.cert', 'none'],
     ['migrate', 'countdown.cert', 'OUT'],
+    ['explain', 'fetch.img'],
+    ['explain', 'reserved.img'],
+    ['explain', '--text', 'bad.asm'],
+    ['explain', '--text', 'checksum.asm'],
+    ['explain', 'countdown.img', 'countdown.cert'],
+    ['explain', 'first-byte.img', 'countdown.cert', '--slot', '0'],
+    ['explain', 'countdown.img', 'bad.asm'],
+    ['explain', 'checksum.img', '--infer', '16'],
+    ['explain', 'checksum.img', '--infer', '15'],
 ]
 
 
@@ -68,6 +80,9 @@ def opened(got):
 
 def is_refused_for_memory(got, right):
     if got.status == 1 and got.out in WANT_OF_MEMORY and not got.err:
+        return True
+    # an explanation of what isn't inferred leaves out what there is no memory for
+    if '--infer' in got.words and got.status == right.status == 1 and all(line in right.out for line in got.out.splitlines()):
         return True
     # where the system has no memory to open a name, that name can't be read or written
     return got.status == 3 and (got.err == 'no memory\n' or got.err in opened(got)) and right.out.startswith(got.out)

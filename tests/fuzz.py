@@ -27,8 +27,9 @@ FORMS = {
     'run': {0: r'done \d+ steps \d+\n', 1: rf'no E\d+ at slot {SLOT}\n|fault F[1-9] at slot {SLOT} steps \d+\n|out of fuel\n'},
     'run-checked': {0: r'done \d+\n', 1: rf'no E\d+ at slot {SLOT}\n|no K[1-4] at line \d+\n|no C\d+ at slot {SLOT}\n|no context of \d+ bytes, want \d+(\.\.\d+)?\n'},
     'migrate': {0: '', 1: r'no K[1-4] at line \d+\n'},
+    'explain': {0: r'[^\0]+\n', 1: r'[^\0]+\n'},
 }
-ERRORS = {2: r'bad hex\n|context too long\n|most below least\n|error: [^\0]*', 3: r'cannot (read|write) [^\n]*\n|no memory\n'}
+ERRORS = {2: r'bad hex\n|context too long\n|most below least\n|words that don\'t go together\n|error: [^\0]*', 3: r'cannot (read|write) [^\n]*\n|no memory\n'}
 
 
 class Wrong(Exception):
@@ -147,6 +148,8 @@ def try_image(run, r, image, order, certificates):
     status, listing = run.bpf('list', *order, name)
     if run.bpf('groups', *order, name)[0] != status:
         raise Wrong('groups and list differ')
+    if run.bpf('explain', *order, name)[0] != status:
+        raise Wrong('explain and list differ')
     run.bpf('run', *order, name, hex_of(bytes(r.randrange(256) for _ in range(r.choice([0, 1, 16])))), '--steps', '1000')
     if status != 0:
         return
@@ -154,9 +157,16 @@ def try_image(run, r, image, order, certificates):
     run.bpf('asm', *order, 'l.asm', 'l.img')
     if run.get('l.img') != image:
         raise Wrong('the listing assembles to another image')
+    run.put('l.asm', run.bpf('list', *order, *r.choice([['--slots'], ['--bytes'], ['--slots', '--bytes']]), name)[1].encode())
+    run.bpf('asm', *order, 'l.asm', 'l.img')
+    if run.get('l.img') != image:
+        raise Wrong('the listing with comments assembles to another image')
     length = str(r.choice([0, 1, 4, 16, 64]))
-    if run.bpf('infer', *order, name, length, 'o.cert')[0] == 0:
+    inferred = run.bpf('infer', *order, name, length, 'o.cert')[0]
+    if inferred == 0:
         certificates = [*certificates, run.get('o.cert').decode()]
+    if run.bpf('explain', *order, name, '--infer', length)[0] != inferred:
+        raise Wrong('explain and infer differ')
     for text in r.sample(certificates, min(2, len(certificates))) + certificates[-1:]:
         try_certificate(run, r, name, text, order)
 
@@ -166,6 +176,9 @@ def try_certificate(run, r, image, text, order):
     status, answer = run.bpf('check', *order, image, name)
     if status == 0:
         holds_word(run, r, image, name, order, answer)
+    for more in ([], ['--slot', str(r.randrange(20))]):
+        if run.bpf('explain', *order, image, name, *more)[0] != status:
+            raise Wrong(f'explain and check differ: {answer!r}')
     if 'migrate' in FORMS and run.bpf('migrate', name, 'm.cert')[0] == 0:
         again, migrated = run.bpf('check', *order, image, 'm.cert')
         if (again, migrated) != (status, answer):
@@ -206,7 +219,10 @@ def main():
                     try_image(run, r, altered_bytes(r, r.choice(images)), order, certificates)
                 elif kind == 1:
                     run.put('t.asm', altered_text(r, r.choice(texts)).encode('latin-1'))
-                    if run.bpf('asm', *order, 't.asm', 't.img')[0] == 0:
+                    status = run.bpf('asm', *order, 't.asm', 't.img')[0]
+                    if run.bpf('explain', '--text', *order, 't.asm')[0] != status:
+                        raise Wrong('explain and asm differ')
+                    if status == 0:
                         try_image(run, r, run.get('t.img'), order, certificates)
                 else:
                     at = r.randrange(len(certificates))

@@ -1,6 +1,6 @@
 #!/bin/sh
-# The checker counts all its work: its Rust sources make one `Work`, and call neither `transfer`, `entails` nor `covers`, which
-# count nothing. And what takes no memory names no allocator. Contracts (`requires`, `ensures`, `ghost`) and comments aren't looked at.
+# The checker counts all its work: its Rust sources make one `Work`, and call neither `transfer`, `entails`, `entails_entries` nor
+# `covers`, which count nothing. And what takes no memory names no allocator. Contracts (`requires`, `ensures`, `ghost`) and comments aren't looked at.
 cd "$(dirname "$0")/../crates/bpf_check/src" || exit 1
 
 # The code of the files without contracts and comments.
@@ -40,12 +40,13 @@ wants 'transfer_counted' 1
 wants 'returns_counted' 1
 wants 'transfer' 0
 wants 'entails' 0
+wants 'entails_entries' 0
 wants 'covers' 0
 
-# What takes no memory names no allocator and makes nothing grow: numbers, states, the machine, and the checker but for `verify`, which
-# reads a certificate.
+# What takes no memory names no allocator and makes nothing grow: numbers, states but for their entries, the machine, and the checker
+# but for `verify`, which reads a certificate.
 crates=../..
-files=$(find "$crates/bpf_num/src" "$crates/bpf_state/src" "$crates/bpf_machine/src" . -name '*.rt' ! -name verifier.rt | sort)
+files=$(find "$crates/bpf_num/src" "$crates/bpf_state/src" "$crates/bpf_machine/src" . -name '*.rt' ! -name entries.rt ! -name verifier.rt | sort)
 for word in 'allocator' 'Global' 'AllocGlobal' 'reserve' 'push_str' 'Vec::new' 'String::new' 'Box::new'; do
     wants "$word" 0
 done

@@ -1,7 +1,7 @@
 //! The command `bpf`: a toolchain for eBPF programs that hosts can trust.
 #![tactic(auto)]
 
-use bpf_command::{FAILED, Failure, FilePlaces, respond, tell};
+use bpf_command::{FAILED, Failure, FilePlaces, Progress, respond, tell};
 use std::process::ExitCode;
 use std::rt::Env;
 use std::{env, io};
@@ -21,6 +21,7 @@ fn main(rt: HostRuntime) -> ExitCode {
             &mut FilePlaces::new(&rt, rt.alloc(), rt.stdin(), rt.stdout()),
             &mut out,
             &mut err,
+            &mut Progress::new(&rt, rt.stderr()),
         ),
         Err(_) => {
             let _ = tell(Failure::NoMemory, &mut err);

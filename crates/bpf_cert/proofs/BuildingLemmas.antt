@@ -1,16 +1,20 @@
 -- A certificate in the making, one part later.
 use Rattle.std.proofs.Common.{◌≡◌, ℕ, ◌+◌, ◌-◌, ◌<◌, ◌≤◌, List, [], ◌∷◌, ◌++◌, map, flat_map, sym, ap, ◌∙◌, arith, append-nil}
-use Rattle.std.proofs.lemmas.List.{map-append, map-set, set-append_left, set-append_right, length-take-le, length-map}
-use Rattle.std.proofs.Math.Seq.{take-set-lt}
+use Rattle.std.proofs.lemmas.List.{map-append, map-set, set-append_left, set-append_right, length-take-le, length-map, get_or_append_left, get_or-map, get_or-take}
+use Rattle.std.proofs.Math.Seq.{take-set-lt, get_or-append_right}
 use Rattle.std.proofs.lemmas.Grind.{flat_map-append}
-use Rattle.std.proofs.Common.{take, length}
+use Rattle.std.proofs.Common.{take, length, get_or, refl}
 use Rattle.std.proofs.Math.ListN.{set}
-use Rattle.bpf_state.specs.State.{value_slot, AbstractState, IsState}
+use Rattle.bpf_insn.specs.declared.instruction.Reg.{Reg}
+use Rattle.bpf_insn.specs.Instruction.{register_number}
+use Rattle.bpf_state.specs.State.{value_slot, AbstractState, IsState, register, slot}
 use Rattle.bpf_state.specs.declared.state.RegState.{RegState}
+use Rattle.bpf_state.specs.declared.state.RegState.TheVariants as reg
 use Rattle.bpf_state.specs.declared.state.SlotState.{SlotState}
+use Rattle.bpf_state.specs.declared.state.SlotState.TheVariants as slot
 use Rattle.bpf_cert.specs.Line.{Line}
 use Rattle.bpf_cert.specs.View.{label_view, function_view}
-use Rattle.bpf_cert.specs.Spelling.{function_lines, label_lines}
+use Rattle.bpf_cert.specs.Spelling.{function_lines, label_lines, contents}
 use Rattle.bpf_cert.specs.declared.certificate.Label.{Label}
 use Rattle.bpf_cert.specs.declared.certificate.Function.{Function}
 
@@ -37,3 +41,32 @@ contents_slot front slots k content long low high = let same : 9 + k - 10 ≡ k 
 
 pub front_length : (s : AbstractState) → IsState s → length (map value_slot (take 10 s.registers)) ≡ 10
 front_length s st = let long : length s.registers ≡ 11 = st.register_count in omega (arith, length-map (take 10 s.registers) value_slot, length-take-le 10 s.registers (omega arith))
+
+-- a register of which nothing is said, and a slot
+no_value : (v : RegState) → value_slot v ≡ slot.Bytes 0 → v ≡ reg.Any
+no_value reg.Any e = refl
+no_value (reg.Num n) e = cc
+no_value (reg.Ctx lo hi) e = cc
+no_value (reg.Frame lo hi) e = cc
+
+-- what a state holds, by its index
+pub content_register : (s : AbstractState) (i : ℕ) → i < 10 → IsState s → get_or (contents s) i (slot.Bytes 0) ≡ value_slot (get_or s.registers i reg.Any)
+content_register s i few is =
+    let long : length s.registers ≡ 11 = is.register_count in
+    let front : length (map value_slot (take 10 s.registers)) ≡ 10 = front_length s is in
+    let short : length (take 10 s.registers) ≡ 10 = length-take-le 10 s.registers (omega arith) in
+    get_or_append_left (map value_slot (take 10 s.registers)) s.slots (slot.Bytes 0) i (omega arith)
+    ∙ get_or-map value_slot (take 10 s.registers) i reg.Any (slot.Bytes 0) (omega arith)
+    ∙ ap value_slot (get_or-take 10 s.registers i reg.Any (omega arith))
+
+pub content_slot : (s : AbstractState) (j k : ℕ) → j ≡ 10 + k → IsState s → get_or (contents s) j (slot.Bytes 0) ≡ get_or s.slots k (slot.Bytes 0)
+content_slot s j k e is =
+    let front : length (map value_slot (take 10 s.registers)) ≡ 10 = front_length s is in
+    let same : j - 10 ≡ k = omega arith in
+    get_or-append_right (map value_slot (take 10 s.registers)) s.slots j (slot.Bytes 0) (omega arith) ∙ ap (λ n. get_or s.slots n (slot.Bytes 0)) (ap (λ n. j - n) front ∙ same)
+
+pub register_unsaid : (s : AbstractState) (r : Reg) → register_number r ≤ 9 → IsState s → get_or (contents s) (register_number r) (slot.Bytes 0) ≡ slot.Bytes 0 → register s r ≡ reg.Any
+register_unsaid s r few is e = no_value (register s r) (sym (content_register s (register_number r) (omega arith) is) ∙ e)
+
+pub slot_unsaid : (s : AbstractState) (k : ℕ) → 1 ≤ k → IsState s → get_or (contents s) (9 + k) (slot.Bytes 0) ≡ slot.Bytes 0 → slot s k ≡ slot.Bytes 0
+slot_unsaid s k low is e = sym (content_slot s (9 + k) (k - 1) (omega arith) is) ∙ e

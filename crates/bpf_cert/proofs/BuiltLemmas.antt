@@ -1,10 +1,10 @@
 -- A certificate in the making and its lines, one line later.
-use Rattle.std.proofs.Common.{◌≡◌, ℕ, zero, suc, ◌+◌, ◌-◌, ◌^◌, ◌<◌, ◌≤◌, Bool, true, false, cond, not, leb, ltb, List, [], ◌∷◌, ◌++◌, length, map, flat_map, reverse, drop, Option, Some, None, Result, Ok, Err, refl, sym, ap, subst, ◌∙◌, arith, append-nil, append_assoc}
+use Rattle.std.proofs.Common.{◌≡◌, ℕ, zero, suc, ◌+◌, ◌-◌, ◌^◌, ◌<◌, ◌≤◌, Bool, true, false, cond, not, leb, ltb, eqb, get_or, List, [], ◌∷◌, ◌++◌, length, map, flat_map, reverse, drop, Option, Some, None, Result, Ok, Err, refl, sym, ap, subst, ◌∙◌, arith, append-nil, append_assoc}
 use Rattle.std.specs.Prelude.{◌&&◌, option_map, decimal, IfSome}
 use Rattle.std.specs.List.{list_all}
 use Rattle.std.proofs.Math.ListN.{set}
 use Rattle.std.proofs.lemmas.List.{reverse-append}
-use Rattle.std.proofs.lemmas.Bool.{leb-true, ltb-true, lt-ltb, le-ltb}
+use Rattle.std.proofs.lemmas.Bool.{leb-true, ltb-true, lt-ltb, le-ltb, eqb-true}
 use Rattle.bpf_cert.specs.Numeral.{number}
 use Rattle.bpf_cert.specs.Line.{Line}
 use Rattle.bpf_cert.specs.Faults.{is_canonical, is_limited, has_room, judged, may_stand, is_in_order, comes_after, place_before, last_place, is_ended}
@@ -28,6 +28,7 @@ use Rattle.bpf_state.specs.State.{blank}
 use Rattle.bpf_state.specs.declared.state.Place.{Place}
 use Rattle.bpf_state.specs.declared.state.Place.TheVariants as place
 use Rattle.bpf_state.specs.declared.state.SlotState.{SlotState}
+use Rattle.bpf_state.specs.declared.state.SlotState.TheVariants as slot
 use Rattle.bpf_cert.proofs.Bools.{both_true}
 use Rattle.bpf_cert.proofs.NumeralLaws.{numeral-decimal}
 use Rattle.bpf_cert.proofs.LineLaws.{line_spelled}
@@ -292,3 +293,29 @@ takes_flaw n lines text new flaws.Limit short e = judged_is n lines text (line_i
 
 pub takes_line : (n : ℕ) (lines : List Line) (text : List ℕ) (l : Line) (new : Builder) (u : Unit {0}) → length text ≤ 256 → ruled lines (line_in text) ≡ Ok l → (ruled lines (Some l) ≡ Ok l → IsBuilt (l ∷ lines) new) → Takes n lines text new (Ok u)
 takes_line n lines text l new u short e built = let there = ruled_some lines (line_in text) l e in (l, judged_fine n lines text l short e, line_spelled text l there, built (ap (ruled lines) (sym there) ∙ e))
+
+-- nothing is known of a place among those
+unknown_in : (n i : ℕ) (xs : List SlotState) → n ≤ i → list_all is_unknown (drop n xs) ≡ true → get_or xs i (slot.Bytes 0) ≡ slot.Bytes 0
+unknown_in n i [] h e = refl
+unknown_in zero zero (slot.Bytes m ∷ xs) h e = ap slot.Bytes (eqb-true m 0 (both_true (eqb m 0) (list_all is_unknown xs) e).0)
+unknown_in zero zero (slot.Word v ∷ xs) h e = cc
+unknown_in zero zero (slot.Ptr p ∷ xs) h e = cc
+unknown_in zero (suc i) (x ∷ xs) h e = unknown_in zero i xs (omega arith) (both_true (is_unknown x) (list_all is_unknown xs) e).1
+unknown_in (suc n) zero (x ∷ xs) h e = absurd (omega arith)
+unknown_in (suc n) (suc i) (x ∷ xs) h e = unknown_in n i xs (omega arith) e
+
+-- nothing was said of the place of an entry that is fine
+pub unsaid_place : (lines : List Line) (old : Builder) (l : Line) (p : Place) (v : SlotState) → IsBuilt lines old → ruled lines (Some l) ≡ Ok l → l ≡ Line.entry (place_of p) (content_of v) → IsEntry p v
+    → get_or (contents old.label.state) (index_of p) (slot.Bytes 0) ≡ slot.Bytes 0
+unsaid_place lines old l p v built fine e entry =
+    let f = ruled_fine lines l l fine in
+    let may : may_have_entry (stage_of lines) ≡ true = sym (stand_entry lines (place_of p) (content_of v)) ∙ ap (may_stand lines) (sym e) ∙ f.stands in
+    let was : old.standing.stage ≡ stage.Label = built.stands.stage ∙ in_label lines may in
+    let order : comes_after place_before (option_map place_of old.standing.place) (place_of p) ≡ true = ap (λ o. comes_after place_before o (place_of p)) built.stands.place ∙ ap (is_in_order lines) (sym e) ∙ f.order in
+    let room : next_index old.standing.place ≤ index_of p = index_rises old.standing.place p built.stands.low_place entry.limited order in
+    let bare_places : list_all is_unknown (drop (next_index old.standing.place) (contents old.label.state)) ≡ true = subst (λ s. IsOpen s old.standing.place old.label.state) was built.open_places in
+    unknown_in (next_index old.standing.place) (index_of p) (contents old.label.state) room bare_places
+
+-- a line that is fine by its text is so by itself
+pub fine_itself : (lines : List Line) (o : Option Line) (l : Line) → ruled lines o ≡ Ok l → ruled lines (Some l) ≡ Ok l
+fine_itself lines o l e = ap (ruled lines) (sym (ruled_some lines o l e)) ∙ e

@@ -5,7 +5,6 @@ pub mod NumeralLaws
 pub mod LimitLemmas
 pub mod SpellingLemmas
 pub mod WritingLemmas
-pub mod SourceLemmas
 pub mod CutLemmas
 pub mod NumberLemmas
 pub mod NumLemmas
@@ -50,3 +49,4 @@ pub mod SaidLines
 pub mod FaultlessLines
 pub mod Examples
 pub mod Values
+pub mod BareStates

@@ -1,6 +1,5 @@
 -- What the code keeps and computes, in the shape that it has there. A law or a contract ties each to the definitions beside this folder.
 pub mod SpellingParts
-pub mod Taken
 pub mod Seen
 pub mod Findings
 pub mod Sums

@@ -1,9 +1,11 @@
 //! A certificate, as its lines come.
 
-ghost use Rattle.std.specs.Prelude.{◌≡◌, ◌≤◌, ◌∷◌, [], List, length, true, false, IfOk, Some, Ok};
+ghost use Rattle.std.specs.Prelude.{◌≡◌, ◌≤◌, ◌∷◌, [], List, length, get_or, true, false, IfOk, Some, Ok};
 ghost use Rattle.bpf_cert.specs.Line.{Line};
 ghost use Rattle.bpf_cert.specs.code.Standing.{IsValue, IsEntry, value_line, ruled};
-ghost use Rattle.bpf_cert.specs.code.Building.{IsBuilt, IsRegisterContent, ClosesLabel, Closes, Puts, fault_at, Takes, AreLinesOf};
+ghost use Rattle.bpf_cert.specs.code.Building.{IsBuilt, IsRegisterContent, ClosesLabel, Closes, Puts, index_of, fault_at, Takes, AreLinesOf};
+ghost use Rattle.bpf_cert.specs.Spelling.{contents};
+ghost use Rattle.bpf_state.specs.declared.state.SlotState.TheVariants.{Bytes};
 ghost use Rattle.bpf_cert.specs.Faults.{is_ended};
 ghost use Rattle.bpf_state.specs.State.{value_slot, IsRegister};
 
@@ -14,7 +16,7 @@ use crate::header::Header;
 use crate::standing::{LineValue, Stage, Standing};
 use arrayvec::ArrayVec;
 use bpf_num::Num;
-use bpf_state::{Place, Pointer, RegState, SlotState, State};
+use bpf_state::{Entries, Place, Pointer, RegState, SlotState};
 use std::alloc::{AllocError, Global};
 use std::mem;
 
@@ -58,10 +60,10 @@ fn at_line(flaw: Flaw, line: usize) -> CertError
     }
 }
 
-fn blank_label() -> Label {
+fn blank_label(alloc: Global) -> Label {
     Label {
         slot: 0,
-        state: State::blank(),
+        state: Entries::blank(alloc),
         budget: Budget {
             base: 0,
             terms: ArrayVec::new(),
@@ -90,18 +92,23 @@ impl Builder {
                 ret: Num::top(),
                 labels: Vec::new(alloc),
             },
-            label: blank_label(),
+            label: blank_label(alloc),
         }
     }
 
-    // Puts the last label into its function.
+    // Puts the last label into its function, in as much memory as its entries need.
     fn close_label(&mut self) -> Result<(), AllocError>
         ensures { IfOk result (λ u. ClosesLabel self.old self.new) }
     {
         match self.standing.stage {
             Stage::Label => {
-                let label = mem::replace(&mut self.label, blank_label());
-                self.function.labels.push(label)?;
+                let state = self.label.state.copy(self.alloc)?;
+                let label = mem::replace(&mut self.label, blank_label(self.alloc));
+                self.function.labels.push(Label {
+                    slot: label.slot,
+                    state,
+                    budget: label.budget,
+                })?;
                 Ok(())
             }
             Stage::Start | Stage::Header | Stage::Function | Stage::Ended => Ok(()),
@@ -131,21 +138,24 @@ impl Builder {
         }
     }
 
-    // Says what is known of a place of the last label.
-    fn put(&mut self, place: Place, content: SlotState)
-        requires { IsEntry place content }
-        ensures { Puts place content self.old self.new }
+    // Says what is known of a place of the last label, of which nothing was said.
+    fn put(&mut self, place: Place, content: SlotState) -> Result<(), AllocError>
+        requires entry { IsEntry place content }
+        requires unsaid { get_or (contents self.old.label.state) (index_of place) (Bytes 0) ≡ Bytes 0 }
+        ensures { IfOk result (λ u. Puts place content self.old self.new) }
     {
         self.label.state.valid();
         match place {
-            Place::Register(r) => self.label.state.set_reg(r, register_value(content)),
-            Place::Slot(k) => self.label.state.set_slot(k, content),
+            Place::Register(r) => self.label.state.put_reg(r, register_value(content))?,
+            Place::Slot(k) => self.label.state.put_slot(k, content)?,
         }
+        Ok(())
     }
 
     /// Takes what a line says. Nothing is said of the builder once memory ran out.
     fn push(&mut self, value: LineValue) -> Result<(), AllocError>
-        requires { IsValue value }
+        requires value { IsValue value }
+        requires built { (lines : List Line) × IsBuilt lines self.old × (ruled lines (Some (value_line value)) ≡ Ok (value_line value)) }
         ensures { (lines : List Line) → IsBuilt lines self.old → is_ended lines ≡ false → ruled lines (Some (value_line value)) ≡ Ok (value_line value) → IfOk result (λ u. IsBuilt (value_line value ∷ lines) self.new) }
     {
         let standing = self.standing.after(&value);
@@ -165,11 +175,11 @@ impl Builder {
                 self.close_label()?;
                 self.label = Label {
                     slot,
-                    state: State::blank(),
+                    state: Entries::blank(self.alloc),
                     budget: Budget { base, terms },
                 };
             }
-            LineValue::Entry { place, content } => self.put(place, content),
+            LineValue::Entry { place, content } => self.put(place, content)?,
             LineValue::End => self.close()?,
         }
         self.standing = standing;
@@ -189,7 +199,8 @@ impl Builder {
     /// Takes the text of a line of at most 256 bytes, by its number. K1 to K3 if it is at fault behind the lines so far,
     /// K4 if memory runs out.
     pub fn take(&mut self, line: usize, text: &[u8]) -> Result<(), CertError>
-        requires { length text.now ≤ 256 }
+        requires short { length text.now ≤ 256 }
+        requires built { (lines : List Line) × IsBuilt lines self.old × (is_ended lines ≡ false) }
         ensures { (lines : List Line) → IsBuilt lines self.old → is_ended lines ≡ false → Takes line lines text.now self.new result }
     {
         let value = match self.standing.judge(text) {

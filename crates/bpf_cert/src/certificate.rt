@@ -2,11 +2,12 @@
 
 use crate::error::CertError;
 use crate::header::Header;
-use crate::limits::{is_canonical, is_limited};
+use crate::limits::{is_canonical, is_canonical_state, is_limited};
 use arrayvec::ArrayVec;
 use bpf_insn::Reg;
 use bpf_num::Num;
-use bpf_state::{Place, State};
+use bpf_state::{Entries, Place, State};
+use std::alloc::Global;
 use std::marker::Model;
 
 /// A number that falls as a loop runs.
@@ -55,9 +56,36 @@ pub struct Budget {
 pub struct Label {
     /// From 0 to 65,535.
     pub slot: u32,
-    /// Without tags, and with r10 at the frame's end.
-    pub state: State,
+    /// In an entry for each place of which something is known.
+    pub state: Entries,
     pub budget: Budget,
+}
+
+impl Label {
+    ghost use Rattle.std.specs.Prelude.{◌≡◌, IfOk, IfErr, if◌then◌else◌};
+    ghost use Rattle.bpf_cert.specs.declared.error.CertError.TheVariants.{Memory, NotCanonical};
+    ghost use Rattle.bpf_cert.specs.View.{label_view};
+    ghost use Rattle.bpf_cert.specs.Limits.{is_canonical_state};
+
+    /// The label of a state. K2, at line 0, if the state has a tag or its r10 isn't at the frame's end; K4 if memory runs
+    /// out.
+    pub fn new(alloc: Global, slot: u32, state: &State, budget: Budget) -> Result<Label, CertError>
+        ensures ok { IfOk result (λ l. label_view l ≡ record { slot = slot; state = state.now; base = budget.base; terms = budget.terms.items }) }
+        ensures err { IfErr result (λ e. e ≡ (if is_canonical_state state.now then Memory else NotCanonical 0)) }
+    {
+        state.valid();
+        if !is_canonical_state(state) {
+            return Err(CertError::NotCanonical { line: 0 });
+        }
+        match Entries::of(alloc, state) {
+            Ok(state) => Ok(Label {
+                slot,
+                state,
+                budget,
+            }),
+            Err(_) => Err(CertError::Memory),
+        }
+    }
 }
 
 /// A function of the program, from its first slot to the next function's first.
@@ -98,8 +126,7 @@ impl Certificate {
 
     /// The certificate of its parts: the version, 1 or 2; the least and the greatest length of a context in bytes, from
     /// 0 to 4,096 and in version 1 the same; the greatest number of steps, from 1 to 2^32 - 1; and 1 to 256 functions by
-    /// their firsts, with at most 65,536 labels. K2, at line 0, if parts are out of order, or a label's state has a tag
-    /// or its r10 isn't at the frame's end; else K3 past a limit.
+    /// their firsts, with at most 65,536 labels. K2, at line 0, if parts are out of order; else K3 past a limit.
     pub fn new(
         version: u32,
         least: u32,

@@ -16,7 +16,6 @@ mod number;
 mod part;
 mod place;
 mod reading;
-mod source;
 mod spelling;
 mod standing;
 mod term;

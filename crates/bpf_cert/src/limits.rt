@@ -12,27 +12,7 @@ use crate::certificate::{Function, Label, Measure, Term};
 use crate::header::Header;
 use bpf_insn::Reg;
 use bpf_num::Num;
-use bpf_state::{Place, Pointer, RegState, SlotState, State};
-
-/// The register with a number from 0 to 10.
-pub fn numbered(number: u8) -> Reg
-    requires { number ≤ 10 }
-    ensures { register_number result ≡ number }
-{
-    match number {
-        0 => Reg::R0,
-        1 => Reg::R1,
-        2 => Reg::R2,
-        3 => Reg::R3,
-        4 => Reg::R4,
-        5 => Reg::R5,
-        6 => Reg::R6,
-        7 => Reg::R7,
-        8 => Reg::R8,
-        9 => Reg::R9,
-        _ => Reg::R10,
-    }
-}
+use bpf_state::{Entries, Place, Pointer, RegState, SlotState, State, numbered};
 
 // ---- order
 
@@ -134,16 +114,25 @@ fn has_no_slot_tag(state: &State) -> bool
     true
 }
 
-fn is_canonical_state(state: &State) -> bool
+/// Whether r10 is at the frame's end and no place holds a counter.
+pub fn is_canonical_state(state: &State) -> bool
     ensures { result ≡ limits.is_canonical_state state.now }
 {
     is_frame_end(state.reg(Reg::R10)) && has_no_register_tag(state) && has_no_slot_tag(state)
 }
 
+// Entries can say nothing of r10, and no counter.
+fn are_canonical_entries(entries: &Entries) -> bool
+    ensures { result ≡ limits.is_canonical_state entries.now }
+{
+    entries.valid();
+    true
+}
+
 fn is_canonical_label(label: &Label) -> bool
     ensures { result ≡ limits.is_canonical_label (label_view label.now) }
 {
-    is_canonical_state(&label.state) && places_rise(label.budget.terms.as_slice())
+    are_canonical_entries(&label.state) && places_rise(label.budget.terms.as_slice())
 }
 
 #[tactic(auto, using(crate::proofs::LimitLemmas::all_of))]
@@ -230,7 +219,7 @@ fn is_limited_slot(value: SlotState) -> bool
     }
 }
 
-fn has_limited_registers(state: &State) -> bool
+fn has_limited_registers(state: &Entries) -> bool
     ensures { result ≡ list_all limits.is_limited_register state.now.registers }
 {
     state.valid();
@@ -242,7 +231,7 @@ fn has_limited_registers(state: &State) -> bool
     true
 }
 
-fn has_limited_slots(state: &State) -> bool
+fn has_limited_slots(state: &Entries) -> bool
     ensures { result ≡ list_all limits.is_limited_slot state.now.slots }
 {
     state.valid();
@@ -254,7 +243,7 @@ fn has_limited_slots(state: &State) -> bool
     true
 }
 
-fn is_limited_state(state: &State) -> bool
+fn is_limited_state(state: &Entries) -> bool
     ensures { result ≡ limits.is_limited_state state.now }
 {
     state.valid();

@@ -22,17 +22,17 @@ fn same_terms(terms: &ArrayVec<Term, 4>) -> ArrayVec<Term, 4>
     }
 }
 
-fn same_label(label: &Label) -> Label
-    ensures { label_view result ≡ label_view label.now }
+fn same_label(alloc: Global, label: &Label) -> Result<Label, AllocError>
+    ensures { IfOk result (λ copy. label_view copy ≡ label_view label.now) }
 {
-    Label {
+    Ok(Label {
         slot: label.slot,
-        state: label.state.copy(),
+        state: label.state.copy(alloc)?,
         budget: Budget {
             base: label.budget.base,
             terms: same_terms(&label.budget.terms),
         },
-    }
+    })
 }
 
 fn same_labels(alloc: Global, labels: &[Label]) -> Result<Vec<Label>, AllocError>
@@ -40,7 +40,7 @@ fn same_labels(alloc: Global, labels: &[Label]) -> Result<Vec<Label>, AllocError
 {
     let mut copies = Vec::with_capacity(alloc, labels.len())?;
     for label in labels {
-        copies.push(same_label(label))?;
+        copies.push(same_label(alloc, label)?)?;
     }
     Ok(copies)
 }

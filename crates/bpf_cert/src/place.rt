@@ -9,9 +9,8 @@ ghost use Rattle.bpf_cert.specs.Spelling.{place_of};
 ghost use Rattle.bpf_cert.specs.code.Seen.{place_seen};
 
 use crate::cut::behind;
-use crate::limits::numbered;
 use crate::number::{is_less, is_numeral, is_plain, number};
-use bpf_state::Place;
+use bpf_state::{Place, numbered};
 
 /// A register or a slot by its digits.
 #[derive(Clone, Copy)]

@@ -12,8 +12,8 @@ ghost use Rattle.bpf_cert.specs.ReadAnswers.{IsFaultOf, IsFromOutside, FailsAt};
 use crate::building::Builder;
 use crate::certificate::Certificate;
 use crate::error::CertError;
-use crate::source::{Source, Stop};
 use arrayvec::ArrayVec;
+use bpf_lines::{LineReader, Stop};
 use std::alloc::Global;
 use std::io::Read;
 
@@ -37,7 +37,7 @@ fn behind_end(
 // Takes lines until it can answer. A fault of the reader isn't tried again.
 fn read_lines<R: Read + Drop>(
     alloc: Global,
-    source: &mut Source<R>,
+    source: &mut LineReader<R>,
 ) -> Result<Certificate, CertError>
     ensures ok { IfOk result (λ c. IfSome source.old (λ text. Spells text c)) }
     ensures err { IfErr result (λ e. IfSome source.old (λ text. IsFaultOf text e)) }
@@ -75,6 +75,6 @@ pub fn read<R: Read + Drop>(alloc: Global, reader: R) -> Result<Certificate, Cer
     ensures err { IfErr result (λ e. IfSome (R.remaining reader) (λ text. IsFaultOf text e)) }
     ensures accepts { IfSome (R.remaining reader) (λ text. (c : CertificateView) → Spells text c → MatchResult result (λ d. d ≡ c) IsFromOutside) }
 {
-    let mut source = Source::new(reader);
+    let mut source = LineReader::new(reader);
     read_lines(alloc, &mut source)
 }

@@ -8,10 +8,9 @@ ghost use Rattle.bpf_state.specs.declared.state.SlotState.TheVariants.{Bytes};
 ghost use Rattle.bpf_cert.specs.Spelling.{place_of, place_at, contents, entry_lines, lines_from, lines_text, label_lines, function_lines, certificate_text};
 
 use crate::certificate::{Certificate, Function, Label};
-use crate::limits::numbered;
 use crate::spelling::{entry_text, function_text, header_text, label_text};
 use bpf_insn::written;
-use bpf_state::{Place, Pointer, RegState, SlotState, State};
+use bpf_state::{Entries, Place, Pointer, RegState, SlotState, numbered};
 use std::io::{self, Write};
 
 // All the bytes, by one clause for both ends.
@@ -46,7 +45,7 @@ fn place_at(j: u8) -> Place
 }
 
 // What it holds, of a register as of a slot.
-fn content_at(state: &State, j: u8) -> SlotState
+fn content_at(state: &Entries, j: u8) -> SlotState
     requires { j < 74 }
     ensures { result ≡ get_or (contents state.now) j (Bytes 0) }
 {
@@ -67,7 +66,7 @@ fn write_entry<W: Write>(out: &mut W, place: Place, value: SlotState) -> io::Res
     }
 }
 
-fn write_entries<W: Write>(out: &mut W, state: &State) -> io::Result<()>
+fn write_entries<W: Write>(out: &mut W, state: &Entries) -> io::Result<()>
     ensures { Writes (W.contents out.old) (W.contents out.new) (lines_text (lines_from 0 (contents state.now))) result }
 {
     state.valid();

@@ -3,6 +3,7 @@ pub mod Search
 pub mod Slack
 pub mod Least
 pub mod Edges
+pub mod Sites
 pub mod Arrivals
 pub mod Visits
 pub mod Counting

@@ -1,18 +1,17 @@
 //! What reaches an instruction.
 
-ghost use Rattle.std.specs.Prelude.{◌≡◌, ℕ, ◌+◌, ◌*◌, ◌^◌, ◌≤◌, None, option_map, option_copied, IfSome, IsTrue, pos, ◌+ℤ◌};
-ghost use Rattle.bpf_cert.specs.View.{label_view, function_view};
+ghost use Rattle.std.specs.Prelude.{◌≡◌, ℕ, ◌+◌, ◌*◌, ◌^◌, ◌≤◌, None, IfSome, IsTrue, pos, ◌+ℤ◌};
+ghost use Rattle.bpf_cert.specs.View.{label_view};
 ghost use Rattle.bpf_cert.specs.Limits.{is_limited_label};
 ghost use Rattle.bpf_state.specs.Answer.{edge_told};
-ghost use Rattle.bpf_safety.specs.Flow.{label_state, at_label_arrival, call_cost, cost_after};
+ghost use Rattle.bpf_safety.specs.Flow.{label_state, at_label_arrival, callee, call_cost, cost_after};
 ghost use Rattle.bpf_check.specs.code.Slack.{IsWithin};
 ghost use Rattle.bpf_check.specs.code.Arrivals.{arrival_of, walk_of, IsReaching};
+ghost use Rattle.bpf_check.specs.code.Sites.{IsSite};
 
 use crate::budget::{greatest_budget, place_of};
-use crate::edge::callee;
-use crate::index::Index;
-use crate::labels::label_at;
-use bpf_cert::{Function, Label};
+use crate::site::Site;
+use bpf_cert::Label;
 use bpf_insn::Insn;
 use bpf_state::{State, Tag};
 
@@ -52,7 +51,7 @@ fn set_label_state(label: &Label, state: &mut State) -> bool
     requires { IsTrue (is_limited_label (label_view label.now)) }
     ensures { edge_told result state.new ≡ label_state (label_view label.now) }
 {
-    state.copy_from(&label.state);
+    label.state.put_into(state);
     if !state.tighten() {
         return false;
     }
@@ -87,14 +86,15 @@ pub fn start_at<'a>(label: &'a Label, walk: &mut Walk<'a>)
 }
 
 /// What a call costs beside itself: the callee's budget at its entry, at its greatest.
-fn call_cost(certificate: &Index, function: Option<&Function>, state: &State) -> Option<i128>
-    ensures value { result ≡ call_cost certificate.now (option_map function_view (option_copied function.entry)) state.now }
+fn call_cost(site: &Site, state: &State) -> Option<i128>
+    requires { IsSite site.now }
+    ensures value { result ≡ call_cost site.now.certificate.now (callee site.now.certificate.now site.now.here.slot site.now.insn) state.now }
     ensures small { IfSome result (λ z. IsWithin (2 ^ 93) z) }
 {
-    let Some(function) = function else {
+    let Some(callee) = site.callee else {
         return None;
     };
-    match label_at(certificate, function.first) {
+    match callee.label {
         Some(label) => greatest_budget(label, state),
         None => None,
     }
@@ -112,25 +112,20 @@ fn with_more(slot: u32, spent: i128, more: i128) -> i128
 }
 
 /// The cost after an instruction since the last label, if it is known.
-pub fn cost_after(
-    certificate: &Index,
-    slot: u32,
-    insn: &Insn,
-    here: &Here,
-    state: &State,
-) -> Option<i128>
-    requires here { slot ≤ 65535 }
-    requires valid { IsReaching slot here.now }
-    ensures value { result ≡ cost_after certificate.now slot insn.now (arrival_of state.now here.now) }
-    ensures small { IfSome result (λ z. IsWithin ((slot + 1) * 2 ^ 94) z) }
+pub fn cost_after(site: &Site, here: &Here, state: &State) -> Option<i128>
+    requires site { IsSite site.now }
+    requires valid { IsReaching site.now.here.slot here.now }
+    ensures value { result ≡ cost_after site.now.certificate.now site.now.here.slot site.now.insn (arrival_of state.now here.now) }
+    ensures small { IfSome result (λ z. IsWithin ((site.now.here.slot + 1) * 2 ^ 94) z) }
 {
+    let slot = site.here.slot;
     let Some(spent) = here.cost else {
         return None;
     };
-    let Insn::CallLocal { off: _off } = *insn else {
+    let Insn::CallLocal { off: _off } = site.insn else {
         return Some(with_more(slot, spent, 0));
     };
-    match call_cost(certificate, callee(certificate, slot, insn), state) {
+    match call_cost(site, state) {
         Some(more) => Some(with_more(slot, spent, more)),
         None => None,
     }

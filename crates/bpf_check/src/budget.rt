@@ -13,7 +13,7 @@ ghost use Rattle.bpf_check.specs.code.Slack.{at_label, kept_of, free_of, IsWithi
 
 use bpf_cert::{Label, Measure, Term};
 use bpf_num::{Num, Unsigned};
-use bpf_state::{Place, RegState, SlotState, State, Tag};
+use bpf_state::{Entries, Place, RegState, SlotState, State, Tag};
 
 /// The place that a term looks at.
 pub fn place_of(term: &Term) -> Place
@@ -53,13 +53,41 @@ pub fn bounds(state: &State, term: &Term) -> Option<Unsigned>
     }
 }
 
+/// The number that a label says of a place.
+fn number_said(label: &Entries, place: Place) -> Option<Num>
+    requires { IsPlace place }
+    ensures { result ≡ number_state (held label.now place) }
+{
+    match place {
+        Place::Register(r) => match label.reg(r) {
+            RegState::Num(number) => Some(number),
+            RegState::Any | RegState::Ctx { .. } | RegState::Frame { .. } => None,
+        },
+        Place::Slot(k) => match label.slot(k) {
+            SlotState::Word(number) => Some(number),
+            SlotState::Bytes(_) | SlotState::Ptr(_) => None,
+        },
+    }
+}
+
+/// The bounds of the number that a label says of a term's place.
+pub fn bounds_said(label: &Entries, term: &Term) -> Option<Unsigned>
+    requires { IsTrue (is_limited_term term.now) }
+    ensures { result ≡ bounds label.now term.now }
+{
+    match number_said(label, place_of(term)) {
+        Some(number) => Some(number.unsigned()),
+        None => None,
+    }
+}
+
 /// The bounds of the number that a term's place holds at a label that gives a state.
 pub fn bounds_at_label(label: &Label, term: &Term) -> Option<Unsigned>
     requires limited { IsTrue (is_limited_term term.now) }
     requires alive { IsSome (label_state (label_view label.now)) }
     ensures { result ≡ bounds (at_label (label_view label.now)) term.now }
 {
-    let Some(number) = number_in(&label.state, place_of(term)) else {
+    let Some(number) = number_said(&label.state, place_of(term)) else {
         return None;
     };
     match number.tighten() {

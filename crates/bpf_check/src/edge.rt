@@ -1,15 +1,16 @@
 //! Where an instruction goes on, and what is judged without a state.
 
 ghost use Rattle.std.specs.Prelude.{◌≡◌, ◌≤◌, option_map, option_copied, IfSome, IsTrue};
-ghost use Rattle.bpf_cert.specs.View.{FunctionView, function_view};
+ghost use Rattle.bpf_cert.specs.View.{CertificateView, function_view};
 ghost use Rattle.bpf_cert.specs.Limits.{is_limited_function};
 ghost use Rattle.bpf_safety.specs.Labels.{function_at};
 ghost use Rattle.bpf_safety.specs.Flow.{callee, jump_target, goes_on};
 ghost use Rattle.bpf_safety.specs.Flaw.{lacks_label, calls_no_deeper, leaves_function, leaves_for, next_slot, calls_nowhere, is_not};
-ghost use Rattle.bpf_check.specs.code.Edges.{visit};
+ghost use Rattle.bpf_check.specs.code.Sites.{IsSpot, IsSite, visit_at};
 
 use crate::index::Index;
-use crate::labels::{function_at, function_from, label_at};
+use crate::labels::function_from;
+use crate::site::{Site, Spot};
 use bpf_cert::Function;
 use bpf_insn::{Code, Insn, target};
 
@@ -60,83 +61,82 @@ pub fn goes_on(insn: &Insn) -> bool
 }
 
 /// Whether no label stands at a jump's target.
-pub fn lacks_label(certificate: &Index, slot: u32, insn: &Insn) -> bool
-    requires { slot ≤ 65536 }
-    ensures { result ≡ lacks_label certificate.now (visit slot insn.now) }
+pub fn lacks_label(site: &Site) -> bool
+    requires { IsSite site.now }
+    ensures { result ≡ lacks_label site.now.certificate.now (visit_at site.now) }
 {
-    match jump_target(slot, insn) {
-        Some(to) => label_at(certificate, to).is_none(),
+    match site.jump {
+        Some(to) => to.label.is_none(),
         None => false,
     }
 }
 
 /// Whether a callee's depth isn't below its caller's.
-pub fn calls_no_deeper(certificate: &Index, slot: u32, insn: &Insn) -> bool
-    requires { slot ≤ 65536 }
-    ensures { result ≡ calls_no_deeper certificate.now (visit slot insn.now) }
+pub fn calls_no_deeper(site: &Site) -> bool
+    requires { IsSite site.now }
+    ensures { result ≡ calls_no_deeper site.now.certificate.now (visit_at site.now) }
 {
-    let Some(callee) = callee(certificate, slot, insn) else {
+    let Some(callee) = site.callee else {
         return false;
     };
-    match function_at(certificate, slot) {
-        Some(caller) => caller.depth <= callee.depth,
+    match site.here.function {
+        Some(caller) => caller.depth <= callee.function.depth,
         None => false,
     }
 }
 
-/// Whether a slot isn't in the function that begins at `first`.
-fn is_elsewhere(certificate: &Index, first: u32, to: u32) -> bool
-    ensures { result ≡ is_not (option_map (λ g. g.first) (function_at certificate.now to)) first }
+/// Whether a slot isn't in a function.
+fn is_elsewhere(function: &Function, to: &Spot) -> bool
+    ensures { (c : CertificateView) → IsSpot c to.now → result ≡ is_not (option_map (λ g. g.first) (function_at c to.now.slot)) function.now.first }
 {
-    match function_at(certificate, to) {
-        Some(function) => function.first != first,
+    match to.function {
+        Some(other) => other.first != function.first,
         None => true,
     }
 }
 
-/// Whether a jump, if there is one, leads out of the function that begins at `first`.
-fn leaves_for(certificate: &Index, first: u32, to: Option<u32>) -> bool
-    ensures { (f : FunctionView) → f.first ≡ first → result ≡ leaves_for certificate.now f to }
+/// Whether a jump, if there is one, leads out of a function.
+fn jumps_elsewhere(site: &Site, function: &Function) -> bool
+    requires { IsSite site.now }
+    ensures { result ≡ leaves_for site.now.certificate.now (function_view function.now) (jump_target site.now.here.slot site.now.insn) }
 {
-    match to {
-        Some(to) => is_elsewhere(certificate, first, to),
+    match site.jump {
+        Some(to) => is_elsewhere(function, &to),
         None => false,
     }
 }
 
-/// The slot of the next instruction, if this one may go on there and it isn't the last.
-fn next_slot<P: Code>(program: &P, slot: u32, insn: &Insn) -> Option<u32>
-    requires { slot ≤ 65536 }
-    ensures { result ≡ next_slot (P.program program.now) (visit slot insn.now) }
+/// Whether the next instruction, if this one may go on there and isn't the last, lies out of a function.
+fn goes_elsewhere<P: Code>(program: &P, site: &Site, function: &Function) -> bool
+    requires { IsSite site.now }
+    ensures { result ≡ leaves_for site.now.certificate.now (function_view function.now) (next_slot (P.program program.now) (visit_at site.now)) }
 {
-    let next = slot + insn.slots();
-    if goes_on(insn) && next != program.slots() {
-        Some(next)
+    if goes_on(&site.insn) && site.next.slot != program.slots() {
+        is_elsewhere(function, &site.next)
     } else {
-        None
+        false
     }
 }
 
 /// Whether a call leads to no function.
-fn calls_nowhere(certificate: &Index, slot: u32, insn: &Insn) -> bool
-    requires { slot ≤ 65536 }
-    ensures { result ≡ calls_nowhere certificate.now (visit slot insn.now) insn.now }
+fn calls_nowhere(site: &Site) -> bool
+    requires { IsSite site.now }
+    ensures { result ≡ calls_nowhere site.now.certificate.now (visit_at site.now) site.now.insn }
 {
-    matches!(*insn, Insn::CallLocal { .. }) && callee(certificate, slot, insn).is_none()
+    matches!(site.insn, Insn::CallLocal { .. }) && site.callee.is_none()
 }
 
 /// Whether a jump or the next instruction lies in another function, or a call leads to none.
-pub fn leaves_function<P: Code>(program: &P, certificate: &Index, slot: u32, insn: &Insn) -> bool
-    requires { slot ≤ 65536 }
-    ensures { result ≡ leaves_function (P.program program.now) certificate.now (visit slot insn.now) }
+pub fn leaves_function<P: Code>(program: &P, site: &Site) -> bool
+    requires { IsSite site.now }
+    ensures { result ≡ leaves_function (P.program program.now) site.now.certificate.now (visit_at site.now) }
 {
-    if calls_nowhere(certificate, slot, insn) {
+    if calls_nowhere(site) {
         return true;
     }
-    match function_at(certificate, slot) {
+    match site.here.function {
         Some(function) => {
-            leaves_for(certificate, function.first, jump_target(slot, insn))
-                || leaves_for(certificate, function.first, next_slot(program, slot, insn))
+            jumps_elsewhere(site, function) || goes_elsewhere(program, site, function)
         }
         None => false,
     }

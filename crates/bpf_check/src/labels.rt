@@ -61,15 +61,38 @@ fn first_label<'a>(certificate: &'a Index, slot: u32) -> Option<&'a Label>
 }
 
 /// The label at a slot among the labels of the function there.
-fn label_in_place<'a>(certificate: &'a Index, slot: u32) -> Option<&'a Label>
-    requires { IsTrue (are_in_place certificate.now) }
+fn label_in_place<'a>(
+    certificate: &'a Index,
+    function: Option<&'a Function>,
+    slot: u32,
+) -> Option<&'a Label>
+    requires place { IsTrue (are_in_place certificate.now) }
+    requires function { option_map function_view (option_copied function) ≡ function_at certificate.now slot }
     ensures { option_map label_view (option_copied result) ≡ label_at certificate.now slot }
 {
     certificate.valid();
-    let Some(function) = function_at(certificate, slot) else {
+    let Some(function) = function else {
         return None;
     };
     label_among(&function.labels, slot)
+}
+
+/// The label at a slot that lies in a function, of two the earlier.
+pub fn label_given<'a>(
+    certificate: &'a Index,
+    function: Option<&'a Function>,
+    slot: u32,
+) -> Option<&'a Label>
+    requires { option_map function_view (option_copied function) ≡ function_at certificate.now slot }
+    ensures value { option_map label_view (option_copied result) ≡ label_at certificate.now slot }
+    ensures limited { IfSome result (λ l. IsTrue (is_limited_label (label_view l.now))) }
+{
+    certificate.valid();
+    if certificate.is_in_place() {
+        label_in_place(certificate, function, slot)
+    } else {
+        first_label(certificate, slot)
+    }
 }
 
 /// The label at a slot, of two the earlier.
@@ -77,12 +100,7 @@ pub fn label_at<'a>(certificate: &'a Index, slot: u32) -> Option<&'a Label>
     ensures value { option_map label_view (option_copied result) ≡ label_at certificate.now slot }
     ensures limited { IfSome result (λ l. IsTrue (is_limited_label (label_view l.now))) }
 {
-    certificate.valid();
-    if certificate.is_in_place() {
-        label_in_place(certificate, slot)
-    } else {
-        first_label(certificate, slot)
-    }
+    label_given(certificate, function_at(certificate, slot), slot)
 }
 
 /// The last function that begins at a slot or before it.

@@ -11,6 +11,7 @@ ghost use Rattle.bpf_check.specs.code.Counting.{worked_through};
 use crate::arrival::Walk;
 use crate::index::Index;
 use crate::refusal::Refusal;
+use crate::site::{Site, Spot};
 use crate::visit::visit;
 use bpf_insn::Code;
 use bpf_state::Work;
@@ -21,14 +22,15 @@ pub fn visit_flaw<P: Code>(program: &P, certificate: &Index, work: &mut Work) ->
     ensures work { work.new ≡ worked_through (P.program program.now) certificate.now (visits (P.program program.now) certificate.now) work.old }
 {
     let _ = program.slots();
-    let mut slot = 0;
+    let mut here = Spot::of(&*certificate, 0);
     let mut walk = Walk::new();
-    'visits: while let Some(insn) = program.insn(slot) {
-        let refusal = visit(program, certificate, slot, &insn, &mut walk, work);
+    'visits: while let Some(insn) = program.insn(here.slot) {
+        let site = Site::of(&*certificate, here, insn);
+        let refusal = visit(program, &site, &mut walk, work);
         if refusal.is_some() {
             return refusal;
         }
-        slot += insn.slots();
+        here = site.next;
     }
     None
 }

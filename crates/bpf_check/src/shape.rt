@@ -9,7 +9,7 @@ ghost use Rattle.bpf_safety.specs.Flaw.{at, is_bad_limit, is_bad_term, is_first_
 ghost use Rattle.bpf_check.specs.code.Least.{IsLeastIn};
 ghost use Rattle.bpf_check.specs.RefusalNumbers.{flaw_of};
 
-use crate::budget::bounds;
+use crate::budget::{bounds, bounds_said};
 use crate::index::Index;
 use crate::labels::function_at;
 use crate::least::{lesser, refused_if};
@@ -41,7 +41,7 @@ pub fn is_bad_term(label: &Label, tight: Option<&State>, term: &Term) -> bool
     requires state { option_copied tight ≡ tightened label.now.state }
     ensures { result ≡ is_bad_term (label_view label.now) term.now }
 {
-    bounds(&label.state, term).is_none() || is_bad_limit(tight, term)
+    bounds_said(&label.state, term).is_none() || is_bad_limit(tight, term)
 }
 
 fn has_bad_term(label: &Label, tight: Option<&State>) -> bool
@@ -123,7 +123,7 @@ fn judge_label<C: Code>(
     requires { IsTrue (is_limited_label (label_view label.now)) }
     ensures { IsLeastIn (at label.now.slot (numbers_of_label (C.program program.now) certificate.now (function_view function.now) (label_view label.now))) (option_map flaw_of result) }
 {
-    room.copy_from(&label.state);
+    label.state.put_into(room);
     if room.tighten() {
         flaw_of_label(program, certificate, function, label, Some(room))
     } else {

@@ -1,6 +1,8 @@
 //! Visits: each instruction with what reaches it.
 
-ghost use Rattle.std.specs.Prelude.{◌≡◌, ℕ, ◌+◌, ◌≤◌, List, ◌++◌, option_map, IfSome, IfOk, IfErr, Some, None};
+ghost use Rattle.std.specs.Prelude.{◌≡◌, ℕ, ◌+◌, ◌≤◌, List, ◌++◌, option_map, IfSome, IfOk, IfErr, IsTrue, Some, None};
+ghost use Rattle.bpf_cert.specs.View.{CertificateView, label_view};
+ghost use Rattle.bpf_cert.specs.Limits.{is_limited_label};
 ghost use Rattle.bpf_insn.specs.Instruction.{slot_count};
 ghost use Rattle.bpf_state.specs.Fault.{fault_of};
 ghost use Rattle.bpf_state.specs.Answer.{fault_number};
@@ -11,15 +13,15 @@ ghost use Rattle.bpf_check.specs.RefusalNumbers.{cause_number, flaw_of};
 ghost use Rattle.bpf_check.specs.code.Arrivals.{arrival_of, walk_of, IsReaching};
 ghost use Rattle.bpf_check.specs.code.Visits.{IsJudged, numbers_with, passed_with, never_reached, visit_of, visit_with};
 ghost use Rattle.bpf_check.specs.code.Counting.{worked_at};
+ghost use Rattle.bpf_check.specs.code.Sites.{IsSpot, IsSite};
 
 use crate::arrival::{Here, Walk, cost_after, start_at};
 use crate::edge::{calls_no_deeper, lacks_label, leaves_function};
-use crate::index::Index;
 use crate::judge::{enters_wrongly, exits_unpaid, judge_edges, returns_wrongly};
-use crate::labels::label_at;
 use crate::least::{lesser, refused_if};
 use crate::refusal::{Cause, Refusal};
-use bpf_insn::{Code, Insn};
+use crate::site::{Site, Spot};
+use bpf_insn::Code;
 use bpf_state::{StateFault, Work};
 
 /// What is found of an instruction that a state reaches.
@@ -33,29 +35,27 @@ pub struct Judged {
 /// Judges an instruction that a state reaches, and makes the walk what goes on from it: C3 to C7 if it isn't allowed there.
 pub fn judge<'a, P: Code>(
     program: &P,
-    certificate: &'a Index,
-    slot: u32,
-    insn: &Insn,
+    site: &Site<'a>,
     here: Here<'a>,
     walk: &mut Walk<'a>,
     work: &mut Work,
 ) -> Result<Judged, StateFault>
-    requires slot { slot ≤ 65535 }
-    requires valid { IsReaching slot here }
-    ensures ok { IfOk result (λ j. IsJudged (P.program program.now) certificate.now slot insn.now (arrival_of walk.old.state here.entry) walk.new j) }
-    ensures err { IfErr result (λ e. fault_of certificate.now.least walk.old.state insn.now ≡ Some (fault_number e)) }
+    requires site { IsSite site.now }
+    requires valid { IsReaching site.now.here.slot here }
+    ensures ok { IfOk result (λ j. IsJudged (P.program program.now) site.now.certificate.now site.now.here.slot site.now.insn (arrival_of walk.old.state here.entry) walk.new j) }
+    ensures err { IfErr result (λ e. fault_of site.now.certificate.now.least walk.old.state site.now.insn ≡ Some (fault_number e)) }
     ensures stops { IfErr result (λ e. walk.new.here ≡ None) }
-    ensures work { work.new ≡ worked_at (P.program program.now) certificate.now (visit_with slot insn.now (Some (arrival_of walk.old.state here.entry))) work.old }
+    ensures work { work.new ≡ worked_at (P.program program.now) site.now.certificate.now (visit_with site.now.here.slot site.now.insn (Some (arrival_of walk.old.state here.entry))) work.old }
 {
-    let last = slot + insn.slots() == program.slots();
-    let cost = cost_after(certificate, slot, insn, &here, &walk.state);
-    let exits = exits_unpaid(slot, insn, &here, cost);
-    let enters = enters_wrongly(certificate, slot, insn, &walk.state, &mut walk.aside, work);
-    let returns = returns_wrongly(certificate, slot, insn, &walk.state, work);
+    let last = site.next.slot == program.slots();
+    let cost = cost_after(site, &here, &walk.state);
+    let exits = exits_unpaid(site, &here, cost);
+    let enters = enters_wrongly(site, &walk.state, &mut walk.aside, work);
+    let returns = returns_wrongly(site, &walk.state, work);
     walk.here = None;
     let alive = match work.transfer_counted(
-        insn,
-        certificate.least(),
+        &site.insn,
+        site.certificate.least(),
         program.order(),
         &mut walk.state,
     ) {
@@ -70,9 +70,7 @@ pub fn judge<'a, P: Code>(
         });
     }
     let (flaws, goes) = judge_edges(
-        certificate,
-        slot,
-        insn,
+        site,
         &mut walk.state,
         &mut walk.aside,
         here.label,
@@ -113,25 +111,23 @@ fn cause_of(fault: StateFault) -> Cause
 /// Visits an instruction with what reaches it, as far as a state is judged, and makes the walk what goes on from it.
 fn visit_arrival<'a, P: Code>(
     program: &P,
-    certificate: &'a Index,
-    slot: u32,
-    insn: &Insn,
+    site: &Site<'a>,
     walk: &mut Walk<'a>,
     work: &mut Work,
 ) -> Option<Refusal>
-    requires slot { slot ≤ 65535 }
-    requires valid { IfSome walk.old.here (λ h. IsReaching slot h) }
-    ensures refusal { IsLeastIn (at slot (numbers_with (P.program program.now) certificate.now slot insn.now (walk_of walk.old))) (option_map flaw_of result) }
-    ensures passed { walk_of walk.new ≡ passed_with (P.program program.now) certificate.now slot insn.now (walk_of walk.old) }
-    ensures work { work.new ≡ worked_at (P.program program.now) certificate.now (visit_with slot insn.now (walk_of walk.old)) work.old }
-    ensures valid { IfSome walk.new.here (λ h. IsReaching (slot + slot_count insn.now) h) }
+    requires site { IsSite site.now }
+    requires valid { IfSome walk.old.here (λ h. IsReaching site.now.here.slot h) }
+    ensures refusal { IsLeastIn (at site.now.here.slot (numbers_with (P.program program.now) site.now.certificate.now site.now.here.slot site.now.insn (walk_of walk.old))) (option_map flaw_of result) }
+    ensures passed { walk_of walk.new ≡ passed_with (P.program program.now) site.now.certificate.now site.now.here.slot site.now.insn (walk_of walk.old) }
+    ensures work { work.new ≡ worked_at (P.program program.now) site.now.certificate.now (visit_with site.now.here.slot site.now.insn (walk_of walk.old)) work.old }
+    ensures valid { IfSome walk.new.here (λ h. IsReaching (site.now.here.slot + slot_count site.now.insn) h) }
 {
     let Some(here) = walk.here else {
         return None;
     };
-    match judge(program, certificate, slot, insn, here, walk, work) {
-        Err(fault) => refused_if(true, slot, cause_of(fault)),
-        Ok(judged) => flaw_of_state(slot, judged),
+    match judge(program, site, here, walk, work) {
+        Err(fault) => refused_if(true, site.here.slot, cause_of(fault)),
+        Ok(judged) => flaw_of_state(site.here.slot, judged),
     }
 }
 
@@ -183,13 +179,14 @@ fn flaw_with(slot: u32, place: Place, refusal: Option<Refusal>) -> Option<Refusa
 
 /// Makes the walk what reaches a slot: a label's own state, or what goes on from the instruction before. True if nothing
 /// does and no label stands there.
-pub fn arrive<'a>(certificate: &'a Index, slot: u32, walk: &mut Walk<'a>) -> bool
-    requires { IfSome walk.old.here (λ h. IsReaching slot h) }
-    ensures arrival { walk_of walk.new ≡ arrives certificate.now slot (walk_of walk.old) }
-    ensures valid { IfSome walk.new.here (λ h. IsReaching slot h) }
-    ensures never { result ≡ never_reached certificate.now slot (walk_of walk.old) }
+pub fn arrive<'a>(here: &Spot<'a>, walk: &mut Walk<'a>) -> bool
+    requires limited { IfSome here.now.label (λ l. IsTrue (is_limited_label (label_view l.now))) }
+    requires valid { IfSome walk.old.here (λ h. IsReaching here.now.slot h) }
+    ensures arrival { (c : CertificateView) → IsSpot c here.now → walk_of walk.new ≡ arrives c here.now.slot (walk_of walk.old) }
+    ensures valid { IfSome walk.new.here (λ h. IsReaching here.now.slot h) }
+    ensures never { (c : CertificateView) → IsSpot c here.now → result ≡ never_reached c here.now.slot (walk_of walk.old) }
 {
-    match label_at(certificate, slot) {
+    match here.label {
         Some(label) => {
             start_at(label, walk);
             false
@@ -201,27 +198,24 @@ pub fn arrive<'a>(certificate: &'a Index, slot: u32, walk: &mut Walk<'a>) -> boo
 /// Visits an instruction with what goes on to it from the one before, and makes the walk what goes on from it.
 pub fn visit<'a, P: Code>(
     program: &P,
-    certificate: &'a Index,
-    slot: u32,
-    insn: &Insn,
+    site: &Site<'a>,
     walk: &mut Walk<'a>,
     work: &mut Work,
 ) -> Option<Refusal>
-    requires slot { slot ≤ 65535 }
-    requires valid { IfSome walk.old.here (λ h. IsReaching slot h) }
-    ensures refusal { IsLeastIn (at slot (numbers_of_visit (P.program program.now) certificate.now (visit_of certificate.now slot insn.now (walk_of walk.old)))) (option_map flaw_of result) }
-    ensures passed { walk_of walk.new ≡ passed_with (P.program program.now) certificate.now slot insn.now (arrives certificate.now slot (walk_of walk.old)) }
-    ensures work { work.new ≡ worked_at (P.program program.now) certificate.now (visit_of certificate.now slot insn.now (walk_of walk.old)) work.old }
-    ensures valid { IfSome walk.new.here (λ h. IsReaching (slot + slot_count insn.now) h) }
+    requires site { IsSite site.now }
+    requires valid { IfSome walk.old.here (λ h. IsReaching site.now.here.slot h) }
+    ensures refusal { IsLeastIn (at site.now.here.slot (numbers_of_visit (P.program program.now) site.now.certificate.now (visit_of site.now.certificate.now site.now.here.slot site.now.insn (walk_of walk.old)))) (option_map flaw_of result) }
+    ensures passed { walk_of walk.new ≡ passed_with (P.program program.now) site.now.certificate.now site.now.here.slot site.now.insn (arrives site.now.certificate.now site.now.here.slot (walk_of walk.old)) }
+    ensures work { work.new ≡ worked_at (P.program program.now) site.now.certificate.now (visit_of site.now.certificate.now site.now.here.slot site.now.insn (walk_of walk.old)) work.old }
+    ensures valid { IfSome walk.new.here (λ h. IsReaching (site.now.here.slot + slot_count site.now.insn) h) }
 {
-    let never = arrive(certificate, slot, walk);
-    let lacks_label = lacks_label(certificate, slot, insn);
-    let refusal = visit_arrival(program, certificate, slot, insn, walk, work);
+    let never = arrive(&site.here, walk);
+    let refusal = visit_arrival(program, site, walk, work);
     let place = Place {
-        lacks_label,
-        no_deeper: calls_no_deeper(certificate, slot, insn),
+        lacks_label: lacks_label(site),
+        no_deeper: calls_no_deeper(site),
         never,
-        leaves: leaves_function(program, certificate, slot, insn),
+        leaves: leaves_function(program, site),
     };
-    flaw_with(slot, place, refusal)
+    flaw_with(site.here.slot, place, refusal)
 }

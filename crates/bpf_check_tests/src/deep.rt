@@ -5,7 +5,7 @@ use crate::examples::Run;
 use crate::verdicts::{counted, result_of};
 use bpf_cert::Certificate;
 use bpf_check::check;
-use bpf_infer::{InferError, infer, search};
+use bpf_infer::{InferError, Unwatched, infer, search};
 use bpf_insn::{Order, Program};
 use bpf_text::assemble;
 use std::alloc::{AllocError, Global};
@@ -17,7 +17,7 @@ type Found = (&'static str, &'static str, (u32, u32), u32, &'static [Run]);
 /// What it shows, the program's text, the contexts' length, and the refusal's number.
 type NotFound = (&'static str, &'static str, u32, u8);
 
-const FOUND: [Found; 33] = [
+const FOUND: [Found; 34] = [
     (
         "a loop in a loop",
         "r6 = 3\na: r7 = 2\nb: r7 += -1\nif r7 != 0 goto b\nr6 += -1\nif r6 != 0 goto a\nr0 = 0\nexit\n",
@@ -38,6 +38,13 @@ const FOUND: [Found; 33] = [
         (0, 0),
         4944,
         &[(b"", 1260, 4944)],
+    ),
+    (
+        "a counter compared by a register, around a loop that doesn't look at it",
+        "r7 = 0\na: r9 = 0\nb: r9 += 3\nif r9 < 6 goto b\nr7 += 1\nr2 = 5\nif r7 != r2 goto a\nr0 = r7\nexit\n",
+        (0, 0),
+        58,
+        &[(b"", 5, 43)],
     ),
     (
         "an inner loop as long as the outer one has to go",
@@ -377,7 +384,7 @@ fn searched(
     most: u32,
 ) -> Result<Certificate, InferError> {
     let most = most.min(4096);
-    search(alloc, program, least.min(most), most)
+    search(alloc, program, least.min(most), most, &mut Unwatched)
 }
 
 /// What is proposed for a text is certified with at most the bound, and each run ends with its number after its steps,
@@ -539,7 +546,7 @@ fn is_right(program: &Program, proposed: &Result<Certificate, InferError>) -> bo
 fn are_right(alloc: Global, text: &str) -> Result<(bool, bool), Fail> {
     let program = assemble(alloc, text, Order::Little)?;
     let plain = infer(alloc, &program, 0, 0);
-    let deep = search(alloc, &program, 0, 0);
+    let deep = search(alloc, &program, 0, 0, &mut Unwatched);
     let right = is_right(&program, &plain) && is_right(&program, &deep);
     let as_low = match (&plain, &deep) {
         (Ok(plain), Ok(deep)) => deep.steps() <= plain.steps(),

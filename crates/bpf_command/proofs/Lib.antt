@@ -6,7 +6,7 @@ pub mod LoadedLemmas
 pub mod TextLemmas
 pub mod MadeLemmas
 pub mod JudgedLemmas
-pub mod TakenLemmas
 pub mod LinesLemmas
 pub mod WholeLemmas
 pub mod EachLemmas
+pub mod ExplainedLemmas

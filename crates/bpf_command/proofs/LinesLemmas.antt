@@ -5,7 +5,7 @@ use Rattle.std.proofs.lemmas.Grind.{flat_map-append}
 use Rattle.std.proofs.lemmas.List.Elements.{All-append, All-cons, All-head, All-nil, All-tail}
 use Rattle.std.proofs.KnownBytes.{Appends-nil, Appends-trans}
 use Rattle.std.specs.Io.KnownBytes.{Appends, Consumes, IsAtEnd}
-use Rattle.bpf_command.specs.Taken.{IsOneLine}
+use Rattle.bpf_lines.specs.Taken.{IsOneLine}
 use Rattle.bpf_command.specs.Context.{context_in}
 use Rattle.bpf_command.specs.Answer.{Answer, Says, status_of, text_of}
 use Rattle.bpf_command.specs.Lines.{AllAnswered, BegunLines, FirstRefused, LineSays, LinesSay, NextLine, Spelled, Turns, RefusedLine, lines_in, line_context, max_line, onto, texts_of, worst}

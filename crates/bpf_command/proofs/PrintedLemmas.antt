@@ -2,7 +2,7 @@
 use Rattle.std.proofs.Common.{ℕ, List, Option, Result, Ok, Err, IfOk, ◌≤◌, sym, subst, arith}
 use Rattle.bpf_machine.specs.declared.outcome.Outcome.TheVariants.{Done as DoneRun, Fault as FaultRun, OutOfFuel}
 use Rattle.bpf_command.specs.Answer.{Answer, Says, status_of}
-use Rattle.bpf_command.specs.Answer.Answer.{Yes, NoImage, NoText, NoCertificate, NotCertified, NotProposed, NoContext, Ends, Ran, Occur, Lists, Written}
+use Rattle.bpf_command.specs.Answer.Answer.{Yes, NoImage, NoText, NoCertificate, NotCertified, NotProposed, NoContext, Ends, Ran, Occur, Lists, Annotates, Written}
 
 low : (x : Answer) → status_of x ≤ 1
 low (Yes least most bound work) = omega arith
@@ -18,6 +18,7 @@ low (Ran (FaultRun slot reason steps)) = omega arith
 low (Ran OutOfFuel) = omega arith
 low (Occur groups) = omega arith
 low (Lists is) = omega arith
+low (Annotates notes order is) = omega arith
 low Written = omega arith
 
 pub says_low : {E : Type 0} (result : Result ℕ E) (old new : Option (List ℕ)) (Q : Answer → Type 0) → IfOk result (λ status. (x : Answer) × Says x status old new × Q x) → IfOk result (λ status. status ≤ 1)

@@ -9,7 +9,7 @@ use Rattle.std.specs.Borrow.{Bor}
 use Rattle.clap.specs.Words.{ReadsOne, Row, Text, first_of, first_value, one_of, one_text, subcommand_rows}
 use Rattle.clap.specs.declared.parser.matches.SubCommand.{SubCommand}
 use Rattle.clap.specs.declared.parser.matches.ArgMatches.TheViews.{out-SubCommand}
-use Rattle.bpf_command.specs.CommandLine.{GivenBy, IsCount, IsFlag}
+use Rattle.bpf_command.specs.CommandLine.{GivenBy, IsCount, IsFlag, IsNumber}
 use Rattle.bpf_command.specs.declared.contexts.Contexts.{Contexts}
 use Rattle.clap.specs.Walk.{row_of, rows_of, row_text, texts}
 use Rattle.clap.specs.declared.parser.matches.MatchedArg.{MatchedArg}
@@ -84,6 +84,10 @@ pub count_is : (default : ℕ) (o : Option Text) (parsed : Option ℕ) (n : ℕ)
     → IsCount default o n
 count_is default None parsed n none value is = is ∙ ap (λ p. unwrap_or p default) (none refl)
 count_is default (Some t) parsed n none value is = (parsed, plainly t parsed (value t refl), is)
+
+pub number_is : (o : Option Text) (parsed : Option ℕ) → (o ≡ None → parsed ≡ None) → ((t : Text) → o ≡ Some t → ReadsOne {E = ParseIntError} Parses t parsed) → IsNumber o parsed
+number_is None parsed none value = none refl
+number_is (Some t) parsed none value = plainly t parsed (value t refl)
 
 -- ---- flags
 

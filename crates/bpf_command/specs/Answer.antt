@@ -8,15 +8,18 @@ use Rattle.bpf_insn.specs.declared.instruction.Groups.{Groups}
 use Rattle.bpf_insn.specs.declared.instruction.Insn.{Insn}
 use Rattle.bpf_insn.specs.declared.refusal.DecodeError.{DecodeError}
 use Rattle.bpf_state.specs.Work.{Counts}
+use Rattle.bpf_insn.specs.declared.order.Order.{Order}
 use Rattle.bpf_text.specs.Listing.{listing}
+use Rattle.bpf_text.specs.Annotated.{annotated}
+use Rattle.bpf_text.specs.declared.annotated.Notes.{Notes}
 use Rattle.bpf_text.specs.declared.error.TextError.{TextError}
 use Rattle.bpf_text.specs.declared.error.TextError.TheVariants.{Form, Range, DefinedAgain, Undefined, TooFar, Program, Memory as TextMemory, TooLong}
 use Rattle.bpf_cert.specs.RefusalNumbers.{refusal_number as cert_number, refusal_line as cert_line}
 use Rattle.bpf_cert.specs.declared.error.CertError.{CertError}
 use Rattle.bpf_check.specs.RefusalNumbers.{refusal_number as check_number, refusal_slot as check_slot}
 use Rattle.bpf_check.specs.declared.refusal.Refusal.{Refusal}
-use Rattle.bpf_infer.specs.declared.error.InferError.{InferError}
-use Rattle.bpf_infer.specs.declared.error.InferError.TheVariants.{Unstable, NoBudget, Recursion, Fault as NoState, Memory as InferMemory}
+use Rattle.bpf_proposal.specs.declared.error.InferError.{InferError}
+use Rattle.bpf_proposal.specs.declared.error.InferError.TheVariants.{Unstable, NoBudget, Recursion, Fault as NoState, Memory as InferMemory}
 use Rattle.bpf_machine.specs.declared.outcome.Outcome.{Outcome}
 use Rattle.bpf_machine.specs.declared.outcome.Outcome.TheVariants.{Done as DoneRun, Fault as FaultRun, OutOfFuel}
 
@@ -39,6 +42,8 @@ pub data Answer : Type 0 where
   -- the conformance groups, and the instructions, of an image
   Occur : (groups : Groups) → Answer
   Lists : (is : List Insn) → Answer
+  -- the same with comments
+  Annotates : (notes : Notes) → (order : Order) → (is : List Insn) → Answer
   -- what was asked for was written at a name
   Written : Answer
 
@@ -61,6 +66,7 @@ status_of (Ends value) = 0
 status_of (Ran outcome) = status_of_run outcome
 status_of (Occur groups) = 0
 status_of (Lists is) = 0
+status_of (Annotates notes order is) = 0
 status_of Written = 0
 
 -- ---- the text
@@ -140,6 +146,7 @@ text_of (Ends value) = concat (codes "done " ∷ decimal value ∷ codes "\n" �
 text_of (Ran outcome) = run_line outcome
 text_of (Occur groups) = groups_line groups
 text_of (Lists is) = listing is
+text_of (Annotates notes order is) = annotated notes order is
 text_of Written = []
 
 -- ---- both

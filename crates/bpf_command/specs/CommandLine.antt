@@ -1,5 +1,5 @@
 -- The command line, as its parser sees it.
-use Rattle.std.specs.Prelude.{◌≡◌, ◌≢◌, ℕ, Bool, List, [], Option, Some, None, is_some, ◌&&◌, ◌||◌, unwrap_or, pos, codes, true, false}
+use Rattle.std.specs.Prelude.{◌≡◌, ◌≢◌, ℕ, Bool, List, [], Option, Some, None, is_some, is_none, not, ◌&&◌, ◌||◌, unwrap_or, pos, codes, true, false}
 use Rattle.std.specs.Str.Parse.{ParsesUnsigned}
 use Rattle.std.specs.declared.num.ParseIntError.{ParseIntError}
 use Rattle.clap.specs.Words.{App, ReadsOne, Row, Rule, Text, first_of, one_of, new_app, new_rule, with_rule, with_subcommand}
@@ -12,7 +12,9 @@ use Rattle.bpf_insn.specs.declared.order.Order.TheVariants.{Little, Big}
 use Rattle.bpf_command.specs.declared.contexts.Contexts.{Contexts}
 use Rattle.bpf_command.specs.declared.contexts.Contexts.TheVariants.{Word, Bytes, Lines, Nothing, Several}
 use Rattle.bpf_command.specs.declared.words.Request.{Request}
-use Rattle.bpf_command.specs.declared.words.Request.TheVariants.{Groups, Asm, List as ListOf, Run, Check, RunChecked, Infer, Migrate}
+use Rattle.bpf_command.specs.declared.words.Request.TheVariants.{Groups, Asm, List as ListOf, Run, Check, RunChecked, Infer, Migrate, Explain}
+use Rattle.bpf_command.specs.declared.subject.Subject.{Subject}
+use Rattle.bpf_command.specs.declared.subject.Subject.TheVariants.{Image, Text as TextAlone, Certified, Slot, Inferred, Graph, GraphAlone, Misfit}
 
 -- whether a command has an argument that its subcommands share
 abbrev pub has_globals : Command → Bool
@@ -49,7 +51,7 @@ abbrev pub asm : App
 asm = with_rule (with_rule (with_rule (new_app (codes "asm")) (place (codes "IN"))) (place (codes "OUT"))) big
 
 abbrev pub list : App
-list = with_rule (with_rule (new_app (codes "list")) (place (codes "IN"))) big
+list = with_rule (with_rule (with_rule (with_rule (new_app (codes "list")) (place (codes "IN"))) (flag (codes "slots"))) (flag (codes "bytes"))) big
 
 abbrev pub run_places : App
 run_places = with_rule (new_app (codes "run")) (place (codes "IN"))
@@ -90,9 +92,23 @@ infer = with_rule (with_rule (with_rule infer_places most) (flag (codes "deep"))
 abbrev pub migrate : App
 migrate = with_rule (with_rule (new_app (codes "migrate")) (place (codes "CERT"))) (place (codes "OUT"))
 
--- `bpf` with all eight
+-- the option `--infer`, with a number up to 4096
+abbrev pub inferred : Rule
+inferred = record (new_rule (codes "infer")) { long = Some (codes "infer"); value_names = 1; parser = Some (parser.Signed (pos 0) (pos 4096)) }
+
+-- the option `--slot`, with a number up to 65535
+abbrev pub one_slot : Rule
+one_slot = record (new_rule (codes "slot")) { long = Some (codes "slot"); value_names = 1; parser = Some (parser.Signed (pos 0) (pos 65535)) }
+
+abbrev pub explain_places : App
+explain_places = with_rule (with_rule (new_app (codes "explain")) (place (codes "IN"))) (new_rule (codes "CERT"))
+
+abbrev pub explain : App
+explain = with_rule (with_rule (with_rule (with_rule (with_rule (with_rule explain_places one_slot) inferred) most) (flag (codes "text"))) (flag (codes "dot"))) big
+
+-- `bpf` with all nine
 abbrev pub bpf : App
-bpf = with_subcommand (with_subcommand (with_subcommand (with_subcommand without_certificates check.top) run_checked.top) infer.top) migrate.top
+bpf = with_subcommand (with_subcommand (with_subcommand (with_subcommand (with_subcommand without_certificates check.top) run_checked.top) infer.top) migrate.top) explain.top
 
 -- ---- what the words ask for
 
@@ -104,6 +120,11 @@ word_of id rows = unwrap_or (first_of id rows) []
 abbrev pub IsCount : ℕ → Option Text → ℕ → Type 0
 IsCount default None n = n ≡ default
 IsCount default (Some text) n = (parsed : Option ℕ) × ReadsOne {E = ParseIntError} (λ t r. ParsesUnsigned 32 10 t r) text parsed × (n ≡ unwrap_or parsed default)
+
+-- a number below 2 ^ 32 as it is parsed, None where there is none
+abbrev pub IsNumber : Option Text → Option ℕ → Type 0
+IsNumber None n = n ≡ None
+IsNumber (Some text) n = ReadsOne {E = ParseIntError} (λ t r. ParsesUnsigned 32 10 t r) text n
 
 -- whether a flag is given
 abbrev pub IsFlag : Option Text → Bool → Type 0
@@ -131,13 +152,37 @@ GivenBy word bytes lines Several = ((is_some word && is_some bytes) || (is_some 
 abbrev pub AreContexts : List Row → Contexts → Type 0
 AreContexts rows contexts = GivenBy (first_of (codes "HEX") rows) (first_of (codes "context") rows) (first_of (codes "contexts") rows) contexts
 
+-- at most one of CERT, `--infer` and `--text`; `--most` with `--infer` alone, `--slot` with CERT alone, and `--dot` with CERT or nothing
+abbrev pub go_together : Option Text → (least most slot : Option ℕ) → (text dot : Bool) → Bool
+go_together certificate least most slot text dot =
+    not (dot && (text || (is_some least || (is_some most || is_some slot))))
+    && (not (text && (is_some certificate || is_some least)) && (not (is_some certificate && is_some least) && ((is_some least || is_none most) && (is_some certificate || is_none slot))))
+
+-- by the word for a certificate, the lengths, the slot, whether it is a text, and whether a graph is wanted
+abbrev pub GivesSubject : Option Text → (least most slot : Option ℕ) → (text dot : Bool) → Subject → Type 0
+GivesSubject certificate least most slot text dot Image = (certificate ≡ None) × (least ≡ None) × (most ≡ None) × (slot ≡ None) × (text ≡ false) × (dot ≡ false)
+GivesSubject certificate least most slot text dot TextAlone = (certificate ≡ None) × (least ≡ None) × (most ≡ None) × (slot ≡ None) × (text ≡ true) × (dot ≡ false)
+GivesSubject certificate least most slot text dot (Certified c) = (certificate ≡ Some c.now) × (least ≡ None) × (most ≡ None) × (slot ≡ None) × (text ≡ false) × (dot ≡ false)
+GivesSubject certificate least most slot text dot (Slot c s) = (certificate ≡ Some c.now) × (least ≡ None) × (most ≡ None) × (slot ≡ Some s) × (text ≡ false) × (dot ≡ false)
+GivesSubject certificate least most slot text dot (Inferred l m) = (certificate ≡ None) × (least ≡ Some l) × (m ≡ unwrap_or most l) × (slot ≡ None) × (text ≡ false) × (dot ≡ false)
+GivesSubject certificate least most slot text dot (Graph c) = (certificate ≡ Some c.now) × (least ≡ None) × (most ≡ None) × (slot ≡ None) × (text ≡ false) × (dot ≡ true)
+GivesSubject certificate least most slot text dot GraphAlone = (certificate ≡ None) × (least ≡ None) × (most ≡ None) × (slot ≡ None) × (text ≡ false) × (dot ≡ true)
+GivesSubject certificate least most slot text dot Misfit = go_together certificate least most slot text dot ≡ false
+
+-- what CERT, `--infer`, `--most`, `--slot`, `--text` and `--dot` want explained
+abbrev pub IsSubject : List Row → Subject → Type 0
+IsSubject rows subject =
+    (least : Option ℕ) × (most : Option ℕ) × (slot : Option ℕ) × (text : Bool) × (dot : Bool) × IsNumber (one_of (codes "infer") rows) least × IsNumber (one_of (codes "most") rows) most
+    × IsNumber (one_of (codes "slot") rows) slot × IsFlag (one_of (codes "text") rows) text × IsFlag (one_of (codes "dot") rows) dot × GivesSubject (first_of (codes "CERT") rows) least most slot text dot subject
+
 -- the request of a subcommand with these matches
 abbrev pub Asks : Text → List Row → Request → Type 0
 Asks name rows (Groups input order) =
     (name ≢ codes "asm") × (name ≢ codes "list") × (name ≢ codes "run") × (name ≢ codes "check") × (name ≢ codes "run-checked") × (name ≢ codes "infer")
-    × (name ≢ codes "migrate") × IsInput rows input.now order
+    × (name ≢ codes "migrate") × (name ≢ codes "explain") × IsInput rows input.now order
 Asks name rows (Asm input output order) = (name ≡ codes "asm") × IsInput rows input.now order × (output.now ≡ word_of (codes "OUT") rows)
-Asks name rows (ListOf input order) = (name ≡ codes "list") × IsInput rows input.now order
+Asks name rows (ListOf input slots bytes order) =
+    (name ≡ codes "list") × IsInput rows input.now order × IsFlag (one_of (codes "slots") rows) slots × IsFlag (one_of (codes "bytes") rows) bytes
 Asks name rows (Run input contexts count order) = (name ≡ codes "run") × IsInput rows input.now order × AreContexts rows contexts × IsCount 0 (one_of (codes "steps") rows) count
 Asks name rows (Check input certificate work order) =
     (name ≡ codes "check") × IsInput rows input.now order × (certificate.now ≡ word_of (codes "CERT") rows) × IsFlag (one_of (codes "work") rows) work
@@ -145,6 +190,7 @@ Asks name rows (RunChecked input certificate contexts order) =
     (name ≡ codes "run-checked") × IsInput rows input.now order × (certificate.now ≡ word_of (codes "CERT") rows) × AreContexts rows contexts
 Asks name rows (Infer input least most deep output order) =
     (name ≡ codes "infer") × IsInput rows input.now order × IsCount 0 (one_of (codes "LEN") rows) least × IsCount least (one_of (codes "most") rows) most × IsFlag (one_of (codes "deep") rows) deep × (output.now ≡ word_of (codes "OUT") rows)
+Asks name rows (Explain input subject order) = (name ≡ codes "explain") × IsInput rows input.now order × IsSubject rows subject
 Asks name rows (Migrate certificate output) = (name ≡ codes "migrate") × (certificate.now ≡ word_of (codes "CERT") rows) × (output.now ≡ word_of (codes "OUT") rows)
 
 -- the request of a command line on which the parser found this subcommand

@@ -1,5 +1,4 @@
 pub mod Context
-pub mod Taken
 pub mod Lines
 pub mod Opened
 pub mod CommandLine
@@ -10,4 +9,5 @@ pub mod Made
 pub mod Answer
 pub mod Printed
 pub mod Given
+pub mod Explained
 pub mod Response

@@ -1,9 +1,11 @@
 -- Which answers the commands give, by what the names hold.
-use Rattle.std.specs.Prelude.{◌≡◌, ◌⊎◌, ℕ, ◌<◌, ◌≤◌, Bool, true, false, ⊤, List, length, Some, None, Ok, Err, if◌then◌else◌}
+use Rattle.std.specs.Prelude.{◌≡◌, ◌⊎◌, ℕ, ◌<◌, ◌≤◌, Bool, true, false, ⊤, List, length, Option, Some, None, Ok, Err, if◌then◌else◌}
 use Rattle.bpf_insn.specs.Instruction.{Instructions, groups_in, slots}
 use Rattle.bpf_insn.specs.Image.{image}
 use Rattle.bpf_insn.specs.declared.order.Order.{Order}
 use Rattle.bpf_text.specs.Assembly.{Assembles, IsRefused}
+use Rattle.bpf_text.specs.declared.annotated.Notes.{Notes}
+use Rattle.bpf_text.specs.declared.annotated.Notes.TheVariants.{Slots, Bytes, Both}
 use Rattle.bpf_text.specs.declared.error.TextError.TheVariants.{Memory as NoRoom}
 use Rattle.bpf_machine.specs.Answers.{IsRun}
 use Rattle.bpf_sound.specs.Describes.{LengthWithin}
@@ -16,7 +18,7 @@ use Rattle.bpf_check.specs.CheckedProgram.{CheckedProgram, IsCertifiedBy, checke
 use Rattle.bpf_check.specs.RefusalNumbers.{refusal_slot, refusal_number}
 use Rattle.bpf_flat.specs.Runs.{RunsTo}
 use Rattle.bpf_check.specs.Verdicts.{Verified}
-use Rattle.bpf_infer.specs.RefusalNumbers.{infer_slot}
+use Rattle.bpf_proposal.specs.RefusalNumbers.{infer_slot}
 use Rattle.bpf_command.specs.Context.{context_in, max_context}
 use Rattle.bpf_command.specs.declared.context.ContextError.{ContextError}
 use Rattle.bpf_command.specs.declared.context.ContextError.TheVariants.{Memory as NoSpace}
@@ -24,7 +26,7 @@ use Rattle.bpf_command.specs.Opened.{Opening}
 use Rattle.bpf_command.specs.Loaded.{ImageRefused, LoadsImage, ImageFails, TextAt, TextFails, CertificateAt, CertificateRefused, CertificateUnread, CertificateFails}
 use Rattle.bpf_command.specs.Made.{Making}
 use Rattle.bpf_command.specs.Answer.{Answer}
-use Rattle.bpf_command.specs.Answer.Answer.{Yes, NoImage, NoText, NoCertificate, NotCertified, NotProposed, NoContext, Ends, Ran, Occur, Lists, Written}
+use Rattle.bpf_command.specs.Answer.Answer.{Yes, NoImage, NoText, NoCertificate, NotCertified, NotProposed, NoContext, Ends, Ran, Occur, Lists, Annotates, Written}
 use Rattle.bpf_command.specs.Told.{OutputFails}
 use Rattle.bpf_command.specs.declared.failure.Failure.{Failure}
 use Rattle.bpf_command.specs.declared.failure.Failure.TheVariants.{CannotRead, CannotWrite, BadContext}
@@ -58,9 +60,18 @@ abbrev pub GroupsSay : Instructions → Answer → Type 0
 GroupsSay p (Occur groups) = groups ≡ groups_in p.list
 GroupsSay p answer = ⊥
 
-abbrev pub ListSays : Instructions → Answer → Type 0
-ListSays p (Lists is) = is ≡ p.list
-ListSays p answer = ⊥
+-- the comments that are asked for
+abbrev pub notes_of : (slots bytes : Bool) → Option Notes
+notes_of true true = Some Both
+notes_of true false = Some Slots
+notes_of false true = Some Bytes
+notes_of false false = None
+
+-- the program is listed with these comments, or with none
+abbrev pub ListSays : Option Notes → Instructions → Answer → Type 0
+ListSays asked p (Lists is) = (asked ≡ None) × (is ≡ p.list)
+ListSays asked p (Annotates notes order is) = (asked ≡ Some notes) × (order ≡ p.order) × (is ≡ p.list)
+ListSays asked p answer = ⊥
 
 abbrev pub OutcomeSays : List ℕ → ℕ → Instructions → Answer → Type 0
 OutcomeSays context fuel p (Ran outcome) = IsRun p context fuel outcome

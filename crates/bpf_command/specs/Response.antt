@@ -8,22 +8,29 @@ use Rattle.bpf_command.specs.Opened.{Opening}
 use Rattle.bpf_command.specs.Made.{Making}
 use Rattle.bpf_command.specs.Loaded.{ImageFails}
 use Rattle.bpf_command.specs.Answer.{Answer, Says}
-use Rattle.bpf_command.specs.Printed.{LoadedFails, ImageSays, GroupsSay, ListSays, AsmSays, AsmFails, InferSays, InferFails, MigrateSays, MigrateFails, CheckSays}
+use Rattle.bpf_command.specs.Printed.{LoadedFails, ImageSays, GroupsSay, ListSays, notes_of, AsmSays, AsmFails, InferSays, InferFails, MigrateSays, MigrateFails, CheckSays}
 use Rattle.bpf_command.specs.Given.{CheckedFails, CheckedSays, RunFails, RunSays}
+use Rattle.bpf_command.specs.Explained.{ExplainSays, ExplainFails}
 use Rattle.bpf_command.specs.Told.{IsTold}
 use Rattle.std.specs.Str.{bytes_eq}
 use Rattle.bpf_command.specs.declared.contexts.Contexts.{Contexts}
 use Rattle.bpf_command.specs.declared.contexts.Contexts.TheVariants.{Word, Bytes, Lines, Nothing, Several}
 use Rattle.bpf_command.specs.declared.words.Request.{Request}
-use Rattle.bpf_command.specs.declared.words.Request.TheVariants.{Groups, Asm, List as ListOf, Run, Check, RunChecked, Infer, Migrate}
+use Rattle.bpf_command.specs.declared.words.Request.TheVariants.{Groups, Asm, List as ListOf, Run, Check, RunChecked, Infer, Migrate, Explain}
+use Rattle.bpf_command.specs.declared.subject.Subject.{Subject}
+use Rattle.bpf_command.specs.declared.subject.Subject.TheVariants.{Image, Text as TextAlone, Certified, Slot, Inferred, Graph, GraphAlone, Misfit}
 use Rattle.bpf_command.specs.declared.failure.Failure.{Failure}
-use Rattle.bpf_command.specs.declared.failure.Failure.TheVariants.{NoMemory, MostBelowLeast, InputTwice}
+use Rattle.bpf_command.specs.declared.failure.Failure.TheVariants.{NoMemory, MostBelowLeast, InputTwice, NotTogether}
 
 -- ---- words that can't stand together
 
 -- standard input for both names
 abbrev pub twice : List ℕ → List ℕ → Option Failure
 twice first second = if bytes_eq first (codes "-") && bytes_eq second (codes "-") then Some InputTwice else None
+
+-- the greatest length below the least
+abbrev pub out_of_order : ℕ → ℕ → Option Failure
+out_of_order least most = if nat_lt most least then Some MostBelowLeast else None
 
 -- the name at which contexts are read
 abbrev pub name_of : Contexts → List ℕ
@@ -33,16 +40,28 @@ name_of (Lines name) = name.now
 name_of Nothing = []
 name_of Several = []
 
+-- what can't be explained of this input
+abbrev pub conflict_with : List ℕ → Subject → Option Failure
+conflict_with input Image = None
+conflict_with input TextAlone = None
+conflict_with input (Certified certificate) = twice input certificate.now
+conflict_with input (Slot certificate slot) = twice input certificate.now
+conflict_with input (Inferred least most) = out_of_order least most
+conflict_with input (Graph certificate) = twice input certificate.now
+conflict_with input GraphAlone = None
+conflict_with input Misfit = Some NotTogether
+
 abbrev pub conflict_of : Request → Option Failure
 conflict_of (Groups input order) = None
 conflict_of (Asm input output order) = None
-conflict_of (ListOf input order) = None
+conflict_of (ListOf input slots bytes order) = None
 conflict_of (Run input contexts steps order) = twice input.now (name_of contexts)
 conflict_of (Check input certificate work order) = twice input.now certificate.now
 conflict_of (RunChecked input certificate contexts order) =
     option_or (option_or (twice input.now certificate.now) (twice input.now (name_of contexts))) (twice certificate.now (name_of contexts))
-conflict_of (Infer input least most deep output order) = if nat_lt most least then Some MostBelowLeast else None
+conflict_of (Infer input least most deep output order) = out_of_order least most
 conflict_of (Migrate certificate output) = None
+conflict_of (Explain input subject order) = conflict_with input.now subject
 
 -- ---- what is done, and why not
 
@@ -50,22 +69,24 @@ conflict_of (Migrate certificate output) = None
 abbrev pub Does : {S : Type 0} → Opening S → Making S → S → S → Option (List ℕ) → Option (List ℕ) → Request → ℕ → Type 0
 Does o m old new before after (Groups input order) = λ status. (answer : Answer) × Says answer status before after × ImageSays o order old input.now new GroupsSay answer
 Does o m old new before after (Asm input output order) = λ status. (answer : Answer) × Says answer status before after × AsmSays o m order old input.now output.now new answer
-Does o m old new before after (ListOf input order) = λ status. (answer : Answer) × Says answer status before after × ImageSays o order old input.now new ListSays answer
+Does o m old new before after (ListOf input slots bytes order) = λ status. (answer : Answer) × Says answer status before after × ImageSays o order old input.now new (ListSays (notes_of slots bytes)) answer
 Does o m old new before after (Run input contexts steps order) = λ status. RunSays o order old input.now contexts steps new before after status
 Does o m old new before after (Check input certificate work order) = λ status. (answer : Answer) × Says answer status before after × CheckSays o order old input.now certificate.now new work answer
 Does o m old new before after (RunChecked input certificate contexts order) = λ status. CheckedSays o order old input.now certificate.now contexts new before after status
 Does o m old new before after (Infer input least most deep output order) = λ status. (answer : Answer) × Says answer status before after × InferSays o m order old input.now least most output.now new answer
+Does o m old new before after (Explain input subject order) = ExplainSays o order old input.now subject new
 Does o m old new before after (Migrate certificate output) = λ status. (answer : Answer) × Says answer status before after × MigrateSays o m old certificate.now output.now new answer
 
 -- What failed of a request without a conflict.
 abbrev pub Misses : {S : Type 0} → Opening S → Making S → S → S → Request → Failure → Type 0
 Misses o m old new (Groups input order) = ImageFails o old input.now new
 Misses o m old new (Asm input output order) = AsmFails o m order old input.now output.now new
-Misses o m old new (ListOf input order) = ImageFails o old input.now new
+Misses o m old new (ListOf input slots bytes order) = ImageFails o old input.now new
 Misses o m old new (Run input contexts steps order) = λ failure. (before : Option (List ℕ)) × (after : Option (List ℕ)) × RunFails o order old input.now contexts steps new before after failure
 Misses o m old new (Check input certificate work order) = LoadedFails o order old input.now certificate.now new
 Misses o m old new (RunChecked input certificate contexts order) = λ failure. (before : Option (List ℕ)) × (after : Option (List ℕ)) × CheckedFails o order old input.now certificate.now contexts new before after failure
 Misses o m old new (Infer input least most deep output order) = InferFails o m order old input.now least most output.now new
+Misses o m old new (Explain input subject order) = ExplainFails o order old input.now subject new
 Misses o m old new (Migrate certificate output) = MigrateFails o m old certificate.now output.now new
 
 -- A request is in conflict, before any name is opened; or something of it failed.

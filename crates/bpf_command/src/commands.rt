@@ -4,6 +4,7 @@ mod asm;
 mod certificate;
 mod check;
 mod each;
+mod explain;
 mod groups;
 mod image;
 mod infer;
@@ -17,6 +18,7 @@ mod whole;
 
 pub use asm::assembled;
 pub use check::checked;
+pub use explain::explained;
 pub use groups::grouped;
 pub use infer::inferred;
 pub use list::listed;

@@ -4,7 +4,7 @@ ghost use Rattle.std.specs.Prelude.{◌≡◌};
 ghost use Rattle.bpf_command.specs.Response.{name_of};
 
 /// Where the contexts of a run are.
-#[derive(Clone, Copy, Debug, PartialEq, Eq)]
+#[derive(Clone, Copy, PartialEq, Eq)]
 pub enum Contexts<'a> {
     /// One, which a word spells: hexadecimal or `none`.
     Word(&'a str),

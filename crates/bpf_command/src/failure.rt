@@ -38,6 +38,8 @@ pub enum Failure<'a> {
     MostBelowLeast,
     /// Two names to read are standard input.
     InputTwice,
+    /// Words that don't go together are given.
+    NotTogether,
 }
 
 impl ContextError {
@@ -73,6 +75,7 @@ impl<'a> Failure<'a> {
             Failure::BadContext(error) | Failure::BadLine { error, .. } => error.status(),
             Failure::NoContext | Failure::ContextTwice => BAD_WORDS,
             Failure::MostBelowLeast | Failure::InputTwice => BAD_WORDS,
+            Failure::NotTogether => BAD_WORDS,
         }
     }
 
@@ -91,6 +94,7 @@ impl<'a> Failure<'a> {
             Failure::ContextTwice => ("context twice", ""),
             Failure::MostBelowLeast => ("most below least", ""),
             Failure::InputTwice => ("standard input twice", ""),
+            Failure::NotTogether => ("words that don't go together", ""),
         }
     }
 }

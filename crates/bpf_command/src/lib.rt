@@ -6,13 +6,16 @@ mod context;
 mod contexts;
 mod failure;
 mod files;
-mod line_reader;
+mod keeping;
 mod places;
+mod progress;
 mod response;
+mod subject;
 mod words;
 
 pub use context::{ContextError, context_of};
 pub use failure::{FAILED, Failure, tell};
 pub use files::FilePlaces;
 pub use places::Places;
+pub use progress::Progress;
 pub use response::respond;

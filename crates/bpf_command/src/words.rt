@@ -3,16 +3,17 @@
 ghost use Rattle.std.specs.Prelude.{◌≡◌, IfOk, IfErr, map, option_map, true, false};
 ghost use Rattle.std.specs.String.{string_bytes};
 ghost use Rattle.clap.specs.Words.{app_of, found_of, kind_of, new_rule, one_of, rows_of, rule_of, subcommand_of, takes};
-ghost use Rattle.bpf_command.specs.CommandLine.{AreContexts, Asks, GivenBy, IsAsked, IsCount, IsFlag, IsOrder, asm, big, bpf, check, file, flag, groups, has_globals, infer, infer_places, list, migrate, place, run, run_checked, run_checked_places, run_places, with_contexts, without_certificates, word_of};
+ghost use Rattle.bpf_command.specs.CommandLine.{AreContexts, Asks, GivenBy, IsAsked, IsCount, IsFlag, IsNumber, IsOrder, IsSubject, asm, big, bpf, check, explain, explain_places, file, flag, groups, has_globals, infer, infer_places, inferred, list, migrate, most, one_slot, place, run, run_checked, run_checked_places, run_places, with_contexts, without_certificates, word_of};
 ghost use Rattle.clap.specs.declared.error.ErrorKind.TheVariants.{OutOfMemory};
 
 use crate::contexts::Contexts;
+use crate::subject::{Subject, subject_of};
 use bpf_insn::Order;
 use clap::{Arg, ArgAction, ArgMatches, Command, Error, value_parser};
 use std::alloc::{AllocError, Global};
 
 /// What a command line asks for. Images are of the byte order.
-#[derive(Clone, Copy, Debug, PartialEq, Eq)]
+#[derive(Clone, Copy, PartialEq, Eq)]
 pub enum Request<'a> {
     /// The conformance groups that occur in an image.
     Groups {
@@ -25,9 +26,11 @@ pub enum Request<'a> {
         output: &'a str,
         order: Order,
     },
-    /// The text of an image.
+    /// The text of an image, with each instruction's slot and bytes in comments where they are asked for.
     List {
         input: &'a str,
+        slots: bool,
+        bytes: bool,
         order: Order,
     },
     /// Runs of an image on contexts, each for at most so many instructions.
@@ -58,6 +61,12 @@ pub enum Request<'a> {
         most: u32,
         deep: bool,
         output: &'a str,
+        order: Order,
+    },
+    /// What the checker or the inferrer sees of a program, or why an input is refused, in words.
+    Explain {
+        input: &'a str,
+        subject: Subject<'a>,
         order: Order,
     },
     /// A certificate of the newest version with the same content.
@@ -135,6 +144,12 @@ fn list_command<'a>(alloc: Global) -> Result<Command<'a>, AllocError>
     Command::new(alloc, "list")
         .about("Prints the instructions of an image, one a line")
         .arg(place(alloc, "IN", "an image"))?
+        .arg(flag(alloc, "slots", "tells each instruction's slot in a comment"))?
+        .arg(flag(
+            alloc,
+            "bytes",
+            "tells each instruction's bytes in a comment",
+        ))?
         .arg(big(alloc))
 }
 
@@ -278,6 +293,66 @@ fn migrate_command<'a>(alloc: Global) -> Result<Command<'a>, AllocError>
         .arg(place(alloc, "OUT", "where the certificate goes"))
 }
 
+/// The option for the least length of the contexts of an inferred certificate.
+fn inferred<'a>(alloc: Global) -> Arg<'a>
+    ensures rule { rule_of result ≡ inferred }
+    ensures local { result.global ≡ false }
+{
+    Arg::new(alloc, "infer")
+        .long("infer")
+        .value_name("LEN")
+        .value_parser(value_parser!(u32).range(0..=4096))
+        .help("in place of CERT: what `infer` finds for contexts of at least LEN bytes")
+}
+
+/// The option for their greatest length.
+fn most<'a>(alloc: Global) -> Arg<'a>
+    ensures rule { rule_of result ≡ most }
+    ensures local { result.global ≡ false }
+{
+    Arg::new(alloc, "most")
+        .long("most")
+        .value_name("M")
+        .value_parser(value_parser!(u32).range(0..=4096))
+        .help("the greatest length of the contexts in bytes, else LEN")
+}
+
+/// The option for one slot.
+fn one_slot<'a>(alloc: Global) -> Arg<'a>
+    ensures rule { rule_of result ≡ one_slot }
+    ensures local { result.global ≡ false }
+{
+    Arg::new(alloc, "slot")
+        .long("slot")
+        .value_name("S")
+        .value_parser(value_parser!(u32).range(0..=65535))
+        .help("one instruction alone, with the whole state before and behind it")
+}
+
+/// `explain` with its words for names.
+fn explain_places<'a>(alloc: Global) -> Result<Command<'a>, AllocError>
+    ensures app { IfOk result (λ c. app_of c ≡ explain_places) }
+    ensures local { IfOk result (λ c. has_globals c ≡ false) }
+{
+    Command::new(alloc, "explain")
+        .about("Tells in words what the checker sees, or why an input is refused")
+        .arg(place(alloc, "IN", "an image"))?
+        .arg(extra(alloc, "CERT", "a certificate"))
+}
+
+fn explain_command<'a>(alloc: Global) -> Result<Command<'a>, AllocError>
+    ensures app { IfOk result (λ c. app_of c ≡ explain) }
+    ensures local { IfOk result (λ c. has_globals c ≡ false) }
+{
+    explain_places(alloc)?
+        .arg(one_slot(alloc))?
+        .arg(inferred(alloc))?
+        .arg(most(alloc))?
+        .arg(flag(alloc, "text", "IN is a text of the assembly language"))?
+        .arg(flag(alloc, "dot", "the control-flow graph as DOT text"))?
+        .arg(big(alloc))
+}
+
 fn command<'a>(alloc: Global) -> Result<Command<'a>, AllocError>
     ensures { IfOk result (λ c. app_of c ≡ bpf) }
 {
@@ -285,11 +360,13 @@ fn command<'a>(alloc: Global) -> Result<Command<'a>, AllocError>
     let run_checked = run_checked_command(alloc)?;
     let infer = infer_command(alloc)?;
     let migrate = migrate_command(alloc)?;
+    let explain = explain_command(alloc)?;
     first_commands(alloc)?
         .subcommand(check)?
         .subcommand(run_checked)?
         .subcommand(infer)?
-        .subcommand(migrate)
+        .subcommand(migrate)?
+        .subcommand(explain)
 }
 
 /// The word of a required argument; the parse has made sure that it is there.
@@ -304,6 +381,13 @@ fn number(matches: &ArgMatches<'_>, id: &str, default: u32) -> u32
     ensures { IsCount default (one_of id.now (rows_of (found_of matches.now))) result }
 {
     matches.get_one::<u32>(id).unwrap_or(default)
+}
+
+/// The number of an argument, None where there is none.
+fn number_if(matches: &ArgMatches<'_>, id: &str) -> Option<u32>
+    ensures { IsNumber (one_of id.now (rows_of (found_of matches.now))) result }
+{
+    matches.get_one::<u32>(id)
 }
 
 fn has_flag(matches: &ArgMatches<'_>, id: &str) -> bool
@@ -348,6 +432,19 @@ fn contexts_of<'a>(matches: &ArgMatches<'a>) -> Contexts<'a>
     )
 }
 
+/// What is to be explained.
+fn subject_in<'a>(matches: &ArgMatches<'a>) -> Subject<'a>
+    ensures { IsSubject (rows_of (found_of matches.now)) result }
+{
+    let certificate = matches.get_str("CERT");
+    let least = number_if(matches, "infer");
+    let most = number_if(matches, "most");
+    let slot = number_if(matches, "slot");
+    let text = has_flag(matches, "text");
+    let dot = has_flag(matches, "dot");
+    subject_of(certificate, least, most, slot, text, dot)
+}
+
 /// What the words of the command with this name ask for.
 fn request_in<'a>(name: &str, matches: &ArgMatches<'a>) -> Request<'a>
     ensures { Asks name.now (rows_of (found_of matches.now)) result }
@@ -360,7 +457,12 @@ fn request_in<'a>(name: &str, matches: &ArgMatches<'a>) -> Request<'a>
             output: word(matches, "OUT"),
             order,
         },
-        "list" => Request::List { input, order },
+        "list" => Request::List {
+            input,
+            slots: has_flag(matches, "slots"),
+            bytes: has_flag(matches, "bytes"),
+            order,
+        },
         "run" => Request::Run {
             input,
             contexts: contexts_of(matches),
@@ -390,6 +492,11 @@ fn request_in<'a>(name: &str, matches: &ArgMatches<'a>) -> Request<'a>
                 order,
             }
         }
+        "explain" => Request::Explain {
+            input,
+            subject: subject_in(matches),
+            order,
+        },
         "migrate" => Request::Migrate {
             certificate: word(matches, "CERT"),
             output: word(matches, "OUT"),

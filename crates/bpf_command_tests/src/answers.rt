@@ -1,9 +1,11 @@
 //! What the command answers to words, on places in memory.
 
-use crate::rows::{Row, Seen, contexts, rows};
+use crate::rows::{Row, Seen, contexts, explained, rows};
 use crate::shelf::{Fault, Paper, Shelf};
-use bpf_command::{ContextError, context_of, respond};
+use bpf_command::{ContextError, Places, context_of, respond};
+use bpf_infer::Unwatched;
 use std::alloc::{AllocError, Global};
+use std::io::Write;
 use std::process::Abort;
 use std::test::Fail;
 
@@ -18,12 +20,23 @@ fn words_of(alloc: Global, line: &str) -> Result<Vec<String>, AllocError> {
     Ok(words)
 }
 
+/// What the command answers where nobody watches.
+fn answer<P: Places, W: Write, E: Write>(
+    alloc: Global,
+    words: &[String],
+    places: &mut P,
+    out: &mut W,
+    err: &mut E,
+) -> u8 {
+    respond(alloc, words, places, out, err, &mut Unwatched)
+}
+
 fn assert_row(rt: &(impl Abort + Alloc<A = Global>), row: &Seen) -> Result<(), Fail> {
     let words = words_of(rt.alloc(), row.words)?;
     let mut places = Shelf::new(rt.alloc(), b"");
     let mut out = Paper::new(rt.alloc(), Fault::Never);
     let mut err = Paper::new(rt.alloc(), Fault::Never);
-    let status = respond(rt.alloc(), &words, &mut places, &mut out, &mut err);
+    let status = answer(rt.alloc(), &words, &mut places, &mut out, &mut err);
     assert_eq!(rt; status, row.status, "{}", row.words);
     assert_eq!(rt; out.taken.as_slice(), row.out.as_bytes(), "{}", row.words);
     assert_eq!(rt; err.taken.as_slice(), row.err.as_bytes(), "{}", row.words);
@@ -54,6 +67,11 @@ fn contexts_in_files_are_answered_as_told(rt: HostRuntime) -> Result<(), Fail> {
 }
 
 #[test]
+fn programs_are_explained_as_told(rt: HostRuntime) -> Result<(), Fail> {
+    assert_rows(&rt, explained::rows())
+}
+
+#[test]
 fn words_are_refused(rt: HostRuntime) -> Result<(), Fail> {
     for line in [
         "groups",
@@ -70,6 +88,12 @@ fn words_are_refused(rt: HostRuntime) -> Result<(), Fail> {
         "infer smallest 0 o --most 4097",
         "infer smallest none o",
         "infer smallest 0 o --deep yes",
+        "list smallest --slots yes",
+        "explain",
+        "explain smallest smallest.cert more",
+        "explain smallest smallest.cert --slot 65536",
+        "explain smallest --infer 4097",
+        "explain smallest --infer ten",
         "run smallest --context --steps 9",
         "--help",
         "--version",
@@ -79,7 +103,7 @@ fn words_are_refused(rt: HostRuntime) -> Result<(), Fail> {
         let mut places = Shelf::new(rt.alloc(), b"");
         let mut out = Vec::new(rt.alloc());
         let mut err = Vec::new(rt.alloc());
-        let status = respond(rt.alloc(), &words, &mut places, &mut out, &mut err);
+        let status = answer(rt.alloc(), &words, &mut places, &mut out, &mut err);
         assert_eq!(rt; status, 2, "{line}");
         assert!(rt; out.is_empty(), "{line}");
         assert!(rt; !err.is_empty(), "{line}");
@@ -101,7 +125,7 @@ fn assert_output_fails(rt: &(impl Abort + Alloc<A = Global>), row: &Seen) -> Res
         let mut places = Shelf::new(rt.alloc(), b"");
         let mut out = Paper::new(rt.alloc(), fault);
         let mut err = Vec::new(rt.alloc());
-        let status = respond(rt.alloc(), &words, &mut places, &mut out, &mut err);
+        let status = answer(rt.alloc(), &words, &mut places, &mut out, &mut err);
         assert_eq!(rt; status, 3, "{}", row.words);
         let told = b"cannot write standard output\n".as_slice();
         assert_eq!(rt; err.as_slice(), told, "{}", row.words);
@@ -134,6 +158,17 @@ fn output_of_contexts_in_files_fails(rt: HostRuntime) -> Result<(), Fail> {
     Ok(())
 }
 
+#[test]
+fn output_of_explanations_fails(rt: HostRuntime) -> Result<(), Fail> {
+    for row in explained::rows() {
+        let row = row.seen();
+        if !row.out.is_empty() {
+            assert_output_fails(&rt, &row)?;
+        }
+    }
+    Ok(())
+}
+
 /// Where standard error fails as well, nothing is left to tell it but the status.
 #[test]
 fn standard_error_fails(rt: HostRuntime) -> Result<(), Fail> {
@@ -147,7 +182,7 @@ fn standard_error_fails(rt: HostRuntime) -> Result<(), Fail> {
             let mut places = Shelf::new(rt.alloc(), b"");
             let mut out = Vec::new(rt.alloc());
             let mut err = Paper::new(rt.alloc(), fault);
-            let got = respond(rt.alloc(), &words, &mut places, &mut out, &mut err);
+            let got = answer(rt.alloc(), &words, &mut places, &mut out, &mut err);
             assert_eq!(rt; got, status, "{line}");
             assert!(rt; out.is_empty(), "{line}");
             assert!(rt; err.taken.len() <= fault.most(), "{line}");
@@ -194,7 +229,7 @@ fn proposals_are_accepted(rt: HostRuntime) -> Result<(), Fail> {
         let mut out = Vec::new(rt.alloc());
         let mut err = Vec::new(rt.alloc());
         let words = words_of(rt.alloc(), proposal)?;
-        let status = respond(rt.alloc(), &words, &mut places, &mut out, &mut err);
+        let status = answer(rt.alloc(), &words, &mut places, &mut out, &mut err);
         assert_eq!(rt; status, 0, "{proposal}");
         assert!(rt; out.is_empty(), "{proposal}");
         let Some(text) = &places.put else {
@@ -202,7 +237,7 @@ fn proposals_are_accepted(rt: HostRuntime) -> Result<(), Fail> {
         };
         let mut places = Shelf::new(rt.alloc(), text.as_slice());
         let words = words_of(rt.alloc(), check)?;
-        let status = respond(rt.alloc(), &words, &mut places, &mut out, &mut err);
+        let status = answer(rt.alloc(), &words, &mut places, &mut out, &mut err);
         assert_eq!(rt; status, 0, "{proposal}");
         assert_eq!(rt; out.as_slice(), line.as_bytes(), "{proposal}");
     }

@@ -77,7 +77,7 @@ const LOW_BYTE_BIG: &[u8] = &[
     0,
 ];
 
-static CONTENTS: [Content; 75] = [
+static CONTENTS: [Content; 77] = [
     // `r1 += 287454020` in big-endian and in little-endian order.
     (
         "sum.big",
@@ -138,6 +138,15 @@ static CONTENTS: [Content; 75] = [
     ("first-byte", FIRST_BYTE, Never),
     ("fourth-byte", FOURTH_BYTE, Never),
     ("wide", WIDE, Never),
+    // `r1 = 0x123456789abcdef0 ll` and `exit`.
+    (
+        "two-wide",
+        &[
+            0x18, 1, 0, 0, 0xf0, 0xde, 0xbc, 0x9a, 0, 0, 0, 0, 0x78, 0x56, 0x34, 0x12, 0x95, 0, 0,
+            0, 0, 0, 0, 0,
+        ],
+        Never,
+    ),
     // `goto -1`; `call -1` and `exit`; `r0 = r3` and `exit`.
     ("endless", &[0x05, 0, 0xff, 0xff, 0, 0, 0, 0], Never),
     (
@@ -211,6 +220,11 @@ static CONTENTS: [Content; 75] = [
     ("smallest.txt", b"r0 = 0\nexit", Never),
     ("wide.txt", b"r1 = 0x123456789abcdef0 ll\n", Never),
     ("form.txt", b"r11 = 0\n", Never),
+    (
+        "commented.txt",
+        b"r0 = 0                          ; 0: b7 00 00 00 00 00 00 00\nexit                            ; 1: 95 00 00 00 00 00 00 00\n",
+        Never,
+    ),
     ("range.txt", b"r1 = 2147483648", Never),
     ("again.txt", b"exit\nx: exit\nx: exit", Never),
     ("undefined.txt", b"goto x", Never),

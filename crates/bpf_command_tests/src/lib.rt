@@ -6,6 +6,8 @@ mod answers;
 #[cfg(test)]
 mod contents;
 #[cfg(test)]
+mod progress;
+#[cfg(test)]
 mod rows;
 #[cfg(test)]
 mod shelf;

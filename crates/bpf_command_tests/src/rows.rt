@@ -1,6 +1,7 @@
 //! What the command answers: what the reference tells, worked out by hand.
 
 pub mod contexts;
+pub mod explained;
 
 use crate::contents::{SMALLEST, WIDE, WIDE_BIG};
 use crate::rows::Row::{Fails, Prints, Puts, Refuses, Stops};

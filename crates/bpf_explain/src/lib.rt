@@ -1,28 +1,10 @@
 //! What the checker sees, in words: the listing of a program with what is known at each instruction, and why an input is
-//! refused.
+//! refused. What is said to be accepted is.
 #![tactic(auto)]
 
-mod certificate;
-mod effects;
-mod flaws;
-mod form;
-mod image;
-mod inferred;
-mod known;
-mod listing;
-mod page;
-mod pass;
-mod places;
+mod inputs;
 mod program;
-mod report;
-mod sight;
-mod standing;
-mod text;
-mod whole;
-mod words;
 
-pub use certificate::explain_certificate;
-pub use image::explain_image;
-pub use inferred::explain_inferred;
-pub use program::{explain, explain_slot};
-pub use text::explain_text;
+pub use bpf_words::{dot_plain, explain_inferred, explain_slot, explain_text};
+pub use inputs::{explain_certificate, explain_image};
+pub use program::{dot, explain};

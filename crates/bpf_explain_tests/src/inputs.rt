@@ -89,7 +89,7 @@ fn images_have_their_words(rt: HostRuntime) -> Result<(), Fail> {
 /// A text, and what explains it.
 type Text = (&'static str, &'static str);
 
-static TEXTS: [Text; 9] = [
+static TEXTS: [Text; 11] = [
     (
         "r0 = 0\nr1 = r11\n",
         "A1 at line 2, column 6: `r11` can't stand here
@@ -117,6 +117,14 @@ forms that begin so: goto out, goto +3
         "A3 at line 2: the label `l` is defined at line 1, too\n",
     ),
     (
+        "a: b: r0 = 0\nc: b: a: exit\n",
+        "A3 at line 2: the label `b` is defined at line 1, too\n",
+    ),
+    (
+        "r0 = 0\nl: l: exit\n",
+        "A3 at line 2: a label is defined twice in the line\n",
+    ),
+    (
         "goto out\n",
         "A4 at line 1: the label `out` isn't defined\n",
     ),
@@ -131,12 +139,41 @@ forms that begin so: goto out, goto +3
     ("exit\n", "a program of 1 slot\n"),
 ];
 
+/// A jump over so many instructions.
+fn far(alloc: Global, lines: u32) -> Result<String, Fail> {
+    let mut text = String::new(alloc);
+    text.push_str("start: r0 = 0\n")?;
+    for _ in 0..lines {
+        text.push_str("r0 = 0\n")?;
+    }
+    text.push_str("goto start\n")?;
+    Ok(text)
+}
+
+fn text_told(alloc: Global, bytes: &[u8]) -> Result<String, Fail> {
+    let mut out = Vec::new(alloc);
+    let _is_program = explain_text(alloc, bytes, &mut out)?;
+    Ok(String::from_utf8(out)?)
+}
+
+#[test]
+fn texts_are_refused_by_distance_and_by_bytes(rt: HostRuntime) -> Result<(), Fail> {
+    let told = text_told(rt.alloc(), far(rt.alloc(), 32_767)?.as_bytes())?;
+    assert_eq!(rt;
+        told.as_str(),
+        "A5 at line 32769: the label `start` is more than 32767 slots away: `gotol` reaches it\n"
+    );
+    let told = text_told(rt.alloc(), far(rt.alloc(), 32_766)?.as_bytes())?;
+    assert_eq!(rt; told.as_str(), "a program of 32768 slots\n");
+    let told = text_told(rt.alloc(), b"exit\n\xff\n")?;
+    assert_eq!(rt; told.as_str(), "the bytes are no text: they aren't UTF-8\n");
+    Ok(())
+}
+
 #[test]
 fn texts_have_their_words(rt: HostRuntime) -> Result<(), Fail> {
     for (text, want) in TEXTS {
-        let mut out = Vec::new(rt.alloc());
-        let _is_program = explain_text(rt.alloc(), text.as_bytes(), &mut out)?;
-        let told = String::from_utf8(out)?;
+        let told = text_told(rt.alloc(), text.as_bytes())?;
         assert_eq!(rt; told.as_str(), want, "{text}");
     }
     Ok(())

@@ -2,6 +2,10 @@
 #![tactic(auto)]
 
 #[cfg(test)]
+mod filters;
+#[cfg(test)]
+mod graphs;
+#[cfg(test)]
 mod inferred;
 #[cfg(test)]
 mod inputs;
@@ -11,3 +15,5 @@ mod listings;
 mod reasons;
 #[cfg(test)]
 mod refusals;
+#[cfg(test)]
+mod writers;

@@ -16,7 +16,7 @@ const COUNTDOWN_CERTIFICATE: &str =
 /// What it shows, the program's text, the certificate's, and the whole text that explains it.
 type Whole = (&'static str, &'static str, &'static str, &'static str);
 
-static WHOLES: [Whole; 3] = [
+static WHOLES: [Whole; 4] = [
     (
         "the countdown loop",
         COUNTDOWN,
@@ -56,6 +56,33 @@ at 5: budget 2; r1 u5..5
     6  exit                                ; cost 2
        out; slack 0: budget at least 2, cost 2
 accepted: at most 7 steps on contexts of 8 bytes
+",
+    ),
+    (
+        "a nested loop",
+        "r6 = 3\nr6 += -1\nr7 = 4\nr7 += -1\nif r7 != 0 goto -2\nif r6 != 0 goto -5\nr0 = 0\nexit\n",
+        "bpfcert 1 0 36\nfn 0 1 *\nat 0 36\nat 1 2 +11*r6\nr6 u1..3\nat 3 3 +11*r6 +2*r7\nr6 u0..2\nr7 u1..4\nend\n",
+        "contexts of 0 bytes, at most 36 steps
+fn 0: depth 1, returns any number
+at 0: budget 36
+    0  r6 = 3                              ; cost 1; r6 becomes 3
+       to 1; slack 0: base 36, cost 1, base there 2, kept 0, taken 33
+at 1: budget 2 + 11*r6; r6 u1..3
+    1  r6 += -1                            ; cost 1; r6 becomes u0..2
+    2  r7 = 4                              ; cost 2; r7 becomes 4
+       to 3; slack 0: base 2, cost 2, base there 3, kept 11, taken 8
+at 3: budget 3 + 11*r6 + 2*r7; r6 u0..2; r7 u1..4
+    3  r7 += -1                            ; cost 1; r7 becomes u0..3
+    4  if r7 != 0 goto -2                  ; cost 2
+       to 3 if so; r7 is u1..3; slack 0: base 3, cost 2, base there 3, kept 2, taken 0
+       to 5 if not; r7 is 0
+    5  if r6 != 0 goto -5                  ; cost 3
+       to 1 if so; r6 is u1..2; slack 0: base 3, cost 3, base there 2, kept 2, taken 0
+       to 6 if not; r6 is 0
+    6  r0 = 0                              ; cost 4; r0 becomes 0
+    7  exit                                ; cost 5
+       out; slack 0: budget at least 5, cost 5
+accepted: at most 36 steps on contexts of 0 bytes
 ",
     ),
     (

@@ -4,4 +4,5 @@ pub mod CallLemmas
 pub mod MoveLemmas
 pub mod FlowLemmas
 pub mod PlaceLemmas
+pub mod StepLemmas
 pub mod RunLemmas

@@ -6,6 +6,7 @@ mod dispatch;
 mod machine;
 mod numbers;
 mod runs;
+mod seldom;
 mod step;
 
 pub use runs::run;

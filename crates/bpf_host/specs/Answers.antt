@@ -10,8 +10,8 @@ use Rattle.bpf_semantics.specs.Run.{IsDone}
 use Rattle.bpf_sound.specs.Describes.{LengthWithin}
 use Rattle.bpf_cert.specs.View.{CertificateView}
 use Rattle.bpf_cert.specs.Certificates.{Spells}
-use Rattle.bpf_infer.specs.RefusalNumbers.{IsRefusalIn}
-use Rattle.bpf_infer.specs.declared.error.InferError.{InferError}
+use Rattle.bpf_proposal.specs.RefusalNumbers.{IsRefusalIn}
+use Rattle.bpf_proposal.specs.declared.error.InferError.{InferError}
 use Rattle.bpf_check.specs.Verdicts.{Verified, IsRefusedBy, program_in}
 use Rattle.bpf_check.specs.declared.verifier.VerifyError.{VerifyError}
 use Rattle.bpf_machine.specs.Answers.{IsRun}

@@ -32,7 +32,7 @@ pub static REGISTERS: [Option<Reg>; 16] = [
     None,
 ];
 
-fn operand_of(source: Source, imm: i32, src: Reg) -> Operand
+pub fn operand_of(source: Source, imm: i32, src: Reg) -> Operand
     ensures { result ≡ operand_in source imm src }
 {
     match source {
@@ -41,19 +41,19 @@ fn operand_of(source: Source, imm: i32, src: Reg) -> Operand
     }
 }
 
-fn divide_of(offset: i16) -> AluOp
+pub fn divide_of(offset: i16) -> AluOp
     ensures { result ≡ divide_in offset }
 {
     if offset == 0 { AluOp::Div } else { AluOp::SDiv }
 }
 
-fn remainder_of(offset: i16) -> AluOp
+pub fn remainder_of(offset: i16) -> AluOp
     ensures { result ≡ remainder_in offset }
 {
     if offset == 0 { AluOp::Mod } else { AluOp::SMod }
 }
 
-fn move_of(width: Width, offset: i16, dst: Reg, src: Reg) -> Insn
+pub fn move_of(width: Width, offset: i16, dst: Reg, src: Reg) -> Insn
     ensures { result ≡ move_in width offset dst src }
 {
     let bits = match offset {
@@ -77,7 +77,7 @@ fn move_of(width: Width, offset: i16, dst: Reg, src: Reg) -> Insn
     }
 }
 
-fn end_bits_of(imm: i32) -> EndBits
+pub fn end_bits_of(imm: i32) -> EndBits
     ensures { result ≡ end_bits_in imm }
 {
     match imm {
@@ -87,7 +87,7 @@ fn end_bits_of(imm: i32) -> EndBits
     }
 }
 
-fn atomic_of(imm: i32) -> AtomicOp
+pub fn atomic_of(imm: i32) -> AtomicOp
     ensures { result ≡ atomic_in imm }
 {
     let (by, fetch) = match imm {

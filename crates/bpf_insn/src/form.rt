@@ -6,14 +6,14 @@ ghost use Rattle.bpf_insn.specs.code.Form.{reach_in, group_in};
 use crate::instruction::{AluOp, Cond, EndKind, Group, Size, Width};
 
 /// Where the second operand comes from: bit 3 of an opcode of arithmetic or of a jump.
-#[derive(Clone, Copy, Debug, PartialEq, Eq)]
+#[derive(Clone, Copy)]
 pub enum Source {
     Imm,
     Reg,
 }
 
 /// Which field tells how far an instruction leads, if it leads anywhere.
-#[derive(Clone, Copy, Debug, PartialEq, Eq)]
+#[derive(Clone, Copy)]
 pub enum Reach {
     Nowhere,
     ByOffset,
@@ -22,7 +22,7 @@ pub enum Reach {
 
 /// What an opcode says of its instruction; the fields say the rest. Of a division, a remainder and a move from a
 /// register, the offset field tells which.
-#[derive(Clone, Copy, Debug, PartialEq, Eq)]
+#[derive(Clone, Copy)]
 pub enum Form {
     Alu {
         op: AluOp,

@@ -2,3 +2,5 @@ pub mod StackLemmas
 pub mod FrameLemmas
 pub mod StepLemmas
 pub mod RunLemmas
+pub mod RegisterLemmas
+pub mod NextLemmas

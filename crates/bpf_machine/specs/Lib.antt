@@ -1,4 +1,5 @@
 pub mod PackedStack
+pub mod PackedRegisters
 pub mod Running
 pub mod Frames
 pub mod Places

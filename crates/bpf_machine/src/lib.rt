@@ -3,7 +3,9 @@
 
 mod bytes;
 mod machine;
+mod next;
 mod outcome;
+mod registers;
 mod runs;
 mod stack;
 mod step;

@@ -1,8 +1,10 @@
 //! The machine: a program, the context that it runs on, and its frames.
 
-ghost use Rattle.std.specs.Prelude.{◌≡◌, ◌<◌, ◌≤◌, ◌+◌, ◌%◌, ◌^◌, [], IsTrue, false, nat_le, pos, ◌+ℤ◌, IfSome, IfOk, IfErr, length, option_map, Some};
+ghost use Rattle.std.specs.Prelude.{◌≡◌, ◌<◌, ◌≤◌, ◌+◌, ◌%◌, ◌^◌, [], IsTrue, false, nat_le, pos, ◌+ℤ◌, IfSome, IfNone, IfOk, IfErr, length, option_map, is_some, Some, None};
 ghost use Rattle.bpf_insn.specs.Order.{bytes_of};
 ghost use Rattle.bpf_insn.specs.Instruction.{register_number, byte_count, insn_at, distance};
+ghost use Rattle.bpf_insn.specs.Op.{insn_of, op_at};
+ghost use Rattle.bpf_semantics.specs.declared.state.Value.TheVariants.{Number};
 ghost use Rattle.bpf_semantics.specs.State.{frame_bytes, max_frames, depth, start, register, with_register, at_slot, number_of_register};
 ghost use Rattle.bpf_semantics.specs.Memory.{inside, place_of, number_at, pointer_at, stack_of, with_stack, with_bytes, with_parts};
 ghost use Rattle.bpf_semantics.specs.Step.{operand, entered, left};
@@ -12,9 +14,10 @@ ghost use Rattle.bpf_machine.specs.Answers.{Leads};
 ghost use Rattle.bpf_machine.specs.Running.{running, moved_to};
 
 use crate::bytes::number_in;
+use crate::registers::{Kept, Registers};
 use crate::stack::Stacks;
 use arrayvec::ArrayVec;
-use bpf_insn::{Code, Insn, Operand, Order, Reg, Size, extended};
+use bpf_insn::{Code, Insn, Op, Operand, Order, Reg, Size, extended, ops_mean_insns};
 use bpf_semantics::{Reason, Region, Value};
 use std::marker::Model;
 
@@ -70,22 +73,14 @@ fn in_frame(count: usize, at: i64, off: i16) -> Option<usize>
 #[derive(Clone, Copy)]
 pub(crate) struct Caller {
     slot: u32,
-    r6: Option<Value>,
-    r7: Option<Value>,
-    r8: Option<Value>,
-    r9: Option<Value>,
-    r10: Option<Value>,
+    kept: Kept,
 }
 
 impl Default for Caller {
     fn default() -> Self {
         Caller {
             slot: 0,
-            r6: None,
-            r7: None,
-            r8: None,
-            r9: None,
-            r10: None,
+            kept: Kept::default(),
         }
     }
 }
@@ -96,7 +91,7 @@ pub struct Machine<'a, C: Code> {
     code: &'a C,
     context: &'a [u8],
     slot: u32,
-    registers: [Option<Value>; 11],
+    registers: Registers,
     callers: ArrayVec<Caller, 7>,
     stacks: Stacks,
 }
@@ -122,10 +117,10 @@ impl<'a, C: Code> Machine<'a, C> {
         ensures { result ≡ running (C.program code.now) (start context.now) }
     {
         let _ = code.slots();
-        let mut registers = [None; 11];
-        registers[1] = Some(Value::Pointer(Region::Context, 0));
-        registers[2] = Some(Value::Number(context.len() as u64));
-        registers[10] = Some(Value::Pointer(Region::Frame(0), 0));
+        let mut registers = Registers::new();
+        registers.set(Reg::R1, Value::Pointer(Region::Context, 0));
+        registers.set_number(Reg::R2, context.len() as u64);
+        registers.set(Reg::R10, Value::Pointer(Region::Frame(0), 0));
         Machine {
             code,
             context,
@@ -137,6 +132,7 @@ impl<'a, C: Code> Machine<'a, C> {
     }
 
     /// The slot of the next instruction.
+    #[inline(always)]
     pub(crate) fn slot(&self) -> u32
         ensures { result ≡ self.now.state.top.slot }
     {
@@ -144,21 +140,19 @@ impl<'a, C: Code> Machine<'a, C> {
     }
 
     /// The value of a register; None where it holds nothing.
+    #[inline(always)]
     pub(crate) fn register(&self, r: Reg) -> Option<Value>
         ensures { result ≡ register self.now.state r }
     {
-        self.registers[r as usize]
+        self.registers.value(r)
     }
 
     /// The number in a register; None where it holds nothing or a pointer.
+    #[inline(always)]
     pub(crate) fn number_of(&self, r: Reg) -> Option<u64>
         ensures { result ≡ number_of_register self.now.state r }
     {
-        match self.register(r) {
-            Some(Value::Number(number)) => Some(number),
-            Some(Value::Pointer(_, _)) => None,
-            None => None,
-        }
+        self.registers.number(r)
     }
 
     /// The second operand: a constant, sign-extended, or a register's value.
@@ -172,13 +166,39 @@ impl<'a, C: Code> Machine<'a, C> {
     }
 
     /// Writes a register.
+    #[inline(always)]
     pub(crate) fn set_register(&mut self, r: Reg, value: Value)
         ensures { self.new ≡ moved_to self.old (with_register self.old.state (register_number r) (Some value)) }
     {
-        self.registers[r as usize] = Some(value);
+        self.registers.set(r, value);
+    }
+
+    /// Writes a number to a register.
+    #[inline(always)]
+    pub(crate) fn set_number(&mut self, r: Reg, x: u64)
+        ensures { self.new ≡ moved_to self.old (with_register self.old.state (register_number r) (Some (Number x))) }
+    {
+        self.registers.set_number(r, x);
+    }
+
+    /// Whether a register holds a value.
+    #[inline(always)]
+    pub(crate) fn is_set(&self, r: Reg) -> bool
+        ensures { result ≡ is_some (register self.now.state r) }
+    {
+        self.registers.is_set(r)
+    }
+
+    /// Copies what a register holds to another.
+    #[inline(always)]
+    pub(crate) fn copy_register(&mut self, to: Reg, from: Reg)
+        ensures { self.new ≡ moved_to self.old (with_register self.old.state (register_number to) (register self.old.state from)) }
+    {
+        self.registers.copy(to, from);
     }
 
     /// Goes to another slot.
+    #[inline(always)]
     pub(crate) fn go_to(&mut self, slot: u32)
         ensures { self.new ≡ moved_to self.old (at_slot slot self.old.state) }
     {
@@ -186,10 +206,27 @@ impl<'a, C: Code> Machine<'a, C> {
     }
 
     /// The byte order of the program.
+    #[inline(always)]
     pub(crate) fn order(&self) -> Order
         ensures { result ≡ self.now.program.order }
     {
         self.code.order()
+    }
+
+    /// The form of the instruction at a slot; None past the last slot.
+    #[inline(always)]
+    pub(crate) fn op(&self, slot: u32) -> Option<Op>
+        ensures insn { IfSome result (λ op. insn_at self.now.program.list slot ≡ insn_of op (op_at self.now.program.list (slot + 1))) }
+        ensures here { IfSome result (λ op. slot < 65536) }
+        ensures led { IfSome result (λ op. IfSome (insn_at self.now.program.list slot) (λ i. IfSome (distance i) (λ off. Leads slot off))) }
+        ensures none { IfNone result (insn_at self.now.program.list slot ≡ None) }
+    {
+        ops_mean_insns();
+        if slot < self.code.slots() {
+            Some(self.code.op(slot))
+        } else {
+            None
+        }
     }
 
     /// The instruction at the slot; None past the last one.
@@ -202,6 +239,7 @@ impl<'a, C: Code> Machine<'a, C> {
     }
 
     /// Where the bytes at an offset from a pointer lie, if they lie inside the context or a live frame.
+    #[inline(always)]
     pub(crate) fn place(&self, size: Size, off: i16, base: Value) -> Option<Place>
         ensures place { option_map place_is result ≡ place_of self.now.state (byte_count size) off base }
         ensures inside { IfSome result (IsInside self.now.state (byte_count size)) }
@@ -228,6 +266,7 @@ impl<'a, C: Code> Machine<'a, C> {
     }
 
     /// The number in the bytes at a place; else why the first that can't be read can't.
+    #[inline(always)]
     pub(crate) fn number_at(&self, size: Size, place: Place) -> Result<u64, Reason>
         requires { IsInside self.now.state (byte_count size) place }
         ensures ok { IfOk result (λ x. number_at self.now.program.order self.now.state (byte_count size) (place_is place) ≡ Some x) }
@@ -241,6 +280,7 @@ impl<'a, C: Code> Machine<'a, C> {
     }
 
     /// The pointer that the slot at a place holds, if it is a slot and holds one.
+    #[inline(always)]
     pub(crate) fn pointer_at(&self, place: Place) -> Option<Value>
         requires { IsInside self.now.state 8 place }
         ensures { result ≡ pointer_at self.now.state (place_is place) }
@@ -252,6 +292,7 @@ impl<'a, C: Code> Machine<'a, C> {
     }
 
     /// Writes the lowest bytes of a number to a live stack.
+    #[inline(always)]
     pub(crate) fn store_number(&mut self, size: Size, depth: usize, at: usize, x: u64)
         requires { IsInside self.old.state (byte_count size) (Place.Frame depth at) }
         ensures { self.new ≡ moved_to self.old (with_stack self.old.state depth (with_bytes (bytes_of self.old.program.order (byte_count size) x) at (stack_of self.old.state depth))) }
@@ -261,6 +302,7 @@ impl<'a, C: Code> Machine<'a, C> {
     }
 
     /// Makes a slot of a live stack a pointer's.
+    #[inline(always)]
     pub(crate) fn store_pointer(&mut self, depth: usize, at: usize, region: Region, off: i64)
         requires inside { IsInside self.old.state 8 (Place.Frame depth at) }
         requires slot { at % 8 ≡ 0 }
@@ -270,15 +312,17 @@ impl<'a, C: Code> Machine<'a, C> {
     }
 
     /// Goes on behind an instruction of one slot, with a register written.
+    #[inline(always)]
     pub(crate) fn put(&mut self, r: Reg, value: Value)
         requires { self.old.state.top.slot < 65536 }
         ensures { self.new ≡ moved_to self.old (with_register (at_slot (self.old.state.top.slot + 1) self.old.state) (register_number r) (Some value)) }
     {
-        self.registers[r as usize] = Some(value);
+        self.registers.set(r, value);
         self.slot += 1;
     }
 
     /// Goes on behind an instruction of one slot.
+    #[inline(always)]
     pub(crate) fn advance(&mut self)
         requires { self.old.state.top.slot < 65536 }
         ensures { self.new ≡ moved_to self.old (at_slot (self.old.state.top.slot + 1) self.old.state) }
@@ -294,6 +338,7 @@ impl<'a, C: Code> Machine<'a, C> {
     }
 
     /// Calls the instruction at a slot: r1 to r5 stay, and the frame is new. There is room for a frame.
+    #[inline(always)]
     pub(crate) fn enter(&mut self, slot: u32)
         requires room { depth self.old.state + 1 < max_frames }
         requires here { self.old.state.top.slot < 65536 }
@@ -301,31 +346,16 @@ impl<'a, C: Code> Machine<'a, C> {
     {
         self.callers.push(Caller {
             slot: self.slot + 1,
-            r6: self.registers[6],
-            r7: self.registers[7],
-            r8: self.registers[8],
-            r9: self.registers[9],
-            r10: self.registers[10],
+            kept: self.registers.kept(),
         });
         let depth = self.callers.len();
         self.stacks.clear(depth);
-        self.registers = [
-            None,
-            self.registers[1],
-            self.registers[2],
-            self.registers[3],
-            self.registers[4],
-            self.registers[5],
-            None,
-            None,
-            None,
-            None,
-            Some(Value::Pointer(Region::Frame(depth as u8), 0)),
-        ];
+        self.registers.enter(depth as u8);
         self.slot = slot;
     }
 
     /// Returns to the caller with a number in r0; false in the outermost frame, and nothing changes.
+    #[inline(always)]
     pub(crate) fn leave(&mut self, value: u64) -> bool
         ensures left { IsTrue result → (self.new.program ≡ self.old.program) × (left self.old.state.waiting value self.old.state.context ≡ Some self.new.state) }
         ensures outermost { result ≡ false → (self.new ≡ self.old) × (self.old.state.waiting ≡ []) }
@@ -333,19 +363,7 @@ impl<'a, C: Code> Machine<'a, C> {
         match self.callers.pop() {
             None => false,
             Some(caller) => {
-                self.registers = [
-                    Some(Value::Number(value)),
-                    None,
-                    None,
-                    None,
-                    None,
-                    None,
-                    caller.r6,
-                    caller.r7,
-                    caller.r8,
-                    caller.r9,
-                    caller.r10,
-                ];
+                self.registers.leave(value, caller.kept);
                 self.slot = caller.slot;
                 true
             }

@@ -66,6 +66,7 @@ impl Stack {
     }
 
     /// The byte of a number at an address; else why it can't be read.
+    #[inline(always)]
     fn byte(&self, at: usize) -> Result<u8, Reason>
         requires { at < 512 }
         ensures ok { IfOk result (λ b. cell self.now at ≡ Some (Byte b)) }
@@ -83,6 +84,7 @@ impl Stack {
     }
 
     /// The bytes of a number at an address, at the front of eight; else why the first that can't be read can't.
+    #[inline(always)]
     fn bytes(&self, at: usize, count: usize) -> Result<[u8; 8], Reason>
         requires inside { at + count ≤ 512 }
         requires few { count ≤ 8 }
@@ -101,6 +103,7 @@ impl Stack {
     }
 
     /// The number in the bytes at an address; else why the first that can't be read can't.
+    #[inline(always)]
     pub(crate) fn number(&self, order: Order, at: usize, size: Size) -> Result<u64, Reason>
         requires { at + byte_count size ≤ 512 }
         ensures ok { IfOk result (λ x. option_map (number_of order (byte_count size)) (bytes_in (take (byte_count size) (drop at self.now))) ≡ Some x) }
@@ -117,6 +120,7 @@ impl Stack {
     }
 
     /// The whole word at an address, if the access is of a slot whose eight bytes hold a number.
+    #[inline(always)]
     fn word(&self, at: usize, size: Size) -> Option<u64>
         requires { at + byte_count size ≤ 512 }
         ensures { IfSome result (λ word. (byte_count size ≡ 8) × (bytes_in (take 8 (drop at self.now)) ≡ Some (bytes_low_first 0 8 word))) }
@@ -128,6 +132,7 @@ impl Stack {
     }
 
     /// The pointer that the slot at an address holds, if it is a slot and holds one.
+    #[inline(always)]
     pub(crate) fn pointer(&self, at: usize) -> Option<Value>
         requires { at < 512 }
         ensures { result ≡ (if at % 8 == 0 then pointer_in (cell self.now at) else None) }
@@ -142,6 +147,7 @@ impl Stack {
     }
 
     /// Writes a byte of a number. A pointer that the slot held is gone.
+    #[inline(always)]
     fn store_byte(&mut self, at: usize, byte: u8)
         requires { at < 512 }
         ensures { self.new ≡ with_bytes (byte ∷ []) at self.old }
@@ -156,6 +162,7 @@ impl Stack {
     }
 
     /// Writes the lowest bytes of a number. Pointers that the slots held are gone.
+    #[inline(always)]
     fn store_bytes(&mut self, order: Order, at: usize, count: usize, x: u64)
         requires some { 0 < count }
         requires few { count ≤ 8 }
@@ -170,6 +177,7 @@ impl Stack {
     }
 
     /// Writes a number of eight bytes to a slot. A pointer that it held is gone.
+    #[inline(always)]
     fn store_word(&mut self, slot: usize, word: u64)
         requires { slot < 64 }
         ensures { self.new ≡ with_bytes (bytes_low_first 0 8 word) (8 * slot) self.old }
@@ -180,6 +188,7 @@ impl Stack {
     }
 
     /// Writes the lowest bytes of a number at an address. Pointers that the slots held are gone.
+    #[inline(always)]
     pub(crate) fn store_number(&mut self, order: Order, at: usize, size: Size, x: u64)
         requires { at + byte_count size ≤ 512 }
         ensures { self.new ≡ with_bytes (bytes_of order (byte_count size) x) at self.old }
@@ -191,6 +200,7 @@ impl Stack {
     }
 
     /// Makes the slot at an address a pointer's.
+    #[inline(always)]
     pub(crate) fn store_pointer(&mut self, at: usize, region: Region, off: i64)
         requires inside { at + 8 ≤ 512 }
         requires slot { at % 8 ≡ 0 }
@@ -250,6 +260,7 @@ impl Stacks {
     }
 
     /// The number in the bytes at an address; else why the first that can't be read can't.
+    #[inline(always)]
     pub(crate) fn number(
         &self,
         depth: usize,
@@ -267,6 +278,7 @@ impl Stacks {
     }
 
     /// The pointer that the slot at an address holds, if it is a slot and holds one.
+    #[inline(always)]
     pub(crate) fn pointer(&self, depth: usize, at: usize) -> Option<Value>
         requires live { depth < 8 }
         requires inside { at < 512 }
@@ -276,6 +288,7 @@ impl Stacks {
     }
 
     /// Writes the lowest bytes of a number at an address.
+    #[inline(always)]
     pub(crate) fn store_number(&mut self, depth: usize, order: Order, at: usize, size: Size, x: u64)
         requires live { depth < 8 }
         requires inside { at + byte_count size ≤ 512 }
@@ -285,6 +298,7 @@ impl Stacks {
     }
 
     /// Makes the slot at an address a pointer's.
+    #[inline(always)]
     pub(crate) fn store_pointer(&mut self, depth: usize, at: usize, region: Region, off: i64)
         requires live { depth < 8 }
         requires inside { at + 8 ≤ 512 }

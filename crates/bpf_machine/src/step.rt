@@ -3,7 +3,7 @@
 pub(crate) mod alu;
 mod atomic;
 mod call;
-mod jump;
+pub(crate) mod jump;
 mod memory;
 
 ghost use Rattle.std.specs.Prelude.{◌<◌, IfSome};

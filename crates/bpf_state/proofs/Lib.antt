@@ -7,3 +7,6 @@ pub mod AluLemmas
 pub mod MemoryLemmas
 pub mod LaneLemmas
 pub mod CoverLemmas
+pub mod EntryLemmas
+pub mod EntryEntailment
+pub mod MixLemmas

@@ -1,5 +1,5 @@
 -- What every state keeps.
-use Rattle.std.proofs.Common.{◌≡◌, sym, subst, pos, List, [], ◌∷◌, replicate, refl, arith}
+use Rattle.std.proofs.Common.{◌≡◌, sym, subst, pos, List, [], ◌∷◌, length, replicate, Option, refl, arith}
 use Rattle.std.specs.Prelude.{All}
 use Rattle.bpf_state.specs.declared.state.RegState.{RegState}
 use Rattle.std.proofs.lemmas.Int.{ints}
@@ -7,6 +7,7 @@ use Rattle.std.proofs.lemmas.List.Elements.{All-nil, All-cons, All-replicate, Al
 use Rattle.bpf_state.specs.declared.state.RegState.TheVariants.{Any, Frame}
 use Rattle.bpf_state.specs.declared.state.SlotState.{SlotState}
 use Rattle.bpf_state.specs.declared.state.SlotState.TheVariants.{Bytes}
+use Rattle.bpf_state.specs.declared.state.Tag.{Tag}
 use Rattle.bpf_state.specs.State.{IsState, IsRegister, IsSlot, blank}
 
 pub blank_is_state : IsState blank
@@ -23,6 +24,20 @@ blank_is_state =
 -- nothing is known of the slots
 pub unknown_is_state : (slots : List SlotState) → slots ≡ replicate 64 (Bytes 0) → IsState (record blank { slots = slots })
 unknown_is_state slots e = subst (λ l. IsState (record blank { slots = l })) (sym e) blank_is_state
+
+-- nor of the registers, whatever the tags are
+pub untouched_tags : (slots : List SlotState) (register_tags slot_tags : List (Option Tag)) → slots ≡ replicate 64 (Bytes 0) → length register_tags ≡ 11 → length slot_tags ≡ 64
+    → IsState (record blank { slots = slots; register_tags = register_tags; slot_tags = slot_tags })
+untouched_tags slots register_tags slot_tags e few many =
+    let is = unknown_is_state slots e in
+    record {
+      register_count = is.register_count;
+      slot_count = is.slot_count;
+      register_tag_count = few;
+      slot_tag_count = many;
+      registers = is.registers;
+      slots = is.slots;
+    }
 
 -- a callee's registers, of which five are the caller's
 abbrev pub callee_registers : RegState → RegState → RegState → RegState → RegState → List RegState

@@ -1,4 +1,5 @@
 pub mod State
+pub mod Bare
 pub mod code
 pub mod Covers
 pub mod Access

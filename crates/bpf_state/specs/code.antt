@@ -2,3 +2,4 @@
 pub mod Masked
 pub mod Parts
 pub mod Results
+pub mod Entries

@@ -164,6 +164,17 @@ impl State {
         self.slot_tags.copy_from_slice(&other.slot_tags);
     }
 
+    /// Forgets all but that r10 points to the frame's end.
+    pub(crate) fn clear(&mut self)
+        ensures { self.new ≡ blank }
+    {
+        let mut all = [RegState::Any; 11];
+        all[10] = RegState::Frame { lo: 0, hi: 0 };
+        self.registers = all;
+        self.slots.clear();
+        self.clear_tags();
+    }
+
     /// Forgets all counters.
     pub fn clear_tags(&mut self)
         ensures { self.new ≡ without_tags self.old }

@@ -41,7 +41,7 @@ impl RegState {
 
 impl SlotState {
     /// Whether it lies in the other.
-    fn entails(self, other: SlotState) -> bool
+    pub(crate) fn entails(self, other: SlotState) -> bool
         ensures { result ≡ slot_entails self other }
     {
         match other {

@@ -1,6 +1,29 @@
 //! What is known of a register, of a slot, and of a counter that either holds.
+ghost use Rattle.std.specs.Prelude.{◌≡◌, ◌≤◌};
+ghost use Rattle.bpf_insn.specs.Instruction.{register_number};
+
 use bpf_insn::Reg;
 use bpf_num::Num;
+
+/// The register with a number from 0 to 10.
+pub fn numbered(number: u8) -> Reg
+    requires { number ≤ 10 }
+    ensures { register_number result ≡ number }
+{
+    match number {
+        0 => Reg::R0,
+        1 => Reg::R1,
+        2 => Reg::R2,
+        3 => Reg::R3,
+        4 => Reg::R4,
+        5 => Reg::R5,
+        6 => Reg::R6,
+        7 => Reg::R7,
+        8 => Reg::R8,
+        9 => Reg::R9,
+        _ => Reg::R10,
+    }
+}
 
 /// What is known of a register. The bounds of a pointer are its offset's, both ends in it, the lower one first.
 #[derive(Clone, Copy, Debug)]

@@ -1,6 +1,7 @@
 //! Counted work.
 
 use crate::abstract_state::State;
+use crate::entries::Entries;
 use crate::fault::StateFault;
 use crate::state::RegState;
 use crate::transfers::transfer;
@@ -80,12 +81,12 @@ impl Work {
         answer
     }
 
-    /// Whether a state lies in another, as `entails` answers it. Counts one comparison.
-    pub fn entails_counted(&mut self, a: &State, b: &State) -> bool
+    /// Whether a state lies in that of entries, as `entails_entries` answers it. Counts one comparison.
+    pub fn entails_counted(&mut self, a: &State, b: &Entries) -> bool
         ensures answer { result ≡ state_entails a.now b.now }
         ensures counts { self.new ≡ with_comparison self.old }
     {
-        let answer = a.entails(b);
+        let answer = a.entails_entries(b);
         self.count_comparison();
         answer
     }

@@ -1,9 +1,10 @@
 -- No line of a listing is long, and so no listing is too long for a text.
-use Rattle.std.proofs.Common.{◌≡◌, ℕ, zero, suc, ◌+◌, ◌*◌, ◌/◌, ◌%◌, ◌≤◌, Bool, true, false, cond, eqb, List, [], ◌∷◌, ◌++◌, length, length-append, refl, arith}
-use Rattle.std.specs.Prelude.{ℤ, pos, negsuc, codes, decimal, flat_map}
+use Rattle.std.proofs.Common.{ℕ, zero, suc, ◌+◌, ◌*◌, ◌/◌, ◌%◌, ◌≤◌, Bool, true, false, cond, eqb, List, [], ◌∷◌, length, length-append, arith}
+use Rattle.std.specs.Prelude.{ℤ, pos, negsuc, codes, decimal}
+use Rattle.std.specs.List.{concat}
 use Rattle.std.specs.Fmt.{digits, digits_onto, digit_glyph}
 use Rattle.bpf_insn.specs.Instruction.{layout, slots, slots_of}
-use Rattle.bpf_insn.specs.Image.{IsProgram, max_slots}
+use Rattle.bpf_insn.specs.Image.{IsProgram}
 use Rattle.bpf_insn.specs.Instruction.{word_size}
 use Rattle.bpf_insn.specs.declared.instruction.Reg.{Reg}
 use Rattle.bpf_insn.specs.declared.instruction.Reg.TheVariants.{R0, R1, R2, R3, R4, R5, R6, R7, R8, R9, R10}
@@ -44,7 +45,7 @@ onto_short (suc k) base n ds = go (eqb (n / base) 0) (onto_short k base (n / bas
     go false h = omega arith
 
 -- a number has at most 64 digits
-digits_short : (base n : ℕ) → length (digits base false n) ≤ 64
+pub digits_short : (base n : ℕ) → length (digits base false n) ≤ 64
 unfolding digits
 digits_short base n = let short : length (digits_onto 64 base false n []) ≤ 64 + 0 = onto_short 64 base n [] in omega arith
 
@@ -165,7 +166,7 @@ operand_short width (FromReg r) = omega (arith, register_short width r)
 
 -- ---- lines
 
-line_short : (i : Insn) → length (line_text i) ≤ 256
+pub line_short : (i : Insn) → length (line_text i) ≤ 256
 line_short (Alu op width dst src) = simp length-append (omega (arith, register_short width dst, operation_short op, operand_short width src))
 line_short (Neg width dst) = simp length-append (omega (arith, register_short width dst))
 line_short (MovSx width bits dst src) = simp length-append (omega (arith, register_short width dst, bits_short bits, register_short width src))
@@ -181,6 +182,24 @@ line_short (JaLong off) = simp length-append (omega (arith, distance_short off))
 line_short (JumpIf test width dst src off) = simp length-append (omega (arith, register_short width dst, cond_short test, operand_short width src, distance_short off))
 line_short (CallLocal off) = simp length-append (omega (arith, distance_short off))
 line_short Exit = omega arith
+
+-- the same without the line end, which leaves room for a comment
+pub text_short : (i : Insn) → length (concat (pieces i)) ≤ 162
+text_short (Alu op width dst src) = simp length-append (omega (arith, register_short width dst, operation_short op, operand_short width src))
+text_short (Neg width dst) = simp length-append (omega (arith, register_short width dst))
+text_short (MovSx width bits dst src) = simp length-append (omega (arith, register_short width dst, bits_short bits, register_short width src))
+text_short (End kind bits dst) = simp length-append (omega (arith, register_short W64 dst, swap_short kind bits))
+text_short (LoadImm64 dst value) = simp length-append (omega (arith, register_short W64 dst, hex_short value))
+text_short (Load size dst src off) = simp length-append (omega (arith, register_short W64 dst, unsigned_short size, register_short W64 src, offset_short off))
+text_short (LoadSx size dst src off) = simp length-append (omega (arith, register_short W64 dst, signed_short size, register_short W64 src, offset_short off))
+text_short (Store size dst off src) = simp length-append (omega (arith, register_short W64 dst, unsigned_short size, register_short W64 src, offset_short off))
+text_short (StoreImm size dst off imm) = simp length-append (omega (arith, register_short W64 dst, unsigned_short size, number_short imm, offset_short off))
+text_short (Atomic wide op dst off src) = simp length-append (omega (arith, word_short op, unsigned_short (word_size wide), register_short W64 dst, offset_short off, mark_short op, register_short W64 src))
+text_short (Ja off) = simp length-append (omega (arith, distance_short off))
+text_short (JaLong off) = simp length-append (omega (arith, distance_short off))
+text_short (JumpIf test width dst src off) = simp length-append (omega (arith, register_short width dst, cond_short test, operand_short width src, distance_short off))
+text_short (CallLocal off) = simp length-append (omega (arith, distance_short off))
+text_short Exit = omega arith
 
 -- ---- the listing
 

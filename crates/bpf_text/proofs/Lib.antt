@@ -1,13 +1,16 @@
 pub mod WriteLemmas
+pub mod PutLemmas
 pub mod DigitLemmas
 pub mod ListingLemmas
 pub mod NumberLemmas
 pub mod LineLemmas
 pub mod SourceLemmas
 pub mod AssemblerLemmas
+pub mod ChainLemmas
 pub mod LawLemmas
 pub mod WordLemmas
 pub mod LookupLemmas
+pub mod FrontLemmas
 pub mod PartLemmas
 pub mod StatementLemmas
 pub mod AccessLemmas
@@ -19,5 +22,7 @@ pub mod FormsRead
 pub mod FormsAreRead
 pub mod LinesRead
 pub mod LengthLemmas
+pub mod AnnotatedLemmas
+pub mod AnnotatedReadLemmas
 pub mod TextsRead
 pub mod JudgedLemmas

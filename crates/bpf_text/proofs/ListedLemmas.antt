@@ -42,7 +42,7 @@ use Rattle.bpf_text.proofs.AccessLemmas.{IsShort, short_16, short_32}
 abbrev pub is_inside : ℕ → Bool
 is_inside c = not ((c == 10) || (c == 58) || (c == 59))
 
-apart : (a b c : Bool) → not (a || b || c) ≡ true → (a ≡ false) × (b ≡ false) × (c ≡ false)
+pub apart : (a b c : Bool) → not (a || b || c) ≡ true → (a ≡ false) × (b ≡ false) × (c ≡ false)
 apart true b c e = cc
 apart false true c e = cc
 apart false false true e = cc

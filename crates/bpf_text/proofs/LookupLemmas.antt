@@ -22,7 +22,7 @@ use Rattle.bpf_text.specs.Lookup.{first_named, by_word, may_begin, width_named, 
 abbrev behind_read : List ℕ → Option (List ℕ × List ℕ) → Option (List ℕ)
 behind_read w o = option_and_then (λ found. if bytes_eq found.0 w then Some found.1 else None) o
 
-abbrev name_read : {A : Type 0} → (List ℕ → Option A) → Option (List ℕ × List ℕ) → Read A
+abbrev pub name_read : {A : Type 0} → (List ℕ → Option A) → Option (List ℕ × List ℕ) → Read A
 name_read find o = option_and_then (λ w. option_map (λ x. (x, w.1)) (find w.0)) o
 
 one_more : {A : Type 0} (spelling : A → List ℕ) (x : A) (xs : List A) (o : Option (List ℕ × List ℕ))

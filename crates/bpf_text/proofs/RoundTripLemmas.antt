@@ -100,7 +100,7 @@ extends : (width : Width) (bits : SignBits) (dst src : Reg) → IsExtension widt
 extends width bits dst src is = assigns width dst _ (MovSx width bits dst src) (assigned_by Mov width dst _ ∙ extended width bits dst src is)
 
 -- each instruction's line says it
-line_says : (i : Insn) → HasEncoding i → Says (concat (pieces i)) i
+pub line_says : (i : Insn) → HasEncoding i → Says (concat (pieces i)) i
 line_says (Alu op width dst src) fits = assigns width dst _ (Alu op width dst src) (assigned_by op width dst (operand_text width src ++ []) ∙ calculated op width dst src fits)
 line_says (Neg width dst) fits = assigns width dst _ (Neg width dst) (assigned_by Mov width dst (45 ∷ (register_text width dst ++ [])) ∙ negated width dst)
 line_says (MovSx W32 S8 dst src) fits = extends W32 S8 dst src tt
@@ -154,7 +154,7 @@ source_lines (i ∷ is) line slot fits =
     ap (source_from line slot) cut
     ∙ rw (no_comment (concat (pieces i)) (line_inside i fits.0), line_is i fits.0, no_label (concat (pieces i)) (line_inside i fits.0), ih) refl
 
-linked_back : (is : List Insn) (line slot : ℕ) → linked (slot_of []) (said_from line slot is) ≡ Ok is
+pub linked_back : (is : List Insn) (line slot : ℕ) → linked (slot_of []) (said_from line slot is) ≡ Ok is
 linked_back [] line slot = refl
 linked_back (i ∷ is) line slot = rw (linked_back is (line + 1) (slot + slot_count i)) refl
 

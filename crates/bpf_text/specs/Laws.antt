@@ -5,7 +5,10 @@ use Rattle.bpf_text.specs.declared.error.TextError.{TextError}
 use Rattle.bpf_insn.specs.Image.{IsProgram}
 use Rattle.bpf_text.specs.Sources.{Source, TextSays}
 use Rattle.bpf_text.specs.Assembly.{Assembles, IsRefused}
+use Rattle.bpf_insn.specs.declared.order.Order.{Order}
 use Rattle.bpf_text.specs.Listing.{listing}
+use Rattle.bpf_text.specs.Annotated.{annotated}
+use Rattle.bpf_text.specs.declared.annotated.Notes.{Notes}
 use Rattle.bpf_text.specs.Statements.{Statement}
 use Rattle.bpf_text.specs.code.StatementReading.{whole_statement}
 use Rattle.bpf_text.specs.code.LineReading.{source_of}
@@ -42,3 +45,7 @@ AssemblesOrIsRefused = (text : List ℕ) → ((is : List Insn) × Assembles text
 -- a program's listing assembles to the program again
 abbrev pub ListingAssembles : Type 0
 ListingAssembles = (is : List Insn) → IsProgram is → Assembles (listing is) is
+
+-- and so does the listing with comments
+abbrev pub AnnotatedAssembles : Type 0
+AnnotatedAssembles = (notes : Notes) (order : Order) (is : List Insn) → IsProgram is → Assembles (annotated notes order is) is

@@ -9,5 +9,6 @@ pub mod Statements
 pub mod Grammar
 pub mod Sources
 pub mod Assembly
+pub mod Annotated
 pub mod Lookup
 pub mod Laws

@@ -5,35 +5,14 @@ ghost use Rattle.bpf_text.specs.declared.error.TextError.TheVariants.{DefinedAga
 ghost use Rattle.bpf_text.specs.code.Seen.{label_seen};
 ghost use Rattle.bpf_text.specs.code.SourceSeen.{said_seen, source_seen};
 ghost use Rattle.bpf_text.specs.code.Slots.{slots_in};
-ghost use Rattle.bpf_text.specs.Assembly.{slot_of, redefined, jump_over, jump_from, insn_of, linked, instructions_of, line_at, program_error, Assembles, IsRefused};
+ghost use Rattle.bpf_text.specs.Assembly.{jump_over, jump_from, insn_of, linked, instructions_of, line_at, program_error, Assembles, IsRefused};
 
 use crate::error::TextError;
-use crate::line::Label;
+use crate::names::{Names, slots_by_name};
 use crate::source::{Said, Source, source_of};
 use crate::statement::{Jump, Statement, fits_32};
 use bpf_insn::{BuildError, Insn, Order, Program};
 use std::alloc::Global;
-use std::collections::BTreeMap;
-
-/// The slots of the labels by name, or the line of the first label whose name stands above.
-fn slots_by_name<'a>(
-    alloc: Global,
-    labels: &[Label<'a>],
-) -> Result<BTreeMap<&'a [u8], usize>, TextError>
-    ensures slots { IfOk result (λ m. (name : List ℕ) → slots_in m name ≡ slot_of (map label_seen labels.now) name) }
-    ensures unique { OnOk result (redefined [] (map label_seen labels.now) ≡ None) }
-    ensures err { IfErr result (λ e. (e ≡ Memory) ⊎ (option_map DefinedAgain (redefined [] (map label_seen labels.now)) ≡ Some e)) }
-{
-    let mut slots = BTreeMap::new(alloc);
-    for label in labels {
-        match slots.insert(label.name, label.slot) {
-            Ok(None) => {}
-            Ok(Some(_)) => return Err(TextError::DefinedAgain { line: label.line }),
-            Err(_) => return Err(TextError::Memory),
-        }
-    }
-    Ok(slots)
-}
 
 fn jump_over(jump: Jump, distance: i128) -> Option<Insn>
     ensures { result ≡ jump_over jump distance }
@@ -48,12 +27,6 @@ fn jump_over(jump: Jump, distance: i128) -> Option<Insn>
         Jump::Goto => jump.by(distance),
         Jump::If(_, _, _, _) => jump.by(distance),
     }
-}
-
-fn slot_named(slots: &BTreeMap<&[u8], usize>, name: &[u8]) -> Option<usize>
-    ensures { result ≡ slots_in slots.now name.now }
-{
-    slots.get(name).copied()
 }
 
 /// How many slots it is from the next instruction to the target.
@@ -76,23 +49,19 @@ fn jump_from(line: usize, slot: usize, jump: Jump, target: Option<usize>) -> Res
     }
 }
 
-fn insn_of(slots: &BTreeMap<&[u8], usize>, said: &Said) -> Result<Insn, TextError>
+fn insn_of(slots: &Names, said: &Said) -> Result<Insn, TextError>
     ensures { result ≡ insn_of (slots_in slots.now) (said_seen said.now) }
 {
     match said.statement {
         Statement::Plain(insn) => Ok(insn),
         Statement::ToLabel(jump, name) => {
-            let target = slot_named(slots, name);
+            let target = slots.slot(name);
             jump_from(said.line, said.slot, jump, target)
         }
     }
 }
 
-fn linked(
-    alloc: Global,
-    slots: &BTreeMap<&[u8], usize>,
-    said: &[Said],
-) -> Result<Vec<Insn>, TextError>
+fn linked(alloc: Global, slots: &Names, said: &[Said]) -> Result<Vec<Insn>, TextError>
     ensures ok { IfOk result (λ v. linked (slots_in slots.now) (map said_seen said.now) ≡ Ok v.items) }
     ensures err { IfErr result (λ e. (e ≡ Memory) ⊎ (linked (slots_in slots.now) (map said_seen said.now) ≡ Err e)) }
 {
@@ -159,7 +128,7 @@ pub const MAX_TEXT: usize = 16_777_216;
 
 /// Assembles a text to a program of a byte order. The refusals come in this order: A8, the lowest line with A1, A2 or A3
 /// (in this order in one line), the lowest line with A4 or A5, A6; A7 where memory ran out. The time is linear in the
-/// text, but for the search of labels.
+/// text, or with many labels whose names have one hash in the text times the logarithm of their number.
 pub fn assemble(alloc: Global, text: &str, order: Order) -> Result<Program, TextError>
     ensures ok { IfOk result (λ p. Assembles text.now p.list × (p.order ≡ order)) }
     ensures err { IfErr result (λ e. (e ≡ Memory) ⊎ IsRefused text.now e) }

@@ -21,7 +21,7 @@ impl Digits {
     }
 }
 
-fn glyph(digit: u64) -> u8
+pub fn glyph(digit: u64) -> u8
     requires { digit < 16 }
     ensures { result ≡ digit_glyph false digit }
 {
@@ -33,6 +33,7 @@ fn glyph(digit: u64) -> u8
 }
 
 /// The digits of a number, with lower-case letters in base 16.
+#[inline(always)]
 pub fn digits_of(value: u64, base: u64) -> Digits
     requires { (base ≡ 10) ⊎ (base ≡ 16) }
     ensures { drop result.first result.bytes ≡ digits base false value }

@@ -1,6 +1,6 @@
 //! Laws above the definitions, each the contract of a function that does nothing.
 
-ghost use Rattle.bpf_text.specs.Laws.{AssemblesOrIsRefused, AssemblesToOne, ListingAssembles, NeverBoth, ReadsForms, ReadsText, RefusedOnce};
+ghost use Rattle.bpf_text.specs.Laws.{AnnotatedAssembles, AssemblesOrIsRefused, AssemblesToOne, ListingAssembles, NeverBoth, ReadsForms, ReadsText, RefusedOnce};
 
 /// What stands behind the labels of a line is read as an instruction exactly if it is the spelling of a form, and says
 /// what the form says.
@@ -36,4 +36,9 @@ pub fn assembles_or_is_refused()
 /// A program's listing assembles to the program again: `assemble` answers it, unless memory runs out.
 pub fn listing_assembles()
     ensures { ListingAssembles }
+{}
+
+/// The listing with comments assembles to the program as well, whatever its comments tell and in either byte order.
+pub fn annotated_assembles()
+    ensures { AnnotatedAssembles }
 {}

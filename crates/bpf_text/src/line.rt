@@ -1,6 +1,6 @@
 //! The lines of a text and their parts.
 
-ghost use Rattle.std.specs.Prelude.{◌≡◌, ℕ, ◌+◌, ◌<◌, option_map, OnOk, map, ◌++◌, length, Ok, Some};
+ghost use Rattle.std.specs.Prelude.{◌≡◌, ℕ, ◌+◌, ◌<◌, ◌≤◌, option_map, OnOk, map, ◌++◌, length, Ok, Some};
 ghost use Rattle.bpf_text.specs.code.WordReading.{skip_blanks};
 ghost use Rattle.bpf_text.specs.Sources.{before};
 ghost use Rattle.bpf_text.specs.code.LineReading.{behind_it, label_in, labels_in, last_part, parts_of, labels_at, said_in, line_in};
@@ -11,7 +11,7 @@ use crate::token::{skip_blanks, word};
 use std::alloc::AllocError;
 
 /// The text in front of the first such byte, and what stands behind it, if it is there.
-pub fn cut(text: &[u8], mark: u8) -> (&[u8], Option<&[u8]>)
+fn cut(text: &[u8], mark: u8) -> (&[u8], Option<&[u8]>)
     ensures front { result.0.now ≡ before mark text.now }
     ensures rest { option_map (λ x. x.now) result.1 ≡ behind_it mark text.now }
     ensures sizes { length result.0.now + size_left (option_map (λ x. x.now) result.1) ≡ length text.now }
@@ -26,6 +26,30 @@ pub fn cut(text: &[u8], mark: u8) -> (&[u8], Option<&[u8]>)
         None
     };
     (&text[..count], rest)
+}
+
+/// The text in front of the first comment or line end, and the rest from there on.
+fn split_code(text: &[u8]) -> (&[u8], &[u8])
+    ensures front { result.0.now ≡ before 59 (before 10 text.now) }
+    ensures rest { behind_it 10 result.1.now ≡ behind_it 10 text.now }
+    ensures sizes { length result.0.now + length result.1.now ≡ length text.now }
+{
+    let mut count = 0;
+    'code: while count < text.len() && text[count] != b'\n' && text[count] != b';' {
+        count += 1;
+    }
+    text.split_at(count)
+}
+
+/// The first line without its comment, and what stands behind its end, if that is there.
+pub fn cut_line(text: &[u8]) -> (&[u8], Option<&[u8]>)
+    ensures front { result.0.now ≡ before 59 (before 10 text.now) }
+    ensures rest { option_map (λ x. x.now) result.1 ≡ behind_it 10 text.now }
+    ensures sizes { length result.0.now + size_left (option_map (λ x. x.now) result.1) ≤ length text.now }
+{
+    let (code, rest) = split_code(text);
+    let (_, more) = cut(rest, b'\n');
+    (code, more)
 }
 
 /// The name of a label, with nothing but blanks about it.

@@ -1,50 +1,20 @@
 //! The lister.
 
-ghost use Rattle.std.specs.Prelude.{◌≡◌, ◌⊎◌, ◌++◌, OnOk, OnErr, flat_map, false};
+ghost use Rattle.std.specs.Prelude.{◌≡◌, ◌++◌, OnOk, OnErr, codes};
 ghost use Rattle.std.specs.Io.KnownBytes.{Appends};
-ghost use Rattle.std.specs.Fmt.{digits};
+ghost use Rattle.bpf_insn.specs.Instruction.{word_size};
 ghost use Rattle.bpf_insn.specs.Written.{AppendsBeginning, Gathers};
-ghost use Rattle.bpf_text.specs.Listing.{with_sign, line_text, listing, atomic_word, atomic_sign};
-ghost use Rattle.bpf_text.specs.code.Pieces.{piece_text};
+ghost use Rattle.bpf_text.specs.Listing.{line_text, listing, atomic_word, atomic_sign, distance_text};
+ghost use Rattle.bpf_text.specs.code.Puts.{Puts};
 
-use crate::digits::digits_of;
-use crate::spelling::{Memory, Register, Spelled, Swap};
-use bpf_insn::written::Pending;
+use crate::listed_line::ListedLine;
+use crate::spelling::{Memory, Swap};
+use bpf_insn::written::{Pending, write_bytes};
 use bpf_insn::{
     AluOp, AtomicOp, Cond, EndBits, EndKind, Insn, Modify, Operand, Program, Reg, SignBits, Size,
     Width,
 };
 use std::io::{self, Write};
-
-/// A piece of a line.
-#[derive(Clone, Copy)]
-pub enum Piece {
-    Text(&'static str),
-    Register(Width, Reg),
-    Operand(Width, Operand),
-    Operation(AluOp),
-    Condition(Cond),
-    SignBits(SignBits),
-    Swap(EndKind, EndBits),
-    /// `u8` to `u64`
-    Unsigned(Size),
-    /// `s8` to `s64`
-    Signed(Size),
-    /// What stands in front of the place in memory that an atomic operation changes, as `fetch `.
-    AtomicWord(AtomicOp),
-    /// What stands behind it, as `) += `.
-    AtomicSign(AtomicOp),
-    /// `5` or `-5`
-    Number(i32),
-    /// `+ 8` or `- 8`
-    Offset(i16),
-    /// `+3` or `-1`
-    Distance(i16),
-    /// the same with 32 bits
-    LongDistance(i32),
-    /// `0x5`
-    Hex(u64),
-}
 
 fn atomic_word(op: AtomicOp) -> &'static str
     ensures { result.now ≡ atomic_word op }
@@ -78,123 +48,183 @@ fn atomic_sign(op: AtomicOp) -> &'static str
     }
 }
 
-/// Puts a text and the digits of a number.
-#[tactic(auto, using(crate::proofs::WriteLemmas::gathers))]
-fn put_number<W: Write>(
-    pending: &mut Pending,
-    out: &mut W,
-    front: &str,
-    value: u64,
-    base: u64,
-) -> io::Result<()>
-    requires { (base ≡ 10) ⊎ (base ≡ 16) }
-    ensures ok { OnOk result (Gathers (W.contents out.old) (W.contents out.new) pending.old pending.new (front.now ++ digits base false value)) }
-    ensures err { OnErr result (AppendsBeginning (W.contents out.old) (W.contents out.new) (pending.old ++ (front.now ++ digits base false value))) }
+fn put_atomic_word(line: &mut ListedLine, op: AtomicOp)
+    ensures { Puts line.old (atomic_word op) line.new }
 {
-    match pending.put(out, front.as_bytes()) {
-        Ok(()) => pending.put(out, digits_of(value, base).as_bytes()),
-        Err(error) => Err(error),
-    }
+    line.put_text(atomic_word(op));
 }
 
-/// Puts a number in decimal, with one text in front from 0 on and another below.
-fn put_signed<W: Write>(
-    pending: &mut Pending,
-    out: &mut W,
-    plus: &str,
-    minus: &str,
-    value: i32,
-) -> io::Result<()>
-    ensures ok { OnOk result (Gathers (W.contents out.old) (W.contents out.new) pending.old pending.new (with_sign plus.now minus.now value)) }
-    ensures err { OnErr result (AppendsBeginning (W.contents out.old) (W.contents out.new) (pending.old ++ (with_sign plus.now minus.now value))) }
+fn put_atomic_sign(line: &mut ListedLine, op: AtomicOp)
+    ensures { Puts line.old (atomic_sign op) line.new }
 {
-    let front = if value < 0 { minus } else { plus };
-    put_number(pending, out, front, u64::from(value.unsigned_abs()), 10)
+    line.put_text(atomic_sign(op));
 }
 
-fn put_text<W: Write>(pending: &mut Pending, out: &mut W, text: &str) -> io::Result<()>
-    ensures ok { OnOk result (Gathers (W.contents out.old) (W.contents out.new) pending.old pending.new text.now) }
-    ensures err { OnErr result (AppendsBeginning (W.contents out.old) (W.contents out.new) (pending.old ++ text.now)) }
+/// The numbers that an atomic operation works on.
+fn word_size(wide: bool) -> Size
+    ensures { result ≡ word_size wide }
 {
-    pending.put(out, text.as_bytes())
+    if wide { Size::DW } else { Size::W }
 }
 
-fn put_piece<W: Write>(pending: &mut Pending, out: &mut W, piece: &Piece) -> io::Result<()>
-    ensures ok { OnOk result (Gathers (W.contents out.old) (W.contents out.new) pending.old pending.new (piece_text piece.now)) }
-    ensures err { OnErr result (AppendsBeginning (W.contents out.old) (W.contents out.new) (pending.old ++ (piece_text piece.now))) }
+/// `r1 += r2`
+fn put_alu(line: &mut ListedLine, op: AluOp, width: Width, dst: Reg, src: Operand)
+    ensures { Puts line.old (line_text (Insn.Alu op width dst src)) line.new }
 {
-    match *piece {
-        Piece::Text(text) => put_text(pending, out, text),
-        Piece::Register(width, reg) => put_text(pending, out, Register(width, reg).text()),
-        Piece::Operand(width, Operand::Reg(reg)) => put_text(
-            pending,
-            out,
-            Register(width, reg).text(),
-        ),
-        Piece::Operand(_, Operand::Imm(imm)) => put_signed(pending, out, "", "-", imm),
-        Piece::Operation(op) => put_text(pending, out, op.text()),
-        Piece::Condition(cond) => put_text(pending, out, cond.text()),
-        Piece::SignBits(bits) => put_text(pending, out, bits.text()),
-        Piece::Swap(kind, bits) => put_text(pending, out, Swap(kind, bits).text()),
-        Piece::Unsigned(size) => put_text(pending, out, Memory::Unsigned(size).text()),
-        Piece::Signed(size) => put_text(pending, out, Memory::Signed(size).text()),
-        Piece::AtomicWord(op) => put_text(pending, out, atomic_word(op)),
-        Piece::AtomicSign(op) => put_text(pending, out, atomic_sign(op)),
-        Piece::Number(number) => put_signed(pending, out, "", "-", number),
-        Piece::Offset(off) => put_signed(pending, out, "+ ", "- ", i32::from(off)),
-        Piece::Distance(off) => put_signed(pending, out, "+", "-", i32::from(off)),
-        Piece::LongDistance(off) => put_signed(pending, out, "+", "-", off),
-        Piece::Hex(value) => put_number(pending, out, "0x", value, 16),
-    }
+    line.register(width, dst);
+    line.put_text(" ");
+    line.spelled(op);
+    line.put_text(" ");
+    line.operand(width, src);
+    line.put_text("\n");
 }
 
-fn put_pieces<W: Write>(pending: &mut Pending, out: &mut W, pieces: &[Piece]) -> io::Result<()>
-    ensures ok { OnOk result (Gathers (W.contents out.old) (W.contents out.new) pending.old pending.new (flat_map piece_text pieces.now)) }
-    ensures err { OnErr result (AppendsBeginning (W.contents out.old) (W.contents out.new) (pending.old ++ (flat_map piece_text pieces.now))) }
+/// `r1 = -r1`
+fn put_neg(line: &mut ListedLine, width: Width, dst: Reg)
+    ensures { Puts line.old (line_text (Insn.Neg width dst)) line.new }
 {
-    for piece in pieces {
-        match put_piece(pending, out, piece) {
-            Ok(()) => {}
-            Err(error) => return Err(error),
-        }
-    }
-    Ok(())
+    line.register(width, dst);
+    line.put_text(" = -");
+    line.register(width, dst);
+    line.put_text("\n");
 }
 
-/// Puts the line of a conditional jump.
-fn put_branch<W: Write>(
-    pending: &mut Pending,
-    out: &mut W,
-    cond: Cond,
-    width: Width,
-    dst: Reg,
-    src: Operand,
-    off: i16,
-) -> io::Result<()>
-    ensures ok { OnOk result (Gathers (W.contents out.old) (W.contents out.new) pending.old pending.new (line_text (Insn.JumpIf cond width dst src off))) }
-    ensures err { OnErr result (AppendsBeginning (W.contents out.old) (W.contents out.new) (pending.old ++ (line_text (Insn.JumpIf cond width dst src off)))) }
+/// `r1 = (s8)r2`
+fn put_extension(line: &mut ListedLine, width: Width, bits: SignBits, dst: Reg, src: Reg)
+    ensures { Puts line.old (line_text (Insn.MovSx width bits dst src)) line.new }
 {
-    put_pieces(
-        pending,
-        out,
-        &[
-            Piece::Text("if "),
-            Piece::Register(width, dst),
-            Piece::Text(" "),
-            Piece::Condition(cond),
-            Piece::Text(" "),
-            Piece::Operand(width, src),
-            Piece::Text(" goto "),
-            Piece::Distance(off),
-            Piece::Text("\n"),
-        ],
-    )
+    line.register(width, dst);
+    line.put_text(" = (");
+    line.spelled(bits);
+    line.put_text(")");
+    line.register(width, src);
+    line.put_text("\n");
+}
+
+/// `r1 = le16 r1`
+fn put_swap(line: &mut ListedLine, kind: EndKind, bits: EndBits, dst: Reg)
+    ensures { Puts line.old (line_text (Insn.End kind bits dst)) line.new }
+{
+    line.register(Width::W64, dst);
+    line.put_text(" = ");
+    line.spelled(Swap(kind, bits));
+    line.put_text(" ");
+    line.register(Width::W64, dst);
+    line.put_text("\n");
+}
+
+/// `r1 = 0x5 ll`
+fn put_constant(line: &mut ListedLine, dst: Reg, value: u64)
+    ensures { Puts line.old (line_text (Insn.LoadImm64 dst value)) line.new }
+{
+    line.register(Width::W64, dst);
+    line.put_text(" = ");
+    line.hex(value);
+    line.put_text(" ll\n");
+}
+
+/// `r0 = *(u8 *)(r1 + 0)`
+fn put_load(line: &mut ListedLine, size: Size, dst: Reg, src: Reg, off: i16)
+    ensures { Puts line.old (line_text (Insn.Load size dst src off)) line.new }
+{
+    line.register(Width::W64, dst);
+    line.put_text(" = *(");
+    line.spelled(Memory::Unsigned(size));
+    line.put_text(" *)(");
+    line.register(Width::W64, src);
+    line.put_text(" ");
+    line.offset(off);
+    line.put_text(")\n");
+}
+
+/// `r0 = *(s8 *)(r1 + 0)`
+fn put_signed_load(line: &mut ListedLine, size: Size, dst: Reg, src: Reg, off: i16)
+    ensures { Puts line.old (line_text (Insn.LoadSx size dst src off)) line.new }
+{
+    line.register(Width::W64, dst);
+    line.put_text(" = *(");
+    line.spelled(Memory::Signed(size));
+    line.put_text(" *)(");
+    line.register(Width::W64, src);
+    line.put_text(" ");
+    line.offset(off);
+    line.put_text(")\n");
+}
+
+/// `*(u8 *)(r1 + 0) = r2`
+fn put_store(line: &mut ListedLine, size: Size, dst: Reg, off: i16, src: Reg)
+    ensures { Puts line.old (line_text (Insn.Store size dst off src)) line.new }
+{
+    line.put_text("*(");
+    line.spelled(Memory::Unsigned(size));
+    line.put_text(" *)(");
+    line.register(Width::W64, dst);
+    line.put_text(" ");
+    line.offset(off);
+    line.put_text(") = ");
+    line.register(Width::W64, src);
+    line.put_text("\n");
+}
+
+/// `*(u8 *)(r1 + 0) = 5`
+fn put_constant_store(line: &mut ListedLine, size: Size, dst: Reg, off: i16, imm: i32)
+    ensures { Puts line.old (line_text (Insn.StoreImm size dst off imm)) line.new }
+{
+    line.put_text("*(");
+    line.spelled(Memory::Unsigned(size));
+    line.put_text(" *)(");
+    line.register(Width::W64, dst);
+    line.put_text(" ");
+    line.offset(off);
+    line.put_text(") = ");
+    line.number(imm);
+    line.put_text("\n");
+}
+
+/// `lock fetch *(u64 *)(r1 + 0) += r2`
+fn put_atomic(line: &mut ListedLine, wide: bool, op: AtomicOp, dst: Reg, off: i16, src: Reg)
+    ensures { Puts line.old (line_text (Insn.Atomic wide op dst off src)) line.new }
+{
+    line.put_text("lock ");
+    put_atomic_word(line, op);
+    line.put_text("*(");
+    line.spelled(Memory::Unsigned(word_size(wide)));
+    line.put_text(" *)(");
+    line.register(Width::W64, dst);
+    line.put_text(" ");
+    line.offset(off);
+    put_atomic_sign(line, op);
+    line.register(Width::W64, src);
+    line.put_text("\n");
+}
+
+/// `if r1 == 5 goto +3`
+fn put_branch(line: &mut ListedLine, cond: Cond, width: Width, dst: Reg, src: Operand, off: i16)
+    ensures { Puts line.old (line_text (Insn.JumpIf cond width dst src off)) line.new }
+{
+    line.put_text("if ");
+    line.register(width, dst);
+    line.put_text(" ");
+    line.spelled(cond);
+    line.put_text(" ");
+    line.operand(width, src);
+    line.put_text(" goto ");
+    line.near_distance(off);
+    line.put_text("\n");
+}
+
+/// `goto +3`, `gotol +3` and `call +3`, by the word in front
+fn put_jump(line: &mut ListedLine, word: &str, off: i32)
+    ensures { Puts line.old (word.now ++ (distance_text off ++ codes "\n")) line.new }
+{
+    line.put_text(word);
+    line.distance(off);
+    line.put_text("\n");
 }
 
 /// Puts the line of an instruction.
-fn put_line<W: Write>(pending: &mut Pending, out: &mut W, insn: &Insn) -> io::Result<()>
-    ensures ok { OnOk result (Gathers (W.contents out.old) (W.contents out.new) pending.old pending.new (line_text insn.now)) }
-    ensures err { OnErr result (AppendsBeginning (W.contents out.old) (W.contents out.new) (pending.old ++ (line_text insn.now))) }
+fn put_insn(line: &mut ListedLine, insn: &Insn)
+    ensures { Puts line.old (line_text insn.now) line.new }
 {
     match *insn {
         Insn::Alu {
@@ -202,204 +232,81 @@ fn put_line<W: Write>(pending: &mut Pending, out: &mut W, insn: &Insn) -> io::Re
             width,
             dst,
             src,
-        } => put_pieces(
-            pending,
-            out,
-            &[
-                Piece::Register(width, dst),
-                Piece::Text(" "),
-                Piece::Operation(op),
-                Piece::Text(" "),
-                Piece::Operand(width, src),
-                Piece::Text("\n"),
-            ],
-        ),
-        Insn::Neg { width, dst } => put_pieces(
-            pending,
-            out,
-            &[
-                Piece::Register(width, dst),
-                Piece::Text(" = -"),
-                Piece::Register(width, dst),
-                Piece::Text("\n"),
-            ],
-        ),
+        } => put_alu(line, op, width, dst, src),
+        Insn::Neg { width, dst } => put_neg(line, width, dst),
         Insn::MovSx {
             width,
             bits,
             dst,
             src,
-        } => put_pieces(
-            pending,
-            out,
-            &[
-                Piece::Register(width, dst),
-                Piece::Text(" = ("),
-                Piece::SignBits(bits),
-                Piece::Text(")"),
-                Piece::Register(width, src),
-                Piece::Text("\n"),
-            ],
-        ),
-        Insn::End { kind, bits, dst } => put_pieces(
-            pending,
-            out,
-            &[
-                Piece::Register(Width::W64, dst),
-                Piece::Text(" = "),
-                Piece::Swap(kind, bits),
-                Piece::Text(" "),
-                Piece::Register(Width::W64, dst),
-                Piece::Text("\n"),
-            ],
-        ),
-        Insn::LoadImm64 { dst, value } => put_pieces(
-            pending,
-            out,
-            &[
-                Piece::Register(Width::W64, dst),
-                Piece::Text(" = "),
-                Piece::Hex(value),
-                Piece::Text(" ll\n"),
-            ],
-        ),
+        } => put_extension(line, width, bits, dst, src),
+        Insn::End { kind, bits, dst } => put_swap(line, kind, bits, dst),
+        Insn::LoadImm64 { dst, value } => put_constant(line, dst, value),
         Insn::Load {
             size,
             dst,
             src,
             off,
-        } => put_pieces(
-            pending,
-            out,
-            &[
-                Piece::Register(Width::W64, dst),
-                Piece::Text(" = *("),
-                Piece::Unsigned(size),
-                Piece::Text(" *)("),
-                Piece::Register(Width::W64, src),
-                Piece::Text(" "),
-                Piece::Offset(off),
-                Piece::Text(")\n"),
-            ],
-        ),
+        } => put_load(line, size, dst, src, off),
         Insn::LoadSx {
             size,
             dst,
             src,
             off,
-        } => put_pieces(
-            pending,
-            out,
-            &[
-                Piece::Register(Width::W64, dst),
-                Piece::Text(" = *("),
-                Piece::Signed(size),
-                Piece::Text(" *)("),
-                Piece::Register(Width::W64, src),
-                Piece::Text(" "),
-                Piece::Offset(off),
-                Piece::Text(")\n"),
-            ],
-        ),
+        } => put_signed_load(line, size, dst, src, off),
         Insn::Store {
             size,
             dst,
             off,
             src,
-        } => put_pieces(
-            pending,
-            out,
-            &[
-                Piece::Text("*("),
-                Piece::Unsigned(size),
-                Piece::Text(" *)("),
-                Piece::Register(Width::W64, dst),
-                Piece::Text(" "),
-                Piece::Offset(off),
-                Piece::Text(") = "),
-                Piece::Register(Width::W64, src),
-                Piece::Text("\n"),
-            ],
-        ),
+        } => put_store(line, size, dst, off, src),
         Insn::StoreImm {
             size,
             dst,
             off,
             imm,
-        } => put_pieces(
-            pending,
-            out,
-            &[
-                Piece::Text("*("),
-                Piece::Unsigned(size),
-                Piece::Text(" *)("),
-                Piece::Register(Width::W64, dst),
-                Piece::Text(" "),
-                Piece::Offset(off),
-                Piece::Text(") = "),
-                Piece::Number(imm),
-                Piece::Text("\n"),
-            ],
-        ),
+        } => put_constant_store(line, size, dst, off, imm),
         Insn::Atomic {
             wide,
             op,
             dst,
             off,
             src,
-        } => put_pieces(
-            pending,
-            out,
-            &[
-                Piece::Text("lock "),
-                Piece::AtomicWord(op),
-                Piece::Text("*("),
-                Piece::Unsigned(if wide { Size::DW } else { Size::W }),
-                Piece::Text(" *)("),
-                Piece::Register(Width::W64, dst),
-                Piece::Text(" "),
-                Piece::Offset(off),
-                Piece::AtomicSign(op),
-                Piece::Register(Width::W64, src),
-                Piece::Text("\n"),
-            ],
-        ),
-        Insn::Ja { off } => put_pieces(
-            pending,
-            out,
-            &[
-                Piece::Text("goto "),
-                Piece::Distance(off),
-                Piece::Text("\n"),
-            ],
-        ),
-        Insn::JaLong { off } => put_pieces(
-            pending,
-            out,
-            &[
-                Piece::Text("gotol "),
-                Piece::LongDistance(off),
-                Piece::Text("\n"),
-            ],
-        ),
+        } => put_atomic(line, wide, op, dst, off, src),
+        Insn::Ja { off } => put_jump(line, "goto ", i32::from(off)),
+        Insn::JaLong { off } => put_jump(line, "gotol ", off),
         Insn::JumpIf {
             cond,
             width,
             dst,
             src,
             off,
-        } => put_branch(pending, out, cond, width, dst, src, off),
-        Insn::CallLocal { off } => put_pieces(
-            pending,
-            out,
-            &[
-                Piece::Text("call "),
-                Piece::LongDistance(off),
-                Piece::Text("\n"),
-            ],
-        ),
-        Insn::Exit => put_pieces(pending, out, &[Piece::Text("exit\n")]),
+        } => put_branch(line, cond, width, dst, src, off),
+        Insn::CallLocal { off } => put_jump(line, "call ", off),
+        Insn::Exit => line.put_text("exit\n"),
     }
+}
+
+/// Makes a line that of an instruction.
+fn make_line(line: &mut ListedLine, insn: &Insn)
+    ensures { line.new ≡ line_text insn.now }
+{
+    line.clear();
+    put_insn(line, insn);
+}
+
+/// Puts the line of an instruction behind what waits.
+fn put_line<W: Write>(
+    line: &mut ListedLine,
+    pending: &mut Pending,
+    out: &mut W,
+    insn: &Insn,
+) -> io::Result<()>
+    ensures ok { OnOk result (Gathers (W.contents out.old) (W.contents out.new) pending.old pending.new (line_text insn.now)) }
+    ensures err { OnErr result (AppendsBeginning (W.contents out.old) (W.contents out.new) (pending.old ++ (line_text insn.now))) }
+{
+    make_line(line, insn);
+    pending.put(out, line.as_bytes())
 }
 
 /// Writes the line of an instruction, in the one spelling of the language. A fault of the writer, or a write of no bytes, ends
@@ -408,9 +315,9 @@ pub fn write_line<W: Write>(out: &mut W, insn: &Insn) -> io::Result<()>
     ensures ok { OnOk result (Appends (W.contents out.old) (W.contents out.new) (line_text insn.now)) }
     ensures err { OnErr result (AppendsBeginning (W.contents out.old) (W.contents out.new) (line_text insn.now)) }
 {
-    let mut line = Pending::new();
-    put_line(&mut line, out, insn)?;
-    line.flush(out)
+    let mut line = ListedLine::new();
+    make_line(&mut line, insn);
+    write_bytes(out, line.as_bytes())
 }
 
 /// Writes the listing of a program: a line for each instruction, in the one spelling of the language, in pieces of 4,096
@@ -420,10 +327,11 @@ pub fn list<W: Write>(program: &Program, out: &mut W) -> io::Result<()>
     ensures ok { OnOk result (Appends (W.contents out.old) (W.contents out.new) (listing program.now.list)) }
     ensures err { OnErr result (AppendsBeginning (W.contents out.old) (W.contents out.new) (listing program.now.list)) }
 {
+    let mut line = ListedLine::new();
     let mut pending = Pending::new();
     for slot in 0..program.slots() {
         if let Some(insn) = program.at(slot) {
-            put_line(&mut pending, out, insn)?;
+            put_line(&mut line, &mut pending, out, insn)?;
         }
     }
     pending.flush(out)

@@ -78,7 +78,7 @@ fn number_named(digits: &[u8]) -> Option<Reg>
     }
 }
 
-fn register_named(word: &[u8]) -> Option<Register>
+pub fn register_named(word: &[u8]) -> Option<Register>
     ensures { result ≡ register_named word.now }
 {
     let [letter, digits @ ..] = word else {
@@ -120,8 +120,8 @@ pub fn memory(text: &[u8]) -> Option<(Memory, &[u8])>
     by_word(&MEMORIES, text)
 }
 
-pub fn keyword_in_front(text: &[u8]) -> Option<(Keyword, &[u8])>
-    ensures { option_map (λ x. (x.0, x.1.now)) result ≡ first_spelled keyword_text keywords text.now }
+pub fn keyword_named(word: &[u8]) -> Option<Keyword>
+    ensures { result ≡ first_named keyword_text keywords word.now }
 {
-    by_word(&KEYWORDS, text)
+    first_named(&KEYWORDS, word)
 }

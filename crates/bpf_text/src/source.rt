@@ -7,7 +7,7 @@ ghost use Rattle.bpf_text.specs.code.SourceSeen.{source_seen};
 ghost use Rattle.bpf_text.specs.Statements.{seen};
 
 use crate::error::TextError;
-use crate::line::{Label, LineFault, cut, push_labels, statement_in};
+use crate::line::{Label, LineFault, cut_line, push_labels, statement_in};
 use crate::statement::Statement;
 use std::alloc::{AllocError, Global};
 
@@ -46,8 +46,7 @@ pub fn source_of(alloc: Global, text: &[u8]) -> Result<Source<'_>, AllocError>
     let mut line = 1;
     let mut slot = 0;
     'lines: while let Some(text) = rest {
-        let (whole, more) = cut(text, b'\n');
-        let (code, _) = cut(whole, b';');
+        let (code, more) = cut_line(text);
         let statement = match statement_in(code) {
             Ok(statement) => statement,
             Err(LineFault::NoForm) => {

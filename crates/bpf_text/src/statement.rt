@@ -7,7 +7,7 @@ ghost use Rattle.bpf_text.specs.code.StatementReading.{same_width, any_register_
 ghost use Rattle.bpf_text.specs.Statements.{is_extension, load_of, store_of, jump_by};
 ghost use Rattle.bpf_text.specs.Characters.{is_name};
 
-use crate::lookup::{any_register, extension_bits, keyword_in_front, memory, swap};
+use crate::lookup::{any_register, extension_bits, keyword_named, memory, register_named, swap};
 use crate::spelling::{
     CONDITIONS, Keyword, MODIFICATIONS, Memory, OPERATIONS, Register, Spelled, Swap,
 };
@@ -526,18 +526,20 @@ fn keyword(word: Keyword, text: &[u8]) -> Read<'_, Statement<'_>>
     }
 }
 
-/// The statement in front of a text.
-#[tactic(auto, unfolding(crate::specs::code::StatementReading::statement_in))]
+/// The statement in front of a text, told by its first word.
 fn front(text: &[u8]) -> Read<'_, Statement<'_>>
     ensures { option_map (λ x. (option_map seen x.0, x.1.now)) result ≡ statement_in text.now }
 {
-    if let Some((dst, rest)) = any_register(text) {
+    let Some((first, rest)) = word(text) else {
+        return plainly(store(text));
+    };
+    if let Some(dst) = register_named(first) {
         return plainly(assignment(dst.0, dst.1, rest));
     }
-    if let Some((word, rest)) = keyword_in_front(text) {
-        return keyword(word, rest);
+    match keyword_named(first) {
+        Some(found) => keyword(found, rest),
+        None => plainly(store(text)),
     }
-    plainly(store(text))
 }
 
 /// The statement that a text is: None where it is none, `Some(None)` where a number is out of its range.

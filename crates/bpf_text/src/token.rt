@@ -15,18 +15,21 @@ pub fn is_digit(byte: u8) -> bool
     byte.is_ascii_digit()
 }
 
+#[inline(always)]
 fn is_word_part(byte: u8) -> bool
     ensures { result ≡ is_word_part byte }
 {
     byte.is_ascii_alphanumeric() || byte == b'_'
 }
 
+#[inline(always)]
 fn is_blank(byte: u8) -> bool
     ensures { result ≡ is_blank byte }
 {
     byte == b' ' || byte == b'\t' || byte == b'\r'
 }
 
+#[inline(always)]
 pub fn skip_blanks(text: &[u8]) -> &[u8]
     ensures { result.now ≡ skip_blanks text.now }
 {
@@ -41,6 +44,7 @@ pub fn skip_blanks(text: &[u8]) -> &[u8]
 }
 
 /// The longest run of word parts in front, and what stands behind it.
+#[inline(always)]
 fn split_word(text: &[u8]) -> (&[u8], &[u8])
     ensures front { result.0.now ≡ word_front text.now }
     ensures rest { result.1.now ≡ word_rest text.now }
@@ -66,6 +70,7 @@ pub fn word(text: &[u8]) -> Option<(&[u8], &[u8])>
 }
 
 #[tactic(auto, unfolding(crate::specs::code::WordReading::behind_word))]
+#[inline(always)]
 fn behind_word<'a>(text: &'a [u8], word: &[u8]) -> Option<&'a [u8]>
     ensures { option_map (λ x. x.now) result ≡ behind_word word.now text.now }
 {
@@ -75,6 +80,7 @@ fn behind_word<'a>(text: &'a [u8], word: &[u8]) -> Option<&'a [u8]>
 
 /// What stands behind a mark.
 #[tactic(auto, unfolding(crate::specs::code::WordReading::behind_mark))]
+#[inline(always)]
 pub fn behind_mark(text: &[u8], mark: u8) -> Option<&[u8]>
     ensures { option_map (λ x. x.now) result ≡ behind_mark mark text.now }
 {
@@ -82,6 +88,7 @@ pub fn behind_mark(text: &[u8], mark: u8) -> Option<&[u8]>
     if *first == mark { Some(rest) } else { None }
 }
 
+#[inline(always)]
 fn behind_marks<'a>(text: &'a [u8], marks: &[u8]) -> Option<&'a [u8]>
     ensures { option_map (λ x. x.now) result ≡ behind_marks marks.now text.now }
 {
@@ -94,6 +101,7 @@ fn behind_marks<'a>(text: &'a [u8], marks: &[u8]) -> Option<&'a [u8]>
 
 /// What stands behind a spelling: a word, marks, or a word and then marks.
 #[tactic(auto, unfolding(crate::specs::code::WordReading::behind))]
+#[inline(always)]
 pub fn behind<'a>(text: &'a [u8], spelling: &str) -> Option<&'a [u8]>
     ensures { option_map (λ x. x.now) result ≡ behind spelling.now text.now }
 {
@@ -107,6 +115,7 @@ pub fn behind<'a>(text: &'a [u8], spelling: &str) -> Option<&'a [u8]>
 }
 
 /// Whether a spelling may stand in front of a text with no blank in front, by their first bytes.
+#[inline(always)]
 fn may_begin(spelling: &[u8], text: &[u8]) -> bool
     ensures { result ≡ may_begin spelling.now text.now }
 {
@@ -118,6 +127,7 @@ fn may_begin(spelling: &[u8], text: &[u8]) -> bool
 }
 
 /// What stands behind a spelling, where its first byte may be the first one of the text that is no blank.
+#[inline(always)]
 fn behind_begun<'a>(text: &'a [u8], begin: &[u8], spelling: &str) -> Option<&'a [u8]>
     requires { begin.now ≡ skip_blanks text.now }
     ensures { option_map (λ x. x.now) result ≡ behind spelling.now text.now }
@@ -154,6 +164,7 @@ fn digit_of(byte: u8) -> u8
 }
 
 /// The number that digits write, none where another character stands among them.
+#[inline(always)]
 fn value(digits: &[u8], base: u8) -> Option<u128>
     requires few { length digits.now ≤ 20 }
     requires base { base ≤ 16 }
@@ -171,6 +182,7 @@ fn value(digits: &[u8], base: u8) -> Option<u128>
     Some(value)
 }
 
+#[inline(always)]
 fn value_up_to(digits: &[u8], most: usize, base: u8) -> Option<u128>
     requires most { most ≤ 20 }
     requires base { base ≤ 16 }

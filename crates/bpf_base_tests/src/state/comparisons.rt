@@ -5,8 +5,9 @@ use bpf_insn::Reg::*;
 use bpf_insn::Width::*;
 use bpf_insn::{Insn, Operand, Order};
 use bpf_num::{KnownBits, Num, Signed, Unsigned, WordDomain};
-use bpf_state::{RegState, State, Work, covers};
+use bpf_state::{Entries, RegState, State, Work, covers};
 use std::rt::HostRuntime;
+use std::test::Fail;
 
 // Masks of which all are alike but one: at `place` stands `other`.
 #[derive(Clone, Copy)]
@@ -105,7 +106,7 @@ fn masks_cover_others(rt: HostRuntime) {
 }
 
 #[test]
-fn work_is_counted(rt: HostRuntime) {
+fn work_is_counted(rt: HostRuntime) -> Result<(), Fail> {
     let mut work = Work::new();
     let mut state = State::start(8, 8);
     // r0 isn't set; this is a fault, and counted all the same.
@@ -128,12 +129,14 @@ fn work_is_counted(rt: HostRuntime) {
     let dead = work.transfer_counted(&moved, 8, Order::Little, &mut other);
     assert!(rt; matches!(dead, Ok(false)));
     assert!(rt; (work.transfers(), work.comparisons()) == (3, 0));
-    assert!(rt; work.entails_counted(&state, &State::blank()));
+    let entries = Entries::of(rt.alloc(), &state)?;
+    assert!(rt; work.entails_counted(&state, &Entries::blank(rt.alloc())));
     assert!(rt; (work.transfers(), work.comparisons()) == (3, 1));
-    assert!(rt; !work.entails_counted(&State::blank(), &state));
+    assert!(rt; !work.entails_counted(&State::blank(), &entries));
     assert!(rt; (work.transfers(), work.comparisons()) == (3, 2));
     assert!(rt; work.returns_counted(&state, &Num::constant(8)));
     assert!(rt; !work.returns_counted(&state, &Num::constant(7)));
     assert!(rt; !work.returns_counted(&State::blank(), &Num::top()));
     assert!(rt; (work.transfers(), work.comparisons()) == (3, 5));
+    Ok(())
 }

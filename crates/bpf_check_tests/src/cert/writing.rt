@@ -11,15 +11,12 @@ use std::alloc::{AllocError, Global};
 use std::io::{self, ErrorKind, Write};
 use std::test::Fail;
 
-fn label(slot: u32, state: State, base: u64) -> Label {
-    Label {
-        slot,
-        state,
-        budget: Budget {
-            base,
-            terms: ArrayVec::new(),
-        },
-    }
+fn label(alloc: Global, slot: u32, state: &State, base: u64) -> Result<Label, CertError> {
+    let budget = Budget {
+        base,
+        terms: ArrayVec::new(),
+    };
+    Label::new(alloc, slot, state, budget)
 }
 
 fn one_function(alloc: Global, labels: Vec<Label>) -> Result<Vec<Function>, AllocError> {
@@ -34,14 +31,18 @@ fn one_function(alloc: Global, labels: Vec<Label>) -> Result<Vec<Function>, Allo
 }
 
 // r0 = 0, exit
-fn smallest(alloc: Global, steps: u32, state: State) -> Result<Vec<Function>, AllocError> {
+fn smallest(alloc: Global, steps: u32, state: &State) -> Result<Vec<Function>, Fail> {
+    one_label(alloc, label(alloc, 0, state, steps as u64)?)
+}
+
+fn one_label(alloc: Global, label: Label) -> Result<Vec<Function>, Fail> {
     let mut labels = Vec::new(alloc);
-    labels.push(label(0, state, steps as u64))?;
-    one_function(alloc, labels)
+    labels.push(label)?;
+    Ok(one_function(alloc, labels)?)
 }
 
 // r6 = 10, and r6 falls to 0 in a loop from slot 1 on
-fn countdown(alloc: Global) -> Result<Vec<Function>, AllocError> {
+fn countdown(alloc: Global) -> Result<Vec<Function>, Fail> {
     let mut state = State::blank();
     let r6 = Num::of(Num::top().bits(), Unsigned::new(1, 10), Num::top().signed());
     state.set_reg(Reg::R6, RegState::Num(r6));
@@ -51,13 +52,9 @@ fn countdown(alloc: Global) -> Result<Vec<Function>, AllocError> {
         measure: Measure::Down(Place::Register(Reg::R6)),
     });
     let mut labels = Vec::new(alloc);
-    labels.push(label(0, State::blank(), 23))?;
-    labels.push(Label {
-        slot: 1,
-        state,
-        budget: Budget { base: 2, terms },
-    })?;
-    one_function(alloc, labels)
+    labels.push(label(alloc, 0, &State::blank(), 23)?)?;
+    labels.push(Label::new(alloc, 1, &state, Budget { base: 2, terms })?)?;
+    Ok(one_function(alloc, labels)?)
 }
 
 // a writer that takes three bytes at a time, and fails after some writes
@@ -85,7 +82,7 @@ impl Write for Failing {
 
 #[test]
 fn worked_texts(rt: HostRuntime) -> Result<(), Fail> {
-    let certificate = Certificate::new(1, 0, 0, 2, smallest(rt.alloc(), 2, State::blank())?)?;
+    let certificate = Certificate::new(1, 0, 0, 2, smallest(rt.alloc(), 2, &State::blank())?)?;
     let mut text = Vec::new(rt.alloc());
     write(&certificate, &mut text)?;
     assert_eq!(rt;
@@ -133,7 +130,7 @@ fn places_and_pointers(rt: HostRuntime) -> Result<(), Fail> {
     state.set_slot(1, SlotState::Bytes(254));
     state.set_slot(2, SlotState::Word(Num::constant(5)));
     state.set_slot(64, SlotState::Ptr(Pointer::Frame { lo: -8, hi: -8 }));
-    let certificate = Certificate::new(1, 4096, 4096, 9, smallest(rt.alloc(), 9, state)?)?;
+    let certificate = Certificate::new(1, 4096, 4096, 9, smallest(rt.alloc(), 9, &state)?)?;
     let mut text = Vec::new(rt.alloc());
     write(&certificate, &mut text)?;
     let expected =
@@ -240,8 +237,14 @@ fn refused_parts(rt: HostRuntime) -> Result<(), Fail> {
         },
     ] {
         let (version, least, most) = (row.version, row.least, row.most);
-        let functions = smallest(rt.alloc(), 2, row.state)?;
-        match Certificate::new(version, least, most, row.steps, functions) {
+        let made = match label(rt.alloc(), 0, &row.state, 2) {
+            Ok(label) => {
+                let functions = one_label(rt.alloc(), label)?;
+                Certificate::new(version, least, most, row.steps, functions)
+            }
+            Err(error) => Err(error),
+        };
+        match made {
             Ok(_) => assert!(rt; false, "version {version}, {least} to {most}"),
             Err(error) => assert_eq!(rt; (error.number(), error.line()), (row.number, 0)),
         }
@@ -249,10 +252,32 @@ fn refused_parts(rt: HostRuntime) -> Result<(), Fail> {
     Ok(())
 }
 
+// Each label says something of nine registers and of all slots.
+#[test]
+fn full_labels(rt: HostRuntime) -> Result<(), Fail> {
+    let mut text = format!(in rt.alloc(); "bpfcert 1 0 2\nfn 0 1 *\n")?;
+    for slot in 0..5u32 {
+        text.push_str(&format!(in rt.alloc(); "at {slot} 1\n")?)?;
+        for i in 0..9u32 {
+            let below = i + 1;
+            text.push_str(&format!(in rt.alloc(); "r{i} fp-{below}..{slot}\n")?)?;
+        }
+        for k in 1..65u32 {
+            text.push_str(&format!(in rt.alloc(); "s{k} b{k}\n")?)?;
+        }
+    }
+    text.push_str("end\n")?;
+    let certificate = read(rt.alloc(), text.as_bytes())?;
+    let mut written = Vec::new(rt.alloc());
+    write(&certificate, &mut written)?;
+    assert_eq!(rt; written.as_slice(), text.as_bytes());
+    Ok(())
+}
+
 #[test]
 fn failing_writer(rt: HostRuntime) -> Result<(), Fail> {
     let text = b"bpfcert 1 0 2\nfn 0 1 *\nat 0 2\nend\n";
-    let certificate = Certificate::new(1, 0, 0, 2, smallest(rt.alloc(), 2, State::blank())?)?;
+    let certificate = Certificate::new(1, 0, 0, 2, smallest(rt.alloc(), 2, &State::blank())?)?;
     for writes in 0..14usize {
         let mut out = Failing {
             taken: Vec::new(rt.alloc()),

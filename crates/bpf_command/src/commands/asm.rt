@@ -40,7 +40,7 @@ fn read_all<R: Read>(alloc: Global, reader: &mut R) -> Result<Option<Vec<u8>>, A
 }
 
 /// The text at a name, or A8. It can't be read where it isn't UTF-8.
-fn text_at<'a, P: Places>(
+pub fn text_at<'a, P: Places>(
     alloc: Global,
     places: &mut P,
     name: &'a str,
@@ -84,7 +84,7 @@ fn line_of(alloc: Global, error: TextError) -> Result<String, AllocError>
 }
 
 /// Prints why a text is refused.
-fn refuse_text<'a, W: Write>(
+pub fn refuse_text<'a, W: Write>(
     alloc: Global,
     out: &mut W,
     error: TextError,

@@ -7,9 +7,9 @@ ghost use Rattle.bpf_command.specs.Each.{AnswersAt, FailsAt, LinesFail};
 
 use crate::context::{ContextError, MAX_CONTEXT};
 use crate::failure::{DONE, Failure};
-use crate::line_reader::{LineReader, Stop};
 use crate::places::Places;
 use arrayvec::ArrayVec;
+use bpf_lines::{LineReader, Stop};
 use std::alloc::Global;
 use std::io::{Read, Write};
 
@@ -35,7 +35,7 @@ pub trait Runner {
 }
 
 /// What is found of the next context.
-#[derive(Clone, Copy, Debug, PartialEq, Eq)]
+#[derive(Clone, Copy, PartialEq, Eq)]
 pub enum Turn {
     /// It has so many bytes, which stand at the front of the buffer.
     Context(usize),

@@ -4,7 +4,7 @@ ghost use Rattle.std.specs.Prelude.{◌≡◌, ◌≤◌, ◌<◌, IfOk, IfErr};
 ghost use Rattle.std.specs.String.{string_bytes};
 ghost use Rattle.bpf_insn.specs.Instruction.{slots};
 ghost use Rattle.bpf_cert.specs.Limits.{IsCertificate};
-ghost use Rattle.bpf_infer.specs.RefusalNumbers.{infer_slot};
+ghost use Rattle.bpf_proposal.specs.RefusalNumbers.{infer_slot};
 ghost use Rattle.bpf_command.specs.Answer.{Answer, Says, text_of};
 ghost use Rattle.bpf_command.specs.Answer.Answer.{NotProposed};
 ghost use Rattle.bpf_command.specs.Made.{making};
@@ -18,7 +18,7 @@ use crate::context::MAX_CONTEXT;
 use crate::failure::{Failure, REFUSED, say};
 use crate::places::Places;
 use bpf_cert::Certificate;
-use bpf_infer::{InferError, infer, search};
+use bpf_infer::{InferError, Watch, infer, search};
 use bpf_insn::{Order, Program};
 use std::alloc::{AllocError, Global};
 use std::io::Write;
@@ -53,12 +53,13 @@ fn refuse_inference<'a, W: Write>(
 }
 
 /// The certificate that the table of the inferrer proposes, or the deep search.
-fn proposed(
+fn proposed<H: Watch>(
     alloc: Global,
     program: &Program,
     least: u32,
     most: u32,
     deep: bool,
+    watch: &mut H,
 ) -> Result<Certificate, InferError>
     requires order { least ≤ most }
     requires short { most ≤ 4096 }
@@ -69,7 +70,7 @@ fn proposed(
     ensures slot { IfErr result (λ e. infer_slot e < slots program.now.list) }
 {
     if deep {
-        search(alloc, program, least, most)
+        search(alloc, program, least, most, watch)
     } else {
         infer(alloc, program, least, most)
     }
@@ -77,10 +78,11 @@ fn proposed(
 
 /// Writes a certificate for an image and contexts of `least` to `most` bytes. The place for it is made only where there is
 /// one.
-pub fn inferred<'a, P: Places, W: Write>(
+pub fn inferred<'a, P: Places, W: Write, H: Watch>(
     alloc: Global,
     places: &mut P,
     out: &mut W,
+    watch: &mut H,
     input: &'a str,
     least: u32,
     most: u32,
@@ -97,7 +99,7 @@ pub fn inferred<'a, P: Places, W: Write>(
     };
     // The words' parser has seen that the lengths are in order, and at most the greatest.
     let most = most.min(MAX_CONTEXT as u32);
-    match proposed(alloc, &program, least.min(most), most, deep) {
+    match proposed(alloc, &program, least.min(most), most, deep, watch) {
         Ok(certificate) => put(places, output, &certificate),
         Err(error) => refuse_inference(alloc, out, error),
     }

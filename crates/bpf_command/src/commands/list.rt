@@ -1,17 +1,19 @@
-//! `bpf list IN`.
+//! `bpf list IN`, and the same with `--slots` and `--bytes`.
 
-ghost use Rattle.std.specs.Prelude.{◌≡◌, IfOk, IfErr};
+ghost use Rattle.std.specs.Prelude.{◌≡◌, IfOk, IfErr, None, Some};
+ghost use Rattle.bpf_insn.specs.Image.{image};
 ghost use Rattle.bpf_command.specs.Opened.{opening};
 ghost use Rattle.bpf_command.specs.Answer.{Answer, Says};
-ghost use Rattle.bpf_command.specs.Answer.Answer.{Lists};
+ghost use Rattle.bpf_command.specs.Answer.Answer.{Annotates, Lists};
 ghost use Rattle.bpf_command.specs.Loaded.{ImageFails};
-ghost use Rattle.bpf_command.specs.Printed.{ImageSays, ListSays};
+ghost use Rattle.bpf_command.specs.Printed.{ImageSays, ListSays, notes_of};
 ghost use Rattle.bpf_command.specs.Told.{OutputFails};
 
-use crate::commands::image::{program_at, refuse};
+use crate::commands::image::{image_at, program_at, refuse};
 use crate::failure::{DONE, Failure};
 use crate::places::Places;
-use bpf_insn::{Order, Program};
+use bpf_insn::{Order, Program, ProgramView};
+use bpf_text::{Notes, annotate};
 use std::alloc::Global;
 use std::io::Write;
 
@@ -26,19 +28,89 @@ fn say_listing<'a, W: Write>(out: &mut W, program: &Program) -> Result<u8, Failu
     }
 }
 
+/// Prints the listing of a program with comments.
+fn say_annotated<'a, 'b, W: Write>(
+    out: &mut W,
+    program: &ProgramView<'b>,
+    bytes: &[u8],
+    notes: Notes,
+) -> Result<u8, Failure<'a>>
+    requires { bytes.now ≡ image program.now.order program.now.list }
+    ensures ok { IfOk result (λ status. Says (Annotates notes program.now.order program.now.list) status (W.contents out.old) (W.contents out.new)) }
+    ensures err { IfErr result OutputFails }
+{
+    match annotate(program, bytes, notes, out) {
+        Ok(()) => Ok(DONE),
+        Err(_) => Err(Failure::CannotWrite("standard output")),
+    }
+}
+
 /// Prints the instructions of an image, one a line.
-pub fn listed<'a, P: Places, W: Write>(
+fn listed_plainly<'a, P: Places, W: Write>(
     alloc: Global,
     places: &mut P,
     out: &mut W,
     input: &'a str,
     order: Order,
 ) -> Result<u8, Failure<'a>>
-    ensures ok { IfOk result (λ status. (answer : Answer) × Says answer status (W.contents out.old) (W.contents out.new) × ImageSays (opening P.opens P.Reader.remaining) order places.old input.entry.now places.new ListSays answer) }
+    ensures ok { IfOk result (λ status. (answer : Answer) × Says answer status (W.contents out.old) (W.contents out.new) × ImageSays (opening P.opens P.Reader.remaining) order places.old input.entry.now places.new (ListSays None) answer) }
     ensures err { IfErr result (ImageFails (opening P.opens P.Reader.remaining) places.old input.entry.now places.new) }
 {
     match program_at(alloc, places, input, order)? {
         Ok(program) => say_listing(out, &program),
         Err(error) => refuse(alloc, out, error),
+    }
+}
+
+/// The same with comments.
+fn listed_with<'a, P: Places, W: Write>(
+    alloc: Global,
+    places: &mut P,
+    out: &mut W,
+    input: &'a str,
+    notes: Notes,
+    order: Order,
+) -> Result<u8, Failure<'a>>
+    ensures ok { IfOk result (λ status. (answer : Answer) × Says answer status (W.contents out.old) (W.contents out.new) × ImageSays (opening P.opens P.Reader.remaining) order places.old input.entry.now places.new (ListSays (Some notes)) answer) }
+    ensures err { IfErr result (ImageFails (opening P.opens P.Reader.remaining) places.old input.entry.now places.new) }
+{
+    let bytes = match image_at(alloc, places, input)? {
+        Ok(bytes) => bytes,
+        Err(error) => return refuse(alloc, out, error),
+    };
+    match ProgramView::of(&bytes, order) {
+        Ok(program) => say_annotated(out, &program, &bytes, notes),
+        Err(error) => refuse(alloc, out, error),
+    }
+}
+
+/// The comments that two flags ask for.
+fn notes_of(slots: bool, bytes: bool) -> Option<Notes>
+    ensures { result ≡ notes_of slots bytes }
+{
+    match (slots, bytes) {
+        (true, true) => Some(Notes::Both),
+        (true, false) => Some(Notes::Slots),
+        (false, true) => Some(Notes::Bytes),
+        (false, false) => None,
+    }
+}
+
+/// Prints the instructions of an image, one a line, with their slots and their bytes in comments where that is asked for.
+pub fn listed<'a, P: Places, W: Write>(
+    alloc: Global,
+    places: &mut P,
+    out: &mut W,
+    input: &'a str,
+    slots: bool,
+    bytes: bool,
+    order: Order,
+) -> Result<u8, Failure<'a>>
+    ensures ok { IfOk result (λ status. (answer : Answer) × Says answer status (W.contents out.old) (W.contents out.new) × ImageSays (opening P.opens P.Reader.remaining) order places.old input.entry.now places.new (ListSays (notes_of slots bytes)) answer) }
+    ensures err { IfErr result (ImageFails (opening P.opens P.Reader.remaining) places.old input.entry.now places.new) }
+{
+    match notes_of(slots, bytes) {
+        Some(notes) => listed_with(alloc, places, out, input, notes, order),
+        None => listed_plainly(alloc, places, out, input, order),
     }
 }

@@ -11,6 +11,7 @@ use bpf_semantics::{Reason, Value};
 
 #[tactic(auto, unfolding(bpf_semantics::specs::Step::does, bpf_semantics::specs::Stuck::reason_at))]
 impl<'a, C: Code> Machine<'a, C> {
+    #[inline(always)]
     pub(crate) fn call(&mut self, off: i32) -> Step
         requires here { self.old.state.top.slot < 65536 }
         requires led { Leads self.old.state.top.slot off }
@@ -24,6 +25,7 @@ impl<'a, C: Code> Machine<'a, C> {
         Step::Moved
     }
 
+    #[inline(always)]
     pub(crate) fn exit(&mut self) -> Step
         ensures { Does self.old Insn.Exit result self.new }
     {

@@ -66,6 +66,7 @@ impl<'a, C: Code> Machine<'a, C> {
         Step::Moved
     }
 
+    #[inline(always)]
     pub(crate) fn load(&mut self, size: Size, dst: Reg, src: Reg, off: i16) -> Step
         requires { self.old.state.top.slot < 65536 }
         ensures { Does self.old (Insn.Load size dst src off) result self.new }
@@ -91,6 +92,7 @@ impl<'a, C: Code> Machine<'a, C> {
     }
 
     /// The number or, in a whole slot, the pointer at a place; else why the first byte that can't be read can't.
+    #[inline(always)]
     fn value_at(&self, size: Size, place: Place) -> Result<Value, Reason>
         requires { IsInside self.now.state (byte_count size) place }
         ensures ok { IfOk result (λ value. load self.now.program.order self.now.state size (place_is place) ≡ Some value) }
@@ -134,6 +136,7 @@ impl<'a, C: Code> Machine<'a, C> {
 
 #[tactic(auto, unfolding(bpf_semantics::specs::Step::does, bpf_semantics::specs::Stuck::reason_at, bpf_semantics::specs::Memory::store_number, bpf_semantics::specs::Memory::store_pointer))]
 impl<'a, C: Code> Machine<'a, C> {
+    #[inline(always)]
     pub(crate) fn store_imm(&mut self, size: Size, dst: Reg, off: i16, imm: i32) -> Step
         requires { self.old.state.top.slot < 65536 }
         ensures { Does self.old (Insn.StoreImm size dst off imm) result self.new }
@@ -154,6 +157,7 @@ impl<'a, C: Code> Machine<'a, C> {
         }
     }
 
+    #[inline(always)]
     pub(crate) fn store(&mut self, size: Size, dst: Reg, off: i16, src: Reg) -> Step
         requires { self.old.state.top.slot < 65536 }
         ensures { Does self.old (Insn.Store size dst off src) result self.new }

@@ -24,6 +24,9 @@ pub returns-in-Long : goal.returns-in-Long
 returns-in-Long g c = let gives = long_given c.args.source.now c.loop-before.source c.next_line-stop.new.self c.next_line-stop.new.line.items (c.loop-before.before + 1) c.loop-before.invariant.0 c.loop-before.invariant.2 c.in-Long.ensures.taken c.next_line-stop.ensures.one_line (sym (c.is_ended.ensures c.loop-before.invariant.0 c.loop-before.invariant.1) ∙ c.if-is_ended.false) in
     record { ok = given_ok c.args.source.now (Err (errors.Limit (c.loop-before.before + 1))) gives; err = given_err c.args.source.now (Err (errors.Limit (c.loop-before.before + 1))) gives; accepts = given_accepts c.args.source.now (Err (errors.Limit (c.loop-before.before + 1))) gives; failed = tt }
 
+pub take-requires-clause-built : goal.take-requires-clause-built
+take-requires-clause-built g c = (c.loop-before.invariant.0, c.loop-before.invariant.1, sym (c.is_ended.ensures c.loop-before.invariant.0 c.loop-before.invariant.1) ∙ c.if-is_ended.false)
+
 pub returns-in-Err : goal.returns-in-Err
 returns-in-Err g c = let gives = bad_given c.args.source.now c.loop-before.source c.next_line-stop.new.self c.next_line-stop.new.line.items (c.loop-before.before + 1) c.loop-before.invariant.0 c.take.new.self c.in-Err.error c.loop-before.invariant.2 c.in-LineEnd.ensures.taken c.next_line-stop.ensures.one_line (sym (c.is_ended.ensures c.loop-before.invariant.0 c.loop-before.invariant.1) ∙ c.if-is_ended.false) (subst (λ z. Takes (c.loop-before.before + 1) c.loop-before.invariant.0 z c.take.new.self (Err c.in-Err.error)) c.as_slice.ensures.value (c.in-Err.ensures c.loop-before.invariant.0 c.loop-before.invariant.1 (sym (c.is_ended.ensures c.loop-before.invariant.0 c.loop-before.invariant.1) ∙ c.if-is_ended.false))) in
     record { ok = given_ok c.args.source.now (Err c.in-Err.error) gives; err = given_err c.args.source.now (Err c.in-Err.error) gives; accepts = given_accepts c.args.source.now (Err c.in-Err.error) gives; failed = bad_fails c.args.source.now c.next_line-stop.new.self c.next_line-stop.new.line.items (c.loop-before.before + 1) c.loop-before.invariant.0 c.take.new.self c.in-Err.error (subst (λ z. Takes (c.loop-before.before + 1) c.loop-before.invariant.0 z c.take.new.self (Err c.in-Err.error)) c.as_slice.ensures.value (c.in-Err.ensures c.loop-before.invariant.0 c.loop-before.invariant.1 (sym (c.is_ended.ensures c.loop-before.invariant.0 c.loop-before.invariant.1) ∙ c.if-is_ended.false))) }

@@ -7,10 +7,10 @@ use Rattle.bpf_cert.proofs.writing.write_entries.Goals as goal
 
 pub returns-in_err-write_entry : goal.returns-in_err-write_entry
 returns-in_err-write_entry g c = let p = err_from_is_err_and c.from_residual.result c.from_residual.ensures.1 in rw p.1
-    (left_stop (lines_text (entry_lines (place_of c.place_at.result) c.content_at.result)) (lines_text (lines_from (c.loop-j.j + 1) (drop (c.loop-j.j + 1) (contents c.args.state.now)))) (next_entry (contents c.args.state.now) c.loop-j.j (place_of c.place_at.result) c.content_at.result (Bytes 0) (omega (arith, c.loop-j-test.true, length-contents c.args.state.now c.valid.ensures)) c.place_at.ensures c.content_at.ensures) c.loop-j.invariant c.in_err-write_entry.ensures)
+    (left_stop (lines_text (entry_lines (place_of c.place_at.result) c.content_at.result)) (lines_text (lines_from (c.loop-j.j + 1) (drop (c.loop-j.j + 1) (contents c.args.state.now)))) (next_entry (contents c.args.state.now) c.loop-j.j (place_of c.place_at.result) c.content_at.result (Bytes 0) (omega (arith, c.loop-j-test.true, length-contents c.args.state.now c.valid.ensures.state)) c.place_at.ensures c.content_at.ensures) c.loop-j.invariant c.in_err-write_entry.ensures)
 
 pub loop-j-preserved : goal.loop-j-preserved
-loop-j-preserved g c = left_step (lines_text (entry_lines (place_of c.place_at.result) c.content_at.result)) (lines_text (lines_from (c.loop-j.j + 1) (drop (c.loop-j.j + 1) (contents c.args.state.now)))) (next_entry (contents c.args.state.now) c.loop-j.j (place_of c.place_at.result) c.content_at.result (Bytes 0) (omega (arith, c.loop-j-test.true, length-contents c.args.state.now c.valid.ensures)) c.place_at.ensures c.content_at.ensures) c.loop-j.invariant c.in_ok-write_entry.ensures
+loop-j-preserved g c = left_step (lines_text (entry_lines (place_of c.place_at.result) c.content_at.result)) (lines_text (lines_from (c.loop-j.j + 1) (drop (c.loop-j.j + 1) (contents c.args.state.now)))) (next_entry (contents c.args.state.now) c.loop-j.j (place_of c.place_at.result) c.content_at.result (Bytes 0) (omega (arith, c.loop-j-test.true, length-contents c.args.state.now c.valid.ensures.state)) c.place_at.ensures c.content_at.ensures) c.loop-j.invariant c.in_ok-write_entry.ensures
 
 pub returns : goal.returns
-returns g c = left_done (no_entry (contents c.args.state.now) c.loop-j.j (omega (arith, c.loop-j-test.false, length-contents c.args.state.now c.valid.ensures))) c.loop-j.invariant
+returns g c = left_done (no_entry (contents c.args.state.now) c.loop-j.j (omega (arith, c.loop-j-test.false, length-contents c.args.state.now c.valid.ensures.state))) c.loop-j.invariant

@@ -9,17 +9,17 @@ use Rattle.bpf_check.proofs.labels.label_in_place.Goals as goal
 
 pub returns-in_default : goal.returns-in_default
 returns-in_default c =
-    let none : function_at c.args.certificate.now c.args.slot ≡ None = sym c.function_at.ensures.value ∙ ap (λ o. option_map function_view (option_copied o)) c.in_default.is in
-    sym (no_label_there c.args.certificate.now c.args.slot c.requires none)
+    let none : function_at c.args.certificate.now c.args.slot ≡ None = sym c.requires.function ∙ ap (λ o. option_map function_view (option_copied o)) c.in_default.is in
+    sym (no_label_there c.args.certificate.now c.args.slot c.requires.place none)
 
 pub label_among-requires : goal.label_among-requires
 label_among-requires c =
-    let there : function_at c.args.certificate.now c.args.slot ≡ Some (function_view c.in-Some.function.now) = sym c.function_at.ensures.value ∙ ap (λ o. option_map function_view (option_copied o)) c.in-Some.is in
+    let there : function_at c.args.certificate.now c.args.slot ≡ Some (function_view c.in-Some.function.now) = sym c.requires.function ∙ ap (λ o. option_map function_view (option_copied o)) c.in-Some.is in
     ap (λ ls. is_rising slot_before (map label_view ls)) c.deref.ensures.value ∙ labels_rise_there c.args.certificate.now c.args.slot (function_view c.in-Some.function.now) c.valid.ensures there
 
 pub returns : goal.returns
 returns c =
-    let there : function_at c.args.certificate.now c.args.slot ≡ Some (function_view c.in-Some.function.now) = sym c.function_at.ensures.value ∙ ap (λ o. option_map function_view (option_copied o)) c.in-Some.is in
+    let there : function_at c.args.certificate.now c.args.slot ≡ Some (function_view c.in-Some.function.now) = sym c.requires.function ∙ ap (λ o. option_map function_view (option_copied o)) c.in-Some.is in
     c.label_among.ensures
     ∙ ap (λ ls. first_with (λ l. l.slot == c.args.slot) (map label_view ls)) c.deref.ensures.value
-    ∙ sym (label_there c.args.certificate.now c.args.slot (function_view c.in-Some.function.now) c.valid.ensures c.requires there)
+    ∙ sym (label_there c.args.certificate.now c.args.slot (function_view c.in-Some.function.now) c.valid.ensures c.requires.place there)

@@ -1,0 +1,43 @@
+-- An instruction in its place, with what is looked up there.
+use Rattle.std.specs.Prelude.{◌≡◌, ℕ, ◌+◌, ◌≤◌, List, option_map, option_copied, IfSome, IsTrue}
+use Rattle.bpf_insn.specs.Instruction.{slot_count}
+use Rattle.bpf_cert.specs.View.{CertificateView, label_view, function_view}
+use Rattle.bpf_cert.specs.Limits.{is_limited_label}
+use Rattle.bpf_safety.specs.Labels.{label_at, function_at}
+use Rattle.bpf_state.specs.State.{AbstractState}
+use Rattle.bpf_safety.specs.Flow.{Visit, callee, jump_target, jump_state}
+use Rattle.bpf_safety.specs.Flaw.{Edge, edge_to}
+use Rattle.bpf_check.specs.code.Edges.{visit}
+use Rattle.bpf_check.specs.declared.site.Spot.{Spot}
+use Rattle.bpf_check.specs.declared.site.Callee.{Callee}
+use Rattle.bpf_check.specs.declared.site.Site.{Site}
+
+-- the function that a slot lies in, and the label there
+pub record IsSpot (c : CertificateView) (s : Spot) : Type 0 where
+  pub function : option_map function_view (option_copied s.function) ≡ function_at c s.slot
+  pub label : option_map label_view (option_copied s.label) ≡ label_at c s.slot
+  pub limited : IfSome s.label (λ l. IsTrue (is_limited_label (label_view l.now)))
+
+-- the label at a function's first slot
+pub record IsEntry (c : CertificateView) (f : Callee) : Type 0 where
+  pub label : option_map label_view (option_copied f.label) ≡ label_at c f.function.now.first
+  pub limited : IfSome f.label (λ l. IsTrue (is_limited_label (label_view l.now)))
+
+-- the slots that an instruction leads to, each with what stands there
+pub record IsSite (s : Site) : Type 0 where
+  pub few : s.here.slot ≤ 65535
+  pub here : IsSpot s.certificate.now s.here
+  pub next_slot : s.next.slot ≡ s.here.slot + slot_count s.insn
+  pub next : IsSpot s.certificate.now s.next
+  pub jump_slot : option_map (λ t. t.slot) s.jump ≡ jump_target s.here.slot s.insn
+  pub jump : IfSome s.jump (λ t. IsSpot s.certificate.now t)
+  pub callee : option_map (λ f. function_view f.function.now) s.callee ≡ callee s.certificate.now s.here.slot s.insn
+  pub entry : IfSome s.callee (λ f. IsEntry s.certificate.now f)
+
+-- the visit of an instruction, of which the arrival isn't looked at
+abbrev pub visit_at : Site → Visit
+visit_at s = visit s.here.slot s.insn
+
+-- the live edge of its jump, from the state after it
+abbrev pub jump_edge : Site → AbstractState → List Edge
+jump_edge s t = edge_to (jump_target s.here.slot s.insn) (jump_state s.here.slot s.insn t)

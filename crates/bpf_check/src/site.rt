@@ -1,0 +1,105 @@
+//! An instruction in its place: what a certificate says of its slot and of those that it leads to, looked up once for all
+//! conditions that ask.
+
+ghost use Rattle.std.specs.Prelude.{◌≡◌, ◌≤◌, option_map, IfSome};
+ghost use Rattle.bpf_cert.specs.View.{function_view};
+ghost use Rattle.bpf_safety.specs.Flow.{callee, jump_target};
+ghost use Rattle.bpf_check.specs.code.Sites.{IsSpot, IsEntry, IsSite};
+
+use crate::edge::{callee, jump_target};
+use crate::index::Index;
+use crate::labels::{function_at, label_at, label_given};
+use bpf_cert::{Function, Label};
+use bpf_insn::Insn;
+
+/// A slot, the function that it lies in, and the label there.
+#[derive(Clone, Copy)]
+pub struct Spot<'a> {
+    pub slot: u32,
+    pub function: Option<&'a Function>,
+    pub label: Option<&'a Label>,
+}
+
+impl<'a> Spot<'a> {
+    /// Looks up a slot.
+    pub fn of(certificate: &'a Index, slot: u32) -> Spot<'a>
+        ensures slot { result.slot ≡ slot }
+        ensures value { IsSpot certificate.now result }
+    {
+        let function = function_at(certificate, slot);
+        Spot {
+            slot,
+            function,
+            label: label_given(certificate, function, slot),
+        }
+    }
+}
+
+/// A function that an instruction calls, and the label at its first slot.
+#[derive(Clone, Copy)]
+pub struct Callee<'a> {
+    pub function: &'a Function,
+    pub label: Option<&'a Label>,
+}
+
+/// An instruction, its slot, and those that it leads to.
+#[derive(Clone, Copy)]
+pub struct Site<'a> {
+    pub certificate: &'a Index<'a>,
+    pub insn: Insn,
+    pub here: Spot<'a>,
+    /// The slot behind the instruction, whether it goes on there or not.
+    pub next: Spot<'a>,
+    /// Where the instruction jumps.
+    pub jump: Option<Spot<'a>>,
+    /// What it calls.
+    pub callee: Option<Callee<'a>>,
+}
+
+impl<'a> Site<'a> {
+    /// Looks up where an instruction leads.
+    pub fn of(certificate: &'a Index<'a>, here: Spot<'a>, insn: Insn) -> Site<'a>
+        requires few { here.slot ≤ 65535 }
+        requires here { IsSpot certificate.now here }
+        ensures certificate { result.certificate.now ≡ certificate.now }
+        ensures insn { result.insn ≡ insn }
+        ensures here { result.here ≡ here.entry }
+        ensures value { IsSite result }
+    {
+        Site {
+            certificate,
+            insn,
+            here,
+            next: Spot::of(certificate, here.slot + insn.slots()),
+            jump: jump_of(certificate, here.slot, &insn),
+            callee: callee_of(certificate, here.slot, &insn),
+        }
+    }
+}
+
+/// Where an instruction jumps, looked up.
+fn jump_of<'a>(certificate: &'a Index, slot: u32, insn: &Insn) -> Option<Spot<'a>>
+    requires { slot ≤ 65536 }
+    ensures slot { option_map (λ t. t.slot) result ≡ jump_target slot insn.now }
+    ensures value { IfSome result (λ t. IsSpot certificate.now t) }
+{
+    match jump_target(slot, insn) {
+        Some(to) => Some(Spot::of(certificate, to)),
+        None => None,
+    }
+}
+
+/// What an instruction calls, looked up.
+fn callee_of<'a>(certificate: &'a Index, slot: u32, insn: &Insn) -> Option<Callee<'a>>
+    requires { slot ≤ 65536 }
+    ensures value { option_map (λ f. function_view f.function.now) result ≡ callee certificate.now slot insn.now }
+    ensures entry { IfSome result (λ f. IsEntry certificate.now f) }
+{
+    match callee(certificate, slot, insn) {
+        Some(function) => Some(Callee {
+            function,
+            label: label_at(certificate, function.first),
+        }),
+        None => None,
+    }
+}

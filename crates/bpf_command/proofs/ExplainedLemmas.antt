@@ -1,0 +1,57 @@
+-- The status of what is explained, from what is said of the image, the text and the certificate.
+use Rattle.std.proofs.Common.{◌≡◌, ◌⊎◌, ℕ, List, Option, None, false, Result, Ok, Err, IfOk, refl, inl, inr, ◌∙◌}
+use Rattle.bpf_insn.specs.Instruction.{Instructions}
+use Rattle.bpf_insn.specs.declared.order.Order.{Order}
+use Rattle.bpf_cert.specs.View.{CertificateView}
+use Rattle.bpf_check.specs.CheckedProgram.{CheckedProgram}
+use Rattle.bpf_command.specs.Opened.{Opening}
+use Rattle.bpf_command.specs.Loaded.{LoadsImage, CertificateAt}
+use Rattle.bpf_command.specs.Answer.{Answer, Says, status_of}
+use Rattle.bpf_command.specs.Answer.Answer.{Yes, NoImage, NotCertified, Written}
+use Rattle.bpf_command.specs.Printed.{ImageSays, JudgedSays, LoadedSays, YesSays}
+use Rattle.bpf_command.specs.Explained.{Answers, JudgesOf, SoughtSays}
+use Rattle.bpf_command.proofs.JudgedLemmas.{loaded_says}
+
+-- an answer that was printed has its status
+pub printed_so : {E : Type 0} (result : Result ℕ E) (answer : Answer) (old new : Option (List ℕ)) (P : Answer → Type 0) → P answer → IfOk result (λ status. Says answer status old new) → IfOk result (Answers P)
+printed_so (Ok s) answer old new P p h = (answer, h.status_is, p)
+printed_so (Err e) answer old new P p h = tt
+
+-- so has one that wasn't
+pub answered_so : {E : Type 0} (result : Result ℕ E) (n : ℕ) (answer : Answer) (P : Answer → Type 0) → n ≡ status_of answer → P answer → IfOk result (λ s. s ≡ n) → IfOk result (Answers P)
+answered_so (Ok s) n answer P e p h = (answer, h ∙ e, p)
+answered_so (Err f) n answer P e p h = tt
+
+-- one of two answers
+pub either_so : {E : Type 0} (result : Result ℕ E) (n m : ℕ) (answer other : Answer) (P : Answer → Type 0) → n ≡ status_of answer → m ≡ status_of other → P answer → P other → IfOk result (λ s. (s ≡ n) ⊎ (s ≡ m)) → IfOk result (Answers P)
+either_so (Ok s) n m answer other P e f p q (inl h) = (answer, h ∙ e, p)
+either_so (Ok s) n m answer other P e f p q (inr h) = (other, h ∙ f, q)
+either_so (Err x) n m answer other P e f p q h = tt
+
+-- ---- certificates
+
+pub judged_so : {S E : Type 0} (result : Result ℕ E) (opening : Opening S) (old : S) (certificate : List ℕ) (new : S) (p : Instructions) (c : CertificateView) → CertificateAt opening old certificate new c
+    → IfOk result (JudgesOf p c) → IfOk result (Answers (JudgedSays opening old certificate new p (YesSays false)))
+judged_so (Ok s) opening old certificate new p c read (inl h) = (Yes c.least c.most c.steps None, h.0, (c, read, h.1, (refl, refl, refl, refl)))
+judged_so (Ok s) opening old certificate new p c read (inr h) = (NotCertified (h.1).0, h.0, (c, read, (h.1).1))
+judged_so (Err e) opening old certificate new p c read h = tt
+
+pub loaded_so : {S E : Type 0} (result : Result ℕ E) (opening : Opening S) (order : Order) (old : S) (input certificate : List ℕ) (between new : S) (p : Instructions) → LoadsImage opening order old input between p
+    → IfOk result (Answers (JudgedSays opening between certificate new p (YesSays false))) → IfOk result (Answers (LoadedSays opening order old input certificate new (λ bytes. YesSays false)))
+loaded_so (Ok s) opening order old input certificate between new p image h = (h.0, h.1, loaded_says opening order old input certificate between new p image (λ bytes. YesSays false) (λ k e n. n) h.0 h.2)
+loaded_so (Err e) opening order old input certificate between new p image h = tt
+
+-- ---- the inferrer
+
+pub sought : (p : Instructions) (c : CertificateView) (status : ℕ) → JudgesOf p c status → Answers (SoughtSays p) status
+sought p c status (inl h) = (Written, h.0, (c, h.1))
+sought p c status (inr h) = (NotCertified (h.1).0, h.0, (c, (h.1).1))
+
+image_says : {S : Type 0} (opening : Opening S) (order : Order) (old : S) (input : List ℕ) (new : S) (p : Instructions) → LoadsImage opening order old input new p → (x : Answer) → SoughtSays p x → ImageSays opening order old input new SoughtSays x
+image_says opening order old input new p image (NoImage e) h = absurd h
+image_says opening order old input new p image x h = (p, image, h)
+
+pub sought_so : {S E : Type 0} (result : Result ℕ E) (opening : Opening S) (order : Order) (old : S) (input : List ℕ) (new : S) (p : Instructions) → LoadsImage opening order old input new p
+    → IfOk result (Answers (SoughtSays p)) → IfOk result (Answers (ImageSays opening order old input new SoughtSays))
+sought_so (Ok s) opening order old input new p image h = (h.0, h.1, image_says opening order old input new p image h.0 h.2)
+sought_so (Err e) opening order old input new p image h = tt

@@ -1,0 +1,63 @@
+-- Which status `explain` answers, by what the names hold: that of an answer of the command that judges the same. What it
+-- prints are words.
+use Rattle.std.specs.Prelude.{◌≡◌, ◌⊎◌, ℕ, List, None, false, ⊤}
+use Rattle.bpf_insn.specs.Instruction.{Instructions}
+use Rattle.bpf_insn.specs.declared.order.Order.{Order}
+use Rattle.bpf_text.specs.Assembly.{Assembles, IsRefused}
+use Rattle.bpf_text.specs.declared.error.TextError.TheVariants.{Memory as NoRoom}
+use Rattle.bpf_cert.specs.View.{CertificateView}
+use Rattle.bpf_safety.specs.Certified.{IsLeastFlaw}
+use Rattle.bpf_check.specs.CheckedProgram.{IsCertifiedBy}
+use Rattle.bpf_check.specs.declared.refusal.Refusal.{Refusal}
+use Rattle.bpf_check.specs.RefusalNumbers.{refusal_slot, refusal_number}
+use Rattle.bpf_command.specs.Opened.{Opening}
+use Rattle.bpf_command.specs.Loaded.{ImageFails, TextAt, TextFails}
+use Rattle.bpf_command.specs.Answer.{Answer, status_of}
+use Rattle.bpf_command.specs.Answer.Answer.{NoText, NotCertified, NotProposed, Lists, Written}
+use Rattle.bpf_command.specs.Printed.{ImageSays, ListSays, LoadedSays, LoadedFails, YesSays}
+use Rattle.bpf_command.specs.declared.failure.Failure.{Failure}
+use Rattle.bpf_command.specs.declared.failure.Failure.TheVariants.{NotTogether}
+use Rattle.bpf_command.specs.declared.subject.Subject.{Subject}
+use Rattle.bpf_command.specs.declared.subject.Subject.TheVariants.{Image, Text, Certified, Slot, Inferred, Graph, GraphAlone, Misfit}
+
+-- the status of an answer of which this holds
+abbrev pub Answers : (Answer → Type 0) → ℕ → Type 0
+Answers says status = (answer : Answer) × (status ≡ status_of answer) × says answer
+
+-- what is said of the text at a name: its program, or why it is none
+abbrev pub TextSays : {S : Type 0} → Opening S → S → List ℕ → S → Answer → Type 0
+TextSays opening old input new (NoText e) = TextAt opening old input new (λ text. (e ≡ NoRoom) ⊎ IsRefused text e)
+TextSays opening old input new (Lists is) = TextAt opening old input new (λ text. Assembles text is)
+TextSays opening old input new answer = ⊥
+
+-- the status of the checker's answer: 0 where it certifies, else 1
+abbrev pub JudgesOf : Instructions → CertificateView → ℕ → Type 0
+JudgesOf p c status = ((status ≡ 0) × IsCertifiedBy p c) ⊎ ((status ≡ 1) × ((r : Refusal) × IsLeastFlaw p c (refusal_slot r) (refusal_number r)))
+
+-- what is said of a program for which a certificate was sought: one was found that certifies it, or that doesn't, or none
+abbrev pub SoughtSays : Instructions → Answer → Type 0
+SoughtSays p Written = (c : CertificateView) × IsCertifiedBy p c
+SoughtSays p (NotCertified r) = (c : CertificateView) × IsLeastFlaw p c (refusal_slot r) (refusal_number r)
+SoughtSays p (NotProposed e) = ⊤
+SoughtSays p answer = ⊥
+
+-- the image is judged as by `list`, the text as by `asm`, the certificate as by `check`, and what is inferred as by both
+abbrev pub ExplainSays : {S : Type 0} → Opening S → Order → S → List ℕ → Subject → S → ℕ → Type 0
+ExplainSays o order old input Image new = Answers (ImageSays o order old input new (ListSays None))
+ExplainSays o order old input Text new = Answers (TextSays o old input new)
+ExplainSays o order old input (Certified certificate) new = Answers (LoadedSays o order old input certificate.now new (λ bytes. YesSays false))
+ExplainSays o order old input (Slot certificate slot) new = Answers (LoadedSays o order old input certificate.now new (λ bytes. YesSays false))
+ExplainSays o order old input (Inferred least most) new = Answers (ImageSays o order old input new SoughtSays)
+ExplainSays o order old input (Graph certificate) new = Answers (LoadedSays o order old input certificate.now new (λ bytes. YesSays false))
+ExplainSays o order old input GraphAlone new = Answers (ImageSays o order old input new (ListSays None))
+ExplainSays o order old input Misfit new = λ status. ⊥
+
+abbrev pub ExplainFails : {S : Type 0} → Opening S → Order → S → List ℕ → Subject → S → Failure → Type 0
+ExplainFails o order old input Image new = ImageFails o old input new
+ExplainFails o order old input Text new = TextFails o old input new
+ExplainFails o order old input (Certified certificate) new = LoadedFails o order old input certificate.now new
+ExplainFails o order old input (Slot certificate slot) new = LoadedFails o order old input certificate.now new
+ExplainFails o order old input (Inferred least most) new = ImageFails o old input new
+ExplainFails o order old input (Graph certificate) new = LoadedFails o order old input certificate.now new
+ExplainFails o order old input GraphAlone new = ImageFails o old input new
+ExplainFails o order old input Misfit new = λ failure. (failure ≡ NotTogether) × (new ≡ old)

@@ -1,0 +1,349 @@
+//! `bpf explain IN`, and the same with a certificate, over the inferrer's work, and of a text.
+
+ghost use Rattle.std.specs.Prelude.{◌≡◌, ◌⊎◌, IfOk, IfErr, None, MatchResult, false};
+ghost use Rattle.bpf_command.specs.Opened.{opening};
+ghost use Rattle.bpf_command.specs.Loaded.{CertificateAt, CertificateFails, CertificateRefused, ImageFails, TextFails};
+ghost use Rattle.bpf_command.specs.Explained.{Answers, ExplainFails, ExplainSays, JudgesOf, SoughtSays, TextSays};
+ghost use Rattle.bpf_command.specs.Printed.{ImageSays, JudgedSays, ListSays, LoadedFails, LoadedSays, YesSays};
+ghost use Rattle.bpf_command.specs.Told.{OutputFails};
+
+use crate::commands::asm::{refuse_text, text_at};
+use crate::commands::certificate;
+use crate::commands::image::{image_at, refuse};
+use crate::context::MAX_CONTEXT;
+use crate::failure::{DONE, Failure, REFUSED};
+use crate::keeping::Keeping;
+use crate::places::Places;
+use crate::subject::Subject;
+use bpf_cert::{CertError, Certificate, read};
+use bpf_check::check;
+use bpf_explain::{
+    dot, dot_plain, explain, explain_certificate, explain_image, explain_inferred, explain_slot,
+    explain_text,
+};
+use bpf_insn::{Code, DecodeError, Order, Program, ProgramView, decode};
+use bpf_text::{TextError, assemble};
+use std::alloc::Global;
+use std::io::Write;
+
+// ---- images and texts
+
+/// Explains bytes as an image, and answers the status.
+fn say_image<'a, W: Write>(
+    out: &mut W,
+    bytes: &[u8],
+    order: Order,
+    status: u8,
+) -> Result<u8, Failure<'a>>
+    ensures ok { IfOk result (λ s. s ≡ status) }
+    ensures err { IfErr result OutputFails }
+{
+    match explain_image(bytes, order, out) {
+        Ok(_) => Ok(status),
+        Err(_) => Err(Failure::CannotWrite("standard output")),
+    }
+}
+
+/// Explains the image of a program, or draws the program's graph.
+fn say_valid<'a, C: Code, W: Write>(
+    out: &mut W,
+    program: &C,
+    bytes: &[u8],
+    order: Order,
+    is_graph: bool,
+) -> Result<u8, Failure<'a>>
+    ensures ok { IfOk result (λ s. s ≡ 0) }
+    ensures err { IfErr result OutputFails }
+{
+    if !is_graph {
+        return say_image(out, bytes, order, DONE);
+    }
+    match dot_plain(program, out) {
+        Ok(()) => Ok(DONE),
+        Err(_) => Err(Failure::CannotWrite("standard output")),
+    }
+}
+
+/// Explains an image, or draws the graph of its program.
+fn explained_image<'a, P: Places, W: Write>(
+    alloc: Global,
+    places: &mut P,
+    out: &mut W,
+    input: &'a str,
+    order: Order,
+    is_graph: bool,
+) -> Result<u8, Failure<'a>>
+    ensures ok { IfOk result (Answers (ImageSays (opening P.opens P.Reader.remaining) order places.old input.entry.now places.new (ListSays None))) }
+    ensures err { IfErr result (ImageFails (opening P.opens P.Reader.remaining) places.old input.entry.now places.new) }
+{
+    let bytes = match image_at(alloc, places, input)? {
+        Ok(bytes) => bytes,
+        Err(error) => return refuse(alloc, out, error),
+    };
+    match ProgramView::of(&bytes, order) {
+        Ok(program) => say_valid(out, &program, &bytes, order, is_graph),
+        Err(_error) => say_image(out, &bytes, order, REFUSED),
+    }
+}
+
+/// Explains bytes as a text, and answers the status, or 1 where memory ran out.
+fn say_text<'a, W: Write>(
+    alloc: Global,
+    out: &mut W,
+    bytes: &[u8],
+    status: u8,
+) -> Result<u8, Failure<'a>>
+    ensures ok { IfOk result (λ s. (s ≡ status) ⊎ (s ≡ 1)) }
+    ensures err { IfErr result OutputFails }
+{
+    match explain_text(alloc, bytes, out) {
+        Ok(true) => Ok(status),
+        Ok(false) => Ok(REFUSED),
+        Err(_) => Err(Failure::CannotWrite("standard output")),
+    }
+}
+
+/// Explains a text.
+fn explained_text<'a, P: Places, W: Write>(
+    alloc: Global,
+    places: &mut P,
+    out: &mut W,
+    input: &'a str,
+    order: Order,
+) -> Result<u8, Failure<'a>>
+    ensures ok { IfOk result (Answers (TextSays (opening P.opens P.Reader.remaining) places.old input.entry.now places.new)) }
+    ensures err { IfErr result (TextFails (opening P.opens P.Reader.remaining) places.old input.entry.now places.new) }
+{
+    let text = match text_at(alloc, places, input)? {
+        Ok(text) => text,
+        Err(error) => return refuse_text(alloc, out, error),
+    };
+    match assemble(alloc, text.as_str(), order) {
+        Ok(_program) => say_text(alloc, out, text.as_str().as_bytes(), DONE),
+        Err(TextError::Memory) => refuse_text(alloc, out, TextError::Memory),
+        Err(_error) => say_text(alloc, out, text.as_str().as_bytes(), REFUSED),
+    }
+}
+
+// ---- certificates
+
+/// The status of the checker's answer.
+fn verdict<C: Code>(program: &C, certificate: &Certificate) -> u8
+    ensures { JudgesOf (C.program program.now) certificate.now result }
+{
+    match check(program, certificate) {
+        Ok(_checked) => DONE,
+        Err(_refusal) => REFUSED,
+    }
+}
+
+/// What is shown of a program with its certificate.
+#[derive(Clone, Copy)]
+enum Shown {
+    /// All instructions.
+    Listing,
+    /// One slot.
+    Slot(u32),
+    /// The control-flow graph.
+    Graph,
+}
+
+/// Shows a program with its certificate.
+fn say_program<'a, C: Code, W: Write>(
+    out: &mut W,
+    program: &C,
+    certificate: &Certificate,
+    shown: Shown,
+) -> Result<u8, Failure<'a>>
+    ensures ok { IfOk result (JudgesOf (C.program program.now) certificate.now) }
+    ensures err { IfErr result OutputFails }
+{
+    let status = verdict(program, certificate);
+    let is_written = match shown {
+        Shown::Listing => explain(program, certificate, out).is_ok(),
+        Shown::Slot(slot) => explain_slot(program, certificate, slot, out).is_ok(),
+        Shown::Graph => dot(program, certificate, out).is_ok(),
+    };
+    if is_written {
+        Ok(status)
+    } else {
+        Err(Failure::CannotWrite("standard output"))
+    }
+}
+
+/// Explains why a certificate's text is refused.
+fn say_certificate<'a, W: Write>(
+    alloc: Global,
+    out: &mut W,
+    bytes: Option<Vec<u8>>,
+) -> Result<u8, Failure<'a>>
+    ensures ok { IfOk result (λ status. status ≡ 1) }
+    ensures err { IfErr result OutputFails }
+{
+    let Some(bytes) = bytes else {
+        return Err(Failure::NoMemory);
+    };
+    match explain_certificate(alloc, &bytes, out) {
+        Ok(_) => Ok(REFUSED),
+        Err(_) => Err(Failure::CannotWrite("standard output")),
+    }
+}
+
+/// The certificate at a name, or why it is refused; and its bytes as far as they were read, unless memory ran out.
+fn certificate_kept<'a, P: Places>(
+    alloc: Global,
+    places: &mut P,
+    name: &'a str,
+) -> Result<(Result<Certificate, CertError>, Option<Vec<u8>>), Failure<'a>>
+    ensures ok { IfOk result (λ found. MatchResult found.0 (CertificateAt (opening P.opens P.Reader.remaining) places.old name.entry.now places.new) (CertificateRefused (opening P.opens P.Reader.remaining) places.old name.entry.now places.new)) }
+    ensures err { IfErr result (CertificateFails (opening P.opens P.Reader.remaining) places.old name.entry.now places.new) }
+{
+    let Ok(reader) = places.open(name) else {
+        return Err(Failure::CannotRead(name));
+    };
+    let mut keeping = Keeping::new(alloc, reader);
+    match read(alloc, &mut keeping) {
+        Err(CertError::Read { .. }) => Err(Failure::CannotRead(name)),
+        answer => Ok((answer, keeping.into_kept())),
+    }
+}
+
+/// Explains a program with the certificate at a name, or why there is none.
+fn explained_with<'a, P: Places, C: Code, W: Write>(
+    alloc: Global,
+    places: &mut P,
+    out: &mut W,
+    program: &C,
+    certificate: &'a str,
+    shown: Shown,
+) -> Result<u8, Failure<'a>>
+    ensures ok { IfOk result (Answers (JudgedSays (opening P.opens P.Reader.remaining) places.old certificate.entry.now places.new (C.program program.now) (YesSays false))) }
+    ensures err { IfErr result (CertificateFails (opening P.opens P.Reader.remaining) places.old certificate.entry.now places.new) }
+{
+    let (answer, bytes) = certificate_kept(alloc, places, certificate)?;
+    match answer {
+        Ok(certificate) => say_program(out, program, &certificate, shown),
+        Err(CertError::Memory) => certificate::refuse_text(alloc, out, CertError::Memory),
+        Err(_error) => say_certificate(alloc, out, bytes),
+    }
+}
+
+/// Explains the image's program with a certificate, or why one of the two is refused. The image is judged before the
+/// certificate is opened.
+fn explained_certified<'a, P: Places, W: Write>(
+    alloc: Global,
+    places: &mut P,
+    out: &mut W,
+    input: &'a str,
+    certificate: &'a str,
+    shown: Shown,
+    order: Order,
+) -> Result<u8, Failure<'a>>
+    ensures ok { IfOk result (Answers (LoadedSays (opening P.opens P.Reader.remaining) order places.old input.entry.now certificate.entry.now places.new (λ bytes. YesSays false))) }
+    ensures err { IfErr result (LoadedFails (opening P.opens P.Reader.remaining) order places.old input.entry.now certificate.entry.now places.new) }
+{
+    let bytes = match image_at(alloc, places, input)? {
+        Ok(bytes) => bytes,
+        Err(error) => return refuse(alloc, out, error),
+    };
+    match ProgramView::of(&bytes, order) {
+        Ok(program) => explained_with(alloc, places, out, &program, certificate, shown),
+        Err(_error) => say_image(out, &bytes, order, REFUSED),
+    }
+}
+
+// ---- the inferrer
+
+/// Explains what the inferrer finds for a program.
+fn say_inferred<'a, W: Write>(
+    alloc: Global,
+    out: &mut W,
+    program: &Program,
+    least: u32,
+    most: u32,
+) -> Result<u8, Failure<'a>>
+    ensures ok { IfOk result (Answers (SoughtSays program.now)) }
+    ensures err { IfErr result OutputFails }
+{
+    // The words' parser has seen that the lengths are in order, and at most the greatest.
+    let most = most.min(MAX_CONTEXT as u32);
+    match explain_inferred(alloc, program, least.min(most), most, out) {
+        Ok(Ok(certificate)) => Ok(verdict(program, &certificate)),
+        Ok(Err(_error)) => Ok(REFUSED),
+        Err(_) => Err(Failure::CannotWrite("standard output")),
+    }
+}
+
+/// Explains what the inferrer finds for the image's program on contexts of `least` to `most` bytes.
+fn explained_inferred<'a, P: Places, W: Write>(
+    alloc: Global,
+    places: &mut P,
+    out: &mut W,
+    input: &'a str,
+    least: u32,
+    most: u32,
+    order: Order,
+) -> Result<u8, Failure<'a>>
+    ensures ok { IfOk result (Answers (ImageSays (opening P.opens P.Reader.remaining) order places.old input.entry.now places.new SoughtSays)) }
+    ensures err { IfErr result (ImageFails (opening P.opens P.Reader.remaining) places.old input.entry.now places.new) }
+{
+    let bytes = match image_at(alloc, places, input)? {
+        Ok(bytes) => bytes,
+        Err(error) => return refuse(alloc, out, error),
+    };
+    match decode(alloc, &bytes, order) {
+        Ok(program) => say_inferred(alloc, out, &program, least, most),
+        Err(DecodeError::Memory) => refuse(alloc, out, DecodeError::Memory),
+        Err(_error) => say_image(out, &bytes, order, REFUSED),
+    }
+}
+
+/// Explains a program, or why an input is refused. The status is that of the command that judges the same.
+pub fn explained<'a, P: Places, W: Write>(
+    alloc: Global,
+    places: &mut P,
+    out: &mut W,
+    input: &'a str,
+    subject: Subject<'a>,
+    order: Order,
+) -> Result<u8, Failure<'a>>
+    ensures ok { IfOk result (ExplainSays (opening P.opens P.Reader.remaining) order places.old input.entry.now subject.entry places.new) }
+    ensures err { IfErr result (ExplainFails (opening P.opens P.Reader.remaining) order places.old input.entry.now subject.entry places.new) }
+{
+    match subject {
+        Subject::Image => explained_image(alloc, places, out, input, order, false),
+        Subject::GraphAlone => explained_image(alloc, places, out, input, order, true),
+        Subject::Text => explained_text(alloc, places, out, input, order),
+        Subject::Certified(certificate) => explained_certified(
+            alloc,
+            places,
+            out,
+            input,
+            certificate,
+            Shown::Listing,
+            order,
+        ),
+        Subject::Graph(certificate) => explained_certified(
+            alloc,
+            places,
+            out,
+            input,
+            certificate,
+            Shown::Graph,
+            order,
+        ),
+        Subject::Slot { certificate, slot } => explained_certified(
+            alloc,
+            places,
+            out,
+            input,
+            certificate,
+            Shown::Slot(slot),
+            order,
+        ),
+        Subject::Inferred { least, most } => explained_inferred(
+            alloc, places, out, input, least, most, order,
+        ),
+        Subject::Misfit => Err(Failure::NotTogether),
+    }
+}

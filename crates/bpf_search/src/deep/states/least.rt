@@ -1,0 +1,399 @@
+//! States that say no more than what is read.
+
+use super::judge::{Wrong, walk_all};
+use super::sums::Held;
+use super::task::{Task, Watcher};
+use super::tolerant::{fetched, touched};
+use crate::flow::Flow;
+use crate::places::REGISTERS;
+use crate::rounds::put;
+use bpf_insn::{AluOp, AtomicOp, Insn, Operand, Reg, Size};
+use bpf_num::{KnownBits, Num, Signed, Unsigned, WordDomain};
+use bpf_state::{RegState, SlotState, State};
+use std::alloc::{AllocError, Global};
+
+/// The most rounds over a function. Where they don't do, all places stay.
+const ROUNDS: u32 = 64;
+
+/// A set of registers and slots, as bits.
+#[derive(Clone, Copy, PartialEq, Eq)]
+pub struct Places {
+    registers: u16,
+    slots: u64,
+}
+
+impl Places {
+    /// None.
+    const NONE: Places = Places {
+        registers: 0,
+        slots: 0,
+    };
+
+    /// All.
+    pub const ALL: Places = Places {
+        registers: u16::MAX,
+        slots: u64::MAX,
+    };
+
+    fn register(r: Reg) -> Places {
+        Places {
+            registers: 1 << (r as u32 % 16),
+            slots: 0,
+        }
+    }
+
+    fn slot(k: u8) -> Places {
+        Places {
+            registers: 0,
+            slots: 1 << (k.wrapping_sub(1) as u32 % 64),
+        }
+    }
+
+    /// r0 to r5, which a CALL writes.
+    const WRITTEN_BY_CALL: Places = Places {
+        registers: 0x3f,
+        slots: 0,
+    };
+
+    /// r1 to r5, which a CALL hands over.
+    fn handed_over(self) -> Places {
+        Places {
+            registers: self.registers & 0x3e,
+            slots: 0,
+        }
+    }
+
+    fn and(self, other: Places) -> Places {
+        Places {
+            registers: self.registers | other.registers,
+            slots: self.slots | other.slots,
+        }
+    }
+
+    fn without(self, other: Places) -> Places {
+        Places {
+            registers: self.registers & !other.registers,
+            slots: self.slots & !other.slots,
+        }
+    }
+
+    fn has_register(self, r: Reg) -> bool {
+        self.registers & Places::register(r).registers != 0
+    }
+
+    fn has_slot(self, k: u8) -> bool {
+        self.slots & Places::slot(k).slots != 0
+    }
+}
+
+// ---- what instructions read
+
+/// What an instruction reads, and what it writes as a whole.
+#[derive(Clone, Copy)]
+struct Needs {
+    read: Places,
+    written: Places,
+}
+
+fn operand(src: Operand) -> Places {
+    match src {
+        Operand::Imm(_imm) => Places::NONE,
+        Operand::Reg(r) => Places::register(r),
+    }
+}
+
+/// The slots that an access may touch.
+fn slots_touched(state: &State, base: Reg, off: i16, size: Size) -> Places {
+    let mut slots = Places::NONE;
+    if let Some((first, end)) = touched(state.reg(base), off, size) {
+        for k in first..end {
+            slots = slots.and(Places::slot(k));
+        }
+    }
+    slots
+}
+
+/// The slot that a store writes as a whole.
+fn slot_written(state: &State, base: Reg, off: i16, size: Size) -> Places {
+    if let (Size::DW, RegState::Frame { lo, hi }) = (size, state.reg(base)) {
+        let offset = lo.saturating_add(off as i64);
+        if lo == hi && offset & 7 == 0 {
+            return slots_touched(state, base, off, size);
+        }
+    }
+    Places::NONE
+}
+
+fn load(state: &State, dst: Reg, src: Reg, off: i16, size: Size) -> Needs {
+    Needs {
+        read: Places::register(src).and(slots_touched(state, src, off, size)),
+        written: Places::register(dst),
+    }
+}
+
+fn atomic(state: &State, wide: bool, op: AtomicOp, dst: Reg, off: i16, src: Reg) -> Needs {
+    let size = if wide { Size::DW } else { Size::W };
+    let mut read = Places::register(dst)
+        .and(Places::register(src))
+        .and(slots_touched(state, dst, off, size));
+    if op == AtomicOp::CmpXchg {
+        read = read.and(Places::register(Reg::R0));
+    }
+    let written = match fetched(op, src) {
+        Some(r) => Places::register(r),
+        None => Places::NONE,
+    };
+    Needs { read, written }
+}
+
+fn alu(op: AluOp, dst: Reg, src: Operand) -> Needs {
+    let written = Places::register(dst);
+    let read = if op == AluOp::Mov {
+        operand(src)
+    } else {
+        operand(src).and(written)
+    };
+    Needs { read, written }
+}
+
+fn reading(read: Places) -> Needs {
+    Needs {
+        read,
+        written: Places::NONE,
+    }
+}
+
+fn one(r: Reg) -> Needs {
+    Needs {
+        read: Places::register(r),
+        written: Places::register(r),
+    }
+}
+
+/// What an instruction reads and writes in a state, but for what a callee reads.
+fn needs_of(insn: &Insn, state: &State) -> Needs {
+    match *insn {
+        Insn::Alu { op, dst, src, .. } => alu(op, dst, src),
+        Insn::Neg { dst, .. } => one(dst),
+        Insn::End { dst, .. } => one(dst),
+        Insn::MovSx { dst, src, .. } => alu(AluOp::Mov, dst, Operand::Reg(src)),
+        Insn::LoadImm64 { dst, .. } => alu(AluOp::Mov, dst, Operand::Imm(0)),
+        Insn::JumpIf {
+            dst,
+            src,
+            off: _off,
+            ..
+        } => reading(Places::register(dst).and(operand(src))),
+        Insn::CallLocal { off: _off } => Needs {
+            read: Places::NONE,
+            written: Places::WRITTEN_BY_CALL,
+        },
+        Insn::Exit => reading(Places::register(Reg::R0)),
+        _ => needs_of_access(insn, state),
+    }
+}
+
+/// What an access to memory reads and writes in a state.
+fn needs_of_access(insn: &Insn, state: &State) -> Needs {
+    match *insn {
+        Insn::Load {
+            size,
+            dst,
+            src,
+            off,
+        } => load(state, dst, src, off, size),
+        Insn::LoadSx {
+            size,
+            dst,
+            src,
+            off,
+        } => load(state, dst, src, off, size),
+        Insn::Store {
+            size,
+            dst,
+            off,
+            src,
+        } => Needs {
+            read: Places::register(dst).and(Places::register(src)),
+            written: slot_written(state, dst, off, size),
+        },
+        Insn::StoreImm { size, dst, off, .. } => Needs {
+            read: Places::register(dst),
+            written: slot_written(state, dst, off, size),
+        },
+        Insn::Atomic {
+            wide,
+            op,
+            dst,
+            off,
+            src,
+        } => atomic(state, wide, op, dst, off, src),
+        _ => reading(Places::NONE),
+    }
+}
+
+// ---- what is read later
+
+/// The places that are read behind each label before they are written.
+#[derive(Drop)]
+struct Liveness<'a> {
+    task: Task<'a>,
+    /// By functions, what each reads of what it begins with.
+    callees: &'a [Places],
+    /// By slots from the function's first on.
+    needs: Vec<Needs>,
+    /// By labels.
+    live: Vec<Places>,
+}
+
+impl<'a> Watcher for Liveness<'a> {
+    fn before(&mut self, slot: u32, insn: &Insn, state: &State) -> Result<(), AllocError> {
+        let mut needs = needs_of(insn, state);
+        if let Flow::Call(target) = Flow::of(slot, insn) {
+            let callee = self.task.outline.function_of(target) as usize;
+            let read = self.callees.get(callee).copied().unwrap_or(Places::ALL);
+            needs.read = needs.read.and(read.handed_over());
+        }
+        let place = self.task.region.place(slot);
+        put(&mut self.needs, place, needs);
+        Ok(())
+    }
+
+    fn edge(&mut self, _from: usize, _to: usize, _state: &State) -> Result<(), AllocError> {
+        Ok(())
+    }
+
+    fn call(&mut self, _callee: usize, _state: &State) -> Result<(), AllocError> {
+        Ok(())
+    }
+
+    fn exit(&mut self, _state: &State) {}
+
+    fn fault(&mut self, _slot: u32, _wrong: Wrong) {}
+}
+
+impl<'a> Liveness<'a> {
+    fn live_at(&self, label: usize) -> Places {
+        self.live.get(label).copied().unwrap_or(Places::NONE)
+    }
+
+    /// What is read before an instruction, from what is read behind it.
+    fn before(&self, slot: u32, insn: &Insn, behind: Places) -> Places {
+        let region = self.task.region;
+        let flow = Flow::of(slot, insn);
+        let mut live = if flow.goes_on() { behind } else { Places::NONE };
+        if let Some(target) = flow.jump() {
+            live = live.and(self.live_at(region.segment(target)));
+        }
+        match self.needs.get(region.place(slot)) {
+            Some(needs) => live.without(needs.written).and(needs.read),
+            None => live,
+        }
+    }
+
+    /// What is read behind a label, by its segment's instructions and from what is read behind the labels that follow.
+    fn behind(&self, label: usize) -> Places {
+        let region = self.task.region;
+        let mut live = self.live_at(label.saturating_add(1));
+        for slot in (region.slot(label)..region.segment_end(label)).rev() {
+            if let Some(insn) = self.task.program.at(slot) {
+                live = self.before(slot, insn, live);
+            }
+        }
+        live
+    }
+
+    /// Goes over all segments. Whether something changed.
+    fn round(&mut self) -> bool {
+        let mut has_changed = false;
+        for label in (0..self.live.len()).rev() {
+            let live = self.behind(label);
+            if live != self.live_at(label) {
+                put(&mut self.live, label, live);
+                has_changed = true;
+            }
+        }
+        has_changed
+    }
+}
+
+/// By labels, the places that are read behind each before they are written.
+pub fn places_read(
+    alloc: Global,
+    task: Task,
+    states: &[Held],
+    callees: &[Places],
+) -> Result<Vec<Places>, AllocError> {
+    let count = task.region.labels();
+    let mut liveness = Liveness {
+        task,
+        callees,
+        needs: vec![in alloc; reading(Places::NONE); task.region.slots()]?,
+        live: vec![in alloc; Places::NONE; count]?,
+    };
+    walk_all(task, states, &mut liveness)?;
+    for _ in 0..ROUNDS {
+        if !liveness.round() {
+            return Ok(liveness.live);
+        }
+    }
+    vec![in alloc; Places::ALL; count]
+}
+
+// ---- less to say
+
+/// The same number by fewer parts, where those that are left imply the others.
+pub fn least_number(number: Num) -> Num {
+    let Some(full) = number.tighten() else {
+        return number;
+    };
+    let (bits, unsigned, signed) = (number.bits(), number.unsigned(), number.signed());
+    let (no_bits, no_unsigned, no_signed) = (KnownBits::top(), Unsigned::top(), Signed::top());
+    for fewer in [
+        Num::top(),
+        Num::of(no_bits, unsigned, no_signed),
+        Num::of(no_bits, no_unsigned, signed),
+        Num::of(bits, no_unsigned, no_signed),
+        Num::of(no_bits, unsigned, signed),
+        Num::of(bits, unsigned, no_signed),
+        Num::of(bits, no_unsigned, signed),
+    ] {
+        if let Some(tight) = fewer.tighten() {
+            if tight.entails(full) {
+                return fewer;
+            }
+        }
+    }
+    number
+}
+
+fn spare_registers(state: &mut State, live: Places) {
+    for r in REGISTERS {
+        if !live.has_register(r) {
+            state.set_reg(r, RegState::Any);
+        } else if let RegState::Num(number) = state.reg(r) {
+            state.set_reg(r, RegState::Num(least_number(number)));
+        }
+    }
+}
+
+fn spare_slots(state: &mut State, live: Places) {
+    for k in 1..65u8 {
+        if !live.has_slot(k) {
+            state.set_slot(k, SlotState::Bytes(0));
+        } else if let SlotState::Word(number) = state.slot(k) {
+            state.set_slot(k, SlotState::Word(least_number(number)));
+        }
+    }
+}
+
+/// Makes labels' states say nothing of places that aren't read behind them, and no more of numbers than is needed.
+pub fn spare(states: &mut Vec<Held>, live: &[Places]) {
+    for label in 0..states.len() {
+        let read = live.get(label).copied().unwrap_or(Places::ALL);
+        if let Some(Some(state)) = states.get_mut(label) {
+            spare_registers(&mut **state, read);
+            spare_slots(&mut **state, read);
+        }
+    }
+}

@@ -1,0 +1,138 @@
+//! What two states have in common.
+
+ghost use Rattle.std.specs.Prelude.{◌≤ℤ◌};
+ghost use Rattle.std.specs.Option.{ForSome};
+ghost use Rattle.bpf_state.specs.State.{IsRegister, IsPointer, IsSlot};
+
+use crate::places::REGISTERS;
+use crate::widen::Stops;
+use bpf_num::Num;
+use bpf_state::{Pointer, RegState, SlotState, State};
+
+fn join_num(old: Num, new: Num, stops: Option<&Stops>) -> Num {
+    let joined = old.join(new);
+    match stops {
+        Some(stops) => stops.number(old, joined),
+        None => joined,
+    }
+}
+
+fn least(old: i64, new: i64, stops: Option<&Stops>) -> i64
+    ensures old { result ≤ℤ old }
+    ensures new { result ≤ℤ new }
+{
+    let joined = old.min(new);
+    match stops {
+        Some(stops) => stops.least(old, joined),
+        None => joined,
+    }
+}
+
+fn greatest(old: i64, new: i64, stops: Option<&Stops>) -> i64
+    ensures old { old ≤ℤ result }
+    ensures new { new ≤ℤ result }
+{
+    let joined = old.max(new);
+    match stops {
+        Some(stops) => stops.greatest(old, joined),
+        None => joined,
+    }
+}
+
+/// What is known of a register that is in one of two states; unlike kinds leave nothing.
+pub fn join_register(old: RegState, new: RegState, stops: Option<&Stops>) -> RegState
+    requires old { IsRegister old }
+    requires new { IsRegister new }
+    ensures { IsRegister result }
+{
+    match old {
+        RegState::Any => RegState::Any,
+        RegState::Num(a) => match new {
+            RegState::Num(b) => RegState::Num(join_num(a, b, stops)),
+            RegState::Any | RegState::Ctx { .. } | RegState::Frame { .. } => RegState::Any,
+        },
+        RegState::Ctx { lo: a, hi: b } => match new {
+            RegState::Ctx { lo: c, hi: d } => RegState::Ctx {
+                lo: least(a, c, stops),
+                hi: greatest(b, d, stops),
+            },
+            RegState::Any | RegState::Num(_) | RegState::Frame { .. } => RegState::Any,
+        },
+        RegState::Frame { lo: a, hi: b } => match new {
+            RegState::Frame { lo: c, hi: d } => RegState::Frame {
+                lo: least(a, c, stops),
+                hi: greatest(b, d, stops),
+            },
+            RegState::Any | RegState::Num(_) | RegState::Ctx { .. } => RegState::Any,
+        },
+    }
+}
+
+/// What is known of a pointer in a slot that is one of two; None for one into the context and one into the frame.
+fn join_pointer(old: Pointer, new: Pointer, stops: Option<&Stops>) -> Option<Pointer>
+    requires old { IsPointer old }
+    requires new { IsPointer new }
+    ensures { ForSome result IsPointer }
+{
+    match (old, new) {
+        (Pointer::Ctx { lo: a, hi: b }, Pointer::Ctx { lo: c, hi: d }) => Some(Pointer::Ctx {
+            lo: least(a, c, stops),
+            hi: greatest(b, d, stops),
+        }),
+        (Pointer::Frame { lo: a, hi: b }, Pointer::Frame { lo: c, hi: d }) => {
+            Some(Pointer::Frame {
+                lo: least(a, c, stops),
+                hi: greatest(b, d, stops),
+            })
+        }
+        _ => None,
+    }
+}
+
+/// What is known of a slot that is in one of two states; unlike kinds leave the bytes that both know.
+pub fn join_slot(old: SlotState, new: SlotState, stops: Option<&Stops>) -> SlotState
+    requires old { IsSlot old }
+    requires new { IsSlot new }
+    ensures { IsSlot result }
+{
+    match old {
+        SlotState::Bytes(m) => match new {
+            SlotState::Bytes(n) => SlotState::Bytes(m & n),
+            SlotState::Word(_) => SlotState::Bytes(m),
+            SlotState::Ptr(_) => SlotState::Bytes(0),
+        },
+        SlotState::Word(a) => match new {
+            SlotState::Bytes(n) => SlotState::Bytes(n),
+            SlotState::Word(b) => SlotState::Word(join_num(a, b, stops)),
+            SlotState::Ptr(_) => SlotState::Bytes(0),
+        },
+        SlotState::Ptr(p) => match new {
+            SlotState::Ptr(q) => match join_pointer(p, q, stops) {
+                Some(pointer) => SlotState::Ptr(pointer),
+                None => SlotState::Bytes(0),
+            },
+            SlotState::Bytes(_) | SlotState::Word(_) => SlotState::Bytes(0),
+        },
+    }
+}
+
+fn join_registers(old: &mut State, new: &State, stops: Option<&Stops>) {
+    for r in REGISTERS {
+        old.set_reg(r, join_register(old.reg(r), new.reg(r), stops));
+    }
+}
+
+fn join_slots(old: &mut State, new: &State, stops: Option<&Stops>) {
+    for k in 1..65u8 {
+        let held = old.slot(k);
+        if !matches!(held, SlotState::Bytes(0)) {
+            old.set_slot(k, join_slot(held, new.slot(k), stops));
+        }
+    }
+}
+
+/// Makes a state one that both lie in; with stops, one that takes a loop but a few rounds.
+pub fn join(old: &mut State, new: &State, stops: Option<&Stops>) {
+    join_registers(old, new, stops);
+    join_slots(old, new, stops);
+}

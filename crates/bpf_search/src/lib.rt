@@ -1,0 +1,25 @@
+//! The search for certificates. It makes no claim but to be safe and to end: who proposes what it finds puts it to the test.
+#![tactic(auto)]
+
+mod budgets;
+mod deep;
+mod flow;
+mod functions;
+mod join;
+mod labels;
+mod lines;
+mod loops;
+mod places;
+mod plain;
+mod proposal;
+mod rounds;
+mod sketch;
+mod walk;
+mod watch;
+mod widen;
+
+pub use deep::deep_proposal;
+pub use plain::plain_proposal;
+pub use proposal::Proposal;
+pub use sketch::{Obstacle, Sketch, Trial, sketch_of};
+pub use watch::{Unwatched, Watch};

@@ -1,0 +1,63 @@
+//! The places that may hold a counter: r0 to r9 and the 64 slots of the frame.
+
+ghost use Rattle.bpf_state.specs.State.{IsPlace};
+
+use bpf_insn::Reg;
+use bpf_num::Num;
+use bpf_state::{Entries, Place, RegState, SlotState, State};
+
+/// The registers that a program may write.
+pub const REGISTERS: [Reg; 10] = [
+    Reg::R0,
+    Reg::R1,
+    Reg::R2,
+    Reg::R3,
+    Reg::R4,
+    Reg::R5,
+    Reg::R6,
+    Reg::R7,
+    Reg::R8,
+    Reg::R9,
+];
+
+/// How many places there are.
+pub const PLACES: usize = 74;
+
+/// A place by its number: registers rise first, then slots, of which the last has all numbers from 73 on.
+pub fn place(number: usize) -> Place
+    ensures { IsPlace result }
+{
+    if number < 10 {
+        Place::Register(REGISTERS[number])
+    } else {
+        Place::Slot((number.min(PLACES - 1) - 9) as u8)
+    }
+}
+
+/// The number that a place holds, if it holds one.
+pub fn number_at(state: &State, number: usize) -> Option<Num> {
+    match place(number) {
+        Place::Register(r) => match state.reg(r) {
+            RegState::Num(held) => Some(held),
+            RegState::Any | RegState::Ctx { .. } | RegState::Frame { .. } => None,
+        },
+        Place::Slot(k) => match state.slot(k) {
+            SlotState::Word(held) => Some(held),
+            SlotState::Bytes(_) | SlotState::Ptr(_) => None,
+        },
+    }
+}
+
+/// The number that a label says of a place, if it says one.
+pub fn number_said(label: &Entries, number: usize) -> Option<Num> {
+    match place(number) {
+        Place::Register(r) => match label.reg(r) {
+            RegState::Num(held) => Some(held),
+            RegState::Any | RegState::Ctx { .. } | RegState::Frame { .. } => None,
+        },
+        Place::Slot(k) => match label.slot(k) {
+            SlotState::Word(held) => Some(held),
+            SlotState::Bytes(_) | SlotState::Ptr(_) => None,
+        },
+    }
+}

@@ -1,0 +1,265 @@
+//! The states at the labels: rounds over each function until nothing changes, callers before callees.
+
+use crate::functions::Depths;
+use crate::join::join;
+use crate::places::number_at;
+use crate::walk::{Edge, Visitor, Walk};
+use crate::watch::Watch;
+use crate::widen::Stops;
+use bpf_num::Num;
+use bpf_proposal::InferError;
+use bpf_state::{State, enter};
+use std::alloc::{AllocError, Global};
+
+/// The most rounds over a function.
+const ROUNDS: u32 = 64;
+
+/// The first round in which bounds that moved are moved on to a stop.
+const FIRST_WIDE_ROUND: u32 = 4;
+
+/// What is known of the blocks of a program, each by their numbers.
+#[derive(Drop)]
+pub struct Rounds {
+    /// The states at the labels, None where none was reached.
+    pub states: Vec<Option<State>>,
+    /// The block of the last edge that leads back to each.
+    pub backs: Vec<Option<usize>>,
+    /// The lowest slot that isn't reached in each, else its end.
+    reached: Vec<u32>,
+    /// Whose states changed since they were last walked over.
+    changed: Vec<bool>,
+    /// Whether a state changed in this round.
+    has_changed: bool,
+    is_wide: bool,
+    alloc: Global,
+    /// Made when the first bound is moved on.
+    stops: Stops,
+}
+
+/// Puts an element into its place, if there is one.
+pub fn put<T: Drop>(list: &mut Vec<T>, index: usize, element: T) {
+    if let Some(place) = list.get_mut(index) {
+        *place = element;
+    }
+}
+
+fn add_back(backs: &mut Vec<Option<usize>>, edge: Edge) {
+    if let Some(last) = backs.get_mut(edge.to) {
+        *last = Some(last.unwrap_or(0).max(edge.from));
+    }
+}
+
+/// Makes a state one that another lies in too.
+fn arrive(held: &mut Option<State>, state: &State, stops: Option<&Stops>) {
+    match held {
+        Some(old) => join(old, state, stops),
+        None => {
+            let mut first = state.copy();
+            first.clear_tags();
+            *held = Some(first);
+        }
+    }
+}
+
+fn arrive_at(states: &mut Vec<Option<State>>, block: usize, state: &State, stops: Option<&Stops>) {
+    if let Some(held) = states.get_mut(block) {
+        arrive(held, state, stops);
+    }
+}
+
+fn no_states(alloc: Global, count: usize) -> Result<Vec<Option<State>>, AllocError> {
+    let mut states = Vec::with_capacity(alloc, count)?;
+    for _ in 0..count {
+        states.push(None)?;
+    }
+    Ok(states)
+}
+
+impl Visitor for Rounds {
+    fn edge(&mut self, edge: Edge, _done: i128, state: &State) -> Result<(), AllocError> {
+        if edge.to <= edge.from {
+            add_back(&mut self.backs, edge);
+        }
+        self.reach(edge.to, state, self.is_wide);
+        Ok(())
+    }
+
+    fn call(&mut self, callee: usize, state: &State) -> Result<(), AllocError> {
+        let mut entry = state.copy();
+        enter(&mut entry);
+        self.reach(callee, &entry, false);
+        Ok(())
+    }
+
+    fn exit(&mut self, _from: usize, _done: i128) -> Result<(), AllocError> {
+        Ok(())
+    }
+}
+
+impl Rounds {
+    /// No state is reached yet.
+    pub fn new(alloc: Global, walk: &Walk) -> Result<Rounds, AllocError> {
+        let count = walk.outline.block_count();
+        Ok(Rounds {
+            states: no_states(alloc, count)?,
+            backs: vec![in alloc; None; count]?,
+            reached: vec![in alloc; 0; count]?,
+            changed: vec![in alloc; false; count]?,
+            has_changed: false,
+            is_wide: false,
+            alloc,
+            stops: Stops::new(alloc),
+        })
+    }
+
+    fn lies_in(&self, block: usize, state: &State) -> bool {
+        match self.states.get(block) {
+            Some(Some(held)) => state.entails(held),
+            _ => false,
+        }
+    }
+
+    /// Takes note that a label is reached in a state.
+    pub fn reach(&mut self, block: usize, state: &State, is_wide: bool) {
+        if self.lies_in(block, state) {
+            return;
+        }
+        if is_wide {
+            arrive_at(&mut self.states, block, state, Some(&self.stops));
+        } else {
+            arrive_at(&mut self.states, block, state, None);
+        }
+        put(&mut self.changed, block, true);
+        self.has_changed = true;
+    }
+
+    /// Makes a state the one at a label, with its numbers tightened. False if it isn't reached.
+    pub fn load(&self, block: usize, room: &mut State) -> bool {
+        match self.states.get(block) {
+            Some(Some(state)) => {
+                room.copy_from(state);
+                room.tighten()
+            }
+            _ => false,
+        }
+    }
+
+    /// The number in a place at a label, tightened.
+    pub fn number(&self, block: usize, number: usize) -> Option<Num> {
+        match self.states.get(block) {
+            Some(Some(state)) => number_at(state, number)?.tighten(),
+            _ => None,
+        }
+    }
+
+    fn walk_over(&mut self, walk: &Walk, block: usize, room: &mut State) -> Result<(), InferError> {
+        put(&mut self.changed, block, false);
+        let reached = if self.load(block, room) {
+            walk.over(block, room, self)?
+        } else {
+            walk.outline.label(block)
+        };
+        put(&mut self.reached, block, reached);
+        Ok(())
+    }
+
+    /// Goes over a function's blocks. Those whose states are as they were lead to the same states again. How many were gone
+    /// over.
+    fn round(
+        &mut self,
+        walk: &Walk,
+        function: usize,
+        room: &mut State,
+    ) -> Result<usize, InferError> {
+        self.has_changed = false;
+        let mut count = 0usize;
+        let end = walk.outline.first_block(function.saturating_add(1));
+        for block in walk.outline.first_block(function)..end {
+            if self.changed.get(block).copied().unwrap_or(false) {
+                self.walk_over(walk, block, room)?;
+                count = count.saturating_add(1);
+            }
+        }
+        Ok(count)
+    }
+
+    /// Makes the stops, if they aren't made.
+    fn make_stops(&mut self, walk: &Walk) -> Result<(), AllocError> {
+        if self.stops.is_empty() {
+            self.stops = Stops::of(self.alloc, walk.program, walk.least, walk.most)?;
+        }
+        Ok(())
+    }
+
+    /// Goes over a function until nothing changes: I1 if that takes more than 64 rounds.
+    fn settle<W: Watch>(
+        &mut self,
+        walk: &Walk,
+        function: usize,
+        watch: &mut W,
+    ) -> Result<(), InferError> {
+        let mut room = State::blank();
+        for round in 1..=ROUNDS {
+            self.is_wide = round >= FIRST_WIDE_ROUND;
+            if self.is_wide {
+                self.make_stops(walk)?;
+            }
+            watch.tell(self.round(walk, function, &mut room)?);
+            if !self.has_changed {
+                return Ok(());
+            }
+        }
+        let block = walk.outline.first_block(function);
+        Err(InferError::Unstable {
+            slot: walk.outline.label(block),
+        })
+    }
+
+    /// Goes over the functions of a depth until nothing changes.
+    pub fn settle_depth<W: Watch>(
+        &mut self,
+        walk: &Walk,
+        depths: &Depths,
+        depth: u32,
+        watch: &mut W,
+    ) -> Result<(), InferError> {
+        for function in 0..walk.outline.function_count() {
+            if depths.get(function).copied().unwrap_or(0) == depth {
+                self.settle(walk, function, watch)?;
+            }
+        }
+        Ok(())
+    }
+
+    /// I4 (C11) at the lowest instruction that isn't reached.
+    fn check_reached(&self, walk: &Walk) -> Result<(), InferError> {
+        for block in 0..self.reached.len() {
+            let reached = self.reached.get(block).copied().unwrap_or(0);
+            if reached < walk.outline.end(block) {
+                return Err(InferError::Fault {
+                    slot: reached.max(walk.outline.label(block)),
+                    condition: 11,
+                });
+            }
+        }
+        Ok(())
+    }
+}
+
+/// The states of a program's labels, from the state that it starts in. I1 at a function whose states aren't stable after 64 rounds; I4 at an instruction
+/// that is refused or never reached.
+pub fn states_of<W: Watch>(
+    alloc: Global,
+    walk: &Walk,
+    depths: &Depths,
+    start: &State,
+    watch: &mut W,
+) -> Result<Rounds, InferError> {
+    let mut rounds = Rounds::new(alloc, walk)?;
+    rounds.reach(0, start, false);
+    for depth in (1..9).rev() {
+        rounds.settle_depth(walk, depths, depth, watch)?;
+    }
+    rounds.check_reached(walk)?;
+    Ok(rounds)
+}

@@ -1,0 +1,20 @@
+//! Who watches a search.
+
+/// Is told how far a search is. What is found doesn't depend on it.
+pub trait Watch {
+    /// So many more labels were gone over.
+    fn tell(&mut self, labels: usize);
+
+    /// The search is over.
+    fn end(&mut self);
+}
+
+/// Nobody.
+#[derive(Drop)]
+pub struct Unwatched;
+
+impl Watch for Unwatched {
+    fn tell(&mut self, _labels: usize) {}
+
+    fn end(&mut self) {}
+}

@@ -1,0 +1,211 @@
+-- Labels that are chained by the places of their names.
+use Rattle.std.proofs.Common.{◌≡◌, ℕ, ◌+◌, ◌-◌, ◌<◌, ◌≤◌, ⊎_elim, Bool, true, false, cond, List, [], ◌∷◌, ◌++◌, Some, None, length, take, get_or, set, map, replicate, refl, sym, ap, ◌∙◌, subst, length-append, arith}
+use Rattle.std.specs.Str.{bytes_eq}
+use Rattle.std.proofs.lemmas.Slice.Eq.{bytes_eq-Decides}
+use Rattle.std.proofs.lemmas.Bool.{cases_eq}
+use Rattle.std.proofs.lemmas.List.{take_more, take_all, take-append-le, get_or_append_left, get_or_push, get_or-set_same, get_or-set_other, get_or-replicate, length-replicate, length-set, length-map, get_or-map, map-append}
+use Rattle.bpf_text.specs.Sources.{Label}
+use Rattle.bpf_text.specs.Assembly.{slot_of}
+use Rattle.bpf_text.specs.declared.chains.Entry.{Entry}
+use Rattle.bpf_text.specs.code.Chains.{place_of, Leads, IsChained, Seeks, entry_label, entry_link}
+use Rattle.bpf_text.proofs.AssemblerLemmas.{slot_push}
+
+-- ---- a search
+
+-- the labels below one place more
+one_more : (ls : List Label) (k : ℕ) (d : Label) (name : List ℕ) → k < length ls → slot_of (take k ls) (get_or ls k d).name ≡ None
+    → slot_of (take (k + 1) ls) name ≡ cond (bytes_eq (get_or ls k d).name name) (Some (get_or ls k d).slot) (slot_of (take k ls) name)
+one_more ls k d name inside none = ap (λ xs. slot_of xs name) (take_more ls k d inside) ∙ slot_push (take k ls) (get_or ls k d) name none
+
+at_label : (places : ℕ) (ls : List Label) (heads links : List ℕ) → IsChained places ls heads links → (name : List ℕ) (at : ℕ) (d : Label) → Seeks places ls name at → 0 < at
+    → slot_of ls name ≡ cond (bytes_eq (get_or ls (at - 1) d).name name) (Some (get_or ls (at - 1) d).slot) (slot_of (take (at - 1) ls) name)
+at_label places ls heads links chained name at d seeks some =
+    let whole : at ≡ at - 1 + 1 = omega (arith, some) in
+    let below : at - 1 < length ls = omega (arith, some, seeks.inside) in
+    sym seeks.same ∙ ap (λ n. slot_of (take n ls) name) whole ∙ one_more ls (at - 1) d name below (chained.differ (at - 1) d below)
+
+pub seek_found : (places : ℕ) (ls : List Label) (heads links : List ℕ) → IsChained places ls heads links → (name : List ℕ) (at : ℕ) (d : Label) → Seeks places ls name at → 0 < at
+    → bytes_eq (get_or ls (at - 1) d).name name ≡ true → Some (get_or ls (at - 1) d).slot ≡ slot_of ls name
+seek_found places ls heads links chained name at d seeks some e = sym (at_label places ls heads links chained name at d seeks some ∙ ap (λ b. cond b (Some (get_or ls (at - 1) d).slot) (slot_of (take (at - 1) ls) name)) e)
+
+pub seek_on : (places : ℕ) (ls : List Label) (heads links : List ℕ) → IsChained places ls heads links → (name : List ℕ) (at x : ℕ) (d : Label) → Seeks places ls name at → 0 < at
+    → bytes_eq (get_or ls (at - 1) d).name name ≡ false → Seeks places ls name (get_or links (at - 1) x)
+seek_on places ls heads links chained name at x d seeks some e =
+    let below : at - 1 < length ls = omega (arith, some, seeks.inside) in
+    let lead : Leads places ls (place_of places (get_or ls (at - 1) d).name) (at - 1) (get_or links (at - 1) x) = chained.goes_on (at - 1) x d below in
+    let here : place_of places (get_or ls (at - 1) d).name ≡ place_of places name = seeks.there d some in
+    let rest : slot_of ls name ≡ slot_of (take (at - 1) ls) name = at_label places ls heads links chained name at d seeks some ∙ ap (λ b. cond b (Some (get_or ls (at - 1) d).slot) (slot_of (take (at - 1) ls) name)) e in
+    record {
+      inside = omega (arith, lead.inside, seeks.inside);
+      there = λ f more. lead.there f more ∙ here;
+      same = lead.same name (sym here) ∙ sym rest;
+    }
+
+pub seek_ends : (places : ℕ) (ls : List Label) (name : List ℕ) → Seeks places ls name 0 → None ≡ slot_of ls name
+seek_ends places ls name seeks = seeks.same
+
+pub seek_begins : (places : ℕ) (ls : List Label) (heads links : List ℕ) → IsChained places ls heads links → (name : List ℕ) (x : ℕ) → place_of places name < places → Seeks places ls name (get_or heads (place_of places name) x)
+seek_begins places ls heads links chained name x inside =
+    let lead : Leads places ls (place_of places name) (length ls) (get_or heads (place_of places name) x) = chained.begins (place_of places name) x inside in
+    record {
+      inside = lead.inside;
+      there = λ d some. lead.there d some;
+      same = lead.same name refl ∙ ap (λ xs. slot_of xs name) (take_all (length ls) ls (omega arith));
+    }
+
+-- each link goes down
+pub link_below : (places : ℕ) (ls : List Label) (heads links : List ℕ) → IsChained places ls heads links → (k x : ℕ) → Label → k < length ls → get_or links k x ≤ k
+link_below places ls heads links chained k x d inside = let lead : Leads places ls (place_of places (get_or ls k d).name) k (get_or links k x) = chained.goes_on k x d inside in lead.inside
+
+-- ---- no labels
+
+pub nothing_chained : (places : ℕ) → 0 < places → places < 4294967296 → IsChained places [] (replicate places 0) []
+nothing_chained places some few = record {
+  some = some;
+  few = few;
+  counted = length-replicate places 0;
+  linked = refl;
+  begins = λ place d inside. subst (Leads places [] place 0) (sym (get_or-replicate places place 0 d inside)) (record { inside = omega arith; there = λ e some. absurd (no_less some); same = λ name e. refl });
+  goes_on = λ k d e inside. absurd (no_less inside);
+  differ = λ k d inside. absurd (no_less inside);
+}
+  where
+    no_less : {n : ℕ} → n < 0 → ⊥
+    no_less h = omega (arith, h)
+
+-- ---- one label more
+
+-- the same chain, with labels behind those that it is among
+lead_more : (places : ℕ) (ls ms : List Label) (place n at : ℕ) → n ≤ length ls → Leads places ls place n at → Leads places (ls ++ ms) place n at
+lead_more places ls ms place n at few lead = record {
+  inside = lead.inside;
+  there = λ d some. ap (λ (l : Label). place_of places l.name) (get_or_append_left ls ms d (at - 1) (omega (arith, some, few, lead.inside))) ∙ lead.there d some;
+  same = λ name e. ap (λ xs. slot_of xs name) (take-append-le at ls ms (omega (arith, few, lead.inside))) ∙ lead.same name e ∙ sym (ap (λ xs. slot_of xs name) (take-append-le n ls ms few));
+}
+
+others_apart : (places : ℕ) (l : Label) (place : ℕ) (name : List ℕ) → (place ≡ place_of places l.name → ⊥) → place_of places name ≡ place → bytes_eq l.name name ≡ false
+others_apart places l place name apart e = go (bytes_eq l.name name) refl
+  where
+    go : (b : Bool) → bytes_eq l.name name ≡ b → b ≡ false
+    go true f = absurd (apart (sym e ∙ ap (place_of places) (sym ((bytes_eq-Decides l.name name).0 f))))
+    go false f = refl
+
+-- the chain of another place
+lead_other : (places : ℕ) (ls : List Label) (l : Label) (place at : ℕ) → slot_of ls l.name ≡ None → (place ≡ place_of places l.name → ⊥) → Leads places ls place (length ls) at → Leads places (ls ++ l ∷ []) place (length (ls ++ l ∷ [])) at
+lead_other places ls l place at none apart lead =
+    let more : Leads places (ls ++ l ∷ []) place (length ls) at = lead_more places ls (l ∷ []) place (length ls) at (omega arith) lead in
+    record {
+      inside = omega (arith, more.inside, length-append ls (l ∷ []));
+      there = λ d some. more.there d some;
+      same = λ name e. more.same name e ∙ ap (λ xs. slot_of xs name) (take-append-le (length ls) ls (l ∷ []) (omega arith) ∙ take_all (length ls) ls (omega arith))
+          ∙ sym (ap (λ xs. slot_of xs name) (take_all (length (ls ++ l ∷ [])) (ls ++ l ∷ []) (omega arith)) ∙ slot_push ls l name none ∙ ap (λ b. cond b (Some l.slot) (slot_of ls name)) (others_apart places l place name apart e));
+    }
+
+-- the chain that the label is put on
+lead_here : (places : ℕ) (ls : List Label) (l : Label) → Leads places (ls ++ l ∷ []) (place_of places l.name) (length (ls ++ l ∷ [])) (length ls + 1)
+lead_here places ls l =
+    let count : length (ls ++ l ∷ []) ≡ length ls + 1 = length-append ls (l ∷ []) in
+    record {
+      inside = omega (arith, count);
+      there = λ d some. ap (λ (m : Label). place_of places m.name) (get_or_push ls l d (length ls + 1 - 1) (omega arith));
+      same = λ name e. ap (λ n. slot_of (take n (ls ++ l ∷ [])) name) (sym count);
+    }
+
+pub chained_more : (places : ℕ) (ls : List Label) (heads links : List ℕ) (l : Label) (head : ℕ) → IsChained places ls heads links → slot_of ls l.name ≡ None → place_of places l.name < places
+    → ((x : ℕ) → head ≡ get_or heads (place_of places l.name) x) → IsChained places (ls ++ l ∷ []) (set heads (place_of places l.name) (length ls + 1)) (links ++ head ∷ [])
+chained_more places ls heads links l head chained none inside is = record {
+  some = chained.some;
+  few = chained.few;
+  counted = length-set heads (place_of places l.name) (length ls + 1) ∙ chained.counted;
+  linked = omega (arith, chained.linked, length-append ls (l ∷ []), length-append links (head ∷ []));
+  begins = λ place d h. ⊎_elim (λ e. at_place place d e) (λ apart. at_other place d h apart) (cases_eq place (place_of places l.name));
+  goes_on = λ k d e h. ⊎_elim (λ f. last_goes k d e f) (λ apart. other_goes k d e h apart) (cases_eq k (length ls));
+  differ = λ k d h. ⊎_elim (λ e. last_differs k d e) (λ apart. other_differs k d h apart) (cases_eq k (length ls));
+}
+  where
+    at_place : (place d : ℕ) → place ≡ place_of places l.name → Leads places (ls ++ l ∷ []) place (length (ls ++ l ∷ [])) (get_or (set heads (place_of places l.name) (length ls + 1)) place d)
+    at_place place d e =
+        let value : get_or (set heads (place_of places l.name) (length ls + 1)) (place_of places l.name) d ≡ length ls + 1 = get_or-set_same heads (place_of places l.name) (length ls + 1) d (omega (arith, inside, chained.counted)) in
+        subst (λ p. Leads places (ls ++ l ∷ []) p (length (ls ++ l ∷ [])) (get_or (set heads (place_of places l.name) (length ls + 1)) p d)) (sym e)
+        (subst (Leads places (ls ++ l ∷ []) (place_of places l.name) (length (ls ++ l ∷ []))) (sym value) (lead_here places ls l))
+
+    at_other : (place d : ℕ) → place < places → (place ≡ place_of places l.name → ⊥) → Leads places (ls ++ l ∷ []) place (length (ls ++ l ∷ [])) (get_or (set heads (place_of places l.name) (length ls + 1)) place d)
+    at_other place d h apart =
+        subst (Leads places (ls ++ l ∷ []) place (length (ls ++ l ∷ []))) (sym (get_or-set_other heads (place_of places l.name) place (length ls + 1) d apart)) (lead_other places ls l place (get_or heads place d) none apart (chained.begins place d h))
+
+    few_below : (k : ℕ) → k < length (ls ++ l ∷ []) → (k ≡ length ls → ⊥) → k < length ls
+    few_below k h apart = omega (arith, h, apart, length-append ls (l ∷ []))
+
+    last_goes : (k d : ℕ) (e : Label) → k ≡ length ls → Leads places (ls ++ l ∷ []) (place_of places (get_or (ls ++ l ∷ []) k e).name) k (get_or (links ++ head ∷ []) k d)
+    last_goes k d e f =
+        let label : get_or (ls ++ l ∷ []) k e ≡ l = get_or_push ls l e k (sym f) in
+        let link : get_or (links ++ head ∷ []) k d ≡ get_or heads (place_of places l.name) d = get_or_push links head d k (chained.linked ∙ sym f) ∙ is d in
+        subst (λ (m : Label). Leads places (ls ++ l ∷ []) (place_of places m.name) k (get_or (links ++ head ∷ []) k d)) (sym label)
+        (subst (Leads places (ls ++ l ∷ []) (place_of places l.name) k) (sym link)
+        (subst (λ n. Leads places (ls ++ l ∷ []) (place_of places l.name) n (get_or heads (place_of places l.name) d)) (sym f) (lead_more places ls (l ∷ []) (place_of places l.name) (length ls) (get_or heads (place_of places l.name) d) (omega arith) (chained.begins (place_of places l.name) d inside))))
+
+    other_goes : (k d : ℕ) (e : Label) → k < length (ls ++ l ∷ []) → (k ≡ length ls → ⊥) → Leads places (ls ++ l ∷ []) (place_of places (get_or (ls ++ l ∷ []) k e).name) k (get_or (links ++ head ∷ []) k d)
+    other_goes k d e h apart =
+        let below : k < length ls = few_below k h apart in
+        subst (λ (m : Label). Leads places (ls ++ l ∷ []) (place_of places m.name) k (get_or (links ++ head ∷ []) k d)) (sym (get_or_append_left ls (l ∷ []) e k below))
+        (subst (Leads places (ls ++ l ∷ []) (place_of places (get_or ls k e).name) k) (sym (get_or_append_left links (head ∷ []) d k (omega (arith, below, chained.linked))))
+        (lead_more places ls (l ∷ []) (place_of places (get_or ls k e).name) k (get_or links k d) (omega (arith, below)) (chained.goes_on k d e below)))
+
+    last_differs : (k : ℕ) (d : Label) → k ≡ length ls → slot_of (take k (ls ++ l ∷ [])) (get_or (ls ++ l ∷ []) k d).name ≡ None
+    last_differs k d e =
+        let label : get_or (ls ++ l ∷ []) k d ≡ l = get_or_push ls l d k (sym e) in
+        let front : take k (ls ++ l ∷ []) ≡ ls = take-append-le k ls (l ∷ []) (omega (arith, e)) ∙ take_all k ls (omega (arith, e)) in
+        ap (λ (m : Label). slot_of (take k (ls ++ l ∷ [])) m.name) label ∙ ap (λ xs. slot_of xs l.name) front ∙ none
+
+    other_differs : (k : ℕ) (d : Label) → k < length (ls ++ l ∷ []) → (k ≡ length ls → ⊥) → slot_of (take k (ls ++ l ∷ [])) (get_or (ls ++ l ∷ []) k d).name ≡ None
+    other_differs k d h apart =
+        let below : k < length ls = few_below k h apart in
+        ap (λ (m : Label). slot_of (take k (ls ++ l ∷ [])) m.name) (get_or_append_left ls (l ∷ []) d k below) ∙ ap (λ xs. slot_of xs (get_or ls k d).name) (take-append-le k ls (l ∷ []) (omega (arith, below))) ∙ chained.differ k d below
+
+-- ---- entries
+
+-- what is read at an index
+read_label : (es : List Entry) (k : ℕ) (e : Entry) → k < length es → e ≡ get_or es k e → get_or (map entry_label es) k (entry_label e) ≡ entry_label e
+read_label es k e inside is = get_or-map entry_label es k e (entry_label e) inside ∙ ap entry_label (sym is)
+
+read_link : (es : List Entry) (k : ℕ) (e : Entry) → k < length es → e ≡ get_or es k e → get_or (map entry_link es) k e.link ≡ e.link
+read_link es k e inside is = get_or-map entry_link es k e e.link inside ∙ ap entry_link (sym is)
+
+pub entry_below : (places : ℕ) (es : List Entry) (heads : List ℕ) → IsChained places (map entry_label es) heads (map entry_link es) → (k : ℕ) (e : Entry) → k < length es → e ≡ get_or es k e → e.link ≤ k
+entry_below places es heads chained k e inside is =
+    let below : get_or (map entry_link es) k e.link ≤ k = link_below places (map entry_label es) heads (map entry_link es) chained k e.link (entry_label e) (omega (arith, inside, length-map es entry_label)) in
+    let link : get_or (map entry_link es) k e.link ≡ e.link = read_link es k e inside is in
+    omega (arith, below, link)
+
+-- the entry that a search has come to
+pub entry_inside : (places : ℕ) (es : List Entry) (name : List ℕ) (at : ℕ) → Seeks places (map entry_label es) name at → at ≤ length es
+entry_inside places es name at seeks = omega (arith, seeks.inside, length-map es entry_label)
+
+pub entry_found : (places : ℕ) (es : List Entry) (heads : List ℕ) → IsChained places (map entry_label es) heads (map entry_link es) → (name : List ℕ) (at : ℕ) (e : Entry) → Seeks places (map entry_label es) name at → 0 < at
+    → e ≡ get_or es (at - 1) e → bytes_eq e.label.name.now name ≡ true → Some e.label.slot ≡ slot_of (map entry_label es) name
+entry_found places es heads chained name at e seeks some is same =
+    let inside : at - 1 < length es = omega (arith, some, entry_inside places es name at seeks) in
+    let label : get_or (map entry_label es) (at - 1) (entry_label e) ≡ entry_label e = read_label es (at - 1) e inside is in
+    subst (λ (l : Label). Some l.slot ≡ slot_of (map entry_label es) name) label
+    (seek_found places (map entry_label es) heads (map entry_link es) chained name at (entry_label e) seeks some (ap (λ (l : Label). bytes_eq l.name name) label ∙ same))
+
+pub entry_passed : (places : ℕ) (es : List Entry) (heads : List ℕ) → IsChained places (map entry_label es) heads (map entry_link es) → (name : List ℕ) (at : ℕ) (e : Entry) → Seeks places (map entry_label es) name at → 0 < at
+    → e ≡ get_or es (at - 1) e → bytes_eq e.label.name.now name ≡ false → Seeks places (map entry_label es) name e.link
+entry_passed places es heads chained name at e seeks some is apart =
+    let inside : at - 1 < length es = omega (arith, some, entry_inside places es name at seeks) in
+    let label : get_or (map entry_label es) (at - 1) (entry_label e) ≡ entry_label e = read_label es (at - 1) e inside is in
+    let link : get_or (map entry_link es) (at - 1) e.link ≡ e.link = read_link es (at - 1) e inside is in
+    subst (Seeks places (map entry_label es) name) link
+    (seek_on places (map entry_label es) heads (map entry_link es) chained name at e.link (entry_label e) seeks some (ap (λ (l : Label). bytes_eq l.name name) label ∙ apart))
+
+pub entry_put : (es : List Entry) (heads : List ℕ) (e : Entry) → IsChained (length heads) (map entry_label es) heads (map entry_link es) → slot_of (map entry_label es) (entry_label e).name ≡ None
+    → place_of (length heads) (entry_label e).name < length heads → ((x : ℕ) → e.link ≡ get_or heads (place_of (length heads) (entry_label e).name) x)
+    → IsChained (length (set heads (place_of (length heads) (entry_label e).name) (length es + 1))) (map entry_label (es ++ e ∷ [])) (set heads (place_of (length heads) (entry_label e).name) (length es + 1)) (map entry_link (es ++ e ∷ []))
+entry_put es heads e chained none inside is =
+    let same : length (set heads (place_of (length heads) (entry_label e).name) (length es + 1)) ≡ length heads = length-set heads (place_of (length heads) (entry_label e).name) (length es + 1) in
+    let more : IsChained (length heads) (map entry_label es ++ entry_label e ∷ []) (set heads (place_of (length heads) (entry_label e).name) (length (map entry_label es) + 1)) (map entry_link es ++ e.link ∷ [])
+    = chained_more (length heads) (map entry_label es) heads (map entry_link es) (entry_label e) e.link chained none inside is in
+    subst (λ n. IsChained n (map entry_label (es ++ e ∷ [])) (set heads (place_of (length heads) (entry_label e).name) (length es + 1)) (map entry_link (es ++ e ∷ []))) (sym same)
+    (subst (λ ls. IsChained (length heads) ls (set heads (place_of (length heads) (entry_label e).name) (length es + 1)) (map entry_link (es ++ e ∷ []))) (sym (map-append entry_label es (e ∷ [])))
+    (subst (IsChained (length heads) (map entry_label es ++ entry_label e ∷ []) (set heads (place_of (length heads) (entry_label e).name) (length es + 1))) (sym (map-append entry_link es (e ∷ [])))
+    (subst (λ n. IsChained (length heads) (map entry_label es ++ entry_label e ∷ []) (set heads (place_of (length heads) (entry_label e).name) (n + 1)) (map entry_link es ++ e.link ∷ [])) (length-map es entry_label) more)))

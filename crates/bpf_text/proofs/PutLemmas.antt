@@ -1,0 +1,28 @@
+-- A line put together in a room that is large enough.
+use Rattle.std.proofs.Common.{◌≡◌, ℕ, zero, suc, ◌+◌, ◌-◌, ◌≤◌, min, List, [], ◌∷◌, ◌++◌, length, take, refl, sym, ap, ◌∙◌, append_assoc, arith}
+use Rattle.std.proofs.Math.Seq.{take-append-add}
+use Rattle.std.proofs.lemmas.List.{take_all, take_min}
+use Rattle.bpf_insn.specs.declared.instruction.Insn.{Insn}
+use Rattle.bpf_text.specs.Listing.{line_text}
+use Rattle.bpf_text.specs.code.Puts.{Puts}
+use Rattle.bpf_text.proofs.LengthLemmas.{line_short}
+
+-- what is behind the room is not there in a longer text either
+front_more : (n : ℕ) (xs ys : List ℕ) → take n (take n xs ++ ys) ≡ take n (xs ++ ys)
+front_more zero xs ys = refl
+front_more (suc n) [] ys = refl
+front_more (suc n) (x ∷ xs) ys = ap (λ t. x ∷ t) (front_more n xs ys)
+
+-- texts one after another
+pub puts_more : (a b c t u : List ℕ) → Puts a t b → Puts b u c → Puts a (t ++ u) c
+puts_more a b c t u h k = record { is = k.is ∙ ap (λ x. take 256 (x ++ u)) h.is ∙ front_more 256 (a ++ t) u ∙ ap (take 256) (append_assoc a t u) }
+
+-- a text, as far as there is room
+pub puts_front : (a t b : List ℕ) (used n : ℕ) → length a ≡ used → used ≤ 256 → n ≡ min (256 - used) (length t) → b ≡ a ++ take n t → Puts a t b
+puts_front a t b used n here room count e =
+    let whole : length a + (256 - used) ≡ 256 = omega (arith, here, room) in
+    record { is = e ∙ ap (λ m. a ++ take m t) count ∙ ap (λ xs. a ++ xs) (take_min (256 - used) t) ∙ sym (take-append-add a t (256 - used)) ∙ ap (λ m. take m (a ++ t)) whole }
+
+-- a whole line
+pub line_put : (i : Insn) (b : List ℕ) → Puts [] (line_text i) b → b ≡ line_text i
+line_put i b h = h.is ∙ take_all 256 (line_text i) (line_short i)

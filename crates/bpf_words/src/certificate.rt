@@ -1,0 +1,266 @@
+//! Why a text is no certificate, in words.
+
+use crate::page::Page;
+use bpf_cert::{CertError, Certificate};
+use std::io::{self, Write};
+use std::str::from_utf8;
+
+/// What a line of a certificate begins with.
+#[derive(Clone, Copy, PartialEq, Eq)]
+enum Kind {
+    Header,
+    Function,
+    Label,
+    Register,
+    Slot,
+    End,
+    Other,
+}
+
+/// The first word of a line.
+fn word_of(line: &[u8]) -> &[u8] {
+    for (index, byte) in line.iter().enumerate() {
+        if *byte == b' ' {
+            return line.get(..index).unwrap_or(&[]);
+        }
+    }
+    line
+}
+
+fn kind_of(line: &[u8]) -> Kind {
+    match word_of(line) {
+        b"bpfcert" => Kind::Header,
+        b"fn" => Kind::Function,
+        b"at" => Kind::Label,
+        b"end" => Kind::End,
+        [b'r', b'0'..=b'9', ..] => Kind::Register,
+        [b's', b'0'..=b'9', ..] => Kind::Slot,
+        _ => Kind::Other,
+    }
+}
+
+/// The form of a line, and what its fields mean.
+fn form_of(kind: Kind) -> &'static str {
+    match kind {
+        Kind::Header => "`bpfcert 1 <len> <steps>` or `bpfcert 2 <least> <most> <steps>`",
+        Kind::Function => "`fn <first> <depth> <num>`, as `fn 0 1 *`",
+        Kind::Label => "`at <slot> <base> <term>...`, as `at 1 2 +2*r6` or `at 1 2 +2*(10-r6)`",
+        Kind::Register => "`r<i> <what>`, as `r6 u1..10`, `r1 ctx0..0` or `r3 *`",
+        Kind::Slot => "`s<k> <what>`, as `s1 *`, `s1 b15` or `s2 ctx0..0`",
+        Kind::End => "`end`",
+        Kind::Other => "`bpfcert`, `fn`, `at`, `r<i>`, `s<k>` or `end`",
+    }
+}
+
+/// The limits of a line's fields.
+fn limits_of(kind: Kind) -> &'static str {
+    match kind {
+        Kind::Header => {
+            "lengths are 0 to 4096, the least first, and steps 1 to 4294967295; a function must follow"
+        }
+        Kind::Function => {
+            "first is 0 to 65535, depth 1 to 8, a number's lo at most its hi; there are at most 256 functions, each with a label"
+        }
+        Kind::Label => {
+            "slot is 0 to 65535, base at most 1099511627776, a weight 1 to 1048576; there are at most 4 terms and 65536 labels"
+        }
+        Kind::Register => {
+            "registers are r0 to r9, lo is at most hi, offsets are -2147483648 to 2147483648, value and mask share no bit"
+        }
+        Kind::Slot => {
+            "slots are s1 to s64, masks b1 to b254, lo is at most hi, offsets -2147483648 to 2147483648"
+        }
+        Kind::End => "there must be a function, and each function must have a label",
+        Kind::Other => "a line has at most 256 bytes",
+    }
+}
+
+/// The lines that may follow a line.
+fn followers(kind: Kind) -> &'static str {
+    match kind {
+        Kind::Header => "a line `fn <first> <depth> <num>` must follow the first",
+        Kind::Function => "a line `at <slot> <base> <term>...` must follow a function's",
+        Kind::Label | Kind::Register | Kind::Slot => {
+            "`r<i> <what>`, `s<k> <what>`, another `at` or `fn`, or `end` may stand here"
+        }
+        Kind::End => "nothing may follow `end`",
+        Kind::Other =>
+            "the first line must be `bpfcert 1 <len> <steps>` or `bpfcert 2 <least> <most> <steps>`",
+    }
+}
+
+/// Whether a line of a kind may follow a line of another one.
+fn may_follow(before: Kind, kind: Kind) -> bool {
+    match before {
+        Kind::Header => kind == Kind::Function,
+        Kind::Function => kind == Kind::Label,
+        Kind::Label | Kind::Register => !matches!(kind, Kind::Header | Kind::Other),
+        Kind::Slot => !matches!(kind, Kind::Header | Kind::Other | Kind::Register),
+        Kind::End => false,
+        Kind::Other => kind == Kind::Header,
+    }
+}
+
+// ---- the line at fault
+
+/// The line before one, that line, and whether it is ended.
+#[derive(Clone, Copy)]
+struct Place<'a> {
+    before: &'a [u8],
+    line: &'a [u8],
+    is_there: bool,
+    is_ended: bool,
+}
+
+/// The line with a number, counted from 1.
+fn line_at(bytes: &[u8], number: usize) -> Place<'_> {
+    let mut place = Place {
+        before: &[],
+        line: &[],
+        is_there: false,
+        is_ended: false,
+    };
+    let mut count = 1usize;
+    let mut start = 0usize;
+    for (index, byte) in bytes.iter().enumerate() {
+        if *byte == b'\n' {
+            if count >= number {
+                break;
+            }
+            place.before = bytes.get(start..index).unwrap_or(&[]);
+            count = count.saturating_add(1);
+            start = index.saturating_add(1);
+        }
+    }
+    let rest = bytes.get(start..).unwrap_or(&[]);
+    place.is_there = count == number && !rest.is_empty();
+    place.is_ended = rest.contains(&b'\n');
+    place.line = first_line(rest);
+    place
+}
+
+/// What stands in front of the first line feed.
+fn first_line(bytes: &[u8]) -> &[u8] {
+    for (index, byte) in bytes.iter().enumerate() {
+        if *byte == b'\n' {
+            return bytes.get(..index).unwrap_or(&[]);
+        }
+    }
+    bytes
+}
+
+/// A line as it stands, its first 80 bytes at most.
+fn tell_line<W: Write>(out: &mut W, line: &[u8]) -> io::Result<()> {
+    let shown = line.get(..line.len().min(80)).unwrap_or(&[]);
+    match from_utf8(shown) {
+        Ok(text) => write!(out, "`{text}`"),
+        Err(_) => write!(out, "a line that is no text"),
+    }
+}
+
+fn tell_syntax<'a, W: Write>(out: &mut W, place: Place<'a>) -> io::Result<()> {
+    let before = kind_of(place.before);
+    let kind = kind_of(place.line);
+    if !place.is_there {
+        let follows = followers(before);
+        return write!(out, "the text ends here without `end`: {follows}\n");
+    }
+    tell_line(out, place.line)?;
+    if place.line.contains(&b'\r') {
+        return write!(out, ": a CR stands in it, and lines end with LF alone\n");
+    }
+    if !place.is_ended {
+        return write!(out, ": no LF ends the line\n");
+    }
+    if may_follow(before, kind) {
+        let form = form_of(kind);
+        write!(out, ": a line that begins so has the form {form}\n")
+    } else {
+        let follows = followers(before);
+        write!(out, ": {follows}\n")
+    }
+}
+
+/// The first number of a line with a needless zero in front.
+fn padded_number(line: &[u8]) -> bool {
+    let mut last = b' ';
+    let mut is_zero = false;
+    for byte in line {
+        let is_digit = byte.is_ascii_digit();
+        if is_zero && is_digit {
+            return true;
+        }
+        is_zero = *byte == b'0' && !last.is_ascii_digit();
+        last = *byte;
+    }
+    false
+}
+
+fn tell_canonical<'a, W: Write>(out: &mut W, place: Place<'a>) -> io::Result<()> {
+    tell_line(out, place.line)?;
+    if padded_number(place.line) {
+        return write!(out, ": a number has a needless zero in front\n");
+    }
+    match kind_of(place.line) {
+        Kind::Function => write!(
+            out,
+            ": functions rise by their first slots, and a part of a number that says nothing is left out\n"
+        ),
+        Kind::Label => write!(
+            out,
+            ": a function's labels rise by their slots, and terms by their places, registers first\n"
+        ),
+        Kind::Register | Kind::Slot => write!(
+            out,
+            ": registers rise and then slots, each once; the parts of a number are u, s, k, and one that says nothing is left out\n"
+        ),
+        _ => write!(out, ": each certificate has one spelling\n"),
+    }
+}
+
+fn tell_error<W: Write>(out: &mut W, bytes: &[u8], error: CertError) -> io::Result<()> {
+    let (number, line) = (error.number(), error.line());
+    write!(out, "K{number} at line {line}: ")?;
+    let place = line_at(bytes, line);
+    match error {
+        CertError::Syntax { .. } => tell_syntax(out, place),
+        CertError::NotCanonical { .. } => tell_canonical(out, place),
+        CertError::Limit { .. } => {
+            if place.line.len() > 256 {
+                return write!(out, "a line has at most 256 bytes\n");
+            }
+            tell_line(out, place.line)?;
+            let limits = limits_of(kind_of(place.line));
+            write!(out, ": {limits}\n")
+        }
+        CertError::Memory => write!(out, "memory ran out\n"),
+        CertError::Read { .. } => write!(out, "the reader failed\n"),
+    }
+}
+
+fn tell_certificate<W: Write>(out: &mut W, certificate: &Certificate) -> io::Result<()> {
+    let mut labels = 0usize;
+    for function in certificate.functions() {
+        labels = labels.saturating_add(function.labels.len());
+    }
+    let (version, functions) = (certificate.version(), certificate.functions().len());
+    write!(
+        out,
+        "a certificate of version {version}; functions: {functions}, labels: {labels}\n"
+    )
+}
+
+/// Tells in words why bytes are refused as a certificate: the line, and what was expected of it. A fault of the writer, or a
+/// write of no bytes, ends it.
+pub fn write_fault<W: Write>(bytes: &[u8], error: CertError, out: &mut W) -> io::Result<()> {
+    let mut page = Page::new(out);
+    tell_error(&mut page, bytes, error)?;
+    page.flush()
+}
+
+/// Tells how many functions and labels a certificate has. A fault of the writer, or a write of no bytes, ends it.
+pub fn write_counts<W: Write>(certificate: &Certificate, out: &mut W) -> io::Result<()> {
+    let mut page = Page::new(out);
+    tell_certificate(&mut page, certificate)?;
+    page.flush()
+}

@@ -1,0 +1,157 @@
+//! The nodes of a graph: blocks of instructions, in functions.
+
+use crate::graph::Scene;
+use crate::graph::quoted::Quoted;
+use crate::known::spelling_of;
+use crate::listing::{write_budget, write_function};
+use bpf_check::{Refusal, function_at, label_at};
+use bpf_insn::{Code, Insn};
+use std::io::{self, Write};
+
+/// How a block looks.
+#[derive(Clone, Copy)]
+enum Look {
+    Plain,
+    /// No state reaches it.
+    Unreached,
+    /// The refused instruction is in it.
+    Refused,
+}
+
+/// The blocks as far as they are written.
+#[derive(Drop)]
+struct Drawn {
+    /// How the block that is being written looks; None in front of the first.
+    block: Option<Look>,
+    in_function: bool,
+}
+
+/// Whether the first flaw is at an instruction.
+fn is_refused_at(refusal: Option<Refusal>, slot: u32, insn: &Insn) -> bool {
+    match refusal {
+        Some(refusal) => {
+            let at = refusal.slot();
+            slot <= at && at - slot < insn.slots()
+        }
+        None => false,
+    }
+}
+
+impl Drawn {
+    /// Ends the block that is being written.
+    fn end_block<W: Write>(&mut self, out: &mut W) -> io::Result<()> {
+        let Some(look) = self.block else {
+            return Ok(());
+        };
+        self.block = None;
+        let rest = match look {
+            Look::Plain => "\"];\n",
+            Look::Unreached => "\", color=gray, fontcolor=gray];\n",
+            Look::Refused => "\", color=red, penwidth=2];\n",
+        };
+        out.write_all(rest.as_bytes())
+    }
+
+    fn end_function<W: Write>(&mut self, out: &mut W) -> io::Result<()> {
+        if self.in_function {
+            self.in_function = false;
+            write!(out, "  }}\n")?;
+        }
+        Ok(())
+    }
+
+    /// Begins the function at a slot.
+    fn begin_function<'a, 'b, W: Write>(
+        &mut self,
+        out: &mut W,
+        scene: &Scene<'a, 'b>,
+        slot: u32,
+    ) -> io::Result<()> {
+        self.end_function(out)?;
+        self.in_function = true;
+        write!(out, "  subgraph cluster_{slot} {{\n    label=\"")?;
+        let mut quoted = Quoted::new(out);
+        let known = match scene.certificate {
+            Some(certificate) => function_at(certificate, slot),
+            None => None,
+        };
+        match known {
+            Some(function) => write_function(&mut quoted, function)?,
+            None => write!(quoted, "fn {slot}\n")?,
+        }
+        write!(out, "\";\n")
+    }
+
+    /// Begins the block at a slot, with its label.
+    fn begin_block<'a, 'b, W: Write>(
+        &mut self,
+        out: &mut W,
+        scene: &Scene<'a, 'b>,
+        slot: u32,
+    ) -> io::Result<()> {
+        self.end_block(out)?;
+        if scene.plan.functions.has(slot) {
+            self.begin_function(out, scene, slot)?;
+        }
+        let is_reached = scene.flow.reached.has(slot);
+        self.block = Some(if is_reached {
+            Look::Plain
+        } else {
+            Look::Unreached
+        });
+        write!(out, "    b{slot} [label=\"")?;
+        let Some(certificate) = scene.certificate else {
+            return Ok(());
+        };
+        let Some(label) = label_at(certificate, slot) else {
+            return Ok(());
+        };
+        let mut quoted = Quoted::new(out);
+        write!(quoted, "at {slot}: budget ")?;
+        write_budget(&mut quoted, label)?;
+        write!(quoted, "\n")
+    }
+
+    /// The line of an instruction.
+    fn write_line<'a, 'b, W: Write>(
+        &mut self,
+        out: &mut W,
+        scene: &Scene<'a, 'b>,
+        slot: u32,
+        insn: &Insn,
+    ) -> io::Result<()> {
+        let mut quoted = Quoted::new(out);
+        write!(quoted, "{slot:>5}  ")?;
+        quoted.write_all(spelling_of(insn).as_slice())?;
+        if let Some(refusal) = scene.refusal {
+            if is_refused_at(scene.refusal, slot, insn) {
+                let number = refusal.number();
+                write!(quoted, "  ! C{number}")?;
+                self.block = Some(Look::Refused);
+            }
+        }
+        write!(quoted, "\n")
+    }
+}
+
+/// Writes the blocks by their slots, each in its function.
+pub fn write_blocks<'a, 'b, C: Code, W: Write>(
+    out: &mut W,
+    program: &C,
+    scene: &Scene<'a, 'b>,
+) -> io::Result<()> {
+    let mut drawn = Drawn {
+        block: None,
+        in_function: false,
+    };
+    for slot in 0..program.slots().min(65_536) {
+        if let Some(insn) = program.insn(slot) {
+            if scene.plan.blocks.has(slot) {
+                drawn.begin_block(out, scene, slot)?;
+            }
+            drawn.write_line(out, scene, slot, &insn)?;
+        }
+    }
+    drawn.end_block(out)?;
+    drawn.end_function(out)
+}

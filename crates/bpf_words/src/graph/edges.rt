@@ -1,0 +1,90 @@
+//! The edges of a graph.
+
+ghost use Rattle.std.specs.Prelude.{◌≤◌};
+
+use crate::graph::Scene;
+use crate::graph::plan::call_target;
+use bpf_check::{goes_on, jump_target};
+use bpf_insn::{Code, Insn};
+use std::io::{self, Write};
+
+/// What an edge stands for.
+#[derive(Clone, Copy)]
+enum Way {
+    Next,
+    IfSo,
+    IfNot,
+    Call,
+}
+
+/// What is written behind an edge's ends.
+fn attributes(way: Way, is_live: bool) -> &'static str {
+    match (way, is_live) {
+        (Way::Next, true) => ";\n",
+        (Way::Next, false) => " [style=dashed, color=gray];\n",
+        (Way::IfSo, true) => " [label=\"if so\"];\n",
+        (Way::IfSo, false) => " [label=\"if so\", style=dashed, color=gray, fontcolor=gray];\n",
+        (Way::IfNot, true) => " [label=\"if not\"];\n",
+        (Way::IfNot, false) => " [label=\"if not\", style=dashed, color=gray, fontcolor=gray];\n",
+        (Way::Call, true) => " [label=\"call\", style=dotted];\n",
+        (Way::Call, false) => " [label=\"call\", style=dotted, color=gray, fontcolor=gray];\n",
+    }
+}
+
+fn write_edge<W: Write>(
+    out: &mut W,
+    from: u32,
+    to: u32,
+    way: Way,
+    is_live: bool,
+) -> io::Result<()> {
+    write!(out, "  b{from} -> b{to}")?;
+    out.write_all(attributes(way, is_live).as_bytes())
+}
+
+/// The edges of the instruction at a slot, in the block that begins at `from`.
+fn write_from<'a, 'b, W: Write>(
+    out: &mut W,
+    scene: &Scene<'a, 'b>,
+    from: u32,
+    slot: u32,
+    insn: &Insn,
+    slots: u32,
+) -> io::Result<()>
+    requires { slot ≤ 65535 }
+{
+    let (so, not) = match *insn {
+        Insn::JumpIf { .. } => (Way::IfSo, Way::IfNot),
+        _ => (Way::Next, Way::Next),
+    };
+    if let Some(to) = call_target(slot, insn) {
+        write_edge(out, from, to, Way::Call, scene.flow.reached.has(slot))?;
+    }
+    if let Some(to) = jump_target(slot, insn) {
+        write_edge(out, from, to, so, scene.flow.jumps.has(slot))?;
+    }
+    let next = slot + insn.slots();
+    if goes_on(insn) && next < slots && scene.plan.blocks.has(next) {
+        write_edge(out, from, next, not, scene.flow.nexts.has(slot))?;
+    }
+    Ok(())
+}
+
+/// Writes the edges by the slots from which they lead.
+pub fn write_edges<'a, 'b, C: Code, W: Write>(
+    out: &mut W,
+    program: &C,
+    scene: &Scene<'a, 'b>,
+) -> io::Result<()> {
+    let slots = program.slots().min(65_536);
+    let mut from = 0;
+    for slot in 0..slots {
+        if let Some(insn) = program.insn(slot) {
+            if scene.plan.blocks.has(slot) {
+                from = slot;
+            }
+            write_from(out, scene, from, slot, &insn, slots)?;
+        }
+    }
+    Ok(())
+}

@@ -1,0 +1,79 @@
+//! Which instructions and edges runs take, as far as the checker's pass knows.
+
+use crate::graph::slots::Slots;
+use crate::pass::see;
+use crate::sight::{Edge, Sight};
+use bpf_check::{Index, Site, Spot, Walk};
+use bpf_insn::Code;
+
+/// Which instructions and edges runs may take.
+#[derive(Drop)]
+pub struct Flow {
+    /// The instructions that a state reaches.
+    pub reached: Slots,
+    /// Those whose jump is live.
+    pub jumps: Slots,
+    /// Those from which a state goes on to the next.
+    pub nexts: Slots,
+}
+
+fn is_live(edge: Option<Edge>) -> bool {
+    match edge {
+        Some(edge) => edge.is_live,
+        None => false,
+    }
+}
+
+impl Flow {
+    /// Nothing is reached.
+    fn none() -> Self {
+        Flow {
+            reached: Slots::none(),
+            jumps: Slots::none(),
+            nexts: Slots::none(),
+        }
+    }
+
+    /// Nothing is ruled out.
+    pub fn any() -> Self {
+        Flow {
+            reached: Slots::all(),
+            jumps: Slots::all(),
+            nexts: Slots::all(),
+        }
+    }
+
+    fn note<'a>(&mut self, sight: &Sight<'a>) {
+        let slot = sight.slot;
+        if sight.here.is_some() {
+            self.reached.add(slot);
+        }
+        if is_live(sight.jump) {
+            self.jumps.add(slot);
+        }
+        if is_live(sight.next) {
+            self.nexts.add(slot);
+        }
+    }
+}
+
+/// Which instructions and edges runs may take, by the checker's pass.
+pub fn flow_of<C: Code>(program: &C, certificate: &Index) -> Flow {
+    let mut flow = Flow::none();
+    let mut sight = Sight::new(false);
+    let mut walk = Walk::new();
+    let mut here = Spot::of(&*certificate, 0);
+    'visits: for _ in 0..65_536u32 {
+        let Some(insn) = program.insn(here.slot) else {
+            break;
+        };
+        if here.slot > 65_535 {
+            break;
+        }
+        let site = Site::of(&*certificate, here, insn);
+        see(program, &site, &mut walk, &mut sight);
+        flow.note(&sight);
+        here = site.next;
+    }
+    flow
+}

@@ -1,0 +1,84 @@
+//! Where blocks and functions begin.
+
+ghost use Rattle.std.specs.Prelude.{◌≤◌};
+
+use crate::graph::slots::Slots;
+use bpf_cert::Function;
+use bpf_check::{Index, goes_on, jump_target};
+use bpf_insn::{Code, Insn, target};
+
+/// Where blocks and functions begin.
+#[derive(Drop)]
+pub struct Plan {
+    pub blocks: Slots,
+    pub functions: Slots,
+}
+
+/// Where a call leads.
+pub fn call_target(slot: u32, insn: &Insn) -> Option<u32>
+    requires { slot ≤ 65535 }
+{
+    match *insn {
+        Insn::CallLocal { off } => target(slot, off),
+        _ => None,
+    }
+}
+
+impl Plan {
+    /// The blocks by the program's jumps and calls, the functions where calls lead.
+    pub fn of<C: Code>(program: &C) -> Plan {
+        let mut plan = Plan {
+            blocks: Slots::none(),
+            functions: Slots::none(),
+        };
+        plan.blocks.add(0);
+        plan.functions.add(0);
+        for slot in 0..program.slots().min(65_536) {
+            if let Some(insn) = program.insn(slot) {
+                plan.note_jump(slot, &insn);
+                plan.note_call(slot, &insn);
+            }
+        }
+        plan
+    }
+
+    /// The blocks by the program's jumps and calls and by the certificate's labels, the functions of the certificate.
+    pub fn with<C: Code>(program: &C, certificate: &Index) -> Plan {
+        let mut plan = Plan::of(program);
+        plan.functions = Slots::none();
+        for function in certificate.functions() {
+            plan.note_function(function);
+        }
+        plan
+    }
+
+    /// A block ends at a jump and at an EXIT, and one begins where a jump leads.
+    fn note_jump(&mut self, slot: u32, insn: &Insn)
+        requires { slot ≤ 65535 }
+    {
+        let to = jump_target(slot, insn);
+        if to.is_some() || !goes_on(insn) {
+            self.blocks.add(slot + 1);
+        }
+        if let Some(to) = to {
+            self.blocks.add(to);
+        }
+    }
+
+    fn note_call(&mut self, slot: u32, insn: &Insn)
+        requires { slot ≤ 65535 }
+    {
+        if let Some(to) = call_target(slot, insn) {
+            self.blocks.add(to);
+            self.functions.add(to);
+        }
+    }
+
+    fn note_function(&mut self, function: &Function) {
+        self.blocks.add(function.first);
+        self.functions.add(function.first);
+        for label in function.labels.as_slice() {
+            self.blocks.add(label.slot);
+        }
+    }
+}

@@ -1,0 +1,36 @@
+//! Sets of slots.
+
+/// A set of slots, each a bit.
+#[derive(Drop)]
+pub struct Slots {
+    held: [u64; 1024],
+}
+
+impl Slots {
+    /// No slot is in it.
+    pub fn none() -> Self {
+        Slots { held: [0; 1024] }
+    }
+
+    /// Each slot is in it.
+    pub fn all() -> Self {
+        Slots {
+            held: [u64::MAX; 1024],
+        }
+    }
+
+    /// Puts a slot in, if it is at most 65,535.
+    pub fn add(&mut self, slot: u32) {
+        if let Some(word) = self.held.get_mut(slot as usize / 64) {
+            *word |= 1 << (slot % 64);
+        }
+    }
+
+    /// Whether a slot is in it.
+    pub fn has(&self, slot: u32) -> bool {
+        match self.held.get(slot as usize / 64) {
+            Some(word) => (*word >> (slot % 64)) & 1 == 1,
+            None => false,
+        }
+    }
+}

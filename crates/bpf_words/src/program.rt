@@ -1,0 +1,146 @@
+//! A program with a certificate, explained.
+
+use crate::listing::{write_header, write_lengths};
+use crate::page::Page;
+use crate::pass::see;
+use crate::report::{Report, View};
+use crate::sight::Sight;
+use crate::standing::last_slot;
+use bpf_cert::Certificate;
+use bpf_check::{Index, Refusal, Site, Spot, Walk};
+use bpf_insn::Code;
+use std::io::{self, Write};
+
+/// Goes over the slots of a program, and over those behind it at which labels stand.
+fn tell_all<C: Code, W: Write>(
+    program: &C,
+    certificate: &Index,
+    view: View,
+    out: &mut W,
+) -> io::Result<()> {
+    let mut report = Report::new(view);
+    let end = tell_program(program, certificate, &mut report, out)?;
+    for slot in end..last_slot(certificate).saturating_add(1) {
+        report.tell_slot(out, program, certificate, slot)?;
+    }
+    report.tell_quiet(out)
+}
+
+/// Goes over the instructions of a program. The slot behind the last one.
+fn tell_program<C: Code, W: Write>(
+    program: &C,
+    certificate: &Index,
+    report: &mut Report,
+    out: &mut W,
+) -> io::Result<u32> {
+    let mut sight = Sight::new(report.has_budgets());
+    let mut walk = Walk::new();
+    let mut here = Spot::of(&*certificate, 0);
+    'visits: for _ in 0..65_536u32 {
+        let Some(insn) = program.insn(here.slot) else {
+            break;
+        };
+        if here.slot > 65_535 {
+            break;
+        }
+        let site = Site::of(&*certificate, here, insn);
+        see(program, &site, &mut walk, &mut sight);
+        report.tell_sight(out, program, certificate, &sight)?;
+        if insn.slots() > 1 {
+            report.tell_slot(out, program, certificate, here.slot + 1)?;
+        }
+        here = site.next;
+    }
+    Ok(here.slot)
+}
+
+/// The last lines: the answer, and all flaws.
+fn write_answer<C: Code, W: Write>(
+    program: &C,
+    certificate: &Index,
+    refusal: Option<Refusal>,
+    out: &mut W,
+) -> io::Result<()> {
+    match refusal {
+        None => {
+            let steps = certificate.steps();
+            let unit = if steps == 1 { "step" } else { "steps" };
+            write!(out, "accepted: at most {steps} {unit} on contexts of ")?;
+            write_lengths(out, certificate)?;
+            write!(out, "\n")
+        }
+        Some(refusal) => {
+            let (number, slot) = (refusal.number(), refusal.slot());
+            write!(out, "refused: C{number} at slot {slot}\n")?;
+            tell_all(program, certificate, View::List, out)
+        }
+    }
+}
+
+/// Explains a program with a certificate, and with the checker's answer, on a page.
+pub fn explain_on<C: Code, W: Write>(
+    program: &C,
+    certificate: &Certificate,
+    refusal: Option<Refusal>,
+    page: &mut W,
+) -> io::Result<()> {
+    let index = Index::of(certificate);
+    write_header(page, &index)?;
+    tell_all(program, &index, View::Listing, page)?;
+    write_answer(program, &index, refusal, page)
+}
+
+/// Writes the listing of a program with the states of a certificate without budgets, and the flaw with a number at a slot.
+pub fn tell_sketch<C: Code, W: Write>(
+    program: &C,
+    certificate: &Certificate,
+    slot: u32,
+    number: u8,
+    page: &mut W,
+) -> io::Result<()> {
+    let index = Index::of(certificate);
+    tell_all(program, &index, View::Sketch(slot, number), page)
+}
+
+/// Writes the flaw with a number at a slot, judged without budgets.
+pub fn tell_reason<C: Code, W: Write>(
+    program: &C,
+    certificate: &Certificate,
+    slot: u32,
+    number: u8,
+    page: &mut W,
+) -> io::Result<()> {
+    let index = Index::of(certificate);
+    tell_all(program, &index, View::Reason(slot, number), page)
+}
+
+/// Writes the listing of a program with what the certificate and the checker's pass know at each instruction, and the
+/// checker's answer, which is given: accepted, or refused with all flaws, the first one first. A fault of the writer, or a
+/// write of no bytes, ends it. It takes no memory, and writes pieces of up to 4,096 bytes.
+pub fn write_explanation<C: Code, W: Write>(
+    program: &C,
+    certificate: &Certificate,
+    refusal: Option<Refusal>,
+    out: &mut W,
+) -> io::Result<()> {
+    let mut page = Page::new(out);
+    explain_on(program, certificate, refusal, &mut page)?;
+    page.flush()
+}
+
+/// Writes one instruction of a program with the whole state before and after it, and what is wrong there. A fault of the
+/// writer, or a write of no bytes, ends it.
+pub fn explain_slot<C: Code, W: Write>(
+    program: &C,
+    certificate: &Certificate,
+    slot: u32,
+    out: &mut W,
+) -> io::Result<()> {
+    let mut page = Page::new(out);
+    let index = Index::of(certificate);
+    if program.insn(slot).is_none() {
+        write!(page, "no instruction begins at slot {slot}\n")?;
+    }
+    tell_all(program, &index, View::Slot(slot), &mut page)?;
+    page.flush()
+}

@@ -1,0 +1,400 @@
+//! The flaws at a slot, told in the order of their numbers.
+
+use crate::flaws::{CAUSES, Flaws};
+use crate::known::Spelled;
+use crate::listing::{write_edges, write_function, write_instruction, write_label};
+use crate::sight::{Outcome, Sight};
+use crate::standing::{label_flaws, label_in, lacks_first_label, standing_flaws, start_flaws};
+use crate::whole::write_whole;
+use crate::words::{Silence, tell, tell_function, tell_label, tell_silence, tell_start};
+use bpf_cert::Function;
+use bpf_check::{Cause, Index};
+use bpf_insn::Code;
+use bpf_state::State;
+use std::io::{self, Write};
+
+/// What is written of a program.
+#[derive(Clone, Copy, PartialEq, Eq)]
+pub enum View {
+    /// The listing, with the flaws where they are.
+    Listing,
+    /// The flaws alone.
+    List,
+    /// One instruction, with its flaws.
+    Slot(u32),
+    /// The listing of states without budgets, with one flaw by its slot and number.
+    Sketch(u32, u8),
+    /// One flaw alone, by its slot and number.
+    Reason(u32, u8),
+}
+
+/// Slots at which no state is known, for one reason and without another flaw.
+#[derive(Clone, Copy)]
+struct Quiet {
+    from: u32,
+    to: u32,
+    silence: Silence,
+}
+
+/// What goes on from slot to slot as a program is told.
+#[derive(Drop)]
+pub struct Report {
+    view: View,
+    /// What was told last of each place.
+    shown: State,
+    /// Room for a label's state.
+    room: State,
+    /// Why no state goes on.
+    silence: Silence,
+    quiet: Option<Quiet>,
+}
+
+/// What is wrong at a slot.
+#[derive(Clone, Copy)]
+struct Found {
+    start: Flaws,
+    visit: Flaws,
+    standing: Flaws,
+}
+
+impl Found {
+    fn all(&self) -> Flaws {
+        let mut flaws = self.start;
+        flaws.add_all(&self.visit);
+        flaws.add_all(&self.standing);
+        flaws
+    }
+
+    /// Whether the one flaw is that no state reaches the instruction.
+    fn is_quiet<'a>(&self, sight: &Sight<'a>) -> bool {
+        let mut silent = Flaws::NONE;
+        silent.add_if(true, Cause::FallsOff);
+        sight.is_never && self.start.is_empty() && self.standing.is_empty() && self.visit == silent
+    }
+}
+
+impl Report {
+    /// Nothing is told yet.
+    pub fn new(view: View) -> Self {
+        Report {
+            view,
+            shown: State::blank(),
+            room: State::blank(),
+            silence: Silence::Start,
+            quiet: None,
+        }
+    }
+
+    /// Whether budgets are told.
+    pub fn has_budgets(&self) -> bool {
+        !matches!(self.view, View::Sketch(..) | View::Reason(..))
+    }
+
+    /// What a flaw's line begins with.
+    fn begin<'a, W: Write>(
+        &self,
+        out: &mut W,
+        cause: Cause,
+        slot: u32,
+        sight: Option<&Sight<'a>>,
+    ) -> io::Result<()> {
+        let number = cause.number();
+        if let View::Listing | View::Sketch(..) = self.view {
+            return write!(out, "     ! C{number}: ");
+        }
+        match sight {
+            Some(sight) => {
+                let text = Spelled(sight.insn);
+                write!(out, "C{number} at slot {slot}, {text}: ")
+            }
+            None => write!(out, "C{number} at slot {slot}: "),
+        }
+    }
+
+    /// Tells a flaw of the instruction at a slot.
+    fn tell_visit<'a, W: Write, C: Code>(
+        &self,
+        out: &mut W,
+        program: &C,
+        certificate: &Index,
+        sight: &Sight<'a>,
+        cause: Cause,
+    ) -> io::Result<()> {
+        self.begin(out, cause, sight.slot, Some(sight))?;
+        match cause {
+            Cause::FallsOff if sight.is_never => tell_silence(out, self.silence)?,
+            _ => tell(out, program, certificate, sight, cause)?,
+        }
+        write!(out, "\n")
+    }
+
+    /// Tells a flaw of a function or of its label at a slot.
+    fn tell_in_function<W: Write, C: Code>(
+        &mut self,
+        out: &mut W,
+        program: &C,
+        certificate: &Index,
+        function: &Function,
+        slot: u32,
+        cause: Cause,
+    ) -> io::Result<()> {
+        if cause == Cause::Misshapen && lacks_first_label(function, slot) {
+            self.begin(out, cause, slot, None)?;
+            tell_function(out, function)?;
+            write!(out, "\n")?;
+        }
+        let Some(label) = label_in(function, slot) else {
+            return Ok(());
+        };
+        let found = label_flaws(program, certificate, function, label, &mut self.room);
+        if !found.flaws.has(cause) {
+            return Ok(());
+        }
+        self.begin(out, cause, slot, None)?;
+        let bad = found.bad;
+        tell_label(out, program, certificate, function, label, cause, bad)?;
+        write!(out, "\n")
+    }
+
+    fn tell_standing<W: Write, C: Code>(
+        &mut self,
+        out: &mut W,
+        program: &C,
+        certificate: &Index,
+        slot: u32,
+        cause: Cause,
+    ) -> io::Result<()> {
+        for function in certificate.functions() {
+            self.tell_in_function(out, program, certificate, function, slot, cause)?;
+        }
+        Ok(())
+    }
+
+    /// Tells all that is wrong at a slot.
+    fn tell_found<'a, W: Write, C: Code>(
+        &mut self,
+        out: &mut W,
+        program: &C,
+        certificate: &Index,
+        slot: u32,
+        sight: Option<&Sight<'a>>,
+        found: &Found,
+    ) -> io::Result<()> {
+        let all = found.all();
+        if all.is_empty() {
+            return Ok(());
+        }
+        for cause in CAUSES {
+            if found.start.has(cause) {
+                self.begin(out, cause, slot, None)?;
+                tell_start(out, certificate, cause)?;
+                write!(out, "\n")?;
+            }
+            if let Some(sight) = sight {
+                if found.visit.has(cause) {
+                    self.tell_visit(out, program, certificate, sight, cause)?;
+                }
+            }
+            if found.standing.has(cause) {
+                self.tell_standing(out, program, certificate, slot, cause)?;
+            }
+        }
+        Ok(())
+    }
+
+    /// What is wrong at a slot.
+    fn found_at<'a, C: Code>(
+        &mut self,
+        program: &C,
+        certificate: &Index,
+        slot: u32,
+        sight: Option<&Sight<'a>>,
+    ) -> Found {
+        Found {
+            start: if slot == 0 {
+                start_flaws(certificate)
+            } else {
+                Flaws::NONE
+            },
+            visit: match sight {
+                Some(sight) => sight.flaws,
+                None => Flaws::NONE,
+            },
+            standing: standing_flaws(program, certificate, slot, &mut self.room),
+        }
+    }
+
+    // ---- slots at which no state is known
+
+    /// Tells of the slots that were passed over.
+    pub fn tell_quiet<W: Write>(&mut self, out: &mut W) -> io::Result<()> {
+        let Some(quiet) = self.quiet else {
+            return Ok(());
+        };
+        self.quiet = None;
+        let (from, to) = (quiet.from, quiet.to);
+        if from == to {
+            write!(out, "C11 at slot {from}: ")?;
+        } else {
+            write!(out, "C11 at slots {from} to {to}: ")?;
+        }
+        tell_silence(out, quiet.silence)?;
+        write!(out, "\n")
+    }
+
+    /// Passes over a slot at which no state is known.
+    fn pass_over(&mut self, slot: u32) {
+        let from = match self.quiet {
+            Some(quiet) => quiet.from,
+            None => slot,
+        };
+        self.quiet = Some(Quiet {
+            from,
+            to: slot,
+            silence: self.silence,
+        });
+    }
+
+    // ---- slots
+
+    /// The lines of the functions and labels at a slot.
+    fn write_standing<W: Write>(
+        &mut self,
+        out: &mut W,
+        certificate: &Index,
+        slot: u32,
+    ) -> io::Result<()> {
+        for function in certificate.functions() {
+            if function.first == slot {
+                write_function(out, function)?;
+            }
+            if let Some(label) = label_in(function, slot) {
+                let has_budgets = self.view == View::Listing;
+                write_label(out, label, has_budgets, &mut self.room)?;
+            }
+        }
+        Ok(())
+    }
+
+    /// Tells of a slot at which no instruction begins.
+    pub fn tell_slot<W: Write, C: Code>(
+        &mut self,
+        out: &mut W,
+        program: &C,
+        certificate: &Index,
+        slot: u32,
+    ) -> io::Result<()> {
+        match self.view {
+            View::Listing => self.write_standing(out, certificate, slot)?,
+            View::Sketch(..) => return self.write_standing(out, certificate, slot),
+            View::Reason(..) => return Ok(()),
+            View::Slot(wanted) if wanted != slot => return Ok(()),
+            View::Slot(_) | View::List => {}
+        }
+        let found = self.found_at(program, certificate, slot, None);
+        if !found.all().is_empty() {
+            self.tell_quiet(out)?;
+        }
+        self.tell_found(out, program, certificate, slot, None, &found)
+    }
+
+    fn write_lines<'a, W: Write>(
+        &mut self,
+        out: &mut W,
+        certificate: &Index,
+        sight: &Sight<'a>,
+    ) -> io::Result<()> {
+        self.write_standing(out, certificate, sight.slot)?;
+        if sight.label.is_some() {
+            self.shown.copy_from(&sight.before);
+        }
+        write_instruction(out, sight, &mut self.shown)?;
+        write_edges(out, certificate, sight, &mut self.shown)
+    }
+
+    /// Notes why no state goes on, if none does.
+    fn note_silence<'a>(&mut self, sight: &Sight<'a>) {
+        match sight.outcome {
+            Outcome::Refused(_) => self.silence = Silence::Refused(sight.slot),
+            Outcome::Unreached if !sight.is_never => self.silence = Silence::Refused(sight.slot),
+            Outcome::Unreached => {}
+            Outcome::Done | Outcome::Dead => {
+                if !sight.goes_on {
+                    self.silence = Silence::Ends(sight.slot);
+                }
+            }
+        }
+    }
+
+    /// Tells the flaws at an instruction, those that only pass on an earlier one together.
+    fn tell_flaws<'a, W: Write, C: Code>(
+        &mut self,
+        out: &mut W,
+        program: &C,
+        certificate: &Index,
+        sight: &Sight<'a>,
+    ) -> io::Result<()> {
+        let slot = sight.slot;
+        let found = self.found_at(program, certificate, slot, Some(sight));
+        if found.is_quiet(sight) && self.view != View::Slot(slot) {
+            if self.view == View::List {
+                self.pass_over(slot);
+            }
+            return Ok(());
+        }
+        if !found.all().is_empty() {
+            self.tell_quiet(out)?;
+        }
+        self.tell_found(out, program, certificate, slot, Some(sight), &found)
+    }
+
+    /// Tells the flaw with a number of an instruction, if it has it.
+    fn tell_one<'a, W: Write, C: Code>(
+        &mut self,
+        out: &mut W,
+        program: &C,
+        certificate: &Index,
+        sight: &Sight<'a>,
+        number: u8,
+    ) -> io::Result<()> {
+        for cause in CAUSES {
+            if cause.number() == number && sight.flaws.has(cause) {
+                self.tell_visit(out, program, certificate, sight, cause)?;
+            }
+        }
+        Ok(())
+    }
+
+    /// Tells of an instruction.
+    pub fn tell_sight<'a, W: Write, C: Code>(
+        &mut self,
+        out: &mut W,
+        program: &C,
+        certificate: &Index,
+        sight: &Sight<'a>,
+    ) -> io::Result<()> {
+        match self.view {
+            View::Listing => {
+                self.write_lines(out, certificate, sight)?;
+                self.tell_flaws(out, program, certificate, sight)?;
+            }
+            View::List => self.tell_flaws(out, program, certificate, sight)?,
+            View::Slot(slot) if slot == sight.slot => {
+                write_whole(out, sight)?;
+                self.tell_flaws(out, program, certificate, sight)?;
+            }
+            View::Sketch(slot, number) => {
+                self.write_lines(out, certificate, sight)?;
+                if slot == sight.slot {
+                    self.tell_one(out, program, certificate, sight, number)?;
+                }
+            }
+            View::Reason(slot, number) if slot == sight.slot => {
+                self.tell_one(out, program, certificate, sight, number)?;
+            }
+            View::Slot(_) | View::Reason(..) => {}
+        }
+        self.note_silence(sight);
+        Ok(())
+    }
+}

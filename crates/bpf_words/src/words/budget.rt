@@ -1,0 +1,140 @@
+//! Budgets that don't cover a cost.
+
+use crate::known::{Known, Name};
+use crate::places::{content, tag_at};
+use crate::sight::{Edge, Sight, total_of};
+use bpf_cert::{Label, Measure, Term};
+use bpf_check::{Index, label_at, place_of};
+use bpf_insn::Insn;
+use bpf_state::{Place, SlotState, State, Tag};
+use std::io::{self, Write};
+
+/// What a place that holds a counter did on the way: `r6 falls by 1 at weight 5`.
+fn tell_move<W: Write>(out: &mut W, old: &Label, term: &Term, tag: Tag) -> io::Result<()> {
+    let name = Name(place_of(term));
+    let weight = term.weight;
+    let by = tag.offset.unsigned_abs();
+    if let Some(counted) = old.budget.terms.as_slice().get(usize::from(tag.term)) {
+        let before = Name(place_of(counted));
+        if place_of(counted) != place_of(term) {
+            let slot = old.slot;
+            let sign = if tag.offset < 0 { "-" } else { "+" };
+            return write!(
+                out,
+                ", and {name} is {before} of slot {slot} {sign} {by} at weight {weight}"
+            );
+        }
+    }
+    if tag.offset < 0 {
+        write!(out, ", and {name} falls by {by} at weight {weight}")
+    } else if tag.offset > 0 {
+        write!(out, ", and {name} rises by {by} at weight {weight}")
+    } else {
+        write!(out, ", and {name} stays at weight {weight}")
+    }
+}
+
+/// A place that isn't followed from the label before: it counts as the worst that it may hold.
+fn tell_worst<W: Write>(out: &mut W, state: &State, term: &Term) -> io::Result<()> {
+    let place = place_of(term);
+    let name = Name(place);
+    let weight = term.weight;
+    let held = content(state, place);
+    let SlotState::Word(number) = held else {
+        let held = Known(held);
+        return write!(out, ", and {name} is {held}");
+    };
+    let bounds = number.unsigned();
+    match term.measure {
+        Measure::Down(_) => {
+            let most = bounds.hi();
+            write!(
+                out,
+                ", and {name} is another value, at most {most}, at weight {weight}"
+            )
+        }
+        Measure::Up(_, limit) => {
+            let least = bounds.lo();
+            write!(
+                out,
+                ", and {name} is another value, at least {least} of {limit}, at weight {weight}"
+            )
+        }
+    }
+}
+
+fn tell_terms<W: Write>(out: &mut W, old: &Label, new: &Label, state: &State) -> io::Result<()> {
+    for term in new.budget.terms.as_slice() {
+        match tag_at(state, place_of(term)) {
+            Some(tag) => tell_move(out, old, term, tag)?,
+            None => tell_worst(out, state, term)?,
+        }
+    }
+    Ok(())
+}
+
+/// Tells of an edge that isn't paid. Whether there was something to tell.
+fn tell_edge<'a, W: Write>(
+    out: &mut W,
+    certificate: &Index,
+    sight: &Sight<'a>,
+    edge: Edge,
+    state: &State,
+) -> io::Result<bool> {
+    let (Some(here), Some(slack)) = (sight.here, edge.slack) else {
+        return Ok(false);
+    };
+    let (Some(new), Some(cost)) = (label_at(certificate, edge.to), sight.cost) else {
+        return Ok(false);
+    };
+    let total = total_of(slack);
+    if total >= 0 {
+        return Ok(false);
+    }
+    let to = edge.to;
+    let way = if to <= sight.slot {
+        "the loop back to"
+    } else {
+        "the way to"
+    };
+    write!(out, "{way} slot {to} costs {cost}")?;
+    let (before, behind) = (here.label.budget.base, new.budget.base);
+    if before != behind {
+        write!(out, ", the base goes from {before} to {behind}")?;
+    }
+    tell_terms(out, here.label, new, state)?;
+    write!(out, ": slack {total}")?;
+    Ok(true)
+}
+
+fn tell_exit<'a, W: Write>(out: &mut W, sight: &Sight<'a>) -> io::Result<()> {
+    let (Some(here), Some(least), Some(cost)) = (sight.here, sight.least_budget, sight.cost) else {
+        return Ok(());
+    };
+    let slot = here.label.slot;
+    let slack = least.saturating_sub(cost);
+    write!(
+        out,
+        "the exit costs {cost}, and the budget at slot {slot} is at least {least}: slack {slack}"
+    )
+}
+
+/// C9: the budget at the last label doesn't cover the cost on an edge or at EXIT.
+pub fn tell_unpaid<'a, W: Write>(
+    out: &mut W,
+    certificate: &Index,
+    sight: &Sight<'a>,
+) -> io::Result<()> {
+    if let Insn::Exit = sight.insn {
+        return tell_exit(out, sight);
+    }
+    if let Some(edge) = sight.jump {
+        if tell_edge(out, certificate, sight, edge, sight.jump_state())? {
+            return Ok(());
+        }
+    }
+    if let Some(edge) = sight.next {
+        let _ = tell_edge(out, certificate, sight, edge, sight.next_state())?;
+    }
+    Ok(())
+}

@@ -1,0 +1,155 @@
+//! Accesses out of bounds, of bytes that aren't initialised, and of what may not be written.
+
+use crate::effects::{Access, Reach, access_of};
+use crate::known::{Name, Offset, known_register};
+use crate::places::content;
+use crate::sight::Sight;
+use crate::words::register;
+use bpf_check::Index;
+use bpf_insn::{Insn, Operand};
+use bpf_state::{Place, SlotState, State};
+use std::io::{self, Write};
+
+fn verb(access: Access) -> &'static str {
+    match (access.reads, access.writes) {
+        (true, true) => "changes",
+        (false, true) => "writes",
+        _ => "reads",
+    }
+}
+
+/// `reads 2 bytes at r1 + 15`
+fn tell_what<W: Write>(out: &mut W, access: Access) -> io::Result<()> {
+    let (verb, bytes) = (verb(access), access.bytes());
+    let unit = if bytes == 1 { "byte" } else { "bytes" };
+    let (name, off) = (register(access.base), Offset(access.off));
+    write!(out, "{verb} {bytes} {unit} at {name} {off}")
+}
+
+/// The byte that lies outside of the context or the frame.
+fn tell_outside<W: Write>(out: &mut W, certificate: &Index, reach: Reach) -> io::Result<()> {
+    let (first, last) = (reach.first, reach.last);
+    let least = certificate.least();
+    if reach.in_frame {
+        if first < -512 {
+            write!(out, "byte {first} of a frame from -512 to -1")
+        } else {
+            write!(out, "byte {last} of a frame from -512 to -1")
+        }
+    } else if last >= i64::from(least) {
+        let unit = if least == 1 { "byte" } else { "bytes" };
+        write!(out, "byte {last} of a context of {least} {unit}")
+    } else {
+        write!(out, "byte {first}, in front of the context")
+    }
+}
+
+/// The registers of an operation that moves a pointer too far.
+fn tell_far<W: Write>(out: &mut W, state: &State, insn: &Insn) -> io::Result<()> {
+    write!(
+        out,
+        "the pointer may leave its bounds, -2147483648 to 2147483648"
+    )?;
+    let Insn::Alu { dst, src, .. } = *insn else {
+        return Ok(());
+    };
+    let (name, held) = (register(dst), known_register(state.reg(dst)));
+    write!(out, ": {name} is {held}")?;
+    match src {
+        Operand::Reg(src) => {
+            let (name, held) = (register(src), known_register(state.reg(src)));
+            write!(out, " and {name} is {held}")
+        }
+        Operand::Imm(_) => Ok(()),
+    }
+}
+
+/// C5: an access may leave the context or the frame, or a pointer its bounds.
+pub fn tell_bounds<'a, W: Write>(
+    out: &mut W,
+    certificate: &Index,
+    sight: &Sight<'a>,
+) -> io::Result<()> {
+    let state = &sight.before;
+    let Some(access) = access_of(&sight.insn) else {
+        return tell_far(out, state, &sight.insn);
+    };
+    tell_what(out, access)?;
+    let (name, held) = (
+        register(access.base),
+        known_register(state.reg(access.base)),
+    );
+    write!(out, ", {name} is {held}")?;
+    match access.reach(state) {
+        Some(reach) => {
+            write!(out, ": ")?;
+            tell_outside(out, certificate, reach)
+        }
+        None => Ok(()),
+    }
+}
+
+/// The bytes of a slot that are touched, by a mask.
+fn touched(reach: Reach, slot: u8) -> u8 {
+    let start = i64::from(slot).saturating_mul(-8);
+    let mut mask = 0;
+    for bit in 0..8u8 {
+        let offset = start.saturating_add(i64::from(bit));
+        if reach.first <= offset && offset <= reach.last {
+            mask |= 1 << bit;
+        }
+    }
+    mask
+}
+
+/// The first slot with a byte that may be read and isn't known to be initialised, and the mask of those that are.
+fn unknown_slot(state: &State, reach: Reach) -> Option<(u8, u8)> {
+    let (low, high) = reach.slots()?;
+    for slot in low..=high {
+        if let SlotState::Bytes(known) = content(state, Place::Slot(slot)) {
+            if touched(reach, slot) & !known != 0 {
+                return Some((slot, known));
+            }
+        }
+    }
+    None
+}
+
+/// C6: a stack byte that may be read isn't known to be initialised.
+pub fn tell_unknown_bytes<'a, W: Write>(out: &mut W, sight: &Sight<'a>) -> io::Result<()> {
+    let Some(access) = access_of(&sight.insn) else {
+        return write!(out, "reads bytes that aren't known to be initialised");
+    };
+    tell_what(out, access)?;
+    let found = match access.reach(&sight.before) {
+        Some(reach) => unknown_slot(&sight.before, reach),
+        None => None,
+    };
+    match found {
+        Some((slot, 0)) => {
+            let name = Name(Place::Slot(slot));
+            write!(out, ": no byte of {name} is known to be initialised")
+        }
+        Some((slot, known)) => {
+            let name = Name(Place::Slot(slot));
+            write!(
+                out,
+                ": of {name} only the bytes b{known} are known to be initialised"
+            )
+        }
+        None => Ok(()),
+    }
+}
+
+/// C7: the context or r10 is written.
+pub fn tell_protected<'a, W: Write>(out: &mut W, sight: &Sight<'a>) -> io::Result<()> {
+    match access_of(&sight.insn) {
+        Some(access) if access.writes => {
+            tell_what(out, access)?;
+            let held = known_register(sight.before.reg(access.base));
+            let name = register(access.base);
+            write!(out, ", {name} is {held}: the context may only be read")
+        }
+        _ => write!(out, "writes r10, which stays at the frame's end"),
+    }
+}
