@@ -43,7 +43,7 @@ fn budget_of(budgets: &Budgets, block: usize) -> Budget {
 }
 
 /// Takes the state of a block.
-fn taken(states: &mut Vec<Option<State>>, block: usize) -> Option<State> {
+fn taken(states: &mut Vec<Option<Entries>>, block: usize) -> Option<Entries> {
     states.get_mut(block)?.take()
 }
 
@@ -61,7 +61,7 @@ fn labels_of(
         if let Some(state) = taken(&mut rounds.states, block) {
             labels.push(Label {
                 slot: outline.label(block),
-                state: Entries::of(alloc, &state)?,
+                state,
                 budget: budget_of(budgets, block),
             })?;
         }

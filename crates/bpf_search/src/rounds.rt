@@ -2,13 +2,13 @@
 
 use crate::functions::Depths;
 use crate::join::join;
-use crate::places::number_at;
+use crate::places::number_said;
 use crate::walk::{Edge, Visitor, Walk};
 use crate::watch::Watch;
 use crate::widen::Stops;
 use bpf_num::Num;
 use bpf_proposal::InferError;
-use bpf_state::{State, enter};
+use bpf_state::{Entries, State, enter};
 use std::alloc::{AllocError, Global};
 
 /// The most rounds over a function.
@@ -21,7 +21,7 @@ const FIRST_WIDE_ROUND: u32 = 4;
 #[derive(Drop)]
 pub struct Rounds {
     /// The states at the labels, None where none was reached.
-    pub states: Vec<Option<State>>,
+    pub states: Vec<Option<Entries>>,
     /// The block of the last edge that leads back to each.
     pub backs: Vec<Option<usize>>,
     /// The lowest slot that isn't reached in each, else its end.
@@ -34,6 +34,8 @@ pub struct Rounds {
     alloc: Global,
     /// Made when the first bound is moved on.
     stops: Stops,
+    /// Where the state at a label is joined with another one.
+    room: State,
 }
 
 /// Puts an element into its place, if there is one.
@@ -49,25 +51,7 @@ fn add_back(backs: &mut Vec<Option<usize>>, edge: Edge) {
     }
 }
 
-/// Makes a state one that another lies in too.
-fn arrive(held: &mut Option<State>, state: &State, stops: Option<&Stops>) {
-    match held {
-        Some(old) => join(old, state, stops),
-        None => {
-            let mut first = state.copy();
-            first.clear_tags();
-            *held = Some(first);
-        }
-    }
-}
-
-fn arrive_at(states: &mut Vec<Option<State>>, block: usize, state: &State, stops: Option<&Stops>) {
-    if let Some(held) = states.get_mut(block) {
-        arrive(held, state, stops);
-    }
-}
-
-fn no_states(alloc: Global, count: usize) -> Result<Vec<Option<State>>, AllocError> {
+fn no_states(alloc: Global, count: usize) -> Result<Vec<Option<Entries>>, AllocError> {
     let mut states = Vec::with_capacity(alloc, count)?;
     for _ in 0..count {
         states.push(None)?;
@@ -80,15 +64,13 @@ impl Visitor for Rounds {
         if edge.to <= edge.from {
             add_back(&mut self.backs, edge);
         }
-        self.reach(edge.to, state, self.is_wide);
-        Ok(())
+        self.reach(edge.to, state, self.is_wide)
     }
 
     fn call(&mut self, callee: usize, state: &State) -> Result<(), AllocError> {
         let mut entry = state.copy();
         enter(&mut entry);
-        self.reach(callee, &entry, false);
-        Ok(())
+        self.reach(callee, &entry, false)
     }
 
     fn exit(&mut self, _from: usize, _done: i128) -> Result<(), AllocError> {
@@ -109,35 +91,54 @@ impl Rounds {
             is_wide: false,
             alloc,
             stops: Stops::new(alloc),
+            room: State::blank(),
         })
     }
 
     fn lies_in(&self, block: usize, state: &State) -> bool {
         match self.states.get(block) {
-            Some(Some(held)) => state.entails(held),
+            Some(Some(held)) => state.entails_entries(held),
             _ => false,
         }
     }
 
+    /// What a label says if another state lies in it too; with stops, if it is wide.
+    fn joined(
+        &mut self,
+        block: usize,
+        state: &State,
+        is_wide: bool,
+    ) -> Result<Entries, AllocError> {
+        match self.states.get(block) {
+            Some(Some(held)) => {
+                held.put_into(&mut self.room);
+                if is_wide {
+                    join(&mut self.room, state, Some(&self.stops));
+                } else {
+                    join(&mut self.room, state, None);
+                }
+                Entries::of(self.alloc, &self.room)
+            }
+            Some(None) | None => Entries::of(self.alloc, state),
+        }
+    }
+
     /// Takes note that a label is reached in a state.
-    pub fn reach(&mut self, block: usize, state: &State, is_wide: bool) {
-        if self.lies_in(block, state) {
-            return;
+    pub fn reach(&mut self, block: usize, state: &State, is_wide: bool) -> Result<(), AllocError> {
+        if !self.lies_in(block, state) {
+            let joined = self.joined(block, state, is_wide)?;
+            put(&mut self.states, block, Some(joined));
+            put(&mut self.changed, block, true);
+            self.has_changed = true;
         }
-        if is_wide {
-            arrive_at(&mut self.states, block, state, Some(&self.stops));
-        } else {
-            arrive_at(&mut self.states, block, state, None);
-        }
-        put(&mut self.changed, block, true);
-        self.has_changed = true;
+        Ok(())
     }
 
     /// Makes a state the one at a label, with its numbers tightened. False if it isn't reached.
     pub fn load(&self, block: usize, room: &mut State) -> bool {
         match self.states.get(block) {
-            Some(Some(state)) => {
-                room.copy_from(state);
+            Some(Some(held)) => {
+                held.put_into(room);
                 room.tighten()
             }
             _ => false,
@@ -147,7 +148,7 @@ impl Rounds {
     /// The number in a place at a label, tightened.
     pub fn number(&self, block: usize, number: usize) -> Option<Num> {
         match self.states.get(block) {
-            Some(Some(state)) => number_at(state, number)?.tighten(),
+            Some(Some(held)) => number_said(held, number)?.tighten(),
             _ => None,
         }
     }
@@ -256,7 +257,7 @@ pub fn states_of<W: Watch>(
     watch: &mut W,
 ) -> Result<Rounds, InferError> {
     let mut rounds = Rounds::new(alloc, walk)?;
-    rounds.reach(0, start, false);
+    rounds.reach(0, start, false)?;
     for depth in (1..9).rev() {
         rounds.settle_depth(walk, depths, depth, watch)?;
     }

@@ -53,7 +53,7 @@ fn rounds_so_far(
     start: &State,
 ) -> Result<Rounds, InferError> {
     let mut rounds = Rounds::new(alloc, walk)?;
-    rounds.reach(0, start, false);
+    rounds.reach(0, start, false)?;
     for depth in (1..9).rev() {
         if rounds
             .settle_depth(walk, depths, depth, &mut Unwatched)
@@ -78,7 +78,7 @@ fn labels_of(
         if let Some(Some(state)) = rounds.states.get(block) {
             labels.push(Label {
                 slot: outline.label(block),
-                state: Entries::of(alloc, state)?,
+                state: state.copy(alloc)?,
                 budget: Budget {
                     base: 0,
                     terms: ArrayVec::new(),
