@@ -1,16 +1,24 @@
-use Rattle.std.proofs.Common.{arith, inl, inr}
-use Rattle.bpf_host.proofs.EndLemmas.{Ran, done_as_verified, never_fault, never_out}
+use Rattle.std.proofs.Common.{arith}
+use Rattle.bpf_machine.proofs.RunLemmas.{StepLaws}
+use Rattle.bpf_host.proofs.EndLemmas.{Known, ends, as_verified}
 use Rattle.bpf_host.proofs.checked.end_of_image.Goals as goal
 
-pub returns-in-Done : goal.returns-in-Done
-returns-in-Done c =
-    let ran : Ran c.args.order c.args.image.now c.args.context.now c.in-Ok.program c.run.result = record { order_is = c.in-Ok.ensures.ok.1; list_is = c.in-Ok.ensures.accepts; bytes = λ i. omega (arith, c.type_inv.context i); only = c.run.ensures.only } in
-    done_as_verified ran c.in-Done.value c.in-Done.steps c.in-Done.is c.in-Done.ensures.outcome.0
+pub known-program-requires : goal.known-program-requires
+known-program-requires c = (c.requires.verified.program, c.requires.verified.is_image)
 
-pub returns-in-Fault : goal.returns-in-Fault
-returns-in-Fault c =
-    let ran : Ran c.args.order c.args.image.now c.args.context.now c.in-Ok.program c.run.result = record { order_is = c.in-Ok.ensures.ok.1; list_is = c.in-Ok.ensures.accepts; bytes = λ i. omega (arith, c.type_inv.context i); only = c.run.ensures.only } in
-    elim c.in-Fault.is [
-      | inl h ↦ never_fault ran c.requires h.0 h.1 h.2 h.3
-      | inr h ↦ never_out ran c.requires h
-    ]
+pub run-requires-clause-short : goal.run-requires-clause-short
+run-requires-clause-short c =
+    let high = c.requires.length_within.1 in
+    let few = c.requires.short in
+    omega (arith, high, few)
+
+pub run-requires-clause-ends : goal.run-requires-clause-ends
+run-requires-clause-ends c =
+    let known : Known c.args.order c.args.image.now c.known-program.result = record { order_is = c.known-program.ensures.order; list_is = c.known-program.ensures.list } in
+    ends known (λ i. omega (arith, c.type_inv.context i)) c.requires
+
+pub returns : goal.returns
+returns c =
+    let known : Known c.args.order c.args.image.now c.known-program.result = record { order_is = c.known-program.ensures.order; list_is = c.known-program.ensures.list } in
+    let laws : StepLaws = record { last = c.finish_is_last.ensures; stuck = c.stuck_has_reason.ensures; one = c.runs_are_one.ensures } in
+    as_verified laws known (λ i. omega (arith, c.type_inv.context i)) c.run.result c.run.ensures
