@@ -1,6 +1,8 @@
 //! Runs of the machine.
 
 mod arithmetic;
+mod conditions;
+mod edges;
 mod memory;
 mod programs;
 mod reasons;

@@ -1,36 +1,11 @@
 //! Arithmetic at its edges, from RFC 9669, section 4.1, computed apart from this repository.
 
+use crate::machine::edges::{EDGES_32, EDGES_64, Edges, edges_of, operand_of};
 use crate::machine::programs::{assert_runs, by, done, set_long};
 use bpf_insn::{AluOp, Insn, Operand, Reg, Width};
 use std::alloc::Global;
 use std::process::Abort;
 use std::test::Fail;
-
-/// The ends of the signed numbers of a width, and those next to them.
-#[derive(Clone, Copy)]
-struct Edges {
-    least: i64,
-    above: i64,
-    higher: i64,
-    below: i64,
-    most: i64,
-}
-
-const EDGES_64: Edges = Edges {
-    least: i64::MIN,
-    above: -0x7fff_ffff_ffff_ffff,
-    higher: -0x7fff_ffff_ffff_fffe,
-    below: 0x7fff_ffff_ffff_fffe,
-    most: i64::MAX,
-};
-
-const EDGES_32: Edges = Edges {
-    least: -0x8000_0000,
-    above: -0x7fff_ffff,
-    higher: -0x7fff_fffe,
-    below: 0x7fff_fffe,
-    most: 0x7fff_ffff,
-};
 
 const LEAST_32: i64 = EDGES_32.least;
 
@@ -236,14 +211,6 @@ fn shifts_32() -> [(AluOp, [[i64; 4]; 4]); 3] {
     ]
 }
 
-/// A register with this number: at 32 bits other bits stand above it.
-fn operand_of(width: Width, number: i64) -> u64 {
-    match width {
-        Width::W64 => number.cast_unsigned(),
-        Width::W32 => number.cast_unsigned() % (1 << 32) | 0xa5c3_96f1 << 32,
-    }
-}
-
 /// A register after an operation that gave this number: at 32 bits zero stands above it.
 fn result_of(width: Width, number: i64) -> u64 {
     match width {
@@ -298,11 +265,7 @@ fn assert_table(
     op: AluOp,
     table: &[[i64; 5]; 5],
 ) -> Result<(), Fail> {
-    let e = match width {
-        Width::W64 => EDGES_64,
-        Width::W32 => EDGES_32,
-    };
-    let edges = [0, 1, -1, e.least, e.most];
+    let edges = edges_of(width).in_order();
     for (a, row) in edges.iter().zip(table) {
         assert_row(rt, width, op, *a, &edges, row)?;
     }
@@ -315,10 +278,7 @@ fn assert_shifts(
     op: AluOp,
     table: &[[i64; 4]; 4],
 ) -> Result<(), Fail> {
-    let e = match width {
-        Width::W64 => EDGES_64,
-        Width::W32 => EDGES_32,
-    };
+    let e = edges_of(width);
     for (a, row) in [1, -1, e.least, e.most].iter().zip(table) {
         assert_row(rt, width, op, *a, &[31, 32, 63, 64], row)?;
     }
