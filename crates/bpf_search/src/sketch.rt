@@ -45,7 +45,7 @@ pub struct Sketch {
     pub obstacle: Obstacle,
 }
 
-/// The rounds, as far as they go.
+/// The rounds, as far as they go; I5 if memory runs out.
 fn rounds_so_far(
     alloc: Global,
     walk: &Walk,
@@ -55,11 +55,10 @@ fn rounds_so_far(
     let mut rounds = Rounds::new(alloc, walk)?;
     rounds.reach(0, start, false)?;
     for depth in (1..9).rev() {
-        if rounds
-            .settle_depth(walk, depths, depth, &mut Unwatched)
-            .is_err()
-        {
-            break;
+        match rounds.settle_depth(walk, depths, depth, &mut Unwatched) {
+            Ok(()) => {}
+            Err(InferError::Memory) => return Err(InferError::Memory),
+            Err(_) => break,
         }
     }
     Ok(rounds)
