@@ -40,6 +40,7 @@ COMMANDS = [
     ['explain', 'countdown.img', 'bad.asm'],
     ['explain', 'checksum.img', '--infer', '16'],
     ['explain', 'checksum.img', '--infer', '15'],
+    ['explain', 'checksum.img', '--infer', '15', '--deep'],
 ]
 
 

@@ -38,6 +38,29 @@ TEXTS = {
     'order': 'r0 = 0x1122334455667788 ll\n*(u64 *)(r10 - 8) = r0\nr0 = *(u16 *)(r10 - 8)\nexit\n',
 }
 
+ALU = ['+=', '-=', '*=', '|=', '&=', '<<=', '>>=', '^=', '=', 's>>=']
+CONDITIONS = ['==', '!=', '>', '>=', '<', '<=', 's>', 's>=', 's<', 's<=', '&']
+
+
+def every_instruction():
+    """A program with each operation, test, access and byte swap, each of which tells on the number at its end."""
+    lines = ['r6 = *(u32 *)(r1 + 0)', 'r7 = 0x1234567890abcdef ll', 'r6 *= r7', 'r7 = *(u8 *)(r1 + 3)', 'r7 += 3', 'r0 = 1']
+    for r in ['r', 'w']:
+        for op in ALU:
+            lines += [f'{r}8 = {r}6', f'{r}8 {op} 3', 'r0 ^= r8', f'{r}8 = {r}6', f'{r}8 {op} {r}7', 'r0 += r8', 'r0 *= 31']
+        for op in ['/=', '%=', 's/=', 's%=']:
+            lines += [f'{r}8 = {r}6', f'{r}8 {op} 3', 'r0 ^= r8', f'{r}8 {op} {r}7', 'r0 += r8']
+        for condition in CONDITIONS:
+            lines += [f'if {r}6 {condition} 5 goto +1', 'r0 += 7', f'if {r}7 {condition} {r}6 goto +1', 'r0 *= 3']
+    for bits in [8, 16, 32, 64]:
+        lines += [f'*(u{bits} *)(r10 - {bits}) = r6', f'r8 = *(u{bits} *)(r10 - {bits})', 'r0 ^= r8', 'r0 *= 31']
+        lines += [f'*(u{bits} *)(r10 - {bits}) = -2', f'r8 = *(u{bits} *)(r10 - {bits})', 'r0 += r8']
+    for bits in [16, 32, 64]:
+        for swap in ['le', 'be', 'bswap']:
+            lines += ['r8 = r6', f'r8 = {swap}{bits} r8', 'r0 ^= r8', 'r0 *= 31']
+    return '\n'.join([*lines, 'r1 = r0', 'call +1', 'exit', 'r0 = r1', 'r0 >>= 1', 'exit']) + '\n'
+
+
 SMALLEST = 'bpfcert 1 0 2\nfn 0 1 *\nat 0 2\nend\n'
 
 # A program and a certificate for each refusal K1 to K3 and C1 to C13.
@@ -127,7 +150,7 @@ class Table:
 def fill(table):
     images = {path.stem: {'little': path, 'big': path} for path in sorted(EXAMPLES.glob('*.img'))}
     certificates = sorted(EXAMPLES.glob('*.cert'))
-    for name, text in [*TEXTS.items(), *[(path.stem, path.read_text()) for path in sorted(EXAMPLES.glob('*.asm'))]]:
+    for name, text in [*TEXTS.items(), ('every', every_instruction()), *[(path.stem, path.read_text()) for path in sorted(EXAMPLES.glob('*.asm'))]]:
         images[f'{name}.text'] = assembled(name, text)
     for name, data in NO_IMAGES.items():
         path = made(f'{name}.img', bytes.fromhex(data))

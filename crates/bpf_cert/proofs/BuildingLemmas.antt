@@ -1,8 +1,7 @@
 -- A certificate in the making, one part later.
-use Rattle.std.proofs.Common.{◌≡◌, ℕ, ◌+◌, ◌-◌, ◌<◌, ◌≤◌, List, [], ◌∷◌, ◌++◌, map, flat_map, sym, ap, ◌∙◌, arith, append-nil}
-use Rattle.std.proofs.lemmas.List.{map-append, map-set, set-append_left, set-append_right, length-take-le, length-map, get_or_append_left, get_or-map, get_or-take}
+use Rattle.std.proofs.Common.{◌≡◌, ℕ, ◌+◌, ◌-◌, ◌<◌, ◌≤◌, List, ◌++◌, map, sym, ap, ◌∙◌, arith}
+use Rattle.std.proofs.lemmas.List.{map-set, set-append_left, set-append_right, length-take-le, length-map, get_or_append_left, get_or-map, get_or-take}
 use Rattle.std.proofs.Math.Seq.{take-set-lt, get_or-append_right}
-use Rattle.std.proofs.lemmas.Grind.{flat_map-append}
 use Rattle.std.proofs.Common.{take, length, get_or, refl}
 use Rattle.std.proofs.Math.ListN.{set}
 use Rattle.bpf_insn.specs.declared.instruction.Reg.{Reg}
@@ -12,21 +11,7 @@ use Rattle.bpf_state.specs.declared.state.RegState.{RegState}
 use Rattle.bpf_state.specs.declared.state.RegState.TheVariants as reg
 use Rattle.bpf_state.specs.declared.state.SlotState.{SlotState}
 use Rattle.bpf_state.specs.declared.state.SlotState.TheVariants as slot
-use Rattle.bpf_cert.specs.Line.{Line}
-use Rattle.bpf_cert.specs.View.{label_view, function_view}
-use Rattle.bpf_cert.specs.Spelling.{function_lines, label_lines, contents}
-use Rattle.bpf_cert.specs.declared.certificate.Label.{Label}
-use Rattle.bpf_cert.specs.declared.certificate.Function.{Function}
-
--- a function with one label more
-pub label_more : (line : Line) (old new : List Label) (l : Label) → new ≡ old ++ l ∷ [] → line ∷ flat_map label_lines (map label_view new) ≡ (line ∷ flat_map label_lines (map label_view old)) ++ label_lines (label_view l)
-label_more line old new l e = ap (λ ls. line ∷ flat_map label_lines (map label_view ls)) e ∙ ap (λ ls. line ∷ flat_map label_lines ls) (map-append label_view old (l ∷ []))
-    ∙ ap (λ ls. line ∷ ls) (flat_map-append label_lines (map label_view old) (label_view l ∷ []) ∙ ap (λ ls. flat_map label_lines (map label_view old) ++ ls) (append-nil (label_lines (label_view l))))
-
--- one function more
-pub function_more : (old new : List Function) (f : Function) → new ≡ old ++ f ∷ [] → flat_map function_lines (map function_view new) ≡ flat_map function_lines (map function_view old) ++ function_lines (function_view f)
-function_more old new f e = ap (λ fs. flat_map function_lines (map function_view fs)) e ∙ ap (flat_map function_lines) (map-append function_view old (f ∷ []))
-    ∙ flat_map-append function_lines (map function_view old) (function_view f ∷ []) ∙ ap (λ ls. flat_map function_lines (map function_view old) ++ ls) (append-nil (function_lines (function_view f)))
+use Rattle.bpf_cert.specs.Spelling.{contents}
 
 -- the contents of a state with a register changed
 pub contents_register : (registers : List RegState) (slots : List SlotState) (i : ℕ) (value : RegState) (content : SlotState) → i ≤ 9 → length registers ≡ 11 → value_slot value ≡ content

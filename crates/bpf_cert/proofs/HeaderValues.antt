@@ -1,19 +1,17 @@
 -- What first lines say, and the first lines of certificates.
-use Rattle.std.proofs.Common.{◌≡◌, ℕ, ◌-◌, ◌^◌, ◌≤◌, ◌⊎◌, inl, inr, ⊎_elim, Bool, true, false, cond, eqb, leb, List, [], Some, Ok, Err, refl, sym, ap, subst, ◌∙◌, arith, min}
+use Rattle.std.proofs.Common.{◌≡◌, ℕ, ◌-◌, ◌^◌, ◌≤◌, ◌⊎◌, inl, inr, ⊎_elim, Bool, true, false, cond, eqb, leb, List, [], Some, Ok, refl, sym, ap, subst, ◌∙◌, arith, min}
 use Rattle.std.specs.Prelude.{◌&&◌, decimal}
 use Rattle.std.proofs.lemmas.Bool.{leb-true, le-leb, eqb-true, eq-eqb}
 use Rattle.bpf_cert.specs.Numeral.{is_numeral, is_plain, number, is_from_to}
 use Rattle.bpf_cert.specs.Line.{Line, Lengths, is_line}
 use Rattle.bpf_cert.specs.Faults.{is_canonical, is_limited}
 use Rattle.bpf_cert.specs.Limits.{is_version, is_limited_header}
-use Rattle.bpf_cert.specs.code.Findings.{tested, found, valued}
+use Rattle.bpf_cert.specs.code.Findings.{tested, found}
 use Rattle.bpf_cert.specs.Spelling.{lengths_of, header_line}
-use Rattle.bpf_cert.specs.declared.finding.Flaw.{Flaw}
 use Rattle.bpf_cert.specs.declared.header.Header.{Header}
 use Rattle.bpf_cert.proofs.Bools.{both_true}
 use Rattle.bpf_cert.proofs.NumLemmas.{tested_ok}
 use Rattle.bpf_cert.proofs.NumeralLaws.{plain_decimal}
-use Rattle.bpf_cert.proofs.FindingLemmas.{found_tested}
 use Rattle.bpf_cert.proofs.FineParts.{decimal_writes}
 use Rattle.bpf_cert.proofs.AfterLemmas.{IsFine}
 use Rattle.bpf_cert.proofs.StandingLemmas.{capped_most, capped_between, spelled_again}
@@ -37,21 +35,6 @@ one_ok bytes most len steps plain mid limited u digits_b digits_m e f p m l ok =
     let len_again : decimal len ≡ bytes = spelled_again bytes len 4096 digits_b plains.0 e low (omega arith) in
     let steps_again : decimal steps ≡ most = spelled_again most steps 4294967295 digits_m plains.1 f ends.1 (omega arith) in
     rw (plains.0, plains.1, low, range, len_again, steps_again) refl
-
-pub one_kept : (len steps : ℕ) (plain mid limited : Bool) (u : Unit {0}) → mid ≡ is_from_to 1 4294967295 steps → limited ≡ (leb len 4096 && mid) → tested plain limited ≡ Ok u
-    → is_limited_header (record { version = 1; least = len; most = len; steps = steps }) ≡ true
-one_kept len steps plain mid limited u m l ok =
-    let limits = both_true (leb len 4096) mid (sym l ∙ (tested_ok plain limited u ok).1) in
-    rw (eq-eqb len len refl, le-leb len len (omega arith), limits.0, sym m ∙ limits.1) refl
-
-pub one_err : (bytes most : List ℕ) (len steps : ℕ) (plain mid limited : Bool) (flaw : Flaw) → len ≡ min (number bytes) (2 ^ 64) → steps ≡ min (number most) (2 ^ 64)
-    → plain ≡ (is_plain bytes && is_plain most) → mid ≡ is_from_to 1 4294967295 steps → limited ≡ (leb len 4096 && mid) → tested plain limited ≡ Err flaw
-    → Err flaw ≡ found is_canonical is_limited (Some (Line.header (Lengths.one bytes) most))
-one_err bytes most len steps plain mid limited flaw e f p m l bad =
-    let line = Line.header (Lengths.one bytes) most in
-    let short : leb len 4096 ≡ leb (number bytes) 4096 = ap (λ n. leb n 4096) e ∙ capped_most (number bytes) 4096 (omega arith) in
-    let keeps : limited ≡ is_limited line = l ∙ ap (λ b. leb len 4096 && b) (steps_within most steps mid f m) ∙ ap (λ b. b && is_from_to 1 4294967295 (number most)) short in
-    ap (valued (λ (u : Unit {0}). line)) (sym bad ∙ ap (λ b. tested b limited) p ∙ ap (tested (is_canonical line)) keeps) ∙ sym (found_tested (is_canonical line) (is_limited line) line)
 
 -- two lengths
 
@@ -89,22 +72,6 @@ range_ok least most count low high steps plains canonical lengths mid limited u 
     let most_again : decimal high ≡ most = spelled_again most high 4096 digits_m ends_plain.1 f bounds.1 (omega arith) in
     let steps_again : decimal steps ≡ count = spelled_again count steps 4294967295 digits_c plain.1 g ends.1 (omega arith) in
     rw (ends_plain.0, ends_plain.1, plain.1, bounds.0, bounds.1, range, least_again, most_again, steps_again) refl
-
-pub range_kept : (low high steps : ℕ) (canonical lengths mid limited : Bool) (u : Unit {0}) → lengths ≡ (leb low high && leb high 4096) → mid ≡ is_from_to 1 4294967295 steps → limited ≡ (lengths && mid) → tested canonical limited ≡ Ok u
-    → is_limited_header (record { version = 2; least = low; most = high; steps = steps }) ≡ true
-range_kept low high steps canonical lengths mid limited u n m l ok =
-    let limits = both_true lengths mid (sym l ∙ (tested_ok canonical limited u ok).1) in
-    let bounds = both_true (leb low high) (leb high 4096) (sym n ∙ limits.0) in
-    rw (bounds.0, bounds.1, sym m ∙ limits.1) refl
-
-pub range_err : (least most count : List ℕ) (low high steps : ℕ) (plains canonical lengths mid limited : Bool) (flaw : Flaw) → low ≡ min (number least) (2 ^ 64) → high ≡ min (number most) (2 ^ 64) → steps ≡ min (number count) (2 ^ 64)
-    → plains ≡ (is_plain least && is_plain most) → canonical ≡ (plains && is_plain count) → lengths ≡ (leb low high && leb high 4096) → mid ≡ is_from_to 1 4294967295 steps → limited ≡ (lengths && mid) → tested canonical limited ≡ Err flaw
-    → Err flaw ≡ found is_canonical is_limited (Some (Line.header (Lengths.range least most) count))
-range_err least most count low high steps plains canonical lengths mid limited flaw e f g p c n m l bad =
-    let line = Line.header (Lengths.range least most) count in
-    let plain : canonical ≡ is_canonical line = c ∙ ap (λ b. b && is_plain count) p in
-    let keeps : limited ≡ is_limited line = l ∙ ap (λ b. lengths && b) (steps_within count steps mid g m) ∙ ap (λ b. b && is_from_to 1 4294967295 (number count)) (range_within least most low high lengths e f n) in
-    ap (valued (λ (u : Unit {0}). line)) (sym bad ∙ ap (λ b. tested b limited) plain ∙ ap (tested (is_canonical line)) keeps) ∙ sym (found_tested (is_canonical line) (is_limited line) line)
 
 -- a certificate's first line
 

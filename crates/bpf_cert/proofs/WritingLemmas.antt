@@ -1,46 +1,54 @@
 -- One write after another.
 use Rattle.std.proofs.Common.{◌≡◌, ℕ, ◌+◌, ◌<◌, List, [], ◌∷◌, ◌++◌, length, get_or, map, take, drop, Option, Result, Ok, Err, ◌≤◌, arith, length-append, length-take, refl, sym, ap, ◌∙◌, subst, append_assoc, append-nil}
-use Rattle.std.specs.Prelude.{flat_map, codes}
+use Rattle.std.specs.Prelude.{flat_map, codes, OnOk, OnErr}
 use Rattle.std.specs.Io.KnownBytes.{Appends}
-use Rattle.std.proofs.KnownBytes.{Appends-nil, Appends-trans}
 use Rattle.std.proofs.lemmas.List.{at_drop_more, at_drop_all, length-map}
 use Rattle.std.proofs.lemmas.Grind.{flat_map-append}
-use Rattle.bpf_insn.specs.Written.{AppendsBeginning}
+use Rattle.bpf_insn.specs.Written.{AppendsBeginning, Gathers}
+use Rattle.bpf_insn.proofs.WriteLemmas.{gathers_nothing, gathers_more, waits_first, waits_later, gathered_all, gathered_some}
 use Rattle.bpf_state.specs.declared.state.SlotState.{SlotState}
 use Rattle.bpf_state.specs.State.{AbstractState, IsState, value_slot}
-use Rattle.bpf_cert.specs.Written.{Writes}
+use Rattle.bpf_cert.specs.Written.{Puts, Writes}
 use Rattle.bpf_cert.specs.declared.header.Header.{Header}
 use Rattle.bpf_cert.specs.View.{CertificateView, header_of}
 use Rattle.bpf_cert.specs.Line.{Line, Place}
 use Rattle.bpf_cert.specs.Spelling.{line_with_end, lines_text, lines_from, entry_lines, place_at, contents, function_lines, header_line, certificate_text}
 
--- of the whole, the rest is still to be written
-pub record Left (old now : Option (List ℕ)) (whole rest : List ℕ) : Type 0 where
+-- nothing was put
+pub puts_nothing : (a : Option (List ℕ)) (p : List ℕ) → Gathers a a p p []
+puts_nothing = gathers_nothing
+
+-- of the whole, the rest is still to be put behind what waits
+pub record Left (old now : Option (List ℕ)) (first waiting whole rest : List ℕ) : Type 0 where
   pub begun : List ℕ
   pub is_whole : whole ≡ begun ++ rest
-  pub appends : Appends old now begun
+  pub gathers : Gathers old now first waiting begun
 
-pub left_start : (a : Option (List ℕ)) (whole : List ℕ) → Left a a whole whole
-left_start a whole = record { begun = []; is_whole = refl; appends = Appends-nil a }
+pub left_start : (a : Option (List ℕ)) (p whole : List ℕ) → Left a a p p whole whole
+left_start a p whole = record { begun = []; is_whole = refl; gathers = gathers_nothing a p }
 
-pub left_step : {a b c : Option (List ℕ)} {whole rest : List ℕ} (t more : List ℕ) → rest ≡ t ++ more → Left a b whole rest → Appends b c t → Left a c whole more
-left_step {a} {b} {c} t more e l p = record { begun = l.begun ++ t; is_whole = l.is_whole ∙ ap (λ z. l.begun ++ z) e ∙ sym (append_assoc l.begun t more); appends = Appends-trans a b c l.begun t l.appends p }
+-- at the beginning nothing waits
+pub left_new : (a : Option (List ℕ)) (p whole : List ℕ) → p ≡ [] → Left a a [] p whole whole
+left_new a p whole none = record { begun = []; is_whole = refl; gathers = subst (λ q. Gathers a a [] q []) (sym none) (gathers_nothing a []) }
 
-pub left_stop : {a b c : Option (List ℕ)} {whole rest : List ℕ} (t more : List ℕ) → rest ≡ t ++ more → Left a b whole rest → AppendsBeginning b c t → AppendsBeginning a c whole
-left_stop {a} {b} {c} t more e l p = record {
-  begun = l.begun ++ p.begun;
-  left = p.left ++ more;
-  is_whole = l.is_whole ∙ ap (λ z. l.begun ++ z) (e ∙ ap (λ z. z ++ more) p.is_whole ∙ append_assoc p.begun p.left more) ∙ sym (append_assoc l.begun p.begun (p.left ++ more));
-  appends = Appends-trans a b c l.begun p.begun l.appends p.appends;
-}
+pub left_step : {a b c : Option (List ℕ)} {p q r whole rest : List ℕ} (t more : List ℕ) → rest ≡ t ++ more → Left a b p q whole rest → Gathers b c q r t → Left a c p r whole more
+left_step {a} {b} {c} {p} {q} {r} t more e l h = record { begun = l.begun ++ t; is_whole = l.is_whole ∙ ap (λ z. l.begun ++ z) e ∙ sym (append_assoc l.begun t more); gathers = gathers_more a b c p q r l.begun t l.gathers h }
 
-pub left_done : {a b : Option (List ℕ)} {whole rest : List ℕ} → rest ≡ [] → Left a b whole rest → Appends a b whole
-left_done {a} {b} e l = subst (Appends a b) (sym (l.is_whole ∙ ap (λ z. l.begun ++ z) e ∙ append-nil l.begun)) l.appends
+pub left_stop : {a b c : Option (List ℕ)} {p q whole rest : List ℕ} (t more : List ℕ) → rest ≡ t ++ more → Left a b p q whole rest → AppendsBeginning b c (q ++ t) → AppendsBeginning a c (p ++ whole)
+left_stop {a} {b} {c} {p} {q} t more e l h = subst (λ z. AppendsBeginning a c (p ++ z)) (sym (l.is_whole ∙ ap (λ z. l.begun ++ z) e)) (waits_later a b c p q l.begun (t ++ more) l.gathers (waits_first b c q t more h))
 
--- the rest is written, or a beginning of it
-pub left_written : {E : Type 0} {a b : Option (List ℕ)} (c : Option (List ℕ)) {whole : List ℕ} (rest : List ℕ) (r : Result (Unit {0}) E) → Left a b whole rest → Writes b c rest r → Writes a c whole r
-left_written c rest (Ok u) l p = left_done refl (left_step rest [] (sym (append-nil rest)) l p)
-left_written c rest (Err e) l p = left_stop rest [] (sym (append-nil rest)) l p
+pub left_done : {a b : Option (List ℕ)} {p q whole rest : List ℕ} → rest ≡ [] → Left a b p q whole rest → Gathers a b p q whole
+left_done {a} {b} {p} {q} e l = subst (Gathers a b p q) (sym (l.is_whole ∙ ap (λ z. l.begun ++ z) e ∙ append-nil l.begun)) l.gathers
+
+-- the rest is put, or a beginning of it went out
+pub left_put : {E : Type 0} {a b : Option (List ℕ)} (c : Option (List ℕ)) {p q : List ℕ} (r : List ℕ) {whole : List ℕ} (rest : List ℕ) (result : Result (Unit {0}) E) → Left a b p q whole rest → Puts b c q r rest result → Puts a c p r whole result
+left_put c r rest (Ok u) l h = left_done refl (left_step rest [] (sym (append-nil rest)) l h)
+left_put c r rest (Err e) l h = left_stop rest [] (sym (append-nil rest)) l h
+
+-- all was put behind nothing, and what waits is written
+pub left_written : {E : Type 0} {a b : Option (List ℕ)} (c : Option (List ℕ)) {q whole : List ℕ} (result : Result (Unit {0}) E) → Gathers a b [] q whole → OnOk result (Appends b c q) → OnErr result (AppendsBeginning b c q) → Writes a c whole result
+left_written {E} {a} {b} c {q} {whole} (Ok u) l all some = gathered_all a b c q whole l all
+left_written {E} {a} {b} c {q} {whole} (Err e) l all some = gathered_some a b c q whole l some
 
 -- the lines of an element, and those of the elements behind it
 pub next_lines : {A B : Type 0} (lines : B → List Line) (view : A → B) (xs : List A) (i : ℕ) (x : A) → i < length xs → x ≡ get_or xs i x

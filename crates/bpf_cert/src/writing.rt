@@ -1,7 +1,7 @@
 //! Writing a certificate.
 
 ghost use Rattle.std.specs.Prelude.{◌≡◌, ◌≤◌, ◌<◌, map, flat_map, get_or};
-ghost use Rattle.bpf_cert.specs.Written.{Writes};
+ghost use Rattle.bpf_cert.specs.Written.{Puts, Writes};
 ghost use Rattle.bpf_cert.specs.View.{function_view, label_view};
 ghost use Rattle.bpf_state.specs.State.{value_slot};
 ghost use Rattle.bpf_state.specs.declared.state.SlotState.TheVariants.{Bytes};
@@ -9,15 +9,15 @@ ghost use Rattle.bpf_cert.specs.Spelling.{place_of, place_at, contents, entry_li
 
 use crate::certificate::{Certificate, Function, Label};
 use crate::spelling::{entry_text, function_text, header_text, label_text};
-use bpf_insn::written;
+use bpf_insn::written::Pending;
 use bpf_state::{Entries, Place, Pointer, RegState, SlotState, numbered};
 use std::io::{self, Write};
 
 // All the bytes, by one clause for both ends.
-fn write_bytes<W: Write>(out: &mut W, bytes: &[u8]) -> io::Result<()>
-    ensures { Writes (W.contents out.old) (W.contents out.new) bytes.now result }
+fn put_bytes<W: Write>(pending: &mut Pending, out: &mut W, bytes: &[u8]) -> io::Result<()>
+    ensures { Puts (W.contents out.old) (W.contents out.new) pending.old pending.new bytes.now result }
 {
-    written::write_bytes(out, bytes)
+    pending.put(out, bytes)
 }
 
 /// What a slot would hold that holds what a register does.
@@ -57,64 +57,76 @@ fn content_at(state: &Entries, j: u8) -> SlotState
     }
 }
 
-fn write_entry<W: Write>(out: &mut W, place: Place, value: SlotState) -> io::Result<()>
-    ensures { Writes (W.contents out.old) (W.contents out.new) (lines_text (entry_lines (place_of place) value)) result }
+#[tactic(auto, using(crate::proofs::WritingLemmas::puts_nothing))]
+fn put_entry<W: Write>(
+    pending: &mut Pending,
+    out: &mut W,
+    place: Place,
+    value: SlotState,
+) -> io::Result<()>
+    ensures { Puts (W.contents out.old) (W.contents out.new) pending.old pending.new (lines_text (entry_lines (place_of place) value)) result }
 {
     match value {
         SlotState::Bytes(0) => Ok(()),
-        _ => write_bytes(out, entry_text(place, value).as_slice()),
+        _ => put_bytes(pending, out, entry_text(place, value).as_slice()),
     }
 }
 
-fn write_entries<W: Write>(out: &mut W, state: &Entries) -> io::Result<()>
-    ensures { Writes (W.contents out.old) (W.contents out.new) (lines_text (lines_from 0 (contents state.now))) result }
+fn put_entries<W: Write>(pending: &mut Pending, out: &mut W, state: &Entries) -> io::Result<()>
+    ensures { Puts (W.contents out.old) (W.contents out.new) pending.old pending.new (lines_text (lines_from 0 (contents state.now))) result }
 {
     state.valid();
     for j in 0..74u8 {
-        write_entry(out, place_at(j), content_at(state, j))?;
+        put_entry(pending, out, place_at(j), content_at(state, j))?;
     }
     Ok(())
 }
 
-fn write_label<W: Write>(out: &mut W, label: &Label) -> io::Result<()>
-    ensures { Writes (W.contents out.old) (W.contents out.new) (lines_text (label_lines (label_view label.now))) result }
+fn put_label<W: Write>(pending: &mut Pending, out: &mut W, label: &Label) -> io::Result<()>
+    ensures { Puts (W.contents out.old) (W.contents out.new) pending.old pending.new (lines_text (label_lines (label_view label.now))) result }
 {
-    write_bytes(out, label_text(label).as_slice())?;
-    write_entries(out, &label.state)
+    put_bytes(pending, out, label_text(label).as_slice())?;
+    put_entries(pending, out, &label.state)
 }
 
-fn write_labels<W: Write>(out: &mut W, labels: &[Label]) -> io::Result<()>
-    ensures { Writes (W.contents out.old) (W.contents out.new) (lines_text (flat_map label_lines (map label_view labels.now))) result }
+fn put_labels<W: Write>(pending: &mut Pending, out: &mut W, labels: &[Label]) -> io::Result<()>
+    ensures { Puts (W.contents out.old) (W.contents out.new) pending.old pending.new (lines_text (flat_map label_lines (map label_view labels.now))) result }
 {
     for label in labels {
-        write_label(out, label)?;
+        put_label(pending, out, label)?;
     }
     Ok(())
 }
 
-fn write_function<W: Write>(out: &mut W, function: &Function) -> io::Result<()>
-    ensures { Writes (W.contents out.old) (W.contents out.new) (lines_text (function_lines (function_view function.now))) result }
+fn put_function<W: Write>(pending: &mut Pending, out: &mut W, function: &Function) -> io::Result<()>
+    ensures { Puts (W.contents out.old) (W.contents out.new) pending.old pending.new (lines_text (function_lines (function_view function.now))) result }
 {
-    write_bytes(out, function_text(function).as_slice())?;
-    write_labels(out, &function.labels)
+    put_bytes(pending, out, function_text(function).as_slice())?;
+    put_labels(pending, out, &function.labels)
 }
 
-fn write_functions<W: Write>(out: &mut W, functions: &[Function]) -> io::Result<()>
-    ensures { Writes (W.contents out.old) (W.contents out.new) (lines_text (flat_map function_lines (map function_view functions.now))) result }
+fn put_functions<W: Write>(
+    pending: &mut Pending,
+    out: &mut W,
+    functions: &[Function],
+) -> io::Result<()>
+    ensures { Puts (W.contents out.old) (W.contents out.new) pending.old pending.new (lines_text (flat_map function_lines (map function_view functions.now))) result }
 {
     for function in functions {
-        write_function(out, function)?;
+        put_function(pending, out, function)?;
     }
     Ok(())
 }
 
-/// Writes the certificate's text. A fault of the writer, or a write of no bytes, ends it and isn't tried again: what
-/// went out is then a beginning of the text.
+/// Writes the certificate's text, in pieces of 4,096 bytes. A fault of the writer, or a write of no bytes, ends it and
+/// isn't tried again: what went out is then a beginning of the text. It takes no memory.
 pub fn write<W: Write>(certificate: &Certificate, out: &mut W) -> io::Result<()>
     ensures { Writes (W.contents out.old) (W.contents out.new) (certificate_text certificate.now) result }
 {
+    let mut pending = Pending::new();
     let header = header_text(certificate.header());
-    write_bytes(out, header.as_slice())?;
-    write_functions(out, certificate.functions())?;
-    write_bytes(out, b"end\n")
+    put_bytes(&mut pending, out, header.as_slice())?;
+    put_functions(&mut pending, out, certificate.functions())?;
+    put_bytes(&mut pending, out, b"end\n")?;
+    pending.flush(out)
 }

@@ -4,15 +4,13 @@ use Rattle.std.specs.Prelude.{option_map, option_and_then, is_none, if◌then◌
 use Rattle.std.specs.Option.{option_to_list}
 use Rattle.bpf_insn.specs.declared.instruction.Insn.{Insn}
 use Rattle.bpf_insn.specs.Instruction.{Instructions}
-use Rattle.bpf_state.specs.Fault.{fault_of, some_passes}
-use Rattle.bpf_cert.specs.View.{LabelView, CertificateView}
-use Rattle.bpf_safety.specs.Flow.{Arrival, passed_on, label_state, arrives, arrives_at, sound_arrival}
-use Rattle.bpf_safety.specs.Labels.{label_at}
-use Rattle.bpf_state.specs.State.{tightened}
+use Rattle.bpf_state.specs.Fault.{fault_of}
+use Rattle.bpf_cert.specs.View.{CertificateView}
+use Rattle.bpf_safety.specs.Flow.{Arrival, arrives, sound_arrival}
 use Rattle.bpf_safety.specs.Flaw.{at, number_if, numbers_of_arrival, numbers_of_visit, lacks_label, calls_no_deeper, leaves_function, is_not_entailed, is_over_budget, falls_past_end}
 use Rattle.bpf_check.specs.code.Least.{IsLeastIn}
 use Rattle.bpf_check.specs.code.Edges.{visit}
-use Rattle.bpf_check.specs.code.Visits.{numbers_with, passed_with, never_reached, visit_of}
+use Rattle.bpf_check.specs.code.Visits.{numbers_with, never_reached, visit_of}
 use Rattle.bpf_check.proofs.LeastLemmas.{least_three, at-append}
 
 fault_numbers : (p : Instructions) (c : CertificateView) (slot : ℕ) (i : Insn) (a : Arrival) (n : ℕ) → fault_of c.least a.state i ≡ Some n → numbers_with p c slot i (Some a) ≡ n ∷ []
@@ -20,12 +18,6 @@ fault_numbers p c slot i a n e = ap (λ o. option_to_list o ++ numbers_of_arriva
 
 pub faulty_least : (p : Instructions) (c : CertificateView) (slot : ℕ) (i : Insn) (a : Arrival) (n m : ℕ) (r : Option (ℕ × ℕ)) → fault_of c.least a.state i ≡ Some n → m ≡ n → IsLeastIn (at slot (number_if m true)) r → IsLeastIn (at slot (numbers_with p c slot i (Some a))) r
 faulty_least p c slot i a n m r e same h = subst (λ ns. IsLeastIn (at slot ns) r) (sym (fault_numbers p c slot i a n e)) (subst (λ k. IsLeastIn (at slot (number_if k true)) r) same h)
-
-pub faulty_passes : (p : Instructions) (c : CertificateView) (slot : ℕ) (i : Insn) (a : Arrival) (n : ℕ) → fault_of c.least a.state i ≡ Some n → None ≡ passed_with p c slot i (Some a)
-faulty_passes p c slot i a n e = sym (ap (λ o. option_and_then (passed_on p c slot i) (if is_none o then Some a else None)) e)
-
-pub sound_passes : (p : Instructions) (c : CertificateView) (slot : ℕ) (i : Insn) (a : Arrival) (r : Option Arrival) → fault_of c.least a.state i ≡ None → r ≡ passed_on p c slot i a → r ≡ passed_with p c slot i (Some a)
-sound_passes p c slot i a r e h = h ∙ sym (ap (λ o. option_and_then (passed_on p c slot i) (if is_none o then Some a else None)) e)
 
 sound_numbers : (p : Instructions) (c : CertificateView) (slot : ℕ) (i : Insn) (a : Arrival) → fault_of c.least a.state i ≡ None → numbers_with p c slot i (Some a) ≡ number_if 8 (is_not_entailed p c (visit slot i) a) ++ number_if 9 (is_over_budget p c (visit slot i) a) ++ number_if 11 (falls_past_end p c (visit slot i) a)
 sound_numbers p c slot i a e = ap (λ o. option_to_list o ++ numbers_of_arrival p c (visit slot i) (if is_none o then Some a else None)) e
@@ -42,19 +34,6 @@ none_of f (Some x) = refl
 not_both : (b : Bool) → false ≡ (b && not b)
 not_both true = refl
 not_both false = refl
-
-and_always : (b : Bool) → b ≡ (b && true)
-and_always true = refl
-and_always false = refl
-
-pub never_at_label : (c : CertificateView) (slot : ℕ) (o : Option Arrival) (l : LabelView) → Some l ≡ label_at c slot → false ≡ never_reached c slot o
-never_at_label c slot o l e =
-    not_both (is_none (tightened l.state))
-    ∙ ap (λ b. b && not (is_none (tightened l.state))) (sym (none_of _ (label_state l) ∙ none_of _ (tightened l.state)))
-    ∙ ap (λ q. is_none (arrives_at q o) && not (some_passes (λ m. is_none (tightened m.state)) q)) e
-
-pub never_elsewhere : (c : CertificateView) (slot : ℕ) (o : Option Arrival) → None ≡ label_at c slot → is_none o ≡ never_reached c slot o
-never_elsewhere c slot o e = and_always (is_none o) ∙ ap (λ q. is_none (arrives_at q o) && not (some_passes (λ m. is_none (tightened m.state)) q)) e
 
 -- ---- the numbers of a visit
 

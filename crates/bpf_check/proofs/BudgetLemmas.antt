@@ -1,11 +1,10 @@
 -- Sums of budgets, and that they fit 128 bits.
-use Rattle.std.proofs.Common.{◌≡◌, ℕ, ◌+◌, ◌*◌, ◌^◌, ◌<◌, ◌≤◌, true, List, ◌∷◌, length, drop, get_or, Option, Some, None, refl, sym, ap, subst, ◌∙◌, arith, ℤ, pos, ◌+ℤ◌, ◌*ℤ◌}
-use Rattle.std.specs.Prelude.{option_map, option_and_then, unsigned_abs, IfSome}
+use Rattle.std.proofs.Common.{◌≡◌, ℕ, ◌+◌, ◌*◌, ◌^◌, ◌<◌, ◌≤◌, true, List, ◌∷◌, length, drop, get_or, Option, Some, None, refl, sym, ap, subst, ◌∙◌, arith, ℤ, ◌+ℤ◌}
+use Rattle.std.specs.Prelude.{option_map, option_and_then, IfSome}
 use Rattle.std.specs.Int.{w128, cast_signed, cast_unsigned}
-use Rattle.std.proofs.lemmas.Int.{ints, unsigned_abs-mul}
-use Rattle.std.proofs.Math.Nat.{mul-le-mul}
+use Rattle.std.proofs.lemmas.Int.{ints}
 use Rattle.std.proofs.lemmas.Bool.{and_parts, leb-true}
-use Rattle.std.proofs.lemmas.List.{at_drop_more, at_drop_all, get_or_default}
+use Rattle.std.proofs.lemmas.List.{at_drop_more, get_or_default}
 use Rattle.std.specs.List.{list_all}
 use Rattle.bpf_state.specs.State.{AbstractState, tag}
 use Rattle.bpf_state.specs.declared.state.Tag.{Tag}
@@ -19,16 +18,6 @@ use Rattle.bpf_num.specs.Interval.{Interval}
 use Rattle.std.specs.Prelude.{◌-ℤ◌}
 use Rattle.bpf_check.specs.code.Slack.{IsWithin, kept_part}
 use Rattle.bpf_check.proofs.SearchLemmas.{list_all_get}
-
-within_abs : (n : ℕ) (z : ℤ) → IsWithin n z → unsigned_abs z ≤ n
-within_abs n z h = let low = h.low in let high = h.high in omega (arith, ints)
-
-abs_within : (n : ℕ) (z : ℤ) → unsigned_abs z ≤ n → IsWithin n z
-abs_within n z h = record { low = omega (arith, ints); high = omega (arith, ints) }
-
-pub product_within : (w : ℕ) (z : ℤ) → w ≤ 2 ^ 20 → IsWithin (2 ^ 67) z → IsWithin (2 ^ 87) (pos w *ℤ z)
-product_within w z small h =
-    abs_within (2 ^ 87) (pos w *ℤ z) (omega (arith, unsigned_abs-mul (pos w) z, mul-le-mul small (within_abs (2 ^ 67) z h)))
 
 pub terms_limited : (l : LabelView) → is_limited_label l ≡ true → list_all is_limited_term l.terms ≡ true
 terms_limited l h = (and_parts _ _ h).1
@@ -59,14 +48,6 @@ rest_step f sum i ts d a h part =
     ap (λ l. option_map (λ z. sum +ℤ z) (sum_if l)) (next_term f i ts d h)
     ∙ ap (λ o. option_map (λ z. sum +ℤ z) (option_and_then (λ x. option_map (λ b. x +ℤ b) (sum_if (each_term f (i + 1) (drop (i + 1) ts)))) o)) part
     ∙ add_part sum a (sum_if (each_term f (i + 1) (drop (i + 1) ts)))
-
-pub rest_none : (f : ℕ → Term → Option ℤ) (sum : ℤ) (i : ℕ) (ts : List Term) (d : Term) → i < length ts → f i (get_or ts i d) ≡ None → rest_sum f sum i ts ≡ None
-rest_none f sum i ts d h part =
-    ap (λ l. option_map (λ z. sum +ℤ z) (sum_if l)) (next_term f i ts d h)
-    ∙ ap (λ o. option_map (λ z. sum +ℤ z) (option_and_then (λ x. option_map (λ b. x +ℤ b) (sum_if (each_term f (i + 1) (drop (i + 1) ts)))) o)) part
-
-pub rest_end : (f : ℕ → Term → Option ℤ) (sum : ℤ) (i : ℕ) (ts : List Term) → length ts ≤ i → rest_sum f sum i ts ≡ Some sum
-rest_end f sum i ts h = at_drop_all (λ l. option_map (λ z. sum +ℤ z) (sum_if (each_term f i l))) ts i h ∙ ap (λ z. Some z) (omega (arith, ints))
 
 -- ---- the sums of budgets
 
@@ -109,10 +90,6 @@ limited_here l ts i d limited e h = limited_term ts i d (ap (list_all is_limited
 
 pub few_here : (l : LabelView) (ts : List Term) → is_limited_label l ≡ true → ts ≡ l.terms → length ts ≤ 4
 few_here l ts limited e = subst (λ xs. length xs ≤ 4) (sym e) (few_terms l limited)
-
-pub from_zero : (o : Option ℤ) → o ≡ option_map (λ z. pos 0 +ℤ z) o
-from_zero None = refl
-from_zero (Some z) = ap (λ y. Some y) (omega (arith, ints))
 
 -- ---- what new terms take
 

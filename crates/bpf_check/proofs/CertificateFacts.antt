@@ -34,9 +34,6 @@ range_is_one c valid =
 pub labels_limited : (f : FunctionView) → is_limited_function f ≡ true → list_all is_limited_label f.labels ≡ true
 labels_limited f limited = (and_parts _ _ limited).1
 
-pub labels_rise : (f : FunctionView) → is_canonical_function f ≡ true → rises (λ l. l.slot) f.labels ≡ true
-labels_rise f canonical = (and_parts _ _ canonical).0
-
 all_labels_limited : (fs : List FunctionView) → list_all is_limited_function fs ≡ true → list_all is_limited_label (flat_map (λ f. f.labels) fs) ≡ true
 all_labels_limited [] all = refl
 all_labels_limited (f ∷ fs) all = list_all-append is_limited_label f.labels _ (labels_limited f (and_parts _ _ all).0) (all_labels_limited fs (and_parts _ _ all).1)

@@ -34,22 +34,6 @@ list_any-append p (x ∷ xs) ys = or_step (p x) (list_any-append p xs ys)
     or_step true e = refl
     or_step false e = e
 
--- no edge to the next instruction
-pub any_jump : (p : Edge → Bool) (jump : List Edge) (slot : ℕ) (o : Option AbstractState) → o ≡ None → list_any p (jump ++ edge_to (Some slot) o) ≡ list_any p jump
-any_jump p jump slot o e = list_any-append p jump (edge_to (Some slot) o) ∙ ap (λ q. list_any p jump || list_any p (edge_to (Some slot) q)) e ∙ or_false (list_any p jump)
-  where
-    or_false : (b : Bool) → (b || false) ≡ b
-    or_false true = refl
-    or_false false = refl
-
--- with one
-pub any_both : (p : Edge → Bool) (jump : List Edge) (slot : ℕ) (o : Option AbstractState) (s : AbstractState) → o ≡ Some s → list_any p (jump ++ edge_to (Some slot) o) ≡ (list_any p jump || p (record { slot = slot; state = s }))
-any_both p jump slot o s e = list_any-append p jump (edge_to (Some slot) o) ∙ ap (λ q. list_any p jump || list_any p (edge_to (Some slot) q)) e ∙ ap (λ b. list_any p jump || b) (or_false (p (record { slot = slot; state = s })))
-  where
-    or_false : (b : Bool) → (b || false) ≡ b
-    or_false true = refl
-    or_false false = refl
-
 -- the comparisons on both
 both_counted : (p : Edge → Bool) (jump : List Edge) (slot : ℕ) (o : Option AbstractState) (s : AbstractState) → Some s ≡ o → count_by p jump + count_by p (record { slot = slot; state = s } ∷ []) ≡ count_by p (jump ++ edge_to (Some slot) o)
 both_counted p jump slot o s e = sym (sum_by-append (λ x. cond (p x) 1 0) jump (edge_to (Some slot) o) ∙ ap (λ q. count_by p jump + count_by p (edge_to (Some slot) q)) (sym e))

@@ -1,5 +1,5 @@
 -- What a check that says yes promises.
-use Rattle.std.proofs.Common.{◌≡◌, ℕ, ◌≤◌, List, sym, ◌∙◌, ap, subst, Bool, true, false, IfSome, Option, Some, None}
+use Rattle.std.proofs.Common.{◌≡◌, ℕ, ◌≤◌, List, sym, ◌∙◌, ap, subst, IfSome, Option, Some, None}
 use Rattle.bpf_insn.specs.Instruction.{Instructions}
 use Rattle.bpf_insn.specs.Image.{IsImage, IsProgram}
 use Rattle.bpf_insn.specs.Laws.{AreBytes, ImageIsInjective}
@@ -78,10 +78,6 @@ promises order bytes text p c least most bound im e by spelled told = record {
 pub if_some : {A : Type 0} {P Q : A → Type 0} (o : Option A) → ((x : A) → P x → Q x) → IfSome o P → IfSome o Q
 if_some None f h = tt
 if_some (Some x) f h = f x h
-
-pub if_both : {A : Type 0} {P Q R : A → Type 0} (o : Option A) → ((x : A) → P x → Q x → R x) → IfSome o P → IfSome o Q → IfSome o R
-if_both None f h k = tt
-if_both (Some x) f h k = f x h k
 
 -- the refusal of a check is the first flaw of the image's program under the text's certificate
 pub has_flaw : (order : Order) (bytes text : List ℕ) (p : Instructions) (c : CertificateView) (r : Refusal) → IsImage order p.list bytes → p.order ≡ order → IsProgram p.list → Spells text c → IsLeastFlaw p c (refusal_slot r) (refusal_number r) → HasFlaw order bytes text r

@@ -1,5 +1,5 @@
 -- What `check` and `run-checked` say, from what is said of the program that was loaded.
-use Rattle.std.proofs.Common.{◌≡◌, ℕ, Bool, List, Option, Result, Ok, Err, IfOk, IfErr, ap, sym, subst, ◌∙◌, inr}
+use Rattle.std.proofs.Common.{◌≡◌, ℕ, Bool, List, Option, Result, Ok, Err, IfOk, ap, sym, subst, ◌∙◌}
 use Rattle.bpf_insn.specs.Instruction.{Instructions}
 use Rattle.bpf_insn.specs.Laws.{ImageIsInjective, IsImageOfProgram}
 use Rattle.bpf_insn.specs.declared.order.Order.{Order}
@@ -9,12 +9,10 @@ use Rattle.bpf_safety.specs.Theorems.{IsSafe, IsFlatSafe, CertifiedIsSafe, Certi
 use Rattle.bpf_check.specs.CheckedProgram.{CheckedProgram, IsCertifiedBy, checked}
 use Rattle.bpf_check.specs.Verdicts.{Verified, program_in}
 use Rattle.bpf_command.specs.Opened.{Opening}
-use Rattle.bpf_command.specs.Loaded.{LoadsImage, CertificateFails}
+use Rattle.bpf_command.specs.Loaded.{LoadsImage}
 use Rattle.bpf_command.specs.Answer.{Answer, Says}
 use Rattle.bpf_command.specs.Answer.Answer.{Yes, NoImage, NoCertificate, NotCertified}
-use Rattle.bpf_command.specs.Printed.{JudgedSays, LoadedSays, LoadedFails, FailsWith, IsContext, YesSays, IsPromised}
-use Rattle.bpf_command.specs.declared.failure.Failure.{Failure}
-use Rattle.bpf_command.specs.declared.failure.Failure.TheVariants.{CannotRead, BadContext}
+use Rattle.bpf_command.specs.Printed.{JudgedSays, LoadedSays, YesSays, IsPromised}
 
 -- ---- what a yes promises
 
@@ -52,23 +50,4 @@ pub says_so : {E : Type 0} (result : Result ℕ E) (old new : Option (List ℕ))
 says_so (Ok s) old new P Q f h = (h.0, h.1, f h.0 h.2)
 says_so (Err e) old new P Q f h = tt
 
--- the same with the context of a word
-pub says_with : {E C : Type 0} (result : Result ℕ E) (old new : Option (List ℕ)) (context : C) (W : C → Type 0) (P : Answer → Type 0) (Q : C → Answer → Type 0)
-    → W context → ((x : Answer) → P x → Q context x) → IfOk result (λ status. (x : Answer) × Says x status old new × P x) → IfOk result (λ status. (x : Answer) × (k : C) × W k × Says x status old new × Q k x)
-says_with (Ok s) old new context W P Q w f h = (h.0, context, w, h.1, f h.0 h.2)
-says_with (Err e) old new context W P Q w f h = tt
-
 -- ---- failures
-
-pub fails_so : (result : Result ℕ Failure) (P Q : Failure → Type 0) → ((f : Failure) → P f → Q f) → IfErr result P → IfErr result Q
-fails_so (Ok s) P Q f h = tt
-fails_so (Err e) P Q f h = f e h
-
-pub loaded_fails : {S : Type 0} (opening : Opening S) (order : Order) (old : S) (input certificate : List ℕ) (between new : S) (p : Instructions) → LoadsImage opening order old input between p → (f : Failure) → CertificateFails opening between certificate new f → LoadedFails opening order old input certificate new f
-loaded_fails opening order old input certificate between new p image (CannotRead name) h = inr (h.0, (between, p, image, h.1))
-loaded_fails opening order old input certificate between new p image f h = h
-
-pub fails_with : {S : Type 0} (opening : Opening S) (order : Order) (old : S) (input certificate hex : List ℕ) (new : S) → IsContext hex → (f : Failure) → LoadedFails opening order old input certificate new f → FailsWith old new hex (LoadedFails opening order old input certificate new) f
-fails_with opening order old input certificate hex new context (CannotRead name) h = (context, h)
-fails_with opening order old input certificate hex new context (BadContext e) h = absurd h
-fails_with opening order old input certificate hex new context f h = h

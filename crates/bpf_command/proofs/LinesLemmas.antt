@@ -1,14 +1,13 @@
 -- Taking lines from a text, and the answers to them.
-use Rattle.std.proofs.Common.{◌≡◌, ◌≢◌, ◌==◌, ℕ, ◌+◌, ◌≤◌, ◌<◌, true, false, List, [], ◌∷◌, ◌++◌, length, max, nat_lt, Option, Some, None, IfSome, Ok, Err, suc, refl, sym, ap, ap₂, subst, ◌∙◌, append-nil, append_assoc, length-append, arith}
+use Rattle.std.proofs.Common.{◌≡◌, ◌≢◌, ◌==◌, ℕ, ◌+◌, ◌<◌, true, false, List, [], ◌∷◌, ◌++◌, length, max, nat_lt, Option, Some, None, IfSome, Ok, Err, suc, refl, sym, ap, ap₂, subst, ◌∙◌, append-nil, append_assoc, length-append, arith}
 use Rattle.std.specs.Prelude.{⊤}
 use Rattle.std.proofs.lemmas.Grind.{flat_map-append}
 use Rattle.std.proofs.lemmas.List.Elements.{All-append, All-cons, All-head, All-nil, All-tail}
 use Rattle.std.proofs.KnownBytes.{Appends-nil, Appends-trans}
 use Rattle.std.specs.Io.KnownBytes.{Appends, Consumes, IsAtEnd}
 use Rattle.bpf_lines.specs.Taken.{IsOneLine}
-use Rattle.bpf_command.specs.Context.{context_in}
 use Rattle.bpf_command.specs.Answer.{Answer, Says, status_of, text_of}
-use Rattle.bpf_command.specs.Lines.{AllAnswered, BegunLines, FirstRefused, LineSays, LinesSay, NextLine, Spelled, Turns, RefusedLine, lines_in, line_context, max_line, onto, texts_of, worst}
+use Rattle.bpf_command.specs.Lines.{BegunLines, FirstRefused, LineSays, LinesSay, NextLine, Spelled, Turns, RefusedLine, lines_in, line_context, max_line, onto, texts_of, worst}
 use Rattle.bpf_command.specs.declared.context.ContextError.{ContextError}
 use Rattle.bpf_command.specs.declared.context.ContextError.TheVariants.{TooLong}
 use Rattle.bpf_command.specs.declared.commands.each.Turn.{Turn}
@@ -89,9 +88,6 @@ first_refused (Some text) (Some rest) line error next bad = record { line = line
 
 too_long : (line : List ℕ) → max_line < length line → line_context line ≡ Err TooLong
 too_long line h = let over : nat_lt max_line (length line) ≡ true = grind arith in rw over refl
-
-pub short_line : (line : List ℕ) → length line ≤ 8192 → line_context line ≡ context_in line
-short_line line h = let under : nat_lt max_line (length line) ≡ false = grind arith in rw under refl
 
 -- a line of so many letters and one more, which is none of its end
 one_more : (line : List ℕ) (b : ℕ) → IsOneLine line → b ≢ 10 → IsOneLine (line ++ b ∷ [])
@@ -177,16 +173,6 @@ one_more_said says known rest new before mid after status count more line contex
       count_is = length-append h.answers (answer ∷ []) ∙ ap (λ n. n + 1) h.count_is;
       split = split_more known rest new says h.answers line answer h.split next (record { context = context; spelled = spelled; said = said });
     }
-
-all_said : (known rest : Option (List ℕ)) (says : List ℕ → Answer → Type 0) (answers : List Answer) → Split known rest says answers → IfSome rest (λ text. lines_in text ≡ []) → IfSome known (λ text. LinesSay says (lines_in text) answers)
-all_said None rest says answers h end = tt
-all_said (Some text) None says answers h end = absurd h
-all_said (Some text) (Some rest) says answers h end =
-    subst (λ ls. LinesSay says ls answers) (sym (h.1 ∙ ap (λ ls. h.0 ++ ls) end ∙ append-nil h.0)) h.2
-
-pub all_answered : (says : List ℕ → Answer → Type 0) (known rest before after : Option (List ℕ)) (status count : ℕ) → SoFar says known rest before after status count → IfSome rest (λ text. lines_in text ≡ []) → AllAnswered says known before after status
-all_answered says known rest before after status count h end =
-    record { answers = h.answers; status_is = h.status_is; printed = h.printed; said = all_said known rest says h.answers h.split end }
 
 some_said : (known rest : Option (List ℕ)) (says : List ℕ → Answer → Type 0) (answers : List Answer) → Split known rest says answers → IfSome known (λ text. BegunLines says text answers)
 some_said None rest says answers h = tt

@@ -1,10 +1,9 @@
 -- What was put at a name, and the answer to it.
-use Rattle.std.proofs.Common.{◌≡◌, ℕ, List, [], Option, Some, None, Result, Ok, Err, IfOk, IfErr, sym, subst, append-nil}
+use Rattle.std.proofs.Common.{◌≡◌, ℕ, List, [], Option, Some, None, Result, Ok, Err, IfOk, sym, append-nil}
 use Rattle.std.specs.Io.KnownBytes.{Appends}
 use Rattle.bpf_insn.specs.Written.{AppendsBeginning}
 use Rattle.bpf_command.specs.Answer.{Answer, Says}
 use Rattle.bpf_command.specs.Answer.Answer.{Written}
-use Rattle.bpf_command.specs.declared.failure.Failure.{Failure}
 
 -- all bytes are a beginning of them
 pub whole : (old new : Option (List ℕ)) (bytes : List ℕ) → Appends old new bytes → AppendsBeginning old new bytes
@@ -19,7 +18,3 @@ pub put_says : {E : Type 0} (result : Result ℕ E) (known : Option (List ℕ)) 
     → IfOk result (λ status. (status ≡ 0) × M) → (M → Q Written) → IfOk result (λ status. (x : Answer) × Says x status known known × Q x)
 put_says (Ok s) known M Q h f = (Written, record { status_is = h.0; printed = nothing known }, f h.1)
 put_says (Err e) known M Q h f = tt
-
-pub put_fails : (result : Result ℕ Failure) (name : Failure) (M : Type 0) (Q : Failure → Type 0) → IfErr result (λ failure. (failure ≡ name) × M) → (M → Q name) → IfErr result Q
-put_fails (Ok s) name M Q h f = tt
-put_fails (Err e) name M Q h f = subst Q (sym h.0) (f h.1)

@@ -1,5 +1,5 @@
 -- What was read of a text.
-use Rattle.std.proofs.Common.{◌≡◌, ℕ, ◌<◌, ◌≤◌, List, [], ◌++◌, length, length-append, take, Option, Some, None, IfSome, ⊎_elim, inl, inr, refl, ap, sym, ◌∙◌, subst, arith}
+use Rattle.std.proofs.Common.{◌≡◌, ℕ, ◌<◌, ◌≤◌, List, [], ◌++◌, length, take, Option, Some, None, IfSome, ⊎_elim, inl, inr, refl, ap, sym, ◌∙◌, subst, arith}
 use Rattle.std.proofs.lemmas.List.{append-nil}
 use Rattle.std.specs.Io.KnownBytes.{Consumes, IsAtEnd}
 use Rattle.std.proofs.KnownBytes.{Consumes-trans}
@@ -27,12 +27,6 @@ pub all_read : (known mid new : Option (List ℕ)) (got buf : List ℕ) (n : ℕ
 all_read known mid new got buf n c d e end =
     let nothing : Consumes mid new [] = subst (λ k. Consumes mid new (take k buf)) e d in
     if_some known (λ bytes same. inl same) (at_end known new got (subst (Consumes known new) (append-nil got) (Consumes-trans known mid new got [] c nothing)) end)
-
--- more was read than a text may have
-pub too_much_read : (known new : Option (List ℕ)) (got : List ℕ) → Consumes known new got → max_text < length got → IfSome known (ReadsText got)
-too_much_read None new got c long = tt
-too_much_read (Some xs) None got c long = absurd c
-too_much_read (Some xs) (Some ys) got c long = inr (long, omega (arith, ap length c, length-append got ys))
 
 -- a reader may fail behind its first byte
 pub may_fail : (known : Option (List ℕ)) → Fails known

@@ -104,7 +104,7 @@ abbrev pub explain_places : App
 explain_places = with_rule (with_rule (new_app (codes "explain")) (place (codes "IN"))) (new_rule (codes "CERT"))
 
 abbrev pub explain : App
-explain = with_rule (with_rule (with_rule (with_rule (with_rule (with_rule explain_places one_slot) inferred) most) (flag (codes "text"))) (flag (codes "dot"))) big
+explain = with_rule (with_rule (with_rule (with_rule (with_rule (with_rule (with_rule explain_places one_slot) inferred) most) (flag (codes "deep"))) (flag (codes "text"))) (flag (codes "dot"))) big
 
 -- `bpf` with all nine
 abbrev pub bpf : App
@@ -152,28 +152,30 @@ GivenBy word bytes lines Several = ((is_some word && is_some bytes) || (is_some 
 abbrev pub AreContexts : List Row → Contexts → Type 0
 AreContexts rows contexts = GivenBy (first_of (codes "HEX") rows) (first_of (codes "context") rows) (first_of (codes "contexts") rows) contexts
 
--- at most one of CERT, `--infer` and `--text`; `--most` with `--infer` alone, `--slot` with CERT alone, and `--dot` with CERT or nothing
-abbrev pub go_together : Option Text → (least most slot : Option ℕ) → (text dot : Bool) → Bool
-go_together certificate least most slot text dot =
-    not (dot && (text || (is_some least || (is_some most || is_some slot))))
+-- at most one of CERT, `--infer` and `--text`; `--most` and `--deep` with `--infer` alone, `--slot` with CERT alone, and `--dot` with CERT or nothing
+abbrev pub go_together : Option Text → (least most slot : Option ℕ) → (text dot deep : Bool) → Bool
+go_together certificate least most slot text dot deep =
+    (not deep || is_some least)
+    && not (dot && (text || (is_some least || (is_some most || is_some slot))))
     && (not (text && (is_some certificate || is_some least)) && (not (is_some certificate && is_some least) && ((is_some least || is_none most) && (is_some certificate || is_none slot))))
 
--- by the word for a certificate, the lengths, the slot, whether it is a text, and whether a graph is wanted
-abbrev pub GivesSubject : Option Text → (least most slot : Option ℕ) → (text dot : Bool) → Subject → Type 0
-GivesSubject certificate least most slot text dot Image = (certificate ≡ None) × (least ≡ None) × (most ≡ None) × (slot ≡ None) × (text ≡ false) × (dot ≡ false)
-GivesSubject certificate least most slot text dot TextAlone = (certificate ≡ None) × (least ≡ None) × (most ≡ None) × (slot ≡ None) × (text ≡ true) × (dot ≡ false)
-GivesSubject certificate least most slot text dot (Certified c) = (certificate ≡ Some c.now) × (least ≡ None) × (most ≡ None) × (slot ≡ None) × (text ≡ false) × (dot ≡ false)
-GivesSubject certificate least most slot text dot (Slot c s) = (certificate ≡ Some c.now) × (least ≡ None) × (most ≡ None) × (slot ≡ Some s) × (text ≡ false) × (dot ≡ false)
-GivesSubject certificate least most slot text dot (Inferred l m) = (certificate ≡ None) × (least ≡ Some l) × (m ≡ unwrap_or most l) × (slot ≡ None) × (text ≡ false) × (dot ≡ false)
-GivesSubject certificate least most slot text dot (Graph c) = (certificate ≡ Some c.now) × (least ≡ None) × (most ≡ None) × (slot ≡ None) × (text ≡ false) × (dot ≡ true)
-GivesSubject certificate least most slot text dot GraphAlone = (certificate ≡ None) × (least ≡ None) × (most ≡ None) × (slot ≡ None) × (text ≡ false) × (dot ≡ true)
-GivesSubject certificate least most slot text dot Misfit = go_together certificate least most slot text dot ≡ false
+-- by the word for a certificate, the lengths, the slot, whether it is a text, whether a graph is wanted, and whether to search deeply
+abbrev pub GivesSubject : Option Text → (least most slot : Option ℕ) → (text dot deep : Bool) → Subject → Type 0
+GivesSubject certificate least most slot text dot deep Image = (certificate ≡ None) × (least ≡ None) × (most ≡ None) × (slot ≡ None) × (text ≡ false) × (dot ≡ false) × (deep ≡ false)
+GivesSubject certificate least most slot text dot deep TextAlone = (certificate ≡ None) × (least ≡ None) × (most ≡ None) × (slot ≡ None) × (text ≡ true) × (dot ≡ false) × (deep ≡ false)
+GivesSubject certificate least most slot text dot deep (Certified c) = (certificate ≡ Some c.now) × (least ≡ None) × (most ≡ None) × (slot ≡ None) × (text ≡ false) × (dot ≡ false) × (deep ≡ false)
+GivesSubject certificate least most slot text dot deep (Slot c s) = (certificate ≡ Some c.now) × (least ≡ None) × (most ≡ None) × (slot ≡ Some s) × (text ≡ false) × (dot ≡ false) × (deep ≡ false)
+GivesSubject certificate least most slot text dot deep (Inferred l m d) = (certificate ≡ None) × (least ≡ Some l) × (m ≡ unwrap_or most l) × (slot ≡ None) × (text ≡ false) × (dot ≡ false) × (deep ≡ d)
+GivesSubject certificate least most slot text dot deep (Graph c) = (certificate ≡ Some c.now) × (least ≡ None) × (most ≡ None) × (slot ≡ None) × (text ≡ false) × (dot ≡ true) × (deep ≡ false)
+GivesSubject certificate least most slot text dot deep GraphAlone = (certificate ≡ None) × (least ≡ None) × (most ≡ None) × (slot ≡ None) × (text ≡ false) × (dot ≡ true) × (deep ≡ false)
+GivesSubject certificate least most slot text dot deep Misfit = go_together certificate least most slot text dot deep ≡ false
 
--- what CERT, `--infer`, `--most`, `--slot`, `--text` and `--dot` want explained
+-- what CERT, `--infer`, `--most`, `--slot`, `--text`, `--dot` and `--deep` want explained
 abbrev pub IsSubject : List Row → Subject → Type 0
 IsSubject rows subject =
-    (least : Option ℕ) × (most : Option ℕ) × (slot : Option ℕ) × (text : Bool) × (dot : Bool) × IsNumber (one_of (codes "infer") rows) least × IsNumber (one_of (codes "most") rows) most
-    × IsNumber (one_of (codes "slot") rows) slot × IsFlag (one_of (codes "text") rows) text × IsFlag (one_of (codes "dot") rows) dot × GivesSubject (first_of (codes "CERT") rows) least most slot text dot subject
+    (least : Option ℕ) × (most : Option ℕ) × (slot : Option ℕ) × (text : Bool) × (dot : Bool) × (deep : Bool) × IsNumber (one_of (codes "infer") rows) least × IsNumber (one_of (codes "most") rows) most
+    × IsNumber (one_of (codes "slot") rows) slot × IsFlag (one_of (codes "text") rows) text × IsFlag (one_of (codes "dot") rows) dot × IsFlag (one_of (codes "deep") rows) deep
+    × GivesSubject (first_of (codes "CERT") rows) least most slot text dot deep subject
 
 -- the request of a subcommand with these matches
 abbrev pub Asks : Text → List Row → Request → Type 0

@@ -49,7 +49,7 @@ fn conflict_with(input: &str, subject: Subject<'_>) -> Option<Failure<'static>>
         Subject::Image | Subject::Text | Subject::GraphAlone => None,
         Subject::Certified(certificate) | Subject::Graph(certificate) => twice(input, certificate),
         Subject::Slot { certificate, .. } => twice(input, certificate),
-        Subject::Inferred { least, most } => out_of_order(least, most),
+        Subject::Inferred { least, most, .. } => out_of_order(least, most),
         Subject::Misfit => Some(Failure::NotTogether),
     }
 }
@@ -143,7 +143,7 @@ fn carry_out<'a, P: Places, W: Write, H: Watch>(
             input,
             subject,
             order,
-        } => explained(alloc, places, out, input, subject, order),
+        } => explained(alloc, places, out, watch, input, subject, order),
         Request::Migrate {
             certificate,
             output,

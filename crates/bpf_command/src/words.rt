@@ -348,6 +348,11 @@ fn explain_command<'a>(alloc: Global) -> Result<Command<'a>, AllocError>
         .arg(one_slot(alloc))?
         .arg(inferred(alloc))?
         .arg(most(alloc))?
+        .arg(flag(
+            alloc,
+            "deep",
+            "with --infer: searches longer, and finds more certificates",
+        ))?
         .arg(flag(alloc, "text", "IN is a text of the assembly language"))?
         .arg(flag(alloc, "dot", "the control-flow graph as DOT text"))?
         .arg(big(alloc))
@@ -442,7 +447,8 @@ fn subject_in<'a>(matches: &ArgMatches<'a>) -> Subject<'a>
     let slot = number_if(matches, "slot");
     let text = has_flag(matches, "text");
     let dot = has_flag(matches, "dot");
-    subject_of(certificate, least, most, slot, text, dot)
+    let deep = has_flag(matches, "deep");
+    subject_of(certificate, least, most, slot, text, dot, deep)
 }
 
 /// What the words of the command with this name ask for.

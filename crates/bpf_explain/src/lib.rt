@@ -5,6 +5,6 @@
 mod inputs;
 mod program;
 
-pub use bpf_words::{dot_plain, explain_inferred, explain_slot, explain_text};
+pub use bpf_words::{dot_plain, explain_inferred, explain_searched, explain_slot, explain_text};
 pub use inputs::{explain_certificate, explain_image};
 pub use program::{dot, explain};

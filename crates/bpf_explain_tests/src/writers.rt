@@ -2,9 +2,10 @@
 
 use bpf_cert::{Certificate, read};
 use bpf_explain::{
-    dot, dot_plain, explain, explain_certificate, explain_image, explain_inferred, explain_slot,
-    explain_text,
+    dot, dot_plain, explain, explain_certificate, explain_image, explain_inferred,
+    explain_searched, explain_slot, explain_text,
 };
+use bpf_infer::Unwatched;
 use bpf_insn::{Order, Program};
 use bpf_text::assemble;
 use std::alloc::Global;
@@ -47,6 +48,7 @@ enum Call {
     Explain,
     Slot,
     Inferred,
+    Searched,
     Image,
     Text,
     Certificate,
@@ -54,10 +56,11 @@ enum Call {
     DotPlain,
 }
 
-const CALLS: [Call; 8] = [
+const CALLS: [Call; 9] = [
     Call::Explain,
     Call::Slot,
     Call::Inferred,
+    Call::Searched,
     Call::Image,
     Call::Text,
     Call::Certificate,
@@ -79,6 +82,7 @@ fn is_written<W: Write>(
         Call::Explain => explain(program, certificate, out).is_ok(),
         Call::Slot => explain_slot(program, certificate, 1, out).is_ok(),
         Call::Inferred => explain_inferred(alloc, program, 0, 0, out).is_ok(),
+        Call::Searched => explain_searched(alloc, program, 0, 0, &mut Unwatched, out).is_ok(),
         Call::Image => explain_image(IMAGE, Order::Little, out).is_ok(),
         Call::Text => explain_text(alloc, b"r0 = 0\nr1 = r11\n", out).is_ok(),
         Call::Certificate => explain_certificate(alloc, b"bpfcert 3 0 2\n", out).is_ok(),
@@ -142,6 +146,16 @@ fn a_refusal_is_written_up_to_a_fault(rt: HostRuntime) -> Result<(), Fail> {
         &[Call::Explain, Call::Dot],
         "r6 = 10\nr6 += -1\nif r6 != 0 goto -2\nr0 = 0\nexit\n",
         "bpfcert 1 0 23\nfn 0 1 *\nat 0 23\nat 1 2 +1*r6\nr6 u1..10\nend\n",
+    )
+}
+
+#[test]
+fn a_search_without_an_answer_is_written_up_to_a_fault(rt: HostRuntime) -> Result<(), Fail> {
+    assert_calls(
+        &rt,
+        &[Call::Inferred, Call::Searched],
+        "goto -1\n",
+        "bpfcert 1 0 2\nfn 0 1 *\nat 0 2\nend\n",
     )
 }
 

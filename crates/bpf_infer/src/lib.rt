@@ -4,5 +4,5 @@
 mod inferrer;
 
 pub use bpf_proposal::InferError;
-pub use bpf_search::{Obstacle, Sketch, Trial, Unwatched, Watch, sketch_of};
+pub use bpf_search::{Loss, Move, Obstacle, Sketch, Tangle, Trial, Unwatched, Watch, sketch_of};
 pub use inferrer::{infer, search};

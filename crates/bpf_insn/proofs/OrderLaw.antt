@@ -25,9 +25,6 @@ second_byte : (order : Order) (f : Fields) → slot_bytes (other_order order) f 
 second_byte Little f = refl
 second_byte Big f = refl
 
-register_byte_there : (order : Order) (f : Fields) → slice_index (slot_bytes order f) 1 ≡ register_byte order f.dst f.src
-register_byte_there order f = refl
-
 slot_exchanged : (order : Order) (f : Fields) → f.dst < 11 → f.src < 11 → slot_bytes (other_order order) f ≡ exchanged (slot_bytes order f)
 slot_exchanged order f hd hs =
     second_byte order f

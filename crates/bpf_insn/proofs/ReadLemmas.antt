@@ -1,7 +1,6 @@
 -- What was read of a reader whose bytes are known.
 use Rattle.std.proofs.Common.{◌≡◌, ℕ, inl, inr, ◌/◌, ◌<◌, ◌≤◌, List, [], ◌++◌, length, take, refl, ap, sym, ◌∙◌, subst, arith}
 use Rattle.std.specs.Prelude.{◌⊎◌, Option, Some, None, IfSome, IfErr, MatchResult, Result, Ok, Err}
-use Rattle.std.specs.Io.{StartsWith}
 use Rattle.std.specs.Io.KnownBytes.{Consumes, IsAtEnd, Keeps}
 use Rattle.std.proofs.KnownBytes.{Consumes-trans, Consumes-kept}
 use Rattle.std.proofs.lemmas.List.{append-nil, take_all, take-append-le}
@@ -41,18 +40,9 @@ nothing_read known mid new got buf n c d e =
 pub last_read : (known mid new : Option (List ℕ)) (got buf : List ℕ) (n : ℕ) → Consumes known mid got → Consumes mid new (take n buf) → n ≡ 0 → IsAtEnd new → length got ≤ max_read → ReadsImage known got
 last_read known mid new got buf n c d e end few = end_read known new got (nothing_read known mid new got buf n c d e) end few
 
--- what was given begins the bytes
-given_begins : (known new : Option (List ℕ)) (got : List ℕ) → Consumes known new got → IfSome known (λ bytes. StartsWith bytes got)
-given_begins None new got c = tt
-given_begins (Some xs) None got c = absurd c
-given_begins (Some xs) (Some ys) got c = ap (take (length got)) c ∙ take-append-le (length got) got ys (omega arith) ∙ take_all (length got) got (omega arith)
-
 -- the reader failed behind what it had given
 pub fails_at : (known mid new : Option (List ℕ)) (got : List ℕ) → Consumes known mid got → Keeps mid new → length got < max_read → FailsAt known new (Read (length got / 8))
 fails_at known mid new got c k few = record { given = got; consumed = Consumes-kept known mid new got c k; few = few; fault = refl }
-
-pub fails_after : (known mid : Option (List ℕ)) (got : List ℕ) → Consumes known mid got → length got < max_read → FailsAfter known (Read (length got / 8))
-fails_after known mid got c few = record { given = got; begins = given_begins known mid got c; few = few; fault = refl }
 
 -- ---- a reader that gives the image of a program
 

@@ -4,6 +4,7 @@
 mod arithmetic;
 mod bytes;
 mod code;
+mod coded;
 mod codes;
 mod decoding;
 mod encoding;
@@ -26,6 +27,7 @@ pub mod written;
 
 pub use arithmetic::{extended, low_half};
 pub use code::Code;
+pub use coded::Coded;
 pub use encoding::encode;
 pub use groups::groups_of;
 pub use image::{decode, decode_from, read_image};

@@ -1,3 +1,4 @@
+pub mod ByteLemmas
 pub mod StackLemmas
 pub mod FrameLemmas
 pub mod StepLemmas

@@ -1,7 +1,6 @@
 //! Numbers in bytes, in a byte order.
 
-ghost use Rattle.std.specs.Prelude.{◌≡◌, ◌<◌, ◌≤◌, ◌^◌, length, slice_index};
-ghost use Rattle.std.specs.Int.{bytes_low_first};
+ghost use Rattle.std.specs.Prelude.{◌≡◌, ◌<◌, ◌≤◌, ◌^◌, ◌++◌, length, drop};
 ghost use Rattle.bpf_insn.specs.Order.{number_of, bytes_of};
 ghost use Rattle.bpf_insn.specs.Instruction.{byte_count};
 
@@ -9,6 +8,7 @@ use bpf_insn::{Order, Size};
 use byteorder::{BigEndian, ByteOrder, LittleEndian};
 
 /// The number in the first bytes.
+#[inline(always)]
 pub(crate) fn number_in(order: Order, size: Size, bytes: &[u8]) -> u64
     requires { byte_count size ≤ length bytes.now }
     ensures number { result ≡ number_of order (byte_count size) bytes.now }
@@ -20,6 +20,7 @@ pub(crate) fn number_in(order: Order, size: Size, bytes: &[u8]) -> u64
     }
 }
 
+#[inline(always)]
 fn number_by<O: ByteOrder>(size: Size, bytes: &[u8]) -> u64
     requires { byte_count size ≤ length bytes.now }
     ensures number { result ≡ O.number_of (byte_count size) bytes.now }
@@ -33,25 +34,21 @@ fn number_by<O: ByteOrder>(size: Size, bytes: &[u8]) -> u64
     }
 }
 
-/// Byte i of the lowest bytes of a number, in their order.
-pub(crate) fn byte_of(order: Order, count: usize, x: u64, i: usize) -> u8
-    requires inside { i < count }
-    requires few { count ≤ 8 }
-    ensures { result ≡ slice_index (bytes_of order count x) i }
+/// Puts the lowest bytes of a number into the first bytes.
+#[inline(always)]
+#[tactic(auto, using(crate::proofs::ByteLemmas::low_bytes))]
+pub(crate) fn put_number(order: Order, size: Size, bytes: &mut [u8], x: u64)
+    requires { byte_count size ≤ length bytes.old }
+    ensures { bytes.new ≡ bytes_of order (byte_count size) x ++ drop (byte_count size) bytes.old }
 {
-    match order {
-        Order::Little => x.to_le_bytes()[i],
-        Order::Big => x.to_le_bytes()[count - 1 - i],
-    }
-}
-
-/// A number as a word whose bytes, the lowest first, are the number's in their order; and such a word as a number.
-pub(crate) fn word_of(order: Order, x: u64) -> u64
-    ensures word { bytes_low_first 0 8 result ≡ bytes_of order 8 x }
-    ensures number { result ≡ number_of order 8 (bytes_low_first 0 8 x) }
-{
-    match order {
-        Order::Little => x,
-        Order::Big => x.swap_bytes(),
+    match (order, size) {
+        (Order::Little, Size::B) => LittleEndian::write_uint(bytes, x % (1 << 8), 1),
+        (Order::Little, Size::H) => LittleEndian::write_u16(bytes, (x % (1 << 16)) as u16),
+        (Order::Little, Size::W) => LittleEndian::write_u32(bytes, (x % (1 << 32)) as u32),
+        (Order::Little, Size::DW) => LittleEndian::write_u64(bytes, x),
+        (Order::Big, Size::B) => BigEndian::write_uint(bytes, x % (1 << 8), 1),
+        (Order::Big, Size::H) => BigEndian::write_u16(bytes, (x % (1 << 16)) as u16),
+        (Order::Big, Size::W) => BigEndian::write_u32(bytes, (x % (1 << 32)) as u32),
+        (Order::Big, Size::DW) => BigEndian::write_u64(bytes, x),
     }
 }

@@ -1,6 +1,6 @@
 //! The machine: a program, the context that it runs on, and its frames.
 
-ghost use Rattle.std.specs.Prelude.{◌≡◌, ◌<◌, ◌≤◌, ◌+◌, ◌%◌, ◌^◌, [], IsTrue, false, nat_le, pos, ◌+ℤ◌, IfSome, IfNone, IfOk, IfErr, length, option_map, is_some, Some, None};
+ghost use Rattle.std.specs.Prelude.{◌≡◌, ◌<◌, ◌≤◌, ◌+◌, ◌%◌, ◌^◌, [], IsTrue, false, nat_le, pos, ◌+ℤ◌, IfSome, IfNone, IfOk, IfErr, length, option_map, is_some, IsSome, Some, None};
 ghost use Rattle.bpf_insn.specs.Order.{bytes_of};
 ghost use Rattle.bpf_insn.specs.Instruction.{register_number, byte_count, insn_at, distance};
 ghost use Rattle.bpf_insn.specs.Op.{insn_of, op_at};
@@ -28,30 +28,19 @@ pub(crate) enum Place {
     Frame(usize, usize),
 }
 
-/// The index of the first of some bytes, if they lie inside.
-fn inside_of(count: usize, len: usize, first: i128) -> Option<usize>
-    requires few { count ≤ 8 }
-    requires short { len ≤ 4096 }
-    ensures { result ≡ inside count len first }
-{
-    if first < 0 || first > len as i128 {
-        return None;
-    }
-    let index = first as usize;
-    if index + count <= len {
-        Some(index)
-    } else {
-        None
-    }
-}
-
 /// The index of the first of some bytes at an offset from the start of the context, if they lie inside.
+#[inline(always)]
 fn in_context(count: usize, len: usize, at: i64, off: i16) -> Option<usize>
     requires few { count ≤ 8 }
     requires short { len ≤ 4096 }
     ensures { result ≡ inside count len (at +ℤ off) }
 {
-    inside_of(count, len, sum_of(at, off))
+    let first = at.wrapping_add(i64::from(off));
+    if first < 0 || first > len as i64 - count as i64 {
+        None
+    } else {
+        Some(first as usize)
+    }
 }
 
 /// The sum of two offsets.
@@ -62,11 +51,17 @@ pub(crate) fn sum_of(at: i64, off: i16) -> i128
 }
 
 /// The address of the first of some bytes at an offset from the end of a stack, if they lie inside.
+#[inline(always)]
 fn in_frame(count: usize, at: i64, off: i16) -> Option<usize>
     requires { count ≤ 8 }
     ensures { result ≡ inside count frame_bytes ((at +ℤ off) +ℤ pos frame_bytes) }
 {
-    inside_of(count, 512, sum_of(at, off) + 512)
+    let first = at.wrapping_add(i64::from(off));
+    if first < -512 || first > -(count as i64) {
+        None
+    } else {
+        Some((first + 512) as usize)
+    }
 }
 
 /// What a call keeps for its return: the slot after it, and r6 to r10.
@@ -181,6 +176,15 @@ impl<'a, C: Code> Machine<'a, C> {
         self.registers.set_number(r, x);
     }
 
+    /// Writes a number to a register that holds one.
+    #[inline(always)]
+    pub(crate) fn update_number(&mut self, r: Reg, x: u64)
+        requires { IsSome (number_of_register self.old.state r) }
+        ensures { self.new ≡ moved_to self.old (with_register self.old.state (register_number r) (Some (Number x))) }
+    {
+        self.registers.update(r, x);
+    }
+
     /// Whether a register holds a value.
     #[inline(always)]
     pub(crate) fn is_set(&self, r: Reg) -> bool
@@ -211,22 +215,6 @@ impl<'a, C: Code> Machine<'a, C> {
         ensures { result ≡ self.now.program.order }
     {
         self.code.order()
-    }
-
-    /// The form of the instruction at a slot; None past the last slot.
-    #[inline(always)]
-    pub(crate) fn op(&self, slot: u32) -> Option<Op>
-        ensures insn { IfSome result (λ op. insn_at self.now.program.list slot ≡ insn_of op (op_at self.now.program.list (slot + 1))) }
-        ensures here { IfSome result (λ op. slot < 65536) }
-        ensures led { IfSome result (λ op. IfSome (insn_at self.now.program.list slot) (λ i. IfSome (distance i) (λ off. Leads slot off))) }
-        ensures none { IfNone result (insn_at self.now.program.list slot ≡ None) }
-    {
-        ops_mean_insns();
-        if slot < self.code.slots() {
-            Some(self.code.op(slot))
-        } else {
-            None
-        }
     }
 
     /// The instruction at the slot; None past the last one.
@@ -276,6 +264,21 @@ impl<'a, C: Code> Machine<'a, C> {
         match place {
             Place::Context(at) => Ok(number_in(self.code.order(), size, &self.context[at..])),
             Place::Frame(depth, at) => self.stacks.number(depth, self.code.order(), at, size),
+        }
+    }
+
+    /// The number in the bytes at a place, where they lie in the context, or in one slot and are all a number's.
+    #[inline(always)]
+    pub(crate) fn number_in_slot(&self, size: Size, place: Place) -> Option<u64>
+        requires { IsInside self.now.state (byte_count size) place }
+        ensures { IfSome result (λ x. number_at self.now.program.order self.now.state (byte_count size) (place_is place) ≡ Some x) }
+    {
+        match place {
+            Place::Context(at) => Some(number_in(self.code.order(), size, &self.context[at..])),
+            Place::Frame(depth, at) => {
+                self.stacks
+                    .number_in_slot(depth, self.code.order(), at, size)
+            }
         }
     }
 

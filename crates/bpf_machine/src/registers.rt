@@ -1,6 +1,6 @@
 //! The registers: eleven numbers, and apart what each of them is.
 
-ghost use Rattle.std.specs.Prelude.{◌≡◌, ◌<◌, get_or, slice_set, replicate, [], ◌∷◌, Some, None, pos, is_some, option_and_then};
+ghost use Rattle.std.specs.Prelude.{◌≡◌, ◌<◌, get_or, slice_set, replicate, [], ◌∷◌, Some, None, pos, is_some, option_and_then, IsSome};
 ghost use Rattle.bpf_insn.specs.Instruction.{register_number};
 ghost use Rattle.bpf_semantics.specs.State.{number_in};
 ghost use Rattle.bpf_semantics.specs.declared.state.Value.TheVariants.{Number, Pointer};
@@ -164,6 +164,16 @@ impl Registers {
         let at = index_of(r);
         self.numbers[at] = x;
         self.kinds[at] = Kind::Number;
+    }
+
+    /// Writes a number to a register that holds one, whose kind stays.
+    #[inline(always)]
+    pub(crate) fn update(&mut self, r: Reg, x: u64)
+        requires { IsSome (option_and_then number_in (get_or self.old (register_number r) None)) }
+        ensures { self.new ≡ slice_set self.old (register_number r) (Some (Number x)) }
+    {
+        let at = index_of(r);
+        self.numbers[at] = x;
     }
 
     /// Writes a value to a register.

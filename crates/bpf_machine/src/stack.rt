@@ -1,18 +1,21 @@
 //! The stack of a frame: 512 bytes, each a byte of a number, a part of a pointer, or uninitialised.
 
-ghost use Rattle.std.specs.Prelude.{◌≡◌, ◌==◌, ◌+◌, ◌*◌, ◌^◌, ◌%◌, ◌<◌, ◌≤◌, IfOk, IfErr, IfSome, take, drop, option_map, get_or, slice_set, replicate, [], ◌∷◌, Some, None, if◌then◌else◌};
-ghost use Rattle.std.specs.Int.{bytes_low_first};
+ghost use Rattle.std.specs.Prelude.{◌≡◌, ◌==◌, ◌+◌, ◌^◌, ◌%◌, ◌<◌, ◌≤◌, IfOk, IfErr, IfSome, take, drop, option_map, get_or, slice_set, replicate, [], ◌∷◌, Some, None, if◌then◌else◌};
 ghost use Rattle.bpf_insn.specs.Order.{number_of, bytes_of};
 ghost use Rattle.bpf_insn.specs.Instruction.{byte_count};
 ghost use Rattle.bpf_semantics.specs.State.{Cell, cell, empty_stack};
 ghost use Rattle.bpf_semantics.specs.State.Cell.{Byte};
 ghost use Rattle.bpf_semantics.specs.Memory.{bytes_in, pointer_in, with_bytes, with_parts};
 ghost use Rattle.bpf_semantics.specs.Stuck.{first_unreadable};
+ghost use Rattle.bpf_machine.specs.PackedStack.{IsMask};
 
-use crate::bytes::{byte_of, number_in, word_of};
+use crate::bytes::{number_in, put_number};
 use bpf_insn::{Order, Size};
 use bpf_semantics::{Reason, Region, Value};
 use std::marker::Model;
+
+/// How many bytes there are.
+const BYTES: usize = 512;
 
 /// How many slots of eight bytes there are.
 const SLOTS: usize = 64;
@@ -20,13 +23,23 @@ const SLOTS: usize = 64;
 /// How many frames there are at most.
 const DEPTHS: usize = 8;
 
-/// A stack by slots: the words, the bytes of each that hold a number, and the regions of the pointers, whose offsets
-/// are the words then. What no mask has and no region is may hold anything.
+/// A stack by slots: the bytes, those of each slot that hold a number, and the regions of the pointers, whose offsets
+/// are the numbers in the slots' bytes then, the lowest first. What no mask has and no region is may hold anything.
 #[derive(Drop)]
 pub(crate) struct Stack {
-    words: [u64; SLOTS],
+    bytes: [u8; BYTES],
     masks: [u8; SLOTS],
     regions: [Option<Region>; SLOTS],
+}
+
+/// The mask of some bytes of a slot, from a place in it on.
+#[inline(always)]
+fn mask_of(place: usize, count: usize) -> u8
+    requires some { 0 < count }
+    requires inside { place + count ≤ 8 }
+    ensures { IsMask place count result }
+{
+    (u8::MAX >> (8 - count)) << place
 }
 
 impl Model for Stack {
@@ -36,7 +49,7 @@ impl Model for Stack {
 
     ghost Value = { List (Option Cell) };
 
-    ghost view = { λ s. packed_cells s.words s.masks s.regions };
+    ghost view = { λ s. packed_cells s.bytes s.masks s.regions };
 
     ghost use Rattle.std.specs.Prelude.{◌≡◌, length};
 
@@ -50,13 +63,13 @@ impl Stack {
         ensures { result ≡ empty_stack }
     {
         Stack {
-            words: [0; SLOTS],
+            bytes: [0; BYTES],
             masks: [0; SLOTS],
             regions: [None; SLOTS],
         }
     }
 
-    /// Makes all uninitialised; the words stay.
+    /// Makes all uninitialised; the bytes stay.
     #[tactic(auto, using(crate::proofs::StackLemmas::empty_cells))]
     pub(crate) fn clear(&mut self)
         ensures { self.new ≡ empty_stack }
@@ -72,12 +85,10 @@ impl Stack {
         ensures ok { IfOk result (λ b. cell self.now at ≡ Some (Byte b)) }
         ensures err { IfErr result (λ reason. first_unreadable (cell self.now at ∷ []) ≡ Some reason) }
     {
-        let slot = at / 8;
-        let place = at % 8;
-        if (self.masks[slot] >> place) % 2 == 1 {
-            return Ok(self.words[slot].to_le_bytes()[place]);
+        if (self.masks[at / 8] >> (at % 8)) % 2 == 1 {
+            return Ok(self.bytes[at]);
         }
-        match self.regions[slot] {
+        match self.regions[at / 8] {
             Some(_region) => Err(Reason::OperandKind),
             None => Err(Reason::UnsetByte),
         }
@@ -91,7 +102,7 @@ impl Stack {
         ensures ok { IfOk result (λ bytes. bytes_in (take count (drop at self.now)) ≡ Some (take count bytes)) }
         ensures err { IfErr result (λ reason. first_unreadable (take count (drop at self.now)) ≡ Some reason) }
     {
-        let _ = &self.words;
+        let _ = &self.bytes;
         let mut bytes = [0; 8];
         for i in 0..count {
             match self.byte(at + i) {
@@ -110,24 +121,42 @@ impl Stack {
         ensures err { IfErr result (λ reason. first_unreadable (take (byte_count size) (drop at self.now)) ≡ Some reason) }
         ensures fits { IfOk result (λ x. x < 256 ^ byte_count size) }
     {
-        if let Some(word) = self.word(at, size) {
-            return Ok(word_of(order, word));
-        }
-        match self.bytes(at, usize::from(size.bytes())) {
-            Ok(bytes) => Ok(number_in(order, size, &bytes)),
-            Err(reason) => Err(reason),
+        match self.number_in_slot(order, at, size) {
+            Some(x) => Ok(x),
+            None => self.number_by_bytes(order, at, size),
         }
     }
 
-    /// The whole word at an address, if the access is of a slot whose eight bytes hold a number.
+    /// The number in the bytes at an address, where they lie in one slot and are all a number's.
     #[inline(always)]
-    fn word(&self, at: usize, size: Size) -> Option<u64>
+    pub(crate) fn number_in_slot(&self, order: Order, at: usize, size: Size) -> Option<u64>
         requires { at + byte_count size ≤ 512 }
-        ensures { IfSome result (λ word. (byte_count size ≡ 8) × (bytes_in (take 8 (drop at self.now)) ≡ Some (bytes_low_first 0 8 word))) }
+        ensures number { IfSome result (λ x. option_map (number_of order (byte_count size)) (bytes_in (take (byte_count size) (drop at self.now))) ≡ Some x) }
+        ensures fits { IfSome result (λ x. x < 256 ^ byte_count size) }
     {
-        match size {
-            Size::DW if at % 8 == 0 && self.masks[at / 8] == 0xff => Some(self.words[at / 8]),
-            _ => None,
+        let count = usize::from(size.bytes());
+        if at % 8 + count > 8 {
+            return None;
+        }
+        let wanted = mask_of(at % 8, count);
+        if self.masks[at / 8] & wanted == wanted {
+            Some(number_in(order, size, &self.bytes[at..]))
+        } else {
+            None
+        }
+    }
+
+    /// The number in the bytes at an address, byte by byte; else why the first that can't be read can't.
+    #[inline(never)]
+    fn number_by_bytes(&self, order: Order, at: usize, size: Size) -> Result<u64, Reason>
+        requires { at + byte_count size ≤ 512 }
+        ensures ok { IfOk result (λ x. option_map (number_of order (byte_count size)) (bytes_in (take (byte_count size) (drop at self.now))) ≡ Some x) }
+        ensures err { IfErr result (λ reason. first_unreadable (take (byte_count size) (drop at self.now)) ≡ Some reason) }
+        ensures fits { IfOk result (λ x. x < 256 ^ byte_count size) }
+    {
+        match self.bytes(at, usize::from(size.bytes())) {
+            Ok(bytes) => Ok(number_in(order, size, &bytes)),
+            Err(reason) => Err(reason),
         }
     }
 
@@ -141,7 +170,10 @@ impl Stack {
             return None;
         }
         match self.regions[at / 8] {
-            Some(region) => Some(Value::Pointer(region, self.words[at / 8].cast_signed())),
+            Some(region) => {
+                let number = number_in(Order::Little, Size::DW, &self.bytes[at..]);
+                Some(Value::Pointer(region, number.cast_signed()))
+            }
             None => None,
         }
     }
@@ -152,39 +184,35 @@ impl Stack {
         requires { at < 512 }
         ensures { self.new ≡ with_bytes (byte ∷ []) at self.old }
     {
-        let slot = at / 8;
-        let place = at % 8;
-        let mut bytes = self.words[slot].to_le_bytes();
-        bytes[place] = byte;
-        self.words[slot] = u64::from_le_bytes(bytes);
-        self.masks[slot] |= 1 << place;
-        self.regions[slot] = None;
+        self.bytes[at] = byte;
+        self.masks[at / 8] |= mask_of(at % 8, 1);
+        self.regions[at / 8] = None;
     }
 
-    /// Writes the lowest bytes of a number. Pointers that the slots held are gone.
-    #[inline(always)]
-    fn store_bytes(&mut self, order: Order, at: usize, count: usize, x: u64)
-        requires some { 0 < count }
-        requires few { count ≤ 8 }
-        requires inside { at + count ≤ 512 }
-        ensures { self.new ≡ with_bytes (bytes_of order count x) at self.old }
+    /// Writes the lowest bytes of a number, byte by byte. Pointers that the slots held are gone.
+    #[inline(never)]
+    fn store_by_bytes(&mut self, order: Order, at: usize, size: Size, x: u64)
+        requires { at + byte_count size ≤ 512 }
+        ensures { self.new ≡ with_bytes (bytes_of order (byte_count size) x) at self.old }
     {
-        let first = byte_of(order, count, x, 0);
-        self.store_byte(at, first);
-        for i in 1..count {
-            self.store_byte(at + i, byte_of(order, count, x, i));
+        let mut bytes = [0; 8];
+        put_number(order, size, &mut bytes, x);
+        self.store_byte(at, bytes[0]);
+        for i in 1..usize::from(size.bytes()) {
+            self.store_byte(at + i, bytes[i]);
         }
     }
 
-    /// Writes a number of eight bytes to a slot. A pointer that it held is gone.
+    /// Writes the lowest bytes of a number to a slot. A pointer that it held is gone.
     #[inline(always)]
-    fn store_word(&mut self, slot: usize, word: u64)
-        requires { slot < 64 }
-        ensures { self.new ≡ with_bytes (bytes_low_first 0 8 word) (8 * slot) self.old }
+    fn store_in_slot(&mut self, order: Order, at: usize, size: Size, x: u64)
+        requires inside { at < 512 }
+        requires slot { at % 8 + byte_count size ≤ 8 }
+        ensures { self.new ≡ with_bytes (bytes_of order (byte_count size) x) at self.old }
     {
-        self.words[slot] = word;
-        self.masks[slot] = 0xff;
-        self.regions[slot] = None;
+        put_number(order, size, &mut self.bytes[at..], x);
+        self.masks[at / 8] |= mask_of(at % 8, usize::from(size.bytes()));
+        self.regions[at / 8] = None;
     }
 
     /// Writes the lowest bytes of a number at an address. Pointers that the slots held are gone.
@@ -193,9 +221,10 @@ impl Stack {
         requires { at + byte_count size ≤ 512 }
         ensures { self.new ≡ with_bytes (bytes_of order (byte_count size) x) at self.old }
     {
-        match size {
-            Size::DW if at % 8 == 0 => self.store_word(at / 8, word_of(order, x)),
-            _ => self.store_bytes(order, at, usize::from(size.bytes()), x),
+        if at % 8 + usize::from(size.bytes()) <= 8 {
+            self.store_in_slot(order, at, size, x);
+        } else {
+            self.store_by_bytes(order, at, size, x);
         }
     }
 
@@ -206,10 +235,10 @@ impl Stack {
         requires slot { at % 8 ≡ 0 }
         ensures { self.new ≡ with_parts region off at self.old }
     {
-        let slot = at / 8;
-        self.words[slot] = off.cast_unsigned();
-        self.masks[slot] = 0;
-        self.regions[slot] = Some(region);
+        let number = off.cast_unsigned();
+        put_number(Order::Little, Size::DW, &mut self.bytes[at..], number);
+        self.masks[at / 8] = 0;
+        self.regions[at / 8] = Some(region);
     }
 }
 
@@ -275,6 +304,22 @@ impl Stacks {
         ensures fits { IfOk result (λ x. x < 256 ^ byte_count size) }
     {
         self.by_depth[depth].number(order, at, size)
+    }
+
+    /// The number in the bytes at an address, where they lie in one slot and are all a number's.
+    #[inline(always)]
+    pub(crate) fn number_in_slot(
+        &self,
+        depth: usize,
+        order: Order,
+        at: usize,
+        size: Size,
+    ) -> Option<u64>
+        requires live { depth < 8 }
+        requires inside { at + byte_count size ≤ 512 }
+        ensures { IfSome result (λ x. option_map (number_of order (byte_count size)) (bytes_in (take (byte_count size) (drop at (get_or self.now depth empty_stack)))) ≡ Some x) }
+    {
+        self.by_depth[depth].number_in_slot(order, at, size)
     }
 
     /// The pointer that the slot at an address holds, if it is a slot and holds one.

@@ -10,10 +10,6 @@ use Rattle.bpf_safety.specs.Flow.{Arrival, Visit, visits, visits_from, arrives, 
 use Rattle.bpf_safety.proofs.Basics.{some_is}
 use Rattle.bpf_safety.proofs.Here.{Reaches}
 
--- the visit at the head
-pub visit_here : CertificateView → ℕ → Option Arrival → Insn → Visit
-visit_here c slot passed i = record { slot = slot; insn = i; arrival = arrives c slot passed }
-
 abbrev pub goes_on_with : Instructions → CertificateView → ℕ → Option Arrival → Insn → Option Arrival
 goes_on_with p c slot passed i = option_and_then (passed_on p c slot i) (sound_arrival c i (arrives c slot passed))
 

@@ -1,6 +1,6 @@
 //! The deep way: states for dead code, and nested and moving counters.
 
-mod ranking;
+pub mod ranking;
 mod states;
 
 ghost use Rattle.std.specs.Prelude.{◌≤◌};

@@ -51,35 +51,28 @@ impl Loops {
         self.at(block)?.counter
     }
 
-    /// I2 at the head of the lowest loop in which another one begins.
+    /// I2 at the head of the lowest loop between whose ends another one begins.
     pub fn of(alloc: Global, walk: &Walk, rounds: &Rounds) -> Result<Loops, InferError> {
+        if let Some((open, _)) = first_crossing(rounds) {
+            return Err(InferError::NoBudget {
+                slot: walk.outline.label(open.head),
+            });
+        }
+        Ok(Loops::all(alloc, rounds)?)
+    }
+
+    fn all(alloc: Global, rounds: &Rounds) -> Result<Loops, AllocError> {
         let mut loops = Loops {
             loops: Vec::new(alloc),
             loop_of: Vec::new(alloc),
         };
         for block in 0..rounds.backs.len() {
-            if let Some(Some(last)) = rounds.backs.get(block) {
-                loops.begin(walk, block, *last)?;
+            if let Some(found) = loop_from(rounds, block) {
+                loops.loops.push(found)?;
             }
             loops.continue_to(block)?;
         }
         Ok(loops)
-    }
-
-    fn begin(&mut self, walk: &Walk, head: usize, last: usize) -> Result<(), InferError> {
-        if let Some(open) = self.loops.last() {
-            if head <= open.last {
-                return Err(InferError::NoBudget {
-                    slot: walk.outline.label(open.head),
-                });
-            }
-        }
-        self.loops.push(Loop {
-            head,
-            last,
-            counter: None,
-        })?;
-        Ok(())
     }
 
     fn continue_to(&mut self, block: usize) -> Result<(), AllocError> {
@@ -90,6 +83,30 @@ impl Loops {
         self.loop_of.push(number)?;
         Ok(())
     }
+}
+
+/// The loop whose head is a block, if a way leads back to it.
+pub fn loop_from(rounds: &Rounds, head: usize) -> Option<Loop> {
+    let last = rounds.backs.get(head).copied().unwrap_or(None)?;
+    Some(Loop {
+        head,
+        last,
+        counter: None,
+    })
+}
+
+/// The lowest loop between whose ends another one begins, and that one.
+pub fn first_crossing(rounds: &Rounds) -> Option<(Loop, Loop)> {
+    let mut open: Option<Loop> = None;
+    for head in 0..rounds.backs.len() {
+        if let Some(found) = loop_from(rounds, head) {
+            match open {
+                Some(open) if head <= open.last => return Some((open, found)),
+                _ => open = Some(found),
+            }
+        }
+    }
+    None
 }
 
 // ---- how places move

@@ -61,3 +61,17 @@ pub fn number_said(label: &Entries, number: usize) -> Option<Num> {
         },
     }
 }
+
+/// Whether a label says that a place holds a pointer.
+pub fn pointer_said(label: &Entries, number: usize) -> bool {
+    match place(number) {
+        Place::Register(r) => match label.reg(r) {
+            RegState::Ctx { .. } | RegState::Frame { .. } => true,
+            RegState::Any | RegState::Num(_) => false,
+        },
+        Place::Slot(k) => match label.slot(k) {
+            SlotState::Ptr(_) => true,
+            SlotState::Word(_) | SlotState::Bytes(_) => false,
+        },
+    }
+}

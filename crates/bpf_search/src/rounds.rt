@@ -2,7 +2,7 @@
 
 use crate::functions::Depths;
 use crate::join::join;
-use crate::places::number_said;
+use crate::places::{number_said, pointer_said};
 use crate::walk::{Edge, Visitor, Walk};
 use crate::watch::Watch;
 use crate::widen::Stops;
@@ -150,6 +150,14 @@ impl Rounds {
         match self.states.get(block) {
             Some(Some(held)) => number_said(held, number)?.tighten(),
             _ => None,
+        }
+    }
+
+    /// Whether a place holds a pointer at a label.
+    pub fn has_pointer(&self, block: usize, number: usize) -> bool {
+        match self.states.get(block) {
+            Some(Some(held)) => pointer_said(held, number),
+            _ => false,
         }
     }
 

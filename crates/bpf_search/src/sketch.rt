@@ -4,37 +4,61 @@ ghost use Rattle.std.specs.Prelude.{◌≤◌};
 
 use crate::functions::{Depths, check_bounds, depths_of};
 use crate::labels::Outline;
-use crate::loops::{Loop, Loops, searched};
+use crate::loops::{Loop, Moves, Search, first_crossing, loop_from, searched};
+use crate::losses::{Loss, Losses, losses_in};
 use crate::places::{PLACES, place};
 use crate::rounds::Rounds;
+use crate::tangles::{Tangle, tangle_of};
 use crate::walk::Walk;
+use crate::walkers::walker_at;
 use crate::watch::Unwatched;
 use arrayvec::ArrayVec;
 use bpf_cert::{Budget, Certificate, Function, Label};
-use bpf_insn::Program;
+use bpf_insn::{Program, Reg};
 use bpf_num::Num;
 use bpf_proposal::InferError;
 use bpf_state::{Entries, Place, State};
 use std::alloc::{AllocError, Global};
 
+/// What a place does in a round of a loop.
+#[derive(Clone, Copy, Debug)]
+pub enum Move {
+    /// It moves by a number from the least to the greatest.
+    By { least: i64, greatest: i64 },
+    /// It holds a number, and doesn't hold on each way the number from before and a constant more.
+    Lost(Loss),
+    /// It holds a pointer, and isn't left as it is.
+    Pointer,
+}
+
+impl Move {
+    /// Whether it counts rounds: it falls in each, or rises in each.
+    fn counts(self) -> bool {
+        match self {
+            Move::By { least, greatest } => greatest < 0 || least > 0,
+            Move::Lost(_) | Move::Pointer => false,
+        }
+    }
+}
+
 /// A place that was tried as the counter of a loop.
 #[derive(Clone, Copy, Debug)]
 pub struct Trial {
     pub place: Place,
-    /// By how much it moves in a round, at the least and at the most; None where it doesn't hold the number from before and a
-    /// constant more on each edge.
-    pub moves: Option<(i64, i64)>,
+    pub moves: Move,
 }
 
-/// Why a loop has no budget.
+/// What stands in the way of a certificate.
 #[derive(Debug, Drop)]
 pub enum Obstacle {
-    /// None was found: a limit of certificates is passed.
+    /// A limit of certificates is passed.
     Limit,
-    /// Another loop begins in the loop.
-    Nested,
+    /// Something begins between the slot and the last way back to it.
+    Tangled(Tangle),
     /// None of the places that hold numbers falls or rises in each round.
     NoCounter(Vec<Trial>),
+    /// The loop at the slot moves the pointer in the register, and that one is refused.
+    Walking { reg: Reg, head: u32 },
 }
 
 /// What the inferrer has when it stops.
@@ -42,7 +66,8 @@ pub enum Obstacle {
 pub struct Sketch {
     /// The functions that were reached, with the states at their labels and budgets of 0.
     pub certificate: Option<Certificate>,
-    pub obstacle: Obstacle,
+    /// What is in the way, where that isn't told by the states alone.
+    pub obstacle: Option<Obstacle>,
 }
 
 /// The rounds, as far as they go; I5 if memory runs out.
@@ -110,25 +135,61 @@ fn functions_of(
     Ok(functions)
 }
 
-/// The places of a loop's head that hold numbers, with their moves in a round; none if no round leads back to the head.
+/// What the place with a number does in a round, if it holds a number at the head, or a pointer that is changed.
+fn move_of(
+    rounds: &Rounds,
+    found: Loop,
+    search: &Search,
+    around: &Moves,
+    losses: &Losses,
+    number: usize,
+) -> Option<Move> {
+    let loss = losses.get(number).copied().unwrap_or(None);
+    if rounds.number(found.head, number).is_none() {
+        return match loss {
+            Some(_) if rounds.has_pointer(found.head, number) => Some(Move::Pointer),
+            _ => None,
+        };
+    }
+    if number < PLACES && search.is_tagged[number] {
+        return Some(Move::By {
+            least: around.least[number],
+            greatest: around.greatest[number],
+        });
+    }
+    Some(Move::Lost(loss.unwrap_or(Loss::Given)))
+}
+
+/// What is known of a loop's way around; None if no round leads back to the head, or something is refused before.
+fn search_of(
+    alloc: Global,
+    walk: &Walk,
+    rounds: &Rounds,
+    found: Loop,
+) -> Result<Option<(Search, Moves)>, InferError> {
+    match searched(alloc, walk, rounds, found) {
+        Ok(search) => match search.around {
+            Some(around) => Ok(Some((search, around))),
+            None => Ok(None),
+        },
+        Err(InferError::Memory) => Err(InferError::Memory),
+        Err(_) => Ok(None),
+    }
+}
+
+/// The places of a loop's head that hold numbers, or pointers that are changed, with what they do in a round.
 fn trials_of(
     alloc: Global,
     walk: &Walk,
     rounds: &Rounds,
     found: Loop,
-) -> Result<Vec<Trial>, InferError> {
+    search: &Search,
+    around: &Moves,
+) -> Result<Vec<Trial>, AllocError> {
+    let losses = losses_in(walk, rounds, found);
     let mut trials = Vec::new(alloc);
-    let search = searched(alloc, walk, rounds, found)?;
-    let Some(around) = search.around else {
-        return Ok(trials);
-    };
     for number in 0..PLACES {
-        if rounds.number(found.head, number).is_some() {
-            let moves = if search.is_tagged[number] {
-                Some((around.least[number], around.greatest[number]))
-            } else {
-                None
-            };
+        if let Some(moves) = move_of(rounds, found, search, around, &losses, number) {
             trials.push(Trial {
                 place: place(number),
                 moves,
@@ -138,39 +199,72 @@ fn trials_of(
     Ok(trials)
 }
 
-/// Why the loop whose head is at a slot has no budget.
+/// Why a loop has no budget.
+fn obstacle_in(
+    alloc: Global,
+    walk: &Walk,
+    rounds: &Rounds,
+    found: Loop,
+) -> Result<Obstacle, InferError> {
+    let Some((search, around)) = search_of(alloc, walk, rounds, found)? else {
+        return Ok(Obstacle::Limit);
+    };
+    let trials = trials_of(alloc, walk, rounds, found, &search, &around)?;
+    if trials.iter().any(|trial| trial.moves.counts()) {
+        Ok(Obstacle::Limit)
+    } else {
+        Ok(Obstacle::NoCounter(trials))
+    }
+}
+
+/// Why there is no budget at a slot.
 fn obstacle_at(
     alloc: Global,
     walk: &Walk,
     rounds: &Rounds,
     slot: u32,
 ) -> Result<Obstacle, InferError> {
-    let Ok(loops) = Loops::of(alloc, walk, rounds) else {
-        return Ok(Obstacle::Nested);
-    };
-    for found in &loops.loops {
-        if walk.outline.label(found.head) == slot {
-            let trials = trials_of(alloc, walk, rounds, *found)?;
-            let is_counted = trials.iter().any(|trial| match trial.moves {
-                Some((least, greatest)) => greatest < 0 || least > 0,
-                None => false,
-            });
-            if !is_counted && !trials.is_empty() {
-                return Ok(Obstacle::NoCounter(trials));
-            }
-        }
+    if let Some((outer, inner)) = first_crossing(rounds) {
+        let tangle = tangle_of(alloc, walk, rounds, outer, inner)?;
+        return Ok(Obstacle::Tangled(tangle));
     }
-    Ok(Obstacle::Limit)
+    let block = walk.outline.block_of(slot);
+    match loop_from(rounds, block) {
+        Some(found) if walk.outline.label(block) == slot => {
+            obstacle_in(alloc, walk, rounds, found)
+        }
+        _ => Ok(Obstacle::Limit),
+    }
 }
 
-/// What the inferrer has of a program on contexts of `least` to `most` bytes when it stops, and why the loop at a slot has no
-/// budget. It is refused as by `plain_proposal` where that stops before it has states.
+/// What is in the way where a refusal says so.
+fn obstacle_of(
+    alloc: Global,
+    walk: &Walk,
+    rounds: &Rounds,
+    error: InferError,
+) -> Result<Option<Obstacle>, InferError> {
+    match error {
+        InferError::NoBudget { slot } => {
+            let obstacle = obstacle_at(alloc, walk, rounds, slot)?;
+            Ok(Some(obstacle))
+        }
+        InferError::Fault { slot, condition: 5 } => Ok(match walker_at(walk, rounds, slot) {
+            Some((reg, head)) => Some(Obstacle::Walking { reg, head }),
+            None => None,
+        }),
+        _ => Ok(None),
+    }
+}
+
+/// What the inferrer has of a program on contexts of `least` to `most` bytes when it stops, and what is in the way of a refusal.
+/// It is refused as by `plain_proposal` where that stops before it has states, and I5 if memory runs out.
 pub fn sketch_of(
     alloc: Global,
     program: &Program,
     least: u32,
     most: u32,
-    slot: u32,
+    error: InferError,
 ) -> Result<Sketch, InferError>
     requires order { least ≤ most }
     requires short { most ≤ 4096 }
@@ -186,7 +280,7 @@ pub fn sketch_of(
     };
     let start = State::start(least, most);
     let rounds = rounds_so_far(alloc, &walk, &depths, &start)?;
-    let obstacle = obstacle_at(alloc, &walk, &rounds, slot)?;
+    let obstacle = obstacle_of(alloc, &walk, &rounds, error)?;
     let functions = functions_of(alloc, &outline, &rounds, &depths)?;
     Ok(Sketch {
         certificate: Certificate::new(2, least, most, 1, functions).ok(),

@@ -29,10 +29,6 @@ abbrev pub place_address : Placement → Place → ℕ
 place_address place (InContext i) = place.context + i
 place_address place (InFrame n i) = frame_start place n + i
 
-pub place_is_inside : (place : Placement) (s : State) (k : ℕ) (pl : Place) → IsPlacement (length s.context) place → depth s < max_frames → IsGood s k pl → place_address place pl + k ≤ addresses
-place_is_inside place s k (InContext i) isp few good = let e = isp.context_inside in omega arith
-place_is_inside place s k (InFrame n i) isp few good = let h : n < max_frames = omega arith in let e = isp.frame_inside n h in omega arith
-
 pub record IsAt (place : Placement) (s : State) (k : ℕ) (off : ℤ) (x : ℕ) (pl : Place) : Type 0 where
   pub good : IsGood s k pl
   pub address_is : modulo (pos x +ℤ off) addresses ≡ place_address place pl

@@ -67,11 +67,6 @@ bind_assoc (Some a) f g = refl
 
 -- ---- arithmetic
 
-number_or_pointer : (o : Option Value) → is_none (option_and_then number_in o) ≡ (is_none o || is_pointer o)
-number_or_pointer None = refl
-number_or_pointer (Some (Number n)) = refl
-number_or_pointer (Some (Pointer region off)) = refl
-
 unset_first : {A B : Type 0} (o : Option A) (f : A → Option B) → (is_none o || false) ≡ true → is_none (option_and_then f o) ≡ true
 unset_first None f h = refl
 unset_first (Some a) f h = absurd (false≢true h)

@@ -10,10 +10,11 @@ use Rattle.bpf_state.specs.declared.state.SlotState.{SlotState}
 use Rattle.bpf_state.specs.declared.state.SlotState.TheVariants.{Bytes, Word, Ptr}
 use Rattle.bpf_state.specs.declared.masked.Whole.{Whole}
 use Rattle.bpf_state.specs.State.{IsSlot}
+use Rattle.std.specs.Prelude.{replicate}
 use Rattle.bpf_state.specs.code.Masked.{held_slots, mask_of, AreSlots}
 use Rattle.bpf_state.specs.Entails.{slot_entails, all_pairs}
 use Rattle.bpf_state.specs.Covers.{Covers}
-use Rattle.bpf_state.proofs.MaskedLemmas.{full_keeps, mask_held}
+use Rattle.bpf_state.proofs.MaskedLemmas.{full_keeps, mask_held, held-blank}
 
 -- ---- two bytes
 
@@ -87,3 +88,10 @@ same_masks masks wholes slots e are =
 
 pub same_covers : (answer : Bool) (have want have' want' : List ℕ) → have ≡ have' → want ≡ want' → IsTrue answer ↔ Covers have want → IsTrue answer ↔ Covers have' want'
 same_covers answer have want have' want' e f told = subst (λ w. IsTrue answer ↔ Covers have' w) f (subst (λ h. IsTrue answer ↔ Covers h want) e told)
+
+-- where nothing is known of the others, their masks alone are copied
+pub blank_copied : (masks masks' : List ℕ) (wholes others : List Whole) (slots : List SlotState) → masks ≡ masks' → length wholes ≡ 64 → held_slots masks' others ≡ slots → AreSlots masks' others → slots ≡ replicate 64 (Bytes 0) → held_slots masks wholes ≡ slots
+blank_copied masks masks' wholes others slots same long e are blank =
+    ap (λ l. held_slots l wholes) (same ∙ same_masks masks' others slots e are ∙ ap (map mask_of) blank)
+    ∙ held-blank 64 wholes long
+    ∙ sym blank

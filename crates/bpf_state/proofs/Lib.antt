@@ -1,5 +1,6 @@
 pub mod StateLemmas
 pub mod MaskedLemmas
+pub mod TagLemmas
 pub mod AccessLemmas
 pub mod ListLemmas
 pub mod SlotLemmas

@@ -1,17 +1,10 @@
 -- Lists that a loop goes through: pair by pair, or changed one element after another.
-use Rattle.std.proofs.Common.{◌≡◌, ℕ, ◌+◌, ◌<◌, ◌≤◌, List, [], ◌∷◌, ◌++◌, length, get_or, take, drop, refl, sym, ◌∙◌, ap, ap₂, arith, true, Bool, Option, Some, None}
-use Rattle.std.specs.Prelude.{◌&&◌, set, option_map, option_and_then}
+use Rattle.std.proofs.Common.{◌≡◌, ℕ, ◌+◌, ◌<◌, ◌≤◌, List, [], ◌∷◌, ◌++◌, length, get_or, take, drop, refl, sym, ◌∙◌, ap, arith, Option, Some, None}
+use Rattle.std.specs.Prelude.{set, option_map, option_and_then}
 use Rattle.std.proofs.lemmas.List.{drop_more, drop_all, drop-set-lt, take_more_set, append_assoc, append-nil, take_all, set-get_or}
 use Rattle.bpf_state.specs.State.{each_if}
-use Rattle.bpf_state.specs.Entails.{all_pairs}
 
 -- ---- pairs
-
-pub pairs_more : {A : Type 0} (test : A → A → Bool) (xs ys : List A) (i : ℕ) (d : A) → i < length xs → i < length ys → all_pairs test (drop i xs) (drop i ys) ≡ (test (get_or xs i d) (get_or ys i d) && all_pairs test (drop (i + 1) xs) (drop (i + 1) ys))
-pairs_more test xs ys i d h k = ap₂ (all_pairs test) (drop_more xs i d h) (drop_more ys i d k)
-
-pub pairs_done : {A : Type 0} (test : A → A → Bool) (xs ys : List A) (i : ℕ) → length xs ≤ i → all_pairs test (drop i xs) (drop i ys) ≡ true
-pairs_done test xs ys i h = ap (λ l. all_pairs test l (drop i ys)) (drop_all i xs h)
 
 -- ---- each element changed if all can be
 
@@ -41,11 +34,6 @@ done_more {A = A} f xs i d y h e =
 pub kept_more : {A : Type 0} (f : A → Option A) (xs : List A) (i : ℕ) (d : A) → i < length xs → f (get_or xs i d) ≡ Some (get_or xs i d) → done_to f i xs ≡ done_to f (i + 1) xs
 kept_more f xs i d h e = done_more f xs i d (get_or xs i d) h e ∙ ap (done_to f (i + 1)) (set-get_or xs i d)
 
-pub not_done : {A : Type 0} (f : A → Option A) (xs : List A) (i : ℕ) (d : A) → i < length xs → f (get_or xs i d) ≡ None → done_to f i xs ≡ None
-not_done f xs i d h e =
-    ap (λ l. option_map (λ r. take i xs ++ r) (each_if f l)) (drop_more xs i d h)
-    ∙ ap (λ o. option_map (λ r. take i xs ++ r) (option_and_then (λ z. option_map (λ zs. z ∷ zs) (each_if f (drop (i + 1) xs))) o)) e
-
 pub all_done : {A : Type 0} (f : A → Option A) (xs : List A) (i : ℕ) → length xs ≤ i → done_to f i xs ≡ Some xs
 all_done f xs i h =
     ap (λ l. option_map (λ r. take i xs ++ r) (each_if f l)) (drop_all i xs h)
@@ -59,21 +47,3 @@ start_done f xs = same_map (λ r. r) (λ r. r) (each_if f xs) (λ r. refl) ∙ m
     map_id None = refl
 
 -- ---- lists of eleven
-
-pub first_six : {A : Type 0} (xs : List A) (a b c d e f : A) → length xs ≡ 11 → set (set (set (set (set (set xs 0 a) 1 b) 2 c) 3 d) 4 e) 5 f ≡ a ∷ b ∷ c ∷ d ∷ e ∷ f ∷ drop 6 xs
-first_six (x0 ∷ x1 ∷ x2 ∷ x3 ∷ x4 ∷ x5 ∷ xs) a b c d e f h = refl
-first_six [] a b c d e f h = absurd (omega (arith, h))
-first_six (x0 ∷ []) a b c d e f h = absurd (omega (arith, h))
-first_six (x0 ∷ x1 ∷ []) a b c d e f h = absurd (omega (arith, h))
-first_six (x0 ∷ x1 ∷ x2 ∷ []) a b c d e f h = absurd (omega (arith, h))
-first_six (x0 ∷ x1 ∷ x2 ∷ x3 ∷ []) a b c d e f h = absurd (omega (arith, h))
-first_six (x0 ∷ x1 ∷ x2 ∷ x3 ∷ x4 ∷ []) a b c d e f h = absurd (omega (arith, h))
-
-pub five_of : {A : Type 0} (xs : List A) (d : A) → length xs ≡ 11 → take 5 (drop 1 xs) ≡ get_or xs 1 d ∷ get_or xs 2 d ∷ get_or xs 3 d ∷ get_or xs 4 d ∷ get_or xs 5 d ∷ []
-five_of (x0 ∷ x1 ∷ x2 ∷ x3 ∷ x4 ∷ x5 ∷ xs) d h = refl
-five_of [] d h = absurd (omega (arith, h))
-five_of (x0 ∷ []) d h = absurd (omega (arith, h))
-five_of (x0 ∷ x1 ∷ []) d h = absurd (omega (arith, h))
-five_of (x0 ∷ x1 ∷ x2 ∷ []) d h = absurd (omega (arith, h))
-five_of (x0 ∷ x1 ∷ x2 ∷ x3 ∷ []) d h = absurd (omega (arith, h))
-five_of (x0 ∷ x1 ∷ x2 ∷ x3 ∷ x4 ∷ []) d h = absurd (omega (arith, h))

@@ -1,8 +1,9 @@
 -- The slots as their masks and what they hold as a whole.
 use Rattle.std.proofs.Common.{◌≡◌, ℕ, zero, suc, ◌<◌, ◌≤◌, List, [], ◌∷◌, length, get_or, refl, sym, ◌∙◌, ap, ap₂, subst, arith, Some, inl, inr}
 use Rattle.std.specs.Prelude.{◌==◌, set, replicate, pos, bit_and, ◌%◌}
-use Rattle.std.proofs.lemmas.Bool.{cases_eq, eq-eqb, ne_eqb, cond-true, cond-false}
+use Rattle.std.proofs.lemmas.Bool.{cases_eq, cases_lt, eq-eqb, ne_eqb, cond-true, cond-false}
 use Rattle.std.proofs.lemmas.Grind.{and_numeral}
+use Rattle.std.proofs.lemmas.List.{get_or_past}
 use Rattle.bpf_state.specs.Access.{are_known_bytes}
 use Rattle.bpf_state.specs.declared.state.SlotState.{SlotState}
 use Rattle.bpf_state.specs.declared.state.SlotState.TheVariants.{Bytes, Word, Ptr}
@@ -158,3 +159,16 @@ pub tight_by_mask : (s : SlotState) → (mask_of s ≡ 255 → ⊥) → tightene
 tight_by_mask (Bytes m) part = refl
 tight_by_mask (Word n) part = absurd (part refl)
 tight_by_mask (Ptr p) part = refl
+
+-- masks of zeros say nothing of any byte
+held_zeros : (masks : List ℕ) (wholes : List Whole) → length masks ≡ length wholes → ((i : ℕ) → get_or masks i 0 ≡ 0) → held_slots masks wholes ≡ replicate (length masks) (Bytes 0)
+held_zeros [] [] e z = refl
+held_zeros [] (w ∷ ws) e z = absurd (omega (arith, e))
+held_zeros (m ∷ ms) [] e z = absurd (omega (arith, e))
+held_zeros (m ∷ ms) (w ∷ ws) e z = ap₂ (λ s ss. s ∷ ss) (ap (λ n. held n w) (z 0)) (held_zeros ms ws (omega (arith, e)) (λ i. z (suc i)))
+
+pub blank_by_masks : (masks : List ℕ) (wholes : List Whole) (slots : List SlotState) → held_slots masks wholes ≡ slots → AreSlots masks wholes → ((i : ℕ) → i < 64 → get_or masks i 0 ≡ 0) → slots ≡ replicate 64 (Bytes 0)
+blank_by_masks masks wholes slots e are none =
+    sym e
+    ∙ held_zeros masks wholes (are.mask_count ∙ sym are.whole_count) (λ i. elim (cases_lt i 64) [ inl lt ↦ none i lt | inr past ↦ get_or_past masks i 0 (omega (arith, are.mask_count)) ])
+    ∙ ap (λ n. replicate n (Bytes 0)) are.mask_count

@@ -23,7 +23,7 @@ use Rattle.bpf_state.specs.declared.state.RegState.{RegState}
 use Rattle.bpf_state.specs.declared.state.RegState.TheVariants.{Any, Num, Ctx, Frame}
 use Rattle.bpf_state.specs.State.{AbstractState, register, register_tag, put_register}
 use Rattle.bpf_state.specs.Access.{Span, span_at, is_slot, is_inside, touches, touched_bytes, is_pointer_slot, are_known_bytes, any_slot}
-use Rattle.bpf_state.specs.Fault.{is_any, is_number, is_pointer, can_store, have_right_kinds, reads_part, some_passes, fault_of, reads_any, has_wrong_kinds, is_out_of_bounds, reads_unknown_byte, writes_protected}
+use Rattle.bpf_state.specs.Fault.{is_any, is_number, is_pointer, have_right_kinds, reads_part, some_passes, fault_of, reads_any, has_wrong_kinds, is_out_of_bounds, reads_unknown_byte, writes_protected}
 use Rattle.bpf_state.specs.Transfer.{transfer, unless, live, after, loaded, loaded_tag, any_number, any_signed, set_number, stored, fetched, modified_by}
 use Rattle.bpf_state.specs.Transfer.Outcome.{Faulty}
 use Rattle.bpf_state.specs.code.Parts.{read_fault, or_protected, load_outcome, load_sx_outcome, store_fault, store_outcome, compares, atomic_operands, atomic_outcome}
@@ -84,21 +84,7 @@ pointer_base off size (Frame lo hi) p e = refl
 pointer_base off size (Num n) p e = absurd (none-some p e)
 pointer_base off size Any p e = absurd (none-some p e)
 
-pub other_base : (off : ℤ) (size : Size) (v : RegState) → span_at off size v ≡ None → is_pointer v ≡ false
-other_base off size (Ctx lo hi) e = absurd (none-some _ (sym e))
-other_base off size (Frame lo hi) e = absurd (none-some _ (sym e))
-other_base off size (Num n) e = refl
-other_base off size Any e = refl
-
 -- ---- loads
-
-pub load_unset : (order : Order) (size : Size) (dst src : Reg) (off : ℤ) (len : ℕ) (s : AbstractState) → is_any (register s src) ≡ true → transfer order (Load size dst src off) len s ≡ Faulty 3
-load_unset order size dst src off len s e = faulty order (Load size dst src off) len 3 s (unset len s (Load size dst src off) (ap (λ b. b || false) e))
-
-pub load_wrong : (order : Order) (size : Size) (dst src : Reg) (off : ℤ) (len : ℕ) (s : AbstractState) → is_any (register s src) ≡ false → span_at off size (register s src) ≡ None → transfer order (Load size dst src off) len s ≡ Faulty 4
-load_wrong order size dst src off len s e f =
-    faulty order (Load size dst src off) len 4 s (wrong len s (Load size dst src off) (ap (λ b. b || false) e)
-    (ap₂ (λ b o. not b || (true && some_passes (λ p. not (is_slot p) && any_slot (λ k held. touches p k && is_pointer_slot held) 1 s.slots) o)) (other_base off size (register s src) f) f))
 
 pub load_fault : (size : Size) (dst src : Reg) (off : ℤ) (len : ℕ) (s : AbstractState) (p : Span) → span_at off size (register s src) ≡ Some p → fault_of len s (Load size dst src off) ≡ or_protected (read_fault (is_slot p) len s p) (is_frame_pointer dst)
 load_fault size dst src off len s p e =
@@ -117,14 +103,6 @@ load_fault size dst src off len s p e =
 pub load_is : (order : Order) (size : Size) (dst src : Reg) (off : ℤ) (len : ℕ) (s : AbstractState) (p : Span) → span_at off size (register s src) ≡ Some p → transfer order (Load size dst src off) len s ≡ load_outcome dst size len p s
 load_is order size dst src off len s p e =
     ap₂ (λ f o. unless f (live (option_map (λ v. put_register dst v (loaded_tag s o) s) (loaded s o size)))) (load_fault size dst src off len s p e) e
-
-pub load_sx_unset : (order : Order) (size : Size) (dst src : Reg) (off : ℤ) (len : ℕ) (s : AbstractState) → is_any (register s src) ≡ true → transfer order (LoadSx size dst src off) len s ≡ Faulty 3
-load_sx_unset order size dst src off len s e = faulty order (LoadSx size dst src off) len 3 s (unset len s (LoadSx size dst src off) (ap (λ b. b || false) e))
-
-pub load_sx_wrong : (order : Order) (size : Size) (dst src : Reg) (off : ℤ) (len : ℕ) (s : AbstractState) → is_any (register s src) ≡ false → span_at off size (register s src) ≡ None → transfer order (LoadSx size dst src off) len s ≡ Faulty 4
-load_sx_wrong order size dst src off len s e f =
-    faulty order (LoadSx size dst src off) len 4 s (wrong len s (LoadSx size dst src off) (ap (λ b. b || false) e)
-    (ap₂ (λ b o. not b || (true && some_passes (λ p. true && any_slot (λ k held. touches p k && is_pointer_slot held) 1 s.slots) o)) (other_base off size (register s src) f) f))
 
 load_sx_fault : (size : Size) (dst src : Reg) (off : ℤ) (len : ℕ) (s : AbstractState) (p : Span) → span_at off size (register s src) ≡ Some p → fault_of len s (LoadSx size dst src off) ≡ or_protected (read_fault false len s p) (is_frame_pointer dst)
 load_sx_fault size dst src off len s p e =
@@ -168,24 +146,6 @@ no_bytes true bounds writes = refl
 no_bytes false true writes = refl
 no_bytes false false writes = refl
 
-pub store_unset : (order : Order) (size : Size) (dst src : Reg) (off : ℤ) (len : ℕ) (s : AbstractState) → (is_any (register s dst) || is_any (register s src)) ≡ true → transfer order (Store size dst off src) len s ≡ Faulty 3
-store_unset order size dst src off len s e = faulty order (Store size dst off src) len 3 s (unset len s (Store size dst off src) (or_end _ _ ∙ e))
-  where
-    or_end : (a b : Bool) → (a || (b || false)) ≡ (a || b)
-    or_end true b = refl
-    or_end false true = refl
-    or_end false false = refl
-
-pub store_wrong : (order : Order) (size : Size) (dst src : Reg) (off : ℤ) (len : ℕ) (s : AbstractState) → (is_any (register s dst) || is_any (register s src)) ≡ false → is_pointer (register s dst) ≡ false → transfer order (Store size dst off src) len s ≡ Faulty 4
-store_wrong order size dst src off len s e f =
-    faulty order (Store size dst off src) len 4 s (wrong len s (Store size dst off src) (or_end _ _ ∙ e)
-    (ap (λ b. not (b && can_store (span_at off size (register s dst)) (register s src)) || false) f))
-  where
-    or_end : (a b : Bool) → (a || (b || false)) ≡ (a || b)
-    or_end true b = refl
-    or_end false true = refl
-    or_end false false = refl
-
 store_faults : (size : Size) (dst src : Reg) (off : ℤ) (len : ℕ) (s : AbstractState) (p : Span) → (is_any (register s dst) || is_any (register s src)) ≡ false → span_at off size (register s dst) ≡ Some p → fault_of len s (Store size dst off src) ≡ store_fault (is_pointer (register s src)) len p
 store_faults size dst src off len s p u e =
     tested len s (Store size dst off src) _ _ _ _ (record {
@@ -207,13 +167,6 @@ store_faults size dst src off len s p u e =
 pub store_is : (order : Order) (size : Size) (dst src : Reg) (off : ℤ) (len : ℕ) (s : AbstractState) (p : Span) → (is_any (register s dst) || is_any (register s src)) ≡ false → span_at off size (register s dst) ≡ Some p → transfer order (Store size dst off src) len s ≡ store_outcome (is_pointer (register s src)) (register s src) (register_tag s src) len p s
 store_is order size dst src off len s p u e =
     ap₂ (λ f o. unless f (live (stored o (register s src) (register_tag s src) s))) (store_faults size dst src off len s p u e) e
-
-pub store_imm_unset : (order : Order) (size : Size) (dst : Reg) (off imm : ℤ) (len : ℕ) (s : AbstractState) → is_any (register s dst) ≡ true → transfer order (StoreImm size dst off imm) len s ≡ Faulty 3
-store_imm_unset order size dst off imm len s e = faulty order (StoreImm size dst off imm) len 3 s (unset len s (StoreImm size dst off imm) (ap (λ b. b || false) e))
-
-pub store_imm_wrong : (order : Order) (size : Size) (dst : Reg) (off imm : ℤ) (len : ℕ) (s : AbstractState) → is_any (register s dst) ≡ false → is_pointer (register s dst) ≡ false → transfer order (StoreImm size dst off imm) len s ≡ Faulty 4
-store_imm_wrong order size dst off imm len s e f =
-    faulty order (StoreImm size dst off imm) len 4 s (wrong len s (StoreImm size dst off imm) (ap (λ b. b || false) e) (ap (λ b. not b || false) f))
 
 store_imm_faults : (size : Size) (dst : Reg) (off imm : ℤ) (len : ℕ) (s : AbstractState) (p : Span) → span_at off size (register s dst) ≡ Some p → fault_of len s (StoreImm size dst off imm) ≡ store_fault false len p
 store_imm_faults size dst off imm len s p e =

@@ -1,7 +1,6 @@
 -- Lists of which the front is another's.
-use Rattle.std.proofs.Common.{◌≡◌, ℕ, zero, suc, ◌+◌, ◌<◌, ◌≤◌, List, [], ◌∷◌, ◌++◌, length, get_or, take, drop, refl, sym, ◌∙◌, ap, arith, append-nil}
+use Rattle.std.proofs.Common.{◌≡◌, ℕ, zero, suc, ◌+◌, ◌<◌, List, [], ◌∷◌, ◌++◌, length, get_or, take, drop, refl, sym, ◌∙◌, ap, arith}
 use Rattle.std.specs.Prelude.{set}
-use Rattle.std.proofs.lemmas.List.{drop_all, take_all}
 
 abbrev pub mix : {A : Type 0} → ℕ → List A → List A → List A
 mix i xs ys = take i xs ++ drop i ys
@@ -23,6 +22,3 @@ mix_here (suc i) (x ∷ xs) (y ∷ ys) d h k = mix_here i xs ys d (omega arith) 
 -- one more of the front is put in
 pub mix_put : {A : Type 0} (i : ℕ) (xs ys : List A) (d v : A) → i < length xs → i < length ys → v ≡ get_or xs i d → set (mix i xs ys) i v ≡ mix (i + 1) xs ys
 mix_put i xs ys d v h k e = ap (set (mix i xs ys) i) e ∙ sym (mix_set i xs ys d h k)
-
-pub mix_whole : {A : Type 0} (i : ℕ) (xs ys : List A) → length xs ≡ i → length ys ≡ i → mix i xs ys ≡ xs
-mix_whole i xs ys long long' = ap (λ l. take i xs ++ l) (drop_all i ys (omega arith)) ∙ append-nil (take i xs) ∙ take_all i xs (omega arith)

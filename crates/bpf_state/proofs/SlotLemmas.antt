@@ -87,9 +87,6 @@ pub record ChangedTo {A : Type 0} (d : A) (change : ℕ → A → A) (first i : 
   pub before : (j : ℕ) → j < first → get_or new j d ≡ get_or old j d
   pub after : (j : ℕ) → i ≤ j → get_or new j d ≡ get_or old j d
 
-pub change_start : {A : Type 0} (d : A) (change : ℕ → A → A) (first : ℕ) (xs : List A) → ChangedTo d change first first xs xs
-change_start d change first xs = record { long = refl; changed = λ j low high. absurd (omega arith); before = λ j h. refl; after = λ j h. refl }
-
 pub change_more : {A : Type 0} (d : A) (change : ℕ → A → A) (first i : ℕ) (old new : List A) (y : A) → ChangedTo d change first i old new → first ≤ i → i < length old → y ≡ change (suc i) (get_or new i d) → ChangedTo d change first (i + 1) old (set new i y)
 change_more d change first i old new y so_far low lt e =
     let long = so_far.long in

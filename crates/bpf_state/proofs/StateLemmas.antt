@@ -8,7 +8,7 @@ use Rattle.bpf_state.specs.declared.state.RegState.TheVariants.{Any, Frame}
 use Rattle.bpf_state.specs.declared.state.SlotState.{SlotState}
 use Rattle.bpf_state.specs.declared.state.SlotState.TheVariants.{Bytes}
 use Rattle.bpf_state.specs.declared.state.Tag.{Tag}
-use Rattle.bpf_state.specs.State.{IsState, IsRegister, IsSlot, blank}
+use Rattle.bpf_state.specs.State.{IsState, IsRegister, IsSlot, blank, no_tags}
 
 pub blank_is_state : IsState blank
 blank_is_state =
@@ -21,15 +21,15 @@ blank_is_state =
       slots = All-replicate IsSlot 64 (Bytes 0) (omega arith);
     }
 
--- nothing is known of the slots
-pub unknown_is_state : (slots : List SlotState) → slots ≡ replicate 64 (Bytes 0) → IsState (record blank { slots = slots })
-unknown_is_state slots e = subst (λ l. IsState (record blank { slots = l })) (sym e) blank_is_state
+-- nothing is known of the slots, and none holds a counter
+pub unknown_is_state : (slots : List SlotState) (tags : List (Option Tag)) → slots ≡ replicate 64 (Bytes 0) → tags ≡ no_tags 64 → IsState (record blank { slots = slots; slot_tags = tags })
+unknown_is_state slots tags e none = subst (λ t. IsState (record blank { slots = slots; slot_tags = t })) (sym none) (subst (λ l. IsState (record blank { slots = l })) (sym e) blank_is_state)
 
 -- nor of the registers, whatever the tags are
 pub untouched_tags : (slots : List SlotState) (register_tags slot_tags : List (Option Tag)) → slots ≡ replicate 64 (Bytes 0) → length register_tags ≡ 11 → length slot_tags ≡ 64
     → IsState (record blank { slots = slots; register_tags = register_tags; slot_tags = slot_tags })
 untouched_tags slots register_tags slot_tags e few many =
-    let is = unknown_is_state slots e in
+    let is = unknown_is_state slots (no_tags 64) e refl in
     record {
       register_count = is.register_count;
       slot_count = is.slot_count;
@@ -71,6 +71,7 @@ callee_is_state a b c d e ha hb hc hd he =
       slots = All-replicate IsSlot 64 (Bytes 0) (omega arith);
     }
 
-pub entered_is_state : (a b c d e : RegState) (slots : List SlotState) → IsRegister a → IsRegister b → IsRegister c → IsRegister d → IsRegister e → slots ≡ replicate 64 (Bytes 0) → IsState (record blank { registers = callee_registers a b c d e; slots = slots })
-entered_is_state a b c d e slots ha hb hc hd he is =
-    subst (λ l. IsState (record blank { registers = callee_registers a b c d e; slots = l })) (sym is) (callee_is_state a b c d e ha hb hc hd he)
+pub entered_is_state : (a b c d e : RegState) (slots : List SlotState) (tags : List (Option Tag)) → IsRegister a → IsRegister b → IsRegister c → IsRegister d → IsRegister e → slots ≡ replicate 64 (Bytes 0) → tags ≡ no_tags 64 → IsState (record blank { registers = callee_registers a b c d e; slots = slots; slot_tags = tags })
+entered_is_state a b c d e slots tags ha hb hc hd he is none =
+    subst (λ t. IsState (record blank { registers = callee_registers a b c d e; slots = slots; slot_tags = t })) (sym none)
+    (subst (λ l. IsState (record blank { registers = callee_registers a b c d e; slots = l })) (sym is) (callee_is_state a b c d e ha hb hc hd he))

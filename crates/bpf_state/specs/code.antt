@@ -3,3 +3,4 @@ pub mod Masked
 pub mod Parts
 pub mod Results
 pub mod Entries
+pub mod Tags

@@ -5,6 +5,7 @@ ghost use Rattle.bpf_state.specs.State.{IsRegister, from_to};
 
 use crate::masked::Slots;
 use crate::state::{Place, RegState, SlotState, Tag};
+use crate::tags::SlotTags;
 use bpf_insn::{Operand, Reg};
 use bpf_num::{KnownBits, Num, Signed, Unsigned, WordDomain};
 use std::marker::Model;
@@ -15,7 +16,7 @@ pub struct State {
     pub(crate) registers: [RegState; 11],
     pub(crate) slots: Slots,
     pub(crate) register_tags: [Option<Tag>; 11],
-    pub(crate) slot_tags: [Option<Tag>; 64],
+    pub(crate) slot_tags: SlotTags,
 }
 
 impl Model for State {
@@ -58,7 +59,7 @@ impl State {
             registers,
             slots: Slots::blank(),
             register_tags: [None; 11],
-            slot_tags: [None; 64],
+            slot_tags: SlotTags::none(),
         }
     }
 
@@ -96,7 +97,7 @@ impl State {
     {
         match place {
             Place::Register(r) => self.register_tags[r as usize],
-            Place::Slot(k) => self.slot_tags[k as usize - 1],
+            Place::Slot(k) => self.slot_tags.get(k as usize - 1),
         }
     }
 
@@ -126,7 +127,7 @@ impl State {
     {
         match place {
             Place::Register(r) => self.register_tags[r as usize] = tag,
-            Place::Slot(k) => self.slot_tags[k as usize - 1] = tag,
+            Place::Slot(k) => self.slot_tags.set(k as usize - 1, tag),
         }
     }
 
@@ -150,7 +151,7 @@ impl State {
         state.registers.copy_from_slice(&self.registers);
         state.slots.copy_from(&self.slots);
         state.register_tags.copy_from_slice(&self.register_tags);
-        state.slot_tags.copy_from_slice(&self.slot_tags);
+        state.slot_tags.copy_from(&self.slot_tags);
         state
     }
 
@@ -161,7 +162,7 @@ impl State {
         self.registers.copy_from_slice(&other.registers);
         self.slots.copy_from(&other.slots);
         self.register_tags.copy_from_slice(&other.register_tags);
-        self.slot_tags.copy_from_slice(&other.slot_tags);
+        self.slot_tags.copy_from(&other.slot_tags);
     }
 
     /// Forgets all but that r10 points to the frame's end.
@@ -180,7 +181,7 @@ impl State {
         ensures { self.new ≡ without_tags self.old }
     {
         self.register_tags = [None; 11];
-        self.slot_tags = [None; 64];
+        self.slot_tags.clear();
     }
 
     /// What is known of a second operand: a constant, sign-extended, or what is known of a register.
@@ -226,6 +227,6 @@ impl State {
         ensures { self.new ≡ put_slot (suc index) value tag self.old }
     {
         self.slots.set(index, value);
-        self.slot_tags[index] = tag;
+        self.slot_tags.set(index, tag);
     }
 }

@@ -41,7 +41,7 @@ pub fn enter(state: &mut State)
     state.registers = registers;
     state.slots.clear();
     state.register_tags = [None; 11];
-    state.slot_tags = [None; 64];
+    state.slot_tags.clear();
 }
 
 /// Puts a number into r0, and makes r1 to r5 unknown.

@@ -150,6 +150,9 @@ fn put_slots(entries: &mut Entries, state: &State) -> Result<(), AllocError>
     ensures { IfOk result (λ u. entries.new ≡ record entries.old { slots = state.now.slots }) }
 {
     state.valid();
+    if state.slots.is_blank() {
+        return Ok(());
+    }
     for k in 1..65u8 {
         entries.put_slot(k, state.slot(k))?;
     }
@@ -197,6 +200,7 @@ impl Entries {
     }
 
     /// Takes an entry of a place of which nothing is known yet.
+    #[inline(never)]
     fn push(&mut self, entry: Entry) -> Result<(), AllocError>
         requires placed { IsPlaced entry }
         requires ordered { IsOrdered entry }
@@ -211,6 +215,7 @@ impl Entries {
         Ok(())
     }
 
+    #[inline(always)]
     /// Makes this what is known of a register from r0 to r9 of which nothing is known yet. The bounds of a pointer are in
     /// order.
     pub fn put_reg(&mut self, r: Reg, value: RegState) -> Result<(), AllocError>
@@ -227,6 +232,7 @@ impl Entries {
         }
     }
 
+    #[inline(always)]
     /// Makes this what is known of a slot, by its number from 1 to 64, of which nothing is known yet. The bounds of a
     /// pointer are in order, and a mask is at most 254.
     pub fn put_slot(&mut self, k: u8, value: SlotState) -> Result<(), AllocError>

@@ -27,3 +27,10 @@ pub fn covers(have: &[u8; 64], want: &[u8; 64]) -> bool
 {
     is_zero(missing(u8x64::from_array(*have), u8x64::from_array(*want)))
 }
+
+/// Whether no byte of the masks is marked.
+pub(crate) fn are_zero(masks: &[u8; 64]) -> bool
+    ensures { IsTrue result ↔ ((i : ℕ) → i < 64 → get_or masks.now i 0 ≡ 0) }
+{
+    is_zero(u8x64::from_array(*masks))
+}

@@ -12,6 +12,7 @@ mod lanes;
 mod masked;
 mod slots;
 pub mod state;
+mod tags;
 mod tightening;
 mod transfers;
 mod work;

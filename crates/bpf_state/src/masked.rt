@@ -1,6 +1,6 @@
 //! The slots of a frame, their byte masks together.
 
-use crate::lanes::covers;
+use crate::lanes::{are_zero, covers};
 use crate::state::{Pointer, SlotState};
 use bpf_num::Num;
 use std::fmt::{self, Debug, Formatter, Write};
@@ -35,7 +35,7 @@ impl Model for Slots {
 }
 
 impl Slots {
-    ghost use Rattle.std.specs.Prelude.{◌≡◌, ◌↔◌, ◌<◌, IsTrue, length, get_or, map, slice_set, replicate};
+    ghost use Rattle.std.specs.Prelude.{◌≡◌, ◌↔◌, ◌<◌, IsTrue, true, length, get_or, map, slice_set, replicate};
     ghost use Rattle.bpf_state.specs.declared.state.SlotState.TheVariants.{Bytes};
     ghost use Rattle.bpf_state.specs.State.{IsSlot};
     ghost use Rattle.bpf_state.specs.Access.{are_known_bytes};
@@ -73,6 +73,13 @@ impl Slots {
         ensures { result ≡ are_known_bytes bytes (get_or self.now index (Bytes 0)) }
     {
         bytes & self.mask(index) == bytes
+    }
+
+    /// Whether nothing is known of any byte, by the masks.
+    pub(crate) fn is_blank(&self) -> bool
+        ensures { result ≡ true → self.now ≡ replicate 64 (Bytes 0) }
+    {
+        are_zero(&self.masks)
     }
 
     /// Whether each initialised byte of others is one here too, by the masks.
@@ -129,6 +136,9 @@ impl Slots {
         ensures { self.new ≡ other.now }
     {
         self.masks.copy_from_slice(&other.masks);
+        if other.is_blank() {
+            return;
+        }
         for i in 0..64 {
             if other.masks[i] == 255 {
                 self.wholes[i] = other.wholes[i];

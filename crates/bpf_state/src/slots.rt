@@ -9,6 +9,7 @@ use crate::abstract_state::State;
 use crate::access::Reach;
 use crate::masked::Slots;
 use crate::state::{SlotState, Tag};
+use crate::tags::SlotTags;
 use bpf_num::Num;
 
 /// What the slot holds after some of its bytes, not all, are written as bytes of a number.
@@ -110,13 +111,14 @@ fn maybe_write_slots(slots: &mut Slots, reach: Reach)
     }
 }
 
-fn forget_counters(tags: &mut [Option<Tag>; 64], reach: Reach)
+fn forget_counters(tags: &mut SlotTags, reach: Reach)
     ensures value { tags.new ≡ each_slot_tag (λ k tag. if touches reach k then None else tag) 1 tags.old }
     ensures long { length tags.new ≡ 64 }
 {
+    tags.valid();
     let (first, end) = reach.slots();
     for i in first..end {
-        tags[i] = None;
+        tags.set(i, None);
     }
 }
 

@@ -58,6 +58,9 @@ fn tighten_slots(slots: &mut Slots) -> bool
     ensures long { length slots.new ≡ 64 }
 {
     slots.valid();
+    if slots.is_blank() {
+        return true;
+    }
     for i in 0..64 {
         if slots.mask(i) == 255 {
             match tightened_slot(slots.get(i)) {

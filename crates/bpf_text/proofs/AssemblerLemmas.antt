@@ -1,9 +1,7 @@
 -- Labels and the statements that name them.
-use Rattle.std.proofs.Common.{◌≡◌, ℕ, Bool, true, false, cond, List, [], ◌∷◌, ◌++◌, Option, Some, None, Result, Ok, Err, refl, sym, ap, ◌∙◌, append_assoc}
+use Rattle.std.proofs.Common.{◌≡◌, ℕ, Bool, true, false, cond, List, [], ◌∷◌, ◌++◌, Option, Some, None, refl, sym, ap, ◌∙◌}
 use Rattle.std.specs.Str.{bytes_eq}
 use Rattle.std.proofs.lemmas.Slice.Eq.{bytes_eq-Decides}
-use Rattle.bpf_insn.specs.declared.instruction.Insn.{Insn}
-use Rattle.bpf_text.specs.declared.error.TextError.{TextError}
 use Rattle.bpf_text.specs.Sources.{Label, Said}
 use Rattle.bpf_text.specs.Assembly.{slot_of, redefined, insn_of, insn_said, jump_from, linked, onto, and_then}
 use Rattle.bpf_text.specs.Statements.{Statement, plain, to_label}
@@ -37,14 +35,6 @@ linked_same f g [] h = refl
 linked_same f g (s ∷ ss) h = ap (λ r. and_then r (λ i. onto (i ∷ []) (linked f ss))) (insn_same f g s.line s.slot s.statement h) ∙ ap (λ r. and_then (insn_of g s) (λ i. onto (i ∷ []) r)) (linked_same f g ss h)
 
 -- ---- one statement after another
-
-pub onto_onto : (xs ys : List Insn) (r : Result (List Insn) TextError) → onto xs (onto ys r) ≡ onto (xs ++ ys) r
-onto_onto xs ys (Ok zs) = ap Ok (sym (append_assoc xs ys zs))
-onto_onto xs ys (Err e) = refl
-
-pub onto_nothing : (r : Result (List Insn) TextError) → onto [] r ≡ r
-onto_nothing (Ok xs) = refl
-onto_nothing (Err e) = refl
 
 -- ---- labels, one after another
 

@@ -1,9 +1,9 @@
 -- Labels that are chained by the places of their names.
-use Rattle.std.proofs.Common.{◌≡◌, ℕ, ◌+◌, ◌-◌, ◌<◌, ◌≤◌, ⊎_elim, Bool, true, false, cond, List, [], ◌∷◌, ◌++◌, Some, None, length, take, get_or, set, map, replicate, refl, sym, ap, ◌∙◌, subst, length-append, arith}
+use Rattle.std.proofs.Common.{◌≡◌, ℕ, ◌+◌, ◌-◌, ◌<◌, ◌≤◌, ⊎_elim, Bool, true, false, cond, List, [], ◌∷◌, ◌++◌, Some, None, length, take, get_or, set, map, refl, sym, ap, ◌∙◌, subst, length-append, arith}
 use Rattle.std.specs.Str.{bytes_eq}
 use Rattle.std.proofs.lemmas.Slice.Eq.{bytes_eq-Decides}
 use Rattle.std.proofs.lemmas.Bool.{cases_eq}
-use Rattle.std.proofs.lemmas.List.{take_more, take_all, take-append-le, get_or_append_left, get_or_push, get_or-set_same, get_or-set_other, get_or-replicate, length-replicate, length-set, length-map, get_or-map, map-append}
+use Rattle.std.proofs.lemmas.List.{take_more, take_all, take-append-le, get_or_append_left, get_or_push, get_or-set_same, get_or-set_other, length-set, length-map, get_or-map, map-append}
 use Rattle.bpf_text.specs.Sources.{Label}
 use Rattle.bpf_text.specs.Assembly.{slot_of}
 use Rattle.bpf_text.specs.declared.chains.Entry.{Entry}
@@ -41,37 +41,11 @@ seek_on places ls heads links chained name at x d seeks some e =
       same = lead.same name (sym here) ∙ sym rest;
     }
 
-pub seek_ends : (places : ℕ) (ls : List Label) (name : List ℕ) → Seeks places ls name 0 → None ≡ slot_of ls name
-seek_ends places ls name seeks = seeks.same
-
-pub seek_begins : (places : ℕ) (ls : List Label) (heads links : List ℕ) → IsChained places ls heads links → (name : List ℕ) (x : ℕ) → place_of places name < places → Seeks places ls name (get_or heads (place_of places name) x)
-seek_begins places ls heads links chained name x inside =
-    let lead : Leads places ls (place_of places name) (length ls) (get_or heads (place_of places name) x) = chained.begins (place_of places name) x inside in
-    record {
-      inside = lead.inside;
-      there = λ d some. lead.there d some;
-      same = lead.same name refl ∙ ap (λ xs. slot_of xs name) (take_all (length ls) ls (omega arith));
-    }
-
 -- each link goes down
 pub link_below : (places : ℕ) (ls : List Label) (heads links : List ℕ) → IsChained places ls heads links → (k x : ℕ) → Label → k < length ls → get_or links k x ≤ k
 link_below places ls heads links chained k x d inside = let lead : Leads places ls (place_of places (get_or ls k d).name) k (get_or links k x) = chained.goes_on k x d inside in lead.inside
 
 -- ---- no labels
-
-pub nothing_chained : (places : ℕ) → 0 < places → places < 4294967296 → IsChained places [] (replicate places 0) []
-nothing_chained places some few = record {
-  some = some;
-  few = few;
-  counted = length-replicate places 0;
-  linked = refl;
-  begins = λ place d inside. subst (Leads places [] place 0) (sym (get_or-replicate places place 0 d inside)) (record { inside = omega arith; there = λ e some. absurd (no_less some); same = λ name e. refl });
-  goes_on = λ k d e inside. absurd (no_less inside);
-  differ = λ k d inside. absurd (no_less inside);
-}
-  where
-    no_less : {n : ℕ} → n < 0 → ⊥
-    no_less h = omega (arith, h)
 
 -- ---- one label more
 

@@ -278,10 +278,6 @@ assigned_to width dst = word (register_text width dst) ∷ mark 61 ∷ []
 abbrev constant_front : Width → Reg → Number → List Token
 constant_front width dst n = assigned_to width dst ++ constant_tokens n
 
--- a constant's tokens before others
-constant_before : (n : Number) (us ts : List Token) → (constant_tokens n ++ us) ++ ts ≡ constant_tokens n ++ (us ++ ts)
-constant_before n us ts = append_assoc (constant_tokens n) us ts
-
 wide_gives : (width : Width) (dst : Reg) (n : Number) (ts rest : List Token) → ts ≡ word (codes "ll") ∷ rest → Gives (wide_if_t width dst (number_value n) rest) (IsInsn (constant_front width dst n) ts)
 wide_gives W32 dst n ts rest h = none_gives
 wide_gives W64 dst n ts rest h = some_gives (option_map (LoadImm64 dst) (fits_wide (number_value n)), rest) (record {

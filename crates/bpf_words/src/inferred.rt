@@ -5,12 +5,22 @@ ghost use Rattle.std.specs.Prelude.{◌≤◌};
 use crate::known::{Name, Spelled};
 use crate::page::Page;
 use crate::program::{explain_on, tell_reason, tell_sketch};
+use crate::words::register;
 use bpf_cert::Certificate;
 use bpf_check::check;
-use bpf_infer::{InferError, Obstacle, Trial, infer, sketch_of};
+use bpf_infer::{
+    InferError, Loss, Move, Obstacle, Sketch, Tangle, Trial, Watch, infer, search, sketch_of,
+};
 use bpf_insn::{Code, Insn, Program};
 use std::alloc::Global;
 use std::io::{self, Write};
+
+/// Which search is explained.
+#[derive(Clone, Copy, PartialEq, Eq)]
+enum Effort {
+    Plain,
+    Deep,
+}
 
 /// `no certificate: I2 at slot 3`
 fn write_refusal<W: Write>(out: &mut W, error: InferError) -> io::Result<()> {
@@ -27,46 +37,114 @@ fn write_refusal<W: Write>(out: &mut W, error: InferError) -> io::Result<()> {
     }
 }
 
-/// A place that was tried as a counter, and why it isn't one.
-fn write_trial<W: Write>(out: &mut W, trial: &Trial) -> io::Result<()> {
-    let name = Name(trial.place);
-    match trial.moves {
-        None => write!(
+/// Why a place isn't followed through a loop.
+fn write_loss<W: Write>(out: &mut W, name: Name, loss: Loss) -> io::Result<()> {
+    match loss {
+        Loss::Given => write!(
             out,
             "  {name} isn't followed: on some way it is given another value\n"
         ),
-        Some((0, 0)) => write!(out, "  {name} stays as it is\n"),
-        Some((least, greatest)) => write!(
+        Loss::Short { slot } => write!(
             out,
-            "  {name} moves by {least} to {greatest} in a round, and a counter must fall in each or rise in each\n"
+            "  {name} isn't followed: slot {slot} computes it in 32 bits, and only 64-bit sums are followed\n"
+        ),
+        Loss::Varying { slot } => write!(
+            out,
+            "  {name} isn't followed: what slot {slot} adds or takes isn't a constant\n"
+        ),
+        Loss::Far { slot } => write!(
+            out,
+            "  {name} isn't followed: slot {slot} moves it by more than 1099511627776 in all\n"
+        ),
+        Loss::Above { slot, least, most } => write!(
+            out,
+            "  {name} may pass 2^64: it is u{least}..{most} at slot {slot}; test it against a constant before\n"
+        ),
+        Loss::Below { slot, least, most } => write!(
+            out,
+            "  {name} may fall below 0: it is u{least}..{most} at slot {slot}; test it against a constant before\n"
         ),
     }
 }
 
-fn write_trials<W: Write>(out: &mut W, trials: &[Trial]) -> io::Result<()> {
+/// A place that was tried as a counter, and why it isn't one.
+fn write_trial<W: Write>(out: &mut W, trial: &Trial) -> io::Result<()> {
+    let name = Name(trial.place);
+    match trial.moves {
+        Move::By {
+            least: 0,
+            greatest: 0,
+        } => write!(out, "  {name} stays as it is\n"),
+        Move::By { least, greatest } => write!(
+            out,
+            "  {name} moves by {least} to {greatest} in a round, and a counter must fall in each or rise in each\n"
+        ),
+        Move::Lost(loss) => write_loss(out, name, loss),
+        Move::Pointer => write!(
+            out,
+            "  {name} is a pointer, and only numbers count: count the rounds in a register\n"
+        ),
+    }
+}
+
+fn write_trials<W: Write>(out: &mut W, slot: u32, trials: &[Trial]) -> io::Result<()> {
+    write!(
+        out,
+        "nothing counts the rounds of the loop at slot {slot}:\n"
+    )?;
+    if trials.is_empty() {
+        write!(out, "  no place holds a number there\n")?;
+    }
     for trial in trials {
         write_trial(out, trial)?;
     }
     Ok(())
 }
 
+/// What begins between a slot and the last way back to it.
+fn write_tangle<W: Write>(out: &mut W, slot: u32, tangle: Tangle) -> io::Result<()> {
+    match tangle {
+        Tangle::Nested { inner } => write!(
+            out,
+            "another loop begins at slot {inner}, in the loop at slot {slot}: put the inner one into a function\n"
+        ),
+        Tangle::Middle { from, to, back } => write!(
+            out,
+            "slot {from} leads back to slot {to}, in the middle of the loop from slot {slot} to slot {back}: lead it back to slot {slot}, or keep the loops apart\n"
+        ),
+        Tangle::Backward { from } => write!(
+            out,
+            "slot {from} leads back to slot {slot} and makes no loop, but what leads back is taken for one: let the code run on downwards\n"
+        ),
+    }
+}
+
 /// I2: a loop has no counter, or a limit is passed.
 fn write_obstacle<W: Write>(out: &mut W, slot: u32, obstacle: &Obstacle) -> io::Result<()> {
     match obstacle {
-        Obstacle::Nested => write!(
-            out,
-            "another loop begins in the loop at slot {slot}: put the inner one into a function, or search deeper\n"
-        ),
-        Obstacle::NoCounter(trials) => {
-            write!(
-                out,
-                "nothing counts the rounds of the loop at slot {slot}:\n"
-            )?;
-            write_trials(out, trials)
-        }
+        Obstacle::Tangled(tangle) => write_tangle(out, slot, *tangle),
+        Obstacle::NoCounter(trials) => write_trials(out, slot, trials),
         Obstacle::Limit => write!(
             out,
-            "the budget at slot {slot} passes a limit: a weight of 1048576, a base of 1099511627776, 4294967295 steps or 8 calls in one another; a counter's bound isn't known, mostly: test it against a constant before the loop\n"
+            "the budget at slot {slot} passes a limit: a weight of 1048576, a base of 1099511627776 or 4294967295 steps; a counter's bound isn't known, mostly: test it against a constant before the loop\n"
+        ),
+        Obstacle::Walking { reg, head } => {
+            let name = register(*reg);
+            write!(
+                out,
+                "{name} is a pointer that the loop at slot {head} moves, and only numbers count and have bounds: count the rounds in a register, and add it to a pointer that stays\n"
+            )
+        }
+    }
+}
+
+/// The same where the search went deeper: what was in the way of the plain one alone isn't told.
+fn write_deep_obstacle<W: Write>(out: &mut W, slot: u32, obstacle: &Obstacle) -> io::Result<()> {
+    match obstacle {
+        Obstacle::NoCounter(_) | Obstacle::Walking { .. } => write_obstacle(out, slot, obstacle),
+        Obstacle::Tangled(_) | Obstacle::Limit => write!(
+            out,
+            "no budget was found for slot {slot}: let a number fall or rise by a constant in each round of each loop, and test it against a constant before\n"
         ),
     }
 }
@@ -90,21 +168,81 @@ fn write_recursion<W: Write>(out: &mut W, program: &Program, slot: u32) -> io::R
 }
 
 /// Tells the reason of a refusal, as far as the program alone tells it.
-fn write_reason<W: Write>(out: &mut W, program: &Program, error: InferError) -> io::Result<()> {
-    match error {
-        InferError::Unstable { slot } => write!(
+fn write_reason<W: Write>(
+    out: &mut W,
+    program: &Program,
+    error: InferError,
+    effort: Effort,
+) -> io::Result<()> {
+    match (error, effort) {
+        (InferError::Unstable { slot }, Effort::Plain) => write!(
             out,
             "what is known in the function at slot {slot} still changes after 64 rounds\n"
         ),
-        InferError::Recursion { slot } => write_recursion(out, program, slot),
-        InferError::Fault {
-            slot,
-            condition: 12,
-        } => write!(
+        (InferError::Unstable { slot }, Effort::Deep) => write!(
+            out,
+            "what is known in the function at slot {slot} doesn't settle\n"
+        ),
+        (InferError::Recursion { slot }, _) => write_recursion(out, program, slot),
+        (
+            InferError::Fault {
+                slot,
+                condition: 12,
+            },
+            _,
+        ) => write!(
             out,
             "slot {slot} jumps out of its function, or goes on into the next one\n"
         ),
-        InferError::NoBudget { .. } | InferError::Fault { .. } | InferError::Memory => Ok(()),
+        _ => Ok(()),
+    }
+}
+
+/// Whether an instruction leads back, or calls a function.
+fn leads_back(insn: &Insn) -> bool {
+    match *insn {
+        Insn::Ja { off } => off < 0,
+        Insn::JaLong { off } => off < 0,
+        Insn::JumpIf { off, .. } => off < 0,
+        Insn::CallLocal { off: _off } => true,
+        _ => false,
+    }
+}
+
+/// Whether a program has a loop or calls a function: elsewhere both searches know the same.
+fn goes_round(program: &Program) -> bool {
+    for slot in 0..program.slots() {
+        if let Some(insn) = program.at(slot) {
+            if leads_back(insn) {
+                return true;
+            }
+        }
+    }
+    false
+}
+
+/// Whether the deep search may find what the plain one refuses, as far as the refusal and the program tell.
+fn may_be_found(program: &Program, error: InferError) -> bool {
+    match error {
+        InferError::Recursion { .. } | InferError::Memory => false,
+        InferError::Fault { condition: 12, .. } => false,
+        InferError::Fault { condition: 11, .. } => true,
+        InferError::Fault { .. } => goes_round(program),
+        InferError::Unstable { .. } | InferError::NoBudget { .. } => true,
+    }
+}
+
+/// Tells to search deeper, where that may help.
+fn write_hint<W: Write>(
+    out: &mut W,
+    program: &Program,
+    error: InferError,
+    effort: Effort,
+) -> io::Result<()> {
+    if effort == Effort::Plain && may_be_found(program, error) {
+        write!(out, "or try --deep: it searches longer, and finds more\n")
+    } else {
+        Ok(())
     }
 }
 
@@ -116,35 +254,111 @@ fn condition_of(error: InferError) -> u8 {
     }
 }
 
-/// Tells what the inferrer has of a program that it refuses.
+/// Tells the states that the plain inferrer has, and what is in the way of a refusal.
+fn write_sketch<W: Write>(
+    out: &mut W,
+    program: &Program,
+    sketch: &Sketch,
+    error: InferError,
+    effort: Effort,
+) -> io::Result<()> {
+    let (slot, number) = (error.slot(), condition_of(error));
+    if let Some(certificate) = &sketch.certificate {
+        if effort == Effort::Deep {
+            write!(out, "as far as the plain search sees:\n")?;
+        }
+        tell_sketch(program, certificate, slot, number, out)?;
+    }
+    write_refusal(out, error)?;
+    if let Some(certificate) = &sketch.certificate {
+        tell_reason(program, certificate, slot, number, out)?;
+    }
+    match (&sketch.obstacle, effort) {
+        (Some(obstacle), Effort::Plain) => write_obstacle(out, slot, obstacle),
+        (Some(obstacle), Effort::Deep) => write_deep_obstacle(out, slot, obstacle),
+        (None, _) => Ok(()),
+    }
+}
+
+/// A refusal before there are states: of calls, or of jumps out of a function.
+fn write_unseen<W: Write>(
+    out: &mut W,
+    program: &Program,
+    error: InferError,
+    effort: Effort,
+) -> io::Result<()> {
+    write_refusal(out, error)?;
+    match error {
+        InferError::NoBudget { .. } => write!(
+            out,
+            "functions call one another more than 8 deep, or there are more than 256\n"
+        ),
+        _ => write_reason(out, program, error, effort),
+    }
+}
+
+/// Tells what the inferrer has of a program that it refuses. The refusal: I5 where memory runs out meanwhile.
 fn write_refused<W: Write>(
     alloc: Global,
     program: &Program,
     least: u32,
     most: u32,
     error: InferError,
+    effort: Effort,
     out: &mut W,
-) -> io::Result<()>
+) -> io::Result<InferError>
     requires order { least ≤ most }
     requires short { most ≤ 4096 }
 {
-    let slot = error.slot();
-    let number = condition_of(error);
-    if let Ok(sketch) = sketch_of(alloc, program, least, most, slot) {
-        if let Some(certificate) = &sketch.certificate {
-            tell_sketch(program, certificate, slot, number, out)?;
-            write_refusal(out, error)?;
-            tell_reason(program, certificate, slot, number, out)?;
-        } else {
-            write_refusal(out, error)?;
+    let sketch = match error {
+        InferError::Memory => Err(error),
+        _ => sketch_of(alloc, program, least, most, error),
+    };
+    match sketch {
+        Ok(sketch) => {
+            write_sketch(out, program, &sketch, error, effort)?;
+            write_reason(out, program, error, effort)?;
+            write_hint(out, program, error, effort)?;
+            Ok(error)
         }
-        if let InferError::NoBudget { .. } = error {
-            write_obstacle(out, slot, &sketch.obstacle)?;
+        Err(InferError::Memory) => {
+            write_refusal(out, InferError::Memory)?;
+            Ok(InferError::Memory)
         }
-    } else {
-        write_refusal(out, error)?;
+        Err(_) => {
+            write_unseen(out, program, error, effort)?;
+            Ok(error)
+        }
     }
-    write_reason(out, program, error)
+}
+
+/// Explains what a search found.
+fn explain_found<W: Write>(
+    alloc: Global,
+    program: &Program,
+    least: u32,
+    most: u32,
+    found: Result<Certificate, InferError>,
+    effort: Effort,
+    out: &mut W,
+) -> io::Result<Result<Certificate, InferError>>
+    requires order { least ≤ most }
+    requires short { most ≤ 4096 }
+{
+    let mut page = Page::new(out);
+    let answer = match found {
+        Ok(certificate) => {
+            let refusal = match check(program, &certificate) {
+                Ok(_checked) => None,
+                Err(refusal) => Some(refusal),
+            };
+            explain_on(program, &certificate, refusal, &mut page)?;
+            Ok(certificate)
+        }
+        Err(error) => Err(write_refused(alloc, program, least, most, error, effort, &mut page)?),
+    };
+    page.flush()?;
+    Ok(answer)
 }
 
 /// Explains the certificate that the inferrer proposes for a program on contexts of `least` to `most` bytes, at most 4,096, with
@@ -160,18 +374,23 @@ pub fn explain_inferred<W: Write>(
     requires order { least ≤ most }
     requires short { most ≤ 4096 }
 {
-    let mut page = Page::new(out);
-    let answer = infer(alloc, program, least, most);
-    match &answer {
-        Ok(certificate) => {
-            let refusal = match check(program, certificate) {
-                Ok(_checked) => None,
-                Err(refusal) => Some(refusal),
-            };
-            explain_on(program, certificate, refusal, &mut page)?;
-        }
-        Err(error) => write_refused(alloc, program, least, most, *error, &mut page)?,
-    }
-    page.flush()?;
-    Ok(answer)
+    let found = infer(alloc, program, least, most);
+    explain_found(alloc, program, least, most, found, Effort::Plain, out)
+}
+
+/// Explains the same of the deep search, with the plain inferrer's states where it proposes none. Who watches is told how far
+/// it is.
+pub fn explain_searched<W: Write, H: Watch>(
+    alloc: Global,
+    program: &Program,
+    least: u32,
+    most: u32,
+    watch: &mut H,
+    out: &mut W,
+) -> io::Result<Result<Certificate, InferError>>
+    requires order { least ≤ most }
+    requires short { most ≤ 4096 }
+{
+    let found = search(alloc, program, least, most, watch);
+    explain_found(alloc, program, least, most, found, Effort::Deep, out)
 }

@@ -24,6 +24,6 @@ mod words;
 pub use certificate::{write_counts, write_fault};
 pub use graph::{dot_plain, write_dot};
 pub use image::{write_refusal, write_size};
-pub use inferred::explain_inferred;
+pub use inferred::{explain_inferred, explain_searched};
 pub use program::{explain_slot, write_explanation};
 pub use text::explain_text;

@@ -252,11 +252,11 @@ fn refused_parts(rt: HostRuntime) -> Result<(), Fail> {
     Ok(())
 }
 
-// Each label says something of nine registers and of all slots.
+// Each label says something of nine registers and of all slots. The text is longer than a piece that goes out at once.
 #[test]
 fn full_labels(rt: HostRuntime) -> Result<(), Fail> {
     let mut text = format!(in rt.alloc(); "bpfcert 1 0 2\nfn 0 1 *\n")?;
-    for slot in 0..5u32 {
+    for slot in 0..9u32 {
         text.push_str(&format!(in rt.alloc(); "at {slot} 1\n")?)?;
         for i in 0..9u32 {
             let below = i + 1;
@@ -270,6 +270,7 @@ fn full_labels(rt: HostRuntime) -> Result<(), Fail> {
     let certificate = read(rt.alloc(), text.as_bytes())?;
     let mut written = Vec::new(rt.alloc());
     write(&certificate, &mut written)?;
+    assert!(rt; text.len() > 4096);
     assert_eq!(rt; written.as_slice(), text.as_bytes());
     Ok(())
 }
@@ -284,7 +285,11 @@ fn failing_writer(rt: HostRuntime) -> Result<(), Fail> {
             writes,
         };
         let answer = write(&certificate, &mut out);
-        assert_eq!(rt; answer.is_ok(), writes >= 13, "after {writes} writes");
+        assert_eq!(rt;
+            answer.is_ok(),
+            3 * writes >= text.len(),
+            "after {writes} writes"
+        );
         assert!(rt;
             text.starts_with(out.taken.as_slice()),
             "after {writes} writes"

@@ -18,9 +18,10 @@ use crate::subject::Subject;
 use bpf_cert::{CertError, Certificate, read};
 use bpf_check::check;
 use bpf_explain::{
-    dot, dot_plain, explain, explain_certificate, explain_image, explain_inferred, explain_slot,
-    explain_text,
+    dot, dot_plain, explain, explain_certificate, explain_image, explain_inferred,
+    explain_searched, explain_slot, explain_text,
 };
+use bpf_infer::Watch;
 use bpf_insn::{Code, DecodeError, Order, Program, ProgramView, decode};
 use bpf_text::{TextError, assemble};
 use std::alloc::Global;
@@ -254,34 +255,44 @@ fn explained_certified<'a, P: Places, W: Write>(
 
 // ---- the inferrer
 
-/// Explains what the inferrer finds for a program.
-fn say_inferred<'a, W: Write>(
+/// Explains what the inferrer finds for a program, or the deep search.
+fn say_inferred<'a, W: Write, H: Watch>(
     alloc: Global,
     out: &mut W,
+    watch: &mut H,
     program: &Program,
     least: u32,
     most: u32,
+    deep: bool,
 ) -> Result<u8, Failure<'a>>
     ensures ok { IfOk result (Answers (SoughtSays program.now)) }
     ensures err { IfErr result OutputFails }
 {
     // The words' parser has seen that the lengths are in order, and at most the greatest.
     let most = most.min(MAX_CONTEXT as u32);
-    match explain_inferred(alloc, program, least.min(most), most, out) {
+    let least = least.min(most);
+    let answer = if deep {
+        explain_searched(alloc, program, least, most, watch, out)
+    } else {
+        explain_inferred(alloc, program, least, most, out)
+    };
+    match answer {
         Ok(Ok(certificate)) => Ok(verdict(program, &certificate)),
         Ok(Err(_error)) => Ok(REFUSED),
         Err(_) => Err(Failure::CannotWrite("standard output")),
     }
 }
 
-/// Explains what the inferrer finds for the image's program on contexts of `least` to `most` bytes.
-fn explained_inferred<'a, P: Places, W: Write>(
+/// Explains what the inferrer finds for the image's program on contexts of `least` to `most` bytes, or the deep search.
+fn explained_inferred<'a, P: Places, W: Write, H: Watch>(
     alloc: Global,
     places: &mut P,
     out: &mut W,
+    watch: &mut H,
     input: &'a str,
     least: u32,
     most: u32,
+    deep: bool,
     order: Order,
 ) -> Result<u8, Failure<'a>>
     ensures ok { IfOk result (Answers (ImageSays (opening P.opens P.Reader.remaining) order places.old input.entry.now places.new SoughtSays)) }
@@ -292,17 +303,19 @@ fn explained_inferred<'a, P: Places, W: Write>(
         Err(error) => return refuse(alloc, out, error),
     };
     match decode(alloc, &bytes, order) {
-        Ok(program) => say_inferred(alloc, out, &program, least, most),
+        Ok(program) => say_inferred(alloc, out, watch, &program, least, most, deep),
         Err(DecodeError::Memory) => refuse(alloc, out, DecodeError::Memory),
         Err(_error) => say_image(out, &bytes, order, REFUSED),
     }
 }
 
-/// Explains a program, or why an input is refused. The status is that of the command that judges the same.
-pub fn explained<'a, P: Places, W: Write>(
+/// Explains a program, or why an input is refused. The status is that of the command that judges the same. Who watches is told
+/// how far a deep search is.
+pub fn explained<'a, P: Places, W: Write, H: Watch>(
     alloc: Global,
     places: &mut P,
     out: &mut W,
+    watch: &mut H,
     input: &'a str,
     subject: Subject<'a>,
     order: Order,
@@ -341,8 +354,8 @@ pub fn explained<'a, P: Places, W: Write>(
             Shown::Slot(slot),
             order,
         ),
-        Subject::Inferred { least, most } => explained_inferred(
-            alloc, places, out, input, least, most, order,
+        Subject::Inferred { least, most, deep } => explained_inferred(
+            alloc, places, out, watch, input, least, most, deep, order,
         ),
         Subject::Misfit => Err(Failure::NotTogether),
     }

@@ -4,7 +4,7 @@ use crate::contents::SMALLEST;
 use crate::rows::Row;
 use crate::rows::Row::{Fails, Prints, Puts, Refuses};
 
-static ROWS: [Row; 55] = [
+static ROWS: [Row; 66] = [
     Prints(
         "list --slots smallest",
         "r0 = 0                          ; 0\nexit                            ; 1\n",
@@ -133,6 +133,36 @@ accepted: at most 23 steps on contexts of 0 bytes
         2,
         "most below least\n",
     ),
+    // The deep search.
+    Prints(
+        "explain smallest --infer 0 --deep",
+        "contexts of 0 bytes, at most 2 steps
+fn 0: depth 1, returns any number
+at 0: budget 2
+    0  r0 = 0                              ; cost 1; r0 becomes 0
+    1  exit                                ; cost 2
+       out; slack 0: budget at least 2, cost 2
+accepted: at most 2 steps on contexts of 0 bytes
+",
+    ),
+    Refuses(
+        "explain unused-field --infer 0 --deep",
+        "E4 at slot 0: dst must be zero: the instruction doesn't use it\n  bytes 95 01 00 00 00 00 00 00: opcode 95, dst 1, src 0, offset 0, imm 0\n",
+    ),
+    Refuses(
+        "explain recursive --infer 0 --most 4 --deep",
+        "no certificate: I3 at slot 0\n`call -1` calls itself: mostly a call of another object's function that was never linked\n",
+    ),
+    Fails(
+        "explain nowhere --infer 0 --deep",
+        3,
+        "cannot read nowhere\n",
+    ),
+    Fails(
+        "explain smallest --deep --infer 4 --most 3",
+        2,
+        "most below least\n",
+    ),
     // Graphs.
     Prints(
         "explain smallest --dot",
@@ -212,6 +242,36 @@ accepted: at most 23 steps on contexts of 0 bytes
     ),
     Fails(
         "explain nowhere --infer 0 --slot 0",
+        2,
+        "words that don't go together\n",
+    ),
+    Fails(
+        "explain nowhere --deep",
+        2,
+        "words that don't go together\n",
+    ),
+    Fails(
+        "explain nowhere smallest.cert --deep",
+        2,
+        "words that don't go together\n",
+    ),
+    Fails(
+        "explain nowhere --text --deep",
+        2,
+        "words that don't go together\n",
+    ),
+    Fails(
+        "explain nowhere --dot --deep --infer 0",
+        2,
+        "words that don't go together\n",
+    ),
+    Fails(
+        "explain nowhere --infer 0 --deep --slot 0",
+        2,
+        "words that don't go together\n",
+    ),
+    Fails(
+        "explain nowhere --deep --infer 0 --text",
         2,
         "words that don't go together\n",
     ),

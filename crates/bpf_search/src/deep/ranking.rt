@@ -3,7 +3,7 @@
 mod bases;
 mod candidates;
 mod draft;
-mod graph;
+pub mod graph;
 mod groups;
 mod plan;
 mod regions;

@@ -78,7 +78,7 @@ fn loaded_tag(state: &State, reach: Reach) -> Option<Tag>
     ensures { result ≡ loaded_tag state.now (Some reach) }
 {
     if reach.in_frame() && reach.is_slot() {
-        state.slot_tags[reach.place()]
+        state.slot_tags.get(reach.place())
     } else {
         None
     }

@@ -12,10 +12,12 @@ returns c =
       c.number_if-slot.result,
       c.has_flag-text.result,
       c.has_flag-dot.result,
+      c.has_flag-deep.result,
       c.number_if-least.ensures,
       c.number_if-most.ensures,
       c.number_if-slot.ensures,
       c.has_flag-text.ensures,
       c.has_flag-dot.ensures,
-      subst (λ o. GivesSubject o c.number_if-least.result c.number_if-most.result c.number_if-slot.result c.has_flag-text.result c.has_flag-dot.result c.subject_of.result) named c.subject_of.ensures,
+      c.has_flag-deep.ensures,
+      subst (λ o. GivesSubject o c.number_if-least.result c.number_if-most.result c.number_if-slot.result c.has_flag-text.result c.has_flag-dot.result c.has_flag-deep.result c.subject_of.result) named c.subject_of.ensures,
     )

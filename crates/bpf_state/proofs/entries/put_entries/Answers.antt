@@ -1,4 +1,4 @@
-use Rattle.std.proofs.Common.{◌∙◌, ◌+◌, take, sym, ap}
+use Rattle.std.proofs.Common.{◌∙◌, take, sym, ap}
 use Rattle.bpf_state.specs.State.{with_register, with_slot}
 use Rattle.bpf_state.specs.code.Entries.{put, state_of}
 use Rattle.bpf_state.proofs.EntryLemmas.{state_next}

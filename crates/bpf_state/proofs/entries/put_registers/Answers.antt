@@ -1,4 +1,4 @@
-use Rattle.std.proofs.Common.{◌≡◌, ◌<◌, length, get_or, refl, sym, ◌∙◌, ap, arith}
+use Rattle.std.proofs.Common.{◌<◌, get_or, ◌∙◌, ap, arith}
 use Rattle.std.specs.Prelude.{set}
 use Rattle.bpf_state.specs.declared.state.RegState.TheVariants.{Any}
 use Rattle.bpf_state.specs.State.{blank, with_register}

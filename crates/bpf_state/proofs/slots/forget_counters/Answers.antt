@@ -6,4 +6,4 @@ pub returns-clause-value : goal.returns-clause-value
 returns-clause-value c =
     let are = c.slots-first.ensures in
     let ordered = are.ordered in
-    tags_changed c.args.reach _ _ c.loop-i.i c.args.tags.now c.loop-i.tags are c.loop-i.invariant (omega (arith, c.loop-i.auto.i-end ordered)) c.told-tags
+    tags_changed c.args.reach _ _ c.loop-i.i c.args.tags.now c.loop-i.tags are c.loop-i.invariant (omega (arith, c.loop-i.auto.i-end ordered)) c.valid.ensures

@@ -1,9 +1,7 @@
-use Rattle.std.proofs.Common.{◌∙◌, pos, true, sym, ap, rules}
+use Rattle.std.proofs.Common.{◌∙◌, pos, sym, ap}
 use Rattle.std.specs.Prelude.{◌&&◌}
 use Rattle.std.specs.List.{list_all}
-use Rattle.bpf_insn.specs.declared.instruction.Reg.TheVariants.{R10}
 use Rattle.bpf_state.specs.declared.state.RegState.TheVariants.{Frame}
-use Rattle.bpf_state.specs.State.{register}
 use Rattle.bpf_state.specs.Entails.{register_entails, state_entails}
 use Rattle.bpf_state.specs.code.Entries.{keeps}
 use Rattle.bpf_state.proofs.EntryEntailment.{entails_entries, entails_not}

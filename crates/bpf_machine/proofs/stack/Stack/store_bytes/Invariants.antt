@@ -1,7 +1,0 @@
-use Rattle.std.proofs.Common.{◌≡◌, take}
-use Rattle.bpf_insn.specs.Order.{bytes_of}
-use Rattle.bpf_semantics.specs.Memory.{with_bytes}
-use Rattle.bpf_machine.proofs.stack.Stack.store_bytes.Given as goal
-
-abbrev pub invariant-loop-i : goal.invariant-loop-i
-invariant-loop-i l = l.self ≡ with_bytes (take l.i (bytes_of l.order l.count l.x)) l.at l.fn.self

@@ -1,0 +1,115 @@
+//! Pointers that a loop moves.
+
+use crate::loops::{Loop, loop_from};
+use crate::rounds::Rounds;
+use crate::walk::Walk;
+use bpf_insn::{AluOp, Insn, Operand, Reg, Width};
+use bpf_state::RegState;
+
+/// The register whose pointer an instruction moves or reads and writes through.
+fn pointer_in(insn: &Insn) -> Option<Reg> {
+    match *insn {
+        Insn::Alu {
+            op: AluOp::Add | AluOp::Sub,
+            dst,
+            ..
+        } => Some(dst),
+        Insn::Load { src, off: _off, .. } => Some(src),
+        Insn::LoadSx { src, off: _off, .. } => Some(src),
+        Insn::Store { dst, off: _off, .. } => Some(dst),
+        Insn::StoreImm { dst, off: _off, .. } => Some(dst),
+        Insn::Atomic { dst, off: _off, .. } => Some(dst),
+        _ => None,
+    }
+}
+
+/// What an instruction does to a register.
+#[derive(Clone, Copy, PartialEq, Eq)]
+enum Deed {
+    Keeps,
+    /// It adds or takes a constant.
+    Moves,
+    Sets,
+}
+
+fn set_if(same: bool) -> Deed {
+    if same { Deed::Sets } else { Deed::Keeps }
+}
+
+fn is_same(a: Reg, b: Reg) -> bool {
+    a as u8 == b as u8
+}
+
+fn deed_of(insn: &Insn, reg: Reg) -> Deed {
+    match *insn {
+        Insn::Alu {
+            op: AluOp::Add | AluOp::Sub,
+            width: Width::W64,
+            dst,
+            src: Operand::Imm(_imm),
+        } if is_same(dst, reg) => Deed::Moves,
+        Insn::Alu { dst, .. } => set_if(is_same(dst, reg)),
+        Insn::Neg { dst, .. } => set_if(is_same(dst, reg)),
+        Insn::MovSx { dst, .. } => set_if(is_same(dst, reg)),
+        Insn::End { dst, .. } => set_if(is_same(dst, reg)),
+        Insn::LoadImm64 { dst, .. } => set_if(is_same(dst, reg)),
+        Insn::Load { dst, off: _off, .. } => set_if(is_same(dst, reg)),
+        Insn::LoadSx { dst, off: _off, .. } => set_if(is_same(dst, reg)),
+        Insn::Atomic { src, off: _off, .. } => {
+            set_if(is_same(src, reg) || is_same(Reg::R0, reg))
+        }
+        Insn::CallLocal { off: _off } => set_if(reg as u8 <= 5),
+        _ => Deed::Keeps,
+    }
+}
+
+/// Whether instructions of a loop move a register by constants, and none sets it.
+fn moves(walk: &Walk, found: Loop, reg: Reg) -> bool {
+    let mut is_moved = false;
+    for slot in walk.outline.label(found.head)..walk.outline.end(found.last) {
+        if let Some(insn) = walk.program.at(slot) {
+            match deed_of(insn, reg) {
+                Deed::Keeps => {}
+                Deed::Moves => is_moved = true,
+                Deed::Sets => return false,
+            }
+        }
+    }
+    is_moved
+}
+
+/// Whether a register holds a pointer of more than one offset at a label.
+fn is_wide(rounds: &Rounds, block: usize, reg: Reg) -> bool {
+    match rounds.states.get(block) {
+        Some(Some(held)) => match held.reg(reg) {
+            RegState::Ctx { lo, hi } => lo < hi,
+            RegState::Frame { lo, hi } => lo < hi,
+            RegState::Any | RegState::Num(_) => false,
+        },
+        _ => false,
+    }
+}
+
+/// The last loop that begins at a block or before it, and has it between its ends.
+fn loop_around(rounds: &Rounds, block: usize) -> Option<Loop> {
+    for head in (0..block.saturating_add(1)).rev() {
+        if let Some(found) = loop_from(rounds, head) {
+            if block <= found.last {
+                return Some(found);
+            }
+        }
+    }
+    None
+}
+
+/// The register whose pointer the instruction at a slot takes, if the loop around it moves that pointer by constants and does
+/// nothing else to it; and the slot of the loop.
+pub fn walker_at(walk: &Walk, rounds: &Rounds, slot: u32) -> Option<(Reg, u32)> {
+    let reg = pointer_in(walk.program.at(slot)?)?;
+    let found = loop_around(rounds, walk.outline.block_of(slot))?;
+    if is_wide(rounds, found.head, reg) && moves(walk, found, reg) {
+        Some((reg, walk.outline.label(found.head)))
+    } else {
+        None
+    }
+}
