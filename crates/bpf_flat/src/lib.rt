@@ -3,12 +3,10 @@
 
 mod bytes;
 mod dispatch;
-mod image;
 mod machine;
 mod numbers;
 mod runs;
 mod seldom;
 mod step;
 
-pub use image::run_image;
 pub use runs::run;

@@ -23,7 +23,7 @@ pub(crate) const TOO_SMALL: i32 = -3;
 
 /// What is promised of an image: on every context of `least` to `most` bytes it ends within `bound` instructions.
 #[repr(C)]
-#[derive(Clone, Copy, Debug, PartialEq, Eq)]
+#[derive(Clone, Copy)]
 pub struct BpfVerdict {
     /// From 0 to 4,096.
     pub least: u32,
@@ -35,7 +35,7 @@ pub struct BpfVerdict {
 
 /// Why something is refused.
 #[repr(C)]
-#[derive(Clone, Copy, Debug, PartialEq, Eq)]
+#[derive(Clone, Copy)]
 pub struct BpfRefusal {
     /// The letter of the refusal: E (an image), K (a certificate), C (a program by its certificate) or I (an inference).
     pub kind: u32,
@@ -49,7 +49,7 @@ pub struct BpfRefusal {
 
 /// How a run ended.
 #[repr(C)]
-#[derive(Clone, Copy, Debug, PartialEq, Eq)]
+#[derive(Clone, Copy)]
 pub struct BpfOutcome {
     /// 0: done, with `value` after `steps` instructions. 1: at a fault, `number` from 1 to 9, at `slot` after `steps`
     /// instructions. 2: out of fuel. 3: the image is refused, E and `number`, at `slot`.

@@ -3,7 +3,7 @@
 ghost use Rattle.bpf_host.specs.Answers.{IsVerifiedFor, MayRun, EndsAsVerified, EndsAsPrepared};
 
 use crate::prepared::found_in;
-use bpf_flat::run_image;
+use bpf_flat::run;
 use bpf_insn::{Order, ProgramView};
 use bpf_semantics::{finish_is_last, runs_are_one, stuck_has_reason};
 
@@ -16,7 +16,7 @@ fn end_of_image(image: &[u8], order: Order, context: &[u8]) -> u64
     stuck_has_reason();
     runs_are_one();
     let program = ProgramView::known(image, order);
-    run_image(&program, context, u32::MAX)
+    run(&program, context, u32::MAX)
 }
 
 /// The number with which a prepared program ends on a context.

@@ -15,8 +15,6 @@ mod answers;
 mod checked;
 mod prepared;
 mod proposal;
-#[cfg(test)]
-mod tests;
 mod texts;
 
 pub use answers::{BpfOutcome, BpfRefusal, BpfVerdict};

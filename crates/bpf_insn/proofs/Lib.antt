@@ -12,7 +12,6 @@ pub mod OrderLaw
 pub mod ReadLemmas
 pub mod WriteLemmas
 pub mod LayoutLemmas
-pub mod OpLemmas
 pub mod LimitLemmas
 pub mod OpcodeLemmas
 pub mod CodedLemmas

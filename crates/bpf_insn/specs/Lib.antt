@@ -9,4 +9,3 @@ pub mod Written
 pub mod Reading
 pub mod Laws
 pub mod Effects
-pub mod Op

@@ -1,7 +1,6 @@
 //! What holds of images, for all bytes and instructions. Each law is the contract of a function that does nothing.
 
 ghost use Rattle.bpf_insn.specs.Laws.{ImageIsInjective, ImageLength, ReadsBack, OrdersExchange, RefusalIsExact, NeverBoth, RefusedOnce, ListNeverBoth, ListRefusedOnce};
-ghost use Rattle.bpf_insn.specs.Op.{OpsMeanInsns, InsnsHaveOneOp};
 
 /// An image is the image of one list of instructions only.
 pub fn image_is_injective()
@@ -46,14 +45,4 @@ pub fn list_never_both()
 /// A list is refused for one cause, at one slot.
 pub fn list_refused_once()
     ensures { ListRefusedOnce }
-{}
-
-/// What stands in an instruction's slots in eight bytes means the instruction.
-pub fn ops_mean_insns()
-    ensures { OpsMeanInsns }
-{}
-
-/// A form of eight bytes is that of the instruction that it means.
-pub fn insns_have_one_op()
-    ensures { InsnsHaveOneOp }
 {}

@@ -2,12 +2,10 @@
 
 ghost use Rattle.std.specs.Prelude.{◌≡◌, ◌↔◌, ◌<◌, ◌≤◌, List, Option, IsTrue, IfSome, IfNone, is_some, option_and_then, length};
 ghost use Rattle.bpf_insn.specs.Instruction.{insn_in, distance, EachSlot, FailsFirst};
-ghost use Rattle.bpf_insn.specs.Op.{op_in, cell_before};
 ghost use Rattle.bpf_insn.specs.Image.{LeadsInside, HasTarget, max_slots};
 ghost use Rattle.bpf_insn.specs.declared.instruction.Insn.{Insn};
 
 use crate::instruction::Insn;
-use crate::op::{Op, high_of_insn, op_of_insn};
 
 /// At most 65,536 slots, each with the instruction that begins there, in whatever form they are kept.
 pub trait Layout {
@@ -26,18 +24,6 @@ pub trait Layout {
     /// Whether an instruction begins at the slot.
     fn is_first(&self, slot: u32) -> bool
         ensures { result ≡ is_some (insn_in (cells self.now) slot) };
-
-    /// What stands in the slot, in eight bytes.
-    fn op(&self, slot: u32) -> Op
-        requires { slot < length (cells self.now) }
-        ensures { result ≡ op_in (cell_before (cells self.now) slot) (insn_in (cells self.now) slot) }
-    {
-        match self.insn(slot) {
-            Some(insn) => op_of_insn(&insn),
-            None if slot == 0 => high_of_insn(&None),
-            None => high_of_insn(&self.insn(slot - 1)),
-        }
-    }
 
     /// How far the instruction at the slot leads, if it leads anywhere.
     fn distance(&self, slot: u32) -> Option<i32>

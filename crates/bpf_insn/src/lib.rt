@@ -17,7 +17,6 @@ pub mod instruction;
 mod laws;
 mod layout;
 mod limits;
-mod op;
 pub mod order;
 mod program;
 pub mod refusal;
@@ -36,10 +35,9 @@ pub use instruction::{
     Size, Width, target,
 };
 pub use laws::{
-    image_is_injective, image_length, insns_have_one_op, list_never_both, list_refused_once,
-    never_both, ops_mean_insns, orders_exchange, reads_back, refusal_is_exact, refused_once,
+    image_is_injective, image_length, list_never_both, list_refused_once, never_both,
+    orders_exchange, reads_back, refusal_is_exact, refused_once,
 };
-pub use op::Op;
 pub use order::Order;
 pub use program::Program;
 pub use refusal::{BuildError, DecodeError, SlotFault};

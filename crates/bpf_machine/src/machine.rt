@@ -3,7 +3,6 @@
 ghost use Rattle.std.specs.Prelude.{◌≡◌, ◌<◌, ◌≤◌, ◌+◌, ◌%◌, ◌^◌, [], IsTrue, false, nat_le, pos, ◌+ℤ◌, IfSome, IfNone, IfOk, IfErr, length, option_map, is_some, IsSome, Some, None};
 ghost use Rattle.bpf_insn.specs.Order.{bytes_of};
 ghost use Rattle.bpf_insn.specs.Instruction.{register_number, byte_count, insn_at, distance};
-ghost use Rattle.bpf_insn.specs.Op.{insn_of, op_at};
 ghost use Rattle.bpf_semantics.specs.declared.state.Value.TheVariants.{Number};
 ghost use Rattle.bpf_semantics.specs.State.{frame_bytes, max_frames, depth, start, register, with_register, at_slot, number_of_register};
 ghost use Rattle.bpf_semantics.specs.Memory.{inside, place_of, number_at, pointer_at, stack_of, with_stack, with_bytes, with_parts};
@@ -17,7 +16,7 @@ use crate::bytes::number_in;
 use crate::registers::{Kept, Registers};
 use crate::stack::Stacks;
 use arrayvec::ArrayVec;
-use bpf_insn::{Code, Insn, Op, Operand, Order, Reg, Size, extended, ops_mean_insns};
+use bpf_insn::{Code, Insn, Operand, Order, Reg, Size, extended};
 use bpf_semantics::{Reason, Region, Value};
 use std::marker::Model;
 

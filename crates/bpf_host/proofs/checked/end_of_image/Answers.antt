@@ -6,14 +6,14 @@ use Rattle.bpf_host.proofs.checked.end_of_image.Goals as goal
 pub known-program-requires : goal.known-program-requires
 known-program-requires c = (c.requires.verified.program, c.requires.verified.is_image)
 
-pub run_image-requires-clause-short : goal.run_image-requires-clause-short
-run_image-requires-clause-short c =
+pub run-requires-clause-short : goal.run-requires-clause-short
+run-requires-clause-short c =
     let high = c.requires.length_within.1 in
     let few = c.requires.short in
     omega (arith, high, few)
 
-pub run_image-requires-clause-ends : goal.run_image-requires-clause-ends
-run_image-requires-clause-ends c =
+pub run-requires-clause-ends : goal.run-requires-clause-ends
+run-requires-clause-ends c =
     let known : Known c.args.order c.args.image.now c.known-program.result = record { order_is = c.known-program.ensures.order; list_is = c.known-program.ensures.list } in
     ends known (λ i. omega (arith, c.type_inv.context i)) c.requires
 
@@ -21,4 +21,4 @@ pub returns : goal.returns
 returns c =
     let known : Known c.args.order c.args.image.now c.known-program.result = record { order_is = c.known-program.ensures.order; list_is = c.known-program.ensures.list } in
     let laws : StepLaws = record { last = c.finish_is_last.ensures; stuck = c.stuck_has_reason.ensures; one = c.runs_are_one.ensures } in
-    as_verified laws known (λ i. omega (arith, c.type_inv.context i)) c.run_image.result c.run_image.ensures
+    as_verified laws known (λ i. omega (arith, c.type_inv.context i)) c.run.result c.run.ensures

@@ -1,4 +1,4 @@
-use Rattle.std.proofs.Common.{◌∙◌, ap, sym, subst, Some, ◌≡◌, slice_set, get_or}
+use Rattle.std.proofs.Common.{◌∙◌, ap, sym, subst, Some, slice_set, get_or}
 use Rattle.std.specs.Prelude.{IsSome, option_and_then, set, None}
 use Rattle.bpf_semantics.specs.State.{number_in}
 use Rattle.bpf_semantics.specs.declared.state.Value.TheVariants.{Number as ANumber}
