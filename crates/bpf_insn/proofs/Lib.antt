@@ -15,3 +15,4 @@ pub mod LayoutLemmas
 pub mod LimitLemmas
 pub mod OpcodeLemmas
 pub mod CodedLemmas
+pub mod ByteLemmas

@@ -17,6 +17,7 @@ pub mod instruction;
 mod laws;
 mod layout;
 mod limits;
+mod numbers;
 pub mod order;
 mod program;
 pub mod refusal;
@@ -38,6 +39,7 @@ pub use laws::{
     image_is_injective, image_length, list_never_both, list_refused_once, never_both,
     orders_exchange, reads_back, refusal_is_exact, refused_once,
 };
+pub use numbers::{number_in, put_number};
 pub use order::Order;
 pub use program::Program;
 pub use refusal::{BuildError, DecodeError, SlotFault};

@@ -1,7 +1,6 @@
 //! The machine of the BPF instruction set (RFC 9669, sections 4 and 5): programs run without memory of their own.
 #![tactic(auto)]
 
-mod bytes;
 mod machine;
 mod next;
 mod outcome;

@@ -12,11 +12,10 @@ ghost use Rattle.bpf_machine.specs.Places.{place_is, IsInside};
 ghost use Rattle.bpf_machine.specs.Answers.{Leads};
 ghost use Rattle.bpf_machine.specs.Running.{running, moved_to};
 
-use crate::bytes::number_in;
 use crate::registers::{Kept, Registers};
 use crate::stack::Stacks;
 use arrayvec::ArrayVec;
-use bpf_insn::{Code, Insn, Operand, Order, Reg, Size, extended};
+use bpf_insn::{Code, Insn, Operand, Order, Reg, Size, extended, number_in};
 use bpf_semantics::{Reason, Region, Value};
 use std::marker::Model;
 

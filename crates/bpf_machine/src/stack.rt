@@ -9,8 +9,7 @@ ghost use Rattle.bpf_semantics.specs.Memory.{bytes_in, pointer_in, with_bytes, w
 ghost use Rattle.bpf_semantics.specs.Stuck.{first_unreadable};
 ghost use Rattle.bpf_machine.specs.PackedStack.{IsMask};
 
-use crate::bytes::{number_in, put_number};
-use bpf_insn::{Order, Size};
+use bpf_insn::{Order, Size, number_in, put_number};
 use bpf_semantics::{Reason, Region, Value};
 use std::marker::Model;
 

@@ -3,7 +3,8 @@ use Rattle.std.proofs.lemmas.List.{take_all, get_or_append_left}
 use Rattle.bpf_insn.specs.Order.{bytes_of}
 use Rattle.bpf_insn.specs.Instruction.{byte_count}
 use Rattle.bpf_semantics.specs.Memory.{with_bytes}
-use Rattle.bpf_machine.proofs.ByteLemmas.{length-bytes_of, some_bytes}
+use Rattle.bpf_insn.proofs.ByteLemmas.{bytes_long}
+use Rattle.bpf_machine.proofs.ByteLemmas.{some_bytes}
 use Rattle.bpf_machine.proofs.StackLemmas.{bytes_more, take_one}
 use Rattle.bpf_machine.proofs.stack.Stack.store_by_bytes.Goals as goal
 
@@ -11,7 +12,7 @@ pub loop-i-init : goal.loop-i-init
 loop-i-init c =
     let k : ℕ = byte_count c.args.size in
     let bs : List ℕ = bytes_of c.args.order k c.args.x in
-    let n : length bs ≡ k = length-bytes_of c.args.order k c.args.x in
+    let n : length bs ≡ k = bytes_long c.args.order k c.args.x in
     let some : 0 < length bs = omega (arith, n, some_bytes c.args.size) in
     let first : get_or c.put_number.new.bytes 0 0 ≡ get_or bs 0 0 = ap (λ l. get_or l 0 0) c.put_number.ensures ∙ get_or_append_left bs _ 0 0 some in
     c.store_byte.ensures
@@ -22,7 +23,7 @@ pub loop-i-preserved : goal.loop-i-preserved
 loop-i-preserved c =
     let k : ℕ = byte_count c.args.size in
     let bs : List ℕ = bytes_of c.args.order k c.args.x in
-    let n : length bs ≡ k = length-bytes_of c.args.order k c.args.x in
+    let n : length bs ≡ k = bytes_long c.args.order k c.args.x in
     let few : c.loop-i.i < length bs = omega (arith, n) in
     let some : 0 < c.loop-i.i = omega arith in
     let byte : get_or c.put_number.new.bytes c.loop-i.i 0 ≡ get_or bs c.loop-i.i 0 = ap (λ l. get_or l c.loop-i.i 0) c.put_number.ensures ∙ get_or_append_left bs _ 0 c.loop-i.i few in
@@ -35,6 +36,6 @@ pub returns : goal.returns
 returns c =
     let k : ℕ = byte_count c.args.size in
     let bs : List ℕ = bytes_of c.args.order k c.args.x in
-    let n : length bs ≡ k = length-bytes_of c.args.order k c.args.x in
+    let n : length bs ≡ k = bytes_long c.args.order k c.args.x in
     let all : length bs ≤ c.loop-i.i = omega (arith, n) in
     c.loop-i.invariant ∙ ap (λ bs. with_bytes bs c.args.at c.args.self.now) (take_all c.loop-i.i bs all)

@@ -3,7 +3,8 @@ use Rattle.bpf_insn.specs.Order.{bytes_of}
 use Rattle.bpf_insn.specs.Instruction.{byte_count}
 use Rattle.bpf_semantics.specs.Memory.{with_bytes}
 use Rattle.bpf_machine.specs.PackedStack.{IsMask}
-use Rattle.bpf_machine.proofs.ByteLemmas.{front_written, length-bytes_of, some_bytes}
+use Rattle.bpf_insn.proofs.ByteLemmas.{bytes_long}
+use Rattle.bpf_machine.proofs.ByteLemmas.{front_written, some_bytes}
 use Rattle.bpf_machine.proofs.StackLemmas.{bytes_stored}
 use Rattle.bpf_machine.proofs.stack.Stack.store_in_slot.Goals as goal
 
@@ -11,7 +12,7 @@ pub returns : goal.returns
 returns c =
     let k : ℕ = byte_count c.args.size in
     let bs : List ℕ = bytes_of c.args.order k c.args.x in
-    let n : length bs ≡ k = length-bytes_of c.args.order k c.args.x in
+    let n : length bs ≡ k = bytes_long c.args.order k c.args.x in
     let some = some_bytes c.args.size in
     let mask : IsMask (c.args.at % 8) (length bs) c.mask_of.result = subst (λ n. IsMask (c.args.at % 8) n c.mask_of.result) (c.from.ensures ∙ c.bytes.ensures ∙ sym n) c.mask_of.ensures in
     bytes_stored c.self.inside.bytes _ _ _ c.args.at bs _ (record { masks_64 = c.self.told.1; regions_64 = c.self.invariant }) c.requires.inside (omega (arith, n)) (omega (arith, n)) (front_written c.self.inside.bytes bs c.put_number.new.bytes c.args.at 512 k c.self.told.0 n (omega arith) c.put_number.ensures) mask

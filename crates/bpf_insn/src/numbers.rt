@@ -4,12 +4,13 @@ ghost use Rattle.std.specs.Prelude.{◌≡◌, ◌<◌, ◌≤◌, ◌^◌, ◌+
 ghost use Rattle.bpf_insn.specs.Order.{number_of, bytes_of};
 ghost use Rattle.bpf_insn.specs.Instruction.{byte_count};
 
-use bpf_insn::{Order, Size};
+use crate::instruction::Size;
+use crate::order::Order;
 use byteorder::{BigEndian, ByteOrder, LittleEndian};
 
 /// The number in the first bytes.
 #[inline(always)]
-pub(crate) fn number_in(order: Order, size: Size, bytes: &[u8]) -> u64
+pub fn number_in(order: Order, size: Size, bytes: &[u8]) -> u64
     requires { byte_count size ≤ length bytes.now }
     ensures number { result ≡ number_of order (byte_count size) bytes.now }
     ensures fits { result < 256 ^ byte_count size }
@@ -37,7 +38,7 @@ fn number_by<O: ByteOrder>(size: Size, bytes: &[u8]) -> u64
 /// Puts the lowest bytes of a number into the first bytes.
 #[inline(always)]
 #[tactic(auto, using(crate::proofs::ByteLemmas::low_bytes))]
-pub(crate) fn put_number(order: Order, size: Size, bytes: &mut [u8], x: u64)
+pub fn put_number(order: Order, size: Size, bytes: &mut [u8], x: u64)
     requires { byte_count size ≤ length bytes.old }
     ensures { bytes.new ≡ bytes_of order (byte_count size) x ++ drop (byte_count size) bytes.old }
 {
