@@ -161,19 +161,34 @@ go_together certificate least most slot text dot deep =
 
 -- by the word for a certificate, the lengths, the slot, whether it is a text, whether a graph is wanted, and whether to search deeply
 abbrev pub GivesSubject : Option Text → (least most slot : Option ℕ) → (text dot deep : Bool) → Subject → Type 0
-GivesSubject certificate least most slot text dot deep Image = (certificate ≡ None) × (least ≡ None) × (most ≡ None) × (slot ≡ None) × (text ≡ false) × (dot ≡ false) × (deep ≡ false)
-GivesSubject certificate least most slot text dot deep TextAlone = (certificate ≡ None) × (least ≡ None) × (most ≡ None) × (slot ≡ None) × (text ≡ true) × (dot ≡ false) × (deep ≡ false)
-GivesSubject certificate least most slot text dot deep (Certified c) = (certificate ≡ Some c.now) × (least ≡ None) × (most ≡ None) × (slot ≡ None) × (text ≡ false) × (dot ≡ false) × (deep ≡ false)
-GivesSubject certificate least most slot text dot deep (Slot c s) = (certificate ≡ Some c.now) × (least ≡ None) × (most ≡ None) × (slot ≡ Some s) × (text ≡ false) × (dot ≡ false) × (deep ≡ false)
-GivesSubject certificate least most slot text dot deep (Inferred l m d) = (certificate ≡ None) × (least ≡ Some l) × (m ≡ unwrap_or most l) × (slot ≡ None) × (text ≡ false) × (dot ≡ false) × (deep ≡ d)
-GivesSubject certificate least most slot text dot deep (Graph c) = (certificate ≡ Some c.now) × (least ≡ None) × (most ≡ None) × (slot ≡ None) × (text ≡ false) × (dot ≡ true) × (deep ≡ false)
-GivesSubject certificate least most slot text dot deep GraphAlone = (certificate ≡ None) × (least ≡ None) × (most ≡ None) × (slot ≡ None) × (text ≡ false) × (dot ≡ true) × (deep ≡ false)
+GivesSubject certificate least most slot text dot deep Image =
+    (certificate ≡ None) × (least ≡ None) × (most ≡ None) × (slot ≡ None)
+    × (text ≡ false) × (dot ≡ false) × (deep ≡ false)
+GivesSubject certificate least most slot text dot deep TextAlone =
+    (certificate ≡ None) × (least ≡ None) × (most ≡ None) × (slot ≡ None)
+    × (text ≡ true) × (dot ≡ false) × (deep ≡ false)
+GivesSubject certificate least most slot text dot deep (Certified c) =
+    (certificate ≡ Some c.now) × (least ≡ None) × (most ≡ None) × (slot ≡ None)
+    × (text ≡ false) × (dot ≡ false) × (deep ≡ false)
+GivesSubject certificate least most slot text dot deep (Slot c s) =
+    (certificate ≡ Some c.now) × (least ≡ None) × (most ≡ None) × (slot ≡ Some s)
+    × (text ≡ false) × (dot ≡ false) × (deep ≡ false)
+GivesSubject certificate least most slot text dot deep (Inferred l m d) =
+    (certificate ≡ None) × (least ≡ Some l) × (m ≡ unwrap_or most l) × (slot ≡ None)
+    × (text ≡ false) × (dot ≡ false) × (deep ≡ d)
+GivesSubject certificate least most slot text dot deep (Graph c) =
+    (certificate ≡ Some c.now) × (least ≡ None) × (most ≡ None) × (slot ≡ None)
+    × (text ≡ false) × (dot ≡ true) × (deep ≡ false)
+GivesSubject certificate least most slot text dot deep GraphAlone =
+    (certificate ≡ None) × (least ≡ None) × (most ≡ None) × (slot ≡ None)
+    × (text ≡ false) × (dot ≡ true) × (deep ≡ false)
 GivesSubject certificate least most slot text dot deep Misfit = go_together certificate least most slot text dot deep ≡ false
 
 -- what CERT, `--infer`, `--most`, `--slot`, `--text`, `--dot` and `--deep` want explained
 abbrev pub IsSubject : List Row → Subject → Type 0
 IsSubject rows subject =
-    (least : Option ℕ) × (most : Option ℕ) × (slot : Option ℕ) × (text : Bool) × (dot : Bool) × (deep : Bool) × IsNumber (one_of (codes "infer") rows) least × IsNumber (one_of (codes "most") rows) most
+    (least : Option ℕ) × (most : Option ℕ) × (slot : Option ℕ) × (text : Bool) × (dot : Bool) × (deep : Bool)
+    × IsNumber (one_of (codes "infer") rows) least × IsNumber (one_of (codes "most") rows) most
     × IsNumber (one_of (codes "slot") rows) slot × IsFlag (one_of (codes "text") rows) text × IsFlag (one_of (codes "dot") rows) dot × IsFlag (one_of (codes "deep") rows) deep
     × GivesSubject (first_of (codes "CERT") rows) least most slot text dot deep subject
 
@@ -191,7 +206,8 @@ Asks name rows (Check input certificate work order) =
 Asks name rows (RunChecked input certificate contexts order) =
     (name ≡ codes "run-checked") × IsInput rows input.now order × (certificate.now ≡ word_of (codes "CERT") rows) × AreContexts rows contexts
 Asks name rows (Infer input least most deep output order) =
-    (name ≡ codes "infer") × IsInput rows input.now order × IsCount 0 (one_of (codes "LEN") rows) least × IsCount least (one_of (codes "most") rows) most × IsFlag (one_of (codes "deep") rows) deep × (output.now ≡ word_of (codes "OUT") rows)
+    (name ≡ codes "infer") × IsInput rows input.now order × IsCount 0 (one_of (codes "LEN") rows) least
+    × IsCount least (one_of (codes "most") rows) most × IsFlag (one_of (codes "deep") rows) deep × (output.now ≡ word_of (codes "OUT") rows)
 Asks name rows (Explain input subject order) = (name ≡ codes "explain") × IsInput rows input.now order × IsSubject rows subject
 Asks name rows (Migrate certificate output) = (name ≡ codes "migrate") × (certificate.now ≡ word_of (codes "CERT") rows) × (output.now ≡ word_of (codes "OUT") rows)
 

@@ -39,7 +39,8 @@ FailsBehind {S} opening old name new fails failure =
 -- what is answered on the context at a name
 abbrev pub RunAtSays : {S : Type 0} → Opening S → Order → S → List ℕ → List ℕ → ℕ → S → Option (List ℕ) → Option (List ℕ) → ℕ → Type 0
 RunAtSays {S} opening order old input name fuel new before after status =
-    (answer : Answer) × (context : List ℕ) × (between : S) × ContextAt opening old name between context × Says answer status before after × ImageSays opening order between input new (OutcomeSays context fuel) answer
+    (answer : Answer) × (context : List ℕ) × (between : S) × ContextAt opening old name between context
+    × Says answer status before after × ImageSays opening order between input new (OutcomeSays context fuel) answer
 
 -- the image is refused, or its program answers each context
 abbrev pub RunEachSays : {S : Type 0} → Opening S → Order → S → List ℕ → List ℕ → ℕ → S → Option (List ℕ) → Option (List ℕ) → ℕ → Type 0
@@ -57,18 +58,21 @@ RunEachFails {S} opening order old input contexts fuel new before after failure 
 -- what is answered on the context at a name
 abbrev pub CheckedAtSays : {S : Type 0} → Opening S → Order → S → List ℕ → List ℕ → List ℕ → S → Option (List ℕ) → Option (List ℕ) → ℕ → Type 0
 CheckedAtSays {S} opening order old input certificate name new before after status =
-    (answer : Answer) × (context : List ℕ) × (between : S) × ContextAt opening old name between context × Says answer status before after × RunCheckedSays opening order between input certificate new context answer
+    (answer : Answer) × (context : List ℕ) × (between : S) × ContextAt opening old name between context
+    × Says answer status before after × RunCheckedSays opening order between input certificate new context answer
 
 -- the certificate is refused, or the checked program answers each context
 abbrev pub JudgedEachSays : {S : Type 0} → Opening S → S → List ℕ → List ℕ → S → Instructions → Option (List ℕ) → Option (List ℕ) → ℕ → Type 0
 JudgedEachSays {S} opening old certificate contexts new p before after status =
     ((answer : Answer) × Says answer status before after × JudgedSays opening old certificate new p (λ k x. ⊥) answer)
-    ⊎ ((between : S) × (c : CertificateView) × CertificateAt opening old certificate between c × IsCertifiedBy p c × AnswersAt opening between contexts new (λ context. ResultSays context (checked p c)) before after status)
+    ⊎ ((between : S) × (c : CertificateView) × CertificateAt opening old certificate between c × IsCertifiedBy p c
+    × AnswersAt opening between contexts new (λ context. ResultSays context (checked p c)) before after status)
 
 abbrev pub JudgedEachFails : {S : Type 0} → Opening S → S → List ℕ → List ℕ → S → Instructions → Option (List ℕ) → Option (List ℕ) → Failure → Type 0
 JudgedEachFails {S} opening old certificate contexts new p before after failure =
     CertificateFails opening old certificate new failure
-    ⊎ ((between : S) × (c : CertificateView) × CertificateAt opening old certificate between c × IsCertifiedBy p c × FailsAt opening between contexts new (λ context. ResultSays context (checked p c)) before after failure)
+    ⊎ ((between : S) × (c : CertificateView) × CertificateAt opening old certificate between c × IsCertifiedBy p c
+    × FailsAt opening between contexts new (λ context. ResultSays context (checked p c)) before after failure)
 
 -- the image is refused, or what is said of its program and the certificate
 abbrev pub CheckedEachSays : {S : Type 0} → Opening S → Order → S → List ℕ → List ℕ → List ℕ → S → Option (List ℕ) → Option (List ℕ) → ℕ → Type 0
@@ -108,7 +112,8 @@ CheckedSays opening order old input certificate Several new before after status 
 
 abbrev pub CheckedFails : {S : Type 0} → Opening S → Order → S → List ℕ → List ℕ → Contexts → S → Option (List ℕ) → Option (List ℕ) → Failure → Type 0
 CheckedFails opening order old input certificate (Word hex) new before after failure = FailsWith old new hex.now (LoadedFails opening order old input certificate new) failure
-CheckedFails opening order old input certificate (Bytes name) new before after failure = FailsBehind opening old name.now new (λ between. LoadedFails opening order between input certificate new) failure
+CheckedFails opening order old input certificate (Bytes name) new before after failure =
+    FailsBehind opening old name.now new (λ between. LoadedFails opening order between input certificate new) failure
 CheckedFails opening order old input certificate (Lines name) new before after failure = CheckedEachFails opening order old input certificate name.now new before after failure
 CheckedFails opening order old input certificate Nothing new before after failure = (failure ≡ NoContext) × (new ≡ old)
 CheckedFails opening order old input certificate Several new before after failure = (failure ≡ ContextTwice) × (new ≡ old)

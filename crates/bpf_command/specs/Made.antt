@@ -9,7 +9,9 @@ abbrev pub Making : Type 0 → Type 1
 Making S = S → List ℕ → List ℕ → Bool → S → Type 0
 
 -- A writer was made for the name, all bytes were written, and they came to stand there.
-pub record Makes {S W : Type 0} (creates : S → List ℕ → Option W → S → Type 0) (ends : S → W → Bool → S → Type 0) (contents : W → Option (List ℕ)) (old : S) (name bytes : List ℕ) (new : S) : Type 0 where
+pub record Makes {S W : Type 0}
+    (creates : S → List ℕ → Option W → S → Type 0) (ends : S → W → Bool → S → Type 0) (contents : W → Option (List ℕ))
+    (old : S) (name bytes : List ℕ) (new : S) : Type 0 where
   pub made : W
   pub written : W
   pub between : S
@@ -19,7 +21,9 @@ pub record Makes {S W : Type 0} (creates : S → List ℕ → Option W → S →
   pub ended : ends between written true new
 
 -- A writer was made for the name, a beginning was written, and nothing of it came to stand there.
-pub record LeavesOff {S W : Type 0} (creates : S → List ℕ → Option W → S → Type 0) (ends : S → W → Bool → S → Type 0) (contents : W → Option (List ℕ)) (old : S) (name bytes : List ℕ) (new : S) : Type 0 where
+pub record LeavesOff {S W : Type 0}
+    (creates : S → List ℕ → Option W → S → Type 0) (ends : S → W → Bool → S → Type 0) (contents : W → Option (List ℕ))
+    (old : S) (name bytes : List ℕ) (new : S) : Type 0 where
   pub made : W
   pub written : W
   pub between : S

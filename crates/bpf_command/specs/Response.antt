@@ -69,22 +69,28 @@ conflict_of (Explain input subject order) = conflict_with input.now subject
 abbrev pub Does : {S : Type 0} → Opening S → Making S → S → S → Option (List ℕ) → Option (List ℕ) → Request → ℕ → Type 0
 Does o m old new before after (Groups input order) = λ status. (answer : Answer) × Says answer status before after × ImageSays o order old input.now new GroupsSay answer
 Does o m old new before after (Asm input output order) = λ status. (answer : Answer) × Says answer status before after × AsmSays o m order old input.now output.now new answer
-Does o m old new before after (ListOf input slots bytes order) = λ status. (answer : Answer) × Says answer status before after × ImageSays o order old input.now new (ListSays (notes_of slots bytes)) answer
+Does o m old new before after (ListOf input slots bytes order) = λ status.
+    (answer : Answer) × Says answer status before after × ImageSays o order old input.now new (ListSays (notes_of slots bytes)) answer
 Does o m old new before after (Run input contexts steps order) = λ status. RunSays o order old input.now contexts steps new before after status
-Does o m old new before after (Check input certificate work order) = λ status. (answer : Answer) × Says answer status before after × CheckSays o order old input.now certificate.now new work answer
+Does o m old new before after (Check input certificate work order) = λ status.
+    (answer : Answer) × Says answer status before after × CheckSays o order old input.now certificate.now new work answer
 Does o m old new before after (RunChecked input certificate contexts order) = λ status. CheckedSays o order old input.now certificate.now contexts new before after status
-Does o m old new before after (Infer input least most deep output order) = λ status. (answer : Answer) × Says answer status before after × InferSays o m order old input.now least most output.now new answer
+Does o m old new before after (Infer input least most deep output order) = λ status.
+    (answer : Answer) × Says answer status before after × InferSays o m order old input.now least most output.now new answer
 Does o m old new before after (Explain input subject order) = ExplainSays o order old input.now subject new
-Does o m old new before after (Migrate certificate output) = λ status. (answer : Answer) × Says answer status before after × MigrateSays o m old certificate.now output.now new answer
+Does o m old new before after (Migrate certificate output) = λ status.
+    (answer : Answer) × Says answer status before after × MigrateSays o m old certificate.now output.now new answer
 
 -- What failed of a request without a conflict.
 abbrev pub Misses : {S : Type 0} → Opening S → Making S → S → S → Request → Failure → Type 0
 Misses o m old new (Groups input order) = ImageFails o old input.now new
 Misses o m old new (Asm input output order) = AsmFails o m order old input.now output.now new
 Misses o m old new (ListOf input slots bytes order) = ImageFails o old input.now new
-Misses o m old new (Run input contexts steps order) = λ failure. (before : Option (List ℕ)) × (after : Option (List ℕ)) × RunFails o order old input.now contexts steps new before after failure
+Misses o m old new (Run input contexts steps order) = λ failure.
+    (before : Option (List ℕ)) × (after : Option (List ℕ)) × RunFails o order old input.now contexts steps new before after failure
 Misses o m old new (Check input certificate work order) = LoadedFails o order old input.now certificate.now new
-Misses o m old new (RunChecked input certificate contexts order) = λ failure. (before : Option (List ℕ)) × (after : Option (List ℕ)) × CheckedFails o order old input.now certificate.now contexts new before after failure
+Misses o m old new (RunChecked input certificate contexts order) = λ failure.
+    (before : Option (List ℕ)) × (after : Option (List ℕ)) × CheckedFails o order old input.now certificate.now contexts new before after failure
 Misses o m old new (Infer input least most deep output order) = InferFails o m order old input.now least most output.now new
 Misses o m old new (Explain input subject order) = ExplainFails o order old input.now subject new
 Misses o m old new (Migrate certificate output) = MigrateFails o m old certificate.now output.now new

@@ -41,7 +41,10 @@ exchanged s = slice_index s 0 ∷ (16 * (slice_index s 1 % 16) + slice_index s 1
 
 -- The images of a list in both orders are as long as one another, and differ slot by slot in how the fields lie.
 abbrev pub OrdersExchange : Type 0
-OrdersExchange = (order : Order) (is : List Insn) → (length (image (other_order order) is) ≡ length (image order is)) × ((k : ℕ) → k < slots is → bytes_of_slot k (image (other_order order) is) ≡ exchanged (bytes_of_slot k (image order is)))
+OrdersExchange =
+    (order : Order) (is : List Insn)
+    → (length (image (other_order order) is) ≡ length (image order is))
+    × ((k : ℕ) → k < slots is → bytes_of_slot k (image (other_order order) is) ≡ exchanged (bytes_of_slot k (image order is)))
 
 -- ---- refusals
 

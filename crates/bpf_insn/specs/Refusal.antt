@@ -82,7 +82,14 @@ uses_in (r ∷ rows) opcode = if is_one_of opcode r.opcodes then Some r.fields e
 -- ---- the fields that stand in bytes
 
 abbrev pub fields_in : Order → List ℕ → Fields
-fields_in order bytes = record { opcode = slice_index bytes 0; dst = dst_in order (slice_index bytes 1); src = src_in order (slice_index bytes 1); offset = cast_signed w16 (number_of order 2 (drop 2 bytes)); imm = cast_signed w32 (number_of order 4 (drop 4 bytes)) }
+fields_in order bytes =
+    record {
+      opcode = slice_index bytes 0;
+      dst = dst_in order (slice_index bytes 1);
+      src = src_in order (slice_index bytes 1);
+      offset = cast_signed w16 (number_of order 2 (drop 2 bytes));
+      imm = cast_signed w32 (number_of order 4 (drop 4 bytes));
+    }
 
 -- ---- the refusal of the instruction whose bytes begin here, if it has one
 

@@ -18,11 +18,16 @@ pub record Follows (place : Placement) (p : Instructions) (s t : State) (f : Fla
   pub inside : StaysInside place (length s.context) p f
 
 abbrev pub FlatFollows : Type 0
-FlatFollows = (place : Placement) (p : Instructions) (s t : State) (f : FlatState) → IsProgram p.list → IsState s → IsPlacement (length s.context) place → Fits p.order place s f → Step p s t → Follows place p s t f
+FlatFollows =
+    (place : Placement) (p : Instructions) (s t : State) (f : FlatState)
+    (program : IsProgram p.list) (state : IsState s) (placed : IsPlacement (length s.context) place)
+    (fits : Fits p.order place s f) (step : Step p s t) → Follows place p s t f
 
 -- and where it ends, so does the flat machine, with the same number
 abbrev pub FlatFinishes : Type 0
-FlatFinishes = (place : Placement) (p : Instructions) (s : State) (f : FlatState) (v : ℕ) → Fits p.order place s f → Finish p s v → FlatFinish p f v × ((g : FlatState) → FlatStep place p f g → ⊥)
+FlatFinishes =
+    (place : Placement) (p : Instructions) (s : State) (f : FlatState) (v : ℕ)
+    (fits : Fits p.order place s f) (finish : Finish p s v) → FlatFinish p f v × ((g : FlatState) → FlatStep place p f g → ⊥)
 
 -- ---- the bytes that an instruction touches are those of its access
 
@@ -31,7 +36,10 @@ Touches f access a = (j : ℕ) × (j < byte_count access.size) × (a ≡ (addres
 
 -- An instruction, calls and exits aside, changes no byte but those that it writes.
 abbrev pub FlatWritesOnly : Type 0
-FlatWritesOnly = (order : Order) (i : Insn) (f g : FlatState) (a : ℕ) → flat_does order i f ≡ Some g → a < addresses → ((w : Access) → access_of i ≡ Some w → w.writes ≡ true → Touches f w a → ⊥) → g.memory a ≡ f.memory a
+FlatWritesOnly =
+    (order : Order) (i : Insn) (f g : FlatState) (a : ℕ)
+    (does : flat_does order i f ≡ Some g) (address : a < addresses)
+    (unwritten : (w : Access) → access_of i ≡ Some w → w.writes ≡ true → Touches f w a → ⊥) → g.memory a ≡ f.memory a
 
 abbrev pub in_memory : (ℕ → ℕ) → FlatState → FlatState
 in_memory memory f = record { slot = f.slot; registers = f.registers; memory = memory; returns = f.returns }
@@ -45,4 +53,8 @@ pub record DoesAlike (order : Order) (i : Insn) (memory : ℕ → ℕ) (f g : Fl
 
 -- And it depends on no byte but those that it reads: in another memory that agrees on them it does the same.
 abbrev pub FlatReadsOnly : Type 0
-FlatReadsOnly = (order : Order) (i : Insn) (f g : FlatState) (memory : ℕ → ℕ) → flat_does order i f ≡ Some g → ((r : Access) (a : ℕ) → access_of i ≡ Some r → r.reads ≡ true → Touches f r a → memory a ≡ f.memory a) → DoesAlike order i memory f g
+FlatReadsOnly =
+    (order : Order) (i : Insn) (f g : FlatState) (memory : ℕ → ℕ)
+    (does : flat_does order i f ≡ Some g)
+    (agrees : (r : Access) (a : ℕ) → access_of i ≡ Some r → r.reads ≡ true → Touches f r a → memory a ≡ f.memory a)
+    → DoesAlike order i memory f g

@@ -157,8 +157,12 @@ form_tokens (swap kind bits dst) = register_tokens W64 dst ++ tokens (codes "=")
 form_tokens (load_constant dst n) = register_tokens W64 dst ++ tokens (codes "=") ++ constant_tokens n ++ tokens (codes "ll")
 form_tokens (load memory is dst address) = register_tokens W64 dst ++ tokens (codes "=") ++ address_tokens memory address
 form_tokens (store size address src) = address_tokens (Unsigned size) address ++ tokens (codes "=") ++ operand_tokens W64 src
-form_tokens (atomic wide op address src) = tokens (codes "lock") ++ tokens (atomic_word op) ++ address_tokens (Unsigned (word_size wide)) address ++ tokens (atomic_marks op) ++ register_tokens W64 src
-form_tokens (branch cond width dst src target) = tokens (codes "if") ++ register_tokens width dst ++ tokens (cond_text cond) ++ operand_tokens width src ++ tokens (codes "goto") ++ target_tokens target
+form_tokens (atomic wide op address src) =
+    tokens (codes "lock") ++ tokens (atomic_word op) ++ address_tokens (Unsigned (word_size wide)) address
+    ++ tokens (atomic_marks op) ++ register_tokens W64 src
+form_tokens (branch cond width dst src target) =
+    tokens (codes "if") ++ register_tokens width dst ++ tokens (cond_text cond) ++ operand_tokens width src
+    ++ tokens (codes "goto") ++ target_tokens target
 form_tokens (goto target) = tokens (codes "goto") ++ target_tokens target
 form_tokens (goto_long target) = tokens (codes "gotol") ++ target_tokens target
 form_tokens (call target) = tokens (codes "call") ++ target_tokens target

@@ -67,7 +67,9 @@ pieces (Load size dst src off) = r_text dst ∷ codes " = *(" ∷ unsigned_text 
 pieces (LoadSx size dst src off) = r_text dst ∷ codes " = *(" ∷ signed_text size ∷ codes " *)(" ∷ r_text src ∷ codes " " ∷ offset_text off ∷ codes ")" ∷ []
 pieces (Store size dst off src) = codes "*(" ∷ unsigned_text size ∷ codes " *)(" ∷ r_text dst ∷ codes " " ∷ offset_text off ∷ codes ") = " ∷ r_text src ∷ []
 pieces (StoreImm size dst off imm) = codes "*(" ∷ unsigned_text size ∷ codes " *)(" ∷ r_text dst ∷ codes " " ∷ offset_text off ∷ codes ") = " ∷ number_text imm ∷ []
-pieces (Atomic wide op dst off src) = codes "lock " ∷ atomic_word op ∷ codes "*(" ∷ unsigned_text (word_size wide) ∷ codes " *)(" ∷ r_text dst ∷ codes " " ∷ offset_text off ∷ atomic_sign op ∷ r_text src ∷ []
+pieces (Atomic wide op dst off src) =
+    codes "lock " ∷ atomic_word op ∷ codes "*(" ∷ unsigned_text (word_size wide) ∷ codes " *)("
+    ∷ r_text dst ∷ codes " " ∷ offset_text off ∷ atomic_sign op ∷ r_text src ∷ []
 pieces (Ja off) = codes "goto " ∷ distance_text off ∷ []
 pieces (JaLong off) = codes "gotol " ∷ distance_text off ∷ []
 pieces (JumpIf cond width dst src off) = codes "if " ∷ register_text width dst ∷ codes " " ∷ cond_text cond ∷ codes " " ∷ operand_text width src ∷ codes " goto " ∷ distance_text off ∷ []

@@ -48,7 +48,11 @@ abbrev pub register : Width → Reg → Register
 register width r = record { 0 = width; 1 = r }
 
 abbrev pub registers : List Register
-registers = register W64 R0 ∷ register W64 R1 ∷ register W64 R2 ∷ register W64 R3 ∷ register W64 R4 ∷ register W64 R5 ∷ register W64 R6 ∷ register W64 R7 ∷ register W64 R8 ∷ register W64 R9 ∷ register W64 R10 ∷ register W32 R0 ∷ register W32 R1 ∷ register W32 R2 ∷ register W32 R3 ∷ register W32 R4 ∷ register W32 R5 ∷ register W32 R6 ∷ register W32 R7 ∷ register W32 R8 ∷ register W32 R9 ∷ register W32 R10 ∷ []
+registers =
+    register W64 R0 ∷ register W64 R1 ∷ register W64 R2 ∷ register W64 R3 ∷ register W64 R4 ∷ register W64 R5
+    ∷ register W64 R6 ∷ register W64 R7 ∷ register W64 R8 ∷ register W64 R9 ∷ register W64 R10
+    ∷ register W32 R0 ∷ register W32 R1 ∷ register W32 R2 ∷ register W32 R3 ∷ register W32 R4 ∷ register W32 R5
+    ∷ register W32 R6 ∷ register W32 R7 ∷ register W32 R8 ∷ register W32 R9 ∷ register W32 R10 ∷ []
 
 abbrev pub swap : EndKind → EndBits → Swap
 swap kind bits = record { 0 = kind; 1 = bits }

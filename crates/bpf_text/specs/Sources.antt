@@ -63,10 +63,16 @@ ends_with fault = record { labels = []; said = []; fault = fault }
 -- labels and form, or has a number out of its range, is the last that counts.
 pub data IsSource : ℕ → ℕ → List (List ℕ) → Source → Type 0 where
   nothing : {line slot : ℕ} → IsSource line slot [] (ends_with None)
-  says : {line slot : ℕ} {text : List ℕ} {texts : List (List ℕ)} {names : List Name} {form : Option Form} {s : Option Statement} {rest : Source} → IsLine (without_comment text) names form → line_said form ≡ Some s
+  says :
+      {line slot : ℕ} {text : List ℕ} {texts : List (List ℕ)} {names : List Name} {form : Option Form} {s : Option Statement} {rest : Source}
+      → IsLine (without_comment text) names form → line_said form ≡ Some s
       → IsSource (line + 1) (slot + statement_slots s) texts rest → IsSource line slot (text ∷ texts) (in_front (labels_of line slot names) (said_at line slot s) rest)
-  out_of_range : {line slot : ℕ} {text : List ℕ} {texts : List (List ℕ)} {names : List Name} {form : Option Form} → IsLine (without_comment text) names form → line_said form ≡ None → IsSource line slot (text ∷ texts) (ends_with (Some (Range line)))
-  no_form : {line slot : ℕ} {text : List ℕ} {texts : List (List ℕ)} → ((names : List Name) (form : Option Form) → ¬ (IsLine (without_comment text) names form)) → IsSource line slot (text ∷ texts) (ends_with (Some (FormError line)))
+  out_of_range :
+      {line slot : ℕ} {text : List ℕ} {texts : List (List ℕ)} {names : List Name} {form : Option Form}
+      → IsLine (without_comment text) names form → line_said form ≡ None → IsSource line slot (text ∷ texts) (ends_with (Some (Range line)))
+  no_form :
+      {line slot : ℕ} {text : List ℕ} {texts : List (List ℕ)} → ((names : List Name) (form : Option Form) → ¬ (IsLine (without_comment text) names form))
+      → IsSource line slot (text ∷ texts) (ends_with (Some (FormError line)))
 
 -- what a text says: its first line is line 1
 abbrev pub TextSays : List ℕ → Source → Type 0
