@@ -1,15 +1,19 @@
 -- A state that a label can have is what its entries say.
-use Rattle.std.proofs.Common.{◌≡◌, ℕ, ◌+◌, zero, suc, true, List, [], ◌∷◌, ◌++◌, length, get_or, take, pos, Option, Some, None, refl, sym, ap, ap₂, ◌∙◌, arith}
+use Rattle.std.proofs.Common.{◌≡◌, ℕ, ◌+◌, zero, suc, true, List, [], ◌∷◌, ◌++◌, length, get_or, take, pos, Option, Some, None, refl, sym, ap, ap₂, ◌∙◌, arith, ℤ}
 use Rattle.std.specs.Prelude.{◌&&◌, is_none, replicate}
 use Rattle.std.specs.List.{list_all}
 use Rattle.std.proofs.lemmas.Int.{ints}
 use Rattle.bpf_insn.specs.declared.instruction.Reg.TheVariants.{R10}
 use Rattle.bpf_state.specs.declared.state.RegState.{RegState}
 use Rattle.bpf_state.specs.declared.state.RegState.TheVariants as reg
-use Rattle.bpf_state.specs.State.{AbstractState, IsState, register, blank, no_tags}
+use Rattle.bpf_state.specs.declared.state.Area.{Area}
+use Rattle.bpf_state.specs.declared.state.Area.TheVariants as area
+use Rattle.bpf_state.specs.State.{AbstractState, IsState, register, is_frame, start_of, blank, no_tags}
 use Rattle.bpf_state.specs.Bare.{bare}
+use Rattle.bpf_cert.specs.Numeral.{int_eq}
 use Rattle.bpf_cert.specs.Limits.{is_frame_end, is_canonical_state}
 use Rattle.bpf_cert.proofs.Bools.{both_true}
+use Rattle.bpf_cert.proofs.LineValues.{pointer_to}
 
 none_each : {A : Type 0} (n : ℕ) (ts : List (Option A)) → length ts ≡ n → list_all is_none ts ≡ true → replicate n None ≡ ts
 none_each zero [] long e = refl
@@ -24,11 +28,14 @@ last_behind zero (x ∷ []) d long = refl
 last_behind zero (x ∷ y ∷ xs) d long = absurd (omega (arith, long))
 last_behind (suc n) (x ∷ xs) d long = ap (λ l. x ∷ l) (last_behind n xs d (omega (arith, long)))
 
-frame_end : (v : RegState) → is_frame_end v ≡ true → v ≡ reg.Frame (pos 0) (pos 0)
+at_end : (a : Area) (lo hi : ℤ) → (is_frame a && int_eq lo (pos 0) && int_eq hi (pos 0)) ≡ true → pointer_to a lo hi ≡ start_of area.Frame
+at_end area.Context lo hi e = cc
+at_end area.Frame lo hi e = ap₂ (pointer_to area.Frame) (grind (arith, ints)) (grind (arith, ints))
+
+pub frame_end : (v : RegState) → is_frame_end v ≡ true → v ≡ reg.Ptr (start_of area.Frame)
 frame_end reg.Any e = cc
 frame_end (reg.Num n) e = cc
-frame_end (reg.Ctx lo hi) e = cc
-frame_end (reg.Frame lo hi) e = ap₂ reg.Frame (grind (arith, ints)) (grind (arith, ints))
+frame_end (reg.Ptr p) e = ap reg.Ptr (at_end p.area p.lo p.hi e)
 
 pub bare_canonical : (s : AbstractState) → IsState s → is_canonical_state s ≡ true → bare s ≡ s
 bare_canonical s is e =

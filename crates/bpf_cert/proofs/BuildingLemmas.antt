@@ -31,8 +31,7 @@ front_length s st = let long : length s.registers ≡ 11 = st.register_count in 
 no_value : (v : RegState) → value_slot v ≡ slot.Bytes 0 → v ≡ reg.Any
 no_value reg.Any e = refl
 no_value (reg.Num n) e = cc
-no_value (reg.Ctx lo hi) e = cc
-no_value (reg.Frame lo hi) e = cc
+no_value (reg.Ptr p) e = cc
 
 -- what a state holds, by its index
 pub content_register : (s : AbstractState) (i : ℕ) → i < 10 → IsState s → get_or (contents s) i (slot.Bytes 0) ≡ value_slot (get_or s.registers i reg.Any)

@@ -299,7 +299,7 @@ unknown_in : (n i : ℕ) (xs : List SlotState) → n ≤ i → list_all is_unkno
 unknown_in n i [] h e = refl
 unknown_in zero zero (slot.Bytes m ∷ xs) h e = ap slot.Bytes (eqb-true m 0 (both_true (eqb m 0) (list_all is_unknown xs) e).0)
 unknown_in zero zero (slot.Word v ∷ xs) h e = cc
-unknown_in zero zero (slot.Ptr p ∷ xs) h e = cc
+unknown_in zero zero (slot.Spilled p ∷ xs) h e = cc
 unknown_in zero (suc i) (x ∷ xs) h e = unknown_in zero i xs (omega arith) (both_true (is_unknown x) (list_all is_unknown xs) e).1
 unknown_in (suc n) zero (x ∷ xs) h e = absurd (omega arith)
 unknown_in (suc n) (suc i) (x ∷ xs) h e = unknown_in n i xs (omega arith) e

@@ -10,12 +10,15 @@ use Rattle.bpf_cert.specs.Faults.{is_int_range, is_canonical_content, is_limited
 use Rattle.bpf_cert.specs.code.Findings.{tested, found, valued}
 use Rattle.bpf_cert.specs.Reading.{◌>>=◌, or_else, pointer_in, bytes_in, number_in, content_in}
 use Rattle.bpf_cert.specs.code.Seen.{capped_signed}
+use Rattle.bpf_cert.specs.Spelling.{bounds_in}
 use Rattle.bpf_cert.specs.code.Contents.{digits_of_bounds, are_plain_bounds, are_limited_bounds}
 use Rattle.bpf_cert.proofs.NumeralLaws.{plain_decimal}
 use Rattle.bpf_cert.proofs.Bools.{both_true}
 use Rattle.bpf_cert.proofs.NumLemmas.{not_true, tested_ok, AreBounds, capped_range, in_range, signed_again}
-use Rattle.bpf_cert.proofs.FindingLemmas.{found_tested}
+use Rattle.bpf_cert.proofs.FindingLemmas.{found_tested, found_valued}
 use Rattle.bpf_cert.proofs.LineForms.{pointer_is, bytes_is, content_is}
+use Rattle.bpf_state.specs.declared.state.Area.{Area}
+use Rattle.bpf_state.specs.declared.state.Area.TheVariants as area
 use Rattle.bpf_cert.specs.declared.finding.Flaw.{Flaw}
 use Rattle.bpf_cert.specs.declared.finding.Flaw.TheVariants.{NotCanonical, Limit}
 
@@ -84,6 +87,15 @@ pointer_form text c e = (pointer_is (Place.slot []) text).holds c e
 
 pub bytes_form : (text ds : List ℕ) → bytes_in (Place.slot []) text ≡ Some (Content.bytes ds) → is_numeral ds ≡ true
 bytes_form text ds e = (bytes_is (Place.slot []) text).holds (Content.bytes ds) e
+
+-- a pointer's form, and what is found of it, by its bounds
+pub bounds_form : (a : Area) (lo hi : SignedDigits) → is_content (Place.slot []) (bounds_in a lo hi) ≡ true → (is_numeral lo.digits ≡ true) × (is_numeral hi.digits ≡ true)
+bounds_form area.Context lo hi e = both_true (is_numeral lo.digits) (is_numeral hi.digits) e
+bounds_form area.Frame lo hi e = both_true (is_numeral lo.digits) (is_numeral hi.digits) e
+
+pub bounds_found : (a : Area) (lo hi : SignedDigits) → found is_canonical_content is_limited_content (Some (bounds_in a lo hi)) ≡ valued (λ b. bounds_in a b.0 b.1) (found are_plain_bounds are_limited_bounds (Some (lo, hi)))
+bounds_found area.Context lo hi = found_valued (λ b. Content.context b.0 b.1) (are_plain_bounds (lo, hi)) (are_limited_bounds (lo, hi)) (lo, hi)
+bounds_found area.Frame lo hi = found_valued (λ b. Content.frame b.0 b.1) (are_plain_bounds (lo, hi)) (are_limited_bounds (lo, hi)) (lo, hi)
 
 found_some : {A : Type 0} (c l : A → Bool) (o : Option A) (x : A) → found c l o ≡ Ok x → o ≡ Some x
 found_some c l None x e = cc

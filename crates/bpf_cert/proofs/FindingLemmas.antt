@@ -12,6 +12,12 @@ found_tested true true x = refl
 found_tested true false x = refl
 found_tested false b x = refl
 
+-- and what is said of the form is found with the same tests
+pub found_valued : {A B : Type 0} (f : A → B) (a b : Bool) (x : A) → cond (not a) (Err NotCanonical) (cond (not b) (Err Limit) (Ok (f x))) ≡ valued f (cond (not a) (Err NotCanonical) (cond (not b) (Err Limit) (Ok x)))
+found_valued f true true x = refl
+found_valued f true false x = refl
+found_valued f false b x = refl
+
 pub joined_tested : (a b c d : Bool) → joined (tested a b) (tested c d) ≡ tested (a && c) (b && d)
 joined_tested true true c d = refl
 joined_tested true false true true = refl

@@ -135,8 +135,7 @@ registers_limited (suc n) (r ∷ rs) e = let parts = both_true (is_limited_regis
     same : (r : RegState) → is_limited_slot (value_slot r) ≡ is_limited_register r
     same reg.Any = refl
     same (reg.Num n) = refl
-    same (reg.Ctx lo hi) = refl
-    same (reg.Frame lo hi) = refl
+    same (reg.Ptr p) = refl
 
 -- what a state holds: as many contents as there are places, all within their limits
 contents_limited : (s : AbstractState) → is_limited_state s ≡ true → (list_all is_limited_slot (contents s) ≡ true) × (length (contents s) ≡ 74)

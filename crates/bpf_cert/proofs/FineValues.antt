@@ -9,12 +9,13 @@ use Rattle.bpf_cert.specs.Line.{Place}
 use Rattle.bpf_cert.specs.Faults.{is_rising, is_pointer_range, is_canonical_content, is_limited_content, is_plain_place, is_limited_place, is_plain_measure, is_limited_measure, is_limited_term, place_before, place_of as line_place}
 use Rattle.bpf_cert.specs.code.TermSums.{is_plain_term, term_before}
 use Rattle.bpf_cert.specs.Limits.{is_limited_slot, is_limited_place as is_limited_value, is_limited_measure as is_limited_measured, is_limited_term as is_limited_termed, place_before as value_before, place_in, term_before as termed_before}
-use Rattle.bpf_cert.specs.Spelling.{is_unknown, content_of, place_at, place_of, measure_of, term_of}
+use Rattle.bpf_cert.specs.Spelling.{is_unknown, bounds_in, content_of, place_at, place_of, measure_of, term_of}
 use Rattle.bpf_cert.specs.declared.certificate.Term.{Term as TermValue}
 use Rattle.bpf_cert.specs.declared.certificate.Measure.{Measure}
 use Rattle.bpf_cert.specs.declared.certificate.Measure.TheVariants as measure
 use Rattle.bpf_insn.specs.Instruction.{register_number}
-use Rattle.bpf_state.specs.declared.state.Pointer.TheVariants as pointer
+use Rattle.bpf_state.specs.declared.state.Area.{Area}
+use Rattle.bpf_state.specs.declared.state.Area.TheVariants as area
 use Rattle.bpf_state.specs.declared.state.SlotState.{SlotState}
 use Rattle.bpf_state.specs.declared.state.SlotState.TheVariants as slot
 use Rattle.bpf_state.specs.declared.state.Place.{Place as PlaceValue}
@@ -23,20 +24,24 @@ use Rattle.bpf_cert.proofs.Bools.{both_true}
 use Rattle.bpf_cert.proofs.NumLemmas.{in_range}
 use Rattle.bpf_cert.proofs.FineParts.{decimal_writes, digits_write, number_good}
 
-bounds_good : (lo hi : ℤ) → is_pointer_range lo hi ≡ true
+bounds_plain : (lo hi : ℤ) → is_pointer_range lo hi ≡ true
     → ((is_plain_signed (digits_of_int lo) && is_plain_signed (digits_of_int hi)) ≡ true) × (is_pointer_range (signed_number (digits_of_int lo)) (signed_number (digits_of_int hi)) ≡ true)
-bounds_good lo hi e =
+bounds_plain lo hi e =
     let r = in_range (neg_ℤ (pos (2 ^ 31))) (pos (2 ^ 31)) lo hi e in
     let low = r.low in let high = r.high in let low_high = r.low_high in let high_low = r.high_low in
     let a = digits_write lo (omega (arith, ints)) (omega (arith, ints)) in
     let b = digits_write hi (omega (arith, ints)) (omega (arith, ints)) in
     (rw (a.plain, b.plain) refl, rw (a.same, b.same) e)
 
+bounds_good : (a : Area) (lo hi : ℤ) → is_pointer_range lo hi ≡ true
+    → (is_canonical_content (bounds_in a (digits_of_int lo) (digits_of_int hi)) ≡ true) × (is_limited_content (bounds_in a (digits_of_int lo) (digits_of_int hi)) ≡ true)
+bounds_good area.Context lo hi e = bounds_plain lo hi e
+bounds_good area.Frame lo hi e = bounds_plain lo hi e
+
 pub content_good : (s : SlotState) → is_limited_slot s ≡ true → is_unknown s ≡ false → (is_canonical_content (content_of s) ≡ true) × (is_limited_content (content_of s) ≡ true)
 content_good (slot.Bytes m) e some = let few : m ≤ 254 = leb-true m 254 e in let d = decimal_writes m (omega arith) in (rw (d.plain, d.same, some) refl, rw d.same e)
 content_good (slot.Word n) e some = number_good n e
-content_good (slot.Ptr (pointer.Ctx lo hi)) e some = bounds_good lo hi e
-content_good (slot.Ptr (pointer.Frame lo hi)) e some = bounds_good lo hi e
+content_good (slot.Spilled p) e some = bounds_good p.area p.lo p.hi e
 
 pub place_good : (p : PlaceValue) → is_limited_value p ≡ true → (is_plain_place (place_of p) ≡ true) × (is_limited_place (place_of p) ≡ true)
 place_good (place.Register r) e = let few : register_number r ≤ 9 = leb-true (register_number r) 9 e in let d = decimal_writes (register_number r) (omega arith) in (d.plain, rw d.same e)

@@ -1,9 +1,8 @@
 -- What the entries of a label say, back as its state.
-use Rattle.std.proofs.Common.{◌≡◌, ℕ, zero, suc, ◌+◌, ◌-◌, ◌<◌, ◌≤◌, Bool, true, false, cond, eqb, ltb, List, [], ◌∷◌, ◌++◌, length, map, take, drop, Option, Some, None, refl, sym, ap, ap₂, subst, ◌∙◌, arith, length-append, pos}
+use Rattle.std.proofs.Common.{◌≡◌, ℕ, zero, suc, ◌+◌, ◌-◌, ◌<◌, ◌≤◌, Bool, true, false, cond, eqb, ltb, List, [], ◌∷◌, ◌++◌, length, map, take, drop, Option, Some, None, refl, sym, ap, ap₂, subst, ◌∙◌, arith, length-append}
 use Rattle.std.specs.Prelude.{◌&&◌, decimal, is_none, ◌==◌, if◌then◌else◌}
 use Rattle.std.specs.List.{list_all}
 use Rattle.std.proofs.lemmas.Bool.{ltb-false, eqb-true, ne_eqb}
-use Rattle.std.proofs.lemmas.Int.{ints}
 use Rattle.std.proofs.lemmas.List.{take_at, drop_at, drop_more, at_drop_all, take-append-drop, length-map, length-take-le}
 use Rattle.std.proofs.lemmas.List.Folds.{list_all-append}
 use Rattle.bpf_insn.specs.declared.instruction.Reg.TheVariants.{R10}
@@ -11,13 +10,15 @@ use Rattle.bpf_state.specs.declared.state.RegState.{RegState}
 use Rattle.bpf_state.specs.declared.state.RegState.TheVariants as reg
 use Rattle.bpf_state.specs.declared.state.SlotState.{SlotState}
 use Rattle.bpf_state.specs.declared.state.SlotState.TheVariants as slot
+use Rattle.bpf_state.specs.declared.state.Area.TheVariants as area
 use Rattle.bpf_state.specs.declared.state.Tag.{Tag}
-use Rattle.bpf_state.specs.State.{AbstractState, register, value_slot, slot_value, no_tags}
+use Rattle.bpf_state.specs.State.{AbstractState, register, value_slot, slot_value, start_of, no_tags}
 use Rattle.bpf_cert.specs.Numeral.{number}
 use Rattle.bpf_cert.specs.Line.{Line, Place as PlaceText}
 use Rattle.bpf_cert.specs.Limits.{is_limited_register, is_limited_slot, is_limited_state, is_canonical_state, is_frame_end, has_shape}
 use Rattle.bpf_cert.specs.Spelling.{content_of, is_unknown, place_at, contents, lines_from}
 use Rattle.bpf_cert.proofs.Bools.{both_true}
+use Rattle.bpf_cert.proofs.BareStates.{frame_end}
 use Rattle.bpf_cert.proofs.LineValues.{number_again, content_said, content_again}
 
 -- the number of a place among those that have lines
@@ -53,7 +54,7 @@ no_entry n j k (s ∷ ss) before few = by_test (is_unknown s) (no_entry n j (k +
 unknown_is : (s : SlotState) → is_unknown s ≡ true → slot.Bytes 0 ≡ s
 unknown_is (slot.Bytes m) e = ap slot.Bytes (sym (eqb-true m 0 e))
 unknown_is (slot.Word n) e = cc
-unknown_is (slot.Ptr p) e = cc
+unknown_is (slot.Spilled p) e = cc
 
 places_again : (j : ℕ) (ss : List SlotState) → j + length ss ≤ 74 → list_all is_limited_slot ss ≡ true → contents_said (length ss) j (lines_from j ss) ≡ ss
 places_again j [] few e = refl
@@ -73,23 +74,16 @@ values_again (r ∷ rs) = ap₂ ◌∷◌ (value_again r) (values_again rs)
     value_again : (r : RegState) → slot_value (value_slot r) ≡ r
     value_again reg.Any = refl
     value_again (reg.Num n) = refl
-    value_again (reg.Ctx lo hi) = refl
-    value_again (reg.Frame lo hi) = refl
+    value_again (reg.Ptr p) = refl
 
 abbrev pub state_said : List SlotState → AbstractState
 state_said cs =
     record {
-      registers = map slot_value (take 10 cs) ++ reg.Frame (pos 0) (pos 0) ∷ [];
+      registers = map slot_value (take 10 cs) ++ reg.Ptr (start_of area.Frame) ∷ [];
       slots = drop 10 cs;
       register_tags = no_tags 11;
       slot_tags = no_tags 64;
     }
-
-frame_end : (v : RegState) → is_frame_end v ≡ true → v ≡ reg.Frame (pos 0) (pos 0)
-frame_end reg.Any e = cc
-frame_end (reg.Num n) e = cc
-frame_end (reg.Ctx lo hi) e = cc
-frame_end (reg.Frame lo hi) e = ap₂ reg.Frame (grind (arith, ints)) (grind (arith, ints))
 
 no_tag : (ts : List (Option Tag)) → list_all is_none ts ≡ true → ts ≡ no_tags (length ts)
 no_tag [] e = refl
@@ -100,7 +94,7 @@ no_tag (Some t ∷ ts) e = cc
 record HasForm (s : AbstractState) : Type 0 where
   registers : length s.registers ≡ 11
   slots : length s.slots ≡ 64
-  last : s.registers ≡ take 10 s.registers ++ reg.Frame (pos 0) (pos 0) ∷ []
+  last : s.registers ≡ take 10 s.registers ++ reg.Ptr (start_of area.Frame) ∷ []
   register_tags : s.register_tags ≡ no_tags 11
   slot_tags : s.slot_tags ≡ no_tags 64
 
@@ -128,7 +122,7 @@ state_again : (s : AbstractState) → HasForm s → state_said (contents s) ≡ 
 state_again s f =
     let front = take_at (map value_slot (take 10 s.registers)) s.slots 10 (ten s f) in
     let back = drop_at (map value_slot (take 10 s.registers)) s.slots 10 (ten s f) in
-    let registers = ap (λ rs. map slot_value rs ++ reg.Frame (pos 0) (pos 0) ∷ []) front ∙ ap (λ rs. rs ++ reg.Frame (pos 0) (pos 0) ∷ []) (values_again (take 10 s.registers)) ∙ sym f.last in
+    let registers = ap (λ rs. map slot_value rs ++ reg.Ptr (start_of area.Frame) ∷ []) front ∙ ap (λ rs. rs ++ reg.Ptr (start_of area.Frame) ∷ []) (values_again (take 10 s.registers)) ∙ sym f.last in
     ap (λ rs. record (state_said (contents s)) { registers = rs }) registers
     ∙ ap (λ ks. record { registers = s.registers; slots = ks; register_tags = no_tags 11; slot_tags = no_tags 64 }) back
     ∙ ap (λ ts. record { registers = s.registers; slots = s.slots; register_tags = ts; slot_tags = no_tags 64 }) (sym f.register_tags)
@@ -142,8 +136,7 @@ limited_values (suc n) (r ∷ rs) e = let parts = both_true (is_limited_register
     limited_value : (r : RegState) → is_limited_register r ≡ true → is_limited_slot (value_slot r) ≡ true
     limited_value reg.Any e = refl
     limited_value (reg.Num n) e = e
-    limited_value (reg.Ctx lo hi) e = e
-    limited_value (reg.Frame lo hi) e = e
+    limited_value (reg.Ptr p) e = e
 
 -- the state of a label, from the lines of its places
 pub entries_again : (s : AbstractState) → is_canonical_state s ≡ true → is_limited_state s ≡ true → state_said (contents_said 74 0 (lines_from 0 (contents s))) ≡ s

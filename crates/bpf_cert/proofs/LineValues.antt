@@ -8,15 +8,17 @@ use Rattle.bpf_num.specs.Tristate.{Tristate, tristate, bits_top}
 use Rattle.bpf_num.specs.Interval.{Interval, interval, unsigned_top}
 use Rattle.bpf_num.specs.SignedInterval.{SignedInterval, signed_interval, signed_top}
 use Rattle.bpf_num.specs.Number.{Number as NumberValue, number as number_of_parts, top}
-use Rattle.bpf_cert.specs.Numeral.{number, signed_number, digits_of_int, int_eq, is_from_to}
+use Rattle.bpf_cert.specs.Numeral.{SignedDigits, number, signed_number, digits_of_int, int_eq, is_from_to}
 use Rattle.bpf_cert.specs.Line.{Part, Number, Content, Place as PlaceText, Measure as MeasureText, Term as TermText}
 use Rattle.bpf_cert.specs.Faults.{is_range, is_int_range, is_pointer_range, is_bits}
 use Rattle.bpf_cert.specs.Limits.{is_limited_num, is_limited_slot, is_limited_place, is_limited_measure, is_limited_term}
-use Rattle.bpf_cert.specs.Spelling.{unsigned_parts, signed_parts, bits_parts, of_parts, number_of, content_of, place_of, measure_of, term_of}
+use Rattle.bpf_cert.specs.Spelling.{unsigned_parts, signed_parts, bits_parts, of_parts, number_of, bounds_in, content_of, place_of, measure_of, term_of}
 use Rattle.bpf_cert.specs.declared.certificate.Measure.{Measure}
 use Rattle.bpf_cert.specs.declared.certificate.Measure.TheVariants as measure
 use Rattle.bpf_cert.specs.declared.certificate.Term.{Term}
-use Rattle.bpf_state.specs.declared.state.Pointer.TheVariants as pointer
+use Rattle.bpf_state.specs.declared.state.Area.{Area}
+use Rattle.bpf_state.specs.declared.state.Area.TheVariants as area
+use Rattle.bpf_state.specs.declared.state.Pointer.{Pointer}
 use Rattle.bpf_state.specs.declared.state.SlotState.{SlotState}
 use Rattle.bpf_state.specs.declared.state.SlotState.TheVariants as slot
 use Rattle.bpf_state.specs.declared.state.Place.{Place}
@@ -146,10 +148,13 @@ num_again n e =
 
 -- contents
 
+abbrev pub pointer_to : Area → ℤ → ℤ → Pointer
+pointer_to a lo hi = record { area = a; lo = lo; hi = hi }
+
 abbrev pub content_said : Content → SlotState
 content_said (Content.number n) = slot.Word (number_said n)
-content_said (Content.context lo hi) = slot.Ptr (pointer.Ctx (signed_number lo) (signed_number hi))
-content_said (Content.frame lo hi) = slot.Ptr (pointer.Frame (signed_number lo) (signed_number hi))
+content_said (Content.context lo hi) = slot.Spilled (pointer_to area.Context (signed_number lo) (signed_number hi))
+content_said (Content.frame lo hi) = slot.Spilled (pointer_to area.Frame (signed_number lo) (signed_number hi))
 content_said (Content.bytes mask) = slot.Bytes (number mask)
 content_said Content.any = slot.Bytes 0
 
@@ -157,11 +162,14 @@ bounds_again : (lo hi : ℤ) → is_pointer_range lo hi ≡ true → (signed_num
 bounds_again lo hi e = let r = in_range (neg_ℤ (pos (2 ^ 31))) (pos (2 ^ 31)) lo hi e in let low = r.low in let high = r.high in let low_high = r.low_high in let high_low = r.high_low in
     (int_again lo (omega (arith, ints)) (omega (arith, ints)), int_again hi (omega (arith, ints)) (omega (arith, ints)))
 
+bounds_said : (a : Area) (lo hi : SignedDigits) → content_said (bounds_in a lo hi) ≡ slot.Spilled (pointer_to a (signed_number lo) (signed_number hi))
+bounds_said area.Context lo hi = refl
+bounds_said area.Frame lo hi = refl
+
 pub content_again : (s : SlotState) → is_limited_slot s ≡ true → content_said (content_of s) ≡ s
 content_again (slot.Bytes m) e = let few : m ≤ 254 = leb-true m 254 e in ap slot.Bytes (number_again m (omega arith))
 content_again (slot.Word n) e = ap slot.Word (num_again n e)
-content_again (slot.Ptr (pointer.Ctx lo hi)) e = let b = bounds_again lo hi e in ap slot.Ptr (ap₂ pointer.Ctx b.0 b.1)
-content_again (slot.Ptr (pointer.Frame lo hi)) e = let b = bounds_again lo hi e in ap slot.Ptr (ap₂ pointer.Frame b.0 b.1)
+content_again (slot.Spilled p) e = let b = bounds_again p.lo p.hi e in bounds_said p.area (digits_of_int p.lo) (digits_of_int p.hi) ∙ ap slot.Spilled (ap₂ (pointer_to p.area) b.0 b.1)
 
 -- places and terms
 

@@ -1,12 +1,12 @@
 -- The state that contents of places say holds them again.
-use Rattle.std.proofs.Common.{◌≡◌, ℕ, zero, suc, ◌+◌, ◌<◌, ◌≤◌, true, List, [], ◌∷◌, ◌++◌, length, get_or, map, take, drop, refl, ap, ap₂, ◌∙◌, arith, pos, length-append}
+use Rattle.std.proofs.Common.{◌≡◌, ℕ, zero, suc, ◌+◌, ◌<◌, ◌≤◌, true, List, [], ◌∷◌, ◌++◌, length, get_or, map, take, drop, refl, ap, ap₂, ◌∙◌, arith, length-append}
 use Rattle.std.specs.List.{list_all}
 use Rattle.std.proofs.lemmas.List.{take_at, take-append-drop, length-map, length-take-le, length-drop, get_or-append_right}
 use Rattle.std.proofs.lemmas.List.Folds.{list_all-append}
-use Rattle.bpf_state.specs.State.{value_slot, slot_value}
+use Rattle.bpf_state.specs.State.{value_slot, slot_value, start_of}
 use Rattle.bpf_state.specs.declared.state.RegState.{RegState}
 use Rattle.bpf_state.specs.declared.state.RegState.TheVariants as reg
-use Rattle.bpf_state.specs.declared.state.Pointer.TheVariants as pointer
+use Rattle.bpf_state.specs.declared.state.Area.TheVariants as area
 use Rattle.bpf_state.specs.declared.state.SlotState.{SlotState}
 use Rattle.bpf_state.specs.declared.state.SlotState.TheVariants as slot
 use Rattle.bpf_cert.specs.Limits.{is_canonical_state, is_limited_state, is_limited_register, is_limited_slot}
@@ -31,8 +31,7 @@ registers_kept (suc n) j (c ∷ cs) few h = ap₂ ◌∷◌ (h.0 (omega arith)) 
 register_limited : (c : SlotState) → is_limited_slot c ≡ true → is_limited_register (slot_value c) ≡ true
 register_limited (slot.Bytes m) e = refl
 register_limited (slot.Word n) e = e
-register_limited (slot.Ptr (pointer.Ctx lo hi)) e = e
-register_limited (slot.Ptr (pointer.Frame lo hi)) e = e
+register_limited (slot.Spilled p) e = e
 
 registers_limited : (n : ℕ) (cs : List SlotState) → list_all is_limited_slot cs ≡ true → list_all is_limited_register (map slot_value (take n cs)) ≡ true
 registers_limited zero cs e = refl
@@ -45,7 +44,7 @@ slots_limited (suc n) [] e = refl
 slots_limited (suc n) (c ∷ cs) e = slots_limited n cs (both_true (is_limited_slot c) (list_all is_limited_slot cs) e).1
 
 abbrev frame_end : List RegState
-frame_end = reg.Frame (pos 0) (pos 0) ∷ []
+frame_end = reg.Ptr (start_of area.Frame) ∷ []
 
 ten : (cs : List SlotState) → length cs ≡ 74 → length (map slot_value (take 10 cs)) ≡ 10
 ten cs long = length-map (take 10 cs) slot_value ∙ length-take-le 10 cs (omega arith)
@@ -60,7 +59,7 @@ state_kept cs long held limited =
     let front = map slot_value (take 10 cs) in
     let eleven : length (front ++ frame_end) ≡ 11 = length-append front frame_end ∙ ap (λ n. n + 1) (ten cs long) in
     let all : length (drop 10 cs) ≡ 64 = length-drop 10 cs ∙ omega arith in
-    let last : get_or (front ++ frame_end) 10 reg.Any ≡ reg.Frame (pos 0) (pos 0) = get_or-append_right front frame_end 10 10 reg.Any (ten cs long) (omega arith) in
+    let last : get_or (front ++ frame_end) 10 reg.Any ≡ reg.Ptr (start_of area.Frame) = get_or-append_right front frame_end 10 10 reg.Any (ten cs long) (omega arith) in
     let registers : list_all is_limited_register (front ++ frame_end) ≡ true = list_all-append is_limited_register front frame_end ∙ rw (registers_limited 10 cs limited) refl in
     record {
       same = ap (λ rs. map value_slot rs ++ drop 10 cs) (take_at front frame_end 10 (ten cs long)) ∙ ap (λ rs. rs ++ drop 10 cs) (registers_kept 10 0 cs (omega arith) held) ∙ take-append-drop 10 cs;

@@ -23,8 +23,7 @@ all_set p (x ∷ xs) (suc i) v e f = let parts = both_true (p x) (list_all p xs)
 limited_value : (v : RegState) → is_limited_slot (value_slot v) ≡ is_limited_register v
 limited_value reg.Any = refl
 limited_value (reg.Num n) = refl
-limited_value (reg.Ctx lo hi) = refl
-limited_value (reg.Frame lo hi) = refl
+limited_value (reg.Ptr p) = refl
 
 pub blank_state : IsLabelState blank
 blank_state = record { canonical = refl; limited = refl }

@@ -10,13 +10,14 @@ use Rattle.bpf_insn.specs.declared.instruction.Reg.TheVariants.{R6, R7}
 use Rattle.bpf_num.specs.Number.{Number}
 use Rattle.bpf_state.specs.declared.state.RegState.{RegState}
 use Rattle.bpf_state.specs.declared.state.RegState.TheVariants as reg
-use Rattle.bpf_state.specs.declared.state.Pointer.TheVariants as pointer
+use Rattle.bpf_state.specs.declared.state.Area.TheVariants as area
 use Rattle.bpf_state.specs.declared.state.SlotState.{SlotState}
 use Rattle.bpf_state.specs.declared.state.SlotState.TheVariants as slot
-use Rattle.bpf_state.specs.State.{AbstractState}
+use Rattle.bpf_state.specs.State.{AbstractState, start_of}
 use Rattle.bpf_cert.specs.declared.certificate.Term.{Term}
 use Rattle.bpf_state.specs.declared.state.Place.TheVariants as place
 use Rattle.bpf_cert.specs.declared.certificate.Measure.TheVariants as measure
+use Rattle.bpf_cert.proofs.LineValues.{pointer_to}
 
 abbrev lines : List (List ℕ) → List ℕ
 lines [] = []
@@ -30,7 +31,7 @@ top = from_to 0 (2 ^ 64 - 1)
 
 -- a state with these registers from r0 on
 abbrev state : List RegState → List SlotState → AbstractState
-state rs ss = record { registers = rs ++ reg.Frame (pos 0) (pos 0) ∷ []; slots = ss; register_tags = replicate 11 None; slot_tags = replicate 64 None }
+state rs ss = record { registers = rs ++ reg.Ptr (start_of area.Frame) ∷ []; slots = ss; register_tags = replicate 11 None; slot_tags = replicate 64 None }
 
 abbrev nothing : AbstractState
 nothing = state (replicate 10 reg.Any) (replicate 64 (slot.Bytes 0))
@@ -98,8 +99,8 @@ mixed = record {
               slot = 65535;
               base = 1099511627776;
               terms = record { weight = 1048576; measure = measure.Up (place.Slot 64) 18446744073709551615 } ∷ [];
-              state = state (set (set (set (replicate 10 reg.Any) 0 (reg.Num top)) 1 (reg.Ctx (pos 0) (pos 12))) 9 (reg.Frame (negsuc 511) (pos 0)))
-                  (set (set (set (replicate 64 (slot.Bytes 0)) 0 (slot.Bytes 254)) 1 (slot.Word (from_to 5 5))) 63 (slot.Ptr (pointer.Frame (negsuc 7) (negsuc 7))));
+              state = state (set (set (set (replicate 10 reg.Any) 0 (reg.Num top)) 1 (reg.Ptr (pointer_to area.Context (pos 0) (pos 12)))) 9 (reg.Ptr (pointer_to area.Frame (negsuc 511) (pos 0))))
+                  (set (set (set (replicate 64 (slot.Bytes 0)) 0 (slot.Bytes 254)) 1 (slot.Word (from_to 5 5))) 63 (slot.Spilled (pointer_to area.Frame (negsuc 7) (negsuc 7))));
             } ∷ [];
       } ∷ [];
 }

@@ -12,7 +12,6 @@ use Rattle.bpf_cert.specs.Limits.{is_canonical, is_limited, is_limited_header, i
 use Rattle.bpf_state.specs.State.{AbstractState, value_slot}
 use Rattle.bpf_state.specs.declared.state.RegState.{RegState}
 use Rattle.bpf_state.specs.declared.state.RegState.TheVariants as reg
-use Rattle.bpf_state.specs.declared.state.Pointer.TheVariants as pointer
 use Rattle.bpf_state.specs.declared.state.SlotState.{SlotState}
 use Rattle.bpf_state.specs.declared.state.SlotState.TheVariants as slot
 use Rattle.bpf_cert.proofs.Bools.{both_true}
@@ -48,15 +47,12 @@ at_slot j high = rw (le-ltb j 10 high) refl
 register_entry : (j : ℕ) (r : RegState) → j < 10 → is_limited_register r ≡ true → AreWritten (entry_lines (place_at j) (value_slot r))
 register_entry j reg.Any low e = tt
 register_entry j (reg.Num n) low e = rw (at_register j low) (entry_written (PlaceText.register (decimal j)) (slot.Word n) (register_short j (omega arith)) (word_short (PlaceText.register (decimal j)) n e), tt)
-register_entry j (reg.Ctx lo hi) low e =
-    rw (at_register j low) (entry_written (PlaceText.register (decimal j)) (slot.Ptr (pointer.Ctx lo hi)) (register_short j (omega arith)) (pointer_short (PlaceText.register (decimal j)) (pointer.Ctx lo hi) e), tt)
-register_entry j (reg.Frame lo hi) low e =
-    rw (at_register j low) (entry_written (PlaceText.register (decimal j)) (slot.Ptr (pointer.Frame lo hi)) (register_short j (omega arith)) (pointer_short (PlaceText.register (decimal j)) (pointer.Frame lo hi) e), tt)
+register_entry j (reg.Ptr q) low e = rw (at_register j low) (entry_written (PlaceText.register (decimal j)) (slot.Spilled q) (register_short j (omega arith)) (pointer_short (PlaceText.register (decimal j)) q e), tt)
 
 slot_content : (k : List ℕ) (s : SlotState) → is_limited_slot s ≡ true → IsContentShort (PlaceText.slot k) (content_of s)
 slot_content k (slot.Bytes m) e = bytes_short k m e
 slot_content k (slot.Word n) e = word_short (PlaceText.slot k) n e
-slot_content k (slot.Ptr q) e = pointer_short (PlaceText.slot k) q e
+slot_content k (slot.Spilled q) e = pointer_short (PlaceText.slot k) q e
 
 unless_unknown : (b : Bool) (l : Line) → IsWritten l → AreWritten (cond b [] (l ∷ []))
 unless_unknown true l w = tt

@@ -12,14 +12,15 @@ use Rattle.bpf_cert.specs.Numeral.{is_decimal_digit, is_numeral, digits_of_int, 
 use Rattle.bpf_cert.specs.Line.{Part, Number, Content, Place as PlaceText, Measure as MeasureText, Term as TermText, signed_text, range_text, part_text, number_text, content_text, place_text, measure_text, term_text, is_part, is_number, is_content, is_place, is_measure, is_term}
 use Rattle.bpf_cert.specs.Faults.{is_int_range, is_range, is_bits}
 use Rattle.bpf_cert.specs.Limits.{is_limited_num, is_limited_place, is_limited_measure, is_limited_term, is_limited_pointer}
-use Rattle.bpf_cert.specs.Spelling.{unsigned_parts, signed_parts, bits_parts, of_parts, number_of, place_of, measure_of, term_of, content_of}
+use Rattle.bpf_cert.specs.Spelling.{unsigned_parts, signed_parts, bits_parts, of_parts, number_of, place_of, measure_of, term_of, bounds_in, content_of}
 use Rattle.bpf_cert.specs.code.Sums.{least, greatest}
 use Rattle.bpf_num.specs.Interval.{Interval}
 use Rattle.bpf_num.specs.SignedInterval.{SignedInterval}
 use Rattle.bpf_num.specs.Tristate.{Tristate}
 use Rattle.bpf_num.specs.Number.{Number as AbstractNumber}
 use Rattle.bpf_state.specs.declared.state.Pointer.{Pointer}
-use Rattle.bpf_state.specs.declared.state.Pointer.TheVariants as pointer
+use Rattle.bpf_state.specs.declared.state.Area.{Area}
+use Rattle.bpf_state.specs.declared.state.Area.TheVariants as area
 use Rattle.bpf_state.specs.declared.state.SlotState.TheVariants as slot
 use Rattle.bpf_state.specs.declared.state.Place.{Place}
 use Rattle.bpf_state.specs.declared.state.Place.TheVariants as place
@@ -279,15 +280,18 @@ word_short p n e = let s = number_short n e in record { form = s.form; fits = s.
 pointers : AreBounds (neg_ℤ (pos (2 ^ 31))) (pos (2 ^ 31))
 pointers = record { low = omega (arith, ints); high = omega (arith, ints) }
 
-pub pointer_short : (p : PlaceText) (q : Pointer) → is_limited_pointer q ≡ true → IsContentShort p (content_of (slot.Ptr q))
-pointer_short p (pointer.Ctx lo hi) e =
-    let s = bounds_short (neg_ℤ (pos (2 ^ 31))) (pos (2 ^ 31)) lo hi pointers e in
-    let text = range_text (signed_text (digits_of_int lo)) (signed_text (digits_of_int hi)) in
-    record { form = both s.low s.high; fits = fits_more 47 137 (codes "ctx" ++ text) (omega arith) (fits_append 3 44 (codes "ctx") text (fits_word (codes "ctx") refl) s.fits) }
-pointer_short p (pointer.Frame lo hi) e =
-    let s = bounds_short (neg_ℤ (pos (2 ^ 31))) (pos (2 ^ 31)) lo hi pointers e in
-    let text = range_text (signed_text (digits_of_int lo)) (signed_text (digits_of_int hi)) in
-    record { form = both s.low s.high; fits = fits_more 46 137 (codes "fp" ++ text) (omega arith) (fits_append 2 44 (codes "fp") text (fits_word (codes "fp") refl) s.fits) }
+bounds_text : (a : Area) (p : PlaceText) (lo hi : SignedDigits) → (is_numeral lo.digits && is_numeral hi.digits) ≡ true → Fits 44 (range_text (signed_text lo) (signed_text hi)) → IsContentShort p (bounds_in a lo hi)
+bounds_text area.Context p lo hi e f =
+    let text = range_text (signed_text lo) (signed_text hi) in
+    record { form = e; fits = fits_more 47 137 (codes "ctx" ++ text) (omega arith) (fits_append 3 44 (codes "ctx") text (fits_word (codes "ctx") refl) f) }
+bounds_text area.Frame p lo hi e f =
+    let text = range_text (signed_text lo) (signed_text hi) in
+    record { form = e; fits = fits_more 46 137 (codes "fp" ++ text) (omega arith) (fits_append 2 44 (codes "fp") text (fits_word (codes "fp") refl) f) }
+
+pub pointer_short : (p : PlaceText) (q : Pointer) → is_limited_pointer q ≡ true → IsContentShort p (content_of (slot.Spilled q))
+pointer_short p q e =
+    let s = bounds_short (neg_ℤ (pos (2 ^ 31))) (pos (2 ^ 31)) q.lo q.hi pointers e in
+    bounds_text q.area p (digits_of_int q.lo) (digits_of_int q.hi) (both s.low s.high) s.fits
 
 pub bytes_short : (k : List ℕ) (m : ℕ) → leb m 254 ≡ true → IsContentShort (PlaceText.slot k) (content_of (slot.Bytes m))
 bytes_short k m e =

@@ -9,11 +9,10 @@ use Rattle.bpf_num.specs.Number.{Number as AbstractNumber}
 use Rattle.bpf_state.specs.declared.state.RegState.{RegState}
 use Rattle.bpf_state.specs.declared.state.RegState.TheVariants as reg
 use Rattle.bpf_state.specs.declared.state.Pointer.{Pointer}
-use Rattle.bpf_state.specs.declared.state.Pointer.TheVariants as pointer
 use Rattle.bpf_state.specs.declared.state.SlotState.{SlotState}
 use Rattle.bpf_state.specs.declared.state.SlotState.TheVariants as slot
 use Rattle.bpf_insn.specs.declared.instruction.Reg.TheVariants.{R10}
-use Rattle.bpf_state.specs.State.{AbstractState, register}
+use Rattle.bpf_state.specs.State.{AbstractState, register, is_frame}
 use Rattle.bpf_state.specs.declared.state.Place.{Place}
 use Rattle.bpf_state.specs.declared.state.Place.TheVariants as place
 use Rattle.bpf_cert.specs.declared.certificate.Measure.{Measure}
@@ -38,7 +37,7 @@ place_in (measure.Up p limit) = p
 
 -- the end of the function's own frame
 abbrev pub is_frame_end : RegState → Bool
-is_frame_end (reg.Frame lo hi) = int_eq lo (pos 0) && int_eq hi (pos 0)
+is_frame_end (reg.Ptr p) = is_frame p.area && int_eq p.lo (pos 0) && int_eq p.hi (pos 0)
 is_frame_end _ = false
 
 abbrev pub is_canonical_state : AbstractState → Bool
@@ -72,20 +71,18 @@ is_limited_num n = is_range n.unsigned.lo n.unsigned.hi
     && is_int_range (neg_ℤ (pos (2 ^ 63))) (pos (2 ^ 63 - 1)) n.signed.lo n.signed.hi
     && is_bits n.bits.value n.bits.mask
 
+abbrev pub is_limited_pointer : Pointer → Bool
+is_limited_pointer p = is_pointer_range p.lo p.hi
+
 abbrev pub is_limited_register : RegState → Bool
 is_limited_register reg.Any = true
 is_limited_register (reg.Num n) = is_limited_num n
-is_limited_register (reg.Ctx lo hi) = is_pointer_range lo hi
-is_limited_register (reg.Frame lo hi) = is_pointer_range lo hi
-
-abbrev pub is_limited_pointer : Pointer → Bool
-is_limited_pointer (pointer.Ctx lo hi) = is_pointer_range lo hi
-is_limited_pointer (pointer.Frame lo hi) = is_pointer_range lo hi
+is_limited_register (reg.Ptr p) = is_limited_pointer p
 
 abbrev pub is_limited_slot : SlotState → Bool
 is_limited_slot (slot.Bytes m) = nat_le m 254
 is_limited_slot (slot.Word n) = is_limited_num n
-is_limited_slot (slot.Ptr p) = is_limited_pointer p
+is_limited_slot (slot.Spilled p) = is_limited_pointer p
 
 -- eleven registers and sixty-four slots, each with a tag or none
 abbrev pub has_shape : AbstractState → Bool

@@ -1,13 +1,14 @@
 -- The one text of a certificate: its lines in their order, each in its one spelling, and LF behind each.
 use Rattle.std.specs.Prelude.{ℕ, ◌+◌, nat_lt, Bool, false, ◌-◌, ◌^◌, ◌&&◌, List, [], ◌∷◌, ◌++◌, map, flat_map, take, pos, neg_ℤ, ◌==◌, decimal, if◌then◌else◌}
-use Rattle.bpf_cert.specs.Numeral.{digits_of_int, int_eq}
+use Rattle.bpf_cert.specs.Numeral.{SignedDigits, digits_of_int, int_eq}
 use Rattle.bpf_cert.specs.Line.{Part, Number, Content, Place as PlaceText, Measure as MeasureText, Term as TermText, Lengths, Line, line_text}
 use Rattle.bpf_num.specs.Tristate.{Tristate}
 use Rattle.bpf_num.specs.Interval.{Interval}
 use Rattle.bpf_num.specs.SignedInterval.{SignedInterval}
 use Rattle.bpf_num.specs.Number.{Number as AbstractNumber}
 use Rattle.bpf_state.specs.State.{AbstractState, value_slot}
-use Rattle.bpf_state.specs.declared.state.Pointer.TheVariants as pointer
+use Rattle.bpf_state.specs.declared.state.Area.{Area}
+use Rattle.bpf_state.specs.declared.state.Area.TheVariants as area
 use Rattle.bpf_state.specs.declared.state.SlotState.{SlotState}
 use Rattle.bpf_state.specs.declared.state.SlotState.TheVariants as slot
 use Rattle.bpf_state.specs.declared.state.Place.{Place}
@@ -36,12 +37,16 @@ of_parts (p ∷ ps) = Number.parts (p ∷ ps)
 abbrev pub number_of : AbstractNumber → Number
 number_of n = of_parts (unsigned_parts n.unsigned ++ signed_parts n.signed ++ bits_parts n.bits)
 
+-- a pointer is spelled by what it points into
+abbrev pub bounds_in : Area → SignedDigits → SignedDigits → Content
+bounds_in area.Context lo hi = Content.context lo hi
+bounds_in area.Frame lo hi = Content.frame lo hi
+
 -- what the line of a place says
 abbrev pub content_of : SlotState → Content
 content_of (slot.Bytes m) = Content.bytes (decimal m)
 content_of (slot.Word n) = Content.number (number_of n)
-content_of (slot.Ptr (pointer.Ctx lo hi)) = Content.context (digits_of_int lo) (digits_of_int hi)
-content_of (slot.Ptr (pointer.Frame lo hi)) = Content.frame (digits_of_int lo) (digits_of_int hi)
+content_of (slot.Spilled p) = bounds_in p.area (digits_of_int p.lo) (digits_of_int p.hi)
 
 -- nothing is known of the place
 abbrev pub is_unknown : SlotState → Bool

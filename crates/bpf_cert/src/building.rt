@@ -16,7 +16,7 @@ use crate::header::Header;
 use crate::standing::{LineValue, Stage, Standing};
 use arrayvec::ArrayVec;
 use bpf_num::Num;
-use bpf_state::{Entries, Place, Pointer, RegState, SlotState};
+use bpf_state::{Entries, Place, RegState, SlotState};
 use std::alloc::{AllocError, Global};
 use std::mem;
 
@@ -42,10 +42,7 @@ fn register_value(content: SlotState) -> RegState
 {
     match content {
         SlotState::Word(number) => RegState::Num(number),
-        SlotState::Ptr(pointer) => match pointer {
-            Pointer::Ctx { lo, hi } => RegState::Ctx { lo, hi },
-            Pointer::Frame { lo, hi } => RegState::Frame { lo, hi },
-        },
+        SlotState::Spilled(pointer) => RegState::Ptr(pointer),
         SlotState::Bytes(_) => RegState::Any,
     }
 }

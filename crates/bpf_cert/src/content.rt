@@ -16,13 +16,14 @@ use crate::num::{are_plain_signed, is_int_range, narrow, number_in, says_some, s
 use crate::number::{SignedForm, is_numeral, is_plain, number};
 use crate::part::signed_range;
 use crate::place::PlaceForm;
-use bpf_state::{Pointer, SlotState};
+use bpf_state::{Area, Pointer, SlotState};
 
-/// A pointer by the bounds of its offset.
+/// A pointer by what it points into and the bounds of its offset.
 #[derive(Clone, Copy)]
-pub enum PointerForm<'a> {
-    Context(SignedForm<'a>, SignedForm<'a>),
-    Frame(SignedForm<'a>, SignedForm<'a>),
+pub struct PointerForm<'a> {
+    pub area: Area,
+    pub low: SignedForm<'a>,
+    pub high: SignedForm<'a>,
 }
 
 fn pointer(text: &[u8]) -> Option<PointerForm<'_>>
@@ -30,12 +31,20 @@ fn pointer(text: &[u8]) -> Option<PointerForm<'_>>
 {
     if let Some(range) = behind(text, b"ctx") {
         if let Some((low, high)) = signed_range(range) {
-            return Some(PointerForm::Context(low, high));
+            return Some(PointerForm {
+                area: Area::Context,
+                low,
+                high,
+            });
         }
     }
     let range = behind(text, b"fp")?;
     let (low, high) = signed_range(range)?;
-    Some(PointerForm::Frame(low, high))
+    Some(PointerForm {
+        area: Area::Frame,
+        low,
+        high,
+    })
 }
 
 // The digits of the mask of a slot's bytes.
@@ -78,15 +87,10 @@ fn pointer_value(form: PointerForm<'_>) -> Result<SlotState, Flaw>
     ensures value { valued content_of result ≡ found is_canonical_content is_limited_content (Some (pointer_seen form.entry)) }
     ensures kept { IfOk result IsContent }
 {
-    match form {
-        PointerForm::Context(low, high) => match bounds(low, high) {
-            Ok((lo, hi)) => Ok(SlotState::Ptr(Pointer::Ctx { lo, hi })),
-            Err(flaw) => Err(flaw),
-        },
-        PointerForm::Frame(low, high) => match bounds(low, high) {
-            Ok((lo, hi)) => Ok(SlotState::Ptr(Pointer::Frame { lo, hi })),
-            Err(flaw) => Err(flaw),
-        },
+    let area = form.area;
+    match bounds(form.low, form.high) {
+        Ok((lo, hi)) => Ok(SlotState::Spilled(Pointer { area, lo, hi })),
+        Err(flaw) => Err(flaw),
     }
 }
 

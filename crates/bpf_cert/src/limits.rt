@@ -83,10 +83,8 @@ fn is_frame_end(value: RegState) -> bool
     ensures { result ≡ limits.is_frame_end value }
 {
     match value {
-        RegState::Frame { lo, hi } => lo == 0 && hi == 0,
-        RegState::Any => false,
-        RegState::Num(_) => false,
-        RegState::Ctx { .. } => false,
+        RegState::Ptr(p) => p.area.is_frame() && p.lo == 0 && p.hi == 0,
+        RegState::Any | RegState::Num(_) => false,
     }
 }
 
@@ -189,23 +187,19 @@ fn is_pointer_range(lo: i64, hi: i64) -> bool
     -0x8000_0000 <= lo && hi <= 0x8000_0000 && lo <= hi
 }
 
+fn is_limited_pointer(pointer: Pointer) -> bool
+    ensures { result ≡ limits.is_limited_pointer pointer }
+{
+    is_pointer_range(pointer.lo, pointer.hi)
+}
+
 fn is_limited_register(value: RegState) -> bool
     ensures { result ≡ limits.is_limited_register value }
 {
     match value {
         RegState::Any => true,
         RegState::Num(n) => is_limited_num(n),
-        RegState::Ctx { lo, hi } => is_pointer_range(lo, hi),
-        RegState::Frame { lo, hi } => is_pointer_range(lo, hi),
-    }
-}
-
-fn is_limited_pointer(pointer: Pointer) -> bool
-    ensures { result ≡ limits.is_limited_pointer pointer }
-{
-    match pointer {
-        Pointer::Ctx { lo, hi } => is_pointer_range(lo, hi),
-        Pointer::Frame { lo, hi } => is_pointer_range(lo, hi),
+        RegState::Ptr(pointer) => is_limited_pointer(pointer),
     }
 }
 
@@ -215,7 +209,7 @@ fn is_limited_slot(value: SlotState) -> bool
     match value {
         SlotState::Bytes(mask) => mask <= 254,
         SlotState::Word(n) => is_limited_num(n),
-        SlotState::Ptr(pointer) => is_limited_pointer(pointer),
+        SlotState::Spilled(pointer) => is_limited_pointer(pointer),
     }
 }
 

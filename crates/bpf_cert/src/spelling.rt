@@ -4,16 +4,16 @@ ghost use Rattle.std.specs.Prelude.{◌≡◌, ◌≤◌, ◌<◌, ◌+◌, ◌+
 ghost use Rattle.bpf_cert.specs.Numeral.{digits_of_int};
 ghost use Rattle.bpf_cert.specs.Line.{range_text, signed_text, number_text, place_text, content_text, measure_text, term_text};
 ghost use Rattle.bpf_cert.specs.Spelling.{unsigned_parts, signed_parts, bits_parts, number_of, content_of, place_of, measure_of, term_of, header_line, function_line, label_line, line_with_end};
-ghost use Rattle.bpf_cert.specs.code.SpellingParts.{is_cons, parts_tail, terms_tail};
+ghost use Rattle.bpf_cert.specs.code.SpellingParts.{is_cons, parts_tail, terms_tail, area_text};
 ghost use Rattle.bpf_cert.specs.View.{function_view, label_view};
 ghost use Rattle.bpf_cert.specs.Line.Line.{entry};
-ghost use Rattle.bpf_state.specs.declared.state.SlotState.TheVariants.{Ptr};
+ghost use Rattle.bpf_state.specs.declared.state.SlotState.TheVariants.{Spilled};
 
 use crate::certificate::{Function, Label, Measure, Term};
 use crate::header::Header;
 use arrayvec::ArrayVec;
 use bpf_num::{KnownBits, Num, Signed, Unsigned};
-use bpf_state::{Place, Pointer, SlotState};
+use bpf_state::{Area, Place, Pointer, SlotState};
 use itoa::{Buffer, Integer};
 
 /// A line of text.
@@ -154,21 +154,25 @@ fn num(line: &mut LineText, n: Num)
 }
 
 #[tactic(auto, using(crate::proofs::SpellingLemmas::texts))]
+fn area(line: &mut LineText, area: Area)
+    requires { length line.old.items + 3 ≤ 256 }
+    ensures text { line.new.items ≡ line.old.items ++ (area_text area) }
+    ensures grows { length line.new.items ≤ length line.old.items + 3 }
+{
+    match area {
+        Area::Context => word(line, b"ctx"),
+        Area::Frame => word(line, b"fp"),
+    }
+}
+
+#[tactic(auto, using(crate::proofs::SpellingLemmas::texts))]
 fn pointer(line: &mut LineText, pointer: Pointer)
     requires { length line.old.items + 45 ≤ 256 }
-    ensures text { line.new.items ≡ line.old.items ++ (content_text (content_of (Ptr pointer))) }
+    ensures text { line.new.items ≡ line.old.items ++ (content_text (content_of (Spilled pointer))) }
     ensures grows { length line.new.items ≤ length line.old.items + 45 }
 {
-    match pointer {
-        Pointer::Ctx { lo, hi } => {
-            word(line, b"ctx");
-            signed_range(line, lo, hi);
-        }
-        Pointer::Frame { lo, hi } => {
-            word(line, b"fp");
-            signed_range(line, lo, hi);
-        }
-    }
+    area(line, pointer.area);
+    signed_range(line, pointer.lo, pointer.hi);
 }
 
 #[tactic(auto, using(crate::proofs::SpellingLemmas::texts))]
@@ -183,7 +187,7 @@ fn content(line: &mut LineText, value: SlotState)
             number(line, mask);
         }
         SlotState::Word(n) => num(line, n),
-        SlotState::Ptr(p) => pointer(line, p),
+        SlotState::Spilled(p) => pointer(line, p),
     }
 }
 

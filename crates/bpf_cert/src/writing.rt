@@ -10,7 +10,7 @@ ghost use Rattle.bpf_cert.specs.Spelling.{place_of, place_at, contents, entry_li
 use crate::certificate::{Certificate, Function, Label};
 use crate::spelling::{entry_text, function_text, header_text, label_text};
 use bpf_insn::written::Pending;
-use bpf_state::{Entries, Place, Pointer, RegState, SlotState, numbered};
+use bpf_state::{Entries, Place, RegState, SlotState, numbered};
 use std::io::{self, Write};
 
 // All the bytes, by one clause for both ends.
@@ -27,8 +27,7 @@ pub fn value_slot(value: RegState) -> SlotState
     match value {
         RegState::Any => SlotState::Bytes(0),
         RegState::Num(n) => SlotState::Word(n),
-        RegState::Ctx { lo, hi } => SlotState::Ptr(Pointer::Ctx { lo, hi }),
-        RegState::Frame { lo, hi } => SlotState::Ptr(Pointer::Frame { lo, hi }),
+        RegState::Ptr(p) => SlotState::Spilled(p),
     }
 }
 

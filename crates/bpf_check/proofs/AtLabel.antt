@@ -8,17 +8,17 @@ use Rattle.bpf_insn.specs.Instruction.{register_number}
 use Rattle.bpf_num.specs.Interval.{Interval}
 use Rattle.bpf_num.specs.Number.{Number, tighten}
 use Rattle.bpf_state.specs.declared.state.RegState.{RegState}
-use Rattle.bpf_state.specs.declared.state.RegState.TheVariants.{Any, Num, Ctx, Frame}
+use Rattle.bpf_state.specs.declared.state.RegState.TheVariants.{Any, Num, Ptr}
 use Rattle.bpf_state.specs.declared.state.SlotState.{SlotState}
-use Rattle.bpf_state.specs.declared.state.SlotState.TheVariants.{Bytes, Word, Ptr}
-use Rattle.bpf_state.specs.declared.state.Pointer.TheVariants.{Ctx as CtxIn, Frame as FrameIn}
+use Rattle.bpf_state.specs.declared.state.SlotState.TheVariants.{Bytes, Word, Spilled}
 use Rattle.bpf_state.specs.declared.state.Place.{Place}
 use Rattle.bpf_state.specs.declared.state.Place.TheVariants.{Register, Slot}
 use Rattle.bpf_state.specs.State.{AbstractState, register, slot, slot_value, each_if, tightened_register, tightened_slot, blank, no_tags}
 use Rattle.bpf_state.specs.Transfer.{number_state}
 use Rattle.bpf_cert.specs.declared.certificate.Term.{Term}
 use Rattle.bpf_cert.specs.View.{LabelView}
-use Rattle.bpf_safety.specs.Budget.{place_of, held, unsigned_bounds, bounds}
+use Rattle.bpf_state.specs.Held.{held}
+use Rattle.bpf_safety.specs.Budget.{place_of, unsigned_bounds, bounds}
 use Rattle.bpf_safety.specs.Flow.{with_tag, with_tags, label_state}
 use Rattle.bpf_check.specs.code.Slack.{at_label}
 
@@ -74,8 +74,7 @@ tight_bounds v = option_map (λ n. n.unsigned) (option_and_then tighten (number_
 
 register_bounds : (v w : RegState) → tightened_register v ≡ Some w → tight_bounds v ≡ unsigned_bounds w
 register_bounds Any w e = ap unsigned_bounds (same_Some Any w e)
-register_bounds (Ctx lo hi) w e = ap unsigned_bounds (same_Some (Ctx lo hi) w e)
-register_bounds (Frame lo hi) w e = ap unsigned_bounds (same_Some (Frame lo hi) w e)
+register_bounds (Ptr p) w e = ap unsigned_bounds (same_Some (Ptr p) w e)
 register_bounds (Num n) w e = at (tighten n) e
   where
     at : (o : Option Number) → option_map Num o ≡ Some w → option_map (λ m. m.unsigned) o ≡ unsigned_bounds w
@@ -84,8 +83,7 @@ register_bounds (Num n) w e = at (tighten n) e
 
 slot_bounds : (v w : SlotState) → tightened_slot v ≡ Some w → tight_bounds (slot_value v) ≡ unsigned_bounds (slot_value w)
 slot_bounds (Bytes m) w e = ap (λ x. unsigned_bounds (slot_value x)) (same_Some (Bytes m) w e)
-slot_bounds (Ptr (CtxIn lo hi)) w e = ap (λ x. unsigned_bounds (slot_value x)) (same_Some (Ptr (CtxIn lo hi)) w e)
-slot_bounds (Ptr (FrameIn lo hi)) w e = ap (λ x. unsigned_bounds (slot_value x)) (same_Some (Ptr (FrameIn lo hi)) w e)
+slot_bounds (Spilled p) w e = ap (λ x. unsigned_bounds (slot_value x)) (same_Some (Spilled p) w e)
 slot_bounds (Word n) w e = at (tighten n) e
   where
     at : (o : Option Number) → option_map Word o ≡ Some w → option_map (λ m. m.unsigned) o ≡ unsigned_bounds (slot_value w)

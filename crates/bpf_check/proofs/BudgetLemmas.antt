@@ -13,7 +13,7 @@ use Rattle.bpf_state.specs.declared.state.Place.TheVariants.{Register, Slot}
 use Rattle.bpf_cert.specs.declared.certificate.Term.{Term}
 use Rattle.bpf_cert.specs.View.{LabelView}
 use Rattle.bpf_cert.specs.Limits.{is_limited_label, is_limited_term}
-use Rattle.bpf_safety.specs.Budget.{sum_if, each_term, shares, share_of, tag_of, place_of, bounds, term_value, greatest_at_ends, least_at_ends}
+use Rattle.bpf_safety.specs.Budget.{sum_if, each_term, shares, share_of, place_of, bounds, term_value, greatest_at_ends, least_at_ends}
 use Rattle.bpf_num.specs.Interval.{Interval}
 use Rattle.std.specs.Prelude.{◌-ℤ◌}
 use Rattle.bpf_check.specs.code.Slack.{IsWithin, kept_part}
@@ -93,10 +93,6 @@ few_here l ts limited e = subst (λ xs. length xs ≤ 4) (sym e) (few_terms l li
 
 -- ---- what new terms take
 
-pub tag_is : (s : AbstractState) (p : Place) → tag s p ≡ tag_of s p
-tag_is s (Register r) = refl
-tag_is s (Slot k) = refl
-
 assoc : (a b c : ℤ) → a +ℤ (b +ℤ c) ≡ (a +ℤ b) +ℤ c
 assoc a b c = omega (arith, ints)
 
@@ -108,7 +104,7 @@ pub next_share : (j : ℕ) (x : ℤ) (edge : AbstractState) (ts : List Term) (i 
 next_share j x edge ts i d sum a t p few h value within place tagged part within' =
     let low = within.low in let high = within.high in let low' = within'.low in let high' = within'.high in
     let is : cast_signed w128 (cast_unsigned w128 (sum +ℤ cast_signed w128 (cast_unsigned w128 a))) ≡ sum +ℤ a = omega (arith, ints) in
-    let whole : a ≡ share_of j x (tag_of edge (place_of (get_or ts i d))) (get_or ts i d) = part ∙ ap (λ o. share_of j x o (get_or ts i d)) (tagged ∙ ap (tag edge) place ∙ tag_is edge (place_of (get_or ts i d))) in
+    let whole : a ≡ share_of j x (tag edge (place_of (get_or ts i d))) (get_or ts i d) = part ∙ ap (λ o. share_of j x o (get_or ts i d)) (tagged ∙ ap (tag edge) place) in
     let steps : shares j x edge (drop i ts) ≡ a +ℤ shares j x edge (drop (i + 1) ts) = at_drop_more (shares j x edge) ts i d h ∙ ap (λ z. z +ℤ shares j x edge (drop (i + 1) ts)) (sym whole) in
     let both : sum +ℤ shares j x edge (drop i ts) ≡ (sum +ℤ a) +ℤ shares j x edge (drop (i + 1) ts) = ap (λ z. sum +ℤ z) steps ∙ assoc sum a (shares j x edge (drop (i + 1) ts)) in
     record {

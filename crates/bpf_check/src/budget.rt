@@ -4,16 +4,15 @@ ghost use Rattle.std.specs.Prelude.{◌≡◌, ◌≤◌, ◌^◌, pos, ◌+ℤ�
 ghost use Rattle.std.specs.List.{list_all};
 ghost use Rattle.bpf_num.specs.Interval.{Interval, IsInterval};
 ghost use Rattle.bpf_state.specs.State.{IsPlace, tag};
-ghost use Rattle.bpf_state.specs.Transfer.{number_state};
 ghost use Rattle.bpf_cert.specs.View.{label_view};
 ghost use Rattle.bpf_cert.specs.Limits.{is_limited_label, is_limited_term};
-ghost use Rattle.bpf_safety.specs.Budget.{budget, place_of, held, unsigned_bounds, measured, term_value, least_at_ends, greatest_at_ends, each_term, sum_if, bounds, shares, share_of, free_part, tag_of, greatest_budget, least_budget, least_slack};
+ghost use Rattle.bpf_safety.specs.Budget.{budget, place_of, unsigned_bounds, measured, term_value, least_at_ends, greatest_at_ends, each_term, sum_if, bounds, shares, share_of, free_part, greatest_budget, least_budget, least_slack};
 ghost use Rattle.bpf_safety.specs.Flow.{label_state};
 ghost use Rattle.bpf_check.specs.code.Slack.{at_label, kept_of, free_of, IsWithin};
 
 use bpf_cert::{Label, Measure, Term};
-use bpf_num::{Num, Unsigned};
-use bpf_state::{Entries, Place, RegState, SlotState, State, Tag};
+use bpf_num::Unsigned;
+use bpf_state::{Entries, Place, State, Tag};
 
 /// The place that a term looks at.
 pub fn place_of(term: &Term) -> Place
@@ -25,48 +24,14 @@ pub fn place_of(term: &Term) -> Place
     }
 }
 
-/// The number that a place holds.
-fn number_in(state: &State, place: Place) -> Option<Num>
-    requires { IsPlace place }
-    ensures { result ≡ number_state (held state.now place) }
-{
-    match place {
-        Place::Register(r) => match state.reg(r) {
-            RegState::Num(number) => Some(number),
-            RegState::Any | RegState::Ctx { .. } | RegState::Frame { .. } => None,
-        },
-        Place::Slot(k) => match state.slot(k) {
-            SlotState::Word(number) => Some(number),
-            SlotState::Bytes(_) | SlotState::Ptr(_) => None,
-        },
-    }
-}
-
 /// The bounds of the number that a term's place holds.
 pub fn bounds(state: &State, term: &Term) -> Option<Unsigned>
     requires { IsTrue (is_limited_term term.now) }
     ensures { result ≡ bounds state.now term.now }
 {
-    match number_in(state, place_of(term)) {
+    match state.held(place_of(term)).number() {
         Some(number) => Some(number.unsigned()),
         None => None,
-    }
-}
-
-/// The number that a label says of a place.
-fn number_said(label: &Entries, place: Place) -> Option<Num>
-    requires { IsPlace place }
-    ensures { result ≡ number_state (held label.now place) }
-{
-    match place {
-        Place::Register(r) => match label.reg(r) {
-            RegState::Num(number) => Some(number),
-            RegState::Any | RegState::Ctx { .. } | RegState::Frame { .. } => None,
-        },
-        Place::Slot(k) => match label.slot(k) {
-            SlotState::Word(number) => Some(number),
-            SlotState::Bytes(_) | SlotState::Ptr(_) => None,
-        },
     }
 }
 
@@ -75,7 +40,7 @@ pub fn bounds_said(label: &Entries, term: &Term) -> Option<Unsigned>
     requires { IsTrue (is_limited_term term.now) }
     ensures { result ≡ bounds label.now term.now }
 {
-    match number_said(label, place_of(term)) {
+    match label.held(place_of(term)).number() {
         Some(number) => Some(number.unsigned()),
         None => None,
     }
@@ -87,7 +52,7 @@ pub fn bounds_at_label(label: &Label, term: &Term) -> Option<Unsigned>
     requires alive { IsSome (label_state (label_view label.now)) }
     ensures { result ≡ bounds (at_label (label_view label.now)) term.now }
 {
-    let Some(number) = number_said(&label.state, place_of(term)) else {
+    let Some(number) = label.state.held(place_of(term)).number() else {
         return None;
     };
     match number.tighten() {
@@ -260,7 +225,7 @@ pub fn kept(old: &Label, edge: &State, new: &Label) -> Option<i128>
 /// The greatest of what a new term takes beside the old places: all of it if it isn't tagged.
 fn greatest_free(edge: &State, term: &Term) -> Option<i128>
     requires { IsTrue (is_limited_term term.now) }
-    ensures value { result ≡ free_part edge.now (tag_of edge.now (place_of term.now)) term.now }
+    ensures value { result ≡ free_part edge.now (tag edge.now (place_of term.now)) term.now }
     ensures small { IfSome result (λ z. IsWithin (2 ^ 90) z) }
 {
     if edge.tag(place_of(term)).is_some() {

@@ -13,7 +13,9 @@ use Rattle.bpf_state.specs.declared.state.Place.{Place}
 use Rattle.bpf_cert.specs.declared.certificate.Term.{Term}
 use Rattle.bpf_cert.specs.View.{LabelView, CertificateView}
 use Rattle.bpf_safety.specs.Labels.{label_at}
-use Rattle.bpf_safety.specs.Budget.{budget as budget_of, budget_value, InBox, OnEdge, HaveTagsOf, AllowedBy, place_of, bounds, unsigned_bounds, held, tag_of, term_value, terms_value, measured}
+use Rattle.bpf_state.specs.Held.{held}
+use Rattle.bpf_state.specs.State.{tag as tag_of}
+use Rattle.bpf_safety.specs.Budget.{budget as budget_of, budget_value, InBox, OnEdge, HaveTagsOf, AllowedBy, place_of, bounds, unsigned_bounds, term_value, terms_value, measured}
 use Rattle.bpf_cert.specs.declared.certificate.Measure.{Measure}
 use Rattle.bpf_cert.specs.declared.certificate.Measure.TheVariants.{Down, Up}
 use Rattle.bpf_safety.specs.Flaw.{is_bad_limit}

@@ -13,7 +13,7 @@ use Rattle.bpf_semantics.specs.State as machine
 use Rattle.bpf_semantics.specs.State.{Cell}
 use Rattle.bpf_semantics.specs.State.Cell.{Byte, Part}
 use Rattle.bpf_state.specs.declared.state.RegState.{RegState}
-use Rattle.bpf_state.specs.declared.state.RegState.TheVariants.{Any, Num, Ctx, Frame}
+use Rattle.bpf_state.specs.declared.state.RegState.TheVariants.{Any, Num, Ptr}
 use Rattle.bpf_state.specs.State.{AbstractState, register}
 use Rattle.bpf_state.specs.Fault.{fault_of, is_number, have_right_kinds, reads_part, reads_any, has_wrong_kinds, is_out_of_bounds, reads_unknown_byte, writes_protected}
 use Rattle.bpf_sound.specs.Describes.{DescribesRegister}
@@ -85,5 +85,4 @@ result_is_number len s e =
 number_there : (depth : ℕ) (v : RegState) (o : Option Value) → is_number v ≡ true → DescribesRegister depth v o → (n : ℕ) × (option_and_then machine.number_in o ≡ Some n)
 number_there depth (Num n) o e h = (h.0, ap (option_and_then machine.number_in) h.1)
 number_there depth Any o e h = absurd (false≢true e)
-number_there depth (Ctx lo hi) o e h = absurd (false≢true e)
-number_there depth (Frame lo hi) o e h = absurd (false≢true e)
+number_there depth (Ptr p) o e h = absurd (false≢true e)

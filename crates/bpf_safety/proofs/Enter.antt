@@ -17,7 +17,7 @@ use Rattle.bpf_semantics.specs.State.{Cell}
 use Rattle.bpf_semantics.specs.State.Cell.{Byte, Part}
 use Rattle.bpf_semantics.specs.Run.{Steps}
 use Rattle.bpf_state.specs.declared.state.RegState.{RegState}
-use Rattle.bpf_state.specs.declared.state.RegState.TheVariants.{Any, Num, Ctx, Frame}
+use Rattle.bpf_state.specs.declared.state.RegState.TheVariants.{Any, Num, Ptr}
 use Rattle.bpf_state.specs.State.{AbstractState, start, register, entered, left}
 use Rattle.bpf_num.specs.Number.{Has}
 use Rattle.bpf_state.specs.Fault.{fault_of, some_passes, is_number}
@@ -433,8 +433,7 @@ module _ (p : Instructions) (c : CertificateView) (laws : Laws) (program : IsPro
             laws.entails_includes k h.function.ret d.0 (certificate.returns h.function (function_in p c certified m.top.slot h.function h.function_is)) (ap (λ v. register_entails v (Num h.function.ret)) (sym e) ∙ taken) d.2,
           )
       result Any e n = absurd (false≢true n)
-      result (Ctx lo hi) e n = absurd (false≢true n)
-      result (Frame lo hi) e n = absurd (false≢true n)
+      result (Ptr q) e n = absurd (false≢true n)
 
       in_time : suc spent ≤ budget
       in_time =

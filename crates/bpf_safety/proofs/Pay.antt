@@ -8,7 +8,8 @@ use Rattle.bpf_state.specs.State.{AbstractState}
 use Rattle.bpf_state.specs.declared.state.Tag.{Tag}
 use Rattle.bpf_cert.specs.declared.certificate.Term.{Term}
 use Rattle.bpf_safety.specs.Budget.{Budget}
-use Rattle.bpf_safety.specs.Budget.{budget_value, terms_value, term_value, InBox, place_of, bounds, tag_of, sum_if, each_term, least_at_ends, greatest_at_ends, least_budget, greatest_budget, least_slack, free_part, shares}
+use Rattle.bpf_state.specs.State.{tag as tag_of}
+use Rattle.bpf_safety.specs.Budget.{budget_value, terms_value, term_value, InBox, place_of, bounds, sum_if, each_term, least_at_ends, greatest_at_ends, least_budget, greatest_budget, least_slack, free_part, shares}
 use Rattle.bpf_safety.specs.Flaw.{is_negative_if}
 use Rattle.bpf_safety.proofs.Basics.{some_is}
 use Rattle.bpf_safety.proofs.SlackLaws.{term_affine}

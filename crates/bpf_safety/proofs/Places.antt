@@ -1,5 +1,5 @@
 -- What places hold, and what abstract states tell of it.
-use Rattle.std.proofs.Common.{◌++◌, take, drop, ◌≡◌, ℕ, zero, suc, ◌+◌, ◌-◌, ◌≤◌, ◌<◌, refl, sym, ap, ◌∙◌, subst, arith, pos, Bool, true, List, [], ◌∷◌, length, get_or, slice_get, slice_index, slice_set, replicate, Option, Some, None, is_some, option_map, option_and_then, ext_get_or, length-set}
+use Rattle.std.proofs.Common.{◌++◌, take, drop, ◌≡◌, ℕ, zero, suc, ◌+◌, ◌-◌, ◌≤◌, ◌<◌, refl, sym, ap, ◌∙◌, subst, arith, pos, Bool, true, false, List, [], ◌∷◌, length, get_or, slice_get, slice_index, slice_set, replicate, Option, Some, None, is_some, cond, option_map, option_and_then, ext_get_or, length-set}
 use Rattle.std.proofs.lemmas.Bool.{and_parts, false≢true, true≢false}
 use Rattle.std.proofs.lemmas.Int.{ints}
 use Rattle.bpf_insn.specs.declared.order.Order.{Order}
@@ -14,19 +14,21 @@ use Rattle.bpf_semantics.specs.State.Cell.{Byte, Part}
 use Rattle.bpf_num.specs.Interval.{Interval}
 use Rattle.bpf_num.specs.Number.{Number, tighten}
 use Rattle.bpf_state.specs.declared.state.RegState.{RegState}
-use Rattle.bpf_state.specs.declared.state.RegState.TheVariants.{Any, Num, Ctx, Frame}
+use Rattle.bpf_state.specs.declared.state.RegState.TheVariants.{Any, Num, Ptr}
 use Rattle.bpf_state.specs.declared.state.SlotState.{SlotState}
-use Rattle.bpf_state.specs.declared.state.SlotState.TheVariants.{Bytes, Word, Ptr}
-use Rattle.bpf_state.specs.declared.state.Pointer.TheVariants.{Ctx as CtxIn, Frame as FrameIn}
+use Rattle.bpf_state.specs.declared.state.SlotState.TheVariants.{Bytes, Word, Spilled}
+use Rattle.bpf_state.specs.declared.state.Area.TheVariants.{Frame}
 use Rattle.bpf_state.specs.declared.state.Tag.{Tag}
-use Rattle.bpf_state.specs.State.{IsPlace, entered, without_frame, each_without_frame, AbstractState, register, register_tag, slot, slot_tag, slot_value, no_tags, each_if, tightened, tightened_register, tightened_slot}
+use Rattle.bpf_state.specs.State.{IsPlace, is_frame, start_of, entered, without_frame, each_without_frame, AbstractState, register, register_tag, slot, slot_tag, slot_value, no_tags, each_if, tightened, tightened_register, tightened_slot}
 use Rattle.bpf_sound.specs.Describes.{Describes, IsStored, slot_cell, DescribesRegister, DescribesSlot, TaggedRegister, TaggedSlot, IsTagged}
 use Rattle.bpf_state.specs.Entails.{state_entails, register_entails, slot_entails, all_pairs}
 use Rattle.bpf_sound.specs.Laws.{IsAbstract}
 use Rattle.bpf_state.specs.declared.state.Place.{Place}
 use Rattle.bpf_cert.specs.declared.certificate.Term.{Term}
 use Rattle.bpf_state.specs.declared.state.Place.TheVariants.{Register, Slot}
-use Rattle.bpf_safety.specs.Budget.{held, tag_of, unsigned_bounds, bounds, place_of}
+use Rattle.bpf_state.specs.Held.{held}
+use Rattle.bpf_state.specs.State.{tag as tag_of}
+use Rattle.bpf_safety.specs.Budget.{unsigned_bounds, bounds, place_of}
 use Rattle.bpf_safety.specs.Flow.{with_tag, with_tags}
 use Rattle.bpf_safety.proofs.Basics.{some_is}
 use Rattle.bpf_safety.proofs.Here.{HoldsNumber}
@@ -77,8 +79,7 @@ module _ (order : Order) (least most : ℕ) (x : List ℕ) (s : AbstractState) (
       let same : n.unsigned ≡ b = some_is n.unsigned b f in
       record { value = h.0; holds = (low, high, h.1); low = subst (λ i. i.lo ≤ h.0) same h.2.unsigned.above; high = subst (λ i. h.0 ≤ i.hi) same h.2.unsigned.below }
   in_slot k (Bytes mask) b low high e f = absurd (false≢true (ap is_some f))
-  in_slot k (Ptr (CtxIn lo hi)) b low high e f = absurd (false≢true (ap is_some f))
-  in_slot k (Ptr (FrameIn lo hi)) b low high e f = absurd (false≢true (ap is_some f))
+  in_slot k (Spilled p) b low high e f = absurd (false≢true (ap is_some f))
 
   holds_within : (place : Place) (b : Interval) → IsPlace place → unsigned_bounds (held s place) ≡ Some b → HoldsWithin order m place b
   holds_within (Register r) b is f = in_register r (register s r) b refl f
@@ -131,19 +132,16 @@ unbounded v e b = absurd (true≢false (sym (ap is_some b.1) ∙ ap is_some e))
 entailed_register : (a b : RegState) → register_entails a b ≡ true → IsBounded b → IsBounded a
 entailed_register (Num n) (Num k) e h = (n.unsigned, refl)
 entailed_register Any (Num k) e h = absurd (false≢true e)
-entailed_register (Ctx lo hi) (Num k) e h = absurd (false≢true e)
-entailed_register (Frame lo hi) (Num k) e h = absurd (false≢true e)
+entailed_register (Ptr p) (Num k) e h = absurd (false≢true e)
 entailed_register a Any e h = unbounded Any refl h
-entailed_register a (Ctx lo hi) e h = unbounded (Ctx lo hi) refl h
-entailed_register a (Frame lo hi) e h = unbounded (Frame lo hi) refl h
+entailed_register a (Ptr q) e h = unbounded (Ptr q) refl h
 
 entailed_slot : (a b : SlotState) → slot_entails a b ≡ true → IsBounded (slot_value b) → IsBounded (slot_value a)
 entailed_slot (Word n) (Word k) e h = (n.unsigned, refl)
 entailed_slot (Bytes mask) (Word k) e h = absurd (false≢true e)
-entailed_slot (Ptr p) (Word k) e h = absurd (false≢true e)
+entailed_slot (Spilled p) (Word k) e h = absurd (false≢true e)
 entailed_slot a (Bytes mask) e h = unbounded Any refl h
-entailed_slot a (Ptr (CtxIn lo hi)) e h = unbounded (Ctx lo hi) refl h
-entailed_slot a (Ptr (FrameIn lo hi)) e h = unbounded (Frame lo hi) refl h
+entailed_slot a (Spilled q) e h = unbounded (Ptr q) refl h
 
 pub entailed_bounds : (s t : AbstractState) (place : Place) → IsAbstract s → IsAbstract t → IsPlace place → state_entails s t ≡ true → IsBounded (held t place) → IsBounded (held s place)
 entailed_bounds s t (Register r) valid valid' is e h =
@@ -189,8 +187,7 @@ tightened_bounded (Num n) w e h = by_result (tighten n) e
     by_result (Some k) e = subst IsBounded (some_is (Num k) w e) (k.unsigned, refl)
     by_result None e = absurd (false≢true (ap is_some e))
 tightened_bounded Any w e h = unbounded Any refl h
-tightened_bounded (Ctx lo hi) w e h = unbounded (Ctx lo hi) refl h
-tightened_bounded (Frame lo hi) w e h = unbounded (Frame lo hi) refl h
+tightened_bounded (Ptr p) w e h = unbounded (Ptr p) refl h
 
 tightened_slot_bounded : (v w : SlotState) → tightened_slot v ≡ Some w → IsBounded (slot_value v) → IsBounded (slot_value w)
 tightened_slot_bounded (Word n) w e h = by_result (tighten n) e
@@ -199,8 +196,7 @@ tightened_slot_bounded (Word n) w e h = by_result (tighten n) e
     by_result (Some k) e = subst (λ u. IsBounded (slot_value u)) (some_is (Word k) w e) (k.unsigned, refl)
     by_result None e = absurd (false≢true (ap is_some e))
 tightened_slot_bounded (Bytes mask) w e h = unbounded Any refl h
-tightened_slot_bounded (Ptr (CtxIn lo hi)) w e h = unbounded (Ctx lo hi) refl h
-tightened_slot_bounded (Ptr (FrameIn lo hi)) w e h = unbounded (Frame lo hi) refl h
+tightened_slot_bounded (Spilled p) w e h = unbounded (Ptr p) refl h
 
 pub tightened_bounds : (s t : AbstractState) (place : Place) → tightened s ≡ Some t → IsBounded (held s place) → IsBounded (held t place)
 tightened_bounds s t (Register r) e h = tightened_bounded (register s r) (register t r) (each_if_at tightened_register s.registers t.registers Any (register_number r) refl (tightened_parts s t e).registers) h
@@ -320,11 +316,14 @@ find_values order m (t ∷ ts) h =
 no_frame : (v : RegState) (b : Interval) → unsigned_bounds (without_frame v) ≡ Some b → unsigned_bounds v ≡ Some b
 no_frame (Num n) b e = e
 no_frame Any b e = e
-no_frame (Ctx lo hi) b e = e
-no_frame (Frame lo hi) b e = absurd (false≢true (ap is_some e))
+no_frame (Ptr p) b e = by_test (is_frame p.area) e
+  where
+    by_test : (t : Bool) → unsigned_bounds (cond t Any (Ptr p)) ≡ Some b → unsigned_bounds (Ptr p) ≡ Some b
+    by_test true e = e
+    by_test false e = e
 
 abbrev entered_registers : List RegState → List RegState
-entered_registers rs = Any ∷ each_without_frame (take 5 (drop 1 rs)) ++ replicate 4 Any ++ Frame (pos 0) (pos 0) ∷ []
+entered_registers rs = Any ∷ each_without_frame (take 5 (drop 1 rs)) ++ replicate 4 Any ++ Ptr (start_of Frame) ∷ []
 
 entered_register : (rs : List RegState) (r : Reg) (b : Interval) → length rs ≡ 11 → unsigned_bounds (get_or (entered_registers rs) (register_number r) Any) ≡ Some b → unsigned_bounds (get_or rs (register_number r) Any) ≡ Some b
 entered_register [] r b long e = absurd (omega arith)

@@ -6,17 +6,18 @@ use Rattle.std.proofs.lemmas.Int.{ints}
 use Rattle.std.proofs.lemmas.Bool.{false≢true, cases_order}
 use Rattle.bpf_num.specs.Interval.{Interval}
 use Rattle.bpf_state.specs.declared.state.RegState.{RegState}
-use Rattle.bpf_state.specs.declared.state.RegState.TheVariants.{Any, Num, Ctx, Frame}
+use Rattle.bpf_state.specs.declared.state.RegState.TheVariants.{Any, Num, Ptr}
 use Rattle.bpf_state.specs.declared.state.SlotState.{SlotState}
-use Rattle.bpf_state.specs.declared.state.SlotState.TheVariants.{Bytes, Word, Ptr}
-use Rattle.bpf_state.specs.declared.state.Pointer.TheVariants.{Ctx as CtxIn, Frame as FrameIn}
+use Rattle.bpf_state.specs.declared.state.SlotState.TheVariants.{Bytes, Word, Spilled}
 use Rattle.bpf_state.specs.declared.state.Place.{Place}
 use Rattle.bpf_state.specs.declared.state.Place.TheVariants.{Register, Slot}
 use Rattle.bpf_state.specs.declared.state.Tag.{Tag}
 use Rattle.bpf_state.specs.State.{AbstractState, register, slot, slot_value}
 use Rattle.bpf_sound.specs.Laws.{IsAbstract, IsAbstractRegister, IsAbstractSlot}
 use Rattle.bpf_cert.specs.declared.certificate.Term.{Term}
-use Rattle.bpf_safety.specs.Budget.{Budget, held, unsigned_bounds, place_of, tag_of, bounds, term_value, terms_value, budget_value, least_at_ends, greatest_at_ends, sum_if, shares, free_part, least_slack, AllowedBy, InBox, OnEdge, HaveTagsOf, Pays}
+use Rattle.bpf_state.specs.Held.{held}
+use Rattle.bpf_state.specs.State.{tag as tag_of}
+use Rattle.bpf_safety.specs.Budget.{Budget, unsigned_bounds, place_of, bounds, term_value, terms_value, budget_value, least_at_ends, greatest_at_ends, sum_if, shares, free_part, least_slack, AllowedBy, InBox, OnEdge, HaveTagsOf, Pays}
 use Rattle.bpf_safety.specs.Theorems.{SlackIsLeast}
 use Rattle.bpf_safety.proofs.Basics.{some_is}
 use Rattle.bpf_safety.proofs.SlackLaws.{parts, from_bounds, all_shares, all_shares-cons, all_shares-nil, all_share, tagged, untagged, free_parts, kept_parts, slack_pays}
@@ -26,14 +27,12 @@ use Rattle.bpf_safety.proofs.SlackLaws.{parts, from_bounds, all_shares, all_shar
 register_ordered : (v : RegState) (r : Interval) → IsAbstractRegister v → unsigned_bounds v ≡ Some r → r.lo ≤ r.hi
 register_ordered (Num n) r is e = subst (λ i. i.lo ≤ i.hi) (some_is n.unsigned r e) is.unsigned.ordered
 register_ordered Any r is e = absurd (false≢true (ap is_some e))
-register_ordered (Ctx lo hi) r is e = absurd (false≢true (ap is_some e))
-register_ordered (Frame lo hi) r is e = absurd (false≢true (ap is_some e))
+register_ordered (Ptr p) r is e = absurd (false≢true (ap is_some e))
 
 slot_ordered : (v : SlotState) (r : Interval) → IsAbstractSlot v → unsigned_bounds (slot_value v) ≡ Some r → r.lo ≤ r.hi
 slot_ordered (Word n) r is e = register_ordered (Num n) r is e
 slot_ordered (Bytes mask) r is e = absurd (false≢true (ap is_some e))
-slot_ordered (Ptr (CtxIn lo hi)) r is e = absurd (false≢true (ap is_some e))
-slot_ordered (Ptr (FrameIn lo hi)) r is e = absurd (false≢true (ap is_some e))
+slot_ordered (Spilled p) r is e = absurd (false≢true (ap is_some e))
 
 -- there are no slots but 1 to 64
 no_slot : (xs : List SlotState) (i : ℕ) → length xs ≤ i → get_or xs i (Bytes 0) ≡ Bytes 0

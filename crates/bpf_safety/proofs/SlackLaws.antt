@@ -12,7 +12,8 @@ use Rattle.bpf_cert.specs.declared.certificate.Measure.{Measure}
 use Rattle.bpf_cert.specs.declared.certificate.Term.{Term}
 use Rattle.bpf_safety.specs.Budget.{Budget}
 use Rattle.bpf_cert.specs.declared.certificate.Measure.TheVariants.{Down, Up}
-use Rattle.bpf_safety.specs.Budget.{place_of, tag_of, bounds, measured, term_value, terms_value, budget_value, least_at_ends, greatest_at_ends, sum_if, each_term, share_of, shares, free_part, least_slack, AllowedBy, HaveTagsOf, Pays}
+use Rattle.bpf_state.specs.State.{tag as tag_of}
+use Rattle.bpf_safety.specs.Budget.{place_of, bounds, measured, term_value, terms_value, budget_value, least_at_ends, greatest_at_ends, sum_if, each_term, share_of, shares, free_part, least_slack, AllowedBy, HaveTagsOf, Pays}
 use Rattle.bpf_safety.proofs.Basics.{some_is}
 
 -- ---- sums that are there have their parts

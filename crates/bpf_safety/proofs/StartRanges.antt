@@ -20,16 +20,18 @@ use Rattle.bpf_num.specs.SignedInterval.{SignedInterval, signed_interval, signed
 use Rattle.bpf_num.specs.Laws.IntegerLaws.{least_at_end}
 use Rattle.bpf_num.specs.Number.{Number, number, tighten, entails, unsigned_from_bits, signed_from_unsigned, unsigned_from_signed, bits_from_unsigned}
 use Rattle.bpf_state.specs.declared.state.RegState.{RegState}
-use Rattle.bpf_state.specs.declared.state.RegState.TheVariants.{Any, Num, Ctx, Frame}
+use Rattle.bpf_state.specs.declared.state.RegState.TheVariants.{Any, Num, Ptr}
+use Rattle.bpf_state.specs.declared.state.Area.TheVariants.{Context, Frame}
 use Rattle.bpf_state.specs.declared.state.SlotState.TheVariants.{Bytes}
 use Rattle.bpf_state.specs.declared.state.Place.{Place}
 use Rattle.bpf_state.specs.declared.state.Place.TheVariants.{Register, Slot}
 use Rattle.bpf_insn.specs.declared.instruction.Reg.TheVariants.{R0, R1, R2, R3, R4, R5, R6, R7, R8, R9, R10}
-use Rattle.bpf_state.specs.State.{AbstractState, from_to, start, slot_value}
+use Rattle.bpf_state.specs.State.{AbstractState, from_to, start, start_of, slot_value}
 use Rattle.bpf_state.specs.Fault.{some_passes}
 use Rattle.bpf_state.specs.Entails.{register_entails, slot_entails, all_pairs, state_entails}
 use Rattle.bpf_cert.specs.declared.certificate.Term.{Term}
-use Rattle.bpf_safety.specs.Budget.{Budget, place_of, held, unsigned_bounds, bounds, term_value, greatest_at_ends, sum_if, each_term, greatest_budget}
+use Rattle.bpf_state.specs.Held.{held}
+use Rattle.bpf_safety.specs.Budget.{Budget, place_of, unsigned_bounds, bounds, term_value, greatest_at_ends, sum_if, each_term, greatest_budget}
 use Rattle.bpf_safety.proofs.Basics.{some_is}
 use Rattle.bpf_safety.proofs.SlackLaws.{parts, from_bounds, term_affine}
 
@@ -301,17 +303,16 @@ module _ (l l' h' h : ℕ) (low : l ≤ l') (ordered : l' ≤ h') (high : h' ≤
       by_state : (t : RegState) → register_entails (Num wide) t ≡ true → register_entails (Num narrow) t ≡ true
       by_state Any e = refl
       by_state (Num b) e = number_narrower b e
-      by_state (Ctx lo hi) e = absurd (false≢true e)
-      by_state (Frame lo hi) e = absurd (false≢true e)
+      by_state (Ptr p) e = absurd (false≢true e)
 
   registers_narrower : (ts : List RegState) → all_pairs register_entails (start l h).registers ts ≡ true → all_pairs register_entails (start l' h').registers ts ≡ true
   registers_narrower [] e = refl
   registers_narrower (a ∷ []) e = e
   registers_narrower (a ∷ b ∷ []) e = e
   registers_narrower (a ∷ b ∷ t ∷ ts) e =
-      let rest = all_pairs register_entails (Any ∷ Any ∷ Any ∷ Any ∷ Any ∷ Any ∷ Any ∷ Frame (pos 0) (pos 0) ∷ []) ts in
-      let u = and_parts (register_entails Any a) (register_entails (Ctx (pos 0) (pos 0)) b && (register_entails (from_to l h) t && rest)) e in
-      let v = and_parts (register_entails (Ctx (pos 0) (pos 0)) b) (register_entails (from_to l h) t && rest) u.1 in
+      let rest = all_pairs register_entails (Any ∷ Any ∷ Any ∷ Any ∷ Any ∷ Any ∷ Any ∷ Ptr (start_of Frame) ∷ []) ts in
+      let u = and_parts (register_entails Any a) (register_entails (Ptr (start_of Context)) b && (register_entails (from_to l h) t && rest)) e in
+      let v = and_parts (register_entails (Ptr (start_of Context)) b) (register_entails (from_to l h) t && rest) u.1 in
       let w = and_parts (register_entails (from_to l h) t) rest v.1 in
       ap₂ (λ x y. x && y) u.0 (ap₂ (λ x y. x && y) v.0 (ap₂ (λ x y. x && y) (register_narrower t w.0) w.1))
 

@@ -7,21 +7,21 @@ use Rattle.std.proofs.lemmas.Int.{ints}
 use Rattle.bpf_insn.specs.Instruction.{register_number}
 use Rattle.bpf_num.specs.Number.{Number, IsNumber}
 use Rattle.bpf_state.specs.declared.state.RegState.{RegState}
-use Rattle.bpf_state.specs.declared.state.RegState.TheVariants.{Any, Num, Ctx, Frame}
+use Rattle.bpf_state.specs.declared.state.RegState.TheVariants.{Any, Num, Ptr}
 use Rattle.bpf_state.specs.declared.state.SlotState.{SlotState}
-use Rattle.bpf_state.specs.declared.state.SlotState.TheVariants.{Bytes, Word, Ptr}
-use Rattle.bpf_state.specs.declared.state.Pointer.TheVariants.{Ctx as CtxIn, Frame as FrameIn}
+use Rattle.bpf_state.specs.declared.state.SlotState.TheVariants.{Bytes, Word, Spilled}
+use Rattle.bpf_state.specs.declared.state.Pointer.{Pointer}
 use Rattle.bpf_state.specs.declared.state.Place.{Place}
 use Rattle.bpf_state.specs.declared.state.Place.TheVariants.{Register, Slot}
-use Rattle.bpf_state.specs.State.{AbstractState, IsPlace}
+use Rattle.bpf_state.specs.State.{AbstractState, IsPlace, IsPointer}
 use Rattle.bpf_sound.specs.Laws.{IsAbstract, IsAbstractRegister, IsAbstractSlot}
 use Rattle.bpf_cert.specs.declared.certificate.Measure.{Measure}
 use Rattle.bpf_cert.specs.declared.certificate.Measure.TheVariants.{Down, Up}
 use Rattle.bpf_cert.specs.declared.certificate.Term.{Term}
 use Rattle.bpf_cert.specs.View.{LabelView, FunctionView, CertificateView, header_of}
 use Rattle.bpf_cert.specs.Numeral.{is_from_to}
-use Rattle.bpf_cert.specs.Faults.{is_rising, is_range, is_int_range, is_pointer_range, is_bits}
-use Rattle.bpf_cert.specs.Limits.{IsCertificate, is_limited_header, is_version, is_canonical, is_canonical_function, first_before, is_limited, is_limited_function, is_limited_label, is_limited_term, is_limited_measure, is_limited_place, is_limited_state, has_shape, is_limited_register, is_limited_slot, is_limited_num, label_count}
+use Rattle.bpf_cert.specs.Faults.{is_rising, is_range, is_int_range, is_bits}
+use Rattle.bpf_cert.specs.Limits.{IsCertificate, is_limited_header, is_version, is_canonical, is_canonical_function, first_before, is_limited, is_limited_function, is_limited_label, is_limited_term, is_limited_measure, is_limited_place, is_limited_state, has_shape, is_limited_pointer, is_limited_register, is_limited_slot, is_limited_num, label_count}
 use Rattle.bpf_safety.specs.Budget.{place_of, place_in}
 use Rattle.bpf_safety.specs.Labels.{labels, label_at}
 use Rattle.bpf_safety.proofs.Basics.{some_is}
@@ -91,21 +91,19 @@ number_fits n e =
     below_end : (h : ℕ) → h ≤ 2 ^ 64 - 1 → h < 2 ^ 64
     below_end h le = omega arith
 
-pointer_fits : (lo hi : ℤ) → is_pointer_range lo hi ≡ true → lo ≤ℤ hi
-pointer_fits lo hi e =
-    int_at_most lo hi (three (int_le (neg_ℤ (pos (2 ^ 31))) lo) (int_le hi (pos (2 ^ 31))) (int_le lo hi) e).2
+pointer_fits : (p : Pointer) → is_limited_pointer p ≡ true → IsPointer p
+pointer_fits p e =
+    int_at_most p.lo p.hi (three (int_le (neg_ℤ (pos (2 ^ 31))) p.lo) (int_le p.hi (pos (2 ^ 31))) (int_le p.lo p.hi) e).2
 
 register_fits : (v : RegState) → is_limited_register v ≡ true → IsAbstractRegister v
 register_fits Any e = tt
 register_fits (Num n) e = number_fits n e
-register_fits (Ctx lo hi) e = pointer_fits lo hi e
-register_fits (Frame lo hi) e = pointer_fits lo hi e
+register_fits (Ptr p) e = pointer_fits p e
 
 slot_fits : (v : SlotState) → is_limited_slot v ≡ true → IsAbstractSlot v
 slot_fits (Bytes mask) e = at_most mask 254 e
 slot_fits (Word n) e = number_fits n e
-slot_fits (Ptr (CtxIn lo hi)) e = pointer_fits lo hi e
-slot_fits (Ptr (FrameIn lo hi)) e = pointer_fits lo hi e
+slot_fits (Spilled p) e = pointer_fits p e
 
 state_fits : (s : AbstractState) → is_limited_state s ≡ true → IsAbstract s
 state_fits s e =

@@ -5,12 +5,12 @@ use Rattle.bpf_num.specs.Interval.{Interval}
 use Rattle.bpf_state.specs.declared.state.RegState.{RegState}
 use Rattle.bpf_state.specs.declared.state.RegState.TheVariants.{Num}
 use Rattle.bpf_state.specs.declared.state.Tag.{Tag}
-use Rattle.bpf_state.specs.State.{AbstractState, register, register_tag, slot, slot_tag, slot_value}
+use Rattle.bpf_state.specs.State.{AbstractState, tag as tag_of}
+use Rattle.bpf_state.specs.Held.{held}
 use Rattle.bpf_state.specs.declared.state.Place.{Place}
 use Rattle.bpf_cert.specs.declared.certificate.Measure.{Measure}
 use Rattle.bpf_cert.specs.declared.certificate.Term.{Term}
 use Rattle.bpf_cert.specs.View.{LabelView}
-use Rattle.bpf_state.specs.declared.state.Place.TheVariants.{Register, Slot}
 use Rattle.bpf_cert.specs.declared.certificate.Measure.TheVariants.{Down, Up}
 
 -- a ranking function: how many instructions are left, at most
@@ -30,14 +30,6 @@ abbrev pub place_of : Term → Place
 place_of t = place_in t.measure
 
 -- ---- what an abstract state tells of a place
-
-abbrev pub held : AbstractState → Place → RegState
-held s (Register r) = register s r
-held s (Slot k) = slot_value (slot s k)
-
-abbrev pub tag_of : AbstractState → Place → Option Tag
-tag_of s (Register r) = register_tag s r
-tag_of s (Slot k) = slot_tag s k
 
 abbrev pub unsigned_bounds : RegState → Option Interval
 unsigned_bounds (Num n) = Some n.unsigned

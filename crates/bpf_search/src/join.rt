@@ -1,7 +1,6 @@
 //! What two states have in common.
 
-ghost use Rattle.std.specs.Prelude.{◌≤ℤ◌};
-ghost use Rattle.std.specs.Option.{ForSome};
+ghost use Rattle.std.specs.Prelude.{◌≤ℤ◌, IfSome};
 ghost use Rattle.bpf_state.specs.State.{IsRegister, IsPointer, IsSlot};
 
 use crate::places::REGISTERS;
@@ -39,6 +38,23 @@ fn greatest(old: i64, new: i64, stops: Option<&Stops>) -> i64
     }
 }
 
+/// What is known of a pointer that is one of two; None for one into the context and one into the frame.
+fn join_pointer(old: Pointer, new: Pointer, stops: Option<&Stops>) -> Option<Pointer>
+    requires old { IsPointer old }
+    requires new { IsPointer new }
+    ensures { IfSome result IsPointer }
+{
+    if old.area.is_same(new.area) {
+        Some(Pointer {
+            area: old.area,
+            lo: least(old.lo, new.lo, stops),
+            hi: greatest(old.hi, new.hi, stops),
+        })
+    } else {
+        None
+    }
+}
+
 /// What is known of a register that is in one of two states; unlike kinds leave nothing.
 pub fn join_register(old: RegState, new: RegState, stops: Option<&Stops>) -> RegState
     requires old { IsRegister old }
@@ -49,43 +65,15 @@ pub fn join_register(old: RegState, new: RegState, stops: Option<&Stops>) -> Reg
         RegState::Any => RegState::Any,
         RegState::Num(a) => match new {
             RegState::Num(b) => RegState::Num(join_num(a, b, stops)),
-            RegState::Any | RegState::Ctx { .. } | RegState::Frame { .. } => RegState::Any,
+            RegState::Any | RegState::Ptr(_) => RegState::Any,
         },
-        RegState::Ctx { lo: a, hi: b } => match new {
-            RegState::Ctx { lo: c, hi: d } => RegState::Ctx {
-                lo: least(a, c, stops),
-                hi: greatest(b, d, stops),
+        RegState::Ptr(p) => match new {
+            RegState::Ptr(q) => match join_pointer(p, q, stops) {
+                Some(pointer) => RegState::Ptr(pointer),
+                None => RegState::Any,
             },
-            RegState::Any | RegState::Num(_) | RegState::Frame { .. } => RegState::Any,
+            RegState::Any | RegState::Num(_) => RegState::Any,
         },
-        RegState::Frame { lo: a, hi: b } => match new {
-            RegState::Frame { lo: c, hi: d } => RegState::Frame {
-                lo: least(a, c, stops),
-                hi: greatest(b, d, stops),
-            },
-            RegState::Any | RegState::Num(_) | RegState::Ctx { .. } => RegState::Any,
-        },
-    }
-}
-
-/// What is known of a pointer in a slot that is one of two; None for one into the context and one into the frame.
-fn join_pointer(old: Pointer, new: Pointer, stops: Option<&Stops>) -> Option<Pointer>
-    requires old { IsPointer old }
-    requires new { IsPointer new }
-    ensures { ForSome result IsPointer }
-{
-    match (old, new) {
-        (Pointer::Ctx { lo: a, hi: b }, Pointer::Ctx { lo: c, hi: d }) => Some(Pointer::Ctx {
-            lo: least(a, c, stops),
-            hi: greatest(b, d, stops),
-        }),
-        (Pointer::Frame { lo: a, hi: b }, Pointer::Frame { lo: c, hi: d }) => {
-            Some(Pointer::Frame {
-                lo: least(a, c, stops),
-                hi: greatest(b, d, stops),
-            })
-        }
-        _ => None,
     }
 }
 
@@ -99,16 +87,16 @@ pub fn join_slot(old: SlotState, new: SlotState, stops: Option<&Stops>) -> SlotS
         SlotState::Bytes(m) => match new {
             SlotState::Bytes(n) => SlotState::Bytes(m & n),
             SlotState::Word(_) => SlotState::Bytes(m),
-            SlotState::Ptr(_) => SlotState::Bytes(0),
+            SlotState::Spilled(_) => SlotState::Bytes(0),
         },
         SlotState::Word(a) => match new {
             SlotState::Bytes(n) => SlotState::Bytes(n),
             SlotState::Word(b) => SlotState::Word(join_num(a, b, stops)),
-            SlotState::Ptr(_) => SlotState::Bytes(0),
+            SlotState::Spilled(_) => SlotState::Bytes(0),
         },
-        SlotState::Ptr(p) => match new {
-            SlotState::Ptr(q) => match join_pointer(p, q, stops) {
-                Some(pointer) => SlotState::Ptr(pointer),
+        SlotState::Spilled(p) => match new {
+            SlotState::Spilled(q) => match join_pointer(p, q, stops) {
+                Some(pointer) => SlotState::Spilled(pointer),
                 None => SlotState::Bytes(0),
             },
             SlotState::Bytes(_) | SlotState::Word(_) => SlotState::Bytes(0),

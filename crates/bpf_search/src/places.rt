@@ -4,7 +4,7 @@ ghost use Rattle.bpf_state.specs.State.{IsPlace};
 
 use bpf_insn::Reg;
 use bpf_num::Num;
-use bpf_state::{Entries, Place, RegState, SlotState, State};
+use bpf_state::{Entries, Place, RegState, State};
 
 /// The registers that a program may write.
 pub const REGISTERS: [Reg; 10] = [
@@ -36,42 +36,15 @@ pub fn place(number: usize) -> Place
 
 /// The number that a place holds, if it holds one.
 pub fn number_at(state: &State, number: usize) -> Option<Num> {
-    match place(number) {
-        Place::Register(r) => match state.reg(r) {
-            RegState::Num(held) => Some(held),
-            RegState::Any | RegState::Ctx { .. } | RegState::Frame { .. } => None,
-        },
-        Place::Slot(k) => match state.slot(k) {
-            SlotState::Word(held) => Some(held),
-            SlotState::Bytes(_) | SlotState::Ptr(_) => None,
-        },
-    }
+    state.held(place(number)).number()
 }
 
 /// The number that a label says of a place, if it says one.
 pub fn number_said(label: &Entries, number: usize) -> Option<Num> {
-    match place(number) {
-        Place::Register(r) => match label.reg(r) {
-            RegState::Num(held) => Some(held),
-            RegState::Any | RegState::Ctx { .. } | RegState::Frame { .. } => None,
-        },
-        Place::Slot(k) => match label.slot(k) {
-            SlotState::Word(held) => Some(held),
-            SlotState::Bytes(_) | SlotState::Ptr(_) => None,
-        },
-    }
+    label.held(place(number)).number()
 }
 
 /// Whether a label says that a place holds a pointer.
 pub fn pointer_said(label: &Entries, number: usize) -> bool {
-    match place(number) {
-        Place::Register(r) => match label.reg(r) {
-            RegState::Ctx { .. } | RegState::Frame { .. } => true,
-            RegState::Any | RegState::Num(_) => false,
-        },
-        Place::Slot(k) => match label.slot(k) {
-            SlotState::Ptr(_) => true,
-            SlotState::Word(_) | SlotState::Bytes(_) => false,
-        },
-    }
+    matches!(label.held(place(number)), RegState::Ptr(_))
 }

@@ -82,8 +82,7 @@ fn moves(walk: &Walk, found: Loop, reg: Reg) -> bool {
 fn is_wide(rounds: &Rounds, block: usize, reg: Reg) -> bool {
     match rounds.states.get(block) {
         Some(Some(held)) => match held.reg(reg) {
-            RegState::Ctx { lo, hi } => lo < hi,
-            RegState::Frame { lo, hi } => lo < hi,
+            RegState::Ptr(p) => p.lo < p.hi,
             RegState::Any | RegState::Num(_) => false,
         },
         _ => false,

@@ -2,7 +2,7 @@
 use Rattle.std.proofs.Common.{◌≡◌, ℕ, ℤ, ◌+ℤ◌, ◌-ℤ◌, ◌≤ℤ◌, ◌^◌, refl, sym, ◌∙◌, ap, subst, arith, Option, Some, None, Bool, true, false, cond}
 use Rattle.std.specs.Prelude.{◌&&◌, not, is_some, pos, neg_ℤ, int_le, option_map, option_and_then}
 use Rattle.std.proofs.lemmas.Int.{ints}
-use Rattle.std.proofs.lemmas.Bool.{false≢true, eq-eqb}
+use Rattle.std.proofs.lemmas.Bool.{false≢true}
 use Rattle.std.proofs.lemmas.Option.{same_Some}
 use Rattle.bpf_insn.specs.declared.instruction.Width.{Width}
 use Rattle.bpf_insn.specs.declared.instruction.Width.TheVariants.{W32, W64}
@@ -11,18 +11,21 @@ use Rattle.bpf_insn.specs.declared.instruction.AluOp.TheVariants.{Add, Sub, Mov}
 use Rattle.bpf_semantics.specs.declared.state.Value.{Value}
 use Rattle.bpf_semantics.specs.declared.state.Value.TheVariants.{Number as NumberValue, Pointer as PointerValue}
 use Rattle.bpf_semantics.specs.declared.state.Region.{Region}
-use Rattle.bpf_semantics.specs.declared.state.Region.TheVariants.{Context, Frame as FrameAt}
 use Rattle.bpf_insn.specs.Arithmetic.{alu, modulo}
-use Rattle.bpf_semantics.specs.Step.{alu_result, same_region}
+use Rattle.bpf_semantics.specs.Step.{alu_result}
 use Rattle.bpf_num.specs.Number.{Number, IsNumber}
 use Rattle.bpf_num.specs.Laws.{Holds, AluKeeps, TightenKeeps}
 use Rattle.bpf_num.specs.Operation.{num_alu}
 use Rattle.bpf_state.specs.declared.state.RegState.{RegState}
-use Rattle.bpf_state.specs.declared.state.RegState.TheVariants.{Num, Ctx, Frame}
+use Rattle.bpf_state.specs.declared.state.RegState.TheVariants.{Num, Ptr}
+use Rattle.bpf_state.specs.declared.state.Pointer.{Pointer}
+use Rattle.bpf_state.specs.State.{same_area}
 use Rattle.bpf_state.specs.Fault.{alu_of_kinds, difference, leaves_bounds, some_passes}
-use Rattle.bpf_sound.specs.Describes.{DescribesRegister, PointsInto}
+use Rattle.bpf_sound.specs.Describes.{DescribesRegister, PointsInto, region_of}
 use Rattle.bpf_sound.specs.Laws.{IsAbstractRegister}
+use Rattle.bpf_sound.proofs.Areas.{same_regions}
 use Rattle.bpf_sound.proofs.Lists.{Given}
+use Rattle.bpf_sound.proofs.Tests.{some_if}
 use Rattle.bpf_sound.proofs.Tags.{is_mov}
 use Rattle.bpf_sound.proofs.Offsets.{in_range, pointer_plus, pointer_minus, difference_holds}
 
@@ -77,15 +80,11 @@ module _ (v : Value) (region : Region) (lo hi : ℤ) (n : Number) where
       let is = at_values W64 Sub a b (PointerValue region d.0) (NumberValue d'.0) v d.1 d'.1 e in
       (omega (arith, ints), subst (λ o. PointsInto region (lo -ℤ n.signed.hi) (hi -ℤ n.signed.lo) o) is (pointer_minus region lo hi d.0 n d'.0 d'.2 d.2 d.3 range))
 
-same_as_itself : (region : Region) → same_region region region ≡ true
-same_as_itself Context = refl
-same_as_itself (FrameAt n) = eq-eqb n n refl
-
-between : TightenKeeps → (depth : ℕ) (region : Region) (c C d D : ℤ) (a : Option Value) (b v : Value) → PointsInto region c C a → PointsInto region d D (Some b) → alu_result W64 Sub a b ≡ Some v → Given (difference c C d D) (IsResult depth v)
-between law depth region c C d D a b v is is' e =
+between : TightenKeeps → (depth : ℕ) (p q : Pointer) (a : Option Value) (b v : Value) → same_area p.area q.area ≡ true → DescribesRegister depth (Ptr p) a → DescribesRegister depth (Ptr q) (Some b) → alu_result W64 Sub a b ≡ Some v → Given (difference p.lo p.hi q.lo q.hi) (IsResult depth v)
+between law depth p q a b v same is is' e =
     let z : ℕ = modulo (is.0 -ℤ is'.0) (2 ^ 64) in
-    number_given depth _ z v (difference_holds law c C d D is.0 is'.0 is.2 is.3 is'.2 is'.3)
-    (sym (ap (λ t. cond t (Some (NumberValue z)) None) (same_as_itself region)) ∙ at_values W64 Sub a b (PointerValue region is.0) (PointerValue region is'.0) v is.1 is'.1 e)
+    number_given depth _ z v (difference_holds law p.lo p.hi q.lo q.hi is.0 is'.0 is.2 is.3 is'.2 is'.3)
+    (sym (ap (λ t. cond t (Some (NumberValue z)) None) (same_regions depth p.area q.area same)) ∙ at_values W64 Sub a b (PointerValue (region_of depth p.area) is.0) (PointerValue (region_of depth q.area) is'.0) v is.1 is'.1 e)
 
 there : (depth : ℕ) (v : Value) (R : RegState) → IsResult depth v R → Given (Some R) (IsResult depth v)
 there depth v R is = record { value = R; is_there = refl; good = is }
@@ -98,12 +97,11 @@ module _ (law : AluKeeps) (tightens : TightenKeeps) (depth : ℕ) (a : Option Va
       number_given depth (num_alu W32 Mov n n) (alu W32 Mov z z) v (law W32 Mov n n z z (ok', d'.2) (ok', d'.2)) (subst (λ b. alu_result W32 Mov a b ≡ Some v) (same_Some b (NumberValue z) d'.1) e)
   alu_value width op (Num m) (Num n) ok d ok' d' kinds near e =
       number_given depth (num_alu width op m n) (alu width op d.0 d'.0) v (law width op m n d.0 d'.0 (ok, d.2) (ok', d'.2)) (at_values width op a b (NumberValue d.0) (NumberValue d'.0) v d.1 d'.1 e)
-  alu_value W64 Add (Ctx lo hi) (Num n) ok d ok' d' kinds near e = there depth v _ (plus v Context lo hi n a b ok d ok' d' (near refl) e)
-  alu_value W64 Add (Frame lo hi) (Num n) ok d ok' d' kinds near e = there depth v _ (plus v (FrameAt depth) lo hi n a b ok d ok' d' (near refl) e)
-  alu_value W64 Add (Num n) (Ctx lo hi) ok d ok' d' kinds near e = there depth v _ (plus_left v Context lo hi n a b ok d ok' d' (near refl) e)
-  alu_value W64 Add (Num n) (Frame lo hi) ok d ok' d' kinds near e = there depth v _ (plus_left v (FrameAt depth) lo hi n a b ok d ok' d' (near refl) e)
-  alu_value W64 Sub (Ctx lo hi) (Num n) ok d ok' d' kinds near e = there depth v _ (minus v Context lo hi n a b ok d ok' d' (near refl) e)
-  alu_value W64 Sub (Frame lo hi) (Num n) ok d ok' d' kinds near e = there depth v _ (minus v (FrameAt depth) lo hi n a b ok d ok' d' (near refl) e)
-  alu_value W64 Sub (Ctx c C) (Ctx k K) ok d ok' d' kinds near e = between tightens depth Context c C k K a b v d d' e
-  alu_value W64 Sub (Frame c C) (Frame k K) ok d ok' d' kinds near e = between tightens depth (FrameAt depth) c C k K a b v d d' e
+  alu_value W64 Add (Ptr p) (Num n) ok d ok' d' kinds near e = there depth v _ (plus v (region_of depth p.area) p.lo p.hi n a b ok d ok' d' (near refl) e)
+  alu_value W64 Add (Num n) (Ptr p) ok d ok' d' kinds near e = there depth v _ (plus_left v (region_of depth p.area) p.lo p.hi n a b ok d ok' d' (near refl) e)
+  alu_value W64 Sub (Ptr p) (Num n) ok d ok' d' kinds near e = there depth v _ (minus v (region_of depth p.area) p.lo p.hi n a b ok d ok' d' (near refl) e)
+  alu_value W64 Sub (Ptr p) (Ptr q) ok d ok' d' kinds near e =
+      let known : Option RegState = difference p.lo p.hi q.lo q.hi in
+      let same = some_if (same_area p.area q.area) known kinds in
+      subst (λ t. Given (option_and_then (λ r. r) (cond t (Some known) None)) (IsResult depth v)) (sym same) (between tightens depth p q a b v same d d' e)
   alu_value width op A B ok d ok' d' kinds near e = absurd (false≢true kinds)

@@ -26,7 +26,7 @@ use Rattle.bpf_semantics.specs.Memory.{Place, with_bytes, store_number}
 use Rattle.bpf_semantics.specs.Memory.Place.{InFrame}
 use Rattle.bpf_num.specs.Laws.{TightenKeeps}
 use Rattle.bpf_state.specs.declared.state.RegState.{RegState}
-use Rattle.bpf_state.specs.declared.state.RegState.TheVariants.{Any, Num, Ctx, Frame}
+use Rattle.bpf_state.specs.declared.state.RegState.TheVariants.{Any, Num, Ptr}
 use Rattle.bpf_state.specs.State.{AbstractState, register, slot, put_register}
 use Rattle.bpf_state.specs.Access.{Span, span_from, any_slot, is_pointer_slot, are_known_bytes, touches, touched_bytes}
 use Rattle.bpf_state.specs.Fault.{have_right_kinds, reads_part, some_passes, is_number, is_pointer, atomic_kinds}
@@ -51,8 +51,7 @@ atomic_access wide dst off = record { base = dst; offset = off; size = word_size
 number_held : (depth : ℕ) (value : RegState) (v : Option Value) → is_number value ≡ true → DescribesRegister depth value v → (y : ℕ) × (v ≡ Some (NumberValue y))
 number_held depth Any v is d = absurd (false≢true is)
 number_held depth (Num n) v is d = (d.0, d.1)
-number_held depth (Ctx lo hi) v is d = absurd (false≢true is)
-number_held depth (Frame lo hi) v is d = absurd (false≢true is)
+number_held depth (Ptr p) v is d = absurd (false≢true is)
 
 -- r0 holds a number, where the operation reads it
 abbrev ReadsZero : AtomicOp → machine.State → Type 0

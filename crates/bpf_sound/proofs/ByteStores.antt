@@ -8,8 +8,7 @@ use Rattle.bpf_semantics.specs.State.{Cell, StackFrame, IsFrame, IsNumberCell, c
 use Rattle.bpf_semantics.specs.State.Cell.{Byte, Part}
 use Rattle.bpf_semantics.specs.Memory.{with_bytes}
 use Rattle.bpf_state.specs.declared.state.SlotState.{SlotState}
-use Rattle.bpf_state.specs.declared.state.SlotState.TheVariants.{Bytes, Word, Ptr}
-use Rattle.bpf_state.specs.declared.state.Pointer.TheVariants.{Ctx as CtxIn, Frame as FrameIn}
+use Rattle.bpf_state.specs.declared.state.SlotState.TheVariants.{Bytes, Word, Spilled}
 use Rattle.bpf_state.specs.declared.state.Tag.{Tag}
 use Rattle.bpf_state.specs.Access.{Span, touches, touched_bytes}
 use Rattle.bpf_state.specs.Transfer.{slot_written, slot_maybe_written, each_slot, each_slot_tag}
@@ -52,8 +51,7 @@ cells_of cells k i = get_or cells (512 - 8 * k + i) None
 pub same_slot : (order : Order) (depth : ℕ) (held : SlotState) (cell cell' : ℕ → Option Cell) → ((i : ℕ) → i < 8 → cell' i ≡ cell i) → DescribesSlot order depth held cell → DescribesSlot order depth held cell'
 same_slot order depth (Bytes m) cell cell' same d = λ i lt set. let b = d i lt set in (b.0, same i lt ∙ b.1)
 same_slot order depth (Word n) cell cell' same d = (d.0, (d.1.0, d.1.1, λ i lt. same i lt ∙ d.1.2 i lt, d.1.3), d.2)
-same_slot order depth (Ptr (CtxIn lo hi)) cell cell' same d = (d.0, λ i lt. same i lt ∙ d.1 i lt, d.2, d.3)
-same_slot order depth (Ptr (FrameIn lo hi)) cell cell' same d = (d.0, λ i lt. same i lt ∙ d.1 i lt, d.2, d.3)
+same_slot order depth (Spilled p) cell cell' same d = (d.0, λ i lt. same i lt ∙ d.1 i lt, d.2, d.3)
 
 pub same_slot_tag : (order : Order) (x : List ℕ) (tag : Option Tag) (cell cell' : ℕ → Option Cell) → ((i : ℕ) → i < 8 → cell' i ≡ cell i) → TaggedSlot order x tag cell → TaggedSlot order x tag cell'
 same_slot_tag order x None cell cell' same d = tt

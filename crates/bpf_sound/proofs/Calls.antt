@@ -19,11 +19,13 @@ use Rattle.bpf_semantics.specs.Step as step
 use Rattle.bpf_num.specs.Laws.{TightenKeeps}
 use Rattle.bpf_num.specs.Number.{Number, IsNumber, Has}
 use Rattle.bpf_state.specs.declared.state.RegState.{RegState}
-use Rattle.bpf_state.specs.declared.state.RegState.TheVariants.{Any, Num, Ctx, Frame}
+use Rattle.bpf_state.specs.declared.state.RegState.TheVariants.{Any, Num, Ptr}
+use Rattle.bpf_state.specs.declared.state.Area.TheVariants.{Frame}
 use Rattle.bpf_state.specs.declared.state.SlotState.TheVariants.{Bytes}
-use Rattle.bpf_state.specs.State.{AbstractState, entered, left, without_frame, each_without_frame, no_tags}
+use Rattle.bpf_state.specs.State.{AbstractState, entered, left, without_frame, each_without_frame, no_tags, start_of}
 use Rattle.bpf_sound.specs.Describes.{Describes, DescribesRegister, DescribesSlot, TaggedRegister, TaggedSlot, LengthWithin, slot_cell}
 use Rattle.bpf_sound.specs.Laws.{EnterKeeps, LeaveKeeps, Leads, IsAbstract, IsAbstractRegister, IsAbstractSlot}
+use Rattle.bpf_sound.proofs.Areas.{by_area}
 use Rattle.bpf_sound.proofs.Judged.{step_is, leads_at, top_frame}
 use Rattle.bpf_sound.proofs.TouchedCells.{zero_or_one}
 
@@ -82,14 +84,12 @@ return_keeps tightens p least most x returned s m v sl context valid frame d all
 without_frame_describes : (depth : ℕ) (value : RegState) (v : Option Value) → DescribesRegister depth value v → DescribesRegister (suc depth) (without_frame value) v
 without_frame_describes depth Any v d = tt
 without_frame_describes depth (Num n) v d = d
-without_frame_describes depth (Ctx lo hi) v d = d
-without_frame_describes depth (Frame lo hi) v d = tt
+without_frame_describes depth (Ptr p) v d = by_area (λ value. DescribesRegister depth value v → DescribesRegister (suc depth) (without_frame value) v) (λ lo hi d. d) (λ lo hi d. tt) p d
 
 without_frame_valid : (value : RegState) → IsAbstractRegister value → IsAbstractRegister (without_frame value)
 without_frame_valid Any d = tt
 without_frame_valid (Num n) d = d
-without_frame_valid (Ctx lo hi) d = d
-without_frame_valid (Frame lo hi) d = tt
+without_frame_valid (Ptr p) d = by_area (λ value. IsAbstractRegister value → IsAbstractRegister (without_frame value)) (λ lo hi d. d) (λ lo hi d. tt) p d
 
 -- five elements after the first
 record Five {A : Type 0} (xs : List A) : Type 0 where
@@ -112,7 +112,7 @@ five (a ∷ b ∷ c ∷ d ∷ f ∷ []) e = absurd (omega (arith, e))
 five (a ∷ b ∷ c ∷ d ∷ f ∷ g ∷ rest) e = record { first = a; x1 = b; x2 = c; x3 = d; x4 = f; x5 = g; rest = rest; are = refl }
 
 abbrev entered_registers : List RegState → List RegState
-entered_registers xs = Any ∷ each_without_frame (take 5 (drop 1 xs)) ++ replicate 4 Any ++ Frame (pos 0) (pos 0) ∷ []
+entered_registers xs = Any ∷ each_without_frame (take 5 (drop 1 xs)) ++ replicate 4 Any ++ Ptr (start_of Frame) ∷ []
 
 abbrev entered_values : ℕ → List (Option Value) → List (Option Value)
 entered_values depth ys = None ∷ take 5 (drop 1 ys) ++ replicate 4 None ++ Some (PointerValue (FrameAt (depth + 1)) (pos 0)) ∷ []

@@ -31,13 +31,14 @@ use Rattle.bpf_num.specs.Tristate.{bits_top}
 use Rattle.bpf_num.specs.Interval.{unsigned_top}
 use Rattle.bpf_num.specs.SignedInterval.{IsSignedInterval, SignedWithin, signed_of_width, signed_top}
 use Rattle.bpf_state.specs.declared.state.RegState.{RegState}
-use Rattle.bpf_state.specs.declared.state.RegState.TheVariants.{Any, Num, Ctx, Frame}
+use Rattle.bpf_state.specs.declared.state.RegState.TheVariants.{Any, Num, Ptr}
 use Rattle.bpf_state.specs.State.{AbstractState, register, slot, put_register}
 use Rattle.bpf_state.specs.Access.{span_from, is_inside, is_pointer_slot, are_known_bytes, any_slot, touches, touched_bytes}
 use Rattle.bpf_state.specs.Fault.{reads_part, some_passes, is_pointer}
 use Rattle.bpf_state.specs.Transfer.{after, any_signed}
 use Rattle.bpf_sound.specs.Describes.{DescribesRegister}
 use Rattle.bpf_sound.specs.Laws.{Leads, IsJudged}
+use Rattle.bpf_sound.proofs.Areas.{context_pointer, frame_pointer, by_area}
 use Rattle.bpf_sound.proofs.Judged.{NoFault, no_fault_is, not_protected}
 use Rattle.bpf_sound.proofs.Puts.{put_keeps}
 use Rattle.bpf_sound.proofs.ReadCells.{no_slot}
@@ -104,12 +105,17 @@ module _ (p : Instructions) (least most : ℕ) (x : List ℕ) (size : Size) (dst
       by_base : (r : RegState) → register s src ≡ r → (bytes : List ℕ) × Read m (load_access size src off) bytes
       by_base Any e = absurd (false≢true (sym (ap is_pointer e) ∙ pointer))
       by_base (Num n) e = absurd (false≢true (sym (ap is_pointer e) ∙ pointer))
-      by_base (Ctx lo hi) e =
-          context_read m least (load_access size src off) lo hi j.state j.described.length_within.0
-          (subst (λ r. some_passes (λ p. not (is_inside least p)) (span_from (load_access size src off) r) ≡ false) e fault.bounds)
-          (subst (λ r. DescribesRegister (machine.depth m) r (machine.register m src)) e (j.described.registers src))
-      by_base (Frame lo hi) e =
-          frame_is_read (in_top m least (load_access size src off) (register s src) pointer (subst (λ r. some_passes (λ p. not p.in_frame) (span_from (load_access size src off) r) ≡ false) (sym e) refl) fault.bounds (j.described.registers src))
+      by_base (Ptr q) e = by_area (λ r. register s src ≡ r → (bytes : List ℕ) × Read m (load_access size src off) bytes) in_context in_frame q e
+        where
+          in_context : (lo hi : ℤ) → register s src ≡ context_pointer lo hi → (bytes : List ℕ) × Read m (load_access size src off) bytes
+          in_context lo hi e =
+              context_read m least (load_access size src off) lo hi j.state j.described.length_within.0
+              (subst (λ r. some_passes (λ p. not (is_inside least p)) (span_from (load_access size src off) r) ≡ false) e fault.bounds)
+              (subst (λ r. DescribesRegister (machine.depth m) r (machine.register m src)) e (j.described.registers src))
+
+          in_frame : (lo hi : ℤ) → register s src ≡ frame_pointer lo hi → (bytes : List ℕ) × Read m (load_access size src off) bytes
+          in_frame lo hi e =
+              frame_is_read (in_top m least (load_access size src off) (register s src) pointer (subst (λ r. some_passes (λ p. not p.in_frame) (span_from (load_access size src off) r) ≡ false) (sym e) refl) fault.bounds (j.described.registers src))
 
   pub load_sx_reason : reason_at m (LoadSx size dst src off) ≡ None
   load_sx_reason = load_sx_has_none m size dst src off is_read.0 is_read.1 (not_protected least s (LoadSx size dst src off) j.no_fault)

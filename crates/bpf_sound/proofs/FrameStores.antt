@@ -26,13 +26,14 @@ use Rattle.bpf_semantics.specs.Memory.Place.{InFrame}
 use Rattle.bpf_num.specs.Number.{constant}
 use Rattle.bpf_num.specs.Laws.{ConstantHas}
 use Rattle.bpf_state.specs.declared.state.RegState.{RegState}
-use Rattle.bpf_state.specs.declared.state.RegState.TheVariants.{Any, Num, Ctx, Frame}
+use Rattle.bpf_state.specs.declared.state.RegState.TheVariants.{Any, Num, Ptr}
 use Rattle.bpf_state.specs.Access.{span_from, is_inside, Span}
 use Rattle.bpf_state.specs.Fault.{some_passes, is_pointer}
 use Rattle.bpf_state.specs.Transfer.{after, stored}
 use Rattle.bpf_state.specs.State.{AbstractState, register}
-use Rattle.bpf_sound.specs.Describes.{DescribesRegister}
+use Rattle.bpf_sound.specs.Describes.{DescribesRegister, PointsInto}
 use Rattle.bpf_sound.specs.Laws.{Leads, IsJudged}
+use Rattle.bpf_sound.proofs.Areas.{frame_pointer, by_area}
 use Rattle.bpf_sound.proofs.TouchedCells.{LiesAt}
 use Rattle.bpf_sound.proofs.NumberStores.{at_top, number_stored}
 use Rattle.bpf_sound.proofs.Judged.{no_fault_is, step_is, leads_at, top_frame}
@@ -61,11 +62,8 @@ pub record InTop (m : machine.State) (a : Access) (value : RegState) : Type 0 wh
   pub count : span.count ≡ byte_count a.size
   pub lies : LiesAt span first
 
-pub in_top : (m : machine.State) (least : ℕ) (a : Access) (value : RegState) → is_pointer value ≡ true → some_passes (λ p. not p.in_frame) (span_from a value) ≡ false → some_passes (λ p. not (is_inside least p)) (span_from a value) ≡ false → DescribesRegister (machine.depth m) value (machine.register m a.base) → InTop m a value
-in_top m least a Any h p q d = absurd (false≢true h)
-in_top m least a (Num n) h p q d = absurd (false≢true h)
-in_top m least a (Ctx lo hi) h p q d = absurd (false≢true (sym p))
-in_top m least a (Frame lo hi) h p q d =
+frame_top : (m : machine.State) (least : ℕ) (a : Access) (lo hi : ℤ) → some_passes (λ p. not (is_inside least p)) (span_from a (frame_pointer lo hi)) ≡ false → PointsInto (FrameAt (machine.depth m)) lo hi (machine.register m a.base) → InTop m a (frame_pointer lo hi)
+frame_top m least a lo hi q d =
     let z : ℤ = (d.0 +ℤ a.offset) +ℤ pos 512 in
     let low : Bool = int_le (neg_ℤ (pos 512)) (lo +ℤ a.offset) in
     let high : Bool = int_le ((hi +ℤ a.offset) +ℤ pos (byte_count a.size)) (pos 0) in
@@ -88,6 +86,13 @@ in_top m least a (Frame lo hi) h p q d =
       count = refl;
       lies = record { in_frame = refl; lowest = omega (arith, ints); highest = omega (arith, ints); fits = room };
     }
+
+pub in_top : (m : machine.State) (least : ℕ) (a : Access) (value : RegState) → is_pointer value ≡ true → some_passes (λ p. not p.in_frame) (span_from a value) ≡ false → some_passes (λ p. not (is_inside least p)) (span_from a value) ≡ false → DescribesRegister (machine.depth m) value (machine.register m a.base) → InTop m a value
+in_top m least a Any h p q d = absurd (false≢true h)
+in_top m least a (Num n) h p q d = absurd (false≢true h)
+in_top m least a (Ptr p) h out q d =
+    by_area (λ value. some_passes (λ p. not p.in_frame) (span_from a value) ≡ false → some_passes (λ p. not (is_inside least p)) (span_from a value) ≡ false → DescribesRegister (machine.depth m) value (machine.register m a.base) → InTop m a value)
+    (λ lo hi out q d. absurd (false≢true (sym out))) (λ lo hi out q d. frame_top m least a lo hi q d) p out q d
 
 -- ---- what a store does
 

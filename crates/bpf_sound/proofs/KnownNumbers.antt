@@ -21,9 +21,8 @@ use Rattle.bpf_num.specs.Interval.{interval, IsInterval}
 use Rattle.bpf_num.specs.SignedInterval.{signed_top}
 use Rattle.bpf_state.specs.declared.state.RegState.{RegState}
 use Rattle.bpf_state.specs.declared.state.RegState.TheVariants.{Num}
-use Rattle.bpf_state.specs.declared.state.Pointer.TheVariants.{Ctx as CtxIn, Frame as FrameIn}
 use Rattle.bpf_state.specs.declared.state.SlotState.{SlotState}
-use Rattle.bpf_state.specs.declared.state.SlotState.TheVariants.{Bytes, Word, Ptr}
+use Rattle.bpf_state.specs.declared.state.SlotState.TheVariants.{Bytes, Word, Spilled}
 use Rattle.bpf_state.specs.declared.state.Tag.{Tag}
 use Rattle.bpf_state.specs.State.{slot_value, AbstractState, slot, slot_tag}
 use Rattle.bpf_state.specs.Access.{Span, is_slot, slot_number, is_pointer_slot, touches}
@@ -85,7 +84,7 @@ part_known tightens x s m p size y part small =
 whole_value : (order : Order) (depth y : ℕ) (held : SlotState) (cell : ℕ → Option Cell) → IsStored order y cell → is_pointer_slot held ≡ false → DescribesSlot order depth held cell → DescribesRegister depth (slot_value held) (Some (NumberValue y))
 whole_value order depth y (Bytes mask) cell st plain d = tt
 whole_value order depth y (Word n) cell st plain d = (y, refl, subst (λ z. Has n z) (stored_once order d.0 y cell d.1 st) d.2)
-whole_value order depth y (Ptr q) cell st plain d = absurd (false≢true (sym plain))
+whole_value order depth y (Spilled q) cell st plain d = absurd (false≢true (sym plain))
 
 whole_tag : (order : Order) (x : List ℕ) (y : ℕ) (tag : Option Tag) (cell : ℕ → Option Cell) → IsStored order y cell → TaggedSlot order x tag cell → TaggedRegister x tag (Some (NumberValue y))
 whole_tag order x y None cell st d = tt
@@ -94,8 +93,7 @@ whole_tag order x y (Some t) cell st d = (y, refl, subst (λ z. IsTagged x t z) 
 pub slot_value_valid : (held : SlotState) → IsAbstractSlot held → IsAbstractRegister (slot_value held)
 slot_value_valid (Bytes mask) ok = tt
 slot_value_valid (Word n) ok = ok
-slot_value_valid (Ptr (CtxIn lo hi)) ok = ok
-slot_value_valid (Ptr (FrameIn lo hi)) ok = ok
+slot_value_valid (Spilled p) ok = ok
 
 module _ (tightens : TightenKeeps) (order : Order) (least most : ℕ) (x : List ℕ) (s : AbstractState) (m : machine.State) (a : Access) (value : RegState) (valid : IsAbstract s) (d : Describes order least most x s m) (t : InTop m a value) (r : ReadBytes (byte_count a.size) t.first m.top.stack) where
   -- a whole slot of bytes

@@ -9,6 +9,7 @@ pub mod Operands
 pub mod Tags
 pub mod Puts
 pub mod Offsets
+pub mod Areas
 pub mod AluValues
 pub mod PlainLaws
 pub mod BranchLaws

@@ -10,7 +10,7 @@ use Rattle.bpf_insn.specs.declared.order.Order.{Order}
 use Rattle.bpf_semantics.specs.declared.state.Value.{Value}
 use Rattle.bpf_semantics.specs.declared.state.Value.TheVariants.{Number as NumberValue, Pointer as PointerValue}
 use Rattle.bpf_semantics.specs.declared.state.Region.{Region}
-use Rattle.bpf_semantics.specs.declared.state.Region.TheVariants.{Context, Frame as FrameAt}
+use Rattle.bpf_semantics.specs.declared.state.Region.TheVariants.{Frame as FrameAt}
 use Rattle.bpf_semantics.specs.declared.state.Reason.{Reason}
 use Rattle.bpf_insn.specs.declared.instruction.Reg.{Reg}
 use Rattle.bpf_insn.specs.declared.instruction.Size.{Size}
@@ -27,17 +27,17 @@ use Rattle.bpf_semantics.specs.Memory.{Place, bytes_at, number_at, pointer_at, p
 use Rattle.bpf_semantics.specs.Memory.Place.{InFrame}
 use Rattle.bpf_num.specs.Laws.{TightenKeeps}
 use Rattle.bpf_state.specs.declared.state.RegState.{RegState}
-use Rattle.bpf_state.specs.declared.state.RegState.TheVariants.{Any, Num, Ctx, Frame}
+use Rattle.bpf_state.specs.declared.state.RegState.TheVariants.{Any, Num, Ptr}
 use Rattle.bpf_state.specs.declared.state.SlotState.{SlotState}
-use Rattle.bpf_state.specs.declared.state.SlotState.TheVariants.{Bytes, Word, Ptr}
-use Rattle.bpf_state.specs.declared.state.Pointer.TheVariants.{Ctx as CtxIn, Frame as FrameIn}
+use Rattle.bpf_state.specs.declared.state.SlotState.TheVariants.{Bytes, Word, Spilled}
 use Rattle.bpf_state.specs.declared.state.Tag.{Tag}
 use Rattle.bpf_state.specs.State.{AbstractState, register, slot, slot_tag, slot_value, put_register}
 use Rattle.bpf_state.specs.Access.{Span, span_from, span_of, is_inside, is_known, is_slot, slot_number, is_pointer_slot, are_known_bytes, any_slot, touches, touched_bytes}
 use Rattle.bpf_state.specs.Fault.{reads_part, some_passes, is_pointer}
 use Rattle.bpf_state.specs.Transfer.{after, loaded, loaded_tag, any_number}
-use Rattle.bpf_sound.specs.Describes.{DescribesRegister, DescribesSlot, TaggedRegister, TaggedSlot, IsSpilled}
+use Rattle.bpf_sound.specs.Describes.{DescribesRegister, DescribesSlot, TaggedRegister, TaggedSlot, IsSpilled, region_of}
 use Rattle.bpf_sound.specs.Laws.{Leads, IsJudged, IsAbstractRegister}
+use Rattle.bpf_sound.proofs.Areas.{context_pointer, frame_pointer, by_area}
 use Rattle.bpf_sound.proofs.Judged.{NoFault, no_fault_is, step_is, leads_at, top_frame}
 use Rattle.bpf_sound.proofs.Registers.{reg_top, put_is, register_put}
 use Rattle.bpf_sound.proofs.ReadCells.{no_slot}
@@ -210,8 +210,9 @@ module _ (tightens : TightenKeeps) (p : Instructions) (least most : ℕ) (x : Li
         by_held : (h : SlotState) → slot s (slot_number t.span) ≡ h → Loaded p x s m size dst src off
         by_held (Bytes mask) e = word_loaded whole (ap is_pointer_slot e)
         by_held (Word n) e = word_loaded whole (ap is_pointer_slot e)
-        by_held (Ptr (CtxIn lo hi)) e = spilled_loaded whole Context lo hi (here (Ptr (CtxIn lo hi)) e) (λ off l h. subst (λ held. DescribesRegister (machine.depth m) (slot_value held) (Some (PointerValue Context off))) (sym e) (off, refl, l, h))
-        by_held (Ptr (FrameIn lo hi)) e = spilled_loaded whole (FrameAt (machine.depth m)) lo hi (here (Ptr (FrameIn lo hi)) e) (λ off l h. subst (λ held. DescribesRegister (machine.depth m) (slot_value held) (Some (PointerValue (FrameAt (machine.depth m)) off))) (sym e) (off, refl, l, h))
+        by_held (Spilled q) e =
+            let region : Region = region_of (machine.depth m) q.area in
+            spilled_loaded whole region q.lo q.hi (here (Spilled q) e) (λ off l h. subst (λ held. DescribesRegister (machine.depth m) (slot_value held) (Some (PointerValue region off))) (sym e) (off, refl, l, h))
 
     frame_loaded : Loaded p x s m size dst src off
     frame_loaded = by_test (is_slot t.span) refl
@@ -229,13 +230,18 @@ module _ (tightens : TightenKeeps) (p : Instructions) (least most : ℕ) (x : Li
       by_base : (r : RegState) → register s src ≡ r → Loaded p x s m size dst src off
       by_base Any e = absurd (false≢true (sym (ap is_pointer e) ∙ pointer))
       by_base (Num n) e = absurd (false≢true (sym (ap is_pointer e) ∙ pointer))
-      by_base (Ctx lo hi) e =
-          let r = context_read m least (load_access size src off) lo hi j.state j.described.length_within.0 (subst (λ r. some_passes (λ p. not (is_inside least p)) (span_from (load_access size src off) r) ≡ false) e fault.bounds) (subst (λ r. DescribesRegister (machine.depth m) r (machine.register m src)) e (j.described.registers src)) in
-          let span : Span = record { in_frame = false; lowest = lo +ℤ off; highest = hi +ℤ off; count = byte_count size } in
-          number_loaded p x s m size dst src off r.0 r.1 span (ap (λ r. span_from (load_access size src off) r) e)
-          (part_known tightens x s m span size (number_of p.order (byte_count size) r.0) refl (number_fits p.order (byte_count size) r.0 r.1.fit))
-      by_base (Frame lo hi) e =
-          frame_loaded (in_top m least (load_access size src off) (register s src) pointer (subst (λ r. some_passes (λ p. not p.in_frame) (span_from (load_access size src off) r) ≡ false) (sym e) refl) fault.bounds (j.described.registers src))
+      by_base (Ptr q) e = by_area (λ r. register s src ≡ r → Loaded p x s m size dst src off) in_context in_frame q e
+        where
+          in_context : (lo hi : ℤ) → register s src ≡ context_pointer lo hi → Loaded p x s m size dst src off
+          in_context lo hi e =
+              let r = context_read m least (load_access size src off) lo hi j.state j.described.length_within.0 (subst (λ r. some_passes (λ p. not (is_inside least p)) (span_from (load_access size src off) r) ≡ false) e fault.bounds) (subst (λ r. DescribesRegister (machine.depth m) r (machine.register m src)) e (j.described.registers src)) in
+              let span : Span = record { in_frame = false; lowest = lo +ℤ off; highest = hi +ℤ off; count = byte_count size } in
+              number_loaded p x s m size dst src off r.0 r.1 span (ap (λ r. span_from (load_access size src off) r) e)
+              (part_known tightens x s m span size (number_of p.order (byte_count size) r.0) refl (number_fits p.order (byte_count size) r.0 r.1.fit))
+
+          in_frame : (lo hi : ℤ) → register s src ≡ frame_pointer lo hi → Loaded p x s m size dst src off
+          in_frame lo hi e =
+              frame_loaded (in_top m least (load_access size src off) (register s src) pointer (subst (λ r. some_passes (λ p. not p.in_frame) (span_from (load_access size src off) r) ≡ false) (sym e) refl) fault.bounds (j.described.registers src))
 
   pub load_reason : reason_at m (Load size dst src off) ≡ None
   load_reason = let l = load_is in load_has_none m size dst src off l.offset l.region l.place l.base l.at l.readable (other p least most x size dst src off s m j)

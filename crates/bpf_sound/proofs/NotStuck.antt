@@ -2,7 +2,7 @@
 use Rattle.std.proofs.Common.{◌≡◌, ℕ, refl, sym, ◌∙◌, ap, List, [], ◌∷◌, Option, Some, None, Bool, true, false}
 use Rattle.std.specs.Prelude.{◌||◌, not, is_none, is_some}
 use Rattle.std.specs.List.{list_any}
-use Rattle.std.proofs.lemmas.Bool.{eq-eqb, false≢true, or_parts, not-false}
+use Rattle.std.proofs.lemmas.Bool.{false≢true, or_parts, not-false}
 use Rattle.std.proofs.lemmas.Option.{same_Some}
 use Rattle.bpf_insn.specs.declared.instruction.Reg.{Reg}
 use Rattle.bpf_insn.specs.declared.instruction.Reg.TheVariants.{R0}
@@ -26,12 +26,14 @@ use Rattle.bpf_insn.specs.Effects.{operand_register, registers_read, writes_fram
 use Rattle.bpf_semantics.specs.State as machine
 use Rattle.bpf_num.specs.Laws.{ConstantHas, TightenKeeps}
 use Rattle.bpf_state.specs.declared.state.RegState.{RegState}
-use Rattle.bpf_state.specs.declared.state.RegState.TheVariants.{Any, Num, Ctx, Frame}
-use Rattle.bpf_state.specs.State.{AbstractState, register}
-use Rattle.bpf_state.specs.Fault.{operand, is_any, is_number, alu_of_kinds, can_test, have_right_kinds, reads_part}
+use Rattle.bpf_state.specs.declared.state.RegState.TheVariants.{Any, Num, Ptr}
+use Rattle.bpf_state.specs.State.{AbstractState, register, same_area}
+use Rattle.bpf_state.specs.Fault.{operand, is_any, is_number, alu_of_kinds, difference, can_test, have_right_kinds, reads_part}
 use Rattle.bpf_sound.specs.Describes.{DescribesRegister}
 use Rattle.bpf_sound.specs.Laws.{IsJudged, NotStuckInside}
+use Rattle.bpf_sound.proofs.Areas.{same_regions}
 use Rattle.bpf_sound.proofs.Judged.{no_fault_is, not_protected}
+use Rattle.bpf_sound.proofs.Tests.{some_if}
 use Rattle.bpf_sound.proofs.Operands.{operand_describes}
 use Rattle.bpf_sound.proofs.FrameStores.{store_imm_reason}
 use Rattle.bpf_sound.proofs.RegisterStores.{store_reason}
@@ -64,8 +66,7 @@ no_reason why o e f = cc
 is_set : (depth : ℕ) (value : RegState) (v : Option Value) → is_any value ≡ false → DescribesRegister depth value v → is_none v ≡ false
 is_set depth Any v known d = absurd (false≢true (sym known))
 is_set depth (Num n) v known d = ap is_none d.1
-is_set depth (Ctx lo hi) v known d = ap is_none d.1
-is_set depth (Frame lo hi) v known d = ap is_none d.1
+is_set depth (Ptr p) v known d = ap is_none d.1
 
 all_set : (s : AbstractState) (m : machine.State) (rs : List Reg) → ((r : Reg) → DescribesRegister (machine.depth m) (register s r) (machine.register m r)) → list_any (λ r. is_any (register s r)) rs ≡ false → list_any (λ r. is_none (machine.register m r)) rs ≡ false
 all_set s m [] d known = refl
@@ -77,39 +78,30 @@ all_set s m (r ∷ rs) d known =
 no_pointer : (depth : ℕ) (value : RegState) (v : Option Value) → is_number value ≡ true → DescribesRegister depth value v → is_pointer_value v ≡ false
 no_pointer depth Any v is d = absurd (false≢true is)
 no_pointer depth (Num n) v is d = ap is_pointer_value d.1
-no_pointer depth (Ctx lo hi) v is d = absurd (false≢true is)
-no_pointer depth (Frame lo hi) v is d = absurd (false≢true is)
+no_pointer depth (Ptr p) v is d = absurd (false≢true is)
 
 -- ---- operands of kinds that an operation takes
 
 alu_allowed : (depth : ℕ) (width : Width) (op : AluOp) (a b : RegState) (v w : Option Value) → is_some (alu_of_kinds width op a b) ≡ true → is_any b ≡ false → DescribesRegister depth a v → DescribesRegister depth b w → is_none (w >>= λ z. alu_result width op v z) ≡ false
 alu_allowed depth width op a Any v w h k d e = absurd (false≢true (sym k))
 alu_allowed depth W64 Mov a (Num n) v w h k d e = rw e.1
-alu_allowed depth W64 Mov a (Ctx lo hi) v w h k d e = rw e.1
-alu_allowed depth W64 Mov a (Frame lo hi) v w h k d e = rw e.1
+alu_allowed depth W64 Mov a (Ptr q) v w h k d e = rw e.1
 alu_allowed depth W32 Mov a (Num n) v w h k d e = rw e.1
-alu_allowed depth W32 Mov a (Ctx lo hi) v w h k d e = absurd (false≢true h)
-alu_allowed depth W32 Mov a (Frame lo hi) v w h k d e = absurd (false≢true h)
+alu_allowed depth W32 Mov a (Ptr q) v w h k d e = absurd (false≢true h)
 alu_allowed depth W64 op (Num n) (Num n') v w h k d e = rw (e.1, d.1)
 alu_allowed depth W32 op (Num n) (Num n') v w h k d e = rw (e.1, d.1)
-alu_allowed depth W64 Add (Ctx lo hi) (Num n) v w h k d e = rw (e.1, d.1)
-alu_allowed depth W64 Add (Frame lo hi) (Num n) v w h k d e = rw (e.1, d.1)
-alu_allowed depth W64 Add (Num n) (Ctx lo hi) v w h k d e = rw (e.1, d.1)
-alu_allowed depth W64 Add (Num n) (Frame lo hi) v w h k d e = rw (e.1, d.1)
-alu_allowed depth W64 Sub (Ctx lo hi) (Num n) v w h k d e = rw (e.1, d.1)
-alu_allowed depth W64 Sub (Frame lo hi) (Num n) v w h k d e = rw (e.1, d.1)
-alu_allowed depth W64 Sub (Ctx lo hi) (Ctx lo' hi') v w h k d e = rw (e.1, d.1)
-alu_allowed depth W64 Sub (Frame lo hi) (Frame lo' hi') v w h k d e = rw (e.1, d.1, eq-eqb depth depth refl)
+alu_allowed depth W64 Add (Ptr p) (Num n) v w h k d e = rw (e.1, d.1)
+alu_allowed depth W64 Add (Num n) (Ptr q) v w h k d e = rw (e.1, d.1)
+alu_allowed depth W64 Sub (Ptr p) (Num n) v w h k d e = rw (e.1, d.1)
+alu_allowed depth W64 Sub (Ptr p) (Ptr q) v w h k d e = rw (e.1, d.1, same_regions depth p.area q.area (some_if (same_area p.area q.area) (difference p.lo p.hi q.lo q.hi) h))
 alu_allowed depth width op Any b v w h k d e = absurd (false≢true h)
 alu_allowed depth width op a b v w h k d e = absurd (false≢true h)
 
 test_allowed : (depth : ℕ) (width : Width) (cond : Cond) (a b : RegState) (v w : Option Value) → can_test width cond a b ≡ true → DescribesRegister depth a v → DescribesRegister depth b w → is_none (v >>= λ y. w >>= λ z. test_of_values width cond y z) ≡ false
 test_allowed depth W64 cond (Num n) (Num n') v w h d e = rw (d.1, e.1)
 test_allowed depth W32 cond (Num n) (Num n') v w h d e = rw (d.1, e.1)
-test_allowed depth W64 Eq (Ctx lo hi) (Ctx lo' hi') v w h d e = rw (d.1, e.1)
-test_allowed depth W64 Eq (Frame lo hi) (Frame lo' hi') v w h d e = rw (d.1, e.1, eq-eqb depth depth refl)
-test_allowed depth W64 Ne (Ctx lo hi) (Ctx lo' hi') v w h d e = rw (d.1, e.1)
-test_allowed depth W64 Ne (Frame lo hi) (Frame lo' hi') v w h d e = rw (d.1, e.1, eq-eqb depth depth refl)
+test_allowed depth W64 Eq (Ptr p) (Ptr q) v w h d e = rw (d.1, e.1, same_regions depth p.area q.area h)
+test_allowed depth W64 Ne (Ptr p) (Ptr q) v w h d e = rw (d.1, e.1, same_regions depth p.area q.area h)
 test_allowed depth width cond a b v w h d e = absurd (false≢true h)
 
 operand_known : (s : AbstractState) (src : Operand) → list_any (λ r. is_any (register s r)) (operand_register src) ≡ false → is_any (operand s src) ≡ false

@@ -16,7 +16,6 @@ use Rattle.bpf_insn.specs.declared.order.Order.TheVariants.{Little, Big}
 use Rattle.bpf_semantics.specs.declared.state.Value.{Value}
 use Rattle.bpf_semantics.specs.declared.state.Value.TheVariants.{Number as NumberValue, Pointer as PointerValue}
 use Rattle.bpf_semantics.specs.declared.state.Region.{Region}
-use Rattle.bpf_semantics.specs.declared.state.Region.TheVariants.{Context, Frame as FrameAt}
 use Rattle.bpf_insn.specs.Instruction.{Instructions}
 use Rattle.bpf_insn.specs.Order.{number_of, bytes_of}
 use Rattle.bpf_semantics.specs.State as machine
@@ -25,14 +24,14 @@ use Rattle.bpf_semantics.specs.Memory.{with_bytes}
 use Rattle.bpf_num.specs.Word.{M}
 use Rattle.bpf_num.specs.Number.{IsNumber, top}
 use Rattle.bpf_state.specs.declared.state.RegState.{RegState}
-use Rattle.bpf_state.specs.declared.state.RegState.TheVariants.{Any, Num, Ctx, Frame}
+use Rattle.bpf_state.specs.declared.state.RegState.TheVariants.{Any, Num, Ptr}
 use Rattle.bpf_state.specs.declared.state.SlotState.{SlotState}
-use Rattle.bpf_state.specs.declared.state.SlotState.TheVariants.{Bytes, Word, Ptr}
+use Rattle.bpf_state.specs.declared.state.SlotState.TheVariants.{Bytes, Word, Spilled}
 use Rattle.bpf_state.specs.declared.state.Tag.{Tag}
 use Rattle.bpf_state.specs.State.{AbstractState, slot, slot_tag, put_slot, value_slot}
 use Rattle.bpf_state.specs.Access.{Span, span_end, place_in, is_known, is_slot, slot_number, touches, touched_bytes}
 use Rattle.bpf_state.specs.Transfer.{slot_written, slot_maybe_written, with_touched, stored}
-use Rattle.bpf_sound.specs.Describes.{Describes, DescribesRegister, DescribesSlot, TaggedRegister, TaggedSlot, IsStored}
+use Rattle.bpf_sound.specs.Describes.{Describes, DescribesRegister, DescribesSlot, TaggedRegister, TaggedSlot, IsStored, region_of}
 use Rattle.bpf_sound.specs.Laws.{Leads, IsAbstract, IsAbstractRegister, IsAbstractSlot}
 use Rattle.bpf_sound.proofs.StoredCells.{whole_slot, other_slot}
 use Rattle.bpf_sound.proofs.TouchedCells.{place_is, LiesAt, zero_or_one, apart}
@@ -76,7 +75,7 @@ is_number_top = record {
 }
 
 is_slot_written : (mask : ℕ) (held : SlotState) → mask ≤ 254 → IsAbstractSlot held → IsAbstractSlot (slot_written mask held)
-is_slot_written mask (Ptr p) small ok = small
+is_slot_written mask (Spilled p) small ok = small
 is_slot_written mask (Word n) small ok = is_number_top
 is_slot_written mask (Bytes m) small ok = by_test (bit_or m mask == 255) refl
   where
@@ -85,7 +84,7 @@ is_slot_written mask (Bytes m) small ok = by_test (bit_or m mask == 255) refl
     by_test false e = let b = or_of_8 m mask (omega arith) (omega arith) in grind (arith, nat_tests)
 
 pub is_slot_maybe_written : (held : SlotState) → IsAbstractSlot held → IsAbstractSlot (slot_maybe_written held)
-is_slot_maybe_written (Ptr p) ok = omega arith
+is_slot_maybe_written (Spilled p) ok = omega arith
 is_slot_maybe_written (Word n) ok = is_number_top
 is_slot_maybe_written (Bytes m) ok = ok
 
@@ -170,8 +169,7 @@ not_pointer y region off e = absurd (subst (λ v. IsNumberValue v) e tt)
 stored_value : (order : Order) (depth y : ℕ) (value : RegState) (cell : ℕ → Option Cell) → DescribesRegister depth value (Some (NumberValue y)) → IsStored order y cell → DescribesSlot order depth (value_slot value) cell
 stored_value order depth y Any cell d st = λ i lt set. zero_or_one (sym (bit_at-zero i) ∙ set)
 stored_value order depth y (Num n) cell d st = (d.0, subst (λ z. IsStored order z cell) (same_number y d.0 d.1) st, d.2)
-stored_value order depth y (Ctx lo hi) cell d st = not_pointer y Context d.0 d.1
-stored_value order depth y (Frame lo hi) cell d st = not_pointer y (FrameAt depth) d.0 d.1
+stored_value order depth y (Ptr p) cell d st = not_pointer y (region_of depth p.area) d.0 d.1
 
 stored_tag : (order : Order) (x : List ℕ) (y : ℕ) (tag : Option Tag) (cell : ℕ → Option Cell) → TaggedRegister x tag (Some (NumberValue y)) → IsStored order y cell → TaggedSlot order x tag cell
 stored_tag order x y None cell d st = tt
@@ -212,8 +210,7 @@ set_at P ss k j v d all low high low' high' same other =
 pub value_slot_valid : (value : RegState) → IsAbstractRegister value → IsAbstractSlot (value_slot value)
 value_slot_valid Any ok = omega arith
 value_slot_valid (Num n) ok = ok
-value_slot_valid (Ctx lo hi) ok = ok
-value_slot_valid (Frame lo hi) ok = ok
+value_slot_valid (Ptr p) ok = ok
 
 module _ (order : Order) (least most : ℕ) (x : List ℕ) (s : AbstractState) (m : machine.State) (p : Span) (c sl y : ℕ) (value : RegState) (tag : Option Tag) (valid : IsAbstract s) (frame : IsFrame m.top) (lies : LiesAt p c) (few : p.count ≤ 8) (d : Describes order least most x s m) (small : y < M) (is : DescribesRegister (machine.depth m) value (Some (NumberValue y))) (tagged : TaggedRegister x tag (Some (NumberValue y))) (ok : IsAbstractRegister value) where
   write : Write m.top p c (bytes_of order p.count y)

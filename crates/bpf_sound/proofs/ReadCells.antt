@@ -13,7 +13,7 @@ use Rattle.bpf_semantics.specs.State.{Cell, cell}
 use Rattle.bpf_semantics.specs.State.Cell.{Byte}
 use Rattle.bpf_semantics.specs.Memory.{bytes_in}
 use Rattle.bpf_state.specs.declared.state.SlotState.{SlotState}
-use Rattle.bpf_state.specs.declared.state.SlotState.TheVariants.{Bytes, Word, Ptr}
+use Rattle.bpf_state.specs.declared.state.SlotState.TheVariants.{Bytes, Word, Spilled}
 use Rattle.bpf_state.specs.Access.{any_slot, is_pointer_slot, are_known_bytes, Span, span_end, place_in, touches, touched_bytes}
 use Rattle.bpf_sound.specs.Describes.{DescribesSlot, IsStored}
 use Rattle.bpf_sound.proofs.TouchedCells.{LiesAt, not_touched}
@@ -49,7 +49,7 @@ is_touched p c k i at low high lt l h = by_test (touches p k) refl
 
 -- a byte whose bit is known
 pub known_byte : (order : Order) (depth mask : ℕ) (held : SlotState) (cell : ℕ → Option Cell) (i : ℕ) → are_known_bytes mask held ≡ true → is_pointer_slot held ≡ false → bit_at mask i ≡ 1 → i < 8 → DescribesSlot order depth held cell → (b : ℕ) × (cell i ≡ Some (Byte b))
-known_byte order depth mask (Ptr p) cell i known plain set lt d = absurd (false≢true (sym plain))
+known_byte order depth mask (Spilled p) cell i known plain set lt d = absurd (false≢true (sym plain))
 known_byte order depth mask (Word n) cell i known plain set lt d = (slice_index d.1.0 i, d.1.2 i lt)
 known_byte order depth mask (Bytes m) cell i known plain set lt d = d i lt (in_both (bit_at mask i) (bit_at m i) (bit_at-lt m i) set (sym (bit_at_and mask m i) ∙ ap (λ v. bit_at v i) (eqb-true (bit_and mask m) mask known)))
   where

@@ -20,12 +20,12 @@ use Rattle.bpf_semantics.specs.State.Cell.{Byte}
 use Rattle.bpf_semantics.specs.Memory.{Place, bytes_in, bytes_at, pointer_at, pointer_in, place_of, stack_of}
 use Rattle.bpf_semantics.specs.Memory.Place.{InContext, InFrame}
 use Rattle.bpf_state.specs.declared.state.RegState.{RegState}
-use Rattle.bpf_state.specs.declared.state.RegState.TheVariants.{Ctx}
 use Rattle.bpf_state.specs.State.{AbstractState, slot}
 use Rattle.bpf_state.specs.Access.{Span, span_from, span_end, is_inside, first_byte, any_slot, is_pointer_slot, are_known_bytes, slot_number, touches, touched_bytes}
 use Rattle.bpf_state.specs.Fault.{some_passes}
 use Rattle.bpf_sound.specs.Describes.{Describes, PointsInto}
 use Rattle.bpf_sound.specs.Laws.{IsAbstract}
+use Rattle.bpf_sound.proofs.Areas.{context_pointer}
 use Rattle.bpf_sound.proofs.TouchedCells.{int_lt_true, LiesAt}
 use Rattle.bpf_sound.proofs.ReadCells.{no_slot, has_bit, is_touched, known_byte, ReadBytes, read_bytes}
 use Rattle.bpf_sound.proofs.Judged.{top_frame}
@@ -57,7 +57,7 @@ part_bytes n c bytes fit i =
       | inr more ↦ subst (λ v. v < 256) (sym (get_or_past (take n (drop c bytes)) i 0 (let l = length-take n (drop c bytes) in omega arith))) (omega arith)
     ]
 
-pub context_read : (m : machine.State) (least : ℕ) (a : Access) (lo hi : ℤ) → machine.IsState m → least ≤ length m.context → some_passes (λ p. not (is_inside least p)) (span_from a (Ctx lo hi)) ≡ false → PointsInto Context lo hi (machine.register m a.base) → (bytes : List ℕ) × Read m a bytes
+pub context_read : (m : machine.State) (least : ℕ) (a : Access) (lo hi : ℤ) → machine.IsState m → least ≤ length m.context → some_passes (λ p. not (is_inside least p)) (span_from a (context_pointer lo hi)) ≡ false → PointsInto Context lo hi (machine.register m a.base) → (bytes : List ℕ) × Read m a bytes
 context_read m least a lo hi ok all q d =
     let z : ℤ = d.0 +ℤ a.offset in
     let low : Bool = int_le (pos 0) (lo +ℤ a.offset) in

@@ -11,7 +11,7 @@ use Rattle.bpf_insn.specs.declared.order.Order.{Order}
 use Rattle.bpf_semantics.specs.declared.state.Value.{Value}
 use Rattle.bpf_semantics.specs.declared.state.Value.TheVariants.{Number as NumberValue, Pointer as PointerValue}
 use Rattle.bpf_semantics.specs.declared.state.Region.{Region}
-use Rattle.bpf_semantics.specs.declared.state.Region.TheVariants.{Context, Frame as FrameAt}
+use Rattle.bpf_semantics.specs.declared.state.Region.TheVariants.{Frame as FrameAt}
 use Rattle.bpf_insn.specs.declared.instruction.Reg.{Reg}
 use Rattle.bpf_insn.specs.declared.instruction.Size.{Size}
 use Rattle.bpf_insn.specs.declared.instruction.Size.TheVariants.{B, H, W, DW}
@@ -28,7 +28,7 @@ use Rattle.bpf_semantics.specs.Memory.{with_bytes, with_parts, store_pointer, pa
 use Rattle.bpf_semantics.specs.Memory.Place.{InFrame}
 use Rattle.bpf_num.specs.Word.{M}
 use Rattle.bpf_state.specs.declared.state.RegState.{RegState}
-use Rattle.bpf_state.specs.declared.state.RegState.TheVariants.{Any, Num, Ctx, Frame}
+use Rattle.bpf_state.specs.declared.state.RegState.TheVariants.{Any, Num, Ptr}
 use Rattle.bpf_state.specs.declared.state.SlotState.{SlotState}
 use Rattle.bpf_state.specs.declared.state.SlotState.TheVariants.{Bytes}
 use Rattle.bpf_state.specs.declared.state.Tag.{Tag}
@@ -36,7 +36,7 @@ use Rattle.bpf_state.specs.Access.{span_of, Span, is_known, is_slot, slot_number
 use Rattle.bpf_state.specs.Fault.{can_store, have_right_kinds, is_pointer, is_any}
 use Rattle.bpf_state.specs.Transfer.{after, slot_written, slot_maybe_written, with_touched, stored}
 use Rattle.bpf_state.specs.State.{AbstractState, register, register_tag, slot, slot_tag, put_slot, value_slot}
-use Rattle.bpf_sound.specs.Describes.{Describes, DescribesRegister, DescribesSlot, TaggedRegister, TaggedSlot, IsSpilled}
+use Rattle.bpf_sound.specs.Describes.{Describes, DescribesRegister, DescribesSlot, TaggedRegister, TaggedSlot, IsSpilled, region_of}
 use Rattle.bpf_sound.specs.Laws.{Leads, IsJudged, IsAbstract, IsAbstractSlot}
 use Rattle.bpf_sound.proofs.StoredCells.{each_cell_at, outside, within}
 use Rattle.bpf_sound.proofs.TouchedCells.{apart}
@@ -133,8 +133,7 @@ eight_in_slot p whole = eqb-true p.count 8 (and3_true (is_known p) (p.count == 8
 stored_is : (m : machine.State) (src : Reg) (span : Span) (size : Size) (value : RegState) → is_any value ≡ false → span.count ≡ byte_count size → can_store (Some span) value ≡ true → DescribesRegister (machine.depth m) value (machine.register m src) → Stored m src span size value
 stored_is m src span size Any known n can d = absurd (false≢true (sym known))
 stored_is m src span size (Num k) known n can d = number d.0 d.2.bits.fits d.1
-stored_is m src span size (Ctx lo hi) known n can d = pointer Context d.0 lo hi d.1 can (size_of_eight size (sym n ∙ eight_in_slot span can)) (λ cell order sp. sp) d.2 d.3
-stored_is m src span size (Frame lo hi) known n can d = pointer (FrameAt (machine.depth m)) d.0 lo hi d.1 can (size_of_eight size (sym n ∙ eight_in_slot span can)) (λ cell order sp. sp) d.2 d.3
+stored_is m src span size (Ptr p) known n can d = pointer (region_of (machine.depth m) p.area) d.0 p.lo p.hi d.1 can (size_of_eight size (sym n ∙ eight_in_slot span can)) (λ cell order sp. sp) d.2 d.3
 
 -- what a store of a pointer does
 does_store_pointer : (order : Order) (dst src : Reg) (off at off' : ℤ) (region region' : Region) (c : ℕ) (m : machine.State) → machine.register m dst ≡ Some (PointerValue region' at) → machine.register m src ≡ Some (PointerValue region off') → place_of m 8 off (PointerValue region' at) ≡ Some (InFrame (machine.depth m) c) → (c % 8 == 0) ≡ true → does order (Store DW dst off src) m ≡ Some (at_top m (m.top.slot + 1) (with_parts region off' c m.top.stack))

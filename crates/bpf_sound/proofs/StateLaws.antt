@@ -4,9 +4,9 @@ use Rattle.std.proofs.lemmas.List.Elements.{All-get_or}
 use Rattle.bpf_insn.specs.Instruction.{register_number}
 use Rattle.bpf_num.specs.Number.{Number, IsNumber}
 use Rattle.bpf_state.specs.declared.state.RegState.{RegState}
-use Rattle.bpf_state.specs.declared.state.RegState.TheVariants.{Any, Num, Ctx, Frame}
+use Rattle.bpf_state.specs.declared.state.RegState.TheVariants.{Any, Num, Ptr}
 use Rattle.bpf_state.specs.declared.state.SlotState.{SlotState}
-use Rattle.bpf_state.specs.declared.state.SlotState.TheVariants.{Bytes, Word, Ptr}
+use Rattle.bpf_state.specs.declared.state.SlotState.TheVariants.{Bytes, Word, Spilled}
 use Rattle.bpf_state.specs.State.{IsRegister, IsSlot, register, slot}
 use Rattle.bpf_sound.specs.Laws.{IsAbstractRegister, IsAbstractSlot, StatesAreAbstract}
 use Rattle.bpf_sound.proofs.Registers.{below_eleven}
@@ -14,13 +14,12 @@ use Rattle.bpf_sound.proofs.Registers.{below_eleven}
 register_is : (v : RegState) → IsRegister v → ((n : Number) → v ≡ Num n → IsNumber n) → IsAbstractRegister v
 register_is Any ok number = ok
 register_is (Num n) ok number = number n refl
-register_is (Ctx lo hi) ok number = ok
-register_is (Frame lo hi) ok number = ok
+register_is (Ptr p) ok number = ok
 
 slot_is : (v : SlotState) → IsSlot v → ((n : Number) → v ≡ Word n → IsNumber n) → IsAbstractSlot v
 slot_is (Bytes mask) ok number = ok
 slot_is (Word n) ok number = number n refl
-slot_is (Ptr p) ok number = ok
+slot_is (Spilled p) ok number = ok
 
 pub states_are_abstract : StatesAreAbstract
 states_are_abstract s state numbers =

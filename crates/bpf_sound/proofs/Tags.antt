@@ -22,7 +22,7 @@ use Rattle.bpf_num.specs.Laws.WordLaws.{signed_is}
 use Rattle.bpf_num.specs.Number.{Number, IsNumber, Has, is_constant}
 use Rattle.bpf_num.specs.Laws.{ConstantHas, ConstantIs}
 use Rattle.bpf_state.specs.declared.state.RegState.{RegState}
-use Rattle.bpf_state.specs.declared.state.RegState.TheVariants.{Any, Num, Ctx, Frame}
+use Rattle.bpf_state.specs.declared.state.RegState.TheVariants.{Any, Num, Ptr}
 use Rattle.bpf_state.specs.declared.state.Tag.{Tag}
 use Rattle.bpf_state.specs.State.{AbstractState, register, register_tag}
 use Rattle.bpf_state.specs.Fault.{operand}
@@ -155,8 +155,7 @@ tag_of_kinds law x depth op (Num n) (Num k) tag a b v kind d ok d' tagged e =
     subst (λ v. TaggedRegister x (tag_after (Num n) (added op (Num k)) tag) (Some v)) (result_of_numbers op y z v kind e')
     (number_tag law x op n k y z tag d.2 ok d'.2 (subst (λ a. TaggedRegister x tag a) d.1 tagged))
 tag_of_kinds law x depth op (Num n) Any tag a b v kind d ok d' tagged e = no_tag x n op Any tag v refl
-tag_of_kinds law x depth op (Num n) (Ctx lo hi) tag a b v kind d ok d' tagged e = no_tag x n op (Ctx lo hi) tag v refl
-tag_of_kinds law x depth op (Num n) (Frame lo hi) tag a b v kind d ok d' tagged e = no_tag x n op (Frame lo hi) tag v refl
+tag_of_kinds law x depth op (Num n) (Ptr q) tag a b v kind d ok d' tagged e = no_tag x n op (Ptr q) tag v refl
 tag_of_kinds law x depth op A B tag a b v kind d ok d' tagged e = tt
 
 pub alu_tag_keeps : ConstantHas → ConstantIs → (order : Order) (least most : ℕ) (x : List ℕ) (s : AbstractState) (m : machine.State) (width : Width) (op : AluOp) (dst : Reg) (src : Operand) (b v : Value) → IsAbstract s → Describes order least most x s m → machine_operand m src ≡ Some b → alu_result width op (machine.register m dst) b ≡ Some v → TaggedRegister x (alu_tag s width op dst src) (Some v)

@@ -1,6 +1,6 @@
 -- Tests of several parts.
-use Rattle.std.proofs.Common.{◌≡◌, ℕ, refl, arith, inl, inr, Bool, true, false}
-use Rattle.std.specs.Prelude.{◌⊎◌, ◌&&◌, nat_le}
+use Rattle.std.proofs.Common.{◌≡◌, ℕ, refl, arith, inl, inr, Some, None, Bool, true, false, cond}
+use Rattle.std.specs.Prelude.{◌⊎◌, ◌&&◌, nat_le, is_some}
 use Rattle.std.proofs.lemmas.Bool.{false≢true}
 use Rattle.std.proofs.lemmas.Bool.Decides.{nat_tests}
 
@@ -23,6 +23,10 @@ and_at false b h e = absurd (false≢true e)
 pub and_second : (a b : Bool) → b ≡ false → (a && b) ≡ false
 and_second true b e = e
 and_second false b e = refl
+
+pub some_if : {A : Type 0} (t : Bool) (x : A) → is_some (cond t (Some x) None) ≡ true → t ≡ true
+some_if true x h = refl
+some_if false x h = absurd (false≢true h)
 
 pub leb_self : (n : ℕ) → nat_le n n ≡ true
 leb_self n = grind (arith, nat_tests)

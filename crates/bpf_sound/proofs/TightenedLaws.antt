@@ -9,9 +9,9 @@ use Rattle.bpf_semantics.specs.State as machine
 use Rattle.bpf_semantics.specs.State.{Cell}
 use Rattle.bpf_num.specs.Laws.{TightenKeeps}
 use Rattle.bpf_state.specs.declared.state.RegState.{RegState}
-use Rattle.bpf_state.specs.declared.state.RegState.TheVariants.{Any, Num, Ctx, Frame}
+use Rattle.bpf_state.specs.declared.state.RegState.TheVariants.{Any, Num, Ptr}
 use Rattle.bpf_state.specs.declared.state.SlotState.{SlotState}
-use Rattle.bpf_state.specs.declared.state.SlotState.TheVariants.{Bytes, Word, Ptr}
+use Rattle.bpf_state.specs.declared.state.SlotState.TheVariants.{Bytes, Word, Spilled}
 use Rattle.bpf_state.specs.State.{register, slot, tightened_register, tightened_slot, each_if}
 use Rattle.bpf_sound.specs.Describes.{DescribesRegister, DescribesSlot, slot_cell}
 use Rattle.bpf_sound.specs.Laws.{IsAbstractRegister, IsAbstractSlot, TightenedDescribes}
@@ -23,15 +23,14 @@ tighten_register law depth Any v ok d = record { value = Any; is_there = refl; g
 tighten_register law depth (Num n) v ok d =
     let h = law n d.0 (ok, d.2) in
     record { value = Num h.set; is_there = ap (λ o. option_map Num o) h.is_there; good = (h.valid, (d.0, d.1, h.has)) }
-tighten_register law depth (Ctx lo hi) v ok d = record { value = Ctx lo hi; is_there = refl; good = (ok, d) }
-tighten_register law depth (Frame lo hi) v ok d = record { value = Frame lo hi; is_there = refl; good = (ok, d) }
+tighten_register law depth (Ptr p) v ok d = record { value = Ptr p; is_there = refl; good = (ok, d) }
 
 tighten_slot : TightenKeeps → (order : Order) (depth : ℕ) (held : SlotState) (cell : ℕ → Option Cell) → IsAbstractSlot held → DescribesSlot order depth held cell → Given (tightened_slot held) (λ t. IsAbstractSlot t × DescribesSlot order depth t cell)
 tighten_slot law order depth (Bytes mask) cell ok d = record { value = Bytes mask; is_there = refl; good = (ok, d) }
 tighten_slot law order depth (Word n) cell ok d =
     let h = law n d.0 (ok, d.2) in
     record { value = Word h.set; is_there = ap (λ o. option_map Word o) h.is_there; good = (h.valid, (d.0, d.1, h.has)) }
-tighten_slot law order depth (Ptr p) cell ok d = record { value = Ptr p; is_there = refl; good = (ok, d) }
+tighten_slot law order depth (Spilled p) cell ok d = record { value = Spilled p; is_there = refl; good = (ok, d) }
 
 -- slot k stands at place k - 1
 from_slots : (P : ℕ → ℕ → Type 0) → ((k : ℕ) → 1 ≤ k → k ≤ 64 → P (k - 1) k) → (n : ℕ) → n < 64 → P n (suc n)

@@ -13,7 +13,7 @@ use Rattle.bpf_num.specs.Word.{M}
 use Rattle.bpf_num.specs.Number.{Has, top}
 use Rattle.bpf_num.specs.Laws.SignedLaws.{in_signed_top}
 use Rattle.bpf_state.specs.declared.state.SlotState.{SlotState}
-use Rattle.bpf_state.specs.declared.state.SlotState.TheVariants.{Bytes, Word, Ptr}
+use Rattle.bpf_state.specs.declared.state.SlotState.TheVariants.{Bytes, Word, Spilled}
 use Rattle.bpf_state.specs.Transfer.{slot_written, slot_maybe_written}
 use Rattle.bpf_sound.specs.Describes.{DescribesSlot, IsStored}
 use Rattle.bpf_sound.proofs.TouchedCells.{zero_or_one}
@@ -92,7 +92,7 @@ bit_in_either a b i set = one (bit_at a i) (bit_at b i) (bit_at-lt a i) (bit_at-
     one (suc x) y lt lt' e = inl (omega arith)
 
 pub written_slot : (order : Order) (depth : ℕ) (mask : ℕ) (held : SlotState) (cell cell' : ℕ → Option Cell) → ((i : ℕ) → i < 8 → (b : ℕ) → cell i ≡ Some (Byte b) → IsByte (cell' i)) → ((i : ℕ) → i < 8 → bit_at mask i ≡ 1 → IsByte (cell' i)) → DescribesSlot order depth held cell → DescribesSlot order depth (slot_written mask held) cell'
-written_slot order depth mask (Ptr p) cell cell' stay new d = λ i lt set. let b = new i lt set in (b.byte, b.is)
+written_slot order depth mask (Spilled p) cell cell' stay new d = λ i lt set. let b = new i lt set in (b.byte, b.is)
 written_slot order depth mask (Word n) cell cell' stay new d = all_bytes order cell' (λ i lt. stay i lt (slice_index d.1.0 i) (d.1.2 i lt))
 written_slot order depth mask (Bytes m) cell cell' stay new d = by_test (bit_or m mask == 255) refl
   where
@@ -108,6 +108,6 @@ written_slot order depth mask (Bytes m) cell cell' stay new d = by_test (bit_or 
     by_test false e = λ i lt set. let b = either i lt set in (b.byte, b.is)
 
 pub maybe_written_slot : (order : Order) (depth : ℕ) (held : SlotState) (cell cell' : ℕ → Option Cell) → ((i : ℕ) → i < 8 → (b : ℕ) → cell i ≡ Some (Byte b) → IsByte (cell' i)) → DescribesSlot order depth held cell → DescribesSlot order depth (slot_maybe_written held) cell'
-maybe_written_slot order depth (Ptr p) cell cell' stay d = λ i lt set. zero_or_one (sym (bit_at-zero i) ∙ set)
+maybe_written_slot order depth (Spilled p) cell cell' stay d = λ i lt set. zero_or_one (sym (bit_at-zero i) ∙ set)
 maybe_written_slot order depth (Word n) cell cell' stay d = all_bytes order cell' (λ i lt. stay i lt (slice_index d.1.0 i) (d.1.2 i lt))
 maybe_written_slot order depth (Bytes m) cell cell' stay d = λ i lt set. let b = stay i lt (d i lt set).0 (d i lt set).1 in (b.byte, b.is)

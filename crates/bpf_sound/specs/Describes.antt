@@ -13,10 +13,11 @@ use Rattle.bpf_semantics.specs.State.{Cell}
 use Rattle.bpf_semantics.specs.State.Cell.{Byte, Part}
 use Rattle.bpf_num.specs.Number.{Has}
 use Rattle.bpf_state.specs.declared.state.RegState.{RegState}
-use Rattle.bpf_state.specs.declared.state.RegState.TheVariants.{Any, Num, Ctx, Frame}
+use Rattle.bpf_state.specs.declared.state.RegState.TheVariants.{Any, Num, Ptr}
 use Rattle.bpf_state.specs.declared.state.SlotState.{SlotState}
-use Rattle.bpf_state.specs.declared.state.SlotState.TheVariants.{Bytes, Word, Ptr}
-use Rattle.bpf_state.specs.declared.state.Pointer.TheVariants.{Ctx as CtxIn, Frame as FrameIn}
+use Rattle.bpf_state.specs.declared.state.SlotState.TheVariants.{Bytes, Word, Spilled}
+use Rattle.bpf_state.specs.declared.state.Area.{Area}
+use Rattle.bpf_state.specs.declared.state.Area.TheVariants.{Context as InContext, Frame as InFrame}
 use Rattle.bpf_state.specs.declared.state.Tag.{Tag}
 use Rattle.bpf_state.specs.State.{AbstractState, register, register_tag, slot, slot_tag}
 
@@ -24,12 +25,16 @@ use Rattle.bpf_state.specs.State.{AbstractState, register, register_tag, slot, s
 abbrev pub PointsInto : Region → ℤ → ℤ → Option Value → Type 0
 PointsInto region lo hi v = (offset : ℤ) × (v ≡ Some (PointerValue region offset)) × (lo ≤ℤ offset) × (offset ≤ℤ hi)
 
+-- the region that a pointer of the top frame, which is at a depth, points into
+abbrev pub region_of : ℕ → Area → Region
+region_of depth InContext = Context
+region_of depth InFrame = FrameAt depth
+
 -- a register of a machine whose top frame is at a depth
 abbrev pub DescribesRegister : ℕ → RegState → Option Value → Type 0
 DescribesRegister depth Any v = ⊤
 DescribesRegister depth (Num n) v = (x : ℕ) × (v ≡ Some (NumberValue x)) × Has n x
-DescribesRegister depth (Ctx lo hi) v = PointsInto Context lo hi v
-DescribesRegister depth (Frame lo hi) v = PointsInto (FrameAt depth) lo hi v
+DescribesRegister depth (Ptr p) v = PointsInto (region_of depth p.area) p.lo p.hi v
 
 -- the cell of byte i of a slot
 abbrev pub slot_cell : machine.State → ℕ → ℕ → Option Cell
@@ -48,8 +53,7 @@ IsStored order x cell =
 abbrev pub DescribesSlot : Order → ℕ → SlotState → (ℕ → Option Cell) → Type 0
 DescribesSlot order depth (Bytes mask) cell = (i : ℕ) → i < 8 → bit_at mask i ≡ 1 → (b : ℕ) × (cell i ≡ Some (Byte b))
 DescribesSlot order depth (Word n) cell = (x : ℕ) × IsStored order x cell × Has n x
-DescribesSlot order depth (Ptr (CtxIn lo hi)) cell = IsSpilled Context lo hi cell
-DescribesSlot order depth (Ptr (FrameIn lo hi)) cell = IsSpilled (FrameAt depth) lo hi cell
+DescribesSlot order depth (Spilled p) cell = IsSpilled (region_of depth p.area) p.lo p.hi cell
 
 -- there is such a term, and x is what its place held at the label, and the offset more, as integers
 abbrev pub IsTagged : List ℕ → Tag → ℕ → Type 0

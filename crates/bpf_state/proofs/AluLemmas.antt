@@ -18,10 +18,11 @@ use Rattle.bpf_num.specs.SignedInterval.{SignedInterval, signed_interval, signed
 use Rattle.bpf_num.specs.Number.{Number, number, tighten}
 use Rattle.bpf_num.specs.Operation.{num_alu}
 use Rattle.bpf_state.specs.declared.state.RegState.{RegState}
-use Rattle.bpf_state.specs.declared.state.RegState.TheVariants.{Any, Num, Ctx, Frame}
-use Rattle.bpf_state.specs.declared.fault.StateFault.TheVariants.{OutOfBounds}
+use Rattle.bpf_state.specs.declared.state.RegState.TheVariants.{Any, Num, Ptr}
+use Rattle.bpf_state.specs.declared.state.Pointer.{Pointer}
+use Rattle.bpf_state.specs.declared.fault.StateFault.TheVariants.{WrongKinds, OutOfBounds}
 use Rattle.bpf_state.specs.declared.state.Tag.{Tag}
-use Rattle.bpf_state.specs.State.{AbstractState, register, put_register}
+use Rattle.bpf_state.specs.State.{AbstractState, register, put_register, same_area}
 use Rattle.bpf_state.specs.Fault.{operand, difference, some_passes, leaves_bounds, alu_of_kinds, reads_any}
 use Rattle.bpf_state.specs.Transfer.{Outcome, Faulty, live, unless, transfer, alu_tag}
 use Rattle.bpf_state.specs.Answer.{fault_number}
@@ -62,18 +63,15 @@ difference_held a A b B f g h k =
     (ap₂ signed_interval (to_z-of_z w64 a f) (to_z-of_z w64 A g))
     (ap₂ signed_interval (to_z-of_z w64 b h) (to_z-of_z w64 B k))
 
--- pointers of one kind
-pub context_rest : (x y : RegState) (d : Option RegState) (a A b B : ℤ) → x ≡ Ctx a A → y ≡ Ctx b B → d ≡ difference a A b B → ◌≡◌ {A = Known} (Ok d) (result_of W64 Sub x y)
-context_rest x y d a A b B e f g =
-    ap Ok g
-    ∙ judged_number Sub (tighten (number bits_top unsigned_top (signed_sub (signed_interval a A) (signed_interval b B))))
-    ∙ sym (ap₂ (λ v w. result_of W64 Sub v w) e f)
+-- two pointers, into the same or not
+pub same_rest : (p q : Pointer) (d : Option RegState) → same_area p.area q.area ≡ true → d ≡ difference p.lo p.hi q.lo q.hi → ◌≡◌ {A = Known} (Ok d) (result_of W64 Sub (Ptr p) (Ptr q))
+same_rest p q d e f =
+    ap Ok f
+    ∙ judged_number Sub (tighten (number bits_top unsigned_top (signed_sub (signed_interval p.lo p.hi) (signed_interval q.lo q.hi))))
+    ∙ sym (ap (λ same. judged_result Sub (if same then Some (difference p.lo p.hi q.lo q.hi) else None)) e)
 
-pub frame_rest : (x y : RegState) (d : Option RegState) (a A b B : ℤ) → x ≡ Frame a A → y ≡ Frame b B → d ≡ difference a A b B → ◌≡◌ {A = Known} (Ok d) (result_of W64 Sub x y)
-frame_rest x y d a A b B e f g =
-    ap Ok g
-    ∙ judged_number Sub (tighten (number bits_top unsigned_top (signed_sub (signed_interval a A) (signed_interval b B))))
-    ∙ sym (ap₂ (λ v w. result_of W64 Sub v w) e f)
+pub other_rest : (p q : Pointer) → same_area p.area q.area ≡ false → ◌≡◌ {A = Known} (Err WrongKinds) (result_of W64 Sub (Ptr p) (Ptr q))
+other_rest p q e = sym (ap (λ same. judged_result Sub (if same then Some (difference p.lo p.hi q.lo q.hi) else None)) e)
 
 -- an operation on numbers alone
 abbrev pub IsPlain : Width → AluOp → Type 0
@@ -90,20 +88,13 @@ plain_result W64 Mov a b plain = absurd plain
 plain_result W32 Mov a b plain = absurd plain
 plain_result width op (Num m) (Num n) plain = judged_number op (num_alu width op m n)
 plain_result width op (Num m) Any plain = refl
-plain_result width op (Num m) (Ctx l h) plain = refl
-plain_result width op (Num m) (Frame l h) plain = refl
+plain_result width op (Num m) (Ptr q) plain = refl
 plain_result width op Any Any plain = refl
 plain_result width op Any (Num n) plain = refl
-plain_result width op Any (Ctx l h) plain = refl
-plain_result width op Any (Frame l h) plain = refl
-plain_result width op (Ctx k i) Any plain = refl
-plain_result width op (Ctx k i) (Num n) plain = refl
-plain_result width op (Ctx k i) (Ctx l h) plain = refl
-plain_result width op (Ctx k i) (Frame l h) plain = refl
-plain_result width op (Frame k i) Any plain = refl
-plain_result width op (Frame k i) (Num n) plain = refl
-plain_result width op (Frame k i) (Ctx l h) plain = refl
-plain_result width op (Frame k i) (Frame l h) plain = refl
+plain_result width op Any (Ptr q) plain = refl
+plain_result width op (Ptr p) Any plain = refl
+plain_result width op (Ptr p) (Num n) plain = refl
+plain_result width op (Ptr p) (Ptr q) plain = refl
 
 pub others_plain : (op : AluOp) (width : Width) → (op ≡ Mov → ⊥) → (op ≡ Add → ⊥) → (op ≡ Sub → ⊥) → IsPlain width op
 others_plain Mov width f g h = absurd (f refl)

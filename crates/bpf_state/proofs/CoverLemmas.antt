@@ -7,7 +7,7 @@ use Rattle.std.proofs.lemmas.Nat.{and-not, and_comm}
 use Rattle.std.proofs.lemmas.List.{get_or-map}
 use Rattle.std.proofs.lemmas.List.Elements.{All-head, All-tail}
 use Rattle.bpf_state.specs.declared.state.SlotState.{SlotState}
-use Rattle.bpf_state.specs.declared.state.SlotState.TheVariants.{Bytes, Word, Ptr}
+use Rattle.bpf_state.specs.declared.state.SlotState.TheVariants.{Bytes, Word, Spilled}
 use Rattle.bpf_state.specs.declared.masked.Whole.{Whole}
 use Rattle.bpf_state.specs.State.{IsSlot}
 use Rattle.std.specs.Prelude.{replicate}
@@ -33,9 +33,9 @@ has_all m n few few' none = let e = split_byte m n few few' in omega arith
 pub covered_if_entailed : (a b : SlotState) → IsSlot a → IsSlot b → slot_entails a b ≡ true → bit_and (mask_of b) (255 - mask_of a) ≡ 0
 covered_if_entailed (Bytes m) (Bytes n) few few' e = none_lacks m n (omega (arith, few)) (omega (arith, few')) (eqb-true (bit_and m n) n e)
 covered_if_entailed (Bytes m) (Word b) few few' e = absurd (false≢true e)
-covered_if_entailed (Bytes m) (Ptr q) few few' e = absurd (false≢true e)
+covered_if_entailed (Bytes m) (Spilled q) few few' e = absurd (false≢true e)
 covered_if_entailed (Word a) b few few' e = and_zero_r (mask_of b)
-covered_if_entailed (Ptr p) b few few' e = and_zero_r (mask_of b)
+covered_if_entailed (Spilled p) b few few' e = and_zero_r (mask_of b)
 
 -- a full mask lies in no other
 full_in_none : (m : ℕ) → m < 256 → (m ≡ 255 → ⊥) → bit_and 255 (255 - m) ≡ 0 → ⊥
@@ -47,14 +47,14 @@ full_in_none m few part none =
 pub entailed_by_masks : (a b : SlotState) → mask_of a < 256 → mask_of b < 256 → bit_and (mask_of b) (255 - mask_of a) ≡ 0 → (mask_of a ≡ 255 → ⊥) ⊎ (mask_of b ≡ 0) → slot_entails a b ≡ true
 entailed_by_masks (Bytes m) (Bytes n) few few' none known = eq-eqb (bit_and m n) n (has_all m n few few' none)
 entailed_by_masks (Bytes m) (Word b) few few' none (inl part) = absurd (full_in_none m few part none)
-entailed_by_masks (Bytes m) (Ptr q) few few' none (inl part) = absurd (full_in_none m few part none)
+entailed_by_masks (Bytes m) (Spilled q) few few' none (inl part) = absurd (full_in_none m few part none)
 entailed_by_masks (Word a) (Bytes n) few few' none known = refl
-entailed_by_masks (Ptr p) (Bytes n) few few' none (inl part) = absurd (part refl)
-entailed_by_masks (Ptr p) (Bytes n) few few' none (inr nothing) = eq-eqb n 0 nothing
+entailed_by_masks (Spilled p) (Bytes n) few few' none (inl part) = absurd (part refl)
+entailed_by_masks (Spilled p) (Bytes n) few few' none (inr nothing) = eq-eqb n 0 nothing
 entailed_by_masks (Word a) b few few' none (inl part) = absurd (part refl)
-entailed_by_masks (Ptr p) b few few' none (inl part) = absurd (part refl)
+entailed_by_masks (Spilled p) b few few' none (inl part) = absurd (part refl)
 entailed_by_masks a (Word b) few few' none (inr nothing) = absurd (omega (arith, nothing))
-entailed_by_masks a (Ptr q) few few' none (inr nothing) = absurd (omega (arith, nothing))
+entailed_by_masks a (Spilled q) few few' none (inr nothing) = absurd (omega (arith, nothing))
 
 -- ---- all slots
 

@@ -8,12 +8,13 @@ use Rattle.std.proofs.lemmas.List.Sums.{list_all-from_AllPass}
 use Rattle.bpf_insn.specs.declared.instruction.Reg.TheVariants.{R10}
 use Rattle.bpf_insn.specs.Instruction.{register_number}
 use Rattle.bpf_state.specs.declared.state.RegState.{RegState}
-use Rattle.bpf_state.specs.declared.state.RegState.TheVariants.{Any, Num, Ctx, Frame}
+use Rattle.bpf_state.specs.declared.state.RegState.TheVariants.{Any, Num, Ptr}
+use Rattle.bpf_state.specs.declared.state.Area.TheVariants.{Frame}
 use Rattle.bpf_state.specs.declared.state.SlotState.{SlotState}
-use Rattle.bpf_state.specs.declared.state.SlotState.TheVariants.{Bytes, Word, Ptr}
+use Rattle.bpf_state.specs.declared.state.SlotState.TheVariants.{Bytes, Word, Spilled}
 use Rattle.bpf_state.specs.declared.entries.Entry.{Entry}
 use Rattle.bpf_state.specs.declared.entries.Entry.TheVariants.{Register, Slot}
-use Rattle.bpf_state.specs.State.{AbstractState, IsState, register, slot, blank}
+use Rattle.bpf_state.specs.State.{AbstractState, IsState, register, slot, start_of, blank}
 use Rattle.bpf_state.specs.Entails.{register_entails, slot_entails, all_pairs, state_entails}
 use Rattle.bpf_state.specs.code.Entries.{put, put_all, state_of, keeps, IsEntry, AreEntries}
 use Rattle.bpf_state.proofs.EntryLemmas.{register_below}
@@ -41,13 +42,12 @@ pairs_set test (x ∷ xs) (z ∷ ys) (suc i) d y e f =
 entails_any : (v : RegState) → register_entails v Any ≡ true
 entails_any Any = refl
 entails_any (Num n) = refl
-entails_any (Ctx lo hi) = refl
-entails_any (Frame lo hi) = refl
+entails_any (Ptr p) = refl
 
 entails_none : (v : SlotState) → slot_entails v (Bytes 0) ≡ true
 entails_none (Bytes m) = eq-eqb _ 0 (and_zero_r m)
 entails_none (Word n) = refl
-entails_none (Ptr p) = refl
+entails_none (Spilled p) = refl
 
 slots_blank : (n : ℕ) (xs : List SlotState) → all_pairs slot_entails xs (replicate n (Bytes 0)) ≡ true
 slots_blank zero [] = refl
@@ -63,8 +63,8 @@ registers_blank zero (x ∷ y ∷ xs) last e = and_from (register_entails x last
 registers_blank (suc n) [] last e = refl
 registers_blank (suc n) (x ∷ xs) last e = and_from (register_entails x Any) (all_pairs register_entails xs (replicate n Any ++ last ∷ [])) (entails_any x) (registers_blank n xs last e)
 
-entails_blank : (s : AbstractState) → register_entails (register s R10) (Frame (pos 0) (pos 0)) ≡ true → state_entails s blank ≡ true
-entails_blank s e = and_from _ _ (registers_blank 10 s.registers (Frame (pos 0) (pos 0)) e) (slots_blank 64 s.slots)
+entails_blank : (s : AbstractState) → register_entails (register s R10) (Ptr (start_of Frame)) ≡ true → state_entails s blank ≡ true
+entails_blank s e = and_from _ _ (registers_blank 10 s.registers (Ptr (start_of Frame)) e) (slots_blank 64 s.slots)
 
 -- ---- entries
 
@@ -95,10 +95,10 @@ same_test true b f g = sym (f refl)
 same_test false true f g = g refl
 same_test false false f g = refl
 
-pub entails_entries : (s : AbstractState) (es : List Entry) → IsState s → AreEntries es → (register_entails (register s R10) (Frame (pos 0) (pos 0)) && list_all (keeps s) es) ≡ state_entails s (state_of es)
+pub entails_entries : (s : AbstractState) (es : List Entry) → IsState s → AreEntries es → (register_entails (register s R10) (Ptr (start_of Frame)) && list_all (keeps s) es) ≡ state_entails s (state_of es)
 entails_entries s es is are =
     let t = state_of es in
-    let end = register_entails (register s R10) (Frame (pos 0) (pos 0)) in
+    let end = register_entails (register s R10) (Ptr (start_of Frame)) in
     let into : (end && list_all (keeps s) es) ≡ true → state_entails s t ≡ true = λ e. let parts = and_parts end (list_all (keeps s) es) e in entails_all s blank es (entails_blank s parts.0) parts.1 in
     let from : state_entails s t ≡ true → (end && list_all (keeps s) es) ≡ true = λ e.
     let parts = and_parts (all_pairs register_entails s.registers t.registers) (all_pairs slot_entails s.slots t.slots) e in
@@ -109,5 +109,5 @@ entails_entries s es is are =
     same_test (end && list_all (keeps s) es) (state_entails s t) into from
 
 -- the first entry that isn't kept, or r10, decides
-pub entails_not : (s : AbstractState) (es : List Entry) → IsState s → AreEntries es → register_entails (register s R10) (Frame (pos 0) (pos 0)) ≡ false → false ≡ state_entails s (state_of es)
+pub entails_not : (s : AbstractState) (es : List Entry) → IsState s → AreEntries es → register_entails (register s R10) (Ptr (start_of Frame)) ≡ false → false ≡ state_entails s (state_of es)
 entails_not s es is are e = ap (λ b. b && list_all (keeps s) es) (sym e) ∙ entails_entries s es is are

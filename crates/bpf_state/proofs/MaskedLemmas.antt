@@ -6,10 +6,11 @@ use Rattle.std.proofs.lemmas.Grind.{and_numeral}
 use Rattle.std.proofs.lemmas.List.{get_or_past}
 use Rattle.bpf_state.specs.Access.{are_known_bytes}
 use Rattle.bpf_state.specs.declared.state.SlotState.{SlotState}
-use Rattle.bpf_state.specs.declared.state.SlotState.TheVariants.{Bytes, Word, Ptr}
+use Rattle.bpf_state.specs.declared.state.SlotState.TheVariants.{Bytes, Word, Spilled}
 use Rattle.bpf_state.specs.declared.masked.Whole.{Whole}
 use Rattle.bpf_state.specs.declared.masked.Whole.TheVariants.{Word as Number, Ptr as Pointer}
-use Rattle.bpf_state.specs.declared.state.Pointer.TheVariants.{Ctx as CtxIn}
+use Rattle.bpf_state.specs.declared.state.Area.TheVariants.{Context}
+use Rattle.bpf_state.specs.State.{start_of}
 use Rattle.bpf_state.specs.State.{IsSlot, tightened_slot}
 use Rattle.bpf_state.specs.code.Masked.{whole_slot, held, held_slots, mask_of, AreSlots}
 
@@ -17,7 +18,7 @@ use Rattle.bpf_state.specs.code.Masked.{whole_slot, held, held_slots, mask_of, A
 
 -- what an empty place would hold
 abbrev pub any_whole : Whole
-any_whole = Pointer (CtxIn (pos 0) (pos 0))
+any_whole = Pointer (start_of Context)
 
 pub held_whole : (mask : ℕ) (w : Whole) → mask ≡ 255 → held mask w ≡ whole_slot w
 held_whole mask w full = cond-true (mask == 255) (whole_slot w) (Bytes mask) (eq-eqb mask 255 full)
@@ -152,13 +153,13 @@ full_keeps n few = and_numeral n 254 refl ∙ small n few
 pub known_by_mask : (bytes : ℕ) (s : SlotState) → bytes < 256 → (bit_and bytes (mask_of s) == bytes) ≡ are_known_bytes bytes s
 known_by_mask bytes (Bytes m) few = refl
 known_by_mask bytes (Word n) few = eq-eqb (bit_and bytes 255) bytes (full_keeps bytes few)
-known_by_mask bytes (Ptr p) few = eq-eqb (bit_and bytes 255) bytes (full_keeps bytes few)
+known_by_mask bytes (Spilled p) few = eq-eqb (bit_and bytes 255) bytes (full_keeps bytes few)
 
 -- only words are tightened
 pub tight_by_mask : (s : SlotState) → (mask_of s ≡ 255 → ⊥) → tightened_slot s ≡ Some s
 tight_by_mask (Bytes m) part = refl
 tight_by_mask (Word n) part = absurd (part refl)
-tight_by_mask (Ptr p) part = refl
+tight_by_mask (Spilled p) part = refl
 
 -- masks of zeros say nothing of any byte
 held_zeros : (masks : List ℕ) (wholes : List Whole) → length masks ≡ length wholes → ((i : ℕ) → get_or masks i 0 ≡ 0) → held_slots masks wholes ≡ replicate (length masks) (Bytes 0)

@@ -20,7 +20,7 @@ use Rattle.bpf_num.specs.SignedInterval.{SignedInterval, signed_top, signed_of_w
 use Rattle.bpf_num.specs.Number.{Number, number, constant, tighten}
 use Rattle.bpf_insn.specs.Arithmetic.{extended}
 use Rattle.bpf_state.specs.declared.state.RegState.{RegState}
-use Rattle.bpf_state.specs.declared.state.RegState.TheVariants.{Any, Num, Ctx, Frame}
+use Rattle.bpf_state.specs.declared.state.RegState.TheVariants.{Any, Num, Ptr}
 use Rattle.bpf_state.specs.State.{AbstractState, register, register_tag, put_register}
 use Rattle.bpf_state.specs.Access.{Span, span_at, is_slot, is_inside, touches, touched_bytes, is_pointer_slot, are_known_bytes, any_slot}
 use Rattle.bpf_state.specs.Fault.{is_any, is_number, is_pointer, have_right_kinds, reads_part, some_passes, fault_of, reads_any, has_wrong_kinds, is_out_of_bounds, reads_unknown_byte, writes_protected}
@@ -73,14 +73,12 @@ tested len s i kinds bounds bytes writes t =
 -- ---- what is known of a base
 
 pub set_base : (off : ℤ) (size : Size) (v : RegState) (p : Span) → span_at off size v ≡ Some p → is_any v ≡ false
-set_base off size (Ctx lo hi) p e = refl
-set_base off size (Frame lo hi) p e = refl
+set_base off size (Ptr q) p e = refl
 set_base off size (Num n) p e = refl
 set_base off size Any p e = absurd (none-some p e)
 
 pub pointer_base : (off : ℤ) (size : Size) (v : RegState) (p : Span) → span_at off size v ≡ Some p → is_pointer v ≡ true
-pointer_base off size (Ctx lo hi) p e = refl
-pointer_base off size (Frame lo hi) p e = refl
+pointer_base off size (Ptr q) p e = refl
 pointer_base off size (Num n) p e = absurd (none-some p e)
 pointer_base off size Any p e = absurd (none-some p e)
 

@@ -4,11 +4,12 @@ use Rattle.std.specs.Prelude.{All}
 use Rattle.bpf_state.specs.declared.state.RegState.{RegState}
 use Rattle.std.proofs.lemmas.Int.{ints}
 use Rattle.std.proofs.lemmas.List.Elements.{All-nil, All-cons, All-replicate, All-append}
-use Rattle.bpf_state.specs.declared.state.RegState.TheVariants.{Any, Frame}
+use Rattle.bpf_state.specs.declared.state.RegState.TheVariants.{Any, Ptr}
+use Rattle.bpf_state.specs.declared.state.Area.TheVariants.{Frame}
 use Rattle.bpf_state.specs.declared.state.SlotState.{SlotState}
 use Rattle.bpf_state.specs.declared.state.SlotState.TheVariants.{Bytes}
 use Rattle.bpf_state.specs.declared.state.Tag.{Tag}
-use Rattle.bpf_state.specs.State.{IsState, IsRegister, IsSlot, blank, no_tags}
+use Rattle.bpf_state.specs.State.{IsState, IsRegister, IsSlot, start_of, blank, no_tags}
 
 pub blank_is_state : IsState blank
 blank_is_state =
@@ -17,7 +18,7 @@ blank_is_state =
       slot_count = refl;
       register_tag_count = refl;
       slot_tag_count = refl;
-      registers = All-append IsRegister (replicate 10 Any) (Frame (pos 0) (pos 0) ∷ []) (All-replicate IsRegister 10 Any tt) (All-cons IsRegister (Frame (pos 0) (pos 0)) [] (omega (arith, ints)) (All-nil IsRegister));
+      registers = All-append IsRegister (replicate 10 Any) (Ptr (start_of Frame) ∷ []) (All-replicate IsRegister 10 Any tt) (All-cons IsRegister (Ptr (start_of Frame)) [] (omega (arith, ints)) (All-nil IsRegister));
       slots = All-replicate IsSlot 64 (Bytes 0) (omega arith);
     }
 
@@ -41,18 +42,18 @@ untouched_tags slots register_tags slot_tags e few many =
 
 -- a callee's registers, of which five are the caller's
 abbrev pub callee_registers : RegState → RegState → RegState → RegState → RegState → List RegState
-callee_registers a b c d e = Any ∷ a ∷ b ∷ c ∷ d ∷ e ∷ Any ∷ Any ∷ Any ∷ Any ∷ Frame (pos 0) (pos 0) ∷ []
+callee_registers a b c d e = Any ∷ a ∷ b ∷ c ∷ d ∷ e ∷ Any ∷ Any ∷ Any ∷ Any ∷ Ptr (start_of Frame) ∷ []
 
 abbrev callee_rest : List RegState
-callee_rest = Any ∷ Any ∷ Any ∷ Any ∷ Frame (pos 0) (pos 0) ∷ []
+callee_rest = Any ∷ Any ∷ Any ∷ Any ∷ Ptr (start_of Frame) ∷ []
 
 callee_rest_is : All IsRegister callee_rest
 callee_rest_is =
-    All-cons IsRegister Any (Any ∷ Any ∷ Any ∷ Frame (pos 0) (pos 0) ∷ []) tt
-    (All-cons IsRegister Any (Any ∷ Any ∷ Frame (pos 0) (pos 0) ∷ []) tt
-    (All-cons IsRegister Any (Any ∷ Frame (pos 0) (pos 0) ∷ []) tt
-    (All-cons IsRegister Any (Frame (pos 0) (pos 0) ∷ []) tt
-    (All-cons IsRegister (Frame (pos 0) (pos 0)) [] (omega (arith, ints)) (All-nil IsRegister)))))
+    All-cons IsRegister Any (Any ∷ Any ∷ Any ∷ Ptr (start_of Frame) ∷ []) tt
+    (All-cons IsRegister Any (Any ∷ Any ∷ Ptr (start_of Frame) ∷ []) tt
+    (All-cons IsRegister Any (Any ∷ Ptr (start_of Frame) ∷ []) tt
+    (All-cons IsRegister Any (Ptr (start_of Frame) ∷ []) tt
+    (All-cons IsRegister (Ptr (start_of Frame)) [] (omega (arith, ints)) (All-nil IsRegister)))))
 
 callee_is_state : (a b c d e : RegState) → IsRegister a → IsRegister b → IsRegister c → IsRegister d → IsRegister e → IsState (record blank { registers = callee_registers a b c d e })
 callee_is_state a b c d e ha hb hc hd he =

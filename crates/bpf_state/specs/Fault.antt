@@ -19,11 +19,12 @@ use Rattle.bpf_insn.specs.declared.instruction.Insn.TheVariants.{Alu, Neg, MovSx
 use Rattle.bpf_num.specs.Tristate.{bits_top}
 use Rattle.bpf_num.specs.Interval.{unsigned_top}
 use Rattle.bpf_num.specs.SignedInterval.{signed_interval, signed_sub}
-use Rattle.bpf_num.specs.Number.{number, constant, tighten}
+use Rattle.bpf_num.specs.Number.{Number, number, constant, tighten}
 use Rattle.bpf_num.specs.Operation.{num_alu}
 use Rattle.bpf_state.specs.declared.state.RegState.{RegState}
-use Rattle.bpf_state.specs.declared.state.RegState.TheVariants.{Any, Num, Ctx, Frame}
-use Rattle.bpf_state.specs.State.{AbstractState, register}
+use Rattle.bpf_state.specs.declared.state.RegState.TheVariants.{Any, Num, Ptr}
+use Rattle.bpf_state.specs.declared.state.Pointer.{Pointer}
+use Rattle.bpf_state.specs.State.{AbstractState, register, same_area}
 use Rattle.bpf_state.specs.Access.{Span, span_of, is_slot, is_inside, touches, touched_bytes, is_pointer_slot, are_known_bytes, any_slot}
 
 -- the second operand: a constant, sign-extended, or what is known of a register
@@ -45,8 +46,7 @@ is_number (Num n) = true
 is_number _ = false
 
 abbrev pub is_pointer : RegState → Bool
-is_pointer (Ctx lo hi) = true
-is_pointer (Frame lo hi) = true
+is_pointer (Ptr p) = true
 is_pointer _ = false
 
 -- ---- arithmetic on what is known of two values
@@ -57,29 +57,34 @@ abbrev pub difference : ℤ → ℤ → ℤ → ℤ → Option RegState
 difference a A b B =
     option_map Num (tighten (number bits_top unsigned_top (signed_sub (signed_interval a A) (signed_interval b B))))
 
+-- a pointer plus or minus a number
+abbrev pub pointer_plus : Pointer → Number → RegState
+pointer_plus p n = Ptr (record p { lo = p.lo +ℤ n.signed.lo; hi = p.hi +ℤ n.signed.hi })
+
+abbrev pub pointer_minus : Pointer → Number → RegState
+pointer_minus p n = Ptr (record p { lo = p.lo -ℤ n.signed.hi; hi = p.hi -ℤ n.signed.lo })
+
+-- of two pointers into the same
+abbrev pub pointer_difference : Pointer → Pointer → Option (Option RegState)
+pointer_difference p q = if same_area p.area q.area then Some (difference p.lo p.hi q.lo q.hi) else None
+
 -- numbers; at 64 bits a pointer plus or minus a number, and the difference of two pointers of one kind; a move reads its
 -- source alone
 abbrev pub alu_of_kinds : Width → AluOp → RegState → RegState → Option (Option RegState)
 alu_of_kinds W64 Mov a b = Some (Some b)
 alu_of_kinds W32 Mov a (Num n) = Some (option_map Num (num_alu W32 Mov n n))
 alu_of_kinds width op (Num m) (Num n) = Some (option_map Num (num_alu width op m n))
-alu_of_kinds W64 Add (Ctx lo hi) (Num n) = Some (Some (Ctx (lo +ℤ n.signed.lo) (hi +ℤ n.signed.hi)))
-alu_of_kinds W64 Add (Frame lo hi) (Num n) = Some (Some (Frame (lo +ℤ n.signed.lo) (hi +ℤ n.signed.hi)))
-alu_of_kinds W64 Add (Num n) (Ctx lo hi) = Some (Some (Ctx (lo +ℤ n.signed.lo) (hi +ℤ n.signed.hi)))
-alu_of_kinds W64 Add (Num n) (Frame lo hi) = Some (Some (Frame (lo +ℤ n.signed.lo) (hi +ℤ n.signed.hi)))
-alu_of_kinds W64 Sub (Ctx lo hi) (Num n) = Some (Some (Ctx (lo -ℤ n.signed.hi) (hi -ℤ n.signed.lo)))
-alu_of_kinds W64 Sub (Frame lo hi) (Num n) = Some (Some (Frame (lo -ℤ n.signed.hi) (hi -ℤ n.signed.lo)))
-alu_of_kinds W64 Sub (Ctx a A) (Ctx b B) = Some (difference a A b B)
-alu_of_kinds W64 Sub (Frame a A) (Frame b B) = Some (difference a A b B)
+alu_of_kinds W64 Add (Ptr p) (Num n) = Some (Some (pointer_plus p n))
+alu_of_kinds W64 Add (Num n) (Ptr p) = Some (Some (pointer_plus p n))
+alu_of_kinds W64 Sub (Ptr p) (Num n) = Some (Some (pointer_minus p n))
+alu_of_kinds W64 Sub (Ptr p) (Ptr q) = pointer_difference p q
 alu_of_kinds _ _ _ _ = None
 
 -- numbers; at 64 bits two pointers of one kind, equal or not
 abbrev pub can_test : Width → Cond → RegState → RegState → Bool
 can_test width cond (Num m) (Num n) = true
-can_test W64 Eq (Ctx a A) (Ctx b B) = true
-can_test W64 Eq (Frame a A) (Frame b B) = true
-can_test W64 Ne (Ctx a A) (Ctx b B) = true
-can_test W64 Ne (Frame a A) (Frame b B) = true
+can_test W64 Eq (Ptr p) (Ptr q) = same_area p.area q.area
+can_test W64 Ne (Ptr p) (Ptr q) = same_area p.area q.area
 can_test _ _ _ _ = false
 
 -- ---- the conditions
@@ -138,8 +143,7 @@ has_wrong_kinds s i = not (have_right_kinds s i) || reads_part s i
 
 -- the bounds of a pointer stay within 2 ^ 31
 abbrev pub leaves_bounds : RegState → Bool
-leaves_bounds (Ctx lo hi) = not (int_le (neg_ℤ (pos (2 ^ 31))) lo && int_le hi (pos (2 ^ 31)))
-leaves_bounds (Frame lo hi) = not (int_le (neg_ℤ (pos (2 ^ 31))) lo && int_le hi (pos (2 ^ 31)))
+leaves_bounds (Ptr p) = not (int_le (neg_ℤ (pos (2 ^ 31))) p.lo && int_le p.hi (pos (2 ^ 31)))
 leaves_bounds _ = false
 
 abbrev pub makes_far_pointer : AbstractState → Insn → Bool

@@ -1,4 +1,5 @@
 pub mod State
+pub mod Held
 pub mod Bare
 pub mod code
 pub mod Covers

@@ -1,5 +1,5 @@
 -- Abstract states: what is known of the registers and of the slots of the top frame.
-use Rattle.std.specs.Prelude.{◌≡◌, ℕ, ◌-◌, ◌≤◌, pos, ◌≤ℤ◌, List, [], ◌∷◌, ◌++◌, length, get_or, slice_set, take, drop, replicate, All, Option, Some, None, option_map, option_and_then}
+use Rattle.std.specs.Prelude.{◌≡◌, ℕ, ◌-◌, ◌≤◌, pos, ◌≤ℤ◌, List, [], ◌∷◌, ◌++◌, length, get_or, slice_set, take, drop, replicate, All, Bool, true, false, not, if◌then◌else◌, Option, Some, None, option_map, option_and_then}
 use Rattle.bpf_insn.specs.declared.instruction.Reg.{Reg}
 use Rattle.bpf_insn.specs.declared.instruction.Reg.TheVariants.{R1, R2}
 use Rattle.bpf_insn.specs.Instruction.{register_number}
@@ -9,11 +9,12 @@ use Rattle.bpf_num.specs.Interval.{interval}
 use Rattle.bpf_num.specs.SignedInterval.{signed_top}
 use Rattle.bpf_num.specs.Number.{Number, number, tighten}
 use Rattle.bpf_state.specs.declared.state.RegState.{RegState}
-use Rattle.bpf_state.specs.declared.state.RegState.TheVariants.{Any, Num, Ctx, Frame}
+use Rattle.bpf_state.specs.declared.state.RegState.TheVariants.{Any, Num, Ptr}
+use Rattle.bpf_state.specs.declared.state.Area.{Area}
+use Rattle.bpf_state.specs.declared.state.Area.TheVariants.{Context, Frame}
 use Rattle.bpf_state.specs.declared.state.Pointer.{Pointer}
-use Rattle.bpf_state.specs.declared.state.Pointer.TheVariants.{Ctx as CtxIn, Frame as FrameIn}
 use Rattle.bpf_state.specs.declared.state.SlotState.{SlotState}
-use Rattle.bpf_state.specs.declared.state.SlotState.TheVariants.{Bytes, Word, Ptr}
+use Rattle.bpf_state.specs.declared.state.SlotState.TheVariants.{Bytes, Word, Spilled}
 use Rattle.bpf_state.specs.declared.state.Place.{Place}
 use Rattle.bpf_state.specs.declared.state.Place.TheVariants.{Register, Slot}
 use Rattle.bpf_state.specs.declared.state.Tag.{Tag}
@@ -26,21 +27,19 @@ pub record AbstractState : Type 0 where
   pub slot_tags : List (Option Tag)
 
 -- the bounds of a pointer are in order
+abbrev pub IsPointer : Pointer → Type 0
+IsPointer p = p.lo ≤ℤ p.hi
+
 abbrev pub IsRegister : RegState → Type 0
 IsRegister Any = Unit {0}
 IsRegister (Num n) = Unit {0}
-IsRegister (Ctx lo hi) = lo ≤ℤ hi
-IsRegister (Frame lo hi) = lo ≤ℤ hi
-
-abbrev pub IsPointer : Pointer → Type 0
-IsPointer (CtxIn lo hi) = lo ≤ℤ hi
-IsPointer (FrameIn lo hi) = lo ≤ℤ hi
+IsRegister (Ptr p) = IsPointer p
 
 -- eight bytes of a number are a word, so not all are in a mask
 abbrev pub IsSlot : SlotState → Type 0
 IsSlot (Bytes mask) = mask ≤ 254
 IsSlot (Word n) = Unit {0}
-IsSlot (Ptr p) = IsPointer p
+IsSlot (Spilled p) = IsPointer p
 
 -- what every state keeps
 pub record IsState (s : AbstractState) : Type 0 where
@@ -97,22 +96,31 @@ put_slot k value t s =
       slot_tags = slice_set s.slot_tags (k - 1) t;
     }
 
-abbrev pub pointer_register : Pointer → RegState
-pointer_register (CtxIn lo hi) = Ctx lo hi
-pointer_register (FrameIn lo hi) = Frame lo hi
-
 -- what a slot holds as a whole
 abbrev pub slot_value : SlotState → RegState
 slot_value (Word n) = Num n
-slot_value (Ptr p) = pointer_register p
+slot_value (Spilled p) = Ptr p
 slot_value (Bytes m) = Any
 
 -- a slot that holds what a register does; nothing is known of its bytes where nothing is of the register
 abbrev pub value_slot : RegState → SlotState
 value_slot (Num n) = Word n
-value_slot (Ctx lo hi) = Ptr (CtxIn lo hi)
-value_slot (Frame lo hi) = Ptr (FrameIn lo hi)
+value_slot (Ptr p) = Spilled p
 value_slot Any = Bytes 0
+
+-- ---- pointers
+
+abbrev pub is_frame : Area → Bool
+is_frame Context = false
+is_frame Frame = true
+
+abbrev pub same_area : Area → Area → Bool
+same_area Context area = not (is_frame area)
+same_area Frame area = is_frame area
+
+-- to the start of the context, or to the frame's end
+abbrev pub start_of : Area → Pointer
+start_of area = record { area = area; lo = pos 0; hi = pos 0 }
 
 -- ---- the state to begin with
 
@@ -123,7 +131,7 @@ no_tags n = replicate n None
 abbrev pub blank : AbstractState
 blank =
     record {
-      registers = replicate 10 Any ++ Frame (pos 0) (pos 0) ∷ [];
+      registers = replicate 10 Any ++ Ptr (start_of Frame) ∷ [];
       slots = replicate 64 (Bytes 0);
       register_tags = no_tags 11;
       slot_tags = no_tags 64;
@@ -135,13 +143,13 @@ from_to least most = option_map_or Num (tighten (number bits_top (interval least
 
 -- a run begins with the context in r1 and its length, from `least` to `most`, in r2
 abbrev pub start : ℕ → ℕ → AbstractState
-start least most = put_register R1 (Ctx (pos 0) (pos 0)) None (put_register R2 (from_to least most) None blank)
+start least most = put_register R1 (Ptr (start_of Context)) None (put_register R2 (from_to least most) None blank)
 
 -- ---- calls
 
 -- a callee gets r1 to r5, but no pointer into its caller's frame
 abbrev pub without_frame : RegState → RegState
-without_frame (Frame lo hi) = Any
+without_frame (Ptr p) = if is_frame p.area then Any else Ptr p
 without_frame value = value
 
 abbrev pub each_without_frame : List RegState → List RegState
@@ -151,7 +159,7 @@ each_without_frame (value ∷ values) = without_frame value ∷ each_without_fra
 abbrev pub entered : AbstractState → AbstractState
 entered s =
     record blank {
-      registers = Any ∷ each_without_frame (take 5 (drop 1 s.registers)) ++ replicate 4 Any ++ Frame (pos 0) (pos 0) ∷ [];
+      registers = Any ∷ each_without_frame (take 5 (drop 1 s.registers)) ++ replicate 4 Any ++ Ptr (start_of Frame) ∷ [];
     }
 
 -- after a call r0 is what the callee returns, r1 to r5 are gone, and the rest is kept

@@ -24,7 +24,7 @@ use Rattle.bpf_num.specs.Refine.{refine}
 use Rattle.bpf_state.specs.declared.state.RegState.{RegState}
 use Rattle.bpf_state.specs.declared.state.RegState.TheVariants.{Num}
 use Rattle.bpf_state.specs.declared.state.SlotState.{SlotState}
-use Rattle.bpf_state.specs.declared.state.SlotState.TheVariants.{Bytes, Word, Ptr}
+use Rattle.bpf_state.specs.declared.state.SlotState.TheVariants.{Bytes, Word, Spilled}
 use Rattle.bpf_state.specs.declared.state.Tag.{Tag}
 use Rattle.bpf_state.specs.State.{AbstractState, register, register_tag, slot, slot_tag, put_register, put_slot, slot_value, value_slot}
 use Rattle.bpf_state.specs.Access.{Span, span_of, is_known, is_slot, slot_number, touches, touched_bytes}
@@ -104,13 +104,13 @@ loaded_tag s None = None
 
 -- the slot with these bytes written as bytes of numbers
 abbrev pub slot_written : ℕ → SlotState → SlotState
-slot_written bytes (Ptr p) = Bytes bytes
+slot_written bytes (Spilled p) = Bytes bytes
 slot_written bytes (Word n) = Word top
 slot_written bytes (Bytes m) = if bit_or m bytes == 255 then Word top else Bytes (bit_or m bytes)
 
 -- the slot if some of its bytes may be written
 abbrev pub slot_maybe_written : SlotState → SlotState
-slot_maybe_written (Ptr p) = Bytes 0
+slot_maybe_written (Spilled p) = Bytes 0
 slot_maybe_written (Word n) = Word top
 slot_maybe_written (Bytes m) = Bytes m
 

@@ -4,7 +4,7 @@ ghost use Rattle.std.specs.Prelude.{◌≡◌, ◌≤◌};
 ghost use Rattle.bpf_state.specs.State.{IsRegister, from_to};
 
 use crate::masked::Slots;
-use crate::state::{Place, RegState, SlotState, Tag};
+use crate::state::{Area, Place, Pointer, RegState, SlotState, Tag};
 use crate::tags::SlotTags;
 use bpf_insn::{Operand, Reg};
 use bpf_num::{KnownBits, Num, Signed, Unsigned, WordDomain};
@@ -46,6 +46,7 @@ impl State {
     ghost use Rattle.std.specs.Prelude.{◌≡◌, ◌≤◌, ◌<◌, suc};
     ghost use Rattle.bpf_state.specs.State.{IsState, IsRegister, IsSlot, IsPlace, blank, start, register, register_tag, slot, tag, with_register, with_slot, with_tag, put_register, put_slot};
     ghost use Rattle.bpf_state.specs.Fault.{operand};
+    ghost use Rattle.bpf_state.specs.Held.{held};
     ghost use Rattle.bpf_state.specs.Transfer.{operand_tag};
     ghost use Rattle.bpf_state.specs.Answer.{without_tags};
 
@@ -54,7 +55,7 @@ impl State {
         ensures { result ≡ blank }
     {
         let mut registers = [RegState::Any; 11];
-        registers[10] = RegState::Frame { lo: 0, hi: 0 };
+        registers[10] = RegState::Ptr(Pointer::start_of(Area::Frame));
         State {
             registers,
             slots: Slots::blank(),
@@ -88,6 +89,17 @@ impl State {
     {
         let index = k as usize - 1;
         self.slots.get(index)
+    }
+
+    /// What is known of a register, or of a slot as a whole. A slot's number is from 1 to 64.
+    pub fn held(&self, place: Place) -> RegState
+        requires { IsPlace place }
+        ensures { result ≡ held self.now place }
+    {
+        match place {
+            Place::Register(r) => self.reg(r),
+            Place::Slot(k) => self.slot(k).value(),
+        }
     }
 
     /// The counter that a place holds. A slot's number is from 1 to 64.
@@ -138,7 +150,7 @@ impl State {
         ensures { result ≡ start least most }
     {
         let mut state = State::blank();
-        state.registers[1] = RegState::Ctx { lo: 0, hi: 0 };
+        state.registers[1] = RegState::Ptr(Pointer::start_of(Area::Context));
         state.registers[2] = length_between(least, most);
         state
     }
@@ -170,7 +182,7 @@ impl State {
         ensures { self.new ≡ blank }
     {
         let mut all = [RegState::Any; 11];
-        all[10] = RegState::Frame { lo: 0, hi: 0 };
+        all[10] = RegState::Ptr(Pointer::start_of(Area::Frame));
         self.registers = all;
         self.slots.clear();
         self.clear_tags();

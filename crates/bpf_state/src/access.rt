@@ -41,8 +41,7 @@ impl Reach {
         ensures { Some result ≡ span_at off size base }
     {
         match base {
-            RegState::Ctx { lo, hi } => Reach::at(false, lo, hi, off, size),
-            RegState::Frame { lo, hi } => Reach::at(true, lo, hi, off, size),
+            RegState::Ptr(p) => Reach::at(p.area.is_frame(), p.lo, p.hi, off, size),
             // Neither is a pointer.
             RegState::Any | RegState::Num(_) => Reach::at(false, 0, 0, off, size),
         }

@@ -6,7 +6,7 @@ ghost use Rattle.bpf_state.specs.declared.state.RegState.TheVariants.{Any, Num a
 ghost use Rattle.bpf_state.specs.Answer.{edge_told};
 
 use crate::abstract_state::State;
-use crate::state::{RegState, Tag};
+use crate::state::{Area, Pointer, RegState, Tag};
 use bpf_num::Num;
 
 fn without_frame(held: RegState) -> RegState
@@ -15,8 +15,12 @@ fn without_frame(held: RegState) -> RegState
     ensures ordered { IsRegister result }
 {
     match held {
-        RegState::Frame { lo: _lo, hi: _hi } => RegState::Any,
-        RegState::Any | RegState::Num(_) | RegState::Ctx { .. } => held,
+        RegState::Ptr(p) => if p.area.is_frame() {
+            RegState::Any
+        } else {
+            held
+        },
+        RegState::Any | RegState::Num(_) => held,
     }
 }
 
@@ -36,7 +40,7 @@ pub fn enter(state: &mut State)
         RegState::Any,
         RegState::Any,
         RegState::Any,
-        RegState::Frame { lo: 0, hi: 0 },
+        RegState::Ptr(Pointer::start_of(Area::Frame)),
     ];
     state.registers = registers;
     state.slots.clear();

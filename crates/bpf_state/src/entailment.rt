@@ -4,11 +4,20 @@ ghost use Rattle.std.specs.Prelude.{◌≡◌, ◌<◌, ◌-◌, get_or, bit_and
 ghost use Rattle.bpf_state.specs.declared.state.SlotState.TheVariants.{Bytes};
 ghost use Rattle.bpf_state.specs.State.{IsSlot};
 ghost use Rattle.bpf_state.specs.code.Masked.{mask_of};
-ghost use Rattle.bpf_state.specs.Entails.{register_entails, slot_entails, all_pairs, state_entails};
+ghost use Rattle.bpf_state.specs.Entails.{pointer_entails, register_entails, slot_entails, all_pairs, state_entails};
 
 use crate::abstract_state::State;
 use crate::masked::Slots;
-use crate::state::{RegState, SlotState};
+use crate::state::{Pointer, RegState, SlotState};
+
+impl Pointer {
+    /// Whether it points into the same as the other, with bounds no wider.
+    pub(crate) fn entails(self, other: Pointer) -> bool
+        ensures { result ≡ pointer_entails self other }
+    {
+        self.area.is_same(other.area) && other.lo <= self.lo && self.hi <= other.hi
+    }
+}
 
 impl RegState {
     /// Whether it lies in the other.
@@ -19,21 +28,11 @@ impl RegState {
             RegState::Any => true,
             RegState::Num(b) => match self {
                 RegState::Num(a) => a.entails(b),
-                RegState::Any | RegState::Ctx { .. } | RegState::Frame { .. } => false,
+                RegState::Any | RegState::Ptr(_) => false,
             },
-            RegState::Ctx {
-                lo: least,
-                hi: most,
-            } => match self {
-                RegState::Ctx { lo, hi } => least <= lo && hi <= most,
-                RegState::Any | RegState::Num(_) | RegState::Frame { .. } => false,
-            },
-            RegState::Frame {
-                lo: least,
-                hi: most,
-            } => match self {
-                RegState::Frame { lo, hi } => least <= lo && hi <= most,
-                RegState::Any | RegState::Num(_) | RegState::Ctx { .. } => false,
+            RegState::Ptr(q) => match self {
+                RegState::Ptr(p) => p.entails(q),
+                RegState::Any | RegState::Num(_) => false,
             },
         }
     }
@@ -48,14 +47,14 @@ impl SlotState {
             SlotState::Bytes(n) => match self {
                 SlotState::Bytes(m) => m & n == n,
                 SlotState::Word(_) => true,
-                SlotState::Ptr(_) => n == 0,
+                SlotState::Spilled(_) => n == 0,
             },
             SlotState::Word(b) => match self {
                 SlotState::Word(a) => a.entails(b),
-                SlotState::Bytes(_) | SlotState::Ptr(_) => false,
+                SlotState::Bytes(_) | SlotState::Spilled(_) => false,
             },
-            SlotState::Ptr(q) => match self {
-                SlotState::Ptr(p) => p.register().entails(q.register()),
+            SlotState::Spilled(q) => match self {
+                SlotState::Spilled(p) => p.entails(q),
                 SlotState::Bytes(_) | SlotState::Word(_) => false,
             },
         }

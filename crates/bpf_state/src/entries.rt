@@ -1,16 +1,18 @@
 //! What is known of places, entry by entry.
 
-ghost use Rattle.std.specs.Prelude.{◌≡◌, ◌==◌, ◌≢◌, ◌≤◌, ◌<◌, ◌++◌, ◌∷◌, [], take, replicate, pos, IfOk};
+ghost use Rattle.std.specs.Prelude.{◌≡◌, ◌==◌, ◌≢◌, ◌≤◌, ◌<◌, ◌++◌, ◌∷◌, [], take, replicate, IfOk};
 ghost use Rattle.bpf_insn.specs.Instruction.{register_number};
-ghost use Rattle.bpf_state.specs.State.{IsRegister, IsSlot, blank, register, slot};
+ghost use Rattle.bpf_state.specs.State.{IsRegister, IsSlot, IsPlace, start_of, blank, register, slot};
+ghost use Rattle.bpf_state.specs.Held.{held};
 ghost use Rattle.bpf_state.specs.Entails.{state_entails};
 ghost use Rattle.std.specs.List.{list_all};
 ghost use Rattle.bpf_state.specs.code.Entries.{AreEntries, IsPlaced, state_of, keeps};
-ghost use Rattle.bpf_state.specs.declared.state.RegState.TheVariants.{Frame};
+ghost use Rattle.bpf_state.specs.declared.state.RegState.TheVariants.{Ptr};
+ghost use Rattle.bpf_state.specs.declared.state.Area.TheVariants.{Frame};
 ghost use Rattle.bpf_state.specs.declared.state.SlotState.TheVariants.{Bytes};
 
 use crate::abstract_state::State;
-use crate::state::{RegState, SlotState, numbered};
+use crate::state::{Area, Place, Pointer, RegState, SlotState, numbered};
 use bpf_insn::Reg;
 use std::alloc::{AllocError, Global};
 use std::marker::Model;
@@ -46,7 +48,7 @@ fn blank_register(r: Reg) -> RegState
     ensures { result ≡ register blank r }
 {
     match r {
-        Reg::R10 => RegState::Frame { lo: 0, hi: 0 },
+        Reg::R10 => RegState::Ptr(Pointer::start_of(Area::Frame)),
         Reg::R0 | Reg::R1 | Reg::R2 | Reg::R3 | Reg::R4 => RegState::Any,
         Reg::R5 | Reg::R6 | Reg::R7 | Reg::R8 | Reg::R9 => RegState::Any,
     }
@@ -134,7 +136,7 @@ fn keeps_all(state: &State, entries: &[Entry]) -> bool
 /// Takes what a state knows of r0 to r9.
 fn put_registers(entries: &mut Entries, state: &State) -> Result<(), AllocError>
     requires { entries.old ≡ blank }
-    ensures { IfOk result (λ u. entries.new ≡ record blank { registers = take 10 state.now.registers ++ Frame (pos 0) (pos 0) ∷ [] }) }
+    ensures { IfOk result (λ u. entries.new ≡ record blank { registers = take 10 state.now.registers ++ Ptr (start_of Frame) ∷ [] }) }
 {
     state.valid();
     for i in 0..10u8 {
@@ -199,6 +201,17 @@ impl Entries {
         slot_in(&self.entries, k)
     }
 
+    /// What is known of a register, or of a slot as a whole. A slot's number is from 1 to 64.
+    pub fn held(&self, place: Place) -> RegState
+        requires { IsPlace place }
+        ensures { result ≡ held self.now place }
+    {
+        match place {
+            Place::Register(r) => self.reg(r),
+            Place::Slot(k) => self.slot(k).value(),
+        }
+    }
+
     /// Takes an entry of a place of which nothing is known yet.
     #[inline(never)]
     fn push(&mut self, entry: Entry) -> Result<(), AllocError>
@@ -227,8 +240,7 @@ impl Entries {
         match value {
             RegState::Any => Ok(()),
             RegState::Num(_) => self.push(Entry::Register(r, value)),
-            RegState::Ctx { .. } => self.push(Entry::Register(r, value)),
-            RegState::Frame { .. } => self.push(Entry::Register(r, value)),
+            RegState::Ptr(_) => self.push(Entry::Register(r, value)),
         }
     }
 
@@ -246,7 +258,7 @@ impl Entries {
             SlotState::Bytes(0) => Ok(()),
             SlotState::Bytes(_) => self.push(Entry::Slot(k, value)),
             SlotState::Word(_) => self.push(Entry::Slot(k, value)),
-            SlotState::Ptr(_) => self.push(Entry::Slot(k, value)),
+            SlotState::Spilled(_) => self.push(Entry::Slot(k, value)),
         }
     }
 
@@ -296,7 +308,7 @@ impl State {
     pub fn entails_entries(&self, entries: &Entries) -> bool
         ensures { result ≡ state_entails self.now entries.now }
     {
-        let end = RegState::Frame { lo: 0, hi: 0 };
+        let end = RegState::Ptr(Pointer::start_of(Area::Frame));
         self.valid();
         self.reg(Reg::R10).entails(end) && keeps_all(self, &entries.entries)
     }

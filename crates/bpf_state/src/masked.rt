@@ -1,7 +1,7 @@
 //! The slots of a frame, their byte masks together.
 
 use crate::lanes::{are_zero, covers};
-use crate::state::{Pointer, SlotState};
+use crate::state::{Area, Pointer, SlotState};
 use bpf_num::Num;
 use std::fmt::{self, Debug, Formatter, Write};
 use std::marker::Model;
@@ -48,7 +48,7 @@ impl Slots {
     {
         Slots {
             masks: [0; 64],
-            wholes: [Whole::Ptr(Pointer::Ctx { lo: 0, hi: 0 }); 64],
+            wholes: [Whole::Ptr(Pointer::start_of(Area::Context)); 64],
         }
     }
 
@@ -98,7 +98,7 @@ impl Slots {
         if mask == 255 {
             match self.wholes[index] {
                 Whole::Word(n) => SlotState::Word(n),
-                Whole::Ptr(p) => SlotState::Ptr(p),
+                Whole::Ptr(p) => SlotState::Spilled(p),
             }
         } else {
             SlotState::Bytes(mask)
@@ -117,7 +117,7 @@ impl Slots {
                 self.masks[index] = 255;
                 self.wholes[index] = Whole::Word(n);
             }
-            SlotState::Ptr(p) => {
+            SlotState::Spilled(p) => {
                 self.masks[index] = 255;
                 self.wholes[index] = Whole::Ptr(p);
             }

@@ -20,7 +20,7 @@ fn written(held: SlotState, bytes: u8) -> SlotState
     ensures mask { IsSlot result }
 {
     match held {
-        SlotState::Ptr(_) => SlotState::Bytes(bytes),
+        SlotState::Spilled(_) => SlotState::Bytes(bytes),
         SlotState::Word(_) => SlotState::Word(Num::top()),
         SlotState::Bytes(mask) => {
             if mask | bytes == 255 {
@@ -39,7 +39,7 @@ fn maybe_written(held: SlotState) -> SlotState
     ensures mask { IsSlot result }
 {
     match held {
-        SlotState::Ptr(_) => SlotState::Bytes(0),
+        SlotState::Spilled(_) => SlotState::Bytes(0),
         SlotState::Word(_) => SlotState::Word(Num::top()),
         SlotState::Bytes(mask) => SlotState::Bytes(mask),
     }
@@ -49,7 +49,7 @@ fn is_pointer_slot(held: SlotState) -> bool
     ensures { result ≡ is_pointer_slot held }
 {
     match held {
-        SlotState::Ptr(_) => true,
+        SlotState::Spilled(_) => true,
         SlotState::Bytes(_) | SlotState::Word(_) => false,
     }
 }

@@ -25,26 +25,32 @@ pub fn numbered(number: u8) -> Reg
     }
 }
 
-/// What is known of a register. The bounds of a pointer are its offset's, both ends in it, the lower one first.
+/// What a pointer points into.
+#[derive(Clone, Copy, Debug)]
+pub enum Area {
+    /// The context.
+    Context,
+    /// The function's own frame.
+    Frame,
+}
+
+/// What is known of a pointer: what it points into, and the bounds of its offset, both ends in it, the lower one first.
+#[derive(Clone, Copy, Debug)]
+pub struct Pointer {
+    pub area: Area,
+    pub lo: i64,
+    pub hi: i64,
+}
+
+/// What is known of a register.
 #[derive(Clone, Copy, Debug)]
 pub enum RegState {
     /// Nothing: it may be uninitialised.
     Any,
     /// A number.
     Num(Num),
-    /// A pointer into the context.
-    Ctx { lo: i64, hi: i64 },
-    /// A pointer into the function's own frame.
-    Frame { lo: i64, hi: i64 },
-}
-
-/// A pointer that a slot may hold. The bounds are its offset's, both ends in it, the lower one first.
-#[derive(Clone, Copy, Debug)]
-pub enum Pointer {
-    /// A pointer into the context.
-    Ctx { lo: i64, hi: i64 },
-    /// A pointer into the function's own frame.
-    Frame { lo: i64, hi: i64 },
+    /// A pointer.
+    Ptr(Pointer),
 }
 
 /// What is known of the eight bytes of a slot.
@@ -55,8 +61,8 @@ pub enum SlotState {
     Bytes(u8),
     /// All bytes are initialised, and they are this number.
     Word(Num),
-    /// A pointer.
-    Ptr(Pointer),
+    /// A pointer, spilled as a whole.
+    Spilled(Pointer),
 }
 
 /// A place that holds a value: a register, or a stack slot by its number. Slot k, from 1 to 64, has the offsets -8k to
@@ -78,13 +84,14 @@ pub struct Tag {
 impl RegState {
     ghost use Rattle.std.specs.Prelude.{◌≡◌};
     ghost use Rattle.bpf_state.specs.Fault.{is_any, is_number, is_pointer};
+    ghost use Rattle.bpf_state.specs.Transfer.{number_state};
 
     pub(crate) fn is_any(self) -> bool
         ensures { result ≡ is_any self }
     {
         match self {
             RegState::Any => true,
-            RegState::Num(_) | RegState::Ctx { .. } | RegState::Frame { .. } => false,
+            RegState::Num(_) | RegState::Ptr(_) => false,
         }
     }
 
@@ -93,7 +100,17 @@ impl RegState {
     {
         match self {
             RegState::Num(_) => true,
-            RegState::Any | RegState::Ctx { .. } | RegState::Frame { .. } => false,
+            RegState::Any | RegState::Ptr(_) => false,
+        }
+    }
+
+    /// The number, if it is known to be one.
+    pub fn number(self) -> Option<Num>
+        ensures { result ≡ number_state self }
+    {
+        match self {
+            RegState::Num(number) => Some(number),
+            RegState::Any | RegState::Ptr(_) => None,
         }
     }
 
@@ -101,24 +118,46 @@ impl RegState {
         ensures { result ≡ is_pointer self }
     {
         match self {
-            RegState::Ctx { .. } | RegState::Frame { .. } => true,
+            RegState::Ptr(_) => true,
             RegState::Any | RegState::Num(_) => false,
+        }
+    }
+}
+
+impl Area {
+    ghost use Rattle.std.specs.Prelude.{◌≡◌};
+    ghost use Rattle.bpf_state.specs.State.{is_frame, same_area};
+
+    /// Whether it is the frame.
+    pub fn is_frame(self) -> bool
+        ensures { result ≡ is_frame self }
+    {
+        match self {
+            Area::Context => false,
+            Area::Frame => true,
+        }
+    }
+
+    /// Whether both are the context, or both the frame.
+    pub fn is_same(self, other: Area) -> bool
+        ensures { result ≡ same_area self other }
+    {
+        match self {
+            Area::Context => !other.is_frame(),
+            Area::Frame => other.is_frame(),
         }
     }
 }
 
 impl Pointer {
     ghost use Rattle.std.specs.Prelude.{◌≡◌};
-    ghost use Rattle.bpf_state.specs.State.{pointer_register};
+    ghost use Rattle.bpf_state.specs.State.{start_of};
 
-    /// The pointer as a register holds it.
-    pub(crate) fn register(self) -> RegState
-        ensures { result ≡ pointer_register self }
+    /// To the start of the context, or to the frame's end: the offset 0.
+    pub fn start_of(area: Area) -> Pointer
+        ensures { result ≡ start_of area }
     {
-        match self {
-            Pointer::Ctx { lo, hi } => RegState::Ctx { lo, hi },
-            Pointer::Frame { lo, hi } => RegState::Frame { lo, hi },
-        }
+        Pointer { area, lo: 0, hi: 0 }
     }
 }
 
@@ -132,7 +171,7 @@ impl SlotState {
     {
         match self {
             SlotState::Word(n) => RegState::Num(n),
-            SlotState::Ptr(p) => p.register(),
+            SlotState::Spilled(p) => RegState::Ptr(p),
             SlotState::Bytes(_) => RegState::Any,
         }
     }

@@ -18,7 +18,7 @@ fn tightened_register(held: RegState) -> Option<RegState>
             Some(number) => Some(RegState::Num(number)),
             None => None,
         },
-        RegState::Any | RegState::Ctx { .. } | RegState::Frame { .. } => Some(held),
+        RegState::Any | RegState::Ptr(_) => Some(held),
     }
 }
 
@@ -32,7 +32,7 @@ fn tightened_slot(held: SlotState) -> Option<SlotState>
             Some(number) => Some(SlotState::Word(number)),
             None => None,
         },
-        SlotState::Bytes(_) | SlotState::Ptr(_) => Some(held),
+        SlotState::Bytes(_) | SlotState::Spilled(_) => Some(held),
     }
 }
 

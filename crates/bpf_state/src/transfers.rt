@@ -96,9 +96,10 @@ fn can_test(width: Width, cond: Cond, a: RegState, b: RegState) -> bool
 {
     match (a, b) {
         (RegState::Num(_), RegState::Num(_)) => true,
-        (RegState::Ctx { .. }, RegState::Ctx { .. })
-        | (RegState::Frame { .. }, RegState::Frame { .. }) => {
-            matches!(width, Width::W64) && matches!(cond, Cond::Eq | Cond::Ne)
+        (RegState::Ptr(p), RegState::Ptr(q)) => {
+            matches!(width, Width::W64)
+                && matches!(cond, Cond::Eq | Cond::Ne)
+                && p.area.is_same(q.area)
         }
         _ => false,
     }
@@ -132,6 +133,6 @@ fn exit(state: &State) -> Result<bool, StateFault>
     match state.reg(Reg::R0) {
         RegState::Any => Err(StateFault::UnsetRegister),
         RegState::Num(_) => Ok(true),
-        RegState::Ctx { .. } | RegState::Frame { .. } => Err(StateFault::WrongKinds),
+        RegState::Ptr(_) => Err(StateFault::WrongKinds),
     }
 }

@@ -182,16 +182,15 @@ impl Access {
 
     /// Where its bytes may lie; None if the base is no pointer.
     pub fn reach(self, state: &State) -> Option<Reach> {
-        let (in_frame, lo, hi) = match state.reg(self.base) {
-            RegState::Ctx { lo, hi } => (false, lo, hi),
-            RegState::Frame { lo, hi } => (true, lo, hi),
-            RegState::Any | RegState::Num(_) => return None,
+        let RegState::Ptr(p) = state.reg(self.base) else {
+            return None;
         };
         let off = i64::from(self.off);
         Some(Reach {
-            in_frame,
-            first: lo.saturating_add(off),
-            last: hi
+            in_frame: p.area.is_frame(),
+            first: p.lo.saturating_add(off),
+            last: p
+                .hi
                 .saturating_add(off)
                 .saturating_add(self.bytes())
                 .saturating_sub(1),

@@ -3,7 +3,7 @@
 use arrayvec::ArrayVec;
 use bpf_insn::{Insn, Reg};
 use bpf_num::Num;
-use bpf_state::{Place, Pointer, RegState, SlotState};
+use bpf_state::{Area, Place, Pointer, RegState, SlotState};
 use std::fmt;
 use std::str::from_utf8;
 
@@ -115,8 +115,13 @@ impl fmt::Display for Known {
                 let number = Number(number);
                 write!(f, "{number}")
             }
-            SlotState::Ptr(Pointer::Ctx { lo, hi }) => write!(f, "ctx{lo}..{hi}"),
-            SlotState::Ptr(Pointer::Frame { lo, hi }) => write!(f, "fp{lo}..{hi}"),
+            SlotState::Spilled(Pointer { area, lo, hi }) => {
+                let base = match area {
+                    Area::Context => "ctx",
+                    Area::Frame => "fp",
+                };
+                write!(f, "{base}{lo}..{hi}")
+            }
         }
     }
 }

@@ -134,16 +134,7 @@ pub fn take_over(state: &mut State, other: &State, place: Place) {
 }
 
 fn is_same_pointer(a: Pointer, b: Pointer) -> bool {
-    match a {
-        Pointer::Ctx { lo, hi } => match b {
-            Pointer::Ctx { lo: low, hi: high } => lo == low && hi == high,
-            Pointer::Frame { .. } => false,
-        },
-        Pointer::Frame { lo, hi } => match b {
-            Pointer::Frame { lo: low, hi: high } => lo == low && hi == high,
-            Pointer::Ctx { .. } => false,
-        },
-    }
+    a.area.is_same(b.area) && a.lo == b.lo && a.hi == b.hi
 }
 
 /// Whether the same is known.
@@ -151,14 +142,14 @@ pub fn is_same(a: SlotState, b: SlotState) -> bool {
     match a {
         SlotState::Bytes(m) => match b {
             SlotState::Bytes(n) => m == n,
-            SlotState::Word(_) | SlotState::Ptr(_) => false,
+            SlotState::Word(_) | SlotState::Spilled(_) => false,
         },
         SlotState::Word(m) => match b {
             SlotState::Word(n) => m == n,
-            SlotState::Bytes(_) | SlotState::Ptr(_) => false,
+            SlotState::Bytes(_) | SlotState::Spilled(_) => false,
         },
-        SlotState::Ptr(p) => match b {
-            SlotState::Ptr(q) => is_same_pointer(p, q),
+        SlotState::Spilled(p) => match b {
+            SlotState::Spilled(q) => is_same_pointer(p, q),
             SlotState::Bytes(_) | SlotState::Word(_) => false,
         },
     }

@@ -10,7 +10,9 @@ use bpf_insn::{
     AluOp, AtomicOp, Cond, EndBits, EndKind, Insn, Modify, Operand, Order, Reg, SignBits, Size,
 };
 use bpf_num::{KnownBits, Num, Signed, Unsigned, WordDomain};
-use bpf_state::{Place, Pointer, RegState, SlotState, State, Tag, branch, enter, leave, transfer};
+use bpf_state::{
+    Area, Place, Pointer, RegState, SlotState, State, Tag, branch, enter, leave, transfer,
+};
 use std::process::Abort;
 use std::rt::HostRuntime;
 
@@ -22,21 +24,25 @@ const NOTHING: (u64, u64) = (1, 0);
 fn number_of(held: RegState) -> (u64, u64) {
     match held {
         RegState::Num(n) => (n.unsigned().lo(), n.unsigned().hi()),
-        RegState::Any | RegState::Ctx { .. } | RegState::Frame { .. } => NOTHING,
+        RegState::Any | RegState::Ptr(_) => NOTHING,
     }
 }
 
 fn is_number(held: RegState, number: Num) -> bool {
     match held {
         RegState::Num(n) => n == number,
-        RegState::Any | RegState::Ctx { .. } | RegState::Frame { .. } => false,
+        RegState::Any | RegState::Ptr(_) => false,
     }
 }
 
 fn context_of(held: RegState) -> Option<(i64, i64)> {
     match held {
-        RegState::Ctx { lo, hi } => Some((lo, hi)),
-        RegState::Any | RegState::Num(_) | RegState::Frame { .. } => None,
+        RegState::Ptr(p) => if p.area.is_frame() {
+            None
+        } else {
+            Some((p.lo, p.hi))
+        },
+        RegState::Any | RegState::Num(_) => None,
     }
 }
 
@@ -44,7 +50,7 @@ fn context_of(held: RegState) -> Option<(i64, i64)> {
 fn word_of(held: SlotState) -> (u64, u64) {
     match held {
         SlotState::Word(n) => number_of(RegState::Num(n)),
-        SlotState::Bytes(_) | SlotState::Ptr(_) => NOTHING,
+        SlotState::Bytes(_) | SlotState::Spilled(_) => NOTHING,
     }
 }
 
@@ -53,7 +59,7 @@ fn mask_of(held: SlotState) -> u16 {
     match held {
         SlotState::Bytes(mask) => mask as u16,
         SlotState::Word(_) => 255,
-        SlotState::Ptr(_) => 256,
+        SlotState::Spilled(_) => 256,
     }
 }
 
@@ -278,9 +284,14 @@ fn bytes_gather_over_two_slots(rt: HostRuntime) {
 // The pointer r3 to the frame's offset -16 or -8 or any between, slot 1 a number, slot 2 a pointer, slot 3 its upper four bytes.
 fn at_several_offsets(rt: &impl Abort) -> State {
     let mut state = State::start(8, 8);
-    state.set_reg(R3, RegState::Frame { lo: -16, hi: -8 });
+    let pointer = Pointer {
+        area: Area::Frame,
+        lo: -16,
+        hi: -8,
+    };
+    state.set_reg(R3, RegState::Ptr(pointer));
     state.set_slot(1, SlotState::Word(Num::constant(7)));
-    state.set_slot(2, SlotState::Ptr(Pointer::Ctx { lo: 0, hi: 0 }));
+    state.set_slot(2, SlotState::Spilled(Pointer::start_of(Area::Context)));
     state.set_slot(3, SlotState::Bytes(240));
     state.set_tag(Place::Slot(1), Some(Tag { term: 1, offset: 5 }));
     assert_eq!(rt; mask_of(state.slot(2)), 256);
@@ -389,7 +400,7 @@ fn single_numbers(rt: HostRuntime) {
             assert_eq!(rt; n.signed().lo(), -32768);
             assert_eq!(rt; n.signed().hi(), 32767);
         }
-        RegState::Any | RegState::Ctx { .. } | RegState::Frame { .. } => assert!(rt; false),
+        RegState::Any | RegState::Ptr(_) => assert!(rt; false),
     }
     done(
         &rt,
@@ -471,7 +482,12 @@ fn edges_of_a_jump(rt: HostRuntime) {
 #[test]
 fn calls(rt: HostRuntime) {
     let mut state = counting(&rt, 1);
-    state.set_reg(R3, RegState::Frame { lo: -8, hi: -8 });
+    let pointer = Pointer {
+        area: Area::Frame,
+        lo: -8,
+        hi: -8,
+    };
+    state.set_reg(R3, RegState::Ptr(pointer));
     state.set_slot(1, SlotState::Bytes(3));
     let mut caller = state.copy();
     enter(&mut state);
@@ -499,7 +515,12 @@ fn states_in_states(rt: HostRuntime) {
     assert!(rt; narrow.entails(&State::blank()));
     assert!(rt; !State::blank().entails(&narrow));
     let mut spilled = State::blank();
-    spilled.set_slot(9, SlotState::Ptr(Pointer::Frame { lo: -8, hi: -8 }));
+    let pointer = Pointer {
+        area: Area::Frame,
+        lo: -8,
+        hi: -8,
+    };
+    spilled.set_slot(9, SlotState::Spilled(pointer));
     assert!(rt; spilled.entails(&State::blank()));
     let mut byte = State::blank();
     byte.set_slot(9, SlotState::Bytes(4));
@@ -520,7 +541,7 @@ fn tightened_states(rt: HostRuntime) {
             assert!(rt; n.signed().lo() == 4);
             assert!(rt; n.bits().mask() == 3);
         }
-        SlotState::Bytes(_) | SlotState::Ptr(_) => assert!(rt; false),
+        SlotState::Bytes(_) | SlotState::Spilled(_) => assert!(rt; false),
     }
     let empty = Num::of(KnownBits::constant(1), Unsigned::constant(2), Signed::top());
     state.set_reg(R4, RegState::Num(empty));

@@ -92,7 +92,7 @@ fn bytes_are_swapped_by_the_order(rt: HostRuntime) {
             };
             match state.reg(R3) {
                 RegState::Num(n) => assert!(rt; n == Num::constant(expected)),
-                RegState::Any | RegState::Ctx { .. } | RegState::Frame { .. } => assert!(rt; false),
+                RegState::Any | RegState::Ptr(_) => assert!(rt; false),
             }
         }
     }

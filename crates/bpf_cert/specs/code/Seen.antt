@@ -4,11 +4,11 @@ use Rattle.bpf_cert.specs.Numeral.{SignedDigits, number, is_numeral, is_plain}
 use Rattle.bpf_cert.specs.Line.{Part, Place, Content, Measure, Term, Lengths, Line}
 use Rattle.bpf_cert.specs.Reading.{◌>>=◌, cut, behind}
 use Rattle.bpf_cert.specs.Faults.{is_plain_part, is_top}
+use Rattle.bpf_cert.specs.Spelling.{bounds_in}
 use Rattle.bpf_cert.specs.declared.number.SignedForm.{SignedForm}
 use Rattle.bpf_cert.specs.declared.part.PartForm.{PartForm}
 use Rattle.bpf_cert.specs.declared.part.PartForm.TheVariants as part
 use Rattle.bpf_cert.specs.declared.content.PointerForm.{PointerForm}
-use Rattle.bpf_cert.specs.declared.content.PointerForm.TheVariants as pointer
 use Rattle.bpf_cert.specs.declared.term.TermForm.{TermForm}
 use Rattle.std.specs.Borrow.{Bor}
 use Rattle.bpf_cert.specs.declared.place.PlaceForm.{PlaceForm}
@@ -48,8 +48,7 @@ abbrev pub capped_signed : SignedDigits → ℤ
 capped_signed s = if s.minus then neg_ℤ (pos (min (number s.digits) (2 ^ 64))) else pos (min (number s.digits) (2 ^ 64))
 
 abbrev pub pointer_seen : PointerForm → Content
-pointer_seen (pointer.Context lo hi) = Content.context (signed_seen lo) (signed_seen hi)
-pointer_seen (pointer.Frame lo hi) = Content.frame (signed_seen lo) (signed_seen hi)
+pointer_seen p = bounds_in p.area (signed_seen p.low) (signed_seen p.high)
 
 abbrev pub measure_seen : Option (Bor (List ℕ)) → PlaceForm → Measure
 measure_seen None p = Measure.down (place_seen p)

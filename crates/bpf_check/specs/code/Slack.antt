@@ -3,7 +3,8 @@ use Rattle.std.specs.Prelude.{ℕ, ℤ, pos, neg_ℤ, ◌+ℤ◌, ◌-ℤ◌, �
 use Rattle.bpf_state.specs.State.{AbstractState, blank}
 use Rattle.bpf_cert.specs.declared.certificate.Term.{Term}
 use Rattle.bpf_cert.specs.View.{LabelView}
-use Rattle.bpf_safety.specs.Budget.{bounds, place_of, tag_of, term_value, least_at_ends, shares, free_part, each_term, sum_if}
+use Rattle.bpf_state.specs.State.{tag}
+use Rattle.bpf_safety.specs.Budget.{bounds, place_of, term_value, least_at_ends, shares, free_part, each_term, sum_if}
 use Rattle.bpf_safety.specs.Flow.{label_state}
 use Rattle.bpf_check.specs.declared.spending.Slack.{Slack}
 
@@ -24,7 +25,7 @@ abbrev pub kept_of : LabelView → AbstractState → LabelView → Option ℤ
 kept_of old edge new = sum_if (each_term (kept_part edge new (at_label old)) 0 old.terms)
 
 abbrev pub free_term : AbstractState → ℕ → Term → Option ℤ
-free_term edge j t = free_part edge (tag_of edge (place_of t)) t
+free_term edge j t = free_part edge (tag edge (place_of t)) t
 
 abbrev pub free_of : AbstractState → LabelView → Option ℤ
 free_of edge new = sum_if (each_term (free_term edge) 0 new.terms)

@@ -6,7 +6,7 @@ use bpf_cert::{
 };
 use bpf_insn::Reg;
 use bpf_num::{Num, Unsigned};
-use bpf_state::{Pointer, RegState, SlotState, State, Tag};
+use bpf_state::{Area, Pointer, RegState, SlotState, State, Tag};
 use std::alloc::{AllocError, Global};
 use std::io::{self, ErrorKind, Write};
 use std::test::Fail;
@@ -125,11 +125,26 @@ fn migrated_texts(rt: HostRuntime) -> Result<(), Fail> {
 #[test]
 fn places_and_pointers(rt: HostRuntime) -> Result<(), Fail> {
     let mut state = State::blank();
-    state.set_reg(Reg::R1, RegState::Ctx { lo: 0, hi: 12 });
-    state.set_reg(Reg::R9, RegState::Frame { lo: -512, hi: 0 });
+    let into_context = Pointer {
+        area: Area::Context,
+        lo: 0,
+        hi: 12,
+    };
+    let into_frame = Pointer {
+        area: Area::Frame,
+        lo: -512,
+        hi: 0,
+    };
+    let spilled = Pointer {
+        area: Area::Frame,
+        lo: -8,
+        hi: -8,
+    };
+    state.set_reg(Reg::R1, RegState::Ptr(into_context));
+    state.set_reg(Reg::R9, RegState::Ptr(into_frame));
     state.set_slot(1, SlotState::Bytes(254));
     state.set_slot(2, SlotState::Word(Num::constant(5)));
-    state.set_slot(64, SlotState::Ptr(Pointer::Frame { lo: -8, hi: -8 }));
+    state.set_slot(64, SlotState::Spilled(spilled));
     let certificate = Certificate::new(1, 4096, 4096, 9, smallest(rt.alloc(), 9, &state)?)?;
     let mut text = Vec::new(rt.alloc());
     write(&certificate, &mut text)?;
@@ -157,10 +172,11 @@ fn refused_parts(rt: HostRuntime) -> Result<(), Fail> {
     let mut far = State::blank();
     far.set_reg(
         Reg::R1,
-        RegState::Ctx {
+        RegState::Ptr(Pointer {
+            area: Area::Context,
             lo: 0,
             hi: 0x8000_0001,
-        },
+        }),
     );
     for row in [
         Parts {

@@ -1,13 +1,13 @@
 -- The slots as their byte masks and what they hold as a whole.
 use Rattle.std.specs.Prelude.{◌≡◌, ℕ, ◌==◌, List, [], ◌∷◌, length, if◌then◌else◌}
 use Rattle.bpf_state.specs.declared.state.SlotState.{SlotState}
-use Rattle.bpf_state.specs.declared.state.SlotState.TheVariants.{Bytes, Word, Ptr}
+use Rattle.bpf_state.specs.declared.state.SlotState.TheVariants.{Bytes, Word, Spilled}
 use Rattle.bpf_state.specs.declared.masked.Whole.{Whole}
 use Rattle.bpf_state.specs.declared.masked.Whole.TheVariants.{Word as Number, Ptr as Pointer}
 
 abbrev pub whole_slot : Whole → SlotState
 whole_slot (Number n) = Word n
-whole_slot (Pointer p) = Ptr p
+whole_slot (Pointer p) = Spilled p
 
 -- a full mask says that the slot holds something whole
 abbrev pub held : ℕ → Whole → SlotState

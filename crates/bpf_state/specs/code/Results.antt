@@ -1,5 +1,5 @@
 -- What arithmetic makes of what is known of two values, or why it is refused.
-use Rattle.std.specs.Prelude.{Option, Some, None, Result, Ok, Err, IfOk, IfSome, option_map, if◌then◌else◌}
+use Rattle.std.specs.Prelude.{ℤ, Option, Some, None, Result, Ok, Err, IfOk, IfSome, option_map, if◌then◌else◌}
 use Rattle.bpf_insn.specs.Effects.{is_frame_pointer}
 use Rattle.bpf_insn.specs.declared.instruction.Reg.{Reg}
 use Rattle.bpf_insn.specs.declared.instruction.Width.{Width}
@@ -9,7 +9,8 @@ use Rattle.bpf_num.specs.Operation.{num_alu}
 use Rattle.bpf_state.specs.declared.fault.StateFault.{StateFault}
 use Rattle.bpf_state.specs.declared.fault.StateFault.TheVariants.{WrongKinds, OutOfBounds}
 use Rattle.bpf_state.specs.declared.state.RegState.{RegState}
-use Rattle.bpf_state.specs.declared.state.RegState.TheVariants.{Num}
+use Rattle.bpf_state.specs.declared.state.RegState.TheVariants.{Num, Ptr}
+use Rattle.bpf_state.specs.declared.state.Area.{Area}
 use Rattle.bpf_state.specs.declared.state.Tag.{Tag}
 use Rattle.bpf_state.specs.State.{AbstractState, IsRegister, put_register}
 use Rattle.bpf_state.specs.Fault.{alu_of_kinds, leaves_bounds}
@@ -24,15 +25,18 @@ abbrev pub IsKnown : Known → Type 0
 IsKnown known = IfOk known (λ result. IfSome result IsRegister)
 
 -- a pointer that isn't too far off
-abbrev pub near : RegState → Known
-near value = if leaves_bounds value then Err OutOfBounds else Ok (Some value)
+abbrev pub near_value : RegState → Known
+near_value value = if leaves_bounds value then Err OutOfBounds else Ok (Some value)
+
+abbrev pub near : Area → ℤ → ℤ → Known
+near area lo hi = near_value (Ptr (record { area = area; lo = lo; hi = hi }))
 
 -- a move takes any pointer
 abbrev pub judged_result : AluOp → Option (Option RegState) → Known
 judged_result op None = Err WrongKinds
 judged_result op (Some None) = Ok None
 judged_result Mov (Some (Some value)) = Ok (Some value)
-judged_result op (Some (Some value)) = near value
+judged_result op (Some (Some value)) = near_value value
 
 abbrev pub result_of : Width → AluOp → RegState → RegState → Known
 result_of width op a b = judged_result op (alu_of_kinds width op a b)

@@ -7,16 +7,16 @@ ghost use Rattle.bpf_insn.specs.declared.instruction.Width.TheVariants.{W64};
 ghost use Rattle.bpf_insn.specs.declared.instruction.AluOp.TheVariants.{Add, Sub, Mov};
 ghost use Rattle.bpf_insn.specs.declared.instruction.Insn.TheVariants.{Alu, Neg, MovSx, End};
 ghost use Rattle.bpf_state.specs.declared.state.RegState.{RegState};
-ghost use Rattle.bpf_state.specs.declared.state.RegState.TheVariants.{Num as Number, Ctx, Frame};
-ghost use Rattle.bpf_state.specs.State.{IsRegister};
-ghost use Rattle.bpf_state.specs.Fault.{difference, reads_any};
+ghost use Rattle.bpf_state.specs.declared.state.RegState.TheVariants.{Num as Number, Ptr};
+ghost use Rattle.bpf_state.specs.State.{IsPointer, IsRegister};
+ghost use Rattle.bpf_state.specs.Fault.{difference, pointer_plus, pointer_minus, reads_any};
 ghost use Rattle.bpf_state.specs.Transfer.{constant_of, added, never_wraps, shifted_tag, tag_after, alu_tag, transfer};
 ghost use Rattle.bpf_state.specs.Answer.{outcome_told, KeepsUnlessDone};
-ghost use Rattle.bpf_state.specs.code.Results.{IsKnown, near, numbers_result, result_of, written};
+ghost use Rattle.bpf_state.specs.code.Results.{IsKnown, near, near_value, numbers_result, result_of, written};
 
 use crate::abstract_state::State;
 use crate::fault::StateFault;
-use crate::state::{RegState, Tag};
+use crate::state::{Area, Pointer, RegState, Tag};
 use bpf_insn::{AluOp, EndBits, EndKind, Operand, Order, Reg, SignBits, Width};
 use bpf_num::{KnownBits, Num, Signed, Unsigned, WordDomain};
 
@@ -49,76 +49,63 @@ fn difference(lo: i64, hi: i64, least: i64, most: i64) -> Option<RegState>
     number_state(Num::of(KnownBits::top(), Unsigned::top(), signed).tighten())
 }
 
-/// A pointer into the context with these bounds, if they aren't too far.
-fn near_context(lo: i128, hi: i128) -> Result<Option<RegState>, StateFault>
+/// The pointer with other bounds, if they aren't too far off.
+fn near(area: Area, lo: i128, hi: i128) -> Result<Option<RegState>, StateFault>
     requires { lo ≤ℤ hi }
-    ensures value { result ≡ near (Ctx lo hi) }
+    ensures value { result ≡ near area lo hi }
     ensures ordered { IsKnown result }
 {
     if -FARTHEST <= lo && hi <= FARTHEST {
-        Ok(Some(RegState::Ctx {
+        Ok(Some(RegState::Ptr(Pointer {
+            area,
             lo: lo as i64,
             hi: hi as i64,
-        }))
+        })))
     } else {
         Err(StateFault::OutOfBounds)
     }
 }
 
-/// A pointer into the frame with these bounds, if they aren't too far.
-fn near_frame(lo: i128, hi: i128) -> Result<Option<RegState>, StateFault>
-    requires { lo ≤ℤ hi }
-    ensures value { result ≡ near (Frame lo hi) }
+fn pointer_plus(p: Pointer, n: Num) -> Result<Option<RegState>, StateFault>
+    requires { IsPointer p }
+    ensures value { result ≡ near_value (pointer_plus p n) }
     ensures ordered { IsKnown result }
 {
-    if -FARTHEST <= lo && hi <= FARTHEST {
-        Ok(Some(RegState::Frame {
-            lo: lo as i64,
-            hi: hi as i64,
-        }))
+    n.valid();
+    let by = n.signed();
+    near(
+        p.area,
+        p.lo as i128 + by.lo() as i128,
+        p.hi as i128 + by.hi() as i128,
+    )
+}
+
+fn pointer_minus(p: Pointer, n: Num) -> Result<Option<RegState>, StateFault>
+    requires { IsPointer p }
+    ensures value { result ≡ near_value (pointer_minus p n) }
+    ensures ordered { IsKnown result }
+{
+    n.valid();
+    let by = n.signed();
+    near(
+        p.area,
+        p.lo as i128 - by.hi() as i128,
+        p.hi as i128 - by.lo() as i128,
+    )
+}
+
+/// What is known of the difference of two pointers, if both are into the same.
+fn pointer_difference(p: Pointer, q: Pointer) -> Result<Option<RegState>, StateFault>
+    requires left { IsPointer p }
+    requires right { IsPointer q }
+    ensures value { result ≡ result_of W64 Sub (Ptr p) (Ptr q) }
+    ensures ordered { IsKnown result }
+{
+    if p.area.is_same(q.area) {
+        Ok(difference(p.lo, p.hi, q.lo, q.hi))
     } else {
-        Err(StateFault::OutOfBounds)
+        Err(StateFault::WrongKinds)
     }
-}
-
-fn context_plus(lo: i64, hi: i64, n: Num) -> Result<Option<RegState>, StateFault>
-    requires { lo ≤ℤ hi }
-    ensures value { result ≡ near (Ctx (lo +ℤ n.signed.lo) (hi +ℤ n.signed.hi)) }
-    ensures ordered { IsKnown result }
-{
-    n.valid();
-    let by = n.signed();
-    near_context(lo as i128 + by.lo() as i128, hi as i128 + by.hi() as i128)
-}
-
-fn context_minus(lo: i64, hi: i64, n: Num) -> Result<Option<RegState>, StateFault>
-    requires { lo ≤ℤ hi }
-    ensures value { result ≡ near (Ctx (lo -ℤ n.signed.hi) (hi -ℤ n.signed.lo)) }
-    ensures ordered { IsKnown result }
-{
-    n.valid();
-    let by = n.signed();
-    near_context(lo as i128 - by.hi() as i128, hi as i128 - by.lo() as i128)
-}
-
-fn frame_plus(lo: i64, hi: i64, n: Num) -> Result<Option<RegState>, StateFault>
-    requires { lo ≤ℤ hi }
-    ensures value { result ≡ near (Frame (lo +ℤ n.signed.lo) (hi +ℤ n.signed.hi)) }
-    ensures ordered { IsKnown result }
-{
-    n.valid();
-    let by = n.signed();
-    near_frame(lo as i128 + by.lo() as i128, hi as i128 + by.hi() as i128)
-}
-
-fn frame_minus(lo: i64, hi: i64, n: Num) -> Result<Option<RegState>, StateFault>
-    requires { lo ≤ℤ hi }
-    ensures value { result ≡ near (Frame (lo -ℤ n.signed.hi) (hi -ℤ n.signed.lo)) }
-    ensures ordered { IsKnown result }
-{
-    n.valid();
-    let by = n.signed();
-    near_frame(lo as i128 - by.hi() as i128, hi as i128 - by.lo() as i128)
 }
 
 /// The result of an operation on numbers; C4 on anything else.
@@ -134,13 +121,9 @@ fn numbers_result(
     match a {
         RegState::Num(m) => match b {
             RegState::Num(n) => Ok(number_state(m.alu(op, width, n))),
-            RegState::Any | RegState::Ctx { .. } | RegState::Frame { .. } => {
-                Err(StateFault::WrongKinds)
-            }
+            RegState::Any | RegState::Ptr(_) => Err(StateFault::WrongKinds),
         },
-        RegState::Any | RegState::Ctx { .. } | RegState::Frame { .. } => {
-            Err(StateFault::WrongKinds)
-        }
+        RegState::Any | RegState::Ptr(_) => Err(StateFault::WrongKinds),
     }
 }
 
@@ -153,9 +136,7 @@ fn move_result(width: Width, b: RegState) -> Result<Option<RegState>, StateFault
         Width::W64 => Ok(Some(b)),
         Width::W32 => match b {
             RegState::Num(n) => Ok(number_state(n.alu(AluOp::Mov, Width::W32, n))),
-            RegState::Any | RegState::Ctx { .. } | RegState::Frame { .. } => {
-                Err(StateFault::WrongKinds)
-            }
+            RegState::Any | RegState::Ptr(_) => Err(StateFault::WrongKinds),
         },
     }
 }
@@ -169,28 +150,19 @@ fn sum_result(a: RegState, b: RegState) -> Result<Option<RegState>, StateFault>
 {
     match a {
         RegState::Num(m) => match b {
-            RegState::Ctx { lo, hi } => context_plus(lo, hi, m),
-            RegState::Frame { lo, hi } => frame_plus(lo, hi, m),
             RegState::Num(n) => Ok(number_state(m.alu(AluOp::Add, Width::W64, n))),
+            RegState::Ptr(q) => pointer_plus(q, m),
             RegState::Any => Err(StateFault::WrongKinds),
         },
-        RegState::Ctx { lo, hi } => match b {
-            RegState::Num(n) => context_plus(lo, hi, n),
-            RegState::Any | RegState::Ctx { .. } | RegState::Frame { .. } => {
-                Err(StateFault::WrongKinds)
-            }
-        },
-        RegState::Frame { lo, hi } => match b {
-            RegState::Num(n) => frame_plus(lo, hi, n),
-            RegState::Any | RegState::Ctx { .. } | RegState::Frame { .. } => {
-                Err(StateFault::WrongKinds)
-            }
+        RegState::Ptr(p) => match b {
+            RegState::Num(n) => pointer_plus(p, n),
+            RegState::Any | RegState::Ptr(_) => Err(StateFault::WrongKinds),
         },
         RegState::Any => Err(StateFault::WrongKinds),
     }
 }
 
-/// The difference of two numbers, of a pointer and a number, or of two pointers of one kind.
+/// The difference of two numbers, of a pointer and a number, or of two pointers into the same.
 fn difference_result(a: RegState, b: RegState) -> Result<Option<RegState>, StateFault>
     requires left { IsRegister a }
     requires right { IsRegister b }
@@ -200,25 +172,12 @@ fn difference_result(a: RegState, b: RegState) -> Result<Option<RegState>, State
     match a {
         RegState::Num(m) => match b {
             RegState::Num(n) => Ok(number_state(m.alu(AluOp::Sub, Width::W64, n))),
-            RegState::Any | RegState::Ctx { .. } | RegState::Frame { .. } => {
-                Err(StateFault::WrongKinds)
-            }
+            RegState::Any | RegState::Ptr(_) => Err(StateFault::WrongKinds),
         },
-        RegState::Ctx { lo, hi } => match b {
-            RegState::Num(n) => context_minus(lo, hi, n),
-            RegState::Ctx {
-                lo: least,
-                hi: most,
-            } => Ok(difference(lo, hi, least, most)),
-            RegState::Any | RegState::Frame { .. } => Err(StateFault::WrongKinds),
-        },
-        RegState::Frame { lo, hi } => match b {
-            RegState::Num(n) => frame_minus(lo, hi, n),
-            RegState::Frame {
-                lo: least,
-                hi: most,
-            } => Ok(difference(lo, hi, least, most)),
-            RegState::Any | RegState::Ctx { .. } => Err(StateFault::WrongKinds),
+        RegState::Ptr(p) => match b {
+            RegState::Num(n) => pointer_minus(p, n),
+            RegState::Ptr(q) => pointer_difference(p, q),
+            RegState::Any => Err(StateFault::WrongKinds),
         },
         RegState::Any => Err(StateFault::WrongKinds),
     }
@@ -263,7 +222,7 @@ fn constant_of(b: RegState) -> Option<i64>
         } else {
             None
         },
-        RegState::Any | RegState::Ctx { .. } | RegState::Frame { .. } => None,
+        RegState::Any | RegState::Ptr(_) => None,
     }
 }
 
@@ -330,7 +289,7 @@ fn tag_after(a: RegState, c: Option<i128>, tag: Option<Tag>) -> Option<Tag>
             },
             None => None,
         },
-        RegState::Any | RegState::Ctx { .. } | RegState::Frame { .. } => None,
+        RegState::Any | RegState::Ptr(_) => None,
     }
 }
 
@@ -432,7 +391,7 @@ pub(crate) fn neg(width: Width, dst: Reg, state: &mut State) -> Result<bool, Sta
     match state.reg(dst) {
         RegState::Any => Err(StateFault::UnsetRegister),
         RegState::Num(n) => put_number(dst, n.neg(width), state),
-        RegState::Ctx { .. } | RegState::Frame { .. } => Err(StateFault::WrongKinds),
+        RegState::Ptr(_) => Err(StateFault::WrongKinds),
     }
 }
 
@@ -450,7 +409,7 @@ pub(crate) fn mov_sx(
     match state.reg(src) {
         RegState::Any => Err(StateFault::UnsetRegister),
         RegState::Num(n) => put_number(dst, n.sign_extend(bits, width), state),
-        RegState::Ctx { .. } | RegState::Frame { .. } => Err(StateFault::WrongKinds),
+        RegState::Ptr(_) => Err(StateFault::WrongKinds),
     }
 }
 
@@ -468,6 +427,6 @@ pub(crate) fn end(
     match state.reg(dst) {
         RegState::Any => Err(StateFault::UnsetRegister),
         RegState::Num(n) => put_number(dst, n.swap(order, kind, bits), state),
-        RegState::Ctx { .. } | RegState::Frame { .. } => Err(StateFault::WrongKinds),
+        RegState::Ptr(_) => Err(StateFault::WrongKinds),
     }
 }

@@ -13,7 +13,7 @@ use crate::abstract_state::State;
 use crate::access::Reach;
 use crate::fault::StateFault;
 use crate::slots::{maybe_write, write};
-use crate::state::{Pointer, RegState, SlotState, Tag};
+use crate::state::{RegState, SlotState, Tag};
 use bpf_insn::{Operand, Reg, Size};
 
 /// A slot that holds what a register does.
@@ -24,8 +24,7 @@ fn value_slot(value: RegState) -> SlotState
 {
     match value {
         RegState::Num(n) => SlotState::Word(n),
-        RegState::Ctx { lo, hi } => SlotState::Ptr(Pointer::Ctx { lo, hi }),
-        RegState::Frame { lo, hi } => SlotState::Ptr(Pointer::Frame { lo, hi }),
+        RegState::Ptr(p) => SlotState::Spilled(p),
         RegState::Any => SlotState::Bytes(0),
     }
 }

@@ -21,10 +21,7 @@ pub fn tell_unknown<'a, W: Write>(out: &mut W, sight: &Sight<'a>) -> io::Result<
 }
 
 fn is_pointer(state: &State, reg: Reg) -> bool {
-    matches!(
-        state.reg(reg),
-        RegState::Ctx { .. } | RegState::Frame { .. }
-    )
+    matches!(state.reg(reg), RegState::Ptr(_))
 }
 
 fn tell_register<W: Write>(out: &mut W, state: &State, reg: Reg) -> io::Result<()> {
@@ -88,7 +85,7 @@ fn tell_number_wanted<W: Write>(out: &mut W, state: &State, reg: Reg) -> io::Res
 fn pointer_slot(state: &State, access: Access) -> Option<u8> {
     let (low, high) = access.reach(state)?.slots()?;
     for slot in low..=high {
-        if let SlotState::Ptr(_) = content(state, Place::Slot(slot)) {
+        if let SlotState::Spilled(_) = content(state, Place::Slot(slot)) {
             return Some(slot);
         }
     }

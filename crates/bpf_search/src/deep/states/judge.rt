@@ -98,7 +98,7 @@ impl Watcher for Report {
     fn exit(&mut self, state: &State) {
         let number = match state.reg(Reg::R0) {
             RegState::Num(number) => number,
-            RegState::Any | RegState::Ctx { .. } | RegState::Frame { .. } => Num::top(),
+            RegState::Any | RegState::Ptr(_) => Num::top(),
         };
         self.exit = match self.exit {
             Some(others) => Some(others.join(number)),

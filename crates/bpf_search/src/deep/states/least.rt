@@ -115,9 +115,9 @@ fn slots_touched(state: &State, base: Reg, off: i16, size: Size) -> Places {
 
 /// The slot that a store writes as a whole.
 fn slot_written(state: &State, base: Reg, off: i16, size: Size) -> Places {
-    if let (Size::DW, RegState::Frame { lo, hi }) = (size, state.reg(base)) {
-        let offset = lo.saturating_add(off as i64);
-        if lo == hi && offset & 7 == 0 {
+    if let (Size::DW, RegState::Ptr(p)) = (size, state.reg(base)) {
+        let offset = p.lo.saturating_add(off as i64);
+        if p.lo == p.hi && offset & 7 == 0 {
             return slots_touched(state, base, off, size);
         }
     }

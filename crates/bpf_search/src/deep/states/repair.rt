@@ -4,7 +4,7 @@ use super::task::Task;
 use crate::places::REGISTERS;
 use bpf_insn::{AluOp, Insn, Operand, Reg, Width};
 use bpf_num::Num;
-use bpf_state::{RegState, SlotState, State};
+use bpf_state::{Area, Pointer, RegState, SlotState, State};
 
 /// Where in the frame an access of dead code is led to.
 const MIDDLE: i64 = -256;
@@ -74,11 +74,16 @@ fn traced(task: Task, label: u32, slot: u32, base: Reg) -> Reg {
 fn point(state: &mut State, base: Reg, off: i16) -> bool {
     let at = MIDDLE.saturating_sub((off as i64) & !7);
     let has_pointed = match state.reg(base) {
-        RegState::Frame { lo, hi } => lo == at && hi == at,
-        RegState::Any | RegState::Num(_) | RegState::Ctx { .. } => false,
+        RegState::Ptr(p) => p.area.is_frame() && p.lo == at && p.hi == at,
+        RegState::Any | RegState::Num(_) => false,
     };
     if base != Reg::R10 {
-        state.set_reg(base, RegState::Frame { lo: at, hi: at });
+        let pointer = Pointer {
+            area: Area::Frame,
+            lo: at,
+            hi: at,
+        };
+        state.set_reg(base, RegState::Ptr(pointer));
     }
     let is_filled = fill_slots(state);
     is_filled || !has_pointed
@@ -142,7 +147,7 @@ pub fn make_numbers(task: Task, label: u32, slot: u32, state: &mut State) -> boo
 fn make_number(state: &mut State, r: Reg) -> bool {
     match state.reg(r) {
         RegState::Any | RegState::Num(_) => false,
-        RegState::Ctx { .. } | RegState::Frame { .. } => {
+        RegState::Ptr(_) => {
             if r != Reg::R10 {
                 state.set_reg(r, RegState::Num(Num::top()));
             }

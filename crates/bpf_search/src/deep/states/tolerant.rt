@@ -4,7 +4,7 @@ ghost use Rattle.bpf_state.specs.State.{IsRegister};
 
 use bpf_insn::{AluOp, AtomicOp, Insn, Operand, Reg, Size, Width};
 use bpf_num::{KnownBits, Num, Signed, Unsigned, WordDomain};
-use bpf_state::{RegState, SlotState, State};
+use bpf_state::{Pointer, RegState, SlotState, State};
 
 /// The farthest offset of a pointer in a certificate.
 const FARTHEST: i64 = 1 << 31;
@@ -40,15 +40,14 @@ fn moved(pointer: RegState, least: i64, greatest: i64) -> RegState
     ensures { IsRegister result }
 {
     match pointer {
-        RegState::Ctx { lo, hi } => {
-            let lo = lo.saturating_add(least).max(-FARTHEST).min(FARTHEST);
-            let hi = hi.saturating_add(greatest).min(FARTHEST).max(lo);
-            RegState::Ctx { lo, hi }
-        }
-        RegState::Frame { lo, hi } => {
-            let lo = lo.saturating_add(least).max(-FARTHEST).min(FARTHEST);
-            let hi = hi.saturating_add(greatest).min(FARTHEST).max(lo);
-            RegState::Frame { lo, hi }
+        RegState::Ptr(p) => {
+            let lo = p.lo.saturating_add(least).max(-FARTHEST).min(FARTHEST);
+            let hi = p.hi.saturating_add(greatest).min(FARTHEST).max(lo);
+            RegState::Ptr(Pointer {
+                area: p.area,
+                lo,
+                hi,
+            })
         }
         RegState::Any | RegState::Num(_) => RegState::Num(Num::top()),
     }
@@ -93,9 +92,7 @@ fn result_of(op: AluOp, width: Width, a: RegState, b: RegState) -> RegState
         },
         (AluOp::Sub, Width::W64) => match b {
             RegState::Num(by) => minus(a, by),
-            RegState::Any | RegState::Ctx { .. } | RegState::Frame { .. } => {
-                RegState::Num(Num::top())
-            }
+            RegState::Any | RegState::Ptr(_) => RegState::Num(Num::top()),
         },
         _ => RegState::Num(Num::top()),
     }
@@ -130,15 +127,16 @@ pub fn slot_of(offset: i64) -> u8 {
 
 /// The slots of the frame that an access may touch: the first, and the one after the last. None elsewhere.
 pub fn touched(base: RegState, off: i16, size: Size) -> Option<(u8, u8)> {
-    let RegState::Frame { lo, hi } = base else {
+    let RegState::Ptr(p) = base else {
         return None;
     };
-    let lowest = lo.saturating_add(off as i64);
-    let highest = hi
+    let lowest = p.lo.saturating_add(off as i64);
+    let highest = p
+        .hi
         .saturating_add(off as i64)
         .saturating_add(bytes_of(size))
         .saturating_sub(1);
-    if highest < LOWEST || lowest >= 0 {
+    if !p.area.is_frame() || highest < LOWEST || lowest >= 0 {
         return None;
     }
     Some((slot_of(highest), slot_of(lowest).saturating_add(1)))
@@ -160,7 +158,7 @@ fn spoil_slot(state: &mut State, k: u8) {
         match state.slot(k) {
             SlotState::Bytes(_) => {}
             SlotState::Word(_) => state.set_slot(k, SlotState::Word(Num::top())),
-            SlotState::Ptr(_) => state.set_slot(k, SlotState::Bytes(0)),
+            SlotState::Spilled(_) => state.set_slot(k, SlotState::Bytes(0)),
         }
     }
 }

@@ -7,5 +7,5 @@ returns-in-Bytes c = put_bytes _ _ _ c.args.index _ _ c.self.view_is c.self.inva
 pub returns-in-Word : goal.returns-in-Word
 returns-in-Word c = put_whole _ _ _ c.args.index _ _ c.self.view_is c.self.invariant c.requires.place c.in-Word.is
 
-pub returns-in-Ptr : goal.returns-in-Ptr
-returns-in-Ptr c = put_whole _ _ _ c.args.index _ _ c.self.view_is c.self.invariant c.requires.place c.in-Ptr.is
+pub returns-in-Spilled : goal.returns-in-Spilled
+returns-in-Spilled c = put_whole _ _ _ c.args.index _ _ c.self.view_is c.self.invariant c.requires.place c.in-Spilled.is
