@@ -17,7 +17,7 @@ type Found = (&'static str, &'static str, (u32, u32), u32, &'static [Run]);
 /// What it shows, the program's text, the contexts' length, and the refusal's number.
 type NotFound = (&'static str, &'static str, u32, u8);
 
-const FOUND: [Found; 34] = [
+const FOUND: &[Found] = &[
     (
         "a loop in a loop",
         "r6 = 3\na: r7 = 2\nb: r7 += -1\nif r7 != 0 goto b\nr6 += -1\nif r6 != 0 goto a\nr0 = 0\nexit\n",
@@ -304,7 +304,7 @@ const FOUND: [Found; 34] = [
     ),
 ];
 
-const NOT_FOUND: [NotFound; 14] = [
+const NOT_FOUND: &[NotFound] = &[
     (
         "a fifth loop inside another",
         "r0 = 0\nr6 = 0\na: r7 = 0\nb: r8 = 0\nc: r9 = 4\nd: r1 = 3\ne: r0 += 1\nr1 += -1\nif r1 != 0 goto e\nr9 += -1\nif r9 != 0 goto d\nr8 += 1\nif r8 < 5 goto c\nr7 += 1\nif r7 < 7 goto b\nr6 += 1\nif r6 < 9 goto a\nexit\n",
@@ -414,7 +414,7 @@ fn deep_proposals_are_accepted(rt: HostRuntime) -> Result<(), Fail> {
 
 #[test]
 fn what_has_no_deep_proposal(rt: HostRuntime) -> Result<(), Fail> {
-    for (shows, text, length, number) in NOT_FOUND {
+    for &(shows, text, length, number) in NOT_FOUND {
         let program = assemble(rt.alloc(), text, Order::Little)?;
         match searched(rt.alloc(), &program, length, length) {
             Ok(_) => panic!(rt; "{shows}"),

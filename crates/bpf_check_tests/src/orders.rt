@@ -35,7 +35,7 @@ const LOW_BYTE: &str = "*(u32 *)(r10 - 8) = 1\nr0 = *(u8 *)(r10 - 8)\nexit\n";
 
 const LOW_BYTE_CERTIFICATE: &str = "bpfcert 1 0 3\nfn 0 1 u0..255\nat 0 3\nend\n";
 
-const ROWS: [Row; 12] = [
+const ROWS: &[Row] = &[
     Row {
         shows: "be16 keeps in the big order",
         text: SWAPPED,

@@ -17,7 +17,7 @@ type Found = (&'static str, &'static str, u32, u32, &'static [Run]);
 /// and the slot.
 type NotFound = (&'static str, &'static str, u32, (u8, u8, u32));
 
-const FOUND: [Found; 20] = [
+const FOUND: &[Found] = &[
     (
         "the smallest program",
         "r0 = 0\nexit\n",
@@ -176,7 +176,7 @@ const FOUND: [Found; 20] = [
     ),
 ];
 
-const NOT_FOUND: [NotFound; 19] = [
+const NOT_FOUND: &[NotFound] = &[
     (
         "a function that calls itself",
         "f: call f\nexit\n",
@@ -324,7 +324,7 @@ fn refusal_of(alloc: Global, text: &str, length: u32) -> Result<Option<(u8, u8, 
 
 #[test]
 fn proposals_are_accepted(rt: HostRuntime) -> Result<(), Fail> {
-    for (shows, text, length, bound, runs) in FOUND {
+    for &(shows, text, length, bound, runs) in FOUND {
         assert!(rt; is_found(rt.alloc(), text, length, bound, runs)?, "{shows}");
     }
     Ok(())
@@ -332,7 +332,7 @@ fn proposals_are_accepted(rt: HostRuntime) -> Result<(), Fail> {
 
 #[test]
 fn what_has_no_proposal(rt: HostRuntime) -> Result<(), Fail> {
-    for (shows, text, length, want) in NOT_FOUND {
+    for &(shows, text, length, want) in NOT_FOUND {
         let got = refusal_of(rt.alloc(), text, length)?;
         assert_eq!(rt; got, Some(want), "{shows}");
     }

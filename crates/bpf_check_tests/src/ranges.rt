@@ -28,7 +28,7 @@ struct Row {
     answer: Result<(u32, u32, u32), Refused>,
 }
 
-const ROWS: [Row; 11] = [
+const ROWS: &[Row] = &[
     Row {
         shows: "a byte of each context that has it",
         text: FIXED_BYTE,
@@ -137,7 +137,7 @@ struct Ran {
     want: Option<(u64, u64)>,
 }
 
-const RUNS: [Ran; 7] = [
+const RUNS: &[Ran] = &[
     Ran {
         text: FIXED_BYTE,
         certificate: FOUR_OR_MORE,

@@ -43,7 +43,7 @@ fn answer_to(
 /// A program's text, a byte of its image to be set, a certificate, and the answer.
 type Set = (&'static str, (usize, u8), &'static str, (char, u8, usize));
 
-const SETS: [Set; 14] = [
+const SETS: &[Set] = &[
     (SMALLEST, (0, 0xb7), SMALLEST_CERTIFICATE, ('Y', 0, 0)),
     (SMALLEST, (0, 0xff), SMALLEST_CERTIFICATE, ('E', 2, 0)),
     (SMALLEST, (1, 0x0b), SMALLEST_CERTIFICATE, ('E', 3, 0)),
@@ -94,7 +94,7 @@ const SETS: [Set; 14] = [
 
 #[test]
 fn the_image_is_judged_first(rt: HostRuntime) -> Result<(), Fail> {
-    for (text, set, certificate, want) in SETS {
+    for &(text, set, certificate, want) in SETS {
         let got = answer_to(rt.alloc(), text, set, certificate)?;
         assert_eq!(rt; got, want, "{text}{certificate}");
     }

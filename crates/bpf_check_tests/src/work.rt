@@ -17,7 +17,7 @@ struct Row {
     comparisons: u32,
 }
 
-const ROWS: [Row; 6] = [
+const ROWS: &[Row] = &[
     Row {
         shows: "the start and the exit",
         text: SMALLEST,

@@ -7,7 +7,7 @@ use std::io::{self, ErrorKind, Write};
 use std::test::Fail;
 
 /// A line in a free spelling, and as it is listed.
-const LINES: [(&str, &str); 58] = [
+const LINES: &[(&str, &str)] = &[
     ("r0+=r1", "r0 += r1"),
     ("\tr1 \t- =\r 0x10", "r1 -= 16"),
     ("r2 *= - 0x0aF", "r2 *= -175"),
@@ -84,7 +84,7 @@ const LINES: [(&str, &str); 58] = [
 ];
 
 /// A text, and the number and line of its refusal.
-const REFUSALS: [(&str, u8, usize); 61] = [
+const REFUSALS: &[(&str, u8, usize)] = &[
     ("", 6, 1),
     ("\n\n", 6, 1),
     ("goto x", 4, 1),
@@ -157,7 +157,7 @@ fn listed(alloc: Global, text: &str, order: Order) -> Result<Vec<u8>, Fail> {
 
 #[test]
 fn lists_in_one_spelling(rt: HostRuntime) -> Result<(), Fail> {
-    for (free, line) in LINES {
+    for &(free, line) in LINES {
         let text = format!(in rt.alloc(); "{free}\nexit: exit")?;
         let listing = format!(in rt.alloc(); "{line}\nexit\n")?;
         for order in [Order::Little, Order::Big] {
@@ -172,7 +172,7 @@ fn lists_in_one_spelling(rt: HostRuntime) -> Result<(), Fail> {
 
 #[test]
 fn refuses_at_the_line(rt: HostRuntime) {
-    for (text, number, line) in REFUSALS {
+    for &(text, number, line) in REFUSALS {
         match assemble(rt.alloc(), text, Order::Little) {
             Ok(_) => panic!(rt; "{text}"),
             Err(error) => {
@@ -262,7 +262,7 @@ fn a_program_has_no_more_slots(rt: HostRuntime) -> Result<(), Fail> {
 }
 
 /// `r1 = 5` and `exit` in each byte order, by hand.
-const IMAGES: [(Order, [u8; 16]); 2] = [
+const IMAGES: &[(Order, [u8; 16])] = &[
     (
         Order::Little,
         [0xb7, 0x01, 0, 0, 5, 0, 0, 0, 0x95, 0, 0, 0, 0, 0, 0, 0],
@@ -275,7 +275,7 @@ const IMAGES: [(Order, [u8; 16]); 2] = [
 
 #[test]
 fn a_program_has_the_byte_order_asked_for(rt: HostRuntime) -> Result<(), Fail> {
-    for (order, bytes) in IMAGES {
+    for &(order, bytes) in IMAGES {
         let program = assemble(rt.alloc(), "r1 = 5\nexit", order)?;
         let mut image = Vec::new(rt.alloc());
         encode(&program, &mut image)?;
