@@ -1,22 +1,35 @@
 //! Runs of prepared programs.
 
 ghost use Rattle.bpf_host.specs.Answers.{IsVerifiedFor, MayRun, EndsAsVerified, EndsAsPrepared};
+ghost use Rattle.bpf_host.specs.Told.{order_named};
 
+use crate::known::Known;
 use crate::prepared::found_in;
 use bpf_flat::run;
-use bpf_insn::{Order, ProgramView};
+use bpf_insn::Order;
 use bpf_semantics::{finish_is_last, runs_are_one, stuck_has_reason};
+
+/// The number with which the program of a verified image in the byte order of a number ends on a context.
+fn end_in<const ORDER: u32>(image: &[u8], context: &[u8]) -> u64
+    requires { IsVerifiedFor (order_named ORDER) image.now context.now }
+    ensures { EndsAsVerified (order_named ORDER) image.now context.now result }
+{
+    finish_is_last();
+    stuck_has_reason();
+    runs_are_one();
+    let program: Known<'_, ORDER> = Known::of(image);
+    run(&program, context, u32::MAX)
+}
 
 /// The number with which the program of a verified image ends on a context.
 fn end_of_image(image: &[u8], order: Order, context: &[u8]) -> u64
     requires { IsVerifiedFor order image.now context.now }
     ensures { EndsAsVerified order image.now context.now result }
 {
-    finish_is_last();
-    stuck_has_reason();
-    runs_are_one();
-    let program = ProgramView::known(image, order);
-    run(&program, context, u32::MAX)
+    match order {
+        Order::Little => end_in::<0>(image, context),
+        Order::Big => end_in::<1>(image, context),
+    }
 }
 
 /// The number with which a prepared program ends on a context.

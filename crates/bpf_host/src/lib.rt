@@ -13,8 +13,10 @@ ghost use Rattle.bpf_host.specs.Answers.{IsRefusedAsTold, IsNoImage, RanImage, I
 
 mod answers;
 mod checked;
+mod known;
 mod prepared;
 mod proposal;
+mod runs;
 mod texts;
 
 pub use answers::{BpfOutcome, BpfRefusal, BpfVerdict};
@@ -23,10 +25,10 @@ use answers::{
 };
 use bpf_check::verify;
 use bpf_insn::ProgramView;
-use bpf_machine::run;
 use checked::end_of;
 use prepared::{has_room, put, size_for};
 use proposal::{Unproposed, give, proposal};
+use runs::outcome_of;
 use std::alloc::Global;
 use texts::{give_beginning, text_of};
 
@@ -104,8 +106,8 @@ pub extern "C" fn bpf_host_run(
         return BAD_CALL;
     }
     match ProgramView::of(image, order) {
-        Ok(program) => {
-            *outcome = of_outcome(run(&program, context, fuel));
+        Ok(_program) => {
+            *outcome = of_outcome(outcome_of(image, order, context, fuel));
             DONE
         }
         Err(error) => {
