@@ -1,10 +1,7 @@
 //! Programs in both byte orders.
 
-use crate::verdicts::{Answered, counted, is_flat_result, result_of, verdicts_on};
-use bpf_cert::read;
-use bpf_check::check;
+use crate::verdicts::{Answered, Certified, assert_run, verdicts_on};
 use bpf_insn::Order;
-use bpf_text::assemble;
 use std::test::Fail;
 
 /// What is answered in an order: 0 and the bound, or the refusal's number and slot; and the result on the context.
@@ -148,29 +145,27 @@ const ROWS: &[Row] = &[
 
 #[test]
 fn both_orders_are_judged(rt: HostRuntime) -> Result<(), Fail> {
-    let alloc = rt.alloc();
     for row in ROWS {
         let shows = row.shows;
-        for answered in verdicts_on(alloc, row.text, row.order, row.certificate)? {
+        for answered in verdicts_on(rt.alloc(), row.text, row.order, row.certificate)? {
             assert_eq!(rt; answered, row.answered, "{shows}");
         }
-        let Some((value, steps)) = row.run else {
-            continue;
-        };
-        let program = assemble(alloc, row.text, row.order)?;
-        let certificate = read(alloc, row.certificate.as_bytes())?;
-        let result = match check(&program, &certificate) {
-            Ok(checked) => result_of(&checked, row.context),
-            Err(_) => None,
-        };
-        assert_eq!(rt; result, Some(value), "{shows}");
-        assert_eq!(rt;
-            counted(&program, row.context, steps),
-            Some((value, steps)),
-            "{shows}"
-        );
-        let flat = is_flat_result(alloc, &program, row.context, value, steps)?;
-        assert!(rt; flat, "{shows}");
+    }
+    Ok(())
+}
+
+#[test]
+fn both_orders_run(rt: HostRuntime) -> Result<(), Fail> {
+    for row in ROWS {
+        if let Some((value, steps)) = row.run {
+            let certified = Certified {
+                shows: row.shows,
+                text: row.text,
+                order: row.order,
+                certificate: row.certificate,
+            };
+            assert_run(&rt, certified, &(row.context, value, steps))?;
+        }
     }
     Ok(())
 }

@@ -1,7 +1,7 @@
 //! Certificates for ranges of lengths.
 
 use crate::examples::{FIXED_BYTE, SMALLEST, SMALLEST_CERTIFICATE};
-use crate::verdicts::{counted, image_of, is_flat_result, result_of};
+use crate::verdicts::{Certified, assert_run, image_of, result_of};
 use bpf_cert::{migrate, read, write};
 use bpf_check::{Verdict, VerifyError, check, verify};
 use bpf_insn::Order;
@@ -182,21 +182,30 @@ const RUNS: &[Ran] = &[
     },
 ];
 
+/// The result on a context, where the program is certified and the context's length lies in its range.
+fn result_on(alloc: Global, row: &Ran) -> Result<Option<u64>, Fail> {
+    let program = assemble(alloc, row.text, Order::Little)?;
+    let certificate = read(alloc, row.certificate.as_bytes())?;
+    match check(&program, &certificate) {
+        Ok(checked) => Ok(result_of(&checked, row.context)),
+        Err(_) => Err("it is certified".into()),
+    }
+}
+
 #[test]
 fn contexts_of_a_range_run(rt: HostRuntime) -> Result<(), Fail> {
-    let alloc = rt.alloc();
     for row in RUNS {
-        let program = assemble(alloc, row.text, Order::Little)?;
-        let certificate = read(alloc, row.certificate.as_bytes())?;
-        let result = match check(&program, &certificate) {
-            Ok(checked) => result_of(&checked, row.context),
-            Err(_) => panic!(rt; "{}", row.text),
-        };
-        assert_eq!(rt; result, row.want.map(|want| want.0), "{}", row.text);
-        if let Some((value, steps)) = row.want {
-            assert_eq!(rt; counted(&program, row.context, steps), Some((value, steps)));
-            let flat = is_flat_result(alloc, &program, row.context, value, steps)?;
-            assert!(rt; flat, "{}", row.text);
+        match row.want {
+            Some((value, steps)) => {
+                let certified = Certified {
+                    shows: row.text,
+                    text: row.text,
+                    order: Order::Little,
+                    certificate: row.certificate,
+                };
+                assert_run(&rt, certified, &(row.context, value, steps))?;
+            }
+            None => assert_eq!(rt; result_on(rt.alloc(), row)?, None, "{}", row.text),
         }
     }
     Ok(())

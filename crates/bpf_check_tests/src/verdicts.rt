@@ -137,28 +137,47 @@ pub fn is_flat_result(
     Ok(true)
 }
 
-/// A checked run, the machine within the bound, and the flat machines end with the row's number.
-fn assert_run(rt: &(impl Abort + Alloc<A = Global>), row: &Example, run: &Run) -> Result<(), Fail> {
-    let (shows, text, certificate, _, _) = *row;
+/// A program with a certificate that is accepted.
+#[derive(Clone, Copy)]
+pub struct Certified {
+    pub shows: &'static str,
+    pub text: &'static str,
+    pub order: Order,
+    pub certificate: &'static str,
+}
+
+/// A checked run, the machine within the bound, and the flat machines end with the number.
+pub fn assert_run(
+    rt: &(impl Abort + Alloc<A = Global>),
+    row: Certified,
+    run: &Run,
+) -> Result<(), Fail> {
     let (context, value, steps) = *run;
-    let program = assemble(rt.alloc(), text, Order::Little)?;
-    let read = read(rt.alloc(), certificate.as_bytes())?;
-    match check(&program, &read) {
-        Ok(checked) => {
-            assert_eq!(rt; result_of(&checked, context), Some(value), "{shows}");
-            let counted = counted(&program, context, u64::from(checked.bound()));
-            assert_eq!(rt; counted, Some((value, steps)), "{shows}");
-        }
-        Err(_) => panic!(rt; "{shows}"),
-    }
+    let shows = row.shows;
+    let program = assemble(rt.alloc(), row.text, row.order)?;
+    let read = read(rt.alloc(), row.certificate.as_bytes())?;
+    let ended = match check(&program, &read) {
+        Ok(checked) => (
+            result_of(&checked, context),
+            counted(&program, context, u64::from(checked.bound())),
+        ),
+        Err(_) => (None, None),
+    };
+    assert_eq!(rt; ended, (Some(value), Some((value, steps))), "{shows}");
     let flat = is_flat_result(rt.alloc(), &program, context, value, steps)?;
     assert!(rt; flat, "{shows}");
     Ok(())
 }
 
 fn assert_runs(rt: &(impl Abort + Alloc<A = Global>), table: &[Example]) -> Result<(), Fail> {
-    for row in table {
-        for run in row.4 {
+    for &(shows, text, certificate, _, runs) in table {
+        let row = Certified {
+            shows,
+            text,
+            order: Order::Little,
+            certificate,
+        };
+        for run in runs {
             assert_run(rt, row, run)?;
         }
     }
