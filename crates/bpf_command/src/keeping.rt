@@ -1,6 +1,8 @@
 //! A reader whose bytes are kept.
 
-ghost use Rattle.std.specs.Prelude.{◌≡◌};
+ghost use Rattle.std.specs.Prelude.{◌≡◌, [], Some, None, true, ◌++◌, take, IfOk, OnErr, if◌then◌else◌};
+ghost use Rattle.std.specs.Io.{ReadsAtMost};
+ghost use Rattle.std.specs.Io.KnownBytes.{ReadConsumes};
 
 use std::alloc::Global;
 use std::io::{self, Read};
@@ -16,7 +18,8 @@ pub struct Keeping<R: Read + Drop> {
 impl<R: Read + Drop> Keeping<R> {
     /// The same reader, of which nothing is kept yet.
     pub fn new(alloc: Global, reader: R) -> Self
-        ensures { result.reader ≡ reader }
+        ensures reader { result.reader ≡ reader }
+        ensures nothing { (result.kept.items ≡ []) × (result.is_whole ≡ true) }
     {
         Keeping {
             reader,
@@ -26,7 +29,9 @@ impl<R: Read + Drop> Keeping<R> {
     }
 
     /// The bytes that were read; None where memory ran out.
-    pub fn into_kept(self) -> Option<Vec<u8>> {
+    pub fn into_kept(self) -> Option<Vec<u8>>
+        ensures { result ≡ (if self.is_whole then Some self.kept else None) }
+    {
         if self.is_whole { Some(self.kept) } else { None }
     }
 }
@@ -34,7 +39,14 @@ impl<R: Read + Drop> Keeping<R> {
 impl<R: Read + Drop> Read for Keeping<R> {
     ghost remaining = { λ k. R.remaining k.reader };
 
-    fn read(&mut self, buf: &mut [u8]) -> io::Result<usize> {
+    // Besides what a reader answers: what it gives is behind what was kept, if all of it is.
+    fn read(&mut self, buf: &mut [u8]) -> io::Result<usize>
+        ensures bound { ReadsAtMost result buf.new }
+        ensures bytes { ReadConsumes (R.remaining self.old.reader) (R.remaining self.new.reader) result buf.new }
+        ensures whole { IfOk result (λ n. self.new.is_whole ≡ true → self.old.is_whole ≡ true) }
+        ensures kept { IfOk result (λ n. self.new.is_whole ≡ true → self.new.kept.items ≡ self.old.kept.items ++ take n buf.new) }
+        ensures failed { OnErr result ((self.new.kept ≡ self.old.kept) × (self.new.is_whole ≡ self.old.is_whole)) }
+    {
         let count = self.reader.read(buf)?;
         if self.kept.extend_from_slice(&buf[..count]).is_err() {
             self.is_whole = false;

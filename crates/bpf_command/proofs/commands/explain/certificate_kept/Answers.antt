@@ -8,5 +8,5 @@ returns-in-Err-Read-clause-err g c =
     let known = g.P.Reader.Read.remaining c.in-Ok.reader in
     let line = c.in-Err-Read.field-0-0 in
     let fault = subst (λ e. IfSome (g.P.Reader.Read.remaining c.new-keeping.result.reader) (λ text. IsFaultOf text e)) c.in-Err-Read.field-0-is c.in-Err-Read.ensures.err in
-    let there = subst (λ r. IfSome (g.P.Reader.Read.remaining r) (λ text. IsFaultOf text (Read line))) c.new-keeping.ensures fault in
+    let there = subst (λ r. IfSome (g.P.Reader.Read.remaining r) (λ text. IsFaultOf text (Read line))) c.new-keeping.ensures.reader fault in
     (refl, inr (line, (known, (c.in-Ok.reader, c.in-Ok.ensures, refl), there)))
