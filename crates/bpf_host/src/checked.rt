@@ -3,7 +3,7 @@
 ghost use Rattle.bpf_host.specs.Answers.{IsVerifiedFor, MayRun, EndsAsVerified, EndsAsPrepared};
 ghost use Rattle.bpf_host.specs.Told.{order_named};
 
-use crate::known::Known;
+use crate::ordered::Ordered;
 use crate::prepared::found_in;
 use bpf_flat::run;
 use bpf_insn::Order;
@@ -17,7 +17,7 @@ fn end_in<const ORDER: u32>(image: &[u8], context: &[u8]) -> u64
     finish_is_last();
     stuck_has_reason();
     runs_are_one();
-    let program: Known<'_, ORDER> = Known::of(image);
+    let program: Ordered<'_, ORDER> = Ordered::of(image);
     run(&program, context, u32::MAX)
 }
 

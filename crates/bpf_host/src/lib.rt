@@ -13,7 +13,7 @@ ghost use Rattle.bpf_host.specs.Answers.{IsRefusedAsTold, IsNoImage, RanImage, I
 
 mod answers;
 mod checked;
-mod known;
+mod ordered;
 mod prepared;
 mod proposal;
 mod runs;

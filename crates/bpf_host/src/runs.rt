@@ -7,7 +7,7 @@ ghost use Rattle.bpf_check.specs.Verdicts.{program_in};
 ghost use Rattle.bpf_machine.specs.Answers.{IsRun};
 ghost use Rattle.bpf_host.specs.Told.{order_named};
 
-use crate::known::Known;
+use crate::ordered::Ordered;
 use bpf_insn::Order;
 use bpf_machine::{Outcome, run};
 
@@ -17,7 +17,7 @@ fn outcome_in<const ORDER: u32>(image: &[u8], context: &[u8], fuel: u64) -> Outc
     requires short { length context.now ≤ 4096 }
     ensures { (is : List Instruction) → IsImageOfProgram (order_named ORDER) image.now is → IsRun (program_in (order_named ORDER) is) context.now fuel result }
 {
-    let program: Known<'_, ORDER> = Known::of(image);
+    let program: Ordered<'_, ORDER> = Ordered::of(image);
     run(&program, context, fuel)
 }
 
