@@ -1,5 +1,5 @@
-//! Tests of certificates, of the inferrer, and of the checker over the crates that it joins: texts and certificates with
-//! their verdicts and runs.
+//! Tests of certificates, of the inferrer, and of the checker over the crates that it joins, where no command shows what they show:
+//! rows that one shows are in `tests/rows`.
 #![tactic(auto)]
 
 #[cfg(test)]
@@ -7,20 +7,8 @@ mod cert;
 #[cfg(test)]
 mod deep;
 #[cfg(test)]
-mod examples;
-#[cfg(test)]
-mod flat;
-#[cfg(test)]
-mod infer;
-#[cfg(test)]
-mod orders;
+mod images;
 #[cfg(test)]
 mod proposals;
 #[cfg(test)]
-mod ranges;
-#[cfg(test)]
-mod refused;
-#[cfg(test)]
 mod verdicts;
-#[cfg(test)]
-mod work;

@@ -1,18 +1,75 @@
-//! What `verify` and `check` answer, and how the accepted programs run.
+//! That a program and the view of its image are judged and run alike, and what a checked program tells.
 
-use crate::examples::{Answer, Example, Run, tables};
-use crate::flat::{Placement, run_flat};
 use bpf_cert::{Certificate, migrate, read};
 use bpf_check::{Checked, VerifyError, check, verify};
 use bpf_insn::{Code, Order, Program, ProgramView, encode};
 use bpf_machine::{Outcome, run};
 use bpf_text::assemble;
 use std::alloc::Global;
-use std::process::Abort;
 use std::test::Fail;
+
+pub const SMALLEST: &str = "r0 = 0\nexit\n";
+
+pub const SMALLEST_CERTIFICATE: &str = "bpfcert 1 0 2\nfn 0 1 *\nat 0 2\nend\n";
+
+const COUNTDOWN: &str = "r6 = 10\nr6 += -1\nif r6 != 0 goto -2\nr0 = 0\nexit\n";
+
+/// A 16-bit field in the order of networks.
+const FIELD: &str = "r0 = *(u16 *)(r1 + 0)\nr0 = be16 r0\nexit\n";
+
+const FIELDS_OF_ANY_LENGTH: &str =
+    "bpfcert 2 2 4096 3\nfn 0 1 u0..65535\nat 0 3\nr1 ctx0..0\nend\n";
 
 /// The refusal's number and slot; 0 and the bound where there is none.
 pub type Answered = (u8, u32);
+
+#[derive(Clone, Copy)]
+struct Row {
+    text: &'static str,
+    order: Order,
+    certificate: &'static str,
+    answered: Answered,
+    /// A context, with the result on it and the number of instructions, where it is certified.
+    run: Option<(&'static [u8], u64, u64)>,
+}
+
+const ROWS: &[Row] = &[
+    Row {
+        text: SMALLEST,
+        order: Order::Little,
+        certificate: SMALLEST_CERTIFICATE,
+        answered: (0, 2),
+        run: Some((b"", 0, 2)),
+    },
+    Row {
+        text: COUNTDOWN,
+        order: Order::Little,
+        certificate: "bpfcert 1 0 22\nfn 0 1 *\nat 0 22\nat 1 2 +2*r6\nr6 u1..10\nend\n",
+        answered: (9, 0),
+        run: None,
+    },
+    Row {
+        text: COUNTDOWN,
+        order: Order::Big,
+        certificate: "bpfcert 1 0 23\nfn 0 1 *\nat 0 23\nat 1 2 +2*r6\nr6 u1..10\nend\n",
+        answered: (0, 23),
+        run: Some((b"", 0, 23)),
+    },
+    Row {
+        text: FIELD,
+        order: Order::Little,
+        certificate: FIELDS_OF_ANY_LENGTH,
+        answered: (0, 3),
+        run: Some((b"\x01\x02\x03", 0x102, 3)),
+    },
+    Row {
+        text: FIELD,
+        order: Order::Big,
+        certificate: FIELDS_OF_ANY_LENGTH,
+        answered: (0, 3),
+        run: Some((b"\x01\x02", 0x102, 3)),
+    },
+];
 
 fn verdict_of_check<C: Code>(program: &C, certificate: &Certificate) -> Answered {
     match check(program, certificate) {
@@ -57,23 +114,11 @@ pub fn verdicts_on(
     ])
 }
 
-fn assert_answers(rt: &(impl Abort + Alloc<A = Global>), table: &[Example]) -> Result<(), Fail> {
-    for (shows, text, certificate, answer, _) in table {
-        let want = match *answer {
-            Answer::Yes(bound) => (0, bound),
-            Answer::No(number, slot) => (number, slot),
-        };
-        for verdict in verdicts_on(rt.alloc(), text, Order::Little, certificate)? {
-            assert_eq!(rt; verdict, want, "{shows}");
-        }
-    }
-    Ok(())
-}
-
 #[test]
-fn answers_are_as_worked_out(rt: HostRuntime) -> Result<(), Fail> {
-    for table in tables() {
-        assert_answers(&rt, table)?;
+fn programs_and_views_are_judged_alike(rt: HostRuntime) -> Result<(), Fail> {
+    for row in ROWS {
+        let verdicts = verdicts_on(rt.alloc(), row.text, row.order, row.certificate)?;
+        assert_eq!(rt; verdicts, [row.answered; 4], "{}", row.text);
     }
     Ok(())
 }
@@ -98,96 +143,67 @@ pub fn result_of<C: Code>(checked: &Checked<'_, C>, context: &[u8]) -> Option<u6
     }
 }
 
-/// The context at address 0, and the frames far above; and the context near the end, the frames side by side.
-const PLACES: [(u64, u64, u64); 2] = [
-    (0, 0x10_0000, 0x1000),
-    (0xffff_ffff_ffff_0000, 0x7fff_ffff_ffff_f000, 512),
-];
-
-/// For an empty context: its address lies inside the first frame.
-const INSIDE_A_FRAME: (u64, u64, u64) = (0x10_0001, 0x10_0000, 0x1000);
-
-/// Whether the machine on plain addresses ends with the value too, wherever all lies and whatever is free there.
-pub fn is_flat_result(
-    alloc: Global,
-    program: &Program,
+/// The results of a checked run and of a run for at most the bound, with its number of instructions.
+fn results_of<C: Code>(
+    program: &C,
+    certificate: &Certificate,
     context: &[u8],
-    value: u64,
-    steps: u64,
-) -> Result<bool, Fail> {
-    let bound = u32::try_from(steps).unwrap_or(u32::MAX);
-    let last = if context.is_empty() {
-        INSIDE_A_FRAME
-    } else {
-        PLACES[0]
-    };
-    for (at, frames, apart) in [PLACES[0], PLACES[1], last] {
-        for fill in [0x00, 0xff] {
-            let place = Placement {
-                context: at,
-                frames,
-                apart,
-                fill,
-            };
-            if run_flat(alloc, program, place, context, bound)? != Some(value) {
-                return Ok(false);
-            }
+) -> Option<(u64, (u64, u64))> {
+    match check(program, certificate) {
+        Ok(checked) => {
+            let exact = counted(program, context, u64::from(checked.bound()));
+            Some((result_of(&checked, context)?, exact?))
         }
+        Err(_) => None,
     }
-    Ok(true)
-}
-
-/// A program with a certificate that is accepted.
-#[derive(Clone, Copy)]
-pub struct Certified {
-    pub shows: &'static str,
-    pub text: &'static str,
-    pub order: Order,
-    pub certificate: &'static str,
-}
-
-/// A checked run, the machine within the bound, and the flat machines end with the number.
-pub fn assert_run(
-    rt: &(impl Abort + Alloc<A = Global>),
-    row: Certified,
-    run: &Run,
-) -> Result<(), Fail> {
-    let (context, value, steps) = *run;
-    let shows = row.shows;
-    let program = assemble(rt.alloc(), row.text, row.order)?;
-    let read = read(rt.alloc(), row.certificate.as_bytes())?;
-    let ended = match check(&program, &read) {
-        Ok(checked) => (
-            result_of(&checked, context),
-            counted(&program, context, u64::from(checked.bound())),
-        ),
-        Err(_) => (None, None),
-    };
-    assert_eq!(rt; ended, (Some(value), Some((value, steps))), "{shows}");
-    let flat = is_flat_result(rt.alloc(), &program, context, value, steps)?;
-    assert!(rt; flat, "{shows}");
-    Ok(())
-}
-
-fn assert_runs(rt: &(impl Abort + Alloc<A = Global>), table: &[Example]) -> Result<(), Fail> {
-    for &(shows, text, certificate, _, runs) in table {
-        let row = Certified {
-            shows,
-            text,
-            order: Order::Little,
-            certificate,
-        };
-        for run in runs {
-            assert_run(rt, row, run)?;
-        }
-    }
-    Ok(())
 }
 
 #[test]
-fn all_machines_give_the_number(rt: HostRuntime) -> Result<(), Fail> {
-    for table in tables() {
-        assert_runs(&rt, table)?;
+fn programs_and_views_run_alike(rt: HostRuntime) -> Result<(), Fail> {
+    for row in ROWS {
+        if let Some((context, value, steps)) = row.run {
+            let program = assemble(rt.alloc(), row.text, row.order)?;
+            let certificate = read(rt.alloc(), row.certificate.as_bytes())?;
+            let image = image_of(rt.alloc(), &program)?;
+            let view = ProgramView::of(&image, row.order)?;
+            let want = Some((value, (value, steps)));
+            assert_eq!(rt;
+                results_of(&program, &certificate, context),
+                want,
+                "{}",
+                row.text
+            );
+            assert_eq!(rt;
+                results_of(&view, &certificate, context),
+                want,
+                "{}",
+                row.text
+            );
+        }
     }
+    Ok(())
+}
+
+/// The lengths, the bound, the transfers and the comparisons.
+fn told_by<C: Code>(checked: &Checked<'_, C>) -> [u32; 5] {
+    let work = checked.work();
+    [
+        checked.least(),
+        checked.most(),
+        checked.bound(),
+        work.transfers(),
+        work.comparisons(),
+    ]
+}
+
+#[test]
+fn what_a_checked_program_tells(rt: HostRuntime) -> Result<(), Fail> {
+    let program = assemble(rt.alloc(), FIELD, Order::Little)?;
+    let certificate = read(rt.alloc(), FIELDS_OF_ANY_LENGTH.as_bytes())?;
+    let told = match check(&program, &certificate) {
+        Ok(checked) => told_by(&checked),
+        Err(_) => [0; 5],
+    };
+    assert_eq!(rt; told, [2, 4096, 3, 3, 2]);
     Ok(())
 }

@@ -97,31 +97,6 @@ fn worked_texts(rt: HostRuntime) -> Result<(), Fail> {
     Ok(())
 }
 
-// The same content as version 2, and once more the same.
-#[test]
-fn migrated_texts(rt: HostRuntime) -> Result<(), Fail> {
-    for (text, expected) in [
-        (
-            "bpfcert 1 0 2\nfn 0 1 *\nat 0 2\nend\n",
-            "bpfcert 2 0 0 2\nfn 0 1 *\nat 0 2\nend\n",
-        ),
-        (
-            "bpfcert 1 16 100\nfn 0 2 *\nat 0 50 +1*r0 +2*(4-r6)\nr0 *\nr6 s-9..-1\ns2 k0/1\nat 3 1\nfn 65535 1 u0..7\nat 65535 1\nr1 ctx0..12\nend\n",
-            "bpfcert 2 16 16 100\nfn 0 2 *\nat 0 50 +1*r0 +2*(4-r6)\nr0 *\nr6 s-9..-1\ns2 k0/1\nat 3 1\nfn 65535 1 u0..7\nat 65535 1\nr1 ctx0..12\nend\n",
-        ),
-        (
-            "bpfcert 2 4 4096 2\nfn 0 1 *\nat 0 2\nr1 ctx0..0\nend\n",
-            "bpfcert 2 4 4096 2\nfn 0 1 *\nat 0 2\nr1 ctx0..0\nend\n",
-        ),
-    ] {
-        let certificate = migrate(rt.alloc(), &read(rt.alloc(), text.as_bytes())?)?;
-        let mut written = Vec::new(rt.alloc());
-        write(&certificate, &mut written)?;
-        assert_eq!(rt; written.as_slice(), expected.as_bytes());
-    }
-    Ok(())
-}
-
 #[test]
 fn places_and_pointers(rt: HostRuntime) -> Result<(), Fail> {
     let mut state = State::blank();

@@ -1,3 +1,0 @@
-//! The inferrer's proposals.
-
-mod proposals;
