@@ -1,19 +1,8 @@
-//! Tests of `bpf_explain`: programs, certificates and other inputs with the exact text that explains them.
+//! Tests of `bpf_explain`, where no command shows what they show: writers that fail, and inputs that are too long for a row.
+//! The exact texts that explain programs, certificates and other inputs are in `tests/rows`.
 #![tactic(auto)]
 
 #[cfg(test)]
-mod filters;
-#[cfg(test)]
-mod graphs;
-#[cfg(test)]
-mod inferred;
-#[cfg(test)]
 mod inputs;
-#[cfg(test)]
-mod listings;
-#[cfg(test)]
-mod reasons;
-#[cfg(test)]
-mod refusals;
 #[cfg(test)]
 mod writers;
