@@ -1,4 +1,5 @@
-//! Images, and why bytes are none: the answers for a program, its view and a reader.
+//! Images, and why bytes are none: a program, its view and a reader have the same answers; lengths; every opcode. More images are in
+//! `tests/rows`.
 
 use bpf_insn::{DecodeError, Order, ProgramView, decode, decode_from};
 use std::alloc::Global;
@@ -39,50 +40,6 @@ const WIDE: [u8; 16] = [
     0x18, 1, 0, 0, 0xf0, 0xde, 0xbc, 0x9a, 0, 0, 0, 0, 0x78, 0x56, 0x34, 0x12,
 ];
 
-#[test]
-fn images_have_these_answers(rt: HostRuntime) -> Result<(), Fail> {
-    let rows: [(&[u8], Answer); 20] = [
-        (&[], (1, 0)),
-        (&[0x95], (1, 0)),
-        (
-            &[0xb7, 0, 0, 0, 0, 0, 0, 0, 0x95, 0, 0, 0, 0, 0, 0, 0],
-            (0, 2),
-        ),
-        (&[0x07, 0x0b, 0, 0, 0, 0, 0, 0], (3, 0)),
-        (&[0xb7, 0x10, 0, 0, 0, 0, 0, 0], (4, 0)),
-        (&[0xb7, 0, 8, 0, 0, 0, 0, 0], (4, 0)),
-        (&[0x05, 0, 0, 0, 0, 0, 0, 0], (8, 0)),
-        (&[0x05, 0, 0xff, 0xff, 0, 0, 0, 0], (0, 1)),
-        (&[0x95, 0x01, 0, 0, 0, 0, 0, 0], (4, 0)),
-        (&[0xd4, 0, 0, 0, 8, 0, 0, 0], (5, 0)),
-        (&[0x07, 0x01, 0, 0, 0x44, 0x33, 0x22, 0x11], (0, 1)),
-        // An opcode that is left out, with a register above 10 and an unused field: the first fault counts.
-        (&[0x20, 0x0b, 1, 0, 0, 0, 0, 0], (7, 0)),
-        (&[0xff, 0x0b, 1, 0, 0, 0, 0, 0], (2, 0)),
-        (&[0xd4, 0x0b, 1, 0, 8, 0, 0, 0], (3, 0)),
-        (&[0xd4, 0, 1, 0, 8, 0, 0, 0], (5, 0)),
-        (&[0x85, 0x30, 1, 0, 0, 0, 0, 0], (5, 0)),
-        (&[0x85, 0x20, 1, 0, 0, 0, 0, 0], (7, 0)),
-        (&[0x18, 0x10, 0, 0, 0, 0, 0, 0], (7, 0)),
-        // The lowest slot counts, and a target only where all slots are good.
-        (
-            &[0x05, 0, 9, 0, 0, 0, 0, 0, 0x07, 0x0b, 0, 0, 0, 0, 0, 0],
-            (3, 1),
-        ),
-        (
-            &[
-                0x05, 0, 1, 0, 0, 0, 0, 0, 0x18, 1, 0, 0, 0, 0, 0, 0, 0, 0, 0, 0, 0, 0, 0, 0, 0x95,
-                0, 0, 0, 0, 0, 0, 0,
-            ],
-            (8, 0),
-        ),
-    ];
-    for (bytes, want) in rows {
-        assert_answers(&rt, Order::Little, bytes, want)?;
-    }
-    Ok(())
-}
-
 /// View, program and reader have this answer.
 fn assert_answers(
     rt: &(impl Abort + Alloc<A = Global>),
@@ -105,42 +62,26 @@ fn assert_answers(
 }
 
 #[test]
-fn images_in_the_big_order_have_these_answers(rt: HostRuntime) -> Result<(), Fail> {
-    let rows: [(&[u8], Answer); 15] = [
-        (&[], (1, 0)),
-        (&[0xff, 0, 0, 0, 0, 0, 0, 0], (2, 0)),
-        (&[0x07, 0xb0, 0, 0, 0, 0, 0, 0], (3, 0)),
-        (&[0x07, 0x0b, 0, 0, 0, 0, 0, 0], (3, 0)),
-        (&[0x07, 0x01, 0, 0, 0x44, 0x33, 0x22, 0x11], (4, 0)),
-        (&[0x07, 0x10, 0, 0, 0x11, 0x22, 0x33, 0x44], (0, 1)),
-        (&[0xd4, 0, 0, 0, 0x10, 0, 0, 0], (5, 0)),
-        (&[0xd4, 0, 0, 0, 0, 0, 0, 0x10], (0, 1)),
-        (&[0x18, 0x10, 0, 0, 0x9a, 0xbc, 0xde, 0xf0], (6, 0)),
-        (&[0x18, 0x01, 0, 0, 0, 0, 0, 0], (7, 0)),
-        (&[0x85, 0x02, 0, 0, 0, 0, 0, 0], (7, 0)),
-        (&[0x85, 0x01, 0, 0, 0xff, 0xff, 0xff, 0xff], (0, 1)),
-        (&[0x05, 0, 0, 1, 0, 0, 0, 0], (8, 0)),
-        // A distance of 256 in the little order, of 1 in the big one; and one of 16,777,216.
+fn images_have_these_answers(rt: HostRuntime) -> Result<(), Fail> {
+    let rows: [(Order, &[u8], Answer); 5] = [
+        (Order::Little, &[], (1, 0)),
+        (Order::Little, &EXIT, (0, 1)),
         (
-            &[
-                0x05, 0, 0, 1, 0, 0, 0, 0, 0x95, 0, 0, 0, 0, 0, 0, 0, 0x95, 0, 0, 0, 0, 0, 0, 0,
-            ],
-            (0, 3),
+            Order::Little,
+            &[0x07, 0x10, 0, 0, 0x11, 0x22, 0x33, 0x44],
+            (4, 0),
         ),
         (
-            &[0x06, 0, 0, 0, 1, 0, 0, 0, 0x95, 0, 0, 0, 0, 0, 0, 0],
-            (8, 0),
+            Order::Big,
+            &[0x07, 0x10, 0, 0, 0x11, 0x22, 0x33, 0x44],
+            (0, 1),
         ),
+        (Order::Big, &[0x05, 0, 0, 1, 0, 0, 0, 0], (8, 0)),
     ];
-    for (bytes, want) in rows {
-        assert_answers(&rt, Order::Big, bytes, want)?;
+    for (order, bytes, want) in rows {
+        assert_answers(&rt, order, bytes, want)?;
     }
-    assert_answers(
-        &rt,
-        Order::Little,
-        &[0x07, 0x10, 0, 0, 0x11, 0x22, 0x33, 0x44],
-        (4, 0),
-    )
+    Ok(())
 }
 
 #[test]
