@@ -32,7 +32,8 @@ import shlex
 import subprocess
 import sys
 import tempfile
-from concurrent.futures import ThreadPoolExecutor
+from concurrent.futures import ProcessPoolExecutor
+from functools import partial
 
 import flat
 
@@ -191,8 +192,8 @@ def main(bpf, paths):
     rows = f"{HERE}/rows"
     paths = paths or [f"{rows}/{name}" for name in sorted(os.listdir(rows)) if name.endswith(".rows")]
     cases = [case for path in paths for case in cases_of(path)]
-    with ThreadPoolExecutor(os.cpu_count()) as pool:
-        failures = [it for it in pool.map(lambda case: failure_of(os.path.abspath(bpf), case), cases) if it]
+    with ProcessPoolExecutor() as pool:
+        failures = [it for it in pool.map(partial(failure_of, os.path.abspath(bpf)), cases, chunksize=4) if it]
     for it in failures:
         print(it)
     print(f"{len(cases)} examples, {sum(len(it.steps) for it in cases)} commands and files, {len(failures)} otherwise than they say")

@@ -1,9 +1,7 @@
-//! Runs of the machine.
+//! Runs of the machine: numbers at their edges, and a machine behind its end. More runs are in `tests/rows`.
 
 mod arithmetic;
 mod conditions;
 mod edges;
-mod memory;
 mod programs;
-mod reasons;
 mod runs;
