@@ -17,11 +17,11 @@ what they say:
     done 0
 
 What stands before a file's first case is there for all of its cases. `--- NAME hex` gives bytes in hexadecimal, `07 * 4096` on a
-line a byte so many times. p.img is assembled from p.asm where a command names it first (in the big order if that command has
---big). A command's words are a shell's (`''` is an empty one), `< NAME` behind them gives it a file as standard input, and `=> N`
-behind all is its status, which else is 0. The lines below are what it must write, where `<=N` stands for a number up to N and a line
-`...` for any lines. `+++ NAME` or `+++ NAME hex` is a file as the commands so far must have left it, and `+++ NAME none` one that
-isn't there.
+line a byte so many times; `--- NAME cut` is a text whose last line has no LF. p.img is assembled from p.asm where a command names it
+first (in the big order if that command has --big). A command's words are a shell's (`''` is an empty one), `< NAME` behind them
+gives it a file as standard input, and `=> N` behind all is its status, which else is 0. The lines below are what it must write,
+where `<=N` stands for a number up to N and a line `...` for any lines. `+++ NAME` or `+++ NAME hex` is a file as the commands so far
+must have left it, and `+++ NAME none` one that isn't there.
 
 What is checked is checked again with its certificate as version 2, and a checked run that ends, with a bound of up to
 LONGEST, is made on the plain machine of flat.py too, wherever all lies and whatever is free there."""
@@ -57,7 +57,8 @@ def bytes_of(kind, lines):
     if kind == "hex":
         parts = [line.partition("*") for line in lines]
         return b"".join(bytes.fromhex(part) * int(times or 1) for part, _, times in parts)
-    return "".join(line + "\n" for line in lines).encode()
+    text = "".join(line + "\n" for line in lines)
+    return (text[:-1] if kind == "cut" else text).encode()
 
 
 def cases_of(path):
