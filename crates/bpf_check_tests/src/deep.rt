@@ -1,5 +1,7 @@
 //! Proposals for generated programs: each is certified, and the deep one is at least as good as the plain one.
 
+use crate::patterns::add;
+use crate::same::assert_same;
 use crate::verdicts::counted;
 use bpf_cert::Certificate;
 use bpf_check::check;
@@ -7,6 +9,7 @@ use bpf_infer::{InferError, Unwatched, infer, search};
 use bpf_insn::{Order, Program};
 use bpf_text::assemble;
 use std::alloc::{AllocError, Global};
+use std::process::Abort;
 use std::test::Fail;
 
 /// Numbers that look like chance, the same at each run.
@@ -25,87 +28,118 @@ impl Dice {
         (self.state >> 33).checked_rem(limit).unwrap_or(0)
     }
 
-    fn pick(&mut self, words: &[&'static str]) -> &'static str {
-        let number = self.below(words.len() as u64);
-        words.get(number as usize).copied().unwrap_or("r0")
+    /// One of some, or the other one where there are none.
+    fn pick<T: Copy>(&mut self, some: &[T], other: T) -> T {
+        let number = self.below(some.len() as u64);
+        some.get(number as usize).copied().unwrap_or(other)
     }
 }
 
-const REGISTERS: [&str; 7] = ["r0", "r3", "r4", "r6", "r7", "r8", "r9"];
+const REGISTERS: [u64; 7] = [0, 3, 4, 6, 7, 8, 9];
 
-const TESTS: [&str; 6] = ["!=", "<", ">", "==", ">=", "<="];
+const JUMPS: [&str; 6] = [
+    "lA: if rB != D goto lE\n",
+    "lA: if rB < D goto lE\n",
+    "lA: if rB > D goto lE\n",
+    "lA: if rB == D goto lE\n",
+    "lA: if rB >= D goto lE\n",
+    "lA: if rB <= D goto lE\n",
+];
 
 const BEGINNING: &str =
     "r0 = 0\nr3 = 1\nr4 = 10\nr6 = 0\nr7 = 8\nr8 = 3\nr9 = 20\n*(u64 *)(r10 - 8) = 5\n";
 
-/// A line of a program of so many lines, with a jump within it.
-fn line(alloc: Global, dice: &mut Dice, number: u64, count: u64) -> Result<String, AllocError> {
-    let one = dice.pick(&REGISTERS);
-    let other = dice.pick(&REGISTERS);
+/// Adds a line of a program of so many lines, with a jump within it.
+fn add_line(
+    alloc: Global,
+    text: &mut String,
+    dice: &mut Dice,
+    number: u64,
+    count: u64,
+) -> Result<(), AllocError> {
+    let one = dice.pick(&REGISTERS, 0);
+    let other = dice.pick(&REGISTERS, 0);
     let small = dice.below(12);
     let target = dice.below(count);
-    match dice.below(10) {
-        0 | 1 | 2 => format!(in alloc; "l{number}: {one} += 1\n"),
-        3 | 4 => format!(in alloc; "l{number}: {one} += -1\n"),
-        5 => format!(in alloc; "l{number}: {one} = {other}\n"),
-        6 => format!(in alloc; "l{number}: {one} = *(u64 *)(r10 - 8)\n"),
-        7 => format!(in alloc; "l{number}: *(u64 *)(r10 - 8) = {one}\n"),
-        _ => {
-            let test = dice.pick(&TESTS);
-            format!(in alloc; "l{number}: if {one} {test} {small} goto l{target}\n")
-        }
-    }
+    let pattern = match dice.below(10) {
+        0 | 1 | 2 => "lA: rB += 1\n",
+        3 | 4 => "lA: rB += -1\n",
+        5 => "lA: rB = rC\n",
+        6 => "lA: rB = *(u64 *)(r10 - 8)\n",
+        7 => "lA: *(u64 *)(r10 - 8) = rB\n",
+        _ => dice.pick(&JUMPS, ""),
+    };
+    add(alloc, text, pattern, &[number, one, other, small, target])
 }
 
 /// A program with jumps to and fro.
 fn any_program(alloc: Global, dice: &mut Dice) -> Result<String, AllocError> {
-    let mut text = String::new(alloc);
-    text.push_str(BEGINNING)?;
+    let mut text = String::from_str(alloc, BEGINNING)?;
     let count = dice.below(14).saturating_add(2);
     for number in 0..count {
-        let line = line(alloc, dice, number, count)?;
-        text.push_str(line.as_str())?;
+        add_line(alloc, &mut text, dice, number, count)?;
     }
     text.push_str("exit\n")?;
     Ok(text)
 }
 
-/// How a loop begins and how it ends.
-fn ends(alloc: Global, dice: &mut Dice, level: u64) -> Result<(String, String), AllocError> {
-    let register = level.saturating_add(6);
+/// A loop: how it begins and how it ends.
+#[derive(Clone, Copy)]
+struct Loop {
+    head: &'static str,
+    tail: &'static str,
+    /// Its label's number, its register, the rounds, the step and the limit.
+    numbers: [u64; 5],
+}
+
+fn any_loop(dice: &mut Dice, level: u64) -> Loop {
     let step = dice.below(3).saturating_add(1);
     let rounds = dice.below(9).saturating_add(1);
+    let (head, tail) = match dice.below(3) {
+        0 => ("rB = C\naA: r0 += 1\n", "rB += -1\nif rB != 0 goto aA\n"),
+        1 => ("rB = 0\naA: r0 += 1\n", "rB += D\nif rB < E goto aA\n"),
+        _ => (
+            "rB = 0\naA: if rB > E goto bA\n",
+            "rB += D\ngoto aA\nbA: r0 += 2\n",
+        ),
+    };
+    let register = level.saturating_add(6);
     let limit = step.saturating_mul(rounds);
-    match dice.below(3) {
-        0 => Ok((
-            format!(in alloc; "r{register} = {rounds}\na{level}: r0 += 1\n")?,
-            format!(in alloc; "r{register} += -1\nif r{register} != 0 goto a{level}\n")?,
-        )),
-        1 => Ok((
-            format!(in alloc; "r{register} = 0\na{level}: r0 += 1\n")?,
-            format!(in alloc; "r{register} += {step}\nif r{register} < {limit} goto a{level}\n")?,
-        )),
-        _ => Ok((
-            format!(in alloc;
-                "r{register} = 0\na{level}: if r{register} > {limit} goto b{level}\n"
-            )?,
-            format!(in alloc; "r{register} += {step}\ngoto a{level}\nb{level}: r0 += 2\n")?,
-        )),
+    Loop {
+        head,
+        tail,
+        numbers: [level, register, rounds, step, limit],
     }
 }
 
-/// A program of loops in one another, up to four deep.
-fn nest(alloc: Global, dice: &mut Dice) -> Result<String, AllocError> {
-    let mut text = String::from_str(alloc, "r0 = 0\n")?;
-    let mut closing: Vec<String> = Vec::new(alloc);
+/// One to four loops, the next one within each.
+fn any_loops(alloc: Global, dice: &mut Dice) -> Result<Vec<Loop>, AllocError> {
+    let mut loops = Vec::new(alloc);
     for level in 0..dice.below(4).saturating_add(1) {
-        let (head, tail) = ends(alloc, dice, level)?;
-        text.push_str(head.as_str())?;
-        closing.push(tail)?;
+        loops.push(any_loop(dice, level))?;
     }
-    for tail in closing.iter().rev() {
-        text.push_str(tail.as_str())?;
+    Ok(loops)
+}
+
+fn add_heads(alloc: Global, text: &mut String, loops: &[Loop]) -> Result<(), AllocError> {
+    for one in loops {
+        add(alloc, text, one.head, &one.numbers)?;
     }
+    Ok(())
+}
+
+fn add_tails(alloc: Global, text: &mut String, loops: &[Loop]) -> Result<(), AllocError> {
+    for one in loops.iter().rev() {
+        add(alloc, text, one.tail, &one.numbers)?;
+    }
+    Ok(())
+}
+
+/// A program of loops in one another.
+fn nest(alloc: Global, loops: &[Loop]) -> Result<String, AllocError> {
+    let mut text = String::from_str(alloc, "r0 = 0\n")?;
+    add_heads(alloc, &mut text, loops)?;
+    add_tails(alloc, &mut text, loops)?;
     text.push_str("exit\n")?;
     Ok(text)
 }
@@ -124,19 +158,38 @@ fn is_right(program: &Program, proposed: &Result<Certificate, InferError>) -> bo
     }
 }
 
-/// Whether both inferrers are right on a text; and whether the deep one proposes something with a bound that the plain one
-/// hasn't below.
-fn are_right(alloc: Global, text: &str) -> Result<(bool, bool), Fail> {
-    let program = assemble(alloc, text, Order::Little)?;
-    let plain = infer(alloc, &program, 0, 0);
-    let deep = search(alloc, &program, 0, 0, &mut Unwatched);
-    let right = is_right(&program, &plain) && is_right(&program, &deep);
-    let as_low = match (&plain, &deep) {
+/// Whether the deep proposal's bound, if the plain one has one, is at most that.
+fn is_as_low(
+    plain: &Result<Certificate, InferError>,
+    deep: &Result<Certificate, InferError>,
+) -> bool {
+    match (plain, deep) {
         (Ok(plain), Ok(deep)) => deep.steps() <= plain.steps(),
         (Ok(_), Err(_)) => false,
         (Err(_), _) => true,
-    };
-    Ok((right && as_low, deep.is_ok()))
+    }
+}
+
+/// Whether both inferrers are right on a program, and the deep one's bound is at most the plain one's; and whether the deep
+/// one proposes something.
+fn are_right(alloc: Global, program: &Program) -> (bool, bool) {
+    let plain = infer(alloc, program, 0, 0);
+    let deep = search(alloc, program, 0, 0, &mut Unwatched);
+    let right = is_right(program, &plain) && is_right(program, &deep);
+    (right && is_as_low(&plain, &deep), deep.is_ok())
+}
+
+/// Whether the deep inferrer proposes something for a text. Both must be right on it.
+fn is_found(rt: &(impl Abort + Alloc<A = Global>), text: &str) -> Result<bool, Fail> {
+    let program = assemble(rt.alloc(), text, Order::Little)?;
+    let (right, found) = are_right(rt.alloc(), &program);
+    assert_same(rt, &text, &right, &true);
+    Ok(found)
+}
+
+fn is_any_found(rt: &(impl Abort + Alloc<A = Global>), dice: &mut Dice) -> Result<bool, Fail> {
+    let text = any_program(rt.alloc(), dice)?;
+    is_found(rt, text.as_str())
 }
 
 #[test]
@@ -144,12 +197,16 @@ fn no_proposal_is_refused(rt: HostRuntime) -> Result<(), Fail> {
     let mut dice = Dice { state: 22 };
     let mut count = 0u32;
     for _ in 0..1000 {
-        let text = any_program(rt.alloc(), &mut dice)?;
-        let (right, found) = are_right(rt.alloc(), text.as_str())?;
-        assert!(rt; right, "{text}");
-        count = count.saturating_add(u32::from(found));
+        count = count.saturating_add(u32::from(is_any_found(&rt, &mut dice)?));
     }
-    assert!(rt; count > 200, "{count} found");
+    assert_same(&rt, &count, &(count > 200), &true);
+    Ok(())
+}
+
+fn assert_nest(rt: &(impl Abort + Alloc<A = Global>), loops: &[Loop]) -> Result<(), Fail> {
+    let text = nest(rt.alloc(), loops)?;
+    let found = is_found(rt, text.as_str())?;
+    assert_same(rt, &text.as_str(), &found, &true);
     Ok(())
 }
 
@@ -157,9 +214,8 @@ fn no_proposal_is_refused(rt: HostRuntime) -> Result<(), Fail> {
 fn nests_are_certified(rt: HostRuntime) -> Result<(), Fail> {
     let mut dice = Dice { state: 7 };
     for _ in 0..300 {
-        let text = nest(rt.alloc(), &mut dice)?;
-        let (right, found) = are_right(rt.alloc(), text.as_str())?;
-        assert!(rt; right && found, "{text}");
+        let loops = any_loops(rt.alloc(), &mut dice)?;
+        assert_nest(&rt, &loops)?;
     }
     Ok(())
 }

@@ -9,6 +9,10 @@ mod deep;
 #[cfg(test)]
 mod images;
 #[cfg(test)]
+mod patterns;
+#[cfg(test)]
 mod proposals;
+#[cfg(test)]
+mod same;
 #[cfg(test)]
 mod verdicts;

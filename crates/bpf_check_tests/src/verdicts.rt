@@ -1,11 +1,13 @@
 //! That a program and the view of its image are judged and run alike, and what a checked program tells.
 
+use crate::same::assert_same;
 use bpf_cert::{Certificate, migrate, read};
 use bpf_check::{Checked, VerifyError, check, verify};
 use bpf_insn::{Code, Order, Program, ProgramView, encode};
 use bpf_machine::{Outcome, run};
 use bpf_text::assemble;
 use std::alloc::Global;
+use std::process::Abort;
 use std::test::Fail;
 
 pub const SMALLEST: &str = "r0 = 0\nexit\n";
@@ -21,7 +23,7 @@ const FIELDS_OF_ANY_LENGTH: &str =
     "bpfcert 2 2 4096 3\nfn 0 1 u0..65535\nat 0 3\nr1 ctx0..0\nend\n";
 
 /// The refusal's number and slot; 0 and the bound where there is none.
-pub type Answered = (u8, u32);
+type Answered = (u8, u32);
 
 #[derive(Clone, Copy)]
 struct Row {
@@ -78,8 +80,29 @@ fn verdict_of_check<C: Code>(program: &C, certificate: &Certificate) -> Answered
     }
 }
 
-fn verdict_of_image(alloc: Global, image: &[u8], order: Order, certificate: &[u8]) -> Answered {
-    match verify(alloc, image, order, certificate) {
+/// The verdict on the view of an image.
+fn verdict_of_view(
+    image: &[u8],
+    order: Order,
+    certificate: &Certificate,
+) -> Result<Answered, Fail> {
+    let view = ProgramView::of(image, order)?;
+    Ok(verdict_of_check(&view, certificate))
+}
+
+/// The verdict by the same certificate as version 2.
+fn verdict_of_migrated(
+    alloc: Global,
+    program: &Program,
+    certificate: &Certificate,
+) -> Result<Answered, Fail> {
+    let migrated = migrate(alloc, certificate)?;
+    Ok(verdict_of_check(program, &migrated))
+}
+
+/// The verdict on an image with the certificate's text.
+fn verdict_of_image(alloc: Global, image: &[u8], row: &Row) -> Answered {
+    match verify(alloc, image, row.order, row.certificate.as_bytes()) {
         Ok(verdict) => (0, verdict.bound),
         Err(VerifyError::Check(refusal)) => (refusal.number(), refusal.slot()),
         Err(_) => (u8::MAX, 0),
@@ -93,32 +116,57 @@ pub fn image_of(alloc: Global, program: &Program) -> Result<Vec<u8>, Fail> {
     Ok(image)
 }
 
-/// The verdicts on a program, on the view of its image, on the image with the certificate's text, and by the same
-/// certificate as version 2.
-pub fn verdicts_on(
-    alloc: Global,
-    text: &str,
-    order: Order,
-    certificate: &str,
-) -> Result<[Answered; 4], Fail> {
-    let program = assemble(alloc, text, order)?;
-    let image = image_of(alloc, &program)?;
-    let view = ProgramView::of(&image, order)?;
-    let read = read(alloc, certificate.as_bytes())?;
-    let migrated = migrate(alloc, &read)?;
-    Ok([
-        verdict_of_check(&program, &read),
-        verdict_of_check(&view, &read),
-        verdict_of_image(alloc, &image, order, certificate.as_bytes()),
-        verdict_of_check(&program, &migrated),
-    ])
+/// The program of a row.
+fn program_of(alloc: Global, row: &Row) -> Result<Program, Fail> {
+    Ok(assemble(alloc, row.text, row.order)?)
+}
+
+/// The certificate of a row.
+fn certificate_of(alloc: Global, row: &Row) -> Result<Certificate, Fail> {
+    Ok(read(alloc, row.certificate.as_bytes())?)
+}
+
+fn assert_verdict(rt: &impl Abort, row: &Row, got: Answered) {
+    assert_same(rt, &row.text, &got, &row.answered);
+}
+
+/// Judges a program, and by the same certificate as version 2.
+fn assert_program(
+    rt: &(impl Abort + Alloc<A = Global>),
+    row: &Row,
+    program: &Program,
+) -> Result<(), Fail> {
+    let certificate = certificate_of(rt.alloc(), row)?;
+    assert_verdict(rt, row, verdict_of_check(program, &certificate));
+    let of_migrated = verdict_of_migrated(rt.alloc(), program, &certificate)?;
+    assert_verdict(rt, row, of_migrated);
+    Ok(())
+}
+
+/// Judges the view of an image, and the image with the certificate's text.
+fn assert_image(
+    rt: &(impl Abort + Alloc<A = Global>),
+    row: &Row,
+    image: &[u8],
+) -> Result<(), Fail> {
+    let certificate = certificate_of(rt.alloc(), row)?;
+    let of_view = verdict_of_view(image, row.order, &certificate)?;
+    assert_verdict(rt, row, of_view);
+    assert_verdict(rt, row, verdict_of_image(rt.alloc(), image, row));
+    Ok(())
+}
+
+fn assert_row(rt: &(impl Abort + Alloc<A = Global>), row: &Row) -> Result<(), Fail> {
+    let program = program_of(rt.alloc(), row)?;
+    assert_program(rt, row, &program)?;
+    let image = image_of(rt.alloc(), &program)?;
+    assert_image(rt, row, &image)
 }
 
 #[test]
 fn programs_and_views_are_judged_alike(rt: HostRuntime) -> Result<(), Fail> {
     for row in ROWS {
-        let verdicts = verdicts_on(rt.alloc(), row.text, row.order, row.certificate)?;
-        assert_eq!(rt; verdicts, [row.answered; 4], "{}", row.text);
+        assert_row(&rt, row)?;
     }
     Ok(())
 }
@@ -135,7 +183,7 @@ pub fn counted<C: Code>(program: &C, context: &[u8], fuel: u64) -> Option<(u64, 
 }
 
 /// The number of a checked run, if the context's length lies in the range.
-pub fn result_of<C: Code>(checked: &Checked<'_, C>, context: &[u8]) -> Option<u64> {
+fn result_of<C: Code>(checked: &Checked<'_, C>, context: &[u8]) -> Option<u64> {
     if (checked.least() as usize..=checked.most() as usize).contains(&context.len()) {
         Some(checked.run(context))
     } else {
@@ -158,27 +206,49 @@ fn results_of<C: Code>(
     }
 }
 
+/// A row that is certified, with its context, the result and the number of instructions.
+#[derive(Clone, Copy)]
+struct Run<'a> {
+    row: &'a Row,
+    context: &'a [u8],
+    value: u64,
+    steps: u64,
+}
+
+fn assert_results<C: Code>(
+    rt: &(impl Abort + Alloc<A = Global>),
+    run: Run<'_>,
+    program: &C,
+) -> Result<(), Fail> {
+    let certificate = certificate_of(rt.alloc(), run.row)?;
+    let got = results_of(program, &certificate, run.context);
+    let want = Some((run.value, (run.value, run.steps)));
+    assert_same(rt, &run.row.text, &got, &want);
+    Ok(())
+}
+
+/// Runs a program, and the view of its image.
+fn assert_run(rt: &(impl Abort + Alloc<A = Global>), run: Run<'_>) -> Result<(), Fail> {
+    let program = program_of(rt.alloc(), run.row)?;
+    assert_results(rt, run, &program)?;
+    let image = image_of(rt.alloc(), &program)?;
+    let view = ProgramView::of(&image, run.row.order)?;
+    assert_results(rt, run, &view)
+}
+
 #[test]
 fn programs_and_views_run_alike(rt: HostRuntime) -> Result<(), Fail> {
     for row in ROWS {
         if let Some((context, value, steps)) = row.run {
-            let program = assemble(rt.alloc(), row.text, row.order)?;
-            let certificate = read(rt.alloc(), row.certificate.as_bytes())?;
-            let image = image_of(rt.alloc(), &program)?;
-            let view = ProgramView::of(&image, row.order)?;
-            let want = Some((value, (value, steps)));
-            assert_eq!(rt;
-                results_of(&program, &certificate, context),
-                want,
-                "{}",
-                row.text
-            );
-            assert_eq!(rt;
-                results_of(&view, &certificate, context),
-                want,
-                "{}",
-                row.text
-            );
+            assert_run(
+                &rt,
+                Run {
+                    row,
+                    context,
+                    value,
+                    steps,
+                },
+            )?;
         }
     }
     Ok(())
@@ -196,14 +266,19 @@ fn told_by<C: Code>(checked: &Checked<'_, C>) -> [u32; 5] {
     ]
 }
 
+/// What is told of a checked program; zeros where it is refused.
+fn told_of<C: Code>(program: &C, certificate: &Certificate) -> [u32; 5] {
+    match check(program, certificate) {
+        Ok(checked) => told_by(&checked),
+        Err(_) => [0; 5],
+    }
+}
+
 #[test]
 fn what_a_checked_program_tells(rt: HostRuntime) -> Result<(), Fail> {
     let program = assemble(rt.alloc(), FIELD, Order::Little)?;
     let certificate = read(rt.alloc(), FIELDS_OF_ANY_LENGTH.as_bytes())?;
-    let told = match check(&program, &certificate) {
-        Ok(checked) => told_by(&checked),
-        Err(_) => [0; 5],
-    };
-    assert_eq!(rt; told, [2, 4096, 3, 3, 2]);
+    let told = told_of(&program, &certificate);
+    assert_same(&rt, &FIELD, &told, &[2, 4096, 3, 3, 2]);
     Ok(())
 }

@@ -5,4 +5,6 @@
 #[cfg(test)]
 mod inputs;
 #[cfg(test)]
+mod same;
+#[cfg(test)]
 mod writers;

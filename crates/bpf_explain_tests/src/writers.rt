@@ -1,5 +1,6 @@
 //! Writers that fail: what went out is a beginning of the whole text.
 
+use crate::same::assert_same;
 use bpf_cert::{Certificate, read};
 use bpf_explain::{
     dot, dot_plain, explain, explain_certificate, explain_image, explain_inferred,
@@ -27,13 +28,8 @@ impl Write for Narrow {
         }
         let count = buf.len().min(7).min(self.room);
         self.room = self.room.saturating_sub(count);
-        if self
-            .taken
-            .extend_from_slice(buf.get(..count).unwrap_or(&[]))
-            .is_err()
-        {
-            return Err(io::Error::from(ErrorKind::OutOfMemory));
-        }
+        self.taken
+            .extend_from_slice(buf.get(..count).unwrap_or(&[]))?;
         Ok(count)
     }
 
@@ -70,61 +66,113 @@ const CALLS: [Call; 9] = [
 
 const IMAGE: &[u8] = b"\xb7\x10\0\0\0\0\0\0";
 
-/// Makes a call. Whether all was written.
-fn is_written<W: Write>(
+/// What calls are made on.
+#[derive(Clone, Copy)]
+struct Given<'a> {
     alloc: Global,
-    call: Call,
-    program: &Program,
-    certificate: &Certificate,
-    out: &mut W,
-) -> bool {
+    program: &'a Program,
+    certificate: &'a Certificate,
+}
+
+fn explained<W: Write>(given: Given<'_>, out: &mut W) -> bool {
+    explain(given.program, given.certificate, out).is_ok()
+}
+
+fn slot_explained<W: Write>(given: Given<'_>, out: &mut W) -> bool {
+    explain_slot(given.program, given.certificate, 1, out).is_ok()
+}
+
+fn inferred_explained<W: Write>(given: Given<'_>, out: &mut W) -> bool {
+    explain_inferred(given.alloc, given.program, 0, 0, out).is_ok()
+}
+
+fn searched_explained<W: Write>(given: Given<'_>, out: &mut W) -> bool {
+    explain_searched(given.alloc, given.program, 0, 0, &mut Unwatched, out).is_ok()
+}
+
+fn image_explained<W: Write>(out: &mut W) -> bool {
+    explain_image(IMAGE, Order::Little, out).is_ok()
+}
+
+fn text_explained<W: Write>(alloc: Global, out: &mut W) -> bool {
+    explain_text(alloc, b"r0 = 0\nr1 = r11\n", out).is_ok()
+}
+
+fn certificate_explained<W: Write>(alloc: Global, out: &mut W) -> bool {
+    explain_certificate(alloc, b"bpfcert 3 0 2\n", out).is_ok()
+}
+
+fn drawn<W: Write>(given: Given<'_>, out: &mut W) -> bool {
+    dot(given.program, given.certificate, out).is_ok()
+}
+
+fn drawn_plain<W: Write>(given: Given<'_>, out: &mut W) -> bool {
+    dot_plain(given.program, out).is_ok()
+}
+
+/// Makes a call. Whether all was written.
+fn is_written<W: Write>(call: Call, given: Given<'_>, out: &mut W) -> bool {
     match call {
-        Call::Explain => explain(program, certificate, out).is_ok(),
-        Call::Slot => explain_slot(program, certificate, 1, out).is_ok(),
-        Call::Inferred => explain_inferred(alloc, program, 0, 0, out).is_ok(),
-        Call::Searched => explain_searched(alloc, program, 0, 0, &mut Unwatched, out).is_ok(),
-        Call::Image => explain_image(IMAGE, Order::Little, out).is_ok(),
-        Call::Text => explain_text(alloc, b"r0 = 0\nr1 = r11\n", out).is_ok(),
-        Call::Certificate => explain_certificate(alloc, b"bpfcert 3 0 2\n", out).is_ok(),
-        Call::Dot => dot(program, certificate, out).is_ok(),
-        Call::DotPlain => dot_plain(program, out).is_ok(),
+        Call::Explain => explained(given, out),
+        Call::Slot => slot_explained(given, out),
+        Call::Inferred => inferred_explained(given, out),
+        Call::Searched => searched_explained(given, out),
+        Call::Image => image_explained(out),
+        Call::Text => text_explained(given.alloc, out),
+        Call::Certificate => certificate_explained(given.alloc, out),
+        Call::Dot => drawn(given, out),
+        Call::DotPlain => drawn_plain(given, out),
     }
 }
 
-fn assert_beginning(
-    rt: &(impl Abort + Alloc<A = Global>),
-    call: Call,
-    program: &Program,
-    certificate: &Certificate,
-    whole: &[u8],
-    room: usize,
-) {
-    let mut narrow = Narrow {
-        taken: Vec::new(rt.alloc()),
-        room,
-    };
-    let is_whole = is_written(rt.alloc(), call, program, certificate, &mut narrow);
-    assert_eq!(rt; is_whole, room >= whole.len(), "{call:?}, {room} bytes");
-    let taken = whole.get(..room.min(whole.len())).unwrap_or(&[]);
-    assert!(rt; narrow.taken.as_slice() == taken, "{call:?}, {room} bytes");
+/// What a call writes, which it does whole.
+fn whole_text(rt: &(impl Abort + Alloc<A = Global>), call: Call, given: Given<'_>) -> Vec<u8> {
+    let mut whole = Vec::new(rt.alloc());
+    let is_whole = is_written(call, given, &mut whole);
+    assert_same(rt, &call, &is_whole, &true);
+    whole
 }
 
-/// Goes through the faults at each byte of what calls write of a program.
+fn assert_beginning(rt: &impl Abort, call: Call, given: Given<'_>, whole: &[u8], room: usize) {
+    let mut narrow = Narrow {
+        taken: Vec::new(given.alloc),
+        room,
+    };
+    let is_whole = is_written(call, given, &mut narrow);
+    let want = whole.get(..room.min(whole.len())).unwrap_or(&[]);
+    assert_same(
+        rt,
+        &(call, room),
+        &(is_whole, narrow.taken.as_slice()),
+        &(room >= whole.len(), want),
+    );
+}
+
+/// Goes through the faults at each byte of what a call writes.
+fn assert_beginnings(rt: &(impl Abort + Alloc<A = Global>), call: Call, given: Given<'_>) {
+    let whole = whole_text(rt, call, given);
+    assert_same(rt, &call, &(whole.len() <= 2_000), &true);
+    for room in 0..=whole.len() {
+        assert_beginning(rt, call, given, &whole, room);
+    }
+}
+
+/// Goes through the faults of some calls on a program.
 fn assert_calls(
     rt: &(impl Abort + Alloc<A = Global>),
     calls: &[Call],
-    text: &str,
+    program: &str,
     certificate: &str,
 ) -> Result<(), Fail> {
-    let program = assemble(rt.alloc(), text, Order::Little)?;
+    let program = assemble(rt.alloc(), program, Order::Little)?;
     let certificate = read(rt.alloc(), certificate.as_bytes())?;
+    let given = Given {
+        alloc: rt.alloc(),
+        program: &program,
+        certificate: &certificate,
+    };
     for call in calls {
-        let mut whole = Vec::new(rt.alloc());
-        let is_whole = is_written(rt.alloc(), *call, &program, &certificate, &mut whole);
-        assert!(rt; is_whole && whole.len() <= 2_000, "{call:?}");
-        for room in 0..=whole.len() {
-            assert_beginning(rt, *call, &program, &certificate, &whole, room);
-        }
+        assert_beginnings(rt, *call, given);
     }
     Ok(())
 }
@@ -159,28 +207,38 @@ fn a_search_without_an_answer_is_written_up_to_a_fault(rt: HostRuntime) -> Resul
     )
 }
 
-/// A program without loops, and its certificate.
-fn long(alloc: Global, lines: u32) -> Result<(Program, Certificate), Fail> {
+/// A program of so many lines, without loops.
+fn long_program(alloc: Global, lines: u32) -> Result<Program, Fail> {
     let mut text = String::new(alloc);
     for _ in 1..lines {
         text.push_str("r0 = 0\n")?;
     }
     text.push_str("exit\n")?;
-    let program = assemble(alloc, text.as_str(), Order::Little)?;
-    let lines = format!(in alloc; "bpfcert 1 0 {lines}\nfn 0 1 *\nat 0 {lines}\nend\n")?;
-    Ok((program, read(alloc, lines.as_bytes())?))
+    Ok(assemble(alloc, text.as_str(), Order::Little)?)
+}
+
+/// Goes through some faults of a call that writes several pieces.
+fn assert_long(rt: &(impl Abort + Alloc<A = Global>), call: Call, given: Given<'_>) {
+    let whole = whole_text(rt, call, given);
+    assert_same(rt, &call, &(whole.len() > 8_192), &true);
+    for room in [0, 1, 4_095, 4_096, 4_097, 8_191, 8_192, whole.len()] {
+        assert_beginning(rt, call, given, &whole, room);
+    }
 }
 
 #[test]
 fn a_long_text_is_written_up_to_a_fault(rt: HostRuntime) -> Result<(), Fail> {
-    let (program, certificate) = long(rt.alloc(), 600)?;
-    for call in [Call::Explain, Call::Dot] {
-        let mut whole = Vec::new(rt.alloc());
-        let is_whole = is_written(rt.alloc(), call, &program, &certificate, &mut whole);
-        assert!(rt; is_whole && whole.len() > 8_192, "{call:?}");
-        for room in [0, 1, 4_095, 4_096, 4_097, 8_191, 8_192, whole.len()] {
-            assert_beginning(&rt, call, &program, &certificate, &whole, room);
-        }
-    }
+    let program = long_program(rt.alloc(), 600)?;
+    let certificate = read(
+        rt.alloc(),
+        b"bpfcert 1 0 600\nfn 0 1 *\nat 0 600\nend\n".as_slice(),
+    )?;
+    let given = Given {
+        alloc: rt.alloc(),
+        program: &program,
+        certificate: &certificate,
+    };
+    assert_long(&rt, Call::Explain, given);
+    assert_long(&rt, Call::Dot, given);
     Ok(())
 }

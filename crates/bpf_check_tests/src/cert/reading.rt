@@ -1,8 +1,12 @@
 //! Texts that are read, and why texts are refused.
 
-use bpf_cert::{read, write};
+use crate::patterns::add_each;
+use crate::same::assert_same;
+use bpf_cert::{Certificate, read, write};
 use std::alloc::{AllocError, Global};
+use std::fmt::Debug;
 use std::io::{self, ErrorKind, Read};
+use std::process::Abort;
 use std::test::Fail;
 
 // Gives at most so many bytes at a time. Where it fails, it does so once, behind the bytes that are left, and gives those
@@ -50,161 +54,141 @@ fn failing<'a>(text: &'a [u8], rest: &'a [u8]) -> Given<'a> {
     }
 }
 
+// (0, 0) where the certificate is written as the text
+fn written(alloc: Global, certificate: &Certificate, text: &[u8]) -> (u8, usize) {
+    let mut out = Vec::new(alloc);
+    if write(certificate, &mut out).is_err() {
+        return (255, 0);
+    }
+    if out.as_slice() == text {
+        (0, 0)
+    } else {
+        (255, 1)
+    }
+}
+
 // The number and line of the refusal; (0, 0) where the text is read, and is written again as it was.
-fn answer(alloc: Global, given: Given<'_>, piece: usize) -> Result<(u8, usize), AllocError> {
+fn answer(alloc: Global, given: Given<'_>, piece: usize) -> (u8, usize) {
     let reader = Pieces {
         left: given.text,
         piece,
         behind_failure: given.behind_failure,
     };
     match read(alloc, reader) {
-        Ok(certificate) => {
-            let mut written = Vec::new(alloc);
-            match write(&certificate, &mut written) {
-                Ok(()) => {}
-                Err(_) => return Ok((255, 0)),
-            }
-            if written.as_slice() == given.text {
-                Ok((0, 0))
-            } else {
-                Ok((255, 1))
-            }
-        }
-        Err(error) => Ok((error.number(), error.line())),
+        Ok(certificate) => written(alloc, &certificate, given.text),
+        Err(error) => (error.number(), error.line()),
     }
 }
 
 // in pieces of 1 byte, of 7 and of many
-fn same_in_pieces(
-    alloc: Global,
+fn assert_answer(
+    rt: &(impl Abort + Alloc<A = Global>),
+    what: &impl Debug,
     given: Given<'_>,
     expected: (u8, usize),
-) -> Result<bool, AllocError> {
+) {
     for piece in [1, 7, 4096] {
-        if answer(alloc, given, piece)? != expected {
-            return Ok(false);
-        }
+        assert_same(rt, what, &answer(rt.alloc(), given, piece), &expected);
     }
-    Ok(true)
 }
 
 const SMALLEST: &[u8] = b"bpfcert 1 0 2\nfn 0 1 *\nat 0 2\nend\n";
 
 #[test]
-fn worked_texts_are_read(rt: HostRuntime) -> Result<(), Fail> {
+fn worked_texts_are_read(rt: HostRuntime) {
     let texts = [
         "bpfcert 1 4096 9\nfn 0 1 *\nat 0 9\nr1 ctx0..12\nr9 fp-512..0\ns1 b254\ns2 u5..5,s5..5,k5/0\ns64 fp-8..-8\nend\n",
         "bpfcert 1 16 100\nfn 0 2 *\nat 0 50 +1*r0 +2*(4-r6) +3*s1 +4*s64\nr0 *\nr6 s-9223372036854775808..-1\nfn 65535 1 k0/18446744073709551614\nat 65535 1\nend\n",
         "bpfcert 2 0 4096 8195\nfn 0 1 *\nat 0 3 +2*r2\nr2 u0..4096\nat 2 1 +2*r2\nr0 *\nr2 u1..4096\nat 4 1\nr0 *\nend\n",
     ];
     for text in texts {
-        assert!(rt;
-            same_in_pieces(rt.alloc(), whole(text.as_bytes()), (0, 0))?,
-            "{text}"
-        );
+        assert_answer(&rt, &text, whole(text.as_bytes()), (0, 0));
     }
-    Ok(())
 }
 
 // where the text ends too early, and where the reader fails: it isn't asked again
 #[test]
-fn cut_texts(rt: HostRuntime) -> Result<(), Fail> {
+fn cut_texts(rt: HostRuntime) {
     for (length, line) in [(0, 1), (12, 1), (14, 2), (30, 4), (33, 4)] {
         let (text, rest) = SMALLEST.split_at(length);
-        assert!(rt;
-            same_in_pieces(rt.alloc(), whole(text), (1, line))?,
-            "cut at {length}"
-        );
-        assert!(rt;
-            same_in_pieces(rt.alloc(), failing(text, rest), (5, line))?,
-            "failed at {length}"
-        );
+        assert_answer(&rt, &("cut at", length), whole(text), (1, line));
+        assert_answer(&rt, &("failed at", length), failing(text, rest), (5, line));
     }
+}
+
+#[test]
+fn texts_with_more_behind_them(rt: HostRuntime) {
     let more = b"bpfcert 1 0 2\nfn 0 1 *\nat 0 2\nend\nx".as_slice();
     let empty_line = b"bpfcert 1 0 2\nfn 0 1 *\nat 0 2\nend\n\n".as_slice();
     let earlier = b"bpfcert 1 0 2\nfx\nat".as_slice();
-    for (given, expected) in [
-        (failing(SMALLEST, b""), (5, 5)),
-        (whole(more), (1, 5)),
-        (failing(more, b""), (1, 5)),
-        (failing(empty_line, b""), (1, 5)),
-        (failing(earlier, b""), (1, 2)),
-    ] {
-        assert!(rt;
-            same_in_pieces(rt.alloc(), given, expected)?,
-            "{expected:?}"
-        );
-    }
-    Ok(())
+    assert_answer(&rt, &"end, failed", failing(SMALLEST, b""), (5, 5));
+    assert_answer(&rt, &"more", whole(more), (1, 5));
+    assert_answer(&rt, &"more, failed", failing(more, b""), (1, 5));
+    assert_answer(&rt, &"empty line", failing(empty_line, b""), (1, 5));
+    assert_answer(&rt, &"earlier", failing(earlier, b""), (1, 2));
 }
 
 // one text for each number; the others stand in tests/rows, whole
 #[test]
-fn refused_in_pieces(rt: HostRuntime) -> Result<(), Fail> {
+fn refused_in_pieces(rt: HostRuntime) {
     for (text, expected) in [
         ("bpfcert 1 0 2\nfn 0 1 *\nat 0 2\nr0 b1\n", (1, 4)),
         ("bpfcert 1 0 2\nfn 0 1 *\nat 0 2\ns1 *\nr99 *\n", (2, 5)),
         ("bpfcert 1 0 2\nfn 0 1 *\nat 0 1099511627777\n", (3, 3)),
     ] {
-        assert!(rt;
-            same_in_pieces(rt.alloc(), whole(text.as_bytes()), expected)?,
-            "{text}"
-        );
+        assert_answer(&rt, &text, whole(text.as_bytes()), expected);
     }
-    Ok(())
+}
+
+// so many zeros, and an LF behind them or none
+fn zeros(alloc: Global, count: usize, end: &[u8]) -> Result<Vec<u8>, AllocError> {
+    let mut text = Vec::new(alloc);
+    for _ in 0..count {
+        text.push(b'0')?;
+    }
+    text.extend_from_slice(end)?;
+    Ok(text)
 }
 
 // 256 bytes may be looked into, 257 may not
 #[test]
-fn long_lines(rt: HostRuntime) -> Result<(), Fail> {
-    let mut text = Vec::new(rt.alloc());
-    for _ in 0..256usize {
-        text.push(b'0')?;
-    }
-    assert!(rt;
-        same_in_pieces(rt.alloc(), whole(&text), (1, 1))?,
-        "256 bytes, cut"
-    );
-    assert!(rt;
-        same_in_pieces(rt.alloc(), failing(&text, b""), (5, 1))?,
-        "256 bytes, failed"
-    );
-    text.push(b'0')?;
-    assert!(rt;
-        same_in_pieces(rt.alloc(), whole(&text), (3, 1))?,
-        "257 bytes, cut"
-    );
-    assert!(rt;
-        same_in_pieces(rt.alloc(), failing(&text, b""), (3, 1))?,
-        "257 bytes, failed"
-    );
-    text.push(b'\n')?;
-    assert!(rt;
-        same_in_pieces(rt.alloc(), whole(&text), (3, 1))?,
-        "257 bytes"
-    );
+fn lines_of_256_bytes(rt: HostRuntime) -> Result<(), Fail> {
+    let text = zeros(rt.alloc(), 256, b"")?;
+    assert_answer(&rt, &"256 bytes, cut", whole(&text), (1, 1));
+    assert_answer(&rt, &"256 bytes, failed", failing(&text, b""), (5, 1));
+    Ok(())
+}
+
+#[test]
+fn lines_of_257_bytes(rt: HostRuntime) -> Result<(), Fail> {
+    let text = zeros(rt.alloc(), 257, b"")?;
+    assert_answer(&rt, &"257 bytes, cut", whole(&text), (3, 1));
+    assert_answer(&rt, &"257 bytes, failed", failing(&text, b""), (3, 1));
+    Ok(())
+}
+
+#[test]
+fn whole_lines_of_257_bytes(rt: HostRuntime) -> Result<(), Fail> {
+    let text = zeros(rt.alloc(), 257, b"\n")?;
+    assert_answer(&rt, &"257 bytes", whole(&text), (3, 1));
     Ok(())
 }
 
 #[test]
 fn many_functions(rt: HostRuntime) -> Result<(), Fail> {
-    let mut text = format!(in rt.alloc(); "bpfcert 1 0 2\n")?;
-    for i in 0..257u32 {
-        text.push_str(&format!(in rt.alloc(); "fn {i} 1 *\nat {i} 2\n")?)?;
-    }
-    let error = answer(rt.alloc(), whole(text.as_bytes()), 4096)?;
-    assert_eq!(rt; error, (3, 514));
+    let mut text = String::from_str(rt.alloc(), "bpfcert 1 0 2\n")?;
+    add_each(rt.alloc(), &mut text, "fn A 1 *\nat A 2\n", 257)?;
+    let error = answer(rt.alloc(), whole(text.as_bytes()), 4096);
+    assert_same(&rt, &"functions", &error, &(3, 514));
     Ok(())
 }
 
 #[test]
 fn many_labels(rt: HostRuntime) -> Result<(), Fail> {
-    let mut text = format!(in rt.alloc(); "bpfcert 1 0 2\nfn 0 1 *\n")?;
-    for slot in 0..65_536u32 {
-        text.push_str(&format!(in rt.alloc(); "at {slot} 2\n")?)?;
-    }
+    let mut text = String::from_str(rt.alloc(), "bpfcert 1 0 2\nfn 0 1 *\n")?;
+    add_each(rt.alloc(), &mut text, "at A 2\n", 65_536)?;
     text.push_str("fn 1 1 *\nat 0 2\n")?;
-    let error = answer(rt.alloc(), whole(text.as_bytes()), 4096)?;
-    assert_eq!(rt; error, (3, 65_540));
+    let error = answer(rt.alloc(), whole(text.as_bytes()), 4096);
+    assert_same(&rt, &"labels", &error, &(3, 65_540));
     Ok(())
 }

@@ -1,5 +1,7 @@
 //! Worked certificates and their texts.
 
+use crate::patterns::add;
+use crate::same::assert_same;
 use arrayvec::ArrayVec;
 use bpf_cert::{
     Budget, CertError, Certificate, Function, Label, Measure, Place, Term, migrate, read, write,
@@ -9,6 +11,7 @@ use bpf_num::{Num, Unsigned};
 use bpf_state::{Area, Pointer, RegState, SlotState, State, Tag};
 use std::alloc::{AllocError, Global};
 use std::io::{self, ErrorKind, Write};
+use std::process::Abort;
 use std::test::Fail;
 
 fn label(alloc: Global, slot: u32, state: &State, base: u64) -> Result<Label, CertError> {
@@ -80,211 +83,177 @@ impl Write for Failing {
     }
 }
 
-#[test]
-fn worked_texts(rt: HostRuntime) -> Result<(), Fail> {
-    let certificate = Certificate::new(1, 0, 0, 2, smallest(rt.alloc(), 2, &State::blank())?)?;
-    let mut text = Vec::new(rt.alloc());
-    write(&certificate, &mut text)?;
-    assert_eq!(rt;
-        text.as_slice(),
-        b"bpfcert 1 0 2\nfn 0 1 *\nat 0 2\nend\n".as_slice()
-    );
-    let certificate = Certificate::new(1, 0, 0, 23, countdown(rt.alloc())?)?;
-    let mut text = Vec::new(rt.alloc());
-    write(&certificate, &mut text)?;
-    let expected = b"bpfcert 1 0 23\nfn 0 1 *\nat 0 23\nat 1 2 +2*r6\nr6 u1..10\nend\n";
-    assert_eq!(rt; text.as_slice(), expected.as_slice());
+fn assert_written(
+    rt: &(impl Abort + Alloc<A = Global>),
+    certificate: &Certificate,
+    text: &[u8],
+) -> Result<(), Fail> {
+    let mut out = Vec::new(rt.alloc());
+    write(certificate, &mut out)?;
+    assert_same(rt, &"written", &out.as_slice(), &text);
     Ok(())
+}
+
+const SMALLEST: &[u8] = b"bpfcert 1 0 2\nfn 0 1 *\nat 0 2\nend\n";
+
+#[test]
+fn the_smallest_text(rt: HostRuntime) -> Result<(), Fail> {
+    let certificate = Certificate::new(1, 0, 0, 2, smallest(rt.alloc(), 2, &State::blank())?)?;
+    assert_written(&rt, &certificate, SMALLEST)
+}
+
+#[test]
+fn the_countdown(rt: HostRuntime) -> Result<(), Fail> {
+    let certificate = Certificate::new(1, 0, 0, 23, countdown(rt.alloc())?)?;
+    let text = b"bpfcert 1 0 23\nfn 0 1 *\nat 0 23\nat 1 2 +2*r6\nr6 u1..10\nend\n";
+    assert_written(&rt, &certificate, text.as_slice())
+}
+
+fn pointer(area: Area, lo: i64, hi: i64) -> Pointer {
+    Pointer { area, lo, hi }
 }
 
 #[test]
 fn places_and_pointers(rt: HostRuntime) -> Result<(), Fail> {
     let mut state = State::blank();
-    let into_context = Pointer {
-        area: Area::Context,
-        lo: 0,
-        hi: 12,
-    };
-    let into_frame = Pointer {
-        area: Area::Frame,
-        lo: -512,
-        hi: 0,
-    };
-    let spilled = Pointer {
-        area: Area::Frame,
-        lo: -8,
-        hi: -8,
-    };
-    state.set_reg(Reg::R1, RegState::Ptr(into_context));
-    state.set_reg(Reg::R9, RegState::Ptr(into_frame));
+    state.set_reg(Reg::R1, RegState::Ptr(pointer(Area::Context, 0, 12)));
+    state.set_reg(Reg::R9, RegState::Ptr(pointer(Area::Frame, -512, 0)));
     state.set_slot(1, SlotState::Bytes(254));
     state.set_slot(2, SlotState::Word(Num::constant(5)));
-    state.set_slot(64, SlotState::Spilled(spilled));
+    state.set_slot(64, SlotState::Spilled(pointer(Area::Frame, -8, -8)));
     let certificate = Certificate::new(1, 4096, 4096, 9, smallest(rt.alloc(), 9, &state)?)?;
-    let mut text = Vec::new(rt.alloc());
-    write(&certificate, &mut text)?;
-    let expected =
+    let text =
         b"bpfcert 1 4096 9\nfn 0 1 *\nat 0 9\nr1 ctx0..12\nr9 fp-512..0\ns1 b254\ns2 u5..5,s5..5,k5/0\ns64 fp-8..-8\nend\n";
-    assert_eq!(rt; text.as_slice(), expected.as_slice());
-    Ok(())
+    assert_written(&rt, &certificate, text.as_slice())
 }
 
-// parts, and the number of their refusal
-#[derive(Drop)]
-struct Parts {
-    version: u32,
-    least: u32,
-    most: u32,
-    steps: u32,
-    state: State,
-    number: u8,
+// a certificate of a version, the least and the most length and the steps, with one label
+fn of_parts(
+    alloc: Global,
+    parts: [u32; 4],
+    label: Label,
+) -> Result<Result<Certificate, CertError>, Fail> {
+    let [version, least, most, steps] = parts;
+    let functions = one_label(alloc, label)?;
+    Ok(Certificate::new(version, least, most, steps, functions))
+}
+
+fn number_and_line<T: Drop>(made: Result<T, CertError>) -> (u8, usize) {
+    match made {
+        Ok(_) => (0, 0),
+        Err(error) => (error.number(), error.line()),
+    }
+}
+
+// the number and the line of the refusal of parts and of the state at a label; 0 where there is none
+fn refusal(alloc: Global, parts: [u32; 4], state: &State) -> Result<(u8, usize), Fail> {
+    match label(alloc, 0, state, 2) {
+        Ok(label) => Ok(number_and_line(of_parts(alloc, parts, label)?)),
+        Err(error) => Ok((error.number(), error.line())),
+    }
 }
 
 #[test]
 fn refused_parts(rt: HostRuntime) -> Result<(), Fail> {
-    let mut tagged = State::blank();
-    tagged.set_tag(Place::Slot(64), Some(Tag { term: 0, offset: 0 }));
-    let mut far = State::blank();
-    far.set_reg(
-        Reg::R1,
-        RegState::Ptr(Pointer {
-            area: Area::Context,
-            lo: 0,
-            hi: 0x8000_0001,
-        }),
-    );
-    for row in [
-        Parts {
-            version: 1,
-            least: 4097,
-            most: 4097,
-            steps: 2,
-            state: State::blank(),
-            number: 3,
-        },
-        Parts {
-            version: 1,
-            least: 0,
-            most: 0,
-            steps: 0,
-            state: State::blank(),
-            number: 3,
-        },
-        Parts {
-            version: 1,
-            least: 0,
-            most: 0,
-            steps: 2,
-            state: far,
-            number: 3,
-        },
-        Parts {
-            version: 0,
-            least: 4097,
-            most: 4096,
-            steps: 0,
-            state: tagged,
-            number: 2,
-        },
-        Parts {
-            version: 1,
-            least: 3,
-            most: 4,
-            steps: 2,
-            state: State::blank(),
-            number: 3,
-        },
-        Parts {
-            version: 2,
-            least: 5,
-            most: 4,
-            steps: 2,
-            state: State::blank(),
-            number: 3,
-        },
-        Parts {
-            version: 2,
-            least: 0,
-            most: 4097,
-            steps: 2,
-            state: State::blank(),
-            number: 3,
-        },
-        Parts {
-            version: 0,
-            least: 0,
-            most: 0,
-            steps: 2,
-            state: State::blank(),
-            number: 3,
-        },
-        Parts {
-            version: 3,
-            least: 0,
-            most: 0,
-            steps: 2,
-            state: State::blank(),
-            number: 3,
-        },
-    ] {
-        let (version, least, most) = (row.version, row.least, row.most);
-        let made = match label(rt.alloc(), 0, &row.state, 2) {
-            Ok(label) => {
-                let functions = one_label(rt.alloc(), label)?;
-                Certificate::new(version, least, most, row.steps, functions)
-            }
-            Err(error) => Err(error),
-        };
-        match made {
-            Ok(_) => assert!(rt; false, "version {version}, {least} to {most}"),
-            Err(error) => assert_eq!(rt; (error.number(), error.line()), (row.number, 0)),
-        }
+    let rows: [[u32; 4]; 7] = [
+        [1, 4097, 4097, 2],
+        [1, 0, 0, 0],
+        [1, 3, 4, 2],
+        [2, 5, 4, 2],
+        [2, 0, 4097, 2],
+        [0, 0, 0, 2],
+        [3, 0, 0, 2],
+    ];
+    for parts in rows {
+        let refused = refusal(rt.alloc(), parts, &State::blank())?;
+        assert_same(&rt, &parts, &refused, &(3, 0));
     }
     Ok(())
+}
+
+#[test]
+fn a_pointer_that_is_too_far(rt: HostRuntime) -> Result<(), Fail> {
+    let mut state = State::blank();
+    let far = pointer(Area::Context, 0, 0x8000_0001);
+    state.set_reg(Reg::R1, RegState::Ptr(far));
+    let refused = refusal(rt.alloc(), [1, 0, 0, 2], &state)?;
+    assert_same(&rt, &"far", &refused, &(3, 0));
+    Ok(())
+}
+
+#[test]
+fn a_tag_comes_before_other_refusals(rt: HostRuntime) -> Result<(), Fail> {
+    let mut state = State::blank();
+    state.set_tag(Place::Slot(64), Some(Tag { term: 0, offset: 0 }));
+    let refused = refusal(rt.alloc(), [0, 4097, 4096, 0], &state)?;
+    assert_same(&rt, &"tagged", &refused, &(2, 0));
+    Ok(())
+}
+
+fn add_registers(alloc: Global, text: &mut String, slot: u64) -> Result<(), AllocError> {
+    for number in 0..9u64 {
+        add(
+            alloc,
+            text,
+            "rA fp-B..C\n",
+            &[number, number.saturating_add(1), slot],
+        )?;
+    }
+    Ok(())
+}
+
+fn add_slots(alloc: Global, text: &mut String) -> Result<(), AllocError> {
+    for number in 1..65u64 {
+        add(alloc, text, "sA bA\n", &[number])?;
+    }
+    Ok(())
+}
+
+fn add_labels(alloc: Global, text: &mut String) -> Result<(), AllocError> {
+    for slot in 0..9u64 {
+        add(alloc, text, "at A 1\n", &[slot])?;
+        add_registers(alloc, text, slot)?;
+        add_slots(alloc, text)?;
+    }
+    Ok(())
+}
+
+fn full_text(alloc: Global) -> Result<String, AllocError> {
+    let mut text = String::from_str(alloc, "bpfcert 1 0 2\nfn 0 1 *\n")?;
+    add_labels(alloc, &mut text)?;
+    text.push_str("end\n")?;
+    Ok(text)
+}
+
+fn assert_written_again(rt: &(impl Abort + Alloc<A = Global>), text: &[u8]) -> Result<(), Fail> {
+    let certificate = read(rt.alloc(), text)?;
+    assert_written(rt, &certificate, text)
 }
 
 // Each label says something of nine registers and of all slots. The text is longer than a piece that goes out at once.
 #[test]
 fn full_labels(rt: HostRuntime) -> Result<(), Fail> {
-    let mut text = format!(in rt.alloc(); "bpfcert 1 0 2\nfn 0 1 *\n")?;
-    for slot in 0..9u32 {
-        text.push_str(&format!(in rt.alloc(); "at {slot} 1\n")?)?;
-        for i in 0..9u32 {
-            let below = i + 1;
-            text.push_str(&format!(in rt.alloc(); "r{i} fp-{below}..{slot}\n")?)?;
-        }
-        for k in 1..65u32 {
-            text.push_str(&format!(in rt.alloc(); "s{k} b{k}\n")?)?;
-        }
-    }
-    text.push_str("end\n")?;
-    let certificate = read(rt.alloc(), text.as_bytes())?;
-    let mut written = Vec::new(rt.alloc());
-    write(&certificate, &mut written)?;
+    let text = full_text(rt.alloc())?;
     assert!(rt; text.len() > 4096);
-    assert_eq!(rt; written.as_slice(), text.as_bytes());
-    Ok(())
+    assert_written_again(&rt, text.as_bytes())
+}
+
+fn assert_failing(rt: &(impl Abort + Alloc<A = Global>), certificate: &Certificate, writes: usize) {
+    let mut out = Failing {
+        taken: Vec::new(rt.alloc()),
+        writes,
+    };
+    let is_whole = write(certificate, &mut out).is_ok();
+    let is_beginning = SMALLEST.starts_with(out.taken.as_slice());
+    let want = (writes.saturating_mul(3) >= SMALLEST.len(), true);
+    assert_same(rt, &("writes", writes), &(is_whole, is_beginning), &want);
 }
 
 #[test]
 fn failing_writer(rt: HostRuntime) -> Result<(), Fail> {
-    let text = b"bpfcert 1 0 2\nfn 0 1 *\nat 0 2\nend\n";
     let certificate = Certificate::new(1, 0, 0, 2, smallest(rt.alloc(), 2, &State::blank())?)?;
     for writes in 0..14usize {
-        let mut out = Failing {
-            taken: Vec::new(rt.alloc()),
-            writes,
-        };
-        let answer = write(&certificate, &mut out);
-        assert_eq!(rt;
-            answer.is_ok(),
-            3 * writes >= text.len(),
-            "after {writes} writes"
-        );
-        assert!(rt;
-            text.starts_with(out.taken.as_slice()),
-            "after {writes} writes"
-        );
+        assert_failing(&rt, &certificate, writes);
     }
     Ok(())
 }
