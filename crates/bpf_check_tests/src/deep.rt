@@ -72,15 +72,14 @@ fn add_line(
     add(alloc, text, pattern, &[number, one, other, small, target])
 }
 
-/// A program with jumps to and fro.
-fn any_program(alloc: Global, dice: &mut Dice) -> Result<String, AllocError> {
-    let mut text = String::from_str(alloc, BEGINNING)?;
+/// Adds a program with jumps to and fro.
+fn add_program(alloc: Global, text: &mut String, dice: &mut Dice) -> Result<(), AllocError> {
+    text.push_str(BEGINNING)?;
     let count = dice.below(14).saturating_add(2);
     for number in 0..count {
-        add_line(alloc, &mut text, dice, number, count)?;
+        add_line(alloc, text, dice, number, count)?;
     }
-    text.push_str("exit\n")?;
-    Ok(text)
+    text.push_str("exit\n")
 }
 
 /// A loop: how it begins and how it ends.
@@ -135,13 +134,12 @@ fn add_tails(alloc: Global, text: &mut String, loops: &[Loop]) -> Result<(), All
     Ok(())
 }
 
-/// A program of loops in one another.
-fn nest(alloc: Global, loops: &[Loop]) -> Result<String, AllocError> {
-    let mut text = String::from_str(alloc, "r0 = 0\n")?;
-    add_heads(alloc, &mut text, loops)?;
-    add_tails(alloc, &mut text, loops)?;
-    text.push_str("exit\n")?;
-    Ok(text)
+/// Adds a program of loops in one another.
+fn add_nest(alloc: Global, text: &mut String, loops: &[Loop]) -> Result<(), AllocError> {
+    text.push_str("r0 = 0\n")?;
+    add_heads(alloc, text, loops)?;
+    add_tails(alloc, text, loops)?;
+    text.push_str("exit\n")
 }
 
 /// Whether a proposal, if there is one, is certified, and a run ends within its bound.
@@ -188,7 +186,8 @@ fn is_found(rt: &(impl Abort + Alloc<A = Global>), text: &str) -> Result<bool, F
 }
 
 fn is_any_found(rt: &(impl Abort + Alloc<A = Global>), dice: &mut Dice) -> Result<bool, Fail> {
-    let text = any_program(rt.alloc(), dice)?;
+    let mut text = String::new(rt.alloc());
+    add_program(rt.alloc(), &mut text, dice)?;
     is_found(rt, text.as_str())
 }
 
@@ -204,7 +203,8 @@ fn no_proposal_is_refused(rt: HostRuntime) -> Result<(), Fail> {
 }
 
 fn assert_nest(rt: &(impl Abort + Alloc<A = Global>), loops: &[Loop]) -> Result<(), Fail> {
-    let text = nest(rt.alloc(), loops)?;
+    let mut text = String::new(rt.alloc());
+    add_nest(rt.alloc(), &mut text, loops)?;
     let found = is_found(rt, text.as_str())?;
     assert_same(rt, &text.as_str(), &found, &true);
     Ok(())

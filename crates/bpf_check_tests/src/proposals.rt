@@ -10,18 +10,25 @@ use bpf_text::assemble;
 use std::alloc::{AllocError, Global};
 use std::test::Fail;
 
-/// A function that calls each of so many others, which answer 0.
-fn fan(alloc: Global, others: u64) -> Result<String, AllocError> {
-    let mut text = String::new(alloc);
-    add_each(alloc, &mut text, "call fA\n", others)?;
+/// Adds a function that calls each of so many others, which answer 0.
+fn add_fan(alloc: Global, text: &mut String, others: u64) -> Result<(), AllocError> {
+    add_each(alloc, text, "call fA\n", others)?;
     text.push_str("exit\n")?;
-    add_each(alloc, &mut text, "fA: r0 = 0\nexit\n", others)?;
-    Ok(text)
+    add_each(alloc, text, "fA: r0 = 0\nexit\n", others)
 }
 
 fn fan_program(alloc: Global, others: u64) -> Result<Program, Fail> {
-    let text = fan(alloc, others)?;
+    let mut text = String::new(alloc);
+    add_fan(alloc, &mut text, others)?;
     Ok(assemble(alloc, text.as_str(), Order::Little)?)
+}
+
+/// The bound that is certified; 0 where there is none.
+fn bound_of(program: &Program, certificate: &Certificate) -> u32 {
+    match check(program, certificate) {
+        Ok(checked) => checked.bound(),
+        Err(_) => 0,
+    }
 }
 
 /// The bound that is certified by a proposal, or the refusal's number and slot.
@@ -30,7 +37,7 @@ fn answered(
     proposed: &Result<Certificate, InferError>,
 ) -> Result<u32, (u8, u32)> {
     match proposed {
-        Ok(certificate) => Ok(check(program, certificate).map_or(0, |checked| checked.bound())),
+        Ok(certificate) => Ok(bound_of(program, certificate)),
         Err(error) => Err((error.number(), error.slot())),
     }
 }

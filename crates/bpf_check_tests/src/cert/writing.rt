@@ -44,19 +44,27 @@ fn one_label(alloc: Global, label: Label) -> Result<Vec<Function>, Fail> {
     Ok(one_function(alloc, labels)?)
 }
 
-// r6 = 10, and r6 falls to 0 in a loop from slot 1 on
-fn countdown(alloc: Global) -> Result<Vec<Function>, Fail> {
+fn counting() -> State {
     let mut state = State::blank();
     let r6 = Num::of(Num::top().bits(), Unsigned::new(1, 10), Num::top().signed());
     state.set_reg(Reg::R6, RegState::Num(r6));
+    state
+}
+
+fn counting_label(alloc: Global) -> Result<Label, CertError> {
     let mut terms = ArrayVec::new();
     terms.push(Term {
         weight: 2,
         measure: Measure::Down(Place::Register(Reg::R6)),
     });
+    Label::new(alloc, 1, &counting(), Budget { base: 2, terms })
+}
+
+// r6 = 10, and r6 falls to 0 in a loop from slot 1 on
+fn countdown(alloc: Global) -> Result<Vec<Function>, Fail> {
     let mut labels = Vec::new(alloc);
     labels.push(label(alloc, 0, &State::blank(), 23)?)?;
-    labels.push(Label::new(alloc, 1, &state, Budget { base: 2, terms })?)?;
+    labels.push(counting_label(alloc)?)?;
     Ok(one_function(alloc, labels)?)
 }
 
@@ -113,15 +121,20 @@ fn pointer(area: Area, lo: i64, hi: i64) -> Pointer {
     Pointer { area, lo, hi }
 }
 
-#[test]
-fn places_and_pointers(rt: HostRuntime) -> Result<(), Fail> {
+fn placed() -> State {
     let mut state = State::blank();
     state.set_reg(Reg::R1, RegState::Ptr(pointer(Area::Context, 0, 12)));
     state.set_reg(Reg::R9, RegState::Ptr(pointer(Area::Frame, -512, 0)));
     state.set_slot(1, SlotState::Bytes(254));
     state.set_slot(2, SlotState::Word(Num::constant(5)));
     state.set_slot(64, SlotState::Spilled(pointer(Area::Frame, -8, -8)));
-    let certificate = Certificate::new(1, 4096, 4096, 9, smallest(rt.alloc(), 9, &state)?)?;
+    state
+}
+
+#[test]
+fn places_and_pointers(rt: HostRuntime) -> Result<(), Fail> {
+    let functions = smallest(rt.alloc(), 9, &placed())?;
+    let certificate = Certificate::new(1, 4096, 4096, 9, functions)?;
     let text =
         b"bpfcert 1 4096 9\nfn 0 1 *\nat 0 9\nr1 ctx0..12\nr9 fp-512..0\ns1 b254\ns2 u5..5,s5..5,k5/0\ns64 fp-8..-8\nend\n";
     assert_written(&rt, &certificate, text.as_slice())
@@ -209,20 +222,14 @@ fn add_slots(alloc: Global, text: &mut String) -> Result<(), AllocError> {
     Ok(())
 }
 
-fn add_labels(alloc: Global, text: &mut String) -> Result<(), AllocError> {
+fn add_full(alloc: Global, text: &mut String) -> Result<(), AllocError> {
+    text.push_str("bpfcert 1 0 2\nfn 0 1 *\n")?;
     for slot in 0..9u64 {
         add(alloc, text, "at A 1\n", &[slot])?;
         add_registers(alloc, text, slot)?;
         add_slots(alloc, text)?;
     }
-    Ok(())
-}
-
-fn full_text(alloc: Global) -> Result<String, AllocError> {
-    let mut text = String::from_str(alloc, "bpfcert 1 0 2\nfn 0 1 *\n")?;
-    add_labels(alloc, &mut text)?;
-    text.push_str("end\n")?;
-    Ok(text)
+    text.push_str("end\n")
 }
 
 fn assert_written_again(rt: &(impl Abort + Alloc<A = Global>), text: &[u8]) -> Result<(), Fail> {
@@ -233,7 +240,8 @@ fn assert_written_again(rt: &(impl Abort + Alloc<A = Global>), text: &[u8]) -> R
 // Each label says something of nine registers and of all slots. The text is longer than a piece that goes out at once.
 #[test]
 fn full_labels(rt: HostRuntime) -> Result<(), Fail> {
-    let text = full_text(rt.alloc())?;
+    let mut text = String::new(rt.alloc());
+    add_full(rt.alloc(), &mut text)?;
     assert!(rt; text.len() > 4096);
     assert_written_again(&rt, text.as_bytes())
 }
