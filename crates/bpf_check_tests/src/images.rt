@@ -116,14 +116,18 @@ fn work_of<C: Code>(program: &C, certificate: &Certificate) -> (u32, u32) {
     }
 }
 
+fn assert_work(rt: &(impl Abort + Alloc<A = Global>), image: &[u8]) -> Result<(), Fail> {
+    let view = ProgramView::of(image, Order::Little)?;
+    let certificate = read(rt.alloc(), LONGEST_CERTIFICATE)?;
+    let work = work_of(&view, &certificate);
+    assert_same(rt, &"work", &work, &(65_536, 2));
+    Ok(())
+}
+
 #[test]
 fn the_work_on_the_longest_program(rt: HostRuntime) -> Result<(), Fail> {
     let longest = long_image(rt.alloc(), 65_535)?;
-    let view = ProgramView::of(&longest, Order::Little)?;
-    let certificate = read(rt.alloc(), LONGEST_CERTIFICATE)?;
-    let work = work_of(&view, &certificate);
-    assert_same(&rt, &"work", &work, &(65_536, 2));
-    Ok(())
+    assert_work(&rt, &longest)
 }
 
 #[test]

@@ -227,13 +227,22 @@ fn assert_results<C: Code>(
     Ok(())
 }
 
+/// Runs the view of an image.
+fn assert_view(
+    rt: &(impl Abort + Alloc<A = Global>),
+    run: Run<'_>,
+    image: &[u8],
+) -> Result<(), Fail> {
+    let view = ProgramView::of(image, run.row.order)?;
+    assert_results(rt, run, &view)
+}
+
 /// Runs a program, and the view of its image.
 fn assert_run(rt: &(impl Abort + Alloc<A = Global>), run: Run<'_>) -> Result<(), Fail> {
     let program = program_of(rt.alloc(), run.row)?;
     assert_results(rt, run, &program)?;
     let image = image_of(rt.alloc(), &program)?;
-    let view = ProgramView::of(&image, run.row.order)?;
-    assert_results(rt, run, &view)
+    assert_view(rt, run, &image)
 }
 
 #[test]
@@ -274,11 +283,15 @@ fn told_of<C: Code>(program: &C, certificate: &Certificate) -> [u32; 5] {
     }
 }
 
+fn assert_told(rt: &(impl Abort + Alloc<A = Global>), program: &Program) -> Result<(), Fail> {
+    let certificate = read(rt.alloc(), FIELDS_OF_ANY_LENGTH.as_bytes())?;
+    let told = told_of(program, &certificate);
+    assert_same(rt, &FIELD, &told, &[2, 4096, 3, 3, 2]);
+    Ok(())
+}
+
 #[test]
 fn what_a_checked_program_tells(rt: HostRuntime) -> Result<(), Fail> {
     let program = assemble(rt.alloc(), FIELD, Order::Little)?;
-    let certificate = read(rt.alloc(), FIELDS_OF_ANY_LENGTH.as_bytes())?;
-    let told = told_of(&program, &certificate);
-    assert_same(&rt, &FIELD, &told, &[2, 4096, 3, 3, 2]);
-    Ok(())
+    assert_told(&rt, &program)
 }
