@@ -117,17 +117,29 @@ fn the_countdown(rt: HostRuntime) -> Result<(), Fail> {
     assert_written(&rt, &certificate, text.as_slice())
 }
 
-fn pointer(area: Area, lo: i64, hi: i64) -> Pointer {
-    Pointer { area, lo, hi }
-}
-
+// r1 into the context, r9 into the frame, and slots with bytes, a number and a pointer
 fn placed() -> State {
     let mut state = State::blank();
-    state.set_reg(Reg::R1, RegState::Ptr(pointer(Area::Context, 0, 12)));
-    state.set_reg(Reg::R9, RegState::Ptr(pointer(Area::Frame, -512, 0)));
+    let into_context = Pointer {
+        area: Area::Context,
+        lo: 0,
+        hi: 12,
+    };
+    let into_frame = Pointer {
+        area: Area::Frame,
+        lo: -512,
+        hi: 0,
+    };
+    let spilled = Pointer {
+        area: Area::Frame,
+        lo: -8,
+        hi: -8,
+    };
+    state.set_reg(Reg::R1, RegState::Ptr(into_context));
+    state.set_reg(Reg::R9, RegState::Ptr(into_frame));
     state.set_slot(1, SlotState::Bytes(254));
     state.set_slot(2, SlotState::Word(Num::constant(5)));
-    state.set_slot(64, SlotState::Spilled(pointer(Area::Frame, -8, -8)));
+    state.set_slot(64, SlotState::Spilled(spilled));
     state
 }
 
@@ -187,7 +199,11 @@ fn refused_parts(rt: HostRuntime) -> Result<(), Fail> {
 #[test]
 fn a_pointer_that_is_too_far(rt: HostRuntime) -> Result<(), Fail> {
     let mut state = State::blank();
-    let far = pointer(Area::Context, 0, 0x8000_0001);
+    let far = Pointer {
+        area: Area::Context,
+        lo: 0,
+        hi: 0x8000_0001,
+    };
     state.set_reg(Reg::R1, RegState::Ptr(far));
     let refused = refusal(rt.alloc(), [1, 0, 0, 2], &state)?;
     assert_same(&rt, &"far", &refused, &(3, 0));
