@@ -8,6 +8,8 @@ mod machine;
 #[cfg(test)]
 mod num;
 #[cfg(test)]
+mod same;
+#[cfg(test)]
 mod state;
 #[cfg(test)]
 mod text;

@@ -1,7 +1,4 @@
-//! Runs of the machine: numbers at their edges, and a machine behind its end. More runs are in `tests/rows`.
+//! A machine behind its end, and runs with all the fuel that there is. More runs are in `tests/rows`.
 
-mod arithmetic;
-mod conditions;
-mod edges;
 mod programs;
 mod runs;

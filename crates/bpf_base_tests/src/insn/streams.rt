@@ -1,8 +1,10 @@
 //! Readers and writers that give or take a few bytes at a time, and fail in mid-stream.
 
+use crate::same::{assert_same, encoded};
 use bpf_insn::{DecodeError, Insn, Order, Program, decode_from, encode, read_image};
 use std::alloc::Global;
 use std::io::{self, ErrorKind, Read, Write};
+use std::process::Abort;
 use std::test::Fail;
 
 /// Gives its bytes one at a time, and then fails or ends.
@@ -85,7 +87,7 @@ impl<'a> Read for Stumbling<'a> {
 }
 
 #[test]
-fn no_read_is_tried_again(rt: HostRuntime) -> Result<(), Fail> {
+fn no_read_is_tried_again(rt: HostRuntime) {
     for (fails_at, slot) in [(1, 0), (8, 0), (9, 1), (17, 2)] {
         let mut reader = Stumbling {
             left: &SMALLEST,
@@ -93,10 +95,9 @@ fn no_read_is_tried_again(rt: HostRuntime) -> Result<(), Fail> {
             calls: 0,
         };
         let error = read_image(rt.alloc(), &mut reader).err();
-        assert_eq!(rt; error, Some(DecodeError::Read { slot }), "call {fails_at}");
-        assert_eq!(rt; reader.calls, fails_at);
+        let want = Some(DecodeError::Read { slot });
+        assert_same(&rt, &"call", &(error, reader.calls), &(want, fails_at));
     }
-    Ok(())
 }
 
 /// Gives as many bytes as there is room for, without end, and counts them.
@@ -115,33 +116,29 @@ impl Read for Endless {
 #[test]
 fn a_reader_without_end_is_left(rt: HostRuntime) -> Result<(), Fail> {
     let mut reader = Endless { given: 0 };
-    let bytes = read_image(rt.alloc(), &mut reader)?;
-    assert_eq!(rt; bytes.len(), 524_289);
-    assert_eq!(rt; reader.given, 524_289);
+    let length = read_image(rt.alloc(), &mut reader)?.len();
+    assert_same(&rt, &"read", &(length, reader.given), &(524_289, 524_289));
     let error = decode_from(rt.alloc(), Endless { given: 0 }, Order::Little).err();
-    assert_eq!(rt; error, Some(DecodeError::Length));
+    assert_same(&rt, &"decoded", &error, &Some(DecodeError::Length));
     Ok(())
 }
 
-#[test]
-fn readers_fail_in_mid_stream(rt: HostRuntime) -> Result<(), Fail> {
-    for (count, want) in [(0, (10, 0)), (7, (10, 0)), (12, (10, 1)), (16, (10, 2))] {
-        let reader = Trickle {
-            left: &SMALLEST[..count],
-            fails: true,
-        };
-        let answer = match decode_from(rt.alloc(), reader, Order::Little) {
-            Ok(_) => (0, 0),
-            Err(error) => (error.number(), error.slot()),
-        };
-        assert_eq!(rt; answer, want, "after {count} bytes");
+/// What is told of a reader that gives these bytes and then fails or ends: no error and the count of slots, or the error.
+fn answer_of(alloc: Global, left: &[u8], fails: bool) -> (u8, u32) {
+    match decode_from(alloc, Trickle { left, fails }, Order::Little) {
+        Ok(program) => (0, program.slots()),
+        Err(error) => (error.number(), error.slot()),
     }
-    let whole = Trickle {
-        left: &SMALLEST,
-        fails: false,
-    };
-    assert_eq!(rt; decode_from(rt.alloc(), whole, Order::Little)?.slots(), 2);
-    Ok(())
+}
+
+#[test]
+fn readers_fail_in_mid_stream(rt: HostRuntime) {
+    for (count, want) in [(0, (10, 0)), (7, (10, 0)), (12, (10, 1)), (16, (10, 2))] {
+        let answer = answer_of(rt.alloc(), &SMALLEST[..count], true);
+        assert_same(&rt, &count, &answer, &want);
+    }
+    let whole = answer_of(rt.alloc(), &SMALLEST, false);
+    assert_same(&rt, &"whole", &whole, &(0, 2));
 }
 
 /// Takes up to 8 bytes a call, fails at one call alone, and counts the calls.
@@ -170,18 +167,23 @@ impl Write for Shaky {
     }
 }
 
+/// Whether a writer that fails at this call makes encoding fail, its calls, and how many bytes it took.
+fn shaken(alloc: Global, program: &Program, fails_at: u32) -> (bool, u32, usize) {
+    let mut writer = Shaky {
+        taken: Vec::new(alloc),
+        fails_at,
+        calls: 0,
+    };
+    let failed = encode(program, &mut writer).is_err();
+    (failed, writer.calls, writer.taken.len())
+}
+
 #[test]
 fn no_write_is_tried_again(rt: HostRuntime) -> Result<(), Fail> {
     let program = smallest(rt.alloc())?;
     for (fails_at, count) in [(1, 0), (2, 8)] {
-        let mut writer = Shaky {
-            taken: Vec::new(rt.alloc()),
-            fails_at,
-            calls: 0,
-        };
-        assert!(rt; encode(&program, &mut writer).is_err(), "call {fails_at}");
-        assert_eq!(rt; writer.calls, fails_at);
-        assert_eq!(rt; writer.taken.len(), count);
+        let told = shaken(rt.alloc(), &program, fails_at);
+        assert_same(&rt, &fails_at, &told, &(true, fails_at, count));
     }
     Ok(())
 }
@@ -193,27 +195,37 @@ fn smallest(alloc: Global) -> Result<Program, Fail> {
     Ok(Program::new(alloc, list, Order::Little)?)
 }
 
-#[test]
-fn writers_fail_in_mid_stream(rt: HostRuntime) -> Result<(), Fail> {
-    let program = smallest(rt.alloc())?;
-    let mut image = Vec::new(rt.alloc());
-    encode(&program, &mut image)?;
+/// Whether encoding failed for a writer that has so many writes, and whether that took a beginning of the image.
+fn narrowed(alloc: Global, program: &Program, image: &[u8], writes_left: u32) -> (bool, bool) {
+    let mut narrow = Narrow {
+        taken: Vec::new(alloc),
+        writes_left,
+    };
+    let failed = encode(program, &mut narrow).is_err();
+    (failed, image.starts_with(&narrow.taken))
+}
+
+fn assert_writes(
+    rt: &(impl Abort + Alloc<A = Global>),
+    program: &Program,
+    image: &[u8],
+) -> Result<(), Fail> {
     for writes in 0..6 {
-        let mut narrow = Narrow {
-            taken: Vec::new(rt.alloc()),
-            writes_left: writes,
-        };
-        assert!(rt; encode(&program, &mut narrow).is_err(), "{writes} writes");
-        assert!(rt;
-            image.as_slice().starts_with(narrow.taken.as_slice()),
-            "{writes} writes"
-        );
+        let told = narrowed(rt.alloc(), program, image, writes);
+        assert_same(rt, &writes, &told, &(true, true));
     }
     let mut enough = Narrow {
         taken: Vec::new(rt.alloc()),
         writes_left: 6,
     };
-    encode(&program, &mut enough)?;
-    assert_eq!(rt; enough.taken.as_slice(), image.as_slice());
+    encode(program, &mut enough)?;
+    assert_same(rt, &"enough", &enough.taken.as_slice(), &image);
     Ok(())
+}
+
+#[test]
+fn writers_fail_in_mid_stream(rt: HostRuntime) -> Result<(), Fail> {
+    let program = smallest(rt.alloc())?;
+    let image = encoded(rt.alloc(), &program)?;
+    assert_writes(&rt, &program, &image)
 }

@@ -1,8 +1,10 @@
 //! A machine behind its end, and runs with all the fuel that there is.
 
-use crate::machine::programs::{assert_run, done, set};
-use bpf_insn::{Insn, Order, Program, ProgramView, Reg, Size, encode};
-use bpf_machine::{Machine, Outcome, Step};
+use crate::machine::programs::{
+    assert_run, assert_steps, assert_view_steps, done, program_of, set,
+};
+use bpf_insn::{Insn, Reg, Size};
+use bpf_machine::{Outcome, Step};
 use bpf_semantics::Reason;
 use std::test::Fail;
 
@@ -23,35 +25,25 @@ fn fuel_is_looked_at_before_the_instruction(rt: HostRuntime) -> Result<(), Fail>
         (2, done(0, 2)),
         (u64::MAX, done(0, 2)),
     ] {
-        assert_run(&rt, &ends, &[], fuel, wanted)?;
+        assert_run(&rt, &ends, fuel, wanted)?;
     }
     Ok(())
 }
 
 #[test]
 fn a_machine_stays_after_its_end(rt: HostRuntime) -> Result<(), Fail> {
-    let insns = [set(Reg::R0, 3), Insn::Exit].to_vec(rt.alloc())?;
-    let program = Program::new(rt.alloc(), insns, Order::Little)?;
-    let mut image = Vec::new(rt.alloc());
-    encode(&program, &mut image)?;
-    let view = ProgramView::of(&image, Order::Little)?;
-    let mut machine = Machine::start(&program, &[]);
-    let mut other = Machine::start(&view, &[]);
-    for wanted in [Step::Moved, Step::Done(3), Step::Done(3)] {
-        assert_eq!(rt; machine.step(), wanted);
-        assert_eq!(rt; other.step(), wanted);
-    }
-    Ok(())
+    let insns = [set(Reg::R0, 3), Insn::Exit];
+    let wanted = [Step::Moved, Step::Done(3), Step::Done(3)];
+    let program = program_of(rt.alloc(), &insns)?;
+    assert_steps(&rt, &program, &wanted);
+    assert_view_steps(&rt, &insns, &wanted)
 }
 
 #[test]
 fn a_machine_stays_after_a_fault(rt: HostRuntime) -> Result<(), Fail> {
-    let insns = [set(Reg::R0, 3), STORE].to_vec(rt.alloc())?;
-    let program = Program::new(rt.alloc(), insns, Order::Little)?;
-    let mut machine = Machine::start(&program, &[]);
+    let insns = [set(Reg::R0, 3), STORE];
     let stuck = Step::Fault(Reason::OperandKind);
-    for wanted in [Step::Moved, stuck, stuck] {
-        assert_eq!(rt; machine.step(), wanted);
-    }
+    let program = program_of(rt.alloc(), &insns)?;
+    assert_steps(&rt, &program, &[Step::Moved, stuck, stuck]);
     Ok(())
 }

@@ -3,6 +3,7 @@
 mod operations;
 mod refinements;
 
+use crate::same::assert_same;
 use bpf_insn::AluOp::{Add, Mov};
 use bpf_insn::Width::*;
 use bpf_insn::{EndBits, EndKind, Order, SignBits, Width};
@@ -96,7 +97,7 @@ static NEGATIONS: [(Width, Given, Parts); 4] = [
 fn negations(rt: HostRuntime) {
     for (width, given, want) in &NEGATIONS {
         let result = number(&rt, *given).neg(*width);
-        assert_eq!(rt; result.map(parts), Some(*want), "{width:?} {want:?}");
+        assert_same(&rt, width, &result.map(parts), &Some(*want));
     }
 }
 
@@ -170,11 +171,7 @@ static SIGN_EXTENSIONS: [(SignBits, Width, Given, Parts); 7] = [
 fn sign_extensions(rt: HostRuntime) {
     for (from, width, given, want) in &SIGN_EXTENSIONS {
         let result = number(&rt, *given).sign_extend(*from, *width);
-        assert_eq!(rt;
-            result.map(parts),
-            Some(*want),
-            "{from:?} {width:?} {want:?}"
-        );
+        assert_same(&rt, &(*from, *width), &result.map(parts), &Some(*want));
     }
 }
 
@@ -262,40 +259,44 @@ static BYTE_SWAPS: [(Order, EndKind, EndBits, Given, Parts); 8] = [
 fn byte_swaps(rt: HostRuntime) {
     for (order, kind, size, given, want) in &BYTE_SWAPS {
         let result = number(&rt, *given).swap(*order, *kind, *size);
-        assert_eq!(rt;
-            result.map(parts),
-            Some(*want),
-            "{order:?} {kind:?} {size:?} {want:?}"
+        assert_same(
+            &rt,
+            &(*order, *kind, *size),
+            &result.map(parts),
+            &Some(*want),
         );
     }
+}
+
+fn none_by_bits(mask: u64, lo: u64, hi: u64) -> Num {
+    Num::of(
+        KnownBits::new(0, mask),
+        Unsigned::new(lo, hi),
+        Signed::top(),
+    )
+}
+
+fn none_by_sign(lo: u64, hi: u64) -> Num {
+    Num::of(KnownBits::top(), Unsigned::new(lo, hi), Signed::new(1, 2))
 }
 
 // Each step of tightening but the last finds a contradiction that the steps before it don't.
 #[test]
 fn contradictions(rt: HostRuntime) {
-    let all = KnownBits::top();
-    let any = Signed::top();
-    let small = Signed::new(1, 2);
-    let wide = Unsigned::new(1 << 62, 1 << 63);
-    let outside = Num::of(KnownBits::new(0, 7), Unsigned::new(8, 9), any);
     for (step, num) in [
-        ("unsigned from bits", outside),
-        (
-            "signed from unsigned",
-            Num::of(all, Unsigned::new(8, 9), small),
-        ),
-        ("unsigned from signed", Num::of(all, wide, small)),
-        (
-            "bits from unsigned",
-            Num::of(KnownBits::new(0, TOP - 2), Unsigned::new(6, 7), any),
-        ),
-        (
-            "unsigned from bits again",
-            Num::of(KnownBits::new(0, TOP - 3), Unsigned::new(5, 6), any),
-        ),
+        ("unsigned from bits", none_by_bits(7, 8, 9)),
+        ("signed from unsigned", none_by_sign(8, 9)),
+        ("unsigned from signed", none_by_sign(1 << 62, 1 << 63)),
+        ("bits from unsigned", none_by_bits(TOP - 2, 6, 7)),
+        ("unsigned from bits again", none_by_bits(TOP - 3, 5, 6)),
     ] {
-        assert!(rt; num.tighten().is_none(), "{step}");
+        assert_same(&rt, &step, &num.tighten(), &None);
     }
+}
+
+#[test]
+fn moves_look_at_one_operand(rt: HostRuntime) {
+    let outside = none_by_bits(7, 8, 9);
     assert!(rt; Num::top().alu(Mov, W32, outside).is_none());
     assert!(rt; outside.alu(Mov, W32, Num::constant(3)).is_some());
 }
@@ -303,9 +304,8 @@ fn contradictions(rt: HostRuntime) {
 #[test]
 fn known_bits(rt: HostRuntime) {
     let sum = KnownBits::new(0, 1).alu(Add, KnownBits::new(1, 0));
-    assert_eq!(rt; (sum.value(), sum.mask()), (0, 3));
-    assert!(rt; sum.contains(2));
-    assert!(rt; !sum.contains(4));
+    assert_same(&rt, &"sum", &(sum.value(), sum.mask()), &(0, 3));
+    assert!(rt; sum.contains(2) && !sum.contains(4));
     assert!(rt; !Unsigned::constant(5).contains(4));
     assert!(rt; Signed::constant(TOP).contains(TOP));
 }
@@ -315,11 +315,8 @@ fn joins_and_entailment(rt: HostRuntime) {
     let low = number(&rt, Between(4, 6));
     let high = number(&rt, Between(5, 9));
     let both = low.join(high);
-    assert_eq!(rt; parts(both), (0, 15, 4, 9, 4, 9));
-    assert!(rt; low.entails(both));
-    assert!(rt; high.entails(both));
-    assert!(rt; !both.entails(low));
+    assert_same(&rt, &"join", &parts(both), &(0, 15, 4, 9, 4, 9));
+    assert!(rt; low.entails(both) && high.entails(both) && !both.entails(low));
     assert!(rt; !number(&rt, Bits(4, 2)).entails(Num::constant(4)));
-    assert!(rt; Num::constant(7).is_constant());
-    assert!(rt; !low.is_constant());
+    assert!(rt; Num::constant(7).is_constant() && !low.is_constant());
 }

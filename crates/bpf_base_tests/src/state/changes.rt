@@ -1,7 +1,8 @@
 //! Worked states. The expected values are those of the rules for each instruction, by hand.
 
-ghost use Rattle.bpf_state.specs.State.{IsPlace, IsRegister};
+ghost use Rattle.bpf_state.specs.State.{IsPlace, IsSlot};
 
+use crate::same::assert_same;
 use bpf_insn::AluOp::*;
 use bpf_insn::Reg::*;
 use bpf_insn::Size::*;
@@ -63,12 +64,10 @@ fn mask_of(held: SlotState) -> u16 {
     }
 }
 
-fn between(rt: &impl Abort, lo: u64, hi: u64) -> RegState
-    ensures { IsRegister result }
-{
+fn between(rt: &impl Abort, lo: u64, hi: u64) -> Num {
     assert!(rt; lo <= hi);
     let bounds = Num::of(KnownBits::top(), Unsigned::new(lo, hi), Signed::top());
-    RegState::Num(bounds.tighten().expect(rt, "it has a member"))
+    bounds.tighten().expect(rt, "it has a member")
 }
 
 // ---- instructions
@@ -158,14 +157,18 @@ fn answer(state: &mut State, insn: Insn) -> u8 {
     }
 }
 
+fn answers(rt: &impl Abort, state: &mut State, insn: Insn, want: u8) {
+    assert_same(rt, &insn, &answer(state, insn), &want);
+}
+
 fn done(rt: &impl Abort, state: &mut State, insn: Insn) {
-    assert_eq!(rt; answer(state, insn), 1);
+    answers(rt, state, insn, 1);
 }
 
 // r1 points to the context, and r6 is a number from lo to 10 with counter 0.
 fn counting(rt: &impl Abort, lo: u64) -> State {
     let mut state = State::start(8, 8);
-    state.set_reg(R6, between(rt, lo, 10));
+    state.set_reg(R6, RegState::Num(between(rt, lo, 10)));
     state.set_tag(Place::Register(R6), Some(Tag { term: 0, offset: 0 }));
     state
 }
@@ -185,7 +188,11 @@ fn the_start(rt: HostRuntime) {
     assert!(rt; context_of(state.reg(R1)) == Some((0, 0)));
     assert!(rt; is_number(state.reg(R2), Num::constant(8)));
     assert!(rt; number_of(state.reg(R0)) == NOTHING);
-    assert_eq!(rt; mask_of(state.slot(64)), 0);
+    assert_same(&rt, &"slot 64", &mask_of(state.slot(64)), &0);
+}
+
+#[test]
+fn starts_with_one_length(rt: HostRuntime) {
     for length in [0, 1, 4095, 4096] {
         let state = State::start(length, length);
         assert!(rt; is_number(state.reg(R2), Num::constant(length as u64)));
@@ -228,19 +235,16 @@ fn counters_go_along(rt: HostRuntime) {
 }
 
 #[test]
-fn counters_that_may_wrap_or_go_far_are_lost(rt: HostRuntime) {
+fn counters_that_may_wrap_are_lost(rt: HostRuntime) {
     let mut state = counting(&rt, 0);
     done(&rt, &mut state, add(R6, -1));
     assert!(rt; tag_offset(&state, Place::Register(R6)) == None);
+}
+
+#[test]
+fn counters_that_go_far_are_lost(rt: HostRuntime) {
     let mut state = counting(&rt, 1);
-    done(
-        &rt,
-        &mut state,
-        Insn::LoadImm64 {
-            dst: R3,
-            value: 1 << 40,
-        },
-    );
+    done(&rt, &mut state, set_long(R3, 1 << 40));
     let far = alu(Add, R6, Operand::Reg(R3));
     done(&rt, &mut state, far);
     assert!(rt; tag_offset(&state, Place::Register(R6)) == Some(1 << 40));
@@ -252,15 +256,15 @@ fn counters_that_may_wrap_or_go_far_are_lost(rt: HostRuntime) {
 fn pointers_are_spilled_whole(rt: HostRuntime) {
     let mut state = State::start(8, 8);
     done(&rt, &mut state, store(DW, R10, -8, R1));
-    assert_eq!(rt; mask_of(state.slot(1)), 256);
+    assert_same(&rt, &"slot 1", &mask_of(state.slot(1)), &256);
     done(&rt, &mut state, load(DW, R3, R10, -8));
     assert!(rt; context_of(state.reg(R3)) == Some((0, 0)));
-    assert_eq!(rt; answer(&mut state, load(W, R0, R10, -8)), 4);
-    assert_eq!(rt; answer(&mut state, store(W, R10, -8, R1)), 4);
-    assert_eq!(rt; answer(&mut state, store(DW, R10, -12, R1)), 4);
+    answers(&rt, &mut state, load(W, R0, R10, -8), 4);
+    answers(&rt, &mut state, store(W, R10, -8, R1), 4);
+    answers(&rt, &mut state, store(DW, R10, -12, R1), 4);
     done(&rt, &mut state, store_imm(B, R10, -8));
-    assert_eq!(rt; mask_of(state.slot(1)), 1);
-    assert_eq!(rt; answer(&mut state, load(DW, R3, R10, -8)), 6);
+    assert_same(&rt, &"slot 1", &mask_of(state.slot(1)), &1);
+    answers(&rt, &mut state, load(DW, R3, R10, -8), 6);
     done(&rt, &mut state, load(B, R3, R10, -8));
     assert!(rt; number_of(state.reg(R3)) == (0, 255));
 }
@@ -269,16 +273,16 @@ fn pointers_are_spilled_whole(rt: HostRuntime) {
 fn bytes_gather_over_two_slots(rt: HostRuntime) {
     let mut state = State::start(8, 8);
     done(&rt, &mut state, store_imm(DW, R10, -12));
-    assert_eq!(rt; mask_of(state.slot(1)), 0x0f);
-    assert_eq!(rt; mask_of(state.slot(2)), 0xf0);
+    assert_same(&rt, &"slot 1", &mask_of(state.slot(1)), &0x0f);
+    assert_same(&rt, &"slot 2", &mask_of(state.slot(2)), &0xf0);
     done(&rt, &mut state, load(DW, R3, R10, -12));
-    assert_eq!(rt; answer(&mut state, load(H, R3, R10, -5)), 6);
+    answers(&rt, &mut state, load(H, R3, R10, -5), 6);
     done(&rt, &mut state, store_imm(W, R10, -4));
     assert!(rt; word_of(state.slot(1)) == (0, u64::MAX));
-    assert_eq!(rt; answer(&mut state, store_imm(B, R10, -513)), 5);
-    assert_eq!(rt; answer(&mut state, store_imm(B, R10, 0)), 5);
+    answers(&rt, &mut state, store_imm(B, R10, -513), 5);
+    answers(&rt, &mut state, store_imm(B, R10, 0), 5);
     done(&rt, &mut state, store_imm(B, R10, -512));
-    assert_eq!(rt; mask_of(state.slot(64)), 1);
+    assert_same(&rt, &"slot 64", &mask_of(state.slot(64)), &1);
 }
 
 // The pointer r3 to the frame's offset -16 or -8 or any between, slot 1 a number, slot 2 a pointer, slot 3 its upper four bytes.
@@ -294,34 +298,38 @@ fn at_several_offsets(rt: &impl Abort) -> State {
     state.set_slot(2, SlotState::Spilled(Pointer::start_of(Area::Context)));
     state.set_slot(3, SlotState::Bytes(240));
     state.set_tag(Place::Slot(1), Some(Tag { term: 1, offset: 5 }));
-    assert_eq!(rt; mask_of(state.slot(2)), 256);
+    assert_same(rt, &"slot 2", &mask_of(state.slot(2)), &256);
     state
 }
 
 #[test]
-fn stores_at_several_offsets(rt: HostRuntime) {
+fn a_byte_at_several_offsets(rt: HostRuntime) {
     let mut state = at_several_offsets(&rt);
     done(&rt, &mut state, store_imm(B, R3, 0));
     assert!(rt; word_of(state.slot(1)) == (0, u64::MAX));
-    assert_eq!(rt; mask_of(state.slot(2)), 0);
-    assert_eq!(rt; mask_of(state.slot(3)), 240);
+    assert_same(&rt, &"slot 2", &mask_of(state.slot(2)), &0);
+    assert_same(&rt, &"slot 3", &mask_of(state.slot(3)), &240);
     assert!(rt; tag_offset(&state, Place::Slot(1)) == None);
+}
+
+#[test]
+fn eight_bytes_at_several_offsets(rt: HostRuntime) {
     let mut state = at_several_offsets(&rt);
     done(&rt, &mut state, store_imm(DW, R3, -8));
     assert!(rt; word_of(state.slot(1)) == (7, 7));
-    assert_eq!(rt; mask_of(state.slot(2)), 0);
+    assert_same(&rt, &"slot 2", &mask_of(state.slot(2)), &0);
     assert!(rt; tag_offset(&state, Place::Slot(1)) == Some(5));
 }
 
 #[test]
 fn loads_at_several_offsets(rt: HostRuntime) {
     let mut state = at_several_offsets(&rt);
-    assert_eq!(rt; answer(&mut state, load(B, R0, R3, 0)), 4);
-    assert_eq!(rt; answer(&mut state, load(B, R0, R3, 1000)), 5);
+    answers(&rt, &mut state, load(B, R0, R3, 0), 4);
+    answers(&rt, &mut state, load(B, R0, R3, 1000), 5);
     done(&rt, &mut state, store(DW, R10, -16, R2));
     done(&rt, &mut state, load(DW, R0, R3, 0));
     assert!(rt; number_of(state.reg(R0)) == (0, u64::MAX));
-    assert_eq!(rt; answer(&mut state, load(DW, R0, R3, -8)), 6);
+    answers(&rt, &mut state, load(DW, R0, R3, -8), 6);
     done(&rt, &mut state, load(W, R0, R3, -4));
     assert!(rt; number_of(state.reg(R0)) == (0, 0xffff_ffff));
 }
@@ -330,13 +338,13 @@ fn loads_at_several_offsets(rt: HostRuntime) {
 fn the_context_is_read_only(rt: HostRuntime) {
     let mut state = State::start(8, 8);
     done(&rt, &mut state, load(W, R0, R1, 4));
-    assert_eq!(rt; answer(&mut state, load(W, R0, R1, 5)), 5);
-    assert_eq!(rt; answer(&mut state, load(W, R0, R1, -1)), 5);
-    assert_eq!(rt; answer(&mut state, store_imm(B, R1, 0)), 7);
-    assert_eq!(rt; answer(&mut state, load(W, R10, R1, 0)), 7);
-    assert_eq!(rt; answer(&mut state, add(R10, 8)), 7);
-    assert_eq!(rt; answer(&mut state, add(R5, 8)), 3);
-    assert_eq!(rt; answer(&mut state, load(B, R0, R2, 0)), 4);
+    answers(&rt, &mut state, load(W, R0, R1, 5), 5);
+    answers(&rt, &mut state, load(W, R0, R1, -1), 5);
+    answers(&rt, &mut state, store_imm(B, R1, 0), 7);
+    answers(&rt, &mut state, load(W, R10, R1, 0), 7);
+    answers(&rt, &mut state, add(R10, 8), 7);
+    answers(&rt, &mut state, add(R5, 8), 3);
+    answers(&rt, &mut state, load(B, R0, R2, 0), 4);
 }
 
 #[test]
@@ -353,73 +361,70 @@ fn atomics_change_words(rt: HostRuntime) {
     done(&rt, &mut state, store(DW, R10, -16, R2));
     done(&rt, &mut state, atomic(true, AtomicOp::Xchg, -16, R6));
     assert!(rt; number_of(state.reg(R6)) == (8, 8));
-    assert_eq!(rt;
-        answer(&mut state, atomic(true, AtomicOp::CmpXchg, -16, R6)),
-        3
-    );
-    state.set_reg(R0, between(&rt, 0, 3));
+    answers(&rt, &mut state, atomic(true, AtomicOp::CmpXchg, -16, R6), 3);
+    state.set_reg(R0, RegState::Num(between(&rt, 0, 3)));
     done(&rt, &mut state, atomic(true, AtomicOp::CmpXchg, -16, R6));
     assert!(rt; number_of(state.reg(R0)) == (0, u64::MAX));
-    assert_eq!(rt; answer(&mut state, atomic(true, ADDED, -24, R6)), 6);
-    assert_eq!(rt; answer(&mut state, atomic(true, ADDED, -8, R1)), 4);
+    answers(&rt, &mut state, atomic(true, ADDED, -24, R6), 6);
+    answers(&rt, &mut state, atomic(true, ADDED, -8, R1), 4);
 }
 
 #[test]
 fn pointers_stay_near(rt: HostRuntime) {
     let mut state = State::start(8, 8);
-    done(
-        &rt,
-        &mut state,
-        Insn::LoadImm64 {
-            dst: R3,
-            value: 0x8000_0000,
-        },
-    );
+    done(&rt, &mut state, set_long(R3, 0x8000_0000));
     done(&rt, &mut state, alu(Add, R1, Operand::Reg(R3)));
     assert!(rt; context_of(state.reg(R1)) == Some((0x8000_0000, 0x8000_0000)));
-    assert_eq!(rt; answer(&mut state, add(R1, 1)), 5);
-    assert_eq!(rt; answer(&mut state, alu(Mul, R1, Operand::Imm(2))), 4);
+    answers(&rt, &mut state, add(R1, 1), 5);
+    answers(&rt, &mut state, alu(Mul, R1, Operand::Imm(2)), 4);
     done(&rt, &mut state, mov(R4, R1));
     done(&rt, &mut state, add(R4, -8));
     done(&rt, &mut state, alu(Sub, R1, Operand::Reg(R4)));
     assert!(rt; number_of(state.reg(R1)) == (8, 8));
 }
 
+const LOADED: Insn = Insn::LoadSx {
+    size: H,
+    dst: R3,
+    src: R1,
+    off: 6,
+};
+
 #[test]
-fn single_numbers(rt: HostRuntime) {
+fn a_load_extends_the_sign(rt: HostRuntime) {
     let mut state = counting(&rt, 1);
-    let loaded = Insn::LoadSx {
-        size: H,
-        dst: R3,
-        src: R1,
-        off: 6,
-    };
-    done(&rt, &mut state, loaded);
+    done(&rt, &mut state, LOADED);
     match state.reg(R3) {
         RegState::Num(n) => {
-            assert_eq!(rt; n.signed().lo(), -32768);
-            assert_eq!(rt; n.signed().hi(), 32767);
+            let bounds = (n.signed().lo(), n.signed().hi());
+            assert_same(&rt, &"r3", &bounds, &(-32768, 32767));
         }
         RegState::Any | RegState::Ptr(_) => assert!(rt; false),
     }
-    done(
-        &rt,
-        &mut state,
-        Insn::Neg {
-            width: W64,
-            dst: R6,
-        },
-    );
+}
+
+const NEGATED: Insn = Insn::Neg {
+    width: W64,
+    dst: R6,
+};
+
+#[test]
+fn a_negation_loses_the_counter(rt: HostRuntime) {
+    let mut state = counting(&rt, 1);
+    done(&rt, &mut state, LOADED);
+    done(&rt, &mut state, NEGATED);
     assert!(rt; number_of(state.reg(R6)) == (u64::MAX - 9, u64::MAX));
     assert!(rt; tag_offset(&state, Place::Register(R6)) == None);
-    done(
-        &rt,
-        &mut state,
-        Insn::LoadImm64 {
-            dst: R7,
-            value: 0x80,
-        },
-    );
+}
+
+fn set_long(dst: Reg, value: u64) -> Insn {
+    Insn::LoadImm64 { dst, value }
+}
+
+#[test]
+fn single_numbers(rt: HostRuntime) {
+    let mut state = counting(&rt, 1);
+    done(&rt, &mut state, set_long(R7, 0x80));
     done(
         &rt,
         &mut state,
@@ -447,13 +452,13 @@ fn single_numbers(rt: HostRuntime) {
 fn tests_of_pointers(rt: HostRuntime) {
     let mut state = State::start(8, 8);
     done(&rt, &mut state, mov(R3, R1));
-    assert_eq!(rt; answer(&mut state, test(Cond::Ne, R1, R3)), 1);
-    assert_eq!(rt; answer(&mut state, test(Cond::Gt, R1, R3)), 4);
-    assert_eq!(rt; answer(&mut state, test(Cond::Eq, R1, R10)), 4);
-    assert_eq!(rt; answer(&mut state, test(Cond::Eq, R1, R4)), 3);
-    assert_eq!(rt; answer(&mut state, Insn::Exit), 3);
+    answers(&rt, &mut state, test(Cond::Ne, R1, R3), 1);
+    answers(&rt, &mut state, test(Cond::Gt, R1, R3), 4);
+    answers(&rt, &mut state, test(Cond::Eq, R1, R10), 4);
+    answers(&rt, &mut state, test(Cond::Eq, R1, R4), 3);
+    answers(&rt, &mut state, Insn::Exit, 3);
     done(&rt, &mut state, mov(R0, R1));
-    assert_eq!(rt; answer(&mut state, Insn::Exit), 4);
+    answers(&rt, &mut state, Insn::Exit, 4);
     done(&rt, &mut state, mov(R0, R2));
     done(&rt, &mut state, Insn::Exit);
 }
@@ -479,29 +484,41 @@ fn edges_of_a_jump(rt: HostRuntime) {
     assert!(rt; number_of(other.reg(R6)) == (1, 5));
 }
 
+const NEAR: Pointer = Pointer {
+    area: Area::Frame,
+    lo: -8,
+    hi: -8,
+};
+
+// A caller's state, with a pointer in r3 and two bytes of slot 1.
+fn calling(rt: &impl Abort) -> State {
+    let mut state = counting(rt, 1);
+    state.set_reg(R3, RegState::Ptr(NEAR));
+    state.set_slot(1, SlotState::Bytes(3));
+    state
+}
+
 #[test]
 fn calls(rt: HostRuntime) {
-    let mut state = counting(&rt, 1);
-    let pointer = Pointer {
-        area: Area::Frame,
-        lo: -8,
-        hi: -8,
-    };
-    state.set_reg(R3, RegState::Ptr(pointer));
-    state.set_slot(1, SlotState::Bytes(3));
-    let mut caller = state.copy();
+    let mut state = calling(&rt);
     enter(&mut state);
     assert!(rt; context_of(state.reg(R1)) == Some((0, 0)));
     assert!(rt; number_of(state.reg(R2)) == (8, 8));
     assert!(rt; matches!(state.reg(R3), RegState::Any));
     assert!(rt; number_of(state.reg(R6)) == NOTHING);
-    assert_eq!(rt; mask_of(state.slot(1)), 0);
+    assert_same(&rt, &"slot 1", &mask_of(state.slot(1)), &0);
+}
+
+#[test]
+fn returns(rt: HostRuntime) {
+    let mut caller = calling(&rt);
+    enter(&mut caller.copy());
     assert!(rt; leave(&mut caller, Num::constant(3)));
     assert!(rt; number_of(caller.reg(R0)) == (3, 3));
     assert!(rt; number_of(caller.reg(R2)) == NOTHING);
     assert!(rt; number_of(caller.reg(R6)) == (1, 10));
     assert!(rt; tag_offset(&caller, Place::Register(R6)) == Some(0));
-    assert_eq!(rt; mask_of(caller.slot(1)), 3);
+    assert_same(&rt, &"slot 1", &mask_of(caller.slot(1)), &3);
     let empty = Num::of(KnownBits::constant(1), Unsigned::constant(2), Signed::top());
     assert!(rt; !leave(&mut caller, empty));
 }
@@ -510,39 +527,49 @@ fn calls(rt: HostRuntime) {
 fn states_in_states(rt: HostRuntime) {
     let narrow = counting(&rt, 1);
     let wide = counting(&rt, 0);
-    assert!(rt; narrow.entails(&wide));
-    assert!(rt; !wide.entails(&narrow));
-    assert!(rt; narrow.entails(&State::blank()));
-    assert!(rt; !State::blank().entails(&narrow));
-    let mut spilled = State::blank();
-    let pointer = Pointer {
-        area: Area::Frame,
-        lo: -8,
-        hi: -8,
-    };
-    spilled.set_slot(9, SlotState::Spilled(pointer));
-    assert!(rt; spilled.entails(&State::blank()));
-    let mut byte = State::blank();
-    byte.set_slot(9, SlotState::Bytes(4));
-    assert!(rt; !spilled.entails(&byte));
-    let mut word = State::blank();
-    word.set_slot(9, SlotState::Word(Num::constant(4)));
+    assert!(rt; narrow.entails(&wide) && !wide.entails(&narrow));
+    let blank = State::blank();
+    assert!(rt; narrow.entails(&blank) && !blank.entails(&narrow));
+}
+
+// Of this state nothing is known but a slot.
+fn slot_9(held: SlotState) -> State
+    requires { IsSlot held }
+{
+    let mut state = State::blank();
+    state.set_slot(9, held);
+    state
+}
+
+#[test]
+fn slots_in_slots(rt: HostRuntime) {
+    let byte = slot_9(SlotState::Bytes(4));
+    let spilled = slot_9(SlotState::Spilled(NEAR));
+    assert!(rt; spilled.entails(&State::blank()) && !spilled.entails(&byte));
+    let word = slot_9(SlotState::Word(Num::constant(4)));
     assert!(rt; word.entails(&byte));
 }
 
 #[test]
 fn tightened_states(rt: HostRuntime) {
-    let mut state = State::blank();
     let bounds = Num::of(KnownBits::top(), Unsigned::new(4, 7), Signed::top());
+    let mut state = State::blank();
     state.set_slot(2, SlotState::Word(bounds));
     let tight = state.tightened().expect(&rt, "it has a member");
     match tight.slot(2) {
         SlotState::Word(n) => {
-            assert!(rt; n.signed().lo() == 4);
-            assert!(rt; n.bits().mask() == 3);
+            let found = (n.signed().lo(), n.bits().mask());
+            assert_same(&rt, &"slot 2", &found, &(4, 3));
         }
         SlotState::Bytes(_) | SlotState::Spilled(_) => assert!(rt; false),
     }
+}
+
+#[test]
+fn a_state_without_members(rt: HostRuntime) {
+    let mut state = State::blank();
+    let bounds = Num::of(KnownBits::top(), Unsigned::new(4, 7), Signed::top());
+    state.set_slot(2, SlotState::Word(bounds));
     let empty = Num::of(KnownBits::constant(1), Unsigned::constant(2), Signed::top());
     state.set_reg(R4, RegState::Num(empty));
     assert!(rt; state.tightened().is_none());

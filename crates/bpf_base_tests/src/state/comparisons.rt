@@ -1,11 +1,14 @@
 //! Byte masks that cover others, and counted work.
 
+use crate::same::assert_same;
 use bpf_insn::AluOp::Mov;
 use bpf_insn::Reg::*;
 use bpf_insn::Width::*;
 use bpf_insn::{Insn, Operand, Order};
 use bpf_num::{KnownBits, Num, Signed, Unsigned, WordDomain};
 use bpf_state::{Entries, RegState, State, Work, covers};
+use std::alloc::Global;
+use std::process::Abort;
 use std::rt::HostRuntime;
 use std::test::Fail;
 
@@ -46,9 +49,8 @@ struct Covering {
     covers: bool,
 }
 
-#[test]
-fn masks_cover_others(rt: HostRuntime) {
-    let rows = [
+fn coverings() -> [Covering; 9] {
+    [
         Covering {
             have: all(255),
             want: all(254),
@@ -94,49 +96,101 @@ fn masks_cover_others(rt: HostRuntime) {
             want: all(170),
             covers: false,
         },
-    ];
-    for row in rows {
-        assert_eq!(rt; covers(&row.have.list(), &row.want.list()), row.covers);
+    ]
+}
+
+#[test]
+fn masks_cover_others(rt: HostRuntime) {
+    for row in &coverings() {
+        let found = covers(&row.have.list(), &row.want.list());
+        assert_same(&rt, &(row.have.all, row.want.all), &found, &row.covers);
     }
+}
+
+#[test]
+fn masks_lack_one_bit_anywhere(rt: HostRuntime) {
     for place in 0..64 {
         let lacking = but(254, place, 126).list();
-        assert!(rt; covers(&all(254).list(), &lacking));
-        assert!(rt; !covers(&lacking, &all(254).list()));
+        let whole = all(254).list();
+        let found = (covers(&whole, &lacking), covers(&lacking, &whole));
+        assert_same(&rt, &place, &found, &(true, false));
     }
+}
+
+const MOVED: Insn = Insn::Alu {
+    op: Mov,
+    width: W32,
+    dst: R0,
+    src: Operand::Reg(R2),
+};
+
+// Whether the instruction is done, the edge is dead or it is a fault: Some(true), Some(false) or None; and the work by then.
+fn told_of_transfer(work: &mut Work, insn: &Insn, state: &mut State) -> (Option<bool>, u32, u32) {
+    let answer = work.transfer_counted(insn, 8, Order::Little, state).ok();
+    (answer, work.transfers(), work.comparisons())
+}
+
+fn assert_transfers_counted(rt: &impl Abort, work: &mut Work, state: &mut State) {
+    // r0 isn't set; this is a fault, and counted all the same.
+    let fault = told_of_transfer(work, &Insn::Exit, state);
+    assert_same(rt, &"fault", &fault, &(None, 1, 0));
+    let done = told_of_transfer(work, &MOVED, state);
+    assert_same(rt, &"done", &done, &(Some(true), 2, 0));
+    // No number is 4 or 5 and below 2.
+    let empty = Num::of(KnownBits::new(0, 1), Unsigned::new(4, 5), Signed::top());
+    let mut other = state.copy();
+    other.set_reg(R2, RegState::Num(empty));
+    let dead = told_of_transfer(work, &MOVED, &mut other);
+    assert_same(rt, &"dead", &dead, &(Some(false), 3, 0));
+}
+
+fn assert_entailments_counted(
+    rt: &(impl Abort + Alloc<A = Global>),
+    work: &mut Work,
+    state: &State,
+) -> Result<(), Fail> {
+    let entries = Entries::of(rt.alloc(), state)?;
+    assert!(rt; work.entails_counted(state, &Entries::blank(rt.alloc())));
+    assert_same(
+        rt,
+        &"blank",
+        &(work.transfers(), work.comparisons()),
+        &(3, 1),
+    );
+    assert!(rt; !work.entails_counted(&State::blank(), &entries));
+    assert_same(
+        rt,
+        &"start",
+        &(work.transfers(), work.comparisons()),
+        &(3, 2),
+    );
+    Ok(())
+}
+
+fn assert_returns_counted(rt: &impl Abort, work: &mut Work, state: &State) {
+    let eight = work.returns_counted(state, &Num::constant(8));
+    let seven = work.returns_counted(state, &Num::constant(7));
+    let blank = work.returns_counted(&State::blank(), &Num::top());
+    assert_same(
+        rt,
+        &"returns",
+        &(eight, seven, blank),
+        &(true, false, false),
+    );
+    assert_same(
+        rt,
+        &"returns",
+        &(work.transfers(), work.comparisons()),
+        &(3, 5),
+    );
 }
 
 #[test]
 fn work_is_counted(rt: HostRuntime) -> Result<(), Fail> {
     let mut work = Work::new();
     let mut state = State::start(8, 8);
-    // r0 isn't set; this is a fault, and counted all the same.
-    let fault = work.transfer_counted(&Insn::Exit, 8, Order::Little, &mut state);
-    assert!(rt; fault.is_err());
-    assert!(rt; (work.transfers(), work.comparisons()) == (1, 0));
-    let moved = Insn::Alu {
-        op: Mov,
-        width: W32,
-        dst: R0,
-        src: Operand::Reg(R2),
-    };
-    let done = work.transfer_counted(&moved, 8, Order::Little, &mut state);
-    assert!(rt; matches!(done, Ok(true)));
-    assert!(rt; (work.transfers(), work.comparisons()) == (2, 0));
-    // No number is 4 or 5 and below 2.
-    let empty = Num::of(KnownBits::new(0, 1), Unsigned::new(4, 5), Signed::top());
-    let mut other = state.copy();
-    other.set_reg(R2, RegState::Num(empty));
-    let dead = work.transfer_counted(&moved, 8, Order::Little, &mut other);
-    assert!(rt; matches!(dead, Ok(false)));
-    assert!(rt; (work.transfers(), work.comparisons()) == (3, 0));
-    let entries = Entries::of(rt.alloc(), &state)?;
-    assert!(rt; work.entails_counted(&state, &Entries::blank(rt.alloc())));
-    assert!(rt; (work.transfers(), work.comparisons()) == (3, 1));
-    assert!(rt; !work.entails_counted(&State::blank(), &entries));
-    assert!(rt; (work.transfers(), work.comparisons()) == (3, 2));
-    assert!(rt; work.returns_counted(&state, &Num::constant(8)));
-    assert!(rt; !work.returns_counted(&state, &Num::constant(7)));
-    assert!(rt; !work.returns_counted(&State::blank(), &Num::top()));
-    assert!(rt; (work.transfers(), work.comparisons()) == (3, 5));
+    assert_transfers_counted(&rt, &mut work, &mut state);
+    assert_entailments_counted(&rt, &mut work, &state)?;
+    assert_returns_counted(&rt, &mut work, &state);
     Ok(())
 }

@@ -1,9 +1,11 @@
 //! Byte swaps of a known number in both orders.
 
+use crate::same::assert_same;
 use bpf_insn::Reg::*;
 use bpf_insn::{EndBits, EndKind, Insn, Order};
 use bpf_num::Num;
 use bpf_state::{RegState, State, transfer};
+use std::process::Abort;
 use std::rt::HostRuntime;
 
 const NUMBER: u64 = 0x1122_3344_5566_7788;
@@ -73,27 +75,37 @@ static LOWS: [Low; 3] = [
     },
 ];
 
+// What the low bits of the number are swapped to.
+fn swapped(order: Order, kind: EndKind, bits: EndBits) -> Option<Num> {
+    let mut state = State::start(0, 0);
+    state.set_reg(R3, RegState::Num(Num::constant(NUMBER)));
+    let swap = Insn::End {
+        kind,
+        bits,
+        dst: R3,
+    };
+    match (transfer(&swap, 0, order, &mut state), state.reg(R3)) {
+        (Ok(true), RegState::Num(n)) => Some(n),
+        _ => None,
+    }
+}
+
+fn assert_swaps(rt: &impl Abort, rule: &Rule) {
+    for low in &LOWS {
+        let wanted = if rule.reverses {
+            low.reversed
+        } else {
+            low.kept
+        };
+        let found = swapped(rule.order, rule.kind, low.bits);
+        let what = (rule.order, rule.kind, low.bits);
+        assert_same(rt, &what, &found, &Some(Num::constant(wanted)));
+    }
+}
+
 #[test]
 fn bytes_are_swapped_by_the_order(rt: HostRuntime) {
     for rule in &RULES {
-        for low in &LOWS {
-            let mut state = State::start(0, 0);
-            state.set_reg(R3, RegState::Num(Num::constant(NUMBER)));
-            let swap = Insn::End {
-                kind: rule.kind,
-                bits: low.bits,
-                dst: R3,
-            };
-            assert!(rt; matches!(transfer(&swap, 0, rule.order, &mut state), Ok(true)));
-            let expected = if rule.reverses {
-                low.reversed
-            } else {
-                low.kept
-            };
-            match state.reg(R3) {
-                RegState::Num(n) => assert!(rt; n == Num::constant(expected)),
-                RegState::Any | RegState::Ptr(_) => assert!(rt; false),
-            }
-        }
+        assert_swaps(&rt, rule);
     }
 }

@@ -1,10 +1,12 @@
 //! Texts and what they are, worked out by hand: labels, limits, writers that fail, and want of memory. Forms, and texts that are
 //! refused, are in `tests/rows`.
 
-use bpf_insn::{BuildError, Order, encode};
+use crate::same::{assert_same, encoded};
+use bpf_insn::{BuildError, Order, Program};
 use bpf_text::{TextError, assemble, list};
-use std::alloc::Global;
+use std::alloc::{AllocError, Global};
 use std::io::{self, ErrorKind, Write};
+use std::process::Abort;
 use std::test::Fail;
 
 fn listed(alloc: Global, text: &str, order: Order) -> Result<Vec<u8>, Fail> {
@@ -14,20 +16,33 @@ fn listed(alloc: Global, text: &str, order: Order) -> Result<Vec<u8>, Fail> {
     Ok(out)
 }
 
+/// Why the text is refused, if it is.
+fn error_of(alloc: Global, text: &str) -> Option<TextError> {
+    assemble(alloc, text, Order::Little).err()
+}
+
+/// Texts with labels, and their listings.
+static LABELS: [(&str, &str); 3] = [
+    (
+        "r6 = 10\nL: r6 += -1\nif r6 != 0 goto L\nr0 = 0\nexit",
+        "r6 = 10\nr6 += -1\nif r6 != 0 goto -2\nr0 = 0\nexit\n",
+    ),
+    (
+        "r1 = 5\ncall f\nr0 += 1\nexit\nf: r0 = r1\nr0 *= 2\nexit",
+        "r1 = 5\ncall +2\nr0 += 1\nexit\nr0 = r1\nr0 *= 2\nexit\n",
+    ),
+    (
+        "gotol x ; over three slots\nr1 = 1 ll\n\ny: ;alone\nr2 = 2\nx: z: exit\ngoto y\n",
+        "gotol +3\nr1 = 0x1 ll\nr2 = 2\nexit\ngoto -3\n",
+    ),
+];
+
 #[test]
 fn labels_are_slots(rt: HostRuntime) -> Result<(), Fail> {
-    let countdown = "r6 = 10\nL: r6 += -1\nif r6 != 0 goto L\nr0 = 0\nexit";
-    let out = listed(rt.alloc(), countdown, Order::Little)?;
-    let listing = "r6 = 10\nr6 += -1\nif r6 != 0 goto -2\nr0 = 0\nexit\n";
-    assert_eq!(rt; out.as_slice(), listing.as_bytes());
-    let function = "r1 = 5\ncall f\nr0 += 1\nexit\nf: r0 = r1\nr0 *= 2\nexit";
-    let out = listed(rt.alloc(), function, Order::Little)?;
-    let listing = "r1 = 5\ncall +2\nr0 += 1\nexit\nr0 = r1\nr0 *= 2\nexit\n";
-    assert_eq!(rt; out.as_slice(), listing.as_bytes());
-    let wide = "gotol x ; over three slots\nr1 = 1 ll\n\ny: ;alone\nr2 = 2\nx: z: exit\ngoto y\n";
-    let out = listed(rt.alloc(), wide, Order::Little)?;
-    let listing = "gotol +3\nr1 = 0x1 ll\nr2 = 2\nexit\ngoto -3\n";
-    assert_eq!(rt; out.as_slice(), listing.as_bytes());
+    for (text, listing) in &LABELS {
+        let out = listed(rt.alloc(), text, Order::Little)?;
+        assert_same(&rt, text, &out.as_slice(), &listing.as_bytes());
+    }
     Ok(())
 }
 
@@ -42,32 +57,34 @@ fn targets_are_instructions(rt: HostRuntime) {
             line,
             error: BuildError::Target { slot },
         };
-        assert!(rt;
-            matches!(assemble(rt.alloc(), text, Order::Little), Err(found) if found == error),
-            "{text}"
-        );
+        assert_same(&rt, &text, &error_of(rt.alloc(), text), &Some(error));
     }
 }
 
-/// A first line, so many lines `r0 += r0`, and a last one.
-fn filled(alloc: Global, first: &str, lines: usize, last: &str) -> Result<String, Fail> {
-    let mut text = String::from_str(alloc, first)?;
+fn push_sums(text: &mut String, lines: usize) -> Result<(), AllocError> {
     for _ in 0..lines {
         text.push_str("r0 += r0\n")?;
     }
+    Ok(())
+}
+
+/// A first line, so many lines `r0 += r0`, and a last one.
+fn filled(alloc: Global, first: &str, lines: usize, last: &str) -> Result<String, AllocError> {
+    let mut text = String::from_str(alloc, first)?;
+    push_sums(&mut text, lines)?;
     text.push_str(last)?;
     Ok(text)
 }
 
 #[test]
 fn distances_end(rt: HostRuntime) -> Result<(), Fail> {
-    let text = filled(rt.alloc(), "goto x\n", 32_767, "x: exit")?;
-    assert!(rt; assemble(rt.alloc(), text.as_str(), Order::Little).is_ok());
-    let text = filled(rt.alloc(), "goto x\n", 32_768, "x: exit")?;
-    let error = TextError::TooFar { line: 1 };
-    assert!(rt;
-        matches!(assemble(rt.alloc(), text.as_str(), Order::Little), Err(found) if found == error)
-    );
+    for (lines, error) in [
+        (32_767, None),
+        (32_768, Some(TextError::TooFar { line: 1 })),
+    ] {
+        let text = filled(rt.alloc(), "goto x\n", lines, "x: exit")?;
+        assert_same(&rt, &lines, &error_of(rt.alloc(), text.as_str()), &error);
+    }
     Ok(())
 }
 
@@ -86,8 +103,11 @@ fn a_program_has_no_more_slots(rt: HostRuntime) -> Result<(), Fail> {
         line: 1,
         error: BuildError::Length,
     };
-    assert!(rt;
-        matches!(assemble(rt.alloc(), text.as_str(), Order::Little), Err(found) if found == error)
+    assert_same(
+        &rt,
+        &"65537",
+        &error_of(rt.alloc(), text.as_str()),
+        &Some(error),
     );
     Ok(())
 }
@@ -108,28 +128,42 @@ const IMAGES: &[(Order, [u8; 16])] = &[
 fn a_program_has_the_byte_order_asked_for(rt: HostRuntime) -> Result<(), Fail> {
     for &(order, bytes) in IMAGES {
         let program = assemble(rt.alloc(), "r1 = 5\nexit", order)?;
-        let mut image = Vec::new(rt.alloc());
-        encode(&program, &mut image)?;
-        assert_eq!(rt; image.as_slice(), bytes.as_slice());
+        let image = encoded(rt.alloc(), &program)?;
+        assert_same(&rt, &order, &image.as_slice(), &bytes.as_slice());
     }
     Ok(())
 }
 
+const NAME: &str = "A_3456789012345678901234567890123456789012345678901234567890123z";
+
 #[test]
 fn names_have_64_characters(rt: HostRuntime) -> Result<(), Fail> {
-    let name = "A_3456789012345678901234567890123456789012345678901234567890123z";
-    assert_eq!(rt; name.len(), 64);
-    let text = format!(in rt.alloc(); "goto {name}\n{name}: exit")?;
-    assert!(rt; assemble(rt.alloc(), text.as_str(), Order::Little).is_ok());
-    for text in [
-        format!(in rt.alloc(); "goto {name}0\nexit")?,
-        format!(in rt.alloc(); "{name}0: exit")?,
-    ] {
-        let error = TextError::Form { line: 1 };
-        assert!(rt;
-            matches!(assemble(rt.alloc(), text.as_str(), Order::Little), Err(found) if found == error)
-        );
-    }
+    assert_same(&rt, &NAME, &NAME.len(), &64);
+    let text = format!(in rt.alloc(); "goto {NAME}\n{NAME}: exit")?;
+    assert_same(&rt, &NAME, &error_of(rt.alloc(), text.as_str()), &None);
+    Ok(())
+}
+
+fn longer_target(alloc: Global) -> Result<String, AllocError> {
+    format!(in alloc; "goto {NAME}0\nexit")
+}
+
+fn longer_label(alloc: Global) -> Result<String, AllocError> {
+    format!(in alloc; "{NAME}0: exit")
+}
+
+#[test]
+fn names_have_no_more_characters(rt: HostRuntime) -> Result<(), Fail> {
+    let want = Some(TextError::Form { line: 1 });
+    let target = longer_target(rt.alloc())?;
+    assert_same(
+        &rt,
+        &"target",
+        &error_of(rt.alloc(), target.as_str()),
+        &want,
+    );
+    let label = longer_label(rt.alloc())?;
+    assert_same(&rt, &"label", &error_of(rt.alloc(), label.as_str()), &want);
     Ok(())
 }
 
@@ -163,63 +197,84 @@ impl Write for FailsOnce {
     }
 }
 
+const LISTING: &str = "r10 = 0x10 ll\nif w1 s<= -15 goto -3\nexit\n";
+
+/// Whether the listing failed, how many bytes went out before, and whether they begin the listing.
+fn told_of_a_fault(
+    alloc: Global,
+    program: &Program,
+    room: usize,
+    takes_nothing: bool,
+) -> (bool, usize, bool) {
+    let mut out = FailsOnce {
+        taken: Vec::new(alloc),
+        room,
+        failed: false,
+        takes_nothing,
+    };
+    let failed = list(program, &mut out).is_err();
+    let begins = LISTING.as_bytes().starts_with(&out.taken);
+    (failed, out.taken.len(), begins)
+}
+
+fn assert_begins(rt: &(impl Abort + Alloc<A = Global>), program: &Program, takes_nothing: bool) {
+    for room in 0..LISTING.len() {
+        let told = told_of_a_fault(rt.alloc(), program, room, takes_nothing);
+        assert_same(rt, &takes_nothing, &told, &(true, room, true));
+    }
+}
+
 /// Nothing is tried again: what went out is what the writer took before its fault, though it would take more.
 #[test]
 fn a_fault_leaves_a_beginning(rt: HostRuntime) -> Result<(), Fail> {
-    let listing = "r10 = 0x10 ll\nif w1 s<= -15 goto -3\nexit\n";
-    let program = assemble(rt.alloc(), listing, Order::Little)?;
-    for takes_nothing in [false, true] {
-        for room in 0..listing.len() {
-            let mut out = FailsOnce {
-                taken: Vec::new(rt.alloc()),
-                room,
-                failed: false,
-                takes_nothing,
-            };
-            assert!(rt; list(&program, &mut out).is_err());
-            assert_eq!(rt; out.taken.len(), room);
-            assert!(rt; listing.as_bytes().starts_with(out.taken.as_slice()));
-        }
-    }
+    let program = assemble(rt.alloc(), LISTING, Order::Little)?;
+    assert_begins(&rt, &program, false);
+    assert_begins(&rt, &program, true);
     Ok(())
+}
+
+/// Texts, and how many slots they have or why they have none.
+static ANSWERS: [(&str, Result<u32, TextError>); 5] = [
+    (
+        "a: b: r6 = 10\nL: r6 += -1 ; down\nif r6 != 0 goto L\ncall a\nr1 = 5 ll\ngoto b\nexit",
+        Ok(8),
+    ),
+    (
+        "x: exit\ny: exit\nx: exit",
+        Err(TextError::DefinedAgain { line: 3 }),
+    ),
+    (
+        "x: exit\ny: exit\nr11 = 0",
+        Err(TextError::Form { line: 3 }),
+    ),
+    (
+        "x: exit\ny: exit\ngoto z",
+        Err(TextError::Undefined { line: 3 }),
+    ),
+    (
+        "x: exit\ngoto +5",
+        Err(TextError::Program {
+            line: 2,
+            error: BuildError::Target { slot: 1 },
+        }),
+    ),
+];
+
+fn answer_to(alloc: Global, text: &str) -> Result<u32, TextError> {
+    let program = assemble(alloc, text, Order::Little)?;
+    Ok(program.slots())
 }
 
 /// Memory may be refused at any allocation (`rt try --test --fail-alloc N`): then it is A7, and no other answer.
 #[test]
 fn want_of_memory_is_a7(rt: HostRuntime) {
-    let rows: [(&str, Result<u32, TextError>); 5] = [
-        (
-            "a: b: r6 = 10\nL: r6 += -1 ; down\nif r6 != 0 goto L\ncall a\nr1 = 5 ll\ngoto b\nexit",
-            Ok(8),
-        ),
-        (
-            "x: exit\ny: exit\nx: exit",
-            Err(TextError::DefinedAgain { line: 3 }),
-        ),
-        (
-            "x: exit\ny: exit\nr11 = 0",
-            Err(TextError::Form { line: 3 }),
-        ),
-        (
-            "x: exit\ny: exit\ngoto z",
-            Err(TextError::Undefined { line: 3 }),
-        ),
-        (
-            "x: exit\ngoto +5",
-            Err(TextError::Program {
-                line: 2,
-                error: BuildError::Target { slot: 1 },
-            }),
-        ),
-    ];
-    for (text, wanted) in rows {
-        match assemble(rt.alloc(), text, Order::Little) {
-            Ok(program) => assert_eq!(rt; Ok(program.slots()), wanted, "{text}"),
-            Err(TextError::Memory) => assert_eq!(rt;
-                (TextError::Memory.number(), TextError::Memory.line()),
-                (7, 0)
-            ),
-            Err(error) => assert_eq!(rt; Err(error), wanted, "{text}"),
+    for (text, want) in &ANSWERS {
+        let answer = answer_to(rt.alloc(), text);
+        if answer == Err(TextError::Memory) {
+            let told = (TextError::Memory.number(), TextError::Memory.line());
+            assert_same(&rt, text, &told, &(7, 0));
+        } else {
+            assert_same(&rt, text, &answer, want);
         }
     }
 }

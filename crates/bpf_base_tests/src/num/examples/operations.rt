@@ -2,6 +2,7 @@
 
 use super::Given::*;
 use super::{Given, HALF, LEAST, MOST, Parts, TOP, number, parts};
+use crate::same::assert_same;
 use bpf_insn::AluOp::*;
 use bpf_insn::Width::*;
 use bpf_insn::{AluOp, Width};
@@ -390,6 +391,6 @@ static OPERATIONS: [(AluOp, Width, Given, Given, Parts); 65] = [
 fn operations(rt: HostRuntime) {
     for (op, width, left, right, want) in &OPERATIONS {
         let result = number(&rt, *left).alu(*op, *width, number(&rt, *right));
-        assert_eq!(rt; result.map(parts), Some(*want), "{op:?} {width:?} {want:?}");
+        assert_same(&rt, &(*op, *width), &result.map(parts), &Some(*want));
     }
 }

@@ -2,6 +2,7 @@
 
 use super::Given::*;
 use super::{Given, HALF, LEAST, MOST, Parts, TOP, number, parts};
+use crate::same::assert_same;
 use bpf_insn::Cond::*;
 use bpf_insn::Width::*;
 use bpf_insn::{Cond, Width};
@@ -327,6 +328,6 @@ fn refinements(rt: HostRuntime) {
             number(&rt, *right),
         );
         let result = result.map(|(a, b)| (parts(a), parts(b)));
-        assert_eq!(rt; result, *want, "{cond:?} {width:?} {taken}");
+        assert_same(&rt, &(*cond, *width, *taken), &result, want);
     }
 }
