@@ -268,27 +268,32 @@ fn byte_swaps(rt: HostRuntime) {
     }
 }
 
-fn none_by_bits(mask: u64, lo: u64, hi: u64) -> Num {
-    Num::of(
-        KnownBits::new(0, mask),
-        Unsigned::new(lo, hi),
-        Signed::top(),
-    )
+fn none_by_bits(mask: u64, unsigned: Unsigned) -> Num {
+    Num::of(KnownBits::new(0, mask), unsigned, Signed::top())
 }
 
-fn none_by_sign(lo: u64, hi: u64) -> Num {
-    Num::of(KnownBits::top(), Unsigned::new(lo, hi), Signed::new(1, 2))
+fn none_by_sign(unsigned: Unsigned) -> Num {
+    Num::of(KnownBits::top(), unsigned, Signed::new(1, 2))
 }
 
 // Each step of tightening but the last finds a contradiction that the steps before it don't.
 #[test]
 fn contradictions(rt: HostRuntime) {
     for (step, num) in [
-        ("unsigned from bits", none_by_bits(7, 8, 9)),
-        ("signed from unsigned", none_by_sign(8, 9)),
-        ("unsigned from signed", none_by_sign(1 << 62, 1 << 63)),
-        ("bits from unsigned", none_by_bits(TOP - 2, 6, 7)),
-        ("unsigned from bits again", none_by_bits(TOP - 3, 5, 6)),
+        ("unsigned from bits", none_by_bits(7, Unsigned::new(8, 9))),
+        ("signed from unsigned", none_by_sign(Unsigned::new(8, 9))),
+        (
+            "unsigned from signed",
+            none_by_sign(Unsigned::new(1 << 62, 1 << 63)),
+        ),
+        (
+            "bits from unsigned",
+            none_by_bits(TOP - 2, Unsigned::new(6, 7)),
+        ),
+        (
+            "unsigned from bits again",
+            none_by_bits(TOP - 3, Unsigned::new(5, 6)),
+        ),
     ] {
         assert_same(&rt, &step, &num.tighten(), &None);
     }
@@ -296,7 +301,7 @@ fn contradictions(rt: HostRuntime) {
 
 #[test]
 fn moves_look_at_one_operand(rt: HostRuntime) {
-    let outside = none_by_bits(7, 8, 9);
+    let outside = none_by_bits(7, Unsigned::new(8, 9));
     assert!(rt; Num::top().alu(Mov, W32, outside).is_none());
     assert!(rt; outside.alu(Mov, W32, Num::constant(3)).is_some());
 }
