@@ -42,68 +42,26 @@ fn but(mask: u8, place: usize, other: u8) -> Masks {
     }
 }
 
-#[derive(Clone, Copy)]
-struct Covering {
-    have: Masks,
-    want: Masks,
-    covers: bool,
-}
-
-fn coverings() -> [Covering; 9] {
+// Masks that are there and masks that are wanted, and whether those cover these.
+fn coverings() -> [(Masks, Masks, bool); 9] {
     [
-        Covering {
-            have: all(255),
-            want: all(254),
-            covers: true,
-        },
-        Covering {
-            have: all(0),
-            want: all(0),
-            covers: true,
-        },
-        Covering {
-            have: all(254),
-            want: but(254, 63, 255),
-            covers: false,
-        },
-        Covering {
-            have: all(254),
-            want: but(254, 0, 255),
-            covers: false,
-        },
-        Covering {
-            have: but(255, 31, 239),
-            want: all(16),
-            covers: false,
-        },
-        Covering {
-            have: but(255, 31, 239),
-            want: all(239),
-            covers: true,
-        },
-        Covering {
-            have: but(0, 8, 255),
-            want: but(0, 8, 170),
-            covers: true,
-        },
-        Covering {
-            have: but(0, 8, 255),
-            want: but(0, 9, 1),
-            covers: false,
-        },
-        Covering {
-            have: all(85),
-            want: all(170),
-            covers: false,
-        },
+        (all(255), all(254), true),
+        (all(0), all(0), true),
+        (all(254), but(254, 63, 255), false),
+        (all(254), but(254, 0, 255), false),
+        (but(255, 31, 239), all(16), false),
+        (but(255, 31, 239), all(239), true),
+        (but(0, 8, 255), but(0, 8, 170), true),
+        (but(0, 8, 255), but(0, 9, 1), false),
+        (all(85), all(170), false),
     ]
 }
 
 #[test]
 fn masks_cover_others(rt: HostRuntime) {
-    for row in &coverings() {
-        let found = covers(&row.have.list(), &row.want.list());
-        assert_same(&rt, &(row.have.all, row.want.all), &found, &row.covers);
+    for (have, want, wanted) in &coverings() {
+        let found = covers(&have.list(), &want.list());
+        assert_same(&rt, &(have.all, want.all), &found, wanted);
     }
 }
 
