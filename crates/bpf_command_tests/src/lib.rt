@@ -4,10 +4,6 @@
 #[cfg(test)]
 mod answers;
 #[cfg(test)]
-mod contents;
-#[cfg(test)]
 mod progress;
-#[cfg(test)]
-mod rows;
 #[cfg(test)]
 mod shelf;

@@ -1,168 +1,60 @@
-//! Places in memory, whose readers and writers fail where a test wants it.
+//! Two names in memory, and a stream that fails.
 
-ghost use Rattle.std.specs.Prelude.{◌≤◌, IfOk};
-
-use crate::contents::contents;
 use bpf_command::Places;
-use std::alloc::Global;
-use std::io::{self, ErrorKind, Read, Write};
+use std::io::{self, ErrorKind, Write};
 
-/// How a stream fails.
-#[derive(Clone, Copy)]
-pub enum Fault {
-    Never,
-    /// At its first call; then it goes on.
-    Once,
-    /// Behind so many bytes, for ever.
-    After(usize),
-}
+/// `r0 = 0` and `exit`.
+const SMALLEST: &[u8] = &[0xb7, 0, 0, 0, 0, 0, 0, 0, 0x95, 0, 0, 0, 0, 0, 0, 0];
 
-impl Fault {
-    /// How many of so many bytes go through now.
-    fn passed(&mut self, count: usize) -> io::Result<usize>
-        ensures { IfOk result (λ n. n ≤ count) }
-    {
-        match *self {
-            Fault::Never => Ok(count),
-            Fault::Once => {
-                *self = Fault::Never;
-                Err(io::Error::from(ErrorKind::Other))
-            }
-            Fault::After(0) => Err(io::Error::from(ErrorKind::Other)),
-            Fault::After(left) => {
-                let count = count.min(left);
-                *self = Fault::After(left - count);
-                Ok(count)
-            }
-        }
-    }
+const CERTIFICATE: &[u8] = b"bpfcert 1 0 2\nfn 0 1 *\nat 0 2\nend\n";
 
-    /// How many bytes go through at most.
-    pub fn most(self) -> usize {
-        match self {
-            Fault::Never => usize::MAX,
-            Fault::Once => 0,
-            Fault::After(count) => count,
-        }
-    }
-}
-
-/// The bytes of a place.
+/// Has the smallest image and its certificate. Nothing can be made there.
 #[derive(Drop)]
-pub struct Shelved<'a> {
-    left: &'a [u8],
-    fault: Fault,
-}
+pub struct Shelf;
 
-impl<'a> Read for Shelved<'a> {
-    fn read(&mut self, buf: &mut [u8]) -> io::Result<usize> {
-        let count = self.fault.passed(buf.len().min(self.left.len()))?;
-        let (given, rest) = self.left.split_at(count);
-        buf[..count].copy_from_slice(given);
-        self.left = rest;
-        Ok(count)
+impl Places for Shelf {
+    type Reader = &'static [u8];
+
+    type Writer = Vec<u8>;
+
+    fn open(&mut self, name: &str) -> io::Result<&'static [u8]> {
+        match name {
+            "smallest" => Ok(SMALLEST),
+            "smallest.cert" => Ok(CERTIFICATE),
+            _ => Err(io::Error::from(ErrorKind::NotFound)),
+        }
     }
+
+    fn create(&mut self, _name: &str) -> io::Result<Vec<u8>> {
+        Err(io::Error::from(ErrorKind::PermissionDenied))
+    }
+
+    fn finish(&mut self, _writer: Vec<u8>) -> io::Result<()> {
+        Ok(())
+    }
+
+    fn discard(&mut self, _writer: Vec<u8>) {}
 }
 
-/// Takes bytes.
+/// Takes so many bytes more, and then fails.
 #[derive(Drop)]
 pub struct Paper {
     pub taken: Vec<u8>,
-    pub fault: Fault,
-    is_stuck: bool,
-}
-
-impl Paper {
-    pub fn new(alloc: Global, fault: Fault) -> Paper {
-        Paper {
-            taken: Vec::new(alloc),
-            fault,
-            is_stuck: false,
-        }
-    }
+    pub left: usize,
 }
 
 impl Write for Paper {
     fn write(&mut self, buf: &[u8]) -> io::Result<usize> {
-        let count = self.fault.passed(buf.len())?;
-        if self.taken.extend_from_slice(&buf[..count]).is_err() {
-            return Err(io::Error::from(ErrorKind::OutOfMemory));
+        if self.left == 0 {
+            return Err(io::Error::from(ErrorKind::Other));
         }
+        let count = buf.len().min(self.left);
+        self.left -= count;
+        self.taken.extend_from_slice(&buf[..count])?;
         Ok(count)
     }
 
     fn flush(&mut self) -> io::Result<()> {
         Ok(())
     }
-}
-
-/// The contents by their names, and `out` with what was put there before.
-#[derive(Drop)]
-pub struct Shelf<'a> {
-    pub alloc: Global,
-    pub out: &'a [u8],
-    /// How many places were made.
-    pub made: u32,
-    /// What was finished.
-    pub put: Option<Vec<u8>>,
-}
-
-impl<'a> Shelf<'a> {
-    pub fn new(alloc: Global, out: &'a [u8]) -> Shelf<'a> {
-        Shelf {
-            alloc,
-            out,
-            made: 0,
-            put: None,
-        }
-    }
-}
-
-impl<'a> Places for Shelf<'a> {
-    type Reader = Shelved<'a>;
-
-    type Writer = Paper;
-
-    fn open(&mut self, name: &str) -> io::Result<Shelved<'a>> {
-        if name == "out" {
-            return Ok(Shelved {
-                left: self.out,
-                fault: Fault::Never,
-            });
-        }
-        for (named, left, fault) in contents() {
-            if *named == name {
-                return Ok(Shelved {
-                    left: *left,
-                    fault: *fault,
-                });
-            }
-        }
-        Err(io::Error::from(ErrorKind::NotFound))
-    }
-
-    fn create(&mut self, name: &str) -> io::Result<Paper> {
-        if name == "closed" {
-            return Err(io::Error::from(ErrorKind::PermissionDenied));
-        }
-        self.made = self.made.saturating_add(1);
-        let fault = match name {
-            "full" => Fault::After(15),
-            "hiccup" => Fault::Once,
-            _ => Fault::Never,
-        };
-        let mut paper = Paper::new(self.alloc, fault);
-        paper.is_stuck = name == "stuck";
-        Ok(paper)
-    }
-
-    fn finish(&mut self, writer: Paper) -> io::Result<()> {
-        if writer.is_stuck {
-            return Err(io::Error::from(ErrorKind::Other));
-        }
-        self.put = Some(writer.taken);
-        Ok(())
-    }
-
-    fn discard(&mut self, _writer: Paper) {}
 }
