@@ -1,6 +1,4 @@
-pub mod RowLemmas
 pub mod ToldLemmas
-pub mod CommandLemmas
 pub mod PrintedLemmas
 pub mod LoadedLemmas
 pub mod TextLemmas

@@ -17,8 +17,8 @@ use Rattle.bpf_command.specs.Answer.Answer.{NoText, NotCertified, NotProposed, L
 use Rattle.bpf_command.specs.Printed.{ImageSays, ListSays, LoadedSays, LoadedFails, YesSays}
 use Rattle.bpf_command.specs.declared.failure.Failure.{Failure}
 use Rattle.bpf_command.specs.declared.failure.Failure.TheVariants.{NotTogether}
-use Rattle.bpf_command.specs.declared.subject.Subject.{Subject}
-use Rattle.bpf_command.specs.declared.subject.Subject.TheVariants.{Image, Text, Certified, Slot, Inferred, Graph, GraphAlone, Misfit}
+use Rattle.bpf_request.specs.declared.subject.Subject.{Subject}
+use Rattle.bpf_request.specs.declared.subject.Subject.TheVariants.{Image, Text, Certified, Slot, Inferred, Graph, GraphAlone, Misfit}
 
 -- the status of an answer of which this holds
 abbrev pub Answers : (Answer → Type 0) → ℕ → Type 0

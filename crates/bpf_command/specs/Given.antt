@@ -12,8 +12,8 @@ use Rattle.bpf_command.specs.Each.{AnswersAt, FailsAt}
 use Rattle.bpf_command.specs.Printed.{FailsWith, ImageSays, JudgedSays, LoadedFails, OutcomeSays, ResultSays, RunCheckedSays}
 use Rattle.bpf_command.specs.Told.{OutputFails}
 use Rattle.bpf_command.specs.declared.context.ContextError.TheVariants.{TooLong}
-use Rattle.bpf_command.specs.declared.contexts.Contexts.{Contexts}
-use Rattle.bpf_command.specs.declared.contexts.Contexts.TheVariants.{Word, Bytes, Lines, Nothing, Several}
+use Rattle.bpf_request.specs.declared.contexts.Contexts.{Contexts}
+use Rattle.bpf_request.specs.declared.contexts.Contexts.TheVariants.{Word, Bytes, Lines, Nothing, Several}
 use Rattle.bpf_command.specs.declared.failure.Failure.{Failure}
 use Rattle.bpf_command.specs.declared.failure.Failure.TheVariants.{CannotRead, BadContext, NoContext, ContextTwice}
 

@@ -1,7 +1,6 @@
 pub mod Context
 pub mod Lines
 pub mod Opened
-pub mod CommandLine
 pub mod Told
 pub mod Each
 pub mod Loaded

@@ -3,7 +3,7 @@ use Rattle.std.specs.Prelude.{◌≡◌, ◌⊎◌, ◌&&◌, List, [], ℕ, Opt
 use Rattle.std.specs.Option.{option_or}
 use Rattle.std.specs.Io.KnownBytes.{Keeps}
 use Rattle.clap.specs.Words.{Text, subcommand_of, takes}
-use Rattle.bpf_command.specs.CommandLine.{IsAsked, bpf}
+use Rattle.bpf_request.specs.CommandLine.{IsAsked, bpf, name_of}
 use Rattle.bpf_command.specs.Opened.{Opening}
 use Rattle.bpf_command.specs.Made.{Making}
 use Rattle.bpf_command.specs.Loaded.{ImageFails}
@@ -13,12 +13,10 @@ use Rattle.bpf_command.specs.Given.{CheckedFails, CheckedSays, RunFails, RunSays
 use Rattle.bpf_command.specs.Explained.{ExplainSays, ExplainFails}
 use Rattle.bpf_command.specs.Told.{IsTold}
 use Rattle.std.specs.Str.{bytes_eq}
-use Rattle.bpf_command.specs.declared.contexts.Contexts.{Contexts}
-use Rattle.bpf_command.specs.declared.contexts.Contexts.TheVariants.{Word, Bytes, Lines, Nothing, Several}
-use Rattle.bpf_command.specs.declared.words.Request.{Request}
-use Rattle.bpf_command.specs.declared.words.Request.TheVariants.{Groups, Asm, List as ListOf, Run, Check, RunChecked, Infer, Migrate, Explain}
-use Rattle.bpf_command.specs.declared.subject.Subject.{Subject}
-use Rattle.bpf_command.specs.declared.subject.Subject.TheVariants.{Image, Text as TextAlone, Certified, Slot, Inferred, Graph, GraphAlone, Misfit}
+use Rattle.bpf_request.specs.declared.words.Request.{Request}
+use Rattle.bpf_request.specs.declared.words.Request.TheVariants.{Groups, Asm, List as ListOf, Run, Check, RunChecked, Infer, Migrate, Explain}
+use Rattle.bpf_request.specs.declared.subject.Subject.{Subject}
+use Rattle.bpf_request.specs.declared.subject.Subject.TheVariants.{Image, Text as TextAlone, Certified, Slot, Inferred, Graph, GraphAlone, Misfit}
 use Rattle.bpf_command.specs.declared.failure.Failure.{Failure}
 use Rattle.bpf_command.specs.declared.failure.Failure.TheVariants.{NoMemory, MostBelowLeast, InputTwice, NotTogether}
 
@@ -31,14 +29,6 @@ twice first second = if bytes_eq first (codes "-") && bytes_eq second (codes "-"
 -- the greatest length below the least
 abbrev pub out_of_order : ℕ → ℕ → Option Failure
 out_of_order least most = if nat_lt most least then Some MostBelowLeast else None
-
--- the name at which contexts are read
-abbrev pub name_of : Contexts → List ℕ
-name_of (Word hex) = []
-name_of (Bytes name) = name.now
-name_of (Lines name) = name.now
-name_of Nothing = []
-name_of Several = []
 
 -- what can't be explained of this input
 abbrev pub conflict_with : List ℕ → Subject → Option Failure

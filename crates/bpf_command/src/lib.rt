@@ -3,15 +3,12 @@
 
 mod commands;
 mod context;
-mod contexts;
 mod failure;
 mod files;
 mod keeping;
 mod places;
 mod progress;
 mod response;
-mod subject;
-mod words;
 
 pub use context::{ContextError, context_of};
 pub use failure::{FAILED, Failure, tell};

@@ -12,8 +12,8 @@ use crate::commands::{
 };
 use crate::failure::{BAD_WORDS, FAILED, Failure, tell};
 use crate::places::Places;
-use crate::subject::Subject;
-use crate::words::{Request, request_of};
+
+use bpf_request::{Request, Subject, request_of};
 use bpf_infer::Watch;
 use clap::error::ErrorKind;
 use std::alloc::Global;

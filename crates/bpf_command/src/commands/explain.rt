@@ -14,7 +14,7 @@ use crate::context::MAX_CONTEXT;
 use crate::failure::{DONE, Failure, REFUSED};
 use crate::keeping::Keeping;
 use crate::places::Places;
-use crate::subject::Subject;
+use bpf_request::Subject;
 use bpf_cert::{CertError, Certificate, read};
 use bpf_check::check;
 use bpf_explain::{

@@ -15,7 +15,7 @@ use crate::commands::each::{Runner, answered};
 use crate::commands::image::{program_at, refuse};
 use crate::commands::whole::context_at;
 use crate::context::context_of;
-use crate::contexts::Contexts;
+use bpf_request::Contexts;
 use crate::failure::{DONE, Failure, REFUSED, say};
 use crate::places::Places;
 use bpf_insn::{Order, Program};

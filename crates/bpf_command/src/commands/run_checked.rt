@@ -11,7 +11,7 @@ use crate::commands::image::{program_at, refuse};
 use crate::commands::judged::{Wish, judged, judged_each};
 use crate::commands::whole::context_at;
 use crate::context::context_of;
-use crate::contexts::Contexts;
+use bpf_request::Contexts;
 use crate::failure::Failure;
 use crate::places::Places;
 use bpf_insn::Order;

@@ -1,0 +1,20 @@
+use Rattle.std.proofs.Common.{ap₂, ◌∙◌}
+use Rattle.std.proofs.lemmas.Result.{IfOk-weaker}
+use Rattle.clap.specs.Words.{with_rule}
+use Rattle.bpf_request.proofs.CommandLemmas.{neither}
+use Rattle.bpf_request.proofs.words.explain_command.Goals as goal
+
+pub returns-clause-app : goal.returns-clause-app
+returns-clause-app c =
+    IfOk-weaker c.arg-7.result _ _ (λ m h. h.shape c.big.ensures.local
+    ∙ ap₂ with_rule (c.in_ok-arg-6.ensures.shape c.flag-3.ensures.local
+    ∙ ap₂ with_rule (c.in_ok-arg-5.ensures.shape c.flag-2.ensures.local
+    ∙ ap₂ with_rule (c.in_ok-arg-4.ensures.shape c.flag.ensures.local
+    ∙ ap₂ with_rule (c.in_ok-arg-3.ensures.shape c.most.ensures.local
+    ∙ ap₂ with_rule (c.in_ok-arg-2.ensures.shape c.inferred.ensures.local
+    ∙ ap₂ with_rule (c.in_ok-arg.ensures.shape c.one_slot.ensures.local
+    ∙ ap₂ with_rule c.in_ok-explain_places.ensures.app c.one_slot.ensures.rule) c.inferred.ensures.rule) c.most.ensures.rule) c.flag.ensures.rule) c.flag-2.ensures.rule) c.flag-3.ensures.rule) c.big.ensures.rule) c.arg-7.ensures
+
+pub returns-clause-local : goal.returns-clause-local
+returns-clause-local c =
+    IfOk-weaker c.arg-7.result _ _ (λ m h. neither h.globals (neither c.in_ok-arg-6.ensures.globals (neither c.in_ok-arg-5.ensures.globals (neither c.in_ok-arg-4.ensures.globals (neither c.in_ok-arg-3.ensures.globals (neither c.in_ok-arg-2.ensures.globals (neither c.in_ok-arg.ensures.globals c.in_ok-explain_places.ensures.local c.one_slot.ensures.local) c.inferred.ensures.local) c.most.ensures.local) c.flag.ensures.local) c.flag-2.ensures.local) c.flag-3.ensures.local) c.big.ensures.local) c.arg-7.ensures

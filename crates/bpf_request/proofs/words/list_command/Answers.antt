@@ -1,0 +1,18 @@
+use Rattle.std.proofs.Common.{ap, ap₂, ◌∙◌}
+use Rattle.std.proofs.lemmas.Result.{IfOk-weaker}
+use Rattle.clap.specs.Words.{with_rule}
+use Rattle.clap.specs.Simple.{app_of_fields}
+use Rattle.bpf_request.proofs.CommandLemmas.{globals_of, neither}
+use Rattle.bpf_request.proofs.words.list_command.Goals as goal
+
+pub returns-clause-app : goal.returns-clause-app
+returns-clause-app c =
+    IfOk-weaker c.arg-4.result _ _ (λ m h. h.shape c.big.ensures.local
+    ∙ ap₂ with_rule (c.in_ok-arg-3.ensures.shape c.flag-2.ensures.local
+    ∙ ap₂ with_rule (c.in_ok-arg-2.ensures.shape c.flag.ensures.local
+    ∙ ap₂ with_rule (c.in_ok-arg.ensures.shape c.place.ensures.local
+    ∙ ap₂ with_rule (ap app_of_fields c.about.ensures ∙ c.new.ensures.app) c.place.ensures.rule) c.flag.ensures.rule) c.flag-2.ensures.rule) c.big.ensures.rule) c.arg-4.ensures
+
+pub returns-clause-local : goal.returns-clause-local
+returns-clause-local c =
+    IfOk-weaker c.arg-4.result _ _ (λ m h. neither h.globals (neither c.in_ok-arg-3.ensures.globals (neither c.in_ok-arg-2.ensures.globals (neither c.in_ok-arg.ensures.globals (ap globals_of c.about.ensures ∙ c.new.ensures.local) c.place.ensures.local) c.flag.ensures.local) c.flag-2.ensures.local) c.big.ensures.local) c.arg-4.ensures

@@ -1,0 +1,25 @@
+use Rattle.std.proofs.Common.{ap, refl, sym, ◌≡◌, ◌∙◌, map, Some, None}
+use Rattle.std.specs.String.{string_bytes}
+use Rattle.clap.specs.Words.{App, app_of, found_of, is_simple, rows_of, subcommand_of, subcommand_rows_of, takes}
+use Rattle.bpf_request.specs.CommandLine.{bpf}
+use Rattle.bpf_request.proofs.RowLemmas.{found_sub, no_sub}
+use Rattle.bpf_request.proofs.words.request_of.Goals.{in-Some, in-None}
+use Rattle.bpf_request.proofs.words.request_of.Goals as goal
+
+pub returns-clause-ok : goal.returns-clause-ok
+returns-clause-ok c =
+    let app_is : app_of c.in_ok-command.field-0 ≡ bpf = c.in_ok-command.ensures in
+    let sub : subcommand_rows_of c.in-Ok.matches ≡ subcommand_of bpf (map (λ s. string_bytes s) c.args.words.now)
+    = (c.in-Ok.ensures.matches (ap is_simple app_is)).1 ∙ ap (λ (a : App). subcommand_of a (map (λ s. string_bytes s) c.args.words.now)) app_is in
+    elim c.match-subcommand.branch [
+      | in-Some w ↦
+          (let s : subcommand_of bpf (map (λ s. string_bytes s) c.args.words.now) ≡ Some (w.in-Some.name.now, rows_of (found_of w.in-Some.matches.now))
+          = sym sub ∙ found_sub _ _ _ w.in-Some.ensures.name w.in-Some.ensures.rows in
+          rw (s, w.result-is) w.request_in.ensures)
+      | in-None w ↦
+          (let s : subcommand_of bpf (map (λ s. string_bytes s) c.args.words.now) ≡ None = sym sub ∙ no_sub _ _ refl w.in-None.ensures.name in
+          rw (s, w.result-is) (refl, refl))
+    ]
+
+pub returns-in-Err-clause-accepts : goal.returns-in-Err-clause-accepts
+returns-in-Err-clause-accepts c = λ h. c.in-Err.ensures.passes (ap (λ (a : App). takes a (map (λ s. string_bytes s) c.args.words.now)) c.in_ok-command.ensures ∙ h)

@@ -1,0 +1,226 @@
+-- The command line, as its parser sees it.
+use Rattle.std.specs.Prelude.{◌≡◌, ◌≢◌, ℕ, Bool, List, [], Option, Some, None, is_some, is_none, not, ◌&&◌, ◌||◌, unwrap_or, pos, codes, true, false}
+use Rattle.std.specs.Str.Parse.{ParsesUnsigned}
+use Rattle.std.specs.declared.num.ParseIntError.{ParseIntError}
+use Rattle.clap.specs.Words.{App, ReadsOne, Row, Rule, Text, first_of, one_of, new_app, new_rule, with_rule, with_subcommand}
+use Rattle.clap.specs.declared.builder.command.Command.{Command}
+use Rattle.clap.specs.declared.builder.command.Command.TheViews.{out-Command}
+use Rattle.clap.specs.declared.builder.value_parser.ValueParser.TheVariants as parser
+use Rattle.clap.specs.declared.builder.action.ArgAction.TheVariants.{SetTrue}
+use Rattle.bpf_insn.specs.declared.order.Order.{Order}
+use Rattle.bpf_insn.specs.declared.order.Order.TheVariants.{Little, Big}
+use Rattle.bpf_request.specs.declared.contexts.Contexts.{Contexts}
+use Rattle.bpf_request.specs.declared.contexts.Contexts.TheVariants.{Word, Bytes, Lines, Nothing, Several}
+use Rattle.bpf_request.specs.declared.words.Request.{Request}
+use Rattle.bpf_request.specs.declared.words.Request.TheVariants.{Groups, Asm, List as ListOf, Run, Check, RunChecked, Infer, Migrate, Explain}
+use Rattle.bpf_request.specs.declared.subject.Subject.{Subject}
+use Rattle.bpf_request.specs.declared.subject.Subject.TheVariants.{Image, Text as TextAlone, Certified, Slot, Inferred, Graph, GraphAlone, Misfit}
+
+-- whether a command has an argument that its subcommands share
+abbrev pub has_globals : Command → Bool
+has_globals c = (out-Command c).has_globals
+
+-- a required word
+abbrev pub place : Text → Rule
+place id = record (new_rule id) { required = true }
+
+-- the required option `--steps`, with a number below 2 ^ 32
+abbrev pub steps : Rule
+steps = record (new_rule (codes "steps")) { long = Some (codes "steps"); value_names = 1; parser = Some (parser.Signed (pos 0) (pos 4294967295)); required = true }
+
+-- an option with a name to read
+abbrev pub file : Text → Rule
+file name = record (new_rule name) { long = Some name; value_names = 1 }
+
+-- the three ways to give contexts
+abbrev pub with_contexts : App → App
+with_contexts a = with_rule (with_rule (with_rule a (new_rule (codes "HEX"))) (file (codes "context"))) (file (codes "contexts"))
+
+-- a flag, false where it isn't given
+abbrev pub flag : Text → Rule
+flag name = record (new_rule name) { long = Some name; action = Some SetTrue }
+
+-- the flag `--big`
+abbrev pub big : Rule
+big = flag (codes "big")
+
+abbrev pub groups : App
+groups = with_rule (with_rule (new_app (codes "groups")) (place (codes "IN"))) big
+
+abbrev pub asm : App
+asm = with_rule (with_rule (with_rule (new_app (codes "asm")) (place (codes "IN"))) (place (codes "OUT"))) big
+
+abbrev pub list : App
+list = with_rule (with_rule (with_rule (with_rule (new_app (codes "list")) (place (codes "IN"))) (flag (codes "slots"))) (flag (codes "bytes"))) big
+
+abbrev pub run_places : App
+run_places = with_rule (new_app (codes "run")) (place (codes "IN"))
+
+abbrev pub run : App
+run = with_rule (with_rule (with_contexts run_places) steps) big
+
+abbrev pub top : App
+top = let named = new_app (codes "bpf") in record named { top = record named.top { has_version = true; subcommand_required = true } }
+
+-- `bpf` with the commands that take no certificate
+abbrev pub without_certificates : App
+without_certificates = with_subcommand (with_subcommand (with_subcommand (with_subcommand top groups.top) asm.top) list.top) run.top
+
+abbrev pub check : App
+check = with_rule (with_rule (with_rule (with_rule (new_app (codes "check")) (place (codes "IN"))) (place (codes "CERT"))) (flag (codes "work"))) big
+
+abbrev pub run_checked_places : App
+run_checked_places = with_rule (with_rule (new_app (codes "run-checked")) (place (codes "IN"))) (place (codes "CERT"))
+
+abbrev pub run_checked : App
+run_checked = with_rule (with_contexts run_checked_places) big
+
+-- the required word `LEN`, a number up to 4096
+abbrev pub context_length : Rule
+context_length = record (new_rule (codes "LEN")) { parser = Some (parser.Signed (pos 0) (pos 4096)); required = true }
+
+-- the option `--most`, with a number up to 4096
+abbrev pub most : Rule
+most = record (new_rule (codes "most")) { long = Some (codes "most"); value_names = 1; parser = Some (parser.Signed (pos 0) (pos 4096)) }
+
+abbrev pub infer_places : App
+infer_places = with_rule (with_rule (with_rule (new_app (codes "infer")) (place (codes "IN"))) context_length) (place (codes "OUT"))
+
+abbrev pub infer : App
+infer = with_rule (with_rule (with_rule infer_places most) (flag (codes "deep"))) big
+
+abbrev pub migrate : App
+migrate = with_rule (with_rule (new_app (codes "migrate")) (place (codes "CERT"))) (place (codes "OUT"))
+
+-- the option `--infer`, with a number up to 4096
+abbrev pub inferred : Rule
+inferred = record (new_rule (codes "infer")) { long = Some (codes "infer"); value_names = 1; parser = Some (parser.Signed (pos 0) (pos 4096)) }
+
+-- the option `--slot`, with a number up to 65535
+abbrev pub one_slot : Rule
+one_slot = record (new_rule (codes "slot")) { long = Some (codes "slot"); value_names = 1; parser = Some (parser.Signed (pos 0) (pos 65535)) }
+
+abbrev pub explain_places : App
+explain_places = with_rule (with_rule (new_app (codes "explain")) (place (codes "IN"))) (new_rule (codes "CERT"))
+
+abbrev pub explain : App
+explain = with_rule (with_rule (with_rule (with_rule (with_rule (with_rule (with_rule explain_places one_slot) inferred) most) (flag (codes "deep"))) (flag (codes "text"))) (flag (codes "dot"))) big
+
+-- `bpf` with all nine
+abbrev pub bpf : App
+bpf = with_subcommand (with_subcommand (with_subcommand (with_subcommand (with_subcommand without_certificates check.top) run_checked.top) infer.top) migrate.top) explain.top
+
+-- ---- what the words ask for
+
+-- the word of an argument
+abbrev pub word_of : Text → List Row → Text
+word_of id rows = unwrap_or (first_of id rows) []
+
+-- a number below 2 ^ 32 as it is parsed, this one where there is none
+abbrev pub IsCount : ℕ → Option Text → ℕ → Type 0
+IsCount default None n = n ≡ default
+IsCount default (Some text) n = (parsed : Option ℕ) × ReadsOne {E = ParseIntError} (λ t r. ParsesUnsigned 32 10 t r) text parsed × (n ≡ unwrap_or parsed default)
+
+-- a number below 2 ^ 32 as it is parsed, None where there is none
+abbrev pub IsNumber : Option Text → Option ℕ → Type 0
+IsNumber None n = n ≡ None
+IsNumber (Some text) n = ReadsOne {E = ParseIntError} (λ t r. ParsesUnsigned 32 10 t r) text n
+
+-- whether a flag is given
+abbrev pub IsFlag : Option Text → Bool → Type 0
+IsFlag None given = given ≡ false
+IsFlag (Some text) given = (text ≡ codes "true" → given ≡ true) × (text ≡ codes "false" → given ≡ false)
+
+-- big-endian where `--big` is given, else little-endian
+abbrev pub IsOrder : List Row → Order → Type 0
+IsOrder rows Big = IsFlag (one_of (codes "big") rows) true
+IsOrder rows Little = IsFlag (one_of (codes "big") rows) false
+
+-- the word for IN, and the order of its image
+abbrev pub IsInput : List Row → Text → Order → Type 0
+IsInput rows input order = (input ≡ word_of (codes "IN") rows) × IsOrder rows order
+
+-- by the word for a context, the name of one, and the name of lines
+abbrev pub GivenBy : Option Text → Option Text → Option Text → Contexts → Type 0
+GivenBy word bytes lines (Word hex) = (word ≡ Some hex.now) × (bytes ≡ None) × (lines ≡ None)
+GivenBy word bytes lines (Bytes name) = (word ≡ None) × (bytes ≡ Some name.now) × (lines ≡ None)
+GivenBy word bytes lines (Lines name) = (word ≡ None) × (bytes ≡ None) × (lines ≡ Some name.now)
+GivenBy word bytes lines Nothing = (word ≡ None) × (bytes ≡ None) × (lines ≡ None)
+GivenBy word bytes lines Several = ((is_some word && is_some bytes) || (is_some word && is_some lines) || (is_some bytes && is_some lines)) ≡ true
+
+-- the contexts that HEX, `--context` and `--contexts` give
+abbrev pub AreContexts : List Row → Contexts → Type 0
+AreContexts rows contexts = GivenBy (first_of (codes "HEX") rows) (first_of (codes "context") rows) (first_of (codes "contexts") rows) contexts
+
+-- the name at which contexts are read
+abbrev pub name_of : Contexts → List ℕ
+name_of (Word hex) = []
+name_of (Bytes name) = name.now
+name_of (Lines name) = name.now
+name_of Nothing = []
+name_of Several = []
+
+-- at most one of CERT, `--infer` and `--text`; `--most` and `--deep` with `--infer` alone, `--slot` with CERT alone, and `--dot` with CERT or nothing
+abbrev pub go_together : Option Text → (least most slot : Option ℕ) → (text dot deep : Bool) → Bool
+go_together certificate least most slot text dot deep =
+    (not deep || is_some least)
+    && not (dot && (text || (is_some least || (is_some most || is_some slot))))
+    && (not (text && (is_some certificate || is_some least)) && (not (is_some certificate && is_some least) && ((is_some least || is_none most) && (is_some certificate || is_none slot))))
+
+-- by the word for a certificate, the lengths, the slot, whether it is a text, whether a graph is wanted, and whether to search deeply
+abbrev pub GivesSubject : Option Text → (least most slot : Option ℕ) → (text dot deep : Bool) → Subject → Type 0
+GivesSubject certificate least most slot text dot deep Image =
+    (certificate ≡ None) × (least ≡ None) × (most ≡ None) × (slot ≡ None)
+    × (text ≡ false) × (dot ≡ false) × (deep ≡ false)
+GivesSubject certificate least most slot text dot deep TextAlone =
+    (certificate ≡ None) × (least ≡ None) × (most ≡ None) × (slot ≡ None)
+    × (text ≡ true) × (dot ≡ false) × (deep ≡ false)
+GivesSubject certificate least most slot text dot deep (Certified c) =
+    (certificate ≡ Some c.now) × (least ≡ None) × (most ≡ None) × (slot ≡ None)
+    × (text ≡ false) × (dot ≡ false) × (deep ≡ false)
+GivesSubject certificate least most slot text dot deep (Slot c s) =
+    (certificate ≡ Some c.now) × (least ≡ None) × (most ≡ None) × (slot ≡ Some s)
+    × (text ≡ false) × (dot ≡ false) × (deep ≡ false)
+GivesSubject certificate least most slot text dot deep (Inferred l m d) =
+    (certificate ≡ None) × (least ≡ Some l) × (m ≡ unwrap_or most l) × (slot ≡ None)
+    × (text ≡ false) × (dot ≡ false) × (deep ≡ d)
+GivesSubject certificate least most slot text dot deep (Graph c) =
+    (certificate ≡ Some c.now) × (least ≡ None) × (most ≡ None) × (slot ≡ None)
+    × (text ≡ false) × (dot ≡ true) × (deep ≡ false)
+GivesSubject certificate least most slot text dot deep GraphAlone =
+    (certificate ≡ None) × (least ≡ None) × (most ≡ None) × (slot ≡ None)
+    × (text ≡ false) × (dot ≡ true) × (deep ≡ false)
+GivesSubject certificate least most slot text dot deep Misfit = go_together certificate least most slot text dot deep ≡ false
+
+-- what CERT, `--infer`, `--most`, `--slot`, `--text`, `--dot` and `--deep` want explained
+abbrev pub IsSubject : List Row → Subject → Type 0
+IsSubject rows subject =
+    (least : Option ℕ) × (most : Option ℕ) × (slot : Option ℕ) × (text : Bool) × (dot : Bool) × (deep : Bool)
+    × IsNumber (one_of (codes "infer") rows) least × IsNumber (one_of (codes "most") rows) most
+    × IsNumber (one_of (codes "slot") rows) slot × IsFlag (one_of (codes "text") rows) text × IsFlag (one_of (codes "dot") rows) dot × IsFlag (one_of (codes "deep") rows) deep
+    × GivesSubject (first_of (codes "CERT") rows) least most slot text dot deep subject
+
+-- the request of a subcommand with these matches
+abbrev pub Asks : Text → List Row → Request → Type 0
+Asks name rows (Groups input order) =
+    (name ≢ codes "asm") × (name ≢ codes "list") × (name ≢ codes "run") × (name ≢ codes "check") × (name ≢ codes "run-checked") × (name ≢ codes "infer")
+    × (name ≢ codes "migrate") × (name ≢ codes "explain") × IsInput rows input.now order
+Asks name rows (Asm input output order) = (name ≡ codes "asm") × IsInput rows input.now order × (output.now ≡ word_of (codes "OUT") rows)
+Asks name rows (ListOf input slots bytes order) =
+    (name ≡ codes "list") × IsInput rows input.now order × IsFlag (one_of (codes "slots") rows) slots × IsFlag (one_of (codes "bytes") rows) bytes
+Asks name rows (Run input contexts count order) = (name ≡ codes "run") × IsInput rows input.now order × AreContexts rows contexts × IsCount 0 (one_of (codes "steps") rows) count
+Asks name rows (Check input certificate work order) =
+    (name ≡ codes "check") × IsInput rows input.now order × (certificate.now ≡ word_of (codes "CERT") rows) × IsFlag (one_of (codes "work") rows) work
+Asks name rows (RunChecked input certificate contexts order) =
+    (name ≡ codes "run-checked") × IsInput rows input.now order × (certificate.now ≡ word_of (codes "CERT") rows) × AreContexts rows contexts
+Asks name rows (Infer input least most deep output order) =
+    (name ≡ codes "infer") × IsInput rows input.now order × IsCount 0 (one_of (codes "LEN") rows) least
+    × IsCount least (one_of (codes "most") rows) most × IsFlag (one_of (codes "deep") rows) deep × (output.now ≡ word_of (codes "OUT") rows)
+Asks name rows (Explain input subject order) = (name ≡ codes "explain") × IsInput rows input.now order × IsSubject rows subject
+Asks name rows (Migrate certificate output) = (name ≡ codes "migrate") × (certificate.now ≡ word_of (codes "CERT") rows) × (output.now ≡ word_of (codes "OUT") rows)
+
+-- the request of a command line on which the parser found this subcommand
+abbrev pub IsAsked : Option (Text × List Row) → Request → Type 0
+IsAsked (Some s) request = Asks s.0 s.1 request
+IsAsked None (Groups input order) = (input.now ≡ []) × (order ≡ Little)
+IsAsked None _ = ⊥

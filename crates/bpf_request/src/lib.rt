@@ -1,0 +1,10 @@
+//! What a command line asks for.
+#![tactic(auto)]
+
+mod contexts;
+mod subject;
+mod words;
+
+pub use contexts::Contexts;
+pub use subject::Subject;
+pub use words::{Request, request_of};
