@@ -21,7 +21,7 @@ pub const BAD_WORDS: u8 = 2;
 pub const FAILED: u8 = 3;
 
 /// What outside of the command failed.
-#[derive(Clone, Copy, Debug, PartialEq, Eq)]
+#[derive(Clone, Copy, Debug)]
 pub enum Failure<'a> {
     CannotRead(&'a str),
     CannotWrite(&'a str),

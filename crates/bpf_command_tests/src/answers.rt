@@ -1,5 +1,6 @@
 //! What the command answers where a stream fails behind a beginning, and how long a context may be.
 
+use crate::same::assert_same;
 use crate::shelf::{Paper, Shelf};
 use bpf_command::{ContextError, context_of, respond};
 use bpf_infer::Unwatched;
@@ -32,11 +33,12 @@ fn assert_output_fails(
     let taken = Vec::new(rt.alloc());
     let mut out = Paper { taken, left };
     let mut err = Vec::new(rt.alloc());
-    assert_eq!(rt; answer(rt.alloc(), line, &mut out, &mut err)?, 3, "{line}");
+    let status = answer(rt.alloc(), line, &mut out, &mut err)?;
     let told = b"cannot write standard output\n".as_slice();
-    assert_eq!(rt; err.as_slice(), told, "{line}");
-    assert!(rt; said.as_bytes().starts_with(out.taken.as_slice()), "{line}");
-    assert_eq!(rt; out.taken.len(), left, "{line}");
+    let beginning = said.as_bytes().get(..left).unwrap_or_default();
+    assert_same(rt, &line, &status, &3);
+    assert_same(rt, &line, &err.as_slice(), &told);
+    assert_same(rt, &line, &out.taken.as_slice(), &beginning);
     Ok(())
 }
 
@@ -68,11 +70,16 @@ fn standard_error_fails(rt: HostRuntime) -> Result<(), Fail> {
             let taken = Vec::new(rt.alloc());
             let mut err = Paper { taken, left };
             let got = answer(rt.alloc(), line, &mut out, &mut err)?;
-            assert_eq!(rt; got, status, "{line}");
-            assert!(rt; out.is_empty() && err.taken.len() == left, "{line}");
+            let lengths = (out.len(), err.taken.len());
+            assert_same(&rt, &line, &(got, lengths), &(status, (0, left)));
         }
     }
     Ok(())
+}
+
+/// How many bytes the context has that a word spells.
+fn context_told(alloc: Global, word: &str) -> Result<usize, ContextError> {
+    Ok(context_of(alloc, word)?.len())
 }
 
 #[test]
@@ -81,16 +88,13 @@ fn contexts_have_a_limit(rt: HostRuntime) -> Result<(), Fail> {
     for _ in 0..4096 {
         text.push_str("2a")?;
     }
-    assert_eq!(rt; context_of(rt.alloc(), text.as_str())?.len(), 4096);
+    let told = context_told(rt.alloc(), text.as_str());
+    assert!(rt; told == Ok(4096));
     text.push_str("2a")?;
-    assert_eq!(rt;
-        context_of(rt.alloc(), text.as_str()).err(),
-        Some(ContextError::TooLong)
-    );
+    let told = context_told(rt.alloc(), text.as_str());
+    assert!(rt; told == Err(ContextError::TooLong));
     text.push_str("2")?;
-    assert_eq!(rt;
-        context_of(rt.alloc(), text.as_str()).err(),
-        Some(ContextError::BadHex)
-    );
+    let told = context_told(rt.alloc(), text.as_str());
+    assert!(rt; told == Err(ContextError::BadHex));
     Ok(())
 }

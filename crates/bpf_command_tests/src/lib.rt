@@ -6,4 +6,6 @@ mod answers;
 #[cfg(test)]
 mod progress;
 #[cfg(test)]
+mod same;
+#[cfg(test)]
 mod shelf;

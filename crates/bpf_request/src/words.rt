@@ -3,7 +3,7 @@
 ghost use Rattle.std.specs.Prelude.{◌≡◌, IfOk, IfErr, map, option_map, true, false};
 ghost use Rattle.std.specs.String.{string_bytes};
 ghost use Rattle.clap.specs.Words.{app_of, found_of, kind_of, new_rule, one_of, rows_of, rule_of, subcommand_of, takes};
-ghost use Rattle.bpf_request.specs.CommandLine.{AreContexts, Asks, GivenBy, IsAsked, IsCount, IsFlag, IsNumber, IsOrder, IsSubject, asm, big, bpf, check, explain, explain_places, file, flag, groups, has_globals, infer, infer_places, inferred, list, migrate, most, one_slot, place, run, run_checked, run_checked_places, run_places, with_contexts, without_certificates, word_of};
+ghost use Rattle.bpf_request.specs.CommandLine.{AreContexts, Asks, GivenBy, IsAsked, IsCount, IsFlag, IsNumber, IsOrder, IsSubject, asm, big, bpf, check, context_length, explain, explain_places, file, flag, groups, has_globals, infer, infer_places, inferred, list, migrate, most, one_slot, place, run, run_checked, run_checked_places, run_places, steps, with_contexts, without_certificates, word_of};
 ghost use Rattle.clap.specs.declared.error.ErrorKind.TheVariants.{OutOfMemory};
 
 use crate::contexts::Contexts;
@@ -181,20 +181,26 @@ fn run_places<'a>(alloc: Global) -> Result<Command<'a>, AllocError>
         .arg(place(alloc, "IN", "an image"))
 }
 
+/// The option for the most steps.
+fn steps<'a>(alloc: Global) -> Arg<'a>
+    ensures rule { rule_of result ≡ steps }
+    ensures local { result.global ≡ false }
+{
+    Arg::new(alloc, "steps")
+        .long("steps")
+        .value_name("N")
+        .required(true)
+        .value_parser(value_parser!(u32))
+        .help("the most instructions that are done")
+}
+
 fn run_command<'a>(alloc: Global) -> Result<Command<'a>, AllocError>
     ensures app { IfOk result (λ c. app_of c ≡ run) }
     ensures local { IfOk result (λ c. has_globals c ≡ false) }
 {
     let places = run_places(alloc)?;
     with_contexts(alloc, places)?
-        .arg(
-            Arg::new(alloc, "steps")
-                .long("steps")
-                .value_name("N")
-                .required(true)
-                .value_parser(value_parser!(u32))
-                .help("the most instructions that are done"),
-        )?
+        .arg(steps(alloc))?
         .arg(big(alloc))
 }
 
@@ -202,18 +208,14 @@ fn run_command<'a>(alloc: Global) -> Result<Command<'a>, AllocError>
 fn first_commands<'a>(alloc: Global) -> Result<Command<'a>, AllocError>
     ensures { IfOk result (λ c. app_of c ≡ without_certificates) }
 {
-    let groups = groups_command(alloc)?;
-    let asm = asm_command(alloc)?;
-    let list = list_command(alloc)?;
-    let run = run_command(alloc)?;
     Command::new(alloc, "bpf")
         .version("0.1.0")
         .about("Works on eBPF programs (RFC 9669, integer profile)")
         .subcommand_required(true)
-        .subcommand(groups)?
-        .subcommand(asm)?
-        .subcommand(list)?
-        .subcommand(run)
+        .subcommand(groups_command(alloc)?)?
+        .subcommand(asm_command(alloc)?)?
+        .subcommand(list_command(alloc)?)?
+        .subcommand(run_command(alloc)?)
 }
 
 fn check_command<'a>(alloc: Global) -> Result<Command<'a>, AllocError>
@@ -246,6 +248,17 @@ fn run_checked_command<'a>(alloc: Global) -> Result<Command<'a>, AllocError>
     with_contexts(alloc, places)?.arg(big(alloc))
 }
 
+/// The word for the least length of the contexts.
+fn context_length<'a>(alloc: Global) -> Arg<'a>
+    ensures rule { rule_of result ≡ context_length }
+    ensures local { result.global ≡ false }
+{
+    Arg::new(alloc, "LEN")
+        .required(true)
+        .value_parser(value_parser!(u32).range(0..=4096))
+        .help("the least length of the contexts in bytes, at most 4096")
+}
+
 /// `infer` with its words for names and the length.
 fn infer_places<'a>(alloc: Global) -> Result<Command<'a>, AllocError>
     ensures app { IfOk result (λ c. app_of c ≡ infer_places) }
@@ -254,12 +267,7 @@ fn infer_places<'a>(alloc: Global) -> Result<Command<'a>, AllocError>
     Command::new(alloc, "infer")
         .about("Proposes a certificate for an image")
         .arg(place(alloc, "IN", "an image"))?
-        .arg(
-            Arg::new(alloc, "LEN")
-                .required(true)
-                .value_parser(value_parser!(u32).range(0..=4096))
-                .help("the least length of the contexts in bytes, at most 4096"),
-        )?
+        .arg(context_length(alloc))?
         .arg(place(alloc, "OUT", "where the certificate goes"))
 }
 
@@ -268,13 +276,7 @@ fn infer_command<'a>(alloc: Global) -> Result<Command<'a>, AllocError>
     ensures local { IfOk result (λ c. has_globals c ≡ false) }
 {
     infer_places(alloc)?
-        .arg(
-            Arg::new(alloc, "most")
-                .long("most")
-                .value_name("M")
-                .value_parser(value_parser!(u32).range(0..=4096))
-                .help("the greatest length of the contexts in bytes, else LEN"),
-        )?
+        .arg(most(alloc))?
         .arg(flag(
             alloc,
             "deep",
@@ -361,17 +363,12 @@ fn explain_command<'a>(alloc: Global) -> Result<Command<'a>, AllocError>
 fn command<'a>(alloc: Global) -> Result<Command<'a>, AllocError>
     ensures { IfOk result (λ c. app_of c ≡ bpf) }
 {
-    let check = check_command(alloc)?;
-    let run_checked = run_checked_command(alloc)?;
-    let infer = infer_command(alloc)?;
-    let migrate = migrate_command(alloc)?;
-    let explain = explain_command(alloc)?;
     first_commands(alloc)?
-        .subcommand(check)?
-        .subcommand(run_checked)?
-        .subcommand(infer)?
-        .subcommand(migrate)?
-        .subcommand(explain)
+        .subcommand(check_command(alloc)?)?
+        .subcommand(run_checked_command(alloc)?)?
+        .subcommand(infer_command(alloc)?)?
+        .subcommand(migrate_command(alloc)?)?
+        .subcommand(explain_command(alloc)?)
 }
 
 /// The word of a required argument; the parse has made sure that it is there.

@@ -35,7 +35,7 @@ pub trait Runner {
 }
 
 /// What is found of the next context.
-#[derive(Clone, Copy, PartialEq, Eq)]
+#[derive(Clone, Copy)]
 pub enum Turn {
     /// It has so many bytes, which stand at the front of the buffer.
     Context(usize),

@@ -24,7 +24,7 @@ use std::alloc::{AllocError, Global};
 use std::io::Write;
 
 /// What is wanted of a program that its certificate certifies.
-#[derive(Clone, Copy, PartialEq, Eq)]
+#[derive(Clone, Copy)]
 pub enum Wish<'a> {
     /// The promise, and where it is asked for the work of the check.
     Promise { counted: bool },

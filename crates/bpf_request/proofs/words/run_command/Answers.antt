@@ -9,15 +9,10 @@ use Rattle.bpf_request.proofs.words.run_command.Goals as goal
 
 pub returns-clause-app : goal.returns-clause-app
 returns-clause-app c =
-    let given = c.value_parser-2.ensures.given in
-    let parser_is : c.value_parser-2.result.value_parser ≡ Some (parser.Signed (pos 0) (pos 4294967295)) = given.1 ∙ ap Some (given.2 ∙ c.value_parser.ensures) in
-    let steps_is : rule_of c.help.result ≡ steps = search rules in
-    let local : c.help.result.global ≡ false = search rules in
     IfOk-weaker c.arg-2.result _ _ (λ m h. h.shape c.big.ensures.local
-    ∙ ap₂ with_rule (c.in_ok-arg.ensures.shape local
-    ∙ ap₂ with_rule (c.in_ok-with_contexts.ensures.app ∙ ap with_contexts c.in_ok-places.ensures.app) steps_is) c.big.ensures.rule) c.arg-2.ensures
+    ∙ ap₂ with_rule (c.in_ok-arg.ensures.shape c.steps.ensures.local
+    ∙ ap₂ with_rule (c.in_ok-with_contexts.ensures.app ∙ ap with_contexts c.in_ok-places.ensures.app) c.steps.ensures.rule) c.big.ensures.rule) c.arg-2.ensures
 
 pub returns-clause-local : goal.returns-clause-local
 returns-clause-local c =
-    let local : c.help.result.global ≡ false = search rules in
-    IfOk-weaker c.arg-2.result _ _ (λ m h. neither h.globals (neither c.in_ok-arg.ensures.globals (c.in_ok-with_contexts.ensures.local c.in_ok-places.ensures.local) local) c.big.ensures.local) c.arg-2.ensures
+    IfOk-weaker c.arg-2.result _ _ (λ m h. neither h.globals (neither c.in_ok-arg.ensures.globals (c.in_ok-with_contexts.ensures.local c.in_ok-places.ensures.local) c.steps.ensures.local) c.big.ensures.local) c.arg-2.ensures
