@@ -12,9 +12,8 @@ use crate::commands::{
 };
 use crate::failure::{BAD_WORDS, FAILED, Failure, tell};
 use crate::places::Places;
-
-use bpf_request::{Request, Subject, request_of};
 use bpf_infer::Watch;
+use bpf_request::{Request, Subject, request_of};
 use clap::error::ErrorKind;
 use std::alloc::Global;
 use std::io::Write;

@@ -14,7 +14,6 @@ use crate::context::MAX_CONTEXT;
 use crate::failure::{DONE, Failure, REFUSED};
 use crate::keeping::Keeping;
 use crate::places::Places;
-use bpf_request::Subject;
 use bpf_cert::{CertError, Certificate, read};
 use bpf_check::check;
 use bpf_explain::{
@@ -23,6 +22,7 @@ use bpf_explain::{
 };
 use bpf_infer::Watch;
 use bpf_insn::{Code, DecodeError, Order, Program, ProgramView, decode};
+use bpf_request::Subject;
 use bpf_text::{TextError, assemble};
 use std::alloc::Global;
 use std::io::Write;

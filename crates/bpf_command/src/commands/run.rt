@@ -15,11 +15,11 @@ use crate::commands::each::{Runner, answered};
 use crate::commands::image::{program_at, refuse};
 use crate::commands::whole::context_at;
 use crate::context::context_of;
-use bpf_request::Contexts;
 use crate::failure::{DONE, Failure, REFUSED, say};
 use crate::places::Places;
 use bpf_insn::{Order, Program};
 use bpf_machine::{Outcome, run};
+use bpf_request::Contexts;
 use std::alloc::{AllocError, Global};
 use std::io::Write;
 

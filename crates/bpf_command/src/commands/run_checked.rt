@@ -11,10 +11,10 @@ use crate::commands::image::{program_at, refuse};
 use crate::commands::judged::{Wish, judged, judged_each};
 use crate::commands::whole::context_at;
 use crate::context::context_of;
-use bpf_request::Contexts;
 use crate::failure::Failure;
 use crate::places::Places;
 use bpf_insn::Order;
+use bpf_request::Contexts;
 use std::alloc::Global;
 use std::io::Write;
 
