@@ -6,8 +6,6 @@ use Rattle.std.specs.Prelude.{flat_map}
 use Rattle.bpf_insn.specs.Written.{AppendsBeginning, Gathers}
 use Rattle.bpf_insn.proofs.WriteLemmas.{gathers_more, waits_first, waits_later}
 
-pub ruleset gathers = (gathers_more, waits_first, waits_later)
-
 -- a list from one of its places on
 split_at : {X : Type 0} (xs : List X) (i : ℕ) (d : X) → i < length xs → xs ≡ take i xs ++ get_or xs i d ∷ drop (i + 1) xs
 split_at xs i d h = sym (take-append-drop i xs) ∙ ap (λ ys. take i xs ++ ys) (rw (add-one) (drop-cons xs i d h))

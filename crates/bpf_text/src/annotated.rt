@@ -63,7 +63,6 @@ fn put_bytes<W: Write>(pending: &mut Pending, out: &mut W, bytes: &[u8]) -> io::
 }
 
 /// Puts two texts.
-#[tactic(auto, using(crate::proofs::WriteLemmas::gathers))]
 fn put_two<W: Write>(
     pending: &mut Pending,
     out: &mut W,
@@ -80,7 +79,6 @@ fn put_two<W: Write>(
 }
 
 /// Puts a mark and bytes.
-#[tactic(auto, using(crate::proofs::WriteLemmas::gathers))]
 fn put_marked<W: Write>(
     pending: &mut Pending,
     out: &mut W,
@@ -97,7 +95,6 @@ fn put_marked<W: Write>(
 }
 
 /// Puts a text, a mark and bytes.
-#[tactic(auto, using(crate::proofs::WriteLemmas::gathers))]
 fn put_behind<W: Write>(
     pending: &mut Pending,
     out: &mut W,
@@ -115,7 +112,6 @@ fn put_behind<W: Write>(
 }
 
 /// Puts what begins a comment, a text, a mark and bytes.
-#[tactic(auto, using(crate::proofs::WriteLemmas::gathers))]
 fn put_all<W: Write>(
     pending: &mut Pending,
     out: &mut W,
@@ -152,7 +148,6 @@ fn put_comment<W: Write>(
 }
 
 /// Puts a comment and the line end.
-#[tactic(auto, using(crate::proofs::WriteLemmas::gathers))]
 fn put_note<W: Write>(
     pending: &mut Pending,
     out: &mut W,
@@ -170,7 +165,6 @@ fn put_note<W: Write>(
 }
 
 /// Puts blanks, a comment and the line end.
-#[tactic(auto, using(crate::proofs::WriteLemmas::gathers))]
 fn put_padded<W: Write>(
     pending: &mut Pending,
     out: &mut W,
@@ -189,7 +183,6 @@ fn put_padded<W: Write>(
 }
 
 /// Puts a text with its comment and the line end.
-#[tactic(auto, using(crate::proofs::WriteLemmas::gathers))]
 fn put_commented<W: Write>(
     pending: &mut Pending,
     out: &mut W,

@@ -1,0 +1,11 @@
+use Rattle.bpf_insn.proofs.WriteLemmas.{gathers_more, waits_first, waits_later, on_ok_map, on_err_map}
+use Rattle.bpf_text.proofs.annotated.put_marked.Goals as goal
+
+pub returns-in-Ok-clause-ok : goal.returns-in-Ok-clause-ok
+returns-in-Ok-clause-ok g c = on_ok_map c.put_bytes.result (gathers_more _ _ _ _ _ _ _ _ c.in-Ok.ensures.ok) c.put_bytes.ensures.ok
+
+pub returns-in-Ok-clause-err : goal.returns-in-Ok-clause-err
+returns-in-Ok-clause-err g c = on_err_map c.put_bytes.result (waits_later _ _ _ _ _ _ _ c.in-Ok.ensures.ok) c.put_bytes.ensures.err
+
+pub returns-in-Err-clause-err : goal.returns-in-Err-clause-err
+returns-in-Err-clause-err g c = waits_first _ _ c.args.pending.now c.args.mark.now _ c.in-Err.ensures.err
