@@ -1,8 +1,6 @@
-use Rattle.std.proofs.Common.{ap₂, rules, ◌≡◌, ◌∙◌}
-use Rattle.std.specs.Prelude.{false}
+use Rattle.std.proofs.Common.{ap₂, ◌∙◌}
 use Rattle.std.proofs.lemmas.Result.{IfOk-weaker}
-use Rattle.clap.specs.Words.{rule_of, with_rule}
-use Rattle.bpf_request.specs.CommandLine.{most}
+use Rattle.clap.specs.Words.{with_rule}
 use Rattle.bpf_request.proofs.CommandLemmas.{neither}
 use Rattle.bpf_request.proofs.words.infer_command.Goals as goal
 

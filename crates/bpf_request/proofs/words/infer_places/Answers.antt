@@ -1,9 +1,7 @@
-use Rattle.std.proofs.Common.{ap, ap₂, rules, ◌≡◌, ◌∙◌}
-use Rattle.std.specs.Prelude.{false}
+use Rattle.std.proofs.Common.{ap, ap₂, ◌∙◌}
 use Rattle.std.proofs.lemmas.Result.{IfOk-weaker}
-use Rattle.clap.specs.Words.{rule_of, with_rule}
+use Rattle.clap.specs.Words.{with_rule}
 use Rattle.clap.specs.Simple.{app_of_fields}
-use Rattle.bpf_request.specs.CommandLine.{context_length}
 use Rattle.bpf_request.proofs.CommandLemmas.{globals_of, neither}
 use Rattle.bpf_request.proofs.words.infer_places.Goals as goal
 

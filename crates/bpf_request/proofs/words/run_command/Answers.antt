@@ -1,9 +1,7 @@
-use Rattle.std.proofs.Common.{ap, ap₂, rules, ◌≡◌, ◌∙◌}
-use Rattle.std.specs.Prelude.{Some, pos, false}
+use Rattle.std.proofs.Common.{ap, ap₂, ◌∙◌}
 use Rattle.std.proofs.lemmas.Result.{IfOk-weaker}
-use Rattle.clap.specs.Words.{rule_of, with_rule}
-use Rattle.clap.specs.declared.builder.value_parser.ValueParser.TheVariants as parser
-use Rattle.bpf_request.specs.CommandLine.{steps, with_contexts}
+use Rattle.clap.specs.Words.{with_rule}
+use Rattle.bpf_request.specs.CommandLine.{with_contexts}
 use Rattle.bpf_request.proofs.CommandLemmas.{neither}
 use Rattle.bpf_request.proofs.words.run_command.Goals as goal
 
