@@ -1,5 +1,7 @@
 //! A line that says how far long work is.
 
+ghost use Rattle.std.specs.Prelude.{◌≡◌, false};
+
 use bpf_infer::Watch;
 use std::io::{IsTerminal, Write};
 use std::rt::Clock;
@@ -21,7 +23,11 @@ pub struct Progress<'a, C: Clock, E: Write + IsTerminal + Drop> {
 
 impl<'a, C: Clock, E: Write + IsTerminal + Drop> Progress<'a, C, E> {
     /// The work begins, and is shown on this stream if that is a terminal.
-    pub fn new(clock: &'a C, terminal: E) -> Self {
+    pub fn new(clock: &'a C, terminal: E) -> Self
+        ensures stream { result.terminal ≡ terminal }
+        ensures labels { result.labels ≡ 0 }
+        ensures shown { result.is_shown ≡ false }
+    {
         let start = if terminal.is_terminal() {
             Instant::now(clock).ok()
         } else {
