@@ -512,7 +512,6 @@ fn calls(rt: HostRuntime) {
 #[test]
 fn returns(rt: HostRuntime) {
     let mut caller = calling(&rt);
-    enter(&mut caller.copy());
     assert!(rt; leave(&mut caller, Num::constant(3)));
     assert!(rt; number_of(caller.reg(R0)) == (3, 3));
     assert!(rt; number_of(caller.reg(R2)) == NOTHING);
