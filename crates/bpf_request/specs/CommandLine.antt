@@ -1,8 +1,9 @@
 -- The command line, as its parser sees it.
-use Rattle.std.specs.Prelude.{◌≡◌, ◌≢◌, ℕ, Bool, List, [], Option, Some, None, is_some, is_none, not, ◌&&◌, ◌||◌, unwrap_or, pos, codes, true, false}
+use Rattle.std.specs.Prelude.{◌≡◌, ◌≢◌, ℕ, Bool, List, [], Option, Some, None, is_some, is_none, not, ◌&&◌, ◌||◌, unwrap_or, pos, codes, Result, IfOk, true, false}
 use Rattle.std.specs.Str.Parse.{ParsesUnsigned}
 use Rattle.std.specs.declared.num.ParseIntError.{ParseIntError}
-use Rattle.clap.specs.Words.{App, ReadsOne, Row, Rule, Text, first_of, one_of, new_app, new_rule, with_rule, with_subcommand}
+use Rattle.clap.specs.Words.{App, ReadsOne, Row, Rule, Text, app_of, first_of, one_of, new_app, new_rule, with_rule, with_subcommand}
+use Rattle.std.specs.declared.alloc.AllocError.{AllocError}
 use Rattle.clap.specs.declared.builder.command.Command.{Command}
 use Rattle.clap.specs.declared.builder.command.Command.TheViews.{out-Command}
 use Rattle.clap.specs.declared.builder.value_parser.ValueParser.TheVariants as parser
@@ -16,9 +17,9 @@ use Rattle.bpf_request.specs.declared.words.Request.TheVariants.{Groups, Asm, Li
 use Rattle.bpf_request.specs.declared.subject.Subject.{Subject}
 use Rattle.bpf_request.specs.declared.subject.Subject.TheVariants.{Image, Text as TextAlone, Certified, Slot, Inferred, Graph, GraphAlone, Misfit}
 
--- whether a command has an argument that its subcommands share
-abbrev pub has_globals : Command → Bool
-has_globals c = (out-Command c).has_globals
+-- a command as its parser sees it, with no argument that its subcommands share, unless memory ran out
+abbrev pub Grows : Result Command AllocError → App → Type 0
+Grows command app = IfOk command (λ c. (app_of c ≡ app) × ((out-Command c).has_globals ≡ false))
 
 -- a required word
 abbrev pub place : Text → Rule

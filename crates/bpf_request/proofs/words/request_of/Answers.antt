@@ -8,7 +8,7 @@ use Rattle.bpf_request.proofs.words.request_of.Goals as goal
 
 pub returns-clause-ok : goal.returns-clause-ok
 returns-clause-ok c =
-    let app_is : app_of c.in_ok-command.field-0 ≡ bpf = c.in_ok-command.ensures in
+    let app_is : app_of c.in_ok-command.field-0 ≡ bpf = c.in_ok-command.ensures.0 in
     let sub : subcommand_rows_of c.in-Ok.matches ≡ subcommand_of bpf (map (λ s. string_bytes s) c.args.words.now)
     = (c.in-Ok.ensures.matches (ap is_simple app_is)).1 ∙ ap (λ (a : App). subcommand_of a (map (λ s. string_bytes s) c.args.words.now)) app_is in
     elim c.match-subcommand.branch [
@@ -22,4 +22,4 @@ returns-clause-ok c =
     ]
 
 pub returns-in-Err-clause-accepts : goal.returns-in-Err-clause-accepts
-returns-in-Err-clause-accepts c = λ h. c.in-Err.ensures.passes (ap (λ (a : App). takes a (map (λ s. string_bytes s) c.args.words.now)) c.in_ok-command.ensures ∙ h)
+returns-in-Err-clause-accepts c = λ h. c.in-Err.ensures.passes (ap (λ (a : App). takes a (map (λ s. string_bytes s) c.args.words.now)) c.in_ok-command.ensures.0 ∙ h)
