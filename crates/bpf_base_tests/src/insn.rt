@@ -1,5 +1,5 @@
-//! Images, programs, and streams of images.
+//! Images, lists of instructions, and streams of images.
 
 mod images;
-mod instructions;
+mod lists;
 mod streams;
