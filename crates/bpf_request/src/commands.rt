@@ -1,8 +1,8 @@
 //! The commands and their arguments, as the parser knows them.
 
-ghost use Rattle.std.specs.Prelude.{◌≡◌, IfOk, false};
-ghost use Rattle.clap.specs.Words.{App, Rule, app_of, new_app, new_rule, rule_of, with_rule, with_subcommand};
-ghost use Rattle.bpf_request.specs.CommandLine.{Grows, asm, big, bpf, check, context_length, explain, explain_places, file, flag, groups, infer, infer_places, inferred, list, migrate, most, one_slot, place, run, run_checked, run_checked_places, run_places, steps, top, with_contexts, without_certificates};
+ghost use Rattle.std.specs.Prelude.{◌≡◌, false};
+ghost use Rattle.clap.specs.Words.{App, Rule, new_app, new_rule, rule_of, with_rule, with_subcommand};
+ghost use Rattle.bpf_request.specs.CommandLine.{Grows, asm, big, bpf, check, context_length, explain, explain_places, file, flag, groups, infer, inferred, list, migrate, most, one_slot, place, run, run_checked, steps, top, with_contexts, without_certificates};
 
 use clap::{Arg, ArgAction, Command, value_parser};
 use std::alloc::{AllocError, Global};
@@ -264,7 +264,7 @@ fn migrate_command<'a>(alloc: Global) -> Grown<'a>
     taking(command, place(alloc, "OUT", "where the certificate goes"))
 }
 
-/// `explain` with its words for names and its options with a number.
+/// `explain` with its words for names.
 fn explain_places<'a>(alloc: Global) -> Grown<'a>
     ensures { Grows result explain_places }
 {
