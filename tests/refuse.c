@@ -1,8 +1,11 @@
-/* Preloaded into the command by allocations.sh and io.sh: refuses or shortens one call of the C library, and counts.
+/* Preloaded into the command by failures.py and streams.py: refuses or shortens calls of the C library, and counts.
  *
  *   REFUSE_ALLOC=N   the Nth growth of memory (malloc, calloc, realloc) is refused
  *   REFUSE_IO=N      the Nth read or write (also open, fsync, rename) fails
  *   SHORT_IO=N       the Nth read or write of several bytes moves one
+ *   OUT_LEFT=N       standard output takes N bytes, and fails then; ERR_LEFT=N: standard error
+ *   NARROW=N         a write to standard output moves at most N bytes
+ *   CLOCK_STEP=N     the monotonic clock goes on by N milliseconds at each look
  *   COUNT_FILE=NAME  at the end a line "ALLOCS AFTER IO SHORT" is written there: all growths, those between the last
  *                    read and the first write, all reads and writes, those of several bytes
  *
@@ -16,7 +19,9 @@
 #include <stdio.h>
 #include <stdlib.h>
 #include <string.h>
+#include <sys/syscall.h>
 #include <sys/types.h>
+#include <time.h>
 #include <unistd.h>
 
 extern void *__libc_malloc(size_t);
@@ -24,18 +29,24 @@ extern void *__libc_calloc(size_t, size_t);
 extern void *__libc_realloc(void *, size_t);
 
 static long allocs, after, io, several, wrote;
-static long fail_alloc, fail_io, short_io;
+static long fail_alloc, fail_io, short_io, narrow, clock_step, looks;
+/* What standard output and standard error take yet; below 0: all. */
+static long left[] = {-1, -1, -1};
 static int on;
 
-static long number(const char *name) {
+static long number(const char *name, long absent) {
     const char *text = getenv(name);
-    return text ? strtol(text, NULL, 10) : 0;
+    return text ? strtol(text, NULL, 10) : absent;
 }
 
 __attribute__((constructor)) static void begin(void) {
-    fail_alloc = number("REFUSE_ALLOC");
-    fail_io = number("REFUSE_IO");
-    short_io = number("SHORT_IO");
+    fail_alloc = number("REFUSE_ALLOC", 0);
+    fail_io = number("REFUSE_IO", 0);
+    short_io = number("SHORT_IO", 0);
+    left[1] = number("OUT_LEFT", -1);
+    left[2] = number("ERR_LEFT", -1);
+    narrow = number("NARROW", 0);
+    clock_step = number("CLOCK_STEP", 0);
     on = 1;
 }
 
@@ -76,9 +87,20 @@ ssize_t read(int fd, void *to, size_t n) {
     return count < 0 ? (errno = EIO, -1) : real(fd, to, (size_t)count);
 }
 
+/* How many of so many bytes a stream takes; -1: none, it fails. */
+static ssize_t taken(int fd, ssize_t count) {
+    if (!on || (fd != 1 && fd != 2) || count <= 0) return count;
+    if (fd == 1 && narrow && count > narrow) count = narrow;
+    if (left[fd] < 0) return count;
+    if (left[fd] == 0) return -1;
+    if (count > left[fd]) count = left[fd];
+    left[fd] -= count;
+    return count;
+}
+
 ssize_t write(int fd, const void *from, size_t n) {
     static ssize_t (*real)(int, const void *, size_t);
-    ssize_t count = asked(n);
+    ssize_t count = taken(fd, asked(n));
     if (!real) *(void **)&real = dlsym(RTLD_NEXT, "write");
     if (on) wrote = 1;
     return count < 0 ? (errno = EIO, -1) : real(fd, from, (size_t)count);
@@ -94,4 +116,13 @@ int rename(const char *from, const char *to) {
     static int (*real)(const char *, const char *);
     if (!real) *(void **)&real = dlsym(RTLD_NEXT, "rename");
     return on && ++io == fail_io ? (errno = EIO, -1) : real(from, to);
+}
+
+int clock_gettime(clockid_t clock, struct timespec *now) {
+    long millis;
+    if (!on || !clock_step || clock != CLOCK_MONOTONIC) return (int)syscall(SYS_clock_gettime, clock, now);
+    millis = looks++ * clock_step;
+    now->tv_sec = millis / 1000;
+    now->tv_nsec = millis % 1000 * 1000000;
+    return 0;
 }
