@@ -1,4 +1,4 @@
-//! That a program and the view of its image are judged and run alike, and what a checked program tells.
+//! That a program and the view of its image are judged and run alike, and what a checked program and a refusal tell.
 
 use crate::same::assert_same;
 use bpf_cert::{Certificate, migrate, read};
@@ -6,13 +6,13 @@ use bpf_check::{Checked, VerifyError, check, verify};
 use bpf_insn::{Code, Order, Program, ProgramView, encode};
 use bpf_machine::{Outcome, run};
 use bpf_text::assemble;
-use std::alloc::Global;
+use std::alloc::{AllocError, Global};
 use std::process::Abort;
 use std::test::Fail;
 
-pub const SMALLEST: &str = "r0 = 0\nexit\n";
+const SMALLEST: &str = "r0 = 0\nexit\n";
 
-pub const SMALLEST_CERTIFICATE: &str = "bpfcert 1 0 2\nfn 0 1 *\nat 0 2\nend\n";
+const SMALLEST_CERTIFICATE: &str = "bpfcert 1 0 2\nfn 0 1 *\nat 0 2\nend\n";
 
 const COUNTDOWN: &str = "r6 = 10\nr6 += -1\nif r6 != 0 goto -2\nr0 = 0\nexit\n";
 
@@ -110,7 +110,7 @@ fn verdict_of_image(alloc: Global, image: &[u8], row: &Row) -> Answered {
 }
 
 /// The image of a program.
-pub fn image_of(alloc: Global, program: &Program) -> Result<Vec<u8>, Fail> {
+fn image_of(alloc: Global, program: &Program) -> Result<Vec<u8>, Fail> {
     let mut image = Vec::new(alloc);
     encode(program, &mut image)?;
     Ok(image)
@@ -172,7 +172,7 @@ fn programs_and_views_are_judged_alike(rt: HostRuntime) -> Result<(), Fail> {
 }
 
 /// The result of a run, and the instructions done.
-pub fn counted<C: Code>(program: &C, context: &[u8], fuel: u64) -> Option<(u64, u64)> {
+fn counted<C: Code>(program: &C, context: &[u8], fuel: u64) -> Option<(u64, u64)> {
     if context.len() > 4096 {
         return None;
     }
@@ -294,4 +294,35 @@ fn assert_told(rt: &(impl Abort + Alloc<A = Global>), program: &Program) -> Resu
 fn what_a_checked_program_tells(rt: HostRuntime) -> Result<(), Fail> {
     let program = assemble(rt.alloc(), FIELD, Order::Little)?;
     assert_told(&rt, &program)
+}
+
+/// What is said of the smallest program's image with a certificate.
+fn said_of(alloc: Global, image: &[u8], certificate: &str) -> Result<String, AllocError> {
+    match verify(alloc, image, Order::Little, certificate.as_bytes()) {
+        Ok(_) => String::from_str(alloc, "accepted"),
+        Err(error) => format!(in alloc; "{error}"),
+    }
+}
+
+/// Refused certificates of the smallest program, and what is said of each.
+const REFUSED: [[&str; 2]; 2] = [
+    [
+        "bpfcert 1 0 2\nfn 0 1 *\nat 0 1\nend\n",
+        "the program is not certified: at slot 1: the budget doesn't cover the cost",
+    ],
+    [
+        "bpfcert 1 0 2\nfn 0 1 u1..1\nat 0 2\nend\n",
+        "the program is not certified: at slot 1: a state doesn't entail what is claimed where it leads to",
+    ],
+];
+
+#[test]
+fn refusals_are_told(rt: HostRuntime) -> Result<(), Fail> {
+    let program = assemble(rt.alloc(), SMALLEST, Order::Little)?;
+    let image = image_of(rt.alloc(), &program)?;
+    for [certificate, message] in REFUSED {
+        let said = said_of(rt.alloc(), &image, certificate)?;
+        assert_same(&rt, &certificate, &said.as_str(), &message);
+    }
+    Ok(())
 }

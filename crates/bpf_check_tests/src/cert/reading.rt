@@ -1,6 +1,5 @@
-//! Texts that are read, and why texts are refused.
+//! Readers that give a text in pieces, or fail.
 
-use crate::patterns::add_each;
 use crate::same::assert_same;
 use bpf_cert::{Certificate, read, write};
 use std::alloc::{AllocError, Global};
@@ -94,21 +93,9 @@ fn assert_answer(
 
 const SMALLEST: &[u8] = b"bpfcert 1 0 2\nfn 0 1 *\nat 0 2\nend\n";
 
-#[test]
-fn worked_texts_are_read(rt: HostRuntime) {
-    let texts = [
-        "bpfcert 1 4096 9\nfn 0 1 *\nat 0 9\nr1 ctx0..12\nr9 fp-512..0\ns1 b254\ns2 u5..5,s5..5,k5/0\ns64 fp-8..-8\nend\n",
-        "bpfcert 1 16 100\nfn 0 2 *\nat 0 50 +1*r0 +2*(4-r6) +3*s1 +4*s64\nr0 *\nr6 s-9223372036854775808..-1\nfn 65535 1 k0/18446744073709551614\nat 65535 1\nend\n",
-        "bpfcert 2 0 4096 8195\nfn 0 1 *\nat 0 3 +2*r2\nr2 u0..4096\nat 2 1 +2*r2\nr0 *\nr2 u1..4096\nat 4 1\nr0 *\nend\n",
-    ];
-    for text in texts {
-        assert_answer(&rt, &text, whole(text.as_bytes()), (0, 0));
-    }
-}
-
 // where the text ends too early, and where the reader fails: it isn't asked again
 #[test]
-fn cut_texts(rt: HostRuntime) {
+fn readers_that_end_or_fail(rt: HostRuntime) {
     for (length, line) in [(0, 1), (12, 1), (14, 2), (30, 4), (33, 4)] {
         let (text, rest) = SMALLEST.split_at(length);
         assert_answer(&rt, &("cut at", length), whole(text), (1, line));
@@ -117,21 +104,21 @@ fn cut_texts(rt: HostRuntime) {
 }
 
 #[test]
-fn texts_with_more_behind_them(rt: HostRuntime) {
+fn readers_that_fail_behind_more(rt: HostRuntime) {
     let more = b"bpfcert 1 0 2\nfn 0 1 *\nat 0 2\nend\nx".as_slice();
     let empty_line = b"bpfcert 1 0 2\nfn 0 1 *\nat 0 2\nend\n\n".as_slice();
     let earlier = b"bpfcert 1 0 2\nfx\nat".as_slice();
     assert_answer(&rt, &"end, failed", failing(SMALLEST, b""), (5, 5));
-    assert_answer(&rt, &"more", whole(more), (1, 5));
     assert_answer(&rt, &"more, failed", failing(more, b""), (1, 5));
     assert_answer(&rt, &"empty line", failing(empty_line, b""), (1, 5));
     assert_answer(&rt, &"earlier", failing(earlier, b""), (1, 2));
 }
 
-// one text for each number; the others stand in tests/rows, whole
+// one text for each number, and one that is read; the others stand in tests/rows, whole
 #[test]
-fn refused_in_pieces(rt: HostRuntime) {
+fn texts_in_pieces(rt: HostRuntime) {
     for (text, expected) in [
+        ("bpfcert 2 4 4096 2\nfn 0 1 *\nat 0 2\nr1 ctx0..0\nend\n", (0, 0)),
         ("bpfcert 1 0 2\nfn 0 1 *\nat 0 2\nr0 b1\n", (1, 4)),
         ("bpfcert 1 0 2\nfn 0 1 *\nat 0 2\ns1 *\nr99 *\n", (2, 5)),
         ("bpfcert 1 0 2\nfn 0 1 *\nat 0 1099511627777\n", (3, 3)),
@@ -140,55 +127,21 @@ fn refused_in_pieces(rt: HostRuntime) {
     }
 }
 
-// so many zeros, and an LF behind them or none
-fn zeros(alloc: Global, count: usize, end: &[u8]) -> Result<Vec<u8>, AllocError> {
+// so many zeros
+fn zeros(alloc: Global, count: usize) -> Result<Vec<u8>, AllocError> {
     let mut text = Vec::new(alloc);
     for _ in 0..count {
         text.push(b'0')?;
     }
-    text.extend_from_slice(end)?;
     Ok(text)
 }
 
 // 256 bytes may be looked into, 257 may not
 #[test]
-fn lines_of_256_bytes(rt: HostRuntime) -> Result<(), Fail> {
-    let text = zeros(rt.alloc(), 256, b"")?;
-    assert_answer(&rt, &"256 bytes, cut", whole(&text), (1, 1));
-    assert_answer(&rt, &"256 bytes, failed", failing(&text, b""), (5, 1));
-    Ok(())
-}
-
-#[test]
-fn lines_of_257_bytes(rt: HostRuntime) -> Result<(), Fail> {
-    let text = zeros(rt.alloc(), 257, b"")?;
-    assert_answer(&rt, &"257 bytes, cut", whole(&text), (3, 1));
-    assert_answer(&rt, &"257 bytes, failed", failing(&text, b""), (3, 1));
-    Ok(())
-}
-
-#[test]
-fn whole_lines_of_257_bytes(rt: HostRuntime) -> Result<(), Fail> {
-    let text = zeros(rt.alloc(), 257, b"\n")?;
-    assert_answer(&rt, &"257 bytes", whole(&text), (3, 1));
-    Ok(())
-}
-
-#[test]
-fn many_functions(rt: HostRuntime) -> Result<(), Fail> {
-    let mut text = String::from_str(rt.alloc(), "bpfcert 1 0 2\n")?;
-    add_each(rt.alloc(), &mut text, "fn A 1 *\nat A 2\n", 257)?;
-    let error = answer(rt.alloc(), whole(text.as_bytes()), 4096);
-    assert_same(&rt, &"functions", &error, &(3, 514));
-    Ok(())
-}
-
-#[test]
-fn many_labels(rt: HostRuntime) -> Result<(), Fail> {
-    let mut text = String::from_str(rt.alloc(), "bpfcert 1 0 2\nfn 0 1 *\n")?;
-    add_each(rt.alloc(), &mut text, "at A 2\n", 65_536)?;
-    text.push_str("fn 1 1 *\nat 0 2\n")?;
-    let error = answer(rt.alloc(), whole(text.as_bytes()), 4096);
-    assert_same(&rt, &"labels", &error, &(3, 65_540));
+fn readers_that_fail_in_long_lines(rt: HostRuntime) -> Result<(), Fail> {
+    for (count, refusal) in [(256, (5, 1)), (257, (3, 1))] {
+        let text = zeros(rt.alloc(), count)?;
+        assert_answer(&rt, &count, failing(&text, b""), refusal);
+    }
     Ok(())
 }

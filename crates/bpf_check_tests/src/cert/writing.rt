@@ -1,10 +1,9 @@
 //! Worked certificates and their texts.
 
-use crate::patterns::add;
 use crate::same::assert_same;
 use arrayvec::ArrayVec;
 use bpf_cert::{
-    Budget, CertError, Certificate, Function, Label, Measure, Place, Term, migrate, read, write,
+    Budget, CertError, Certificate, Function, Label, Measure, Place, Term, write,
 };
 use bpf_insn::Reg;
 use bpf_num::{Num, Unsigned};
@@ -217,49 +216,6 @@ fn a_tag_comes_before_other_refusals(rt: HostRuntime) -> Result<(), Fail> {
     let refused = refusal(rt.alloc(), [0, 4097, 4096, 0], &state)?;
     assert_same(&rt, &"tagged", &refused, &(2, 0));
     Ok(())
-}
-
-fn add_registers(alloc: Global, text: &mut String, slot: u64) -> Result<(), AllocError> {
-    for number in 0..9u64 {
-        add(
-            alloc,
-            text,
-            "rA fp-B..C\n",
-            &[number, number.saturating_add(1), slot],
-        )?;
-    }
-    Ok(())
-}
-
-fn add_slots(alloc: Global, text: &mut String) -> Result<(), AllocError> {
-    for number in 1..65u64 {
-        add(alloc, text, "sA bA\n", &[number])?;
-    }
-    Ok(())
-}
-
-fn add_full(alloc: Global, text: &mut String) -> Result<(), AllocError> {
-    text.push_str("bpfcert 1 0 2\nfn 0 1 *\n")?;
-    for slot in 0..9u64 {
-        add(alloc, text, "at A 1\n", &[slot])?;
-        add_registers(alloc, text, slot)?;
-        add_slots(alloc, text)?;
-    }
-    text.push_str("end\n")
-}
-
-fn assert_written_again(rt: &(impl Abort + Alloc<A = Global>), text: &[u8]) -> Result<(), Fail> {
-    let certificate = read(rt.alloc(), text)?;
-    assert_written(rt, &certificate, text)
-}
-
-// Each label says something of nine registers and of all slots. The text is longer than a piece that goes out at once.
-#[test]
-fn full_labels(rt: HostRuntime) -> Result<(), Fail> {
-    let mut text = String::new(rt.alloc());
-    add_full(rt.alloc(), &mut text)?;
-    assert!(rt; text.len() > 4096);
-    assert_written_again(&rt, text.as_bytes())
 }
 
 fn assert_failing(rt: &(impl Abort + Alloc<A = Global>), certificate: &Certificate, writes: usize) {
