@@ -4,7 +4,7 @@
   in whole ones; the status is 3, and where standard output failed, standard error says so.
 - Where standard error fails as well, the status alone tells it.
 - A deep search is shown on a terminal, in one line that is cleared at the end, by a clock that the shim drives; elsewhere nothing is.
-- A word for a context has its limit."""
+- A word for a context has its limit, and a jump in a text that is explained."""
 
 import os
 import pathlib
@@ -74,6 +74,12 @@ CONTEXTS = [
     (4096, "", Told(0, b"done 4096 steps 2\n", b"")),
     (4097, "", Told(2, b"", b"context too long\n")),
     (4097, "2", Told(2, b"", b"bad hex\n")),
+]
+
+# How many lines a jump goes back over, and what is told of the text.
+FAR = [
+    (32767, Told(1, b"A5 at line 32769: the label `start` is more than 32767 slots away: `gotol` reaches it\n", b"")),
+    (32766, Told(0, b"a program of 32768 slots\n", b"")),
 ]
 
 
@@ -167,10 +173,14 @@ def hold_progress():
             wrong(f"a search by {step} milliseconds a look, {'on a' if is_terminal else 'without a'} terminal", lines, "nothing")
 
 
-def hold_contexts():
+def hold_limits():
     for times, more, wanted in CONTEXTS:
         if (got := told(["run", "length.img", "2a" * times + more, "--steps", "2"])) != wanted:
             wrong(f"a context of {times} times two digits{' and one more' if more else ''}", got, wanted)
+    for lines, wanted in FAR:
+        (FOLDER / "far.asm").write_text("start: r0 = 0\n" + "r0 = 0\n" * lines + "goto start\n")
+        if (got := told(["explain", "--text", "far.asm"])) != wanted:
+            wrong(f"a jump over {lines} lines", got, wanted)
 
 
 def make_files():
@@ -189,7 +199,7 @@ def main():
         for it in [*out, *err]:
             it.result()
     hold_progress()
-    hold_contexts()
+    hold_limits()
     print(f"streams: {len(out)} rooms of standard output, {len(err)} of standard error, a search shown, no wrong answer")
 
 
