@@ -118,7 +118,10 @@ fn readers_that_fail_behind_more(rt: HostRuntime) {
 #[test]
 fn texts_in_pieces(rt: HostRuntime) {
     for (text, expected) in [
-        ("bpfcert 2 4 4096 2\nfn 0 1 *\nat 0 2\nr1 ctx0..0\nend\n", (0, 0)),
+        (
+            "bpfcert 2 4 4096 2\nfn 0 1 *\nat 0 2\nr1 ctx0..0\nend\n",
+            (0, 0),
+        ),
         ("bpfcert 1 0 2\nfn 0 1 *\nat 0 2\nr0 b1\n", (1, 4)),
         ("bpfcert 1 0 2\nfn 0 1 *\nat 0 2\ns1 *\nr99 *\n", (2, 5)),
         ("bpfcert 1 0 2\nfn 0 1 *\nat 0 1099511627777\n", (3, 3)),

@@ -2,9 +2,7 @@
 
 use crate::same::assert_same;
 use arrayvec::ArrayVec;
-use bpf_cert::{
-    Budget, CertError, Certificate, Function, Label, Measure, Place, Term, write,
-};
+use bpf_cert::{Budget, CertError, Certificate, Function, Label, Measure, Place, Term, write};
 use bpf_insn::Reg;
 use bpf_num::{Num, Unsigned};
 use bpf_state::{Area, Pointer, RegState, SlotState, State, Tag};
