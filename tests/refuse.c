@@ -1,11 +1,12 @@
-/* Preloaded into the command by failures.py and streams.py: refuses or shortens calls of the C library, and counts.
+/* Preloaded into the command by failures.py and streams.py: refuses, fails or shortens calls of the C library, and counts.
  *
  *   REFUSE_ALLOC=N   the Nth growth of memory (malloc, calloc, realloc) is refused
  *   REFUSE_IO=N      the Nth read or write (also open, fsync, rename) fails
  *   SHORT_IO=N       the Nth read or write of several bytes moves one
- *   OUT_LEFT=N       standard output takes N bytes, and fails then; ERR_LEFT=N: standard error
+ *   OUT_LEFT=N       standard output takes N bytes more in all: a write takes what it can of them, and then writes fail
+ *   ERR_LEFT=N       the same of standard error
  *   NARROW=N         a write to standard output moves at most N bytes
- *   CLOCK_STEP=N     the monotonic clock goes on by N milliseconds at each look
+ *   CLOCK_STEP_MS=N  the monotonic clock stands at 0, and goes on by N milliseconds at each look
  *   COUNT_FILE=NAME  at the end a line "ALLOCS AFTER IO SHORT" is written there: all growths, those between the last
  *                    read and the first write, all reads and writes, those of several bytes
  *
@@ -29,24 +30,26 @@ extern void *__libc_calloc(size_t, size_t);
 extern void *__libc_realloc(void *, size_t);
 
 static long allocs, after, io, several, wrote;
-static long fail_alloc, fail_io, short_io, narrow, clock_step, looks;
-/* What standard output and standard error take yet; below 0: all. */
-static long left[] = {-1, -1, -1};
+static long fail_alloc, fail_io, short_io, narrow;
+/* of standard output and standard error; -1 where there is no limit */
+static long left[3] = {-1, -1, -1};
+/* -1 where the clock is the system's */
+static long clock_step = -1;
 static int on;
 
-static long number(const char *name, long absent) {
+static long number(const char *name, long otherwise) {
     const char *text = getenv(name);
-    return text ? strtol(text, NULL, 10) : absent;
+    return text ? strtol(text, NULL, 10) : otherwise;
 }
 
 __attribute__((constructor)) static void begin(void) {
     fail_alloc = number("REFUSE_ALLOC", 0);
     fail_io = number("REFUSE_IO", 0);
     short_io = number("SHORT_IO", 0);
-    left[1] = number("OUT_LEFT", -1);
-    left[2] = number("ERR_LEFT", -1);
     narrow = number("NARROW", 0);
-    clock_step = number("CLOCK_STEP", 0);
+    left[STDOUT_FILENO] = number("OUT_LEFT", -1);
+    left[STDERR_FILENO] = number("ERR_LEFT", -1);
+    clock_step = number("CLOCK_STEP_MS", -1);
     on = 1;
 }
 
@@ -79,23 +82,22 @@ static ssize_t asked(size_t n) {
     return (ssize_t)n;
 }
 
+/* How many of n bytes a stream takes, which has so many left; -1 where it takes none. */
+static ssize_t taken(int fd, ssize_t n) {
+    if (!on || n <= 0) return n;
+    if (fd == STDOUT_FILENO && narrow && n > narrow) n = narrow;
+    if (fd < STDOUT_FILENO || fd > STDERR_FILENO || left[fd] < 0) return n;
+    if (n > left[fd]) n = left[fd];
+    left[fd] -= n;
+    return n ? n : -1;
+}
+
 ssize_t read(int fd, void *to, size_t n) {
     static ssize_t (*real)(int, void *, size_t);
     ssize_t count = asked(n);
     if (!real) *(void **)&real = dlsym(RTLD_NEXT, "read");
     if (on) after = 0;
     return count < 0 ? (errno = EIO, -1) : real(fd, to, (size_t)count);
-}
-
-/* How many of so many bytes a stream takes; -1: none, it fails. */
-static ssize_t taken(int fd, ssize_t count) {
-    if (!on || (fd != 1 && fd != 2) || count <= 0) return count;
-    if (fd == 1 && narrow && count > narrow) count = narrow;
-    if (left[fd] < 0) return count;
-    if (left[fd] == 0) return -1;
-    if (count > left[fd]) count = left[fd];
-    left[fd] -= count;
-    return count;
 }
 
 ssize_t write(int fd, const void *from, size_t n) {
@@ -118,11 +120,12 @@ int rename(const char *from, const char *to) {
     return on && ++io == fail_io ? (errno = EIO, -1) : real(from, to);
 }
 
-int clock_gettime(clockid_t clock, struct timespec *now) {
-    long millis;
-    if (!on || !clock_step || clock != CLOCK_MONOTONIC) return (int)syscall(SYS_clock_gettime, clock, now);
-    millis = looks++ * clock_step;
-    now->tv_sec = millis / 1000;
-    now->tv_nsec = millis % 1000 * 1000000;
+/* (by the system call, since a sanitizer looks at the clock from inside of dlsym) */
+int clock_gettime(clockid_t clock, struct timespec *to) {
+    static long now;
+    if (!on || clock_step < 0 || clock != CLOCK_MONOTONIC) return (int)syscall(SYS_clock_gettime, clock, to);
+    to->tv_sec = now / 1000;
+    to->tv_nsec = now % 1000 * 1000000;
+    now += clock_step;
     return 0;
 }

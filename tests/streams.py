@@ -1,208 +1,245 @@
-"""streams.py BPF SHIM: the command where standard output or standard error fails behind any byte, and what it shows of a search.
+"""streams.py BPF EXAMPLES SHIM: the command where a stream takes so many bytes and then fails, and what it shows on a terminal.
 
-- What goes out before a fault is a beginning of the undisturbed text, as long as the stream had room, in pieces of seven bytes or
-  in whole ones; the status is 3, and where standard output failed, standard error says so.
-- Where standard error fails as well, the status alone tells it.
-- A deep search is shown on a terminal, in one line that is cleared at the end, by a clock that the shim drives; elsewhere nothing is.
-- A word for a context has its limit, and a jump in a text that is explained."""
-
+Where standard output takes so many bytes, 7 a write, what goes out is a beginning of the whole text: of explanations, graphs,
+checks, listings and runs it is tried with each length, of long texts at the edges of their pieces. Where it fails, that is told
+on standard error; where that fails as well, the status is all that is left. A context on the command line has up to 4,096 bytes.
+A deep search shows its line on a terminal by a clock that goes on at each look, and shows nothing elsewhere."""
+import errno
 import os
 import pathlib
-import pty
 import re
 import subprocess
 import sys
 import tempfile
-from collections import namedtuple
+import tty
 from concurrent.futures import ThreadPoolExecutor
 
-BPF, SHIM = sys.argv[1], sys.argv[2]
-SECONDS = 60
-FAILED = b"cannot write standard output\n"
-
-# What a command answered.
-Told = namedtuple("Told", "status out err")
+BPF, EXAMPLES, SHIM = os.path.abspath(sys.argv[1]), pathlib.Path(sys.argv[2]).absolute(), os.path.abspath(sys.argv[3])
+TOLD = b'cannot write standard output\n'
+CLEARED = '\r\x1b[K'
+# the longest text that is tried with each length
+LONGEST = 2_000
 
 TEXTS = {
-    "small.asm": "r0 = 0\nexit\n",
-    "small.cert": "bpfcert 1 0 2\nfn 0 1 *\nat 0 2\nend\n",
-    "loop.asm": "r6 = 10\nr6 += -1\nif r6 != 0 goto -2\nr0 = 0\nexit\n",
-    "cheap.cert": "bpfcert 1 0 23\nfn 0 1 *\nat 0 23\nat 1 2 +1*r6\nr6 u1..10\nend\n",
-    "endless.asm": "goto -1\n",
-    "length.asm": "r0 = r2\nexit\n",
-    "long.asm": "r0 = 0\n" * 599 + "exit\n",
-    "long.cert": "bpfcert 1 0 600\nfn 0 1 *\nat 0 600\nend\n",
-    "refused.asm": "r0 = 0\nr1 = r11\n",
-    "refused.cert": "bpfcert 3 0 2\n",
+    'falling': 'r6 = 10\nr6 += -1\nif r6 != 0 goto -2\nr0 = 0\nexit\n',
+    'endless': 'goto -1\n',
+    'long': 'r0 = 0\n' * 599 + 'exit\n',
+    'last-byte': 'r0 = *(u8 *)(r1 + 4095)\nexit\n',
+    'nest': 'r0 = 0\nr6 = 3\na: r7 = 3\nb: r8 = 3\nc: r8 += -1\nif r8 != 0 goto c\n'
+            'r7 += -1\nif r7 != 0 goto b\nr6 += -1\nif r6 != 0 goto a\nexit\n',
 }
-
-REFUSED_IMAGE = bytes.fromhex("b710000000000000")
-
-# Each way to explain, of a short program, of a refused one and of one for which nothing is found.
-EXPLAINED = [
-    "explain small.img small.cert",
-    "explain small.img small.cert --slot 1",
-    "explain small.img --infer 0",
-    "explain small.img --infer 0 --deep",
-    "explain refused.img",
-    "explain --text refused.asm",
-    "explain small.img refused.cert",
-    "explain small.img small.cert --dot",
-    "explain small.img --dot",
-    "explain loop.img cheap.cert",
-    "explain loop.img cheap.cert --dot",
-    "explain endless.img --infer 0",
-    "explain endless.img --infer 0 --deep",
+FILES = {
+    'falling.cert': b'bpfcert 1 0 23\nfn 0 1 *\nat 0 23\nat 1 2 +1*r6\nr6 u1..10\nend\n',
+    'long.cert': b'bpfcert 1 0 600\nfn 0 1 *\nat 0 600\nend\n',
+    'refused.img': b'\xb7\x10\0\0\0\0\0\0',
+    'refused.asm': b'r0 = 0\nr1 = r11\n',
+    'refused.cert': b'bpfcert 3 0 2\n',
+}
+# the words, and the status where nothing fails
+CALLS = [
+    ('explain smallest.img smallest.cert', 0),
+    ('explain smallest.img smallest.cert --slot 1', 0),
+    ('explain smallest.img --infer 0', 0),
+    ('explain smallest.img --infer 0 --deep', 0),
+    ('explain refused.img', 1),
+    ('explain --text refused.asm', 1),
+    ('explain smallest.img refused.cert', 1),
+    ('explain smallest.img smallest.cert --dot', 0),
+    ('explain smallest.img --dot', 0),
+    ('explain falling.img falling.cert', 1),
+    ('explain falling.img falling.cert --dot', 1),
+    ('explain endless.img --infer 0', 1),
+    ('explain endless.img --infer 0 --deep', 1),
 ]
-
-# Texts of several pieces.
-LONG = ["explain long.img long.cert", "explain long.img long.cert --dot"]
-
-# Commands with all that they say.
-SAID = [
-    ("check small.img small.cert", "yes length 0 bound 2\n"),
-    ("list small.img", "r0 = 0\nexit\n"),
-    ("explain small.img", "an image of 2 slots\n"),
-    ("run small.img none --steps 2", "done 0 steps 2\n"),
+# the words, and what they say
+LINES = [
+    ('check smallest.img smallest.cert', b'yes length 0 bound 2\n'),
+    ('list smallest.img', b'r0 = 0\nexit\n'),
+    ('explain smallest.img', b'an image of 2 slots\n'),
+    ('run smallest.img none --steps 2', b'done 0 steps 2\n'),
 ]
-
-# Commands that say something on standard error: their status, and the one where that fails.
-COMPLAINTS = [("groups nowhere", 3, 3), ("run small.img zz --steps 9", 2, 3), ("groups", 2, 2)]
-
-# How many times two hexadecimal digits, what stands behind them, and what is answered.
+LONG_CALLS = ['explain long.img long.cert', 'explain long.img long.cert --dot']
+# the words, the status, and the one where standard error fails
+SILENT = [('groups nowhere', 3, 3), ('run smallest.img zz --steps 9', 2, 3), ('groups', 2, 2)]
+# the context, the status, and what is said on the two streams
 CONTEXTS = [
-    (4096, "", Told(0, b"done 4096 steps 2\n", b"")),
-    (4097, "", Told(2, b"", b"context too long\n")),
-    (4097, "2", Told(2, b"", b"bad hex\n")),
-]
-
-# How many lines a jump goes back over, and what is told of the text.
-FAR = [
-    (32767, Told(1, b"A5 at line 32769: the label `start` is more than 32767 slots away: `gotol` reaches it\n", b"")),
-    (32766, Told(0, b"a program of 32768 slots\n", b"")),
+    ('2a' * 4096, 0, b'done 42 steps 2\n', b''),
+    ('2a' * 4097, 2, b'', b'context too long\n'),
+    ('2a' * 4097 + '2', 2, b'', b'bad hex\n'),
 ]
 
 
-def wrong(what, got, wanted):
-    sys.exit(f"streams: {what}\n  got    {got}\n  wanted {wanted}")
+class Wrong(Exception):
+    """An answer that isn't right."""
 
 
-def told(words, **disturbed):
-    env = {**os.environ, "LD_PRELOAD": SHIM, **{name: str(value) for name, value in disturbed.items()}}
-    done = subprocess.run([BPF, *words], cwd=FOLDER, env=env, capture_output=True, timeout=SECONDS)
-    return Told(done.returncode, done.stdout, done.stderr)
+def require(what, got, right):
+    if got != right:
+        raise Wrong(f'{what}\n  got   {got}\n  right {right}')
 
 
-def hold_output(whole, words, room, narrow):
-    """Standard output takes so many bytes."""
-    got = told(words, OUT_LEFT=room, NARROW=narrow)
-    cut = Told(3, whole.out[:room], FAILED)
-    if got != (cut if room < len(whole.out) else whole):
-        wrong(f"{words} with room for {room} bytes of standard output", got, cut)
+def environment(disturbed):
+    return {**os.environ, 'LD_PRELOAD': SHIM, **{name: str(value) for name, value in disturbed.items()}}
 
 
-def hold_error(words, room, status):
-    """Standard error takes so many bytes."""
-    whole = told(words)
-    got, cut = told(words, ERR_LEFT=room), Told(status, b"", whole.err[:room])
-    if got != cut:
-        wrong(f"{words} with room for {room} bytes of standard error", got, cut)
+def answer(words, **disturbed):
+    """The status and what goes out on the two streams."""
+    done = subprocess.run([BPF, *words.split()], env=environment(disturbed), capture_output=True, timeout=60, check=False)
+    return done.returncode, done.stdout, done.stderr
 
 
-def outputs():
-    """What standard output is tried with: each room of a short text, and those about a piece of a long one."""
-    for line, said in SAID:
-        whole = Told(0, said.encode(), b"")
-        for room in range(len(said) + 1):
-            yield whole, line.split(), room, 7
-    for line in EXPLAINED:
-        whole = told(line.split())
-        if whole.err or not 0 < len(whole.out) <= 2000:
-            wrong(f"{line} with room for all", whole, "a short text")
-        for room in range(len(whole.out) + 1):
-            yield whole, line.split(), room, 7
-    for line in LONG:
-        whole = told(line.split())
-        if whole.err or len(whole.out) <= 8192:
-            wrong(f"{line} with room for all", whole.err, "a text of over two pieces")
-        for room in (0, 1, 4095, 4096, 4097, 8191, 8192, len(whole.out)):
-            yield whole, line.split(), room, 0
+# ---- standard output
+
+def whole_of(words, status):
+    """What goes out where nothing fails."""
+    got = answer(words)
+    require(words, (got[0], got[2]), (status, b''))
+    return got[1]
 
 
-def errors():
-    """What standard error is tried with."""
-    for line, status, failed in COMPLAINTS:
-        whole = told(line.split())
-        if whole.status != status or whole.out or len(whole.err) < 4:
-            wrong(line, whole, f"status {status}, and words on standard error")
-        for room in range(min(len(whole.err), 40)):
-            yield line.split(), room, failed
+def try_room(case):
+    """Whether a beginning goes out where standard output takes so many bytes."""
+    words, status, whole, room = case
+    right = (status, whole, b'') if room >= len(whole) else (3, whole[:room], TOLD)
+    require(f'{words}: standard output takes {room} bytes', answer(words, OUT_LEFT=room, NARROW=7), right)
 
 
-def shown(words, step, is_terminal):
-    """What a search shows on standard error by a clock of so many milliseconds a look."""
-    env = {**os.environ, "LD_PRELOAD": SHIM, "CLOCK_STEP": str(step)}
-    if not is_terminal:
-        return subprocess.run([BPF, *words], cwd=FOLDER, env=env, capture_output=True, timeout=SECONDS).stderr
-    ours, theirs = pty.openpty()
-    done = subprocess.run([BPF, *words], cwd=FOLDER, env=env, stderr=theirs, timeout=SECONDS)
-    os.write(theirs, b"\n")
-    os.close(theirs)
-    seen = b""
-    while not seen.endswith(b"\n"):
-        seen += os.read(ours, 65536)
-    os.close(ours)
-    if done.returncode:
-        wrong(f"{words} on a terminal", done.returncode, 0)
-    return seen.rstrip(b"\r\n")
+def rooms_of(words, status):
+    """Each room for a text, up to the whole of it."""
+    whole = whole_of(words, status)
+    require(f'{words}: up to {LONGEST} bytes are written', len(whole) <= LONGEST, True)
+    return [(words, status, whole, room) for room in range(len(whole) + 1)]
 
 
-def hold_progress():
-    """After a second, and then at most four times a second; the counts and the seconds never fall."""
-    words = ["infer", "loop.img", "0", "found.cert", "--deep"]
-    lines = shown(words, 200, True)
-    if not re.fullmatch(rb"(\rbpf: searching, \d+ labels gone over, \d+ s){2,}\r\x1b\[K", lines):
-        wrong("a search on a terminal", lines, "lines that are rewritten, and cleared")
-    counts = [(int(labels), int(seconds)) for labels, seconds in re.findall(rb"(\d+) labels gone over, (\d+) s", lines)]
-    rises = all(a[0] < b[0] and a[1] <= b[1] <= a[1] + 1 for a, b in zip(counts, counts[1:]))
-    # (from a line to the next there are two looks of 200 milliseconds, so no four lines are of one second)
-    if not rises or counts[0][1] < 1 or any(a[1] == d[1] for a, d in zip(counts, counts[3:])):
-        wrong("a search on a terminal", counts, "more labels each time, the seconds as they go")
-    for step, is_terminal in ((1, True), (200, False)):
-        if lines := shown(words, step, is_terminal):
-            wrong(f"a search by {step} milliseconds a look, {'on a' if is_terminal else 'without a'} terminal", lines, "nothing")
+def long_rooms_of(words):
+    """Rooms for a text of several pieces."""
+    whole = whole_of(words, 0)
+    require(f'{words}: more than 8192 bytes are written', len(whole) > 8192, True)
+    return [(words, 0, whole, room) for room in (0, 1, 4095, 4096, 4097, 8191, 8192, len(whole))]
 
 
-def hold_limits():
-    for times, more, wanted in CONTEXTS:
-        if (got := told(["run", "length.img", "2a" * times + more, "--steps", "2"])) != wanted:
-            wrong(f"a context of {times} times two digits{' and one more' if more else ''}", got, wanted)
-    for lines, wanted in FAR:
-        (FOLDER / "far.asm").write_text("start: r0 = 0\n" + "r0 = 0\n" * lines + "goto start\n")
-        if (got := told(["explain", "--text", "far.asm"])) != wanted:
-            wrong(f"a jump over {lines} lines", got, wanted)
+def all_rooms():
+    for words, said in LINES:
+        require(words, whole_of(words, 0), said)
+    calls = CALLS + [(words, 0) for words, _ in LINES]
+    return [room for call in calls for room in rooms_of(*call)] + [room for words in LONG_CALLS for room in long_rooms_of(words)]
 
+
+# ---- standard error and the words
+
+def try_silent():
+    """Where standard error fails, what it took is a beginning of the line, and the status says the rest."""
+    for words, told, status in SILENT:
+        undisturbed, out, whole = answer(words)
+        require(words, (undisturbed, out, len(whole) > 3), (told, b'', True))
+        for room in (0, 3):
+            require(f'{words}: standard error takes {room} bytes', answer(words, ERR_LEFT=room), (status, b'', whole[:room]))
+
+
+def try_contexts():
+    for context, *right in CONTEXTS:
+        require(f'run with a context of {len(context)} digits', answer(f'run last-byte.img {context} --steps 9'), tuple(right))
+
+
+# ---- the line on a terminal
+
+def on_terminal(words, step, both=False):
+    """What a terminal shows of the command, by a clock that goes on by so many milliseconds at each look; and the status.
+    Standard error is that terminal, and where both are asked for, so is standard output."""
+    master, slave = os.openpty()
+    tty.setraw(slave)
+    out = slave if both else subprocess.DEVNULL
+    with subprocess.Popen([BPF, *words.split()], env=environment({'CLOCK_STEP_MS': step}), stdout=out, stderr=slave) as child:
+        os.close(slave)
+        shown = b''.join(iter(lambda: read_terminal(master), b''))
+    os.close(master)
+    return shown.decode(), child.returncode
+
+
+def read_terminal(master):
+    try:
+        return os.read(master, 65536)
+    except OSError as error:
+        # so a terminal says that nobody writes to it any more
+        if error.errno != errno.EIO:
+            raise
+        return b''
+
+
+def line_of(labels, millis):
+    return f'\rbpf: searching, {labels} labels gone over, {millis // 1000} s'
+
+
+def shown_of(labels, step):
+    """What is to be shown of a search that has gone over so many labels at each look: after a second, and then four times
+    a second at most."""
+    due, lines = 1000, []
+    for look, count in enumerate(labels, 1):
+        if look * step >= due:
+            due = look * step + 250
+            lines.append(line_of(count, look * step))
+    return ''.join(lines) + (CLEARED if lines else '')
+
+
+def labels_of(words):
+    """How many labels were gone over at each look: a clock that goes on by a second shows them all."""
+    shown, _ = on_terminal(words, 1000)
+    labels = [int(it) for it in re.findall(r'searching, (\d+) labels', shown)]
+    require(f'{words}, a look a second', shown, shown_of(labels, 1000))
+    require(f"{words}: at least 20 looks, and labels that don't fall", len(labels) >= 20 and labels == sorted(labels), True)
+    return labels
+
+
+def try_terminal():
+    """A deep search shows its line by the clock alone, finds the same, and clears it before anything else is printed."""
+    explained = 'explain nest.img --infer 0 --deep'
+    whole = whole_of(explained, 0)
+    looks = 0
+    for words in ('infer --deep nest.img 0 nest.cert', explained):
+        labels = labels_of(words)
+        for step in (0, 1, 10, 200, 249, 250, 999, 1001):
+            require(f'{words}, {step} ms a look', on_terminal(words, step), (shown_of(labels, step), 0))
+        looks += len(labels)
+    require('both streams on a terminal', on_terminal(explained, 200, both=True), (shown_of(labels, 200) + whole.decode(), 0))
+    require('no terminal', answer(explained, CLOCK_STEP_MS=1000), (0, whole, b''))
+    require('a plain search', on_terminal('infer nest.img 0 OUT', 1000)[0], '')
+    return looks
+
+
+# ---- all of it
 
 def make_files():
+    for name in ('smallest.img', 'smallest.cert'):
+        pathlib.Path(name).write_bytes((EXAMPLES / name).read_bytes())
+    for name, data in FILES.items():
+        pathlib.Path(name).write_bytes(data)
     for name, text in TEXTS.items():
-        (FOLDER / name).write_text(text)
-    (FOLDER / "refused.img").write_bytes(REFUSED_IMAGE)
-    for name in ("small", "loop", "endless", "length", "long"):
-        subprocess.run([BPF, "asm", f"{name}.asm", f"{name}.img"], cwd=FOLDER, check=True)
+        pathlib.Path(f'{name}.asm').write_text(text, encoding='ascii')
+        subprocess.run([BPF, 'asm', f'{name}.asm', f'{name}.img'], check=True)
+
+
+def try_all():
+    make_files()
+    try_silent()
+    try_contexts()
+    looks = try_terminal()
+    rooms = all_rooms()
+    with ThreadPoolExecutor(os.cpu_count()) as pool:
+        for _ in pool.map(try_room, rooms):
+            pass
+    print(f'streams: {len(rooms)} rooms, {len(SILENT)} lines cut on standard error, {len(CONTEXTS)} contexts, {looks} looks at a clock, '
+          'no wrong answer')
 
 
 def main():
-    make_files()
-    with ThreadPoolExecutor(os.cpu_count()) as pool:
-        out = [pool.submit(hold_output, *tried) for tried in outputs()]
-        err = [pool.submit(hold_error, *tried) for tried in errors()]
-        for it in [*out, *err]:
-            it.result()
-    hold_progress()
-    hold_limits()
-    print(f"streams: {len(out)} rooms of standard output, {len(err)} of standard error, a search shown, no wrong answer")
+    with tempfile.TemporaryDirectory(prefix='bpf-streams-') as folder:
+        os.chdir(folder)
+        try:
+            try_all()
+        except Wrong as it:
+            print(f'streams: {it}')
+            return 1
+    return 0
 
 
-with tempfile.TemporaryDirectory() as room_for_files:
-    FOLDER = pathlib.Path(room_for_files)
-    main()
+sys.exit(main())
