@@ -16,7 +16,7 @@ import sys
 import tempfile
 from concurrent.futures import ThreadPoolExecutor
 
-BPF = sys.argv[1]
+BPF = os.path.abspath(sys.argv[1])
 SECONDS = 60
 LONGEST_RUN = 1_000_000
 
