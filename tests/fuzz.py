@@ -186,7 +186,8 @@ def try_certificate(run, r, image, text, order):
 
 
 def try_each_alteration(run, image, text):
-    """Each image that differs from a small one in one byte: where its certificate still certifies it, it is done within the bound."""
+    """Each image that differs from the smallest one in one byte: where its certificate still certifies it, it is done within the bound.
+    So it is with any other constant, and with a 32-bit move."""
     name, certificate = run.put('i.img', image), run.put('c.cert', text.encode())
     accepted = 0
     for at in range(len(image)):
@@ -197,6 +198,8 @@ def try_each_alteration(run, image, text):
                 accepted += 1
                 if run.bpf('run', name, 'none', '--steps', answer.split()[-1])[0] != 0:
                     raise Wrong(f'byte {at} as {byte}: {answer!r}, and the run is not done')
+    if accepted != 4 * 255 + 1:
+        raise Wrong(f'{accepted} alterations of the smallest image are certified')
     print(f'fuzz: {255 * len(image)} alterations of the smallest image, {accepted} of them certified, each done within the bound')
 
 
