@@ -1,5 +1,5 @@
 -- A certificate in the making, one part later.
-use Rattle.std.proofs.Common.{◌≡◌, ℕ, ◌+◌, ◌-◌, ◌<◌, ◌≤◌, List, ◌++◌, map, sym, ap, ◌∙◌, arith}
+use Rattle.std.proofs.Common.{◌≡◌, ℕ, ◌+◌, ◌-◌, ◌<◌, ◌≤◌, List, ◌++◌, map, sym, ap, subst, ◌∙◌, arith}
 use Rattle.std.proofs.lemmas.List.{map-set, set-append_left, set-append_right, length-take-le, length-map, get_or_append_left, get_or-map, get_or-take}
 use Rattle.std.proofs.Math.Seq.{take-set-lt, get_or-append_right}
 use Rattle.std.proofs.Common.{take, length, get_or, refl}
@@ -7,11 +7,16 @@ use Rattle.std.proofs.Math.ListN.{set}
 use Rattle.bpf_insn.specs.declared.instruction.Reg.{Reg}
 use Rattle.bpf_insn.specs.Instruction.{register_number}
 use Rattle.bpf_state.specs.State.{value_slot, AbstractState, IsState, register, slot}
+use Rattle.bpf_state.specs.declared.state.Place.{Place}
 use Rattle.bpf_state.specs.declared.state.RegState.{RegState}
 use Rattle.bpf_state.specs.declared.state.RegState.TheVariants as reg
 use Rattle.bpf_state.specs.declared.state.SlotState.{SlotState}
 use Rattle.bpf_state.specs.declared.state.SlotState.TheVariants as slot
 use Rattle.bpf_cert.specs.Spelling.{contents}
+use Rattle.bpf_cert.specs.code.Building.{Puts, index_of}
+use Rattle.bpf_cert.specs.code.Sound.{IsLabelState}
+use Rattle.bpf_cert.specs.declared.building.Builder.{Builder}
+use Rattle.bpf_cert.proofs.WritingLemmas.{length-contents}
 
 -- the contents of a state with a register changed
 pub contents_register : (registers : List RegState) (slots : List SlotState) (i : ℕ) (value : RegState) (content : SlotState) → i ≤ 9 → length registers ≡ 11 → value_slot value ≡ content
@@ -54,3 +59,20 @@ register_unsaid s r few is e = no_value (register s r) (sym (content_register s 
 
 pub slot_unsaid : (s : AbstractState) (k : ℕ) → 1 ≤ k → IsState s → get_or (contents s) (9 + k) (slot.Bytes 0) ≡ slot.Bytes 0 → slot s k ≡ slot.Bytes 0
 slot_unsaid s k low is e = sym (content_slot s (9 + k) (k - 1) (omega arith) is) ∙ e
+
+-- a builder in which the state of the last label alone is another one
+pub puts : (place : Place) (content : SlotState) (old : Builder) (state new : AbstractState) → new ≡ state → IsState old.label.state → contents state ≡ set (contents old.label.state) (index_of place) content
+    → (IsLabelState old.label.state → IsLabelState state) → Puts place content old (record old { label = record old.label { state = new } })
+puts place content old state new e is said sound =
+    record {
+      keeps = record { header = refl; standing = refl };
+      list = refl;
+      last = refl;
+      functions = refl;
+      function = refl;
+      slot = refl;
+      budget = refl;
+      said = ap contents e ∙ said;
+      long = length-contents old.label.state is;
+      sound = λ known. subst IsLabelState (sym e) (sound known);
+    }

@@ -16,6 +16,7 @@ use crate::cut::{next_field, three_fields, two_fields};
 use crate::finding::{Flaw, both, tested};
 use crate::num::are_plain;
 use crate::number::{between, is_numeral, is_plain, number};
+use bpf_insn::MAX_CONTEXT;
 
 /// What the first line says.
 #[derive(Clone, Copy, Debug)]
@@ -97,7 +98,7 @@ fn one_value(len: &[u8], steps: &[u8]) -> Result<Header, Flaw>
 {
     let bytes = number(len);
     let most = number(steps);
-    let limited = both(bytes <= 4096, between(1, 0xffff_ffff, most));
+    let limited = both(bytes <= MAX_CONTEXT as u128, between(1, 0xffff_ffff, most));
     match tested(are_plain(len, steps), limited) {
         Ok(()) => Ok(Header {
             version: 1,
@@ -121,7 +122,7 @@ fn range_value(least: &[u8], most: &[u8], steps: &[u8]) -> Result<Header, Flaw>
     let high = number(most);
     let count = number(steps);
     let canonical = both(are_plain(least, most), is_plain(steps));
-    let lengths = both(low <= high, high <= 4096);
+    let lengths = both(low <= high, high <= MAX_CONTEXT as u128);
     let limited = both(lengths, between(1, 0xffff_ffff, count));
     match tested(canonical, limited) {
         Ok(()) => Ok(Header {

@@ -10,9 +10,30 @@ ghost use Rattle.bpf_insn.specs.Instruction.{register_number};
 
 use crate::certificate::{Function, Label, Measure, Term};
 use crate::header::Header;
-use bpf_insn::Reg;
+use bpf_insn::{MAX_CONTEXT, MAX_FRAMES, MAX_SLOTS, Reg};
 use bpf_num::Num;
 use bpf_state::{Entries, Place, Pointer, RegState, SlotState, State, numbered};
+
+/// The most functions.
+pub const MAX_FUNCTIONS: usize = 256;
+
+/// The most labels of all functions together.
+pub const MAX_LABELS: usize = 65_536;
+
+/// The greatest slot at which a function or a label stands.
+pub const LAST_SLOT: u32 = MAX_SLOTS as u32 - 1;
+
+/// The greatest depth of a function.
+pub const MAX_DEPTH: u32 = MAX_FRAMES as u32;
+
+/// The most terms of a budget.
+pub const MAX_TERMS: usize = 4;
+
+/// The greatest base of a budget.
+pub const MAX_BASE: u64 = 1 << 40;
+
+/// The greatest weight of a term.
+pub const MAX_WEIGHT: u32 = 1 << 20;
 
 // ---- order
 
@@ -261,7 +282,7 @@ pub fn is_limited_term(term: &Term) -> bool
         Measure::Down(place) => is_limited_place(place),
         Measure::Up(place, _limit) => is_limited_place(place),
     };
-    1 <= term.weight && term.weight <= 1 << 20 && is_limited_measure
+    1 <= term.weight && term.weight <= MAX_WEIGHT && is_limited_measure
 }
 
 fn are_limited_terms(terms: &[Term]) -> bool
@@ -278,9 +299,9 @@ fn are_limited_terms(terms: &[Term]) -> bool
 fn is_limited_label(label: &Label) -> bool
     ensures { result ≡ limits.is_limited_label (label_view label.now) }
 {
-    label.slot <= 65_535
+    label.slot <= LAST_SLOT
         && is_limited_state(&label.state)
-        && label.budget.base <= 1 << 40
+        && label.budget.base <= MAX_BASE
         && are_limited_terms(label.budget.terms.as_slice())
 }
 
@@ -299,9 +320,9 @@ fn are_limited_labels(labels: &[Label]) -> bool
 fn is_limited_function(function: &Function) -> bool
     ensures { result ≡ limits.is_limited_function (function_view function.now) }
 {
-    function.first <= 65_535
+    function.first <= LAST_SLOT
         && 1 <= function.depth
-        && function.depth <= 8
+        && function.depth <= MAX_DEPTH
         && is_limited_num(function.ret)
         && !function.labels.is_empty()
         && are_limited_labels(&function.labels)
@@ -323,7 +344,7 @@ fn are_limited_functions(functions: &[Function]) -> bool
 fn has_few_labels(functions: &[Function]) -> bool
     ensures { result ≡ nat_le (sum_by label_count (map function_view functions.now)) 65536 }
 {
-    let mut room = 65_536;
+    let mut room = MAX_LABELS;
     for function in functions {
         if function.labels.len() > room {
             return false;
@@ -348,7 +369,7 @@ fn is_limited_header(header: Header) -> bool
 {
     is_version(header.version, header.least, header.most)
         && header.least <= header.most
-        && header.most <= 4096
+        && header.most <= MAX_CONTEXT as u32
         && 1 <= header.steps
 }
 
@@ -358,7 +379,7 @@ pub fn is_limited(header: Header, functions: &[Function]) -> bool
 {
     is_limited_header(header)
         && 1 <= functions.len()
-        && functions.len() <= 256
+        && functions.len() <= MAX_FUNCTIONS
         && has_few_labels(functions)
         && are_limited_functions(functions)
 }

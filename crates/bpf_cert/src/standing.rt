@@ -16,6 +16,7 @@ use crate::content::content;
 use crate::cut::{next_field, three_fields};
 use crate::finding::{Flaw, both, joined, tested};
 use crate::header::{Header, header_form, header_value};
+use crate::limits::{LAST_SLOT, MAX_BASE, MAX_DEPTH, MAX_FUNCTIONS, MAX_LABELS};
 use crate::num::{are_plain, number_in};
 use crate::number::{between, is_numeral, number};
 use crate::place::{PlaceForm, is_limited_place, is_plain_place, place, place_value};
@@ -194,7 +195,10 @@ impl Standing {
         let slot = number(first);
         let deep = number(depth);
         let canonical = both(are_plain(first, depth), rises(self.first, slot));
-        let limited = both(slot <= 65_535, between(1, 8, deep));
+        let limited = both(
+            slot <= LAST_SLOT as u128,
+            between(1, MAX_DEPTH as u128, deep),
+        );
         let found = tested(canonical, both(limited, self.has_room_for_function()));
         match joined(found, number_in(ret)) {
             Ok(ret) => Ok(LineValue::Function {
@@ -219,8 +223,8 @@ impl Standing {
         let slot = number(at);
         let most = number(base);
         let canonical = both(are_plain(at, base), rises(self.slot, slot));
-        let limited = both(slot <= 65_535, most <= 1 << 40);
-        let found = tested(canonical, both(limited, self.labels < 65_536));
+        let limited = both(slot <= LAST_SLOT as u128, most <= MAX_BASE as u128);
+        let found = tested(canonical, both(limited, self.labels < MAX_LABELS as u32));
         match joined(found, all_terms(terms)) {
             Ok(terms) => Ok(LineValue::Label {
                 slot: slot as u32,
@@ -364,7 +368,8 @@ impl Standing {
     {
         match self.stage {
             Stage::Function => false,
-            Stage::Start | Stage::Header | Stage::Label | Stage::Ended => self.functions < 256,
+            Stage::Start | Stage::Header | Stage::Label | Stage::Ended => self.functions
+                < MAX_FUNCTIONS as u32,
         }
     }
 

@@ -14,6 +14,7 @@ ghost use Rattle.bpf_cert.specs.code.TermSums.{IsTermSum, is_plain_term, IsPlain
 use crate::certificate::{Measure, Term};
 use crate::cut::{behind, cut};
 use crate::finding::{Flaw, joined, tested};
+use crate::limits::MAX_WEIGHT;
 use crate::number::{HUGE, is_numeral, is_plain, number};
 use crate::place::{PlaceForm, is_before, is_limited_place, is_plain_place, place, place_value};
 use arrayvec::ArrayVec;
@@ -81,7 +82,7 @@ fn is_limited_term(term: TermForm<'_>) -> bool
         Some(limit) => number(limit) < HUGE,
     };
     let weight = number(term.weight);
-    1 <= weight && weight <= 1 << 20 && is_limited_limit && is_limited_place(term.place)
+    1 <= weight && weight <= MAX_WEIGHT as u128 && is_limited_limit && is_limited_place(term.place)
 }
 
 fn term_value(term: TermForm<'_>) -> Term

@@ -9,7 +9,6 @@ use Rattle.std.specs.List.{list_all}
 use Rattle.bpf_state.specs.State.{AbstractState, tag}
 use Rattle.bpf_state.specs.declared.state.Tag.{Tag}
 use Rattle.bpf_state.specs.declared.state.Place.{Place}
-use Rattle.bpf_state.specs.declared.state.Place.TheVariants.{Register, Slot}
 use Rattle.bpf_cert.specs.declared.certificate.Term.{Term}
 use Rattle.bpf_cert.specs.View.{LabelView}
 use Rattle.bpf_cert.specs.Limits.{is_limited_label, is_limited_term}

@@ -1,6 +1,6 @@
 -- Searches in lists that rise by a key.
 use Rattle.std.proofs.Common.{◌≡◌, ℕ, zero, suc, ◌-◌, ◌<◌, ◌≤◌, Bool, true, false, cond, ◌&&◌, List, [], ◌∷◌, ◌++◌, length, map, take, drop, get_or, Option, Some, None, refl, sym, ap, subst, ◌∙◌, arith}
-use Rattle.std.specs.Prelude.{nat_lt, nat_le, ◌==◌}
+use Rattle.std.specs.Prelude.{nat_le, ◌==◌}
 use Rattle.std.specs.List.{list_all}
 use Rattle.std.specs.Prelude.{option_map}
 use Rattle.std.proofs.lemmas.Option.{none-some, same_Some}
@@ -9,10 +9,7 @@ use Rattle.std.proofs.Common.{add-zero}
 use Rattle.std.proofs.lemmas.Bool.{true≢false, leb-true, eq-eqb, and_parts, and_from, ltb-true, leb-false, le-leb, lt-leb, ne_eqb, cond-true, cond-false}
 use Rattle.bpf_cert.specs.Faults.{is_rising}
 use Rattle.bpf_safety.specs.Labels.{first_with}
-use Rattle.bpf_check.specs.code.Search.{last_up_to, with_key}
-
-abbrev pub rises : {A : Type 0} → (A → ℕ) → List A → Bool
-rises key xs = is_rising (λ x y. nat_lt (key x) (key y)) xs
+use Rattle.bpf_check.specs.code.Search.{rises, last_up_to, with_key}
 
 pub is_rising-map : {A B : Type 0} (before : B → B → Bool) (f : A → B) (xs : List A) → is_rising before (map f xs) ≡ is_rising (λ x y. before (f x) (f y)) xs
 is_rising-map before f [] = refl

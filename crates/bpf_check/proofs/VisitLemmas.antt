@@ -1,13 +1,11 @@
 -- What a visit finds of an instruction that a state reaches.
-use Rattle.std.proofs.Common.{◌≡◌, ℕ, List, [], count_by, ◌+◌, ◌*◌, ◌^◌, ◌≤◌, Bool, true, false, ◌&&◌, ◌||◌, cond, Option, Some, None, refl, sym, ap, ap₂, ◌∙◌, arith, ℤ}
+use Rattle.std.proofs.Common.{◌≡◌, ℕ, List, [], count_by, ◌+◌, ◌*◌, ◌^◌, ◌≤◌, Bool, true, false, ◌&&◌, ◌||◌, Option, Some, None, refl, sym, ap, ap₂, ◌∙◌, arith, ℤ}
 use Rattle.std.specs.Prelude.{if◌then◌else◌, is_none, option_map, is_some, IfSome, Ok, Err, ◌==◌}
 use Rattle.std.specs.List.{list_any}
 use Rattle.std.proofs.lemmas.Option.{IfSome_then}
 use Rattle.std.proofs.lemmas.Int.{ints}
 use Rattle.bpf_insn.specs.declared.order.Order.{Order}
 use Rattle.bpf_insn.specs.declared.instruction.Insn.{Insn}
-use Rattle.bpf_insn.specs.declared.instruction.Insn.TheVariants.{Alu, Neg, MovSx, End, LoadImm64, Load, LoadSx, Store, StoreImm, Atomic, Ja, JaLong, JumpIf, CallLocal, Exit}
-use Rattle.std.proofs.Common.{lit≤}
 use Rattle.bpf_insn.specs.Instruction.{Instructions, slots, slot_count}
 use Rattle.bpf_state.specs.declared.fault.StateFault.{StateFault}
 use Rattle.bpf_state.specs.State.{AbstractState}
@@ -27,6 +25,7 @@ use Rattle.bpf_check.specs.code.Counting.{counted_times, compared, worked_at}
 use Rattle.bpf_check.specs.declared.arrival.Here.{Here}
 use Rattle.bpf_check.proofs.CountLemmas.{times_more}
 use Rattle.bpf_check.proofs.EdgeLemmas.{edges_live, edges_dead, next_live, next_dead}
+use Rattle.bpf_check.proofs.PassLemmas.{one_slot}
 
 -- a cost at the next slot fits
 pub cost_fits : (slot : ℕ) (o : Option ℤ) → slot ≤ 65535 → IfSome o (λ z. IsWithin ((slot + 1) * 2 ^ 94) z) → IfSome o (λ z. IsWithin (2 ^ 112) z)
@@ -165,23 +164,6 @@ live_worked p c slot i a s' alive old w1 w2 w3 w4 e1 e2 e3 is_alive told e4 =
     e4 ∙ worked_on p c slot i a old w1 w2 w3 (edges_of c slot i s') (record { enters = e1; returns = e2; transfers = e3 }) (edges_without p c (visit_with slot i (Some a)) i a both.0 ∙ edges_live p c slot i a s' both.1)
 
 -- ---- the next slot
-
-one_slot : (i : Insn) → 1 ≤ slot_count i
-one_slot (Alu op width dst src) = lit≤ tt
-one_slot (Neg width dst) = lit≤ tt
-one_slot (MovSx width bits dst src) = lit≤ tt
-one_slot (End kind bits dst) = lit≤ tt
-one_slot (LoadImm64 dst value) = lit≤ tt
-one_slot (Load size dst src off) = lit≤ tt
-one_slot (LoadSx size dst src off) = lit≤ tt
-one_slot (Store size dst off src) = lit≤ tt
-one_slot (StoreImm size dst off imm) = lit≤ tt
-one_slot (Atomic wide op dst off src) = lit≤ tt
-one_slot (Ja off) = lit≤ tt
-one_slot (JaLong off) = lit≤ tt
-one_slot (JumpIf cond width dst src off) = lit≤ tt
-one_slot (CallLocal off) = lit≤ tt
-one_slot Exit = lit≤ tt
 
 wider : (slot n : ℕ) (z : ℤ) → 1 ≤ n → IsWithin ((slot + 1) * 2 ^ 94) z → IsWithin ((slot + n) * 2 ^ 94) z
 wider slot n z more w = let low = w.low in let high = w.high in record { low = omega (arith, ints); high = omega (arith, ints) }

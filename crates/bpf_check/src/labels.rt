@@ -1,28 +1,57 @@
 //! Which function and which label of a certificate stand at a slot.
 
-ghost use Rattle.std.specs.Prelude.{◌≡◌, ◌==◌, map, option_map, option_copied, IfSome, IsTrue, None};
+ghost use Rattle.std.specs.Prelude.{◌≡◌, ◌==◌, ℕ, map, option_map, option_copied, IfSome, IsTrue, None};
 ghost use Rattle.bpf_cert.specs.Faults.{is_rising};
 ghost use Rattle.bpf_cert.specs.View.{label_view, function_view};
 ghost use Rattle.bpf_cert.specs.Limits.{slot_before, first_before, is_limited_label, is_limited_function};
 ghost use Rattle.bpf_safety.specs.Labels.{first_with, label_at, function_at, function_from};
-ghost use Rattle.bpf_check.specs.code.Search.{last_up_to};
+ghost use Rattle.bpf_check.specs.code.Search.{rises, last_up_to};
 ghost use Rattle.bpf_check.specs.Places.{are_in_place};
 
 use crate::index::Index;
 use bpf_cert::{Function, Label};
 
-/// The last label that stands at a slot or before it.
-fn last_label(labels: &[Label], slot: u32) -> Option<&Label>
-    requires { IsTrue (is_rising slot_before (map label_view labels.now)) }
-    ensures { option_copied result ≡ last_up_to (λ l. l.slot) None slot labels.now }
+/// What begins at a slot of a program: a function or a label.
+trait Begins {
+    /// Its slot.
+    ghost slot: { Self → ℕ };
+
+    fn begins_at(&self) -> u32
+        ensures { result ≡ slot self.now };
+}
+
+impl Begins for Function {
+    ghost slot = { λ f. f.first };
+
+    fn begins_at(&self) -> u32 {
+        self.first
+    }
+}
+
+impl Begins for Label {
+    ghost slot = { λ l. l.slot };
+
+    fn begins_at(&self) -> u32 {
+        self.slot
+    }
+}
+
+/// The last that begins at a slot or before it.
+fn last_from<T: Begins>(items: &[T], slot: u32) -> Option<&T>
+    requires { IsTrue (rises T.slot items.now) }
+    ensures { option_copied result ≡ last_up_to T.slot None slot items.now }
 {
-    let mut rest = labels;
+    let mut rest = items;
     'rest: while rest.len() > 1 {
         let (front, back) = rest.split_at(rest.len() / 2);
-        rest = if back[0].slot <= slot { back } else { front };
+        rest = if back[0].begins_at() <= slot {
+            back
+        } else {
+            front
+        };
     }
     match rest.first() {
-        Some(label) if label.slot <= slot => Some(label),
+        Some(item) if item.begins_at() <= slot => Some(item),
         _ => None,
     }
 }
@@ -36,7 +65,7 @@ fn label_among(labels: &[Label], slot: u32) -> Option<&Label>
     if labels.is_empty() || slot < labels[0].slot || labels[labels.len() - 1].slot < slot {
         return None;
     }
-    let Some(label) = last_label(labels, slot) else {
+    let Some(label) = last_from(labels, slot) else {
         return None;
     };
     if label.slot == slot {
@@ -103,29 +132,13 @@ pub fn label_at<'a>(certificate: &'a Index, slot: u32) -> Option<&'a Label>
     label_given(certificate, function_at(certificate, slot), slot)
 }
 
-/// The last function that begins at a slot or before it.
-fn last_function(functions: &[Function], slot: u32) -> Option<&Function>
-    requires { IsTrue (is_rising first_before (map function_view functions.now)) }
-    ensures { option_copied result ≡ last_up_to (λ f. f.first) None slot functions.now }
-{
-    let mut rest = functions;
-    'rest: while rest.len() > 1 {
-        let (front, back) = rest.split_at(rest.len() / 2);
-        rest = if back[0].first <= slot { back } else { front };
-    }
-    match rest.first() {
-        Some(function) if function.first <= slot => Some(function),
-        _ => None,
-    }
-}
-
 /// The function that a slot lies in.
 pub fn function_at<'a>(certificate: &'a Index, slot: u32) -> Option<&'a Function>
     ensures value { option_map function_view (option_copied result) ≡ function_at certificate.now slot }
     ensures limited { IfSome result (λ f. IsTrue (is_limited_function (function_view f.now))) }
 {
     certificate.valid();
-    last_function(certificate.functions(), slot)
+    last_from(certificate.functions(), slot)
 }
 
 /// The function that begins at a slot.

@@ -4,12 +4,10 @@ ghost use Rattle.std.specs.Prelude.{◌≡◌, ◌⊎◌, ◌≤◌, IfOk, IfErr
 ghost use Rattle.bpf_command.specs.Context.{context_in, max_context};
 ghost use Rattle.bpf_command.specs.declared.context.ContextError.TheVariants.{Memory};
 
+use bpf_insn::MAX_CONTEXT;
 use hex::FromHexError;
 use std::alloc::Global;
 use thiserror::Error;
-
-/// The most bytes that a context has.
-pub const MAX_CONTEXT: usize = 4096;
 
 /// Why a word is no context.
 #[derive(Clone, Copy, Debug, PartialEq, Eq, Error)]

@@ -3,7 +3,6 @@
 
 mod dispatch;
 mod machine;
-mod numbers;
 mod runs;
 mod seldom;
 mod step;

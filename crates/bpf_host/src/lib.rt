@@ -24,19 +24,13 @@ use answers::{
     BAD_CALL, DONE, NO_MEMORY, REFUSED, TOO_SMALL, of_outcome, of_verify, order_of, unrun,
 };
 use bpf_check::verify;
-use bpf_insn::ProgramView;
+use bpf_insn::{MAX_CONTEXT, MAX_IMAGE, ProgramView};
 use checked::end_of;
 use prepared::{has_room, put, size_for};
 use proposal::{Unproposed, give, proposal};
 use runs::outcome_of;
 use std::alloc::Global;
 use texts::{give_beginning, text_of};
-
-/// The most bytes of an image.
-const MAX_IMAGE: usize = 524_288;
-
-/// The most bytes of a context.
-const MAX_CONTEXT: usize = 4096;
 
 /// Whether a certificate certifies an image in a byte order, 0 little-endian or 1 big-endian. 1: yes, and `verdict` is what
 /// is promised. 0: no, and `refusal` says why. -1: memory ran out. -2: the order is neither 0 nor 1. What isn't answered

@@ -21,44 +21,70 @@ pub fn extended(imm: i32) -> u64
     i64::from(imm).cast_unsigned()
 }
 
+/// What an operation makes of two numbers of so many bits.
+macro_rules! computed {
+    ($op:expr, $a:expr, $b:expr, $bits:expr) => {
+        match $op {
+            AluOp::Add => $a.wrapping_add($b),
+            AluOp::Sub => $a.wrapping_sub($b),
+            AluOp::Mul => $a.wrapping_mul($b),
+            AluOp::Div => if $b == 0 { 0 } else { $a / $b },
+            AluOp::SDiv => {
+                if $b == 0 {
+                    0
+                } else {
+                    $a.cast_signed()
+                        .wrapping_div($b.cast_signed())
+                        .cast_unsigned()
+                }
+            }
+            AluOp::Or => $a | $b,
+            AluOp::And => $a & $b,
+            AluOp::Lsh => $a << ($b % $bits),
+            AluOp::Rsh => $a >> ($b % $bits),
+            AluOp::Mod => if $b == 0 { $a } else { $a % $b },
+            AluOp::SMod => {
+                if $b == 0 {
+                    $a
+                } else {
+                    $a.cast_signed()
+                        .wrapping_rem($b.cast_signed())
+                        .cast_unsigned()
+                }
+            }
+            AluOp::Xor => $a ^ $b,
+            AluOp::Mov => $b,
+            AluOp::Arsh => ($a.cast_signed() >> ($b % $bits)).cast_unsigned(),
+        }
+    };
+}
+
+/// Whether a test holds of two numbers of one width.
+macro_rules! compared {
+    ($cond:expr, $a:expr, $b:expr) => {
+        match $cond {
+            Cond::Eq => $a == $b,
+            Cond::Gt => $a > $b,
+            Cond::Ge => $a >= $b,
+            Cond::Set => $a & $b != 0,
+            Cond::Ne => $a != $b,
+            Cond::SGt => $a.cast_signed() > $b.cast_signed(),
+            Cond::SGe => $a.cast_signed() >= $b.cast_signed(),
+            Cond::Lt => $a < $b,
+            Cond::Le => $a <= $b,
+            Cond::SLt => $a.cast_signed() < $b.cast_signed(),
+            Cond::SLe => $a.cast_signed() <= $b.cast_signed(),
+        }
+    };
+}
+
 impl AluOp {
     /// The result of an operation on 64-bit numbers.
     #[inline(always)]
     pub fn compute_64(self, a: u64, b: u64) -> u64
         ensures { result ≡ compute w64 self a b }
     {
-        match self {
-            AluOp::Add => a.wrapping_add(b),
-            AluOp::Sub => a.wrapping_sub(b),
-            AluOp::Mul => a.wrapping_mul(b),
-            AluOp::Div => if b == 0 { 0 } else { a / b },
-            AluOp::SDiv => {
-                if b == 0 {
-                    0
-                } else {
-                    a.cast_signed()
-                        .wrapping_div(b.cast_signed())
-                        .cast_unsigned()
-                }
-            }
-            AluOp::Or => a | b,
-            AluOp::And => a & b,
-            AluOp::Lsh => a << (b % 64),
-            AluOp::Rsh => a >> (b % 64),
-            AluOp::Mod => if b == 0 { a } else { a % b },
-            AluOp::SMod => {
-                if b == 0 {
-                    a
-                } else {
-                    a.cast_signed()
-                        .wrapping_rem(b.cast_signed())
-                        .cast_unsigned()
-                }
-            }
-            AluOp::Xor => a ^ b,
-            AluOp::Mov => b,
-            AluOp::Arsh => (a.cast_signed() >> (b % 64)).cast_unsigned(),
-        }
+        computed!(self, a, b, 64)
     }
 
     /// The result of an operation on 32-bit numbers.
@@ -66,38 +92,7 @@ impl AluOp {
     pub fn compute_32(self, a: u32, b: u32) -> u32
         ensures { result ≡ compute w32 self a b }
     {
-        match self {
-            AluOp::Add => a.wrapping_add(b),
-            AluOp::Sub => a.wrapping_sub(b),
-            AluOp::Mul => a.wrapping_mul(b),
-            AluOp::Div => if b == 0 { 0 } else { a / b },
-            AluOp::SDiv => {
-                if b == 0 {
-                    0
-                } else {
-                    a.cast_signed()
-                        .wrapping_div(b.cast_signed())
-                        .cast_unsigned()
-                }
-            }
-            AluOp::Or => a | b,
-            AluOp::And => a & b,
-            AluOp::Lsh => a << (b % 32),
-            AluOp::Rsh => a >> (b % 32),
-            AluOp::Mod => if b == 0 { a } else { a % b },
-            AluOp::SMod => {
-                if b == 0 {
-                    a
-                } else {
-                    a.cast_signed()
-                        .wrapping_rem(b.cast_signed())
-                        .cast_unsigned()
-                }
-            }
-            AluOp::Xor => a ^ b,
-            AluOp::Mov => b,
-            AluOp::Arsh => (a.cast_signed() >> (b % 32)).cast_unsigned(),
-        }
+        computed!(self, a, b, 32)
     }
 
     /// The result of an operation on registers: at 32 bits of their low halves, and zero above.
@@ -118,19 +113,7 @@ impl Cond {
     pub fn holds_64(self, a: u64, b: u64) -> bool
         ensures { result ≡ compare w64 self a b }
     {
-        match self {
-            Cond::Eq => a == b,
-            Cond::Gt => a > b,
-            Cond::Ge => a >= b,
-            Cond::Set => a & b != 0,
-            Cond::Ne => a != b,
-            Cond::SGt => a.cast_signed() > b.cast_signed(),
-            Cond::SGe => a.cast_signed() >= b.cast_signed(),
-            Cond::Lt => a < b,
-            Cond::Le => a <= b,
-            Cond::SLt => a.cast_signed() < b.cast_signed(),
-            Cond::SLe => a.cast_signed() <= b.cast_signed(),
-        }
+        compared!(self, a, b)
     }
 
     /// Whether the test holds of 32-bit numbers.
@@ -138,19 +121,7 @@ impl Cond {
     pub fn holds_32(self, a: u32, b: u32) -> bool
         ensures { result ≡ compare w32 self a b }
     {
-        match self {
-            Cond::Eq => a == b,
-            Cond::Gt => a > b,
-            Cond::Ge => a >= b,
-            Cond::Set => a & b != 0,
-            Cond::Ne => a != b,
-            Cond::SGt => a.cast_signed() > b.cast_signed(),
-            Cond::SGe => a.cast_signed() >= b.cast_signed(),
-            Cond::Lt => a < b,
-            Cond::Le => a <= b,
-            Cond::SLt => a.cast_signed() < b.cast_signed(),
-            Cond::SLe => a.cast_signed() <= b.cast_signed(),
-        }
+        compared!(self, a, b)
     }
 
     /// Whether the test of a jump holds of two registers: at 32 bits of their low halves.

@@ -9,14 +9,15 @@ ghost use Rattle.bpf_insn.specs.declared.instruction.Insn.{Insn};
 ghost use Rattle.bpf_insn.specs.declared.refusal.DecodeError.TheVariants.{Memory};
 
 use crate::order::Order;
-use crate::program::{MAX_SLOTS, Program};
+use crate::program::Program;
 use crate::refusal::DecodeError;
+use crate::sizes::MAX_IMAGE;
 use crate::view::ProgramView;
 use std::alloc::Global;
 use std::io::Read;
 
 /// The most bytes that are read: one more than the largest image.
-const MAX_READ: usize = 8 * MAX_SLOTS + 1;
+const MAX_READ: usize = MAX_IMAGE + 1;
 
 /// The program whose image in a byte order these bytes are, with memory of its own. It is refused as by
 /// [`ProgramView::of`], and with E9 if memory runs out.

@@ -1,8 +1,11 @@
 -- The places of accesses.
-use Rattle.std.specs.Prelude.{ℕ, ◌+◌, ◌≤◌, length}
-use Rattle.bpf_semantics.specs.State.{State, depth, frame_bytes}
-use Rattle.bpf_semantics.specs.Memory.{Place as PlaceOf}
+use Rattle.std.specs.Prelude.{◌≡◌, ℕ, ℤ, ◌+◌, ◌≤◌, length, Some}
+use Rattle.bpf_insn.specs.declared.instruction.Reg.{Reg}
+use Rattle.bpf_semantics.specs.State.{State, depth, frame_bytes, register}
+use Rattle.bpf_semantics.specs.Memory.{Place as PlaceOf, place_of}
 use Rattle.bpf_semantics.specs.Memory.Place.{InContext, InFrame}
+use Rattle.bpf_semantics.specs.declared.state.Region.{Region}
+use Rattle.bpf_semantics.specs.declared.state.Value.TheVariants.{Pointer}
 use Rattle.bpf_machine.specs.declared.machine.Place.{Place}
 use Rattle.bpf_machine.specs.declared.machine.Place.TheVariants.{Context, Frame}
 
@@ -15,3 +18,11 @@ place_is (Frame n at) = InFrame n at
 abbrev pub IsInside : State → ℕ → Place → Type 0
 IsInside s k (Context at) = at + k ≤ length s.context
 IsInside s k (Frame n at) = (n ≤ depth s) × (at + k ≤ frame_bytes)
+
+-- the k bytes at an offset from the pointer in a register begin at the place
+pub record IsPlaceFrom (s : State) (k : ℕ) (r : Reg) (off : ℤ) (place : Place) : Type 0 where
+  pub region : Region
+  pub at : ℤ
+  pub held : register s r ≡ Some (Pointer region at)
+  pub there : place_of s k off (Pointer region at) ≡ Some (place_is place)
+  pub inside : IsInside s k place

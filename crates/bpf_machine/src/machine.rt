@@ -9,13 +9,13 @@ ghost use Rattle.bpf_semantics.specs.Memory.{inside, place_of, number_at, pointe
 ghost use Rattle.bpf_semantics.specs.Step.{operand, entered, left};
 ghost use Rattle.bpf_semantics.specs.Stuck.{unreadable_at};
 ghost use Rattle.bpf_machine.specs.Places.{place_is, IsInside};
-ghost use Rattle.bpf_machine.specs.Answers.{Leads};
+ghost use Rattle.bpf_semantics.specs.Targets.{LeadsToSlot};
 ghost use Rattle.bpf_machine.specs.Running.{running, moved_to};
 
 use crate::registers::{Kept, Registers};
 use crate::stack::Stacks;
 use arrayvec::ArrayVec;
-use bpf_insn::{Code, Insn, Operand, Order, Reg, Size, extended, number_in};
+use bpf_insn::{Code, FRAME_BYTES, Insn, Operand, Order, Reg, Size, extended, number_in};
 use bpf_semantics::{Reason, Region, Value};
 use std::marker::Model;
 
@@ -55,10 +55,10 @@ fn in_frame(count: usize, at: i64, off: i16) -> Option<usize>
     ensures { result ≡ inside count frame_bytes ((at +ℤ off) +ℤ pos frame_bytes) }
 {
     let first = at.wrapping_add(i64::from(off));
-    if first < -512 || first > -(count as i64) {
+    if first < -(FRAME_BYTES as i64) || first > -(count as i64) {
         None
     } else {
-        Some((first + 512) as usize)
+        Some((first + FRAME_BYTES as i64) as usize)
     }
 }
 
@@ -219,7 +219,7 @@ impl<'a, C: Code> Machine<'a, C> {
     pub(crate) fn insn(&self) -> Option<Insn>
         ensures insn { result ≡ insn_at self.now.program.list self.now.state.top.slot }
         ensures here { IfSome result (λ i. self.now.state.top.slot < 65536) }
-        ensures led { IfSome result (λ i. IfSome (distance i) (λ off. Leads self.now.state.top.slot off)) }
+        ensures led { IfSome result (λ i. IfSome (distance i) (λ off. LeadsToSlot self.now.state.top.slot off)) }
     {
         self.code.insn(self.slot)
     }

@@ -9,24 +9,18 @@ ghost use Rattle.bpf_semantics.specs.Memory.{bytes_in, pointer_in, with_bytes, w
 ghost use Rattle.bpf_semantics.specs.Stuck.{first_unreadable};
 ghost use Rattle.bpf_machine.specs.PackedStack.{IsMask};
 
-use bpf_insn::{Order, Size, number_in, put_number};
+use bpf_insn::{FRAME_BYTES, MAX_FRAMES, Order, Size, number_in, put_number};
 use bpf_semantics::{Reason, Region, Value};
 use std::marker::Model;
 
-/// How many bytes there are.
-const BYTES: usize = 512;
-
 /// How many slots of eight bytes there are.
-const SLOTS: usize = 64;
-
-/// How many frames there are at most.
-const DEPTHS: usize = 8;
+const SLOTS: usize = FRAME_BYTES / 8;
 
 /// A stack by slots: the bytes, those of each slot that hold a number, and the regions of the pointers, whose offsets
 /// are the numbers in the slots' bytes then, the lowest first. What no mask has and no region is may hold anything.
 #[derive(Drop)]
 pub(crate) struct Stack {
-    bytes: [u8; BYTES],
+    bytes: [u8; FRAME_BYTES],
     masks: [u8; SLOTS],
     regions: [Option<Region>; SLOTS],
 }
@@ -62,7 +56,7 @@ impl Stack {
         ensures { result ≡ empty_stack }
     {
         Stack {
-            bytes: [0; BYTES],
+            bytes: [0; FRAME_BYTES],
             masks: [0; SLOTS],
             regions: [None; SLOTS],
         }
@@ -244,7 +238,7 @@ impl Stack {
 /// The stacks of the frames at depths 0 to 7.
 #[derive(Drop)]
 pub(crate) struct Stacks {
-    by_depth: [Stack; DEPTHS],
+    by_depth: [Stack; MAX_FRAMES],
 }
 
 impl Model for Stacks {

@@ -8,7 +8,8 @@ mod memory;
 
 ghost use Rattle.std.specs.Prelude.{◌<◌, IfSome};
 ghost use Rattle.bpf_insn.specs.Instruction.{distance};
-ghost use Rattle.bpf_machine.specs.Answers.{Does, IsStep, Leads};
+ghost use Rattle.bpf_semantics.specs.Targets.{LeadsToSlot};
+ghost use Rattle.bpf_machine.specs.Answers.{Does, IsStep};
 
 use crate::machine::Machine;
 use crate::outcome::Step;
@@ -31,7 +32,7 @@ impl<'a, C: Code> Machine<'a, C> {
 
     fn execute(&mut self, insn: Insn) -> Step
         requires here { self.old.state.top.slot < 65536 }
-        requires led { IfSome (distance insn) (λ off. Leads self.old.state.top.slot off) }
+        requires led { IfSome (distance insn) (λ off. LeadsToSlot self.old.state.top.slot off) }
         ensures { Does self.old insn result self.new }
     {
         match insn {

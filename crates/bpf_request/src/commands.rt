@@ -4,6 +4,7 @@ ghost use Rattle.std.specs.Prelude.{◌≡◌, false};
 ghost use Rattle.clap.specs.Words.{App, Rule, new_app, new_rule, rule_of, with_rule, with_subcommand};
 ghost use Rattle.bpf_request.specs.CommandLine.{Grows, asm, big, bpf, check, context_length, explain, explain_places, file, flag, groups, infer, inferred, list, migrate, most, one_slot, place, run, run_checked, steps, top, with_contexts, without_certificates};
 
+use bpf_insn::{MAX_CONTEXT, MAX_SLOTS};
 use clap::{Arg, ArgAction, Command, value_parser};
 use std::alloc::{AllocError, Global};
 
@@ -91,7 +92,7 @@ fn context_length<'a>(alloc: Global) -> Arg<'a>
 {
     Arg::new(alloc, "LEN")
         .required(true)
-        .value_parser(value_parser!(u32).range(0..=4096))
+        .value_parser(value_parser!(u32).range(0..=MAX_CONTEXT as i64))
         .help("the least length of the contexts in bytes, at most 4096")
 }
 
@@ -103,7 +104,7 @@ fn inferred<'a>(alloc: Global) -> Arg<'a>
     Arg::new(alloc, "infer")
         .long("infer")
         .value_name("LEN")
-        .value_parser(value_parser!(u32).range(0..=4096))
+        .value_parser(value_parser!(u32).range(0..=MAX_CONTEXT as i64))
         .help("in place of CERT: what `infer` finds for contexts of at least LEN bytes")
 }
 
@@ -115,7 +116,7 @@ fn most<'a>(alloc: Global) -> Arg<'a>
     Arg::new(alloc, "most")
         .long("most")
         .value_name("M")
-        .value_parser(value_parser!(u32).range(0..=4096))
+        .value_parser(value_parser!(u32).range(0..=MAX_CONTEXT as i64))
         .help("the greatest length of the contexts in bytes, else LEN")
 }
 
@@ -127,7 +128,7 @@ fn one_slot<'a>(alloc: Global) -> Arg<'a>
     Arg::new(alloc, "slot")
         .long("slot")
         .value_name("S")
-        .value_parser(value_parser!(u32).range(0..=65535))
+        .value_parser(value_parser!(u32).range(0..=MAX_SLOTS as i64 - 1))
         .help("one instruction alone, with the whole state before and behind it")
 }
 

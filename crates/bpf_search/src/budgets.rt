@@ -6,15 +6,10 @@ use crate::loops::{Counter, Loop, Loops};
 use crate::places::place;
 use crate::rounds::{Rounds, put};
 use crate::walk::{Edge, Visitor, Walk};
+use bpf_cert::{MAX_BASE, MAX_WEIGHT};
 use bpf_proposal::InferError;
 use bpf_state::{State, Tag};
 use std::alloc::{AllocError, Global};
-
-/// The greatest base of a budget in a certificate.
-const MAX_BASE: i128 = 1 << 40;
-
-/// The greatest weight of a term.
-const MAX_WEIGHT: i128 = 1 << 20;
 
 /// What the place of an edge's target holds: an offset more than the place of the label before did, or any number of
 /// some.
@@ -220,7 +215,7 @@ impl Budgets {
             return Ok(());
         }
         let weight = self.cost_around(alloc, found)?.max(1);
-        if weight > MAX_WEIGHT {
+        if weight > MAX_WEIGHT as i128 {
             return Err(InferError::NoBudget {
                 slot: walk.outline.label(head),
             });
@@ -275,7 +270,7 @@ impl Budgets {
                 }
             }
         }
-        if base > MAX_BASE {
+        if base > MAX_BASE as i128 {
             return Err(InferError::NoBudget {
                 slot: walk.outline.label(block),
             });

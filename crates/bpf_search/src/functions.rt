@@ -2,12 +2,10 @@
 
 use crate::flow::Flow;
 use crate::labels::Outline;
+use bpf_cert::MAX_DEPTH;
 use bpf_insn::{Insn, Program};
 use bpf_proposal::InferError;
 use std::alloc::{AllocError, Global};
-
-/// The deepest function in a certificate.
-const DEEPEST: u32 = 8;
 
 /// The numbers of a function and of one that it calls.
 #[derive(Clone, Copy)]
@@ -123,7 +121,7 @@ fn deepen(depths: &mut Depths, calls: &[Call]) {
 /// The first slot of the lowest function that is too deep.
 fn first_too_deep(depths: &Depths, outline: &Outline) -> Option<u32> {
     for function in 0..outline.function_count() {
-        if depths.get(function).copied().unwrap_or(0) > DEEPEST {
+        if depths.get(function).copied().unwrap_or(0) > MAX_DEPTH {
             return Some(outline.label(outline.first_block(function)));
         }
     }
@@ -139,7 +137,7 @@ pub fn depths_of(
 ) -> Result<Depths, InferError> {
     let calls = calls_of(alloc, program, outline)?;
     let mut depths = [1; 256];
-    for _ in 0..DEEPEST {
+    for _ in 0..MAX_DEPTH {
         deepen(&mut depths, &calls);
     }
     let Some(slot) = first_too_deep(&depths, outline) else {

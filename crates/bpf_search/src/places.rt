@@ -2,23 +2,11 @@
 
 ghost use Rattle.bpf_state.specs.State.{IsPlace};
 
-use bpf_insn::Reg;
 use bpf_num::Num;
-use bpf_state::{Entries, Place, RegState, State};
+use bpf_state::{Entries, Place, RegState, State, numbered};
 
-/// The registers that a program may write.
-pub const REGISTERS: [Reg; 10] = [
-    Reg::R0,
-    Reg::R1,
-    Reg::R2,
-    Reg::R3,
-    Reg::R4,
-    Reg::R5,
-    Reg::R6,
-    Reg::R7,
-    Reg::R8,
-    Reg::R9,
-];
+/// How many registers a program may write: r0 to r9.
+pub const REGISTERS: usize = 10;
 
 /// How many places there are.
 pub const PLACES: usize = 74;
@@ -27,8 +15,8 @@ pub const PLACES: usize = 74;
 pub fn place(number: usize) -> Place
     ensures { IsPlace result }
 {
-    if number < 10 {
-        Place::Register(REGISTERS[number])
+    if number < REGISTERS {
+        Place::Register(numbered(number as u8))
     } else {
         Place::Slot((number.min(PLACES - 1) - 9) as u8)
     }

@@ -4,10 +4,8 @@ ghost use Rattle.std.specs.Prelude.{◌≤◌, ◌≤ℤ◌};
 
 use bpf_insn::{Insn, Operand, Program};
 use bpf_num::{KnownBits, Num, Signed, Unsigned, WordDomain};
+use bpf_state::FARTHEST;
 use std::alloc::{AllocError, Global};
-
-/// The farthest offset of a pointer in a certificate.
-const FARTHEST: i64 = 1 << 31;
 
 /// The constants of a program and their neighbours, at which a bound that moves may stop.
 #[derive(Drop)]

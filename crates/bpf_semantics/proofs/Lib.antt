@@ -1,4 +1,5 @@
 pub mod NumberLemmas
+pub mod TargetLemmas
 pub mod StateLemmas
 pub mod StateLaw
 pub mod StuckLaw

@@ -2,6 +2,7 @@ pub mod State
 pub mod Memory
 pub mod Step
 pub mod Stuck
+pub mod Targets
 pub mod ReasonNumbers
 pub mod Run
 pub mod MachineLaws

@@ -3,11 +3,15 @@
 
 mod flat_laws;
 mod machine_laws;
+mod numbers;
 pub mod state;
+mod targets;
 
 pub use flat_laws::{flat_finishes, flat_follows, flat_reads_only, flat_writes_only};
 pub use machine_laws::{
     finish_is_last, runs_are_one, runs_keep_states, start_is_state, step_is_deterministic,
     step_keeps_context, step_keeps_slots, step_keeps_states, steps_are_computed, stuck_has_reason,
 };
+pub use numbers::{atomic_result, sign_extend_from};
 pub use state::{Reason, Region, Value};
+pub use targets::target_of;

@@ -1,7 +1,8 @@
 //! Which bytes an access may touch.
 
-use crate::state::RegState;
-use bpf_insn::Size;
+use crate::fault::StateFault;
+use crate::state::{FRAME_START, RegState};
+use bpf_insn::{FRAME_BYTES, Size};
 use std::marker::Model;
 
 /// The bytes of an access: where its first byte may lie at the lowest and at the highest, and their number.
@@ -26,14 +27,28 @@ impl Model for Reach {
     ghost inverse = { λ r. record { in_frame = r.in_frame; lowest = r.lowest; highest = r.highest; count = r.count } };
 }
 
-ghost use Rattle.std.specs.Prelude.{◌≡◌, ◌<◌, ◌^◌, ◌≤ℤ◌, ◌+ℤ◌, ◌-ℤ◌, pos, neg_ℤ, suc, IsTrue, true, Some};
+ghost use Rattle.std.specs.Prelude.{◌≡◌, ◌<◌, ◌^◌, ◌≤ℤ◌, ◌+ℤ◌, ◌-ℤ◌, pos, neg_ℤ, suc, IsTrue, true, Some, MatchResult};
 ghost use Rattle.bpf_state.specs.Fault.{is_pointer};
 ghost use Rattle.bpf_insn.specs.Instruction.{byte_count};
 ghost use Rattle.bpf_state.specs.Access.{span_at, span_end, is_known, is_slot, is_inside, slot_number, first_byte, place_in, touched_bytes};
 ghost use Rattle.bpf_state.specs.State.{IsRegister};
-ghost use Rattle.bpf_state.specs.code.Parts.{IsSpan, AreTouched, depth_of};
+ghost use Rattle.bpf_state.specs.code.Parts.{IsSpan, AreTouched, base_fault, depth_of};
+ghost use Rattle.bpf_state.specs.Answer.{fault_number};
 
 impl Reach {
+    /// The reach of an access at an offset from a value, or why that is no pointer.
+    #[inline(always)]
+    pub(crate) fn from_base(base: RegState, off: i16, size: Size) -> Result<Self, StateFault>
+        requires { IsRegister base }
+        ensures { MatchResult result (λ reach. span_at off size base ≡ Some reach) (λ fault. base_fault base ≡ Some (fault_number fault)) }
+    {
+        match base {
+            RegState::Any => Err(StateFault::UnsetRegister),
+            RegState::Num(_) => Err(StateFault::WrongKinds),
+            RegState::Ptr(p) => Ok(Reach::at(p.area.is_frame(), p.lo, p.hi, off, size)),
+        }
+    }
+
     /// The reach of an access at an offset from a pointer.
     pub(crate) fn of(base: RegState, off: i16, size: Size) -> Self
         requires ordered { IsRegister base }
@@ -97,7 +112,7 @@ impl Reach {
         ensures { result ≡ is_inside len self }
     {
         if self.in_frame {
-            -512 <= self.lowest && self.end() <= 0
+            FRAME_START as i128 <= self.lowest && self.end() <= 0
         } else {
             0 <= self.lowest && self.end() <= len as i128
         }
@@ -141,7 +156,7 @@ fn depth_of(offset: i128) -> usize
     requires below { offset ≤ℤ pos (2 ^ 65) }
     ensures { result ≡ depth_of offset }
 {
-    (-offset).clamp(0, 512) as usize
+    (-offset).clamp(0, FRAME_BYTES as i128) as usize
 }
 
 /// The distance of an offset from the first byte of the slot at a place.

@@ -23,6 +23,6 @@ pub use calls::{enter, leave};
 pub use entries::Entries;
 pub use fault::StateFault;
 pub use lanes::covers;
-pub use state::{Area, Place, Pointer, RegState, SlotState, Tag, numbered};
+pub use state::{Area, FARTHEST, FRAME_START, Place, Pointer, RegState, SlotState, Tag, numbered};
 pub use transfers::transfer;
 pub use work::Work;

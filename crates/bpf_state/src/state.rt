@@ -2,8 +2,14 @@
 ghost use Rattle.std.specs.Prelude.{◌≡◌, ◌≤◌};
 ghost use Rattle.bpf_insn.specs.Instruction.{register_number};
 
-use bpf_insn::Reg;
+use bpf_insn::{FRAME_BYTES, Reg};
 use bpf_num::Num;
+
+/// The greatest distance of a pointer's offset from 0.
+pub const FARTHEST: i64 = 1 << 31;
+
+/// The offset of a frame's first byte from its end.
+pub const FRAME_START: i64 = -(FRAME_BYTES as i64);
 
 /// The register with a number from 0 to 10.
 pub fn numbered(number: u8) -> Reg

@@ -14,10 +14,7 @@ fn tightened_register(held: RegState) -> Option<RegState>
     ensures ordered { IfSome result IsRegister }
 {
     match held {
-        RegState::Num(number) => match number.tighten() {
-            Some(number) => Some(RegState::Num(number)),
-            None => None,
-        },
+        RegState::Num(number) => number.tighten().map(RegState::Num),
         RegState::Any | RegState::Ptr(_) => Some(held),
     }
 }
@@ -28,10 +25,7 @@ fn tightened_slot(held: SlotState) -> Option<SlotState>
     ensures ordered { IfSome result IsSlot }
 {
     match held {
-        SlotState::Word(number) => match number.tighten() {
-            Some(number) => Some(SlotState::Word(number)),
-            None => None,
-        },
+        SlotState::Word(number) => number.tighten().map(SlotState::Word),
         SlotState::Bytes(_) | SlotState::Spilled(_) => Some(held),
     }
 }

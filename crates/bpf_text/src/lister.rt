@@ -2,10 +2,9 @@
 
 ghost use Rattle.std.specs.Prelude.{◌≡◌, ◌++◌, OnOk, OnErr, codes};
 ghost use Rattle.std.specs.Io.KnownBytes.{Appends};
-ghost use Rattle.bpf_insn.specs.Instruction.{word_size};
 ghost use Rattle.bpf_insn.specs.Written.{AppendsBeginning, Gathers};
 ghost use Rattle.bpf_text.specs.Listing.{line_text, listing, atomic_word, atomic_sign, distance_text};
-ghost use Rattle.bpf_text.specs.code.Puts.{Puts};
+ghost use Rattle.bpf_text.specs.code.Puts.{Puts, place_text};
 
 use crate::listed_line::ListedLine;
 use crate::spelling::{Memory, Swap};
@@ -58,13 +57,6 @@ fn put_atomic_sign(line: &mut ListedLine, op: AtomicOp)
     ensures { Puts line.old (atomic_sign op) line.new }
 {
     line.put_text(atomic_sign(op));
-}
-
-/// The numbers that an atomic operation works on.
-fn word_size(wide: bool) -> Size
-    ensures { result ≡ word_size wide }
-{
-    if wide { Size::DW } else { Size::W }
 }
 
 /// `r1 += r2`
@@ -123,17 +115,25 @@ fn put_constant(line: &mut ListedLine, dst: Reg, value: u64)
     line.put_text(" ll\n");
 }
 
+/// `*(u8 *)(r1 + 0`, with what is said behind it still to come
+fn put_place(line: &mut ListedLine, memory: Memory, base: Reg, off: i16)
+    ensures { Puts line.old (place_text memory base off) line.new }
+{
+    line.put_text("*(");
+    line.spelled(memory);
+    line.put_text(" *)(");
+    line.register(Width::W64, base);
+    line.put_text(" ");
+    line.offset(off);
+}
+
 /// `r0 = *(u8 *)(r1 + 0)`
 fn put_load(line: &mut ListedLine, size: Size, dst: Reg, src: Reg, off: i16)
     ensures { Puts line.old (line_text (Insn.Load size dst src off)) line.new }
 {
     line.register(Width::W64, dst);
-    line.put_text(" = *(");
-    line.spelled(Memory::Unsigned(size));
-    line.put_text(" *)(");
-    line.register(Width::W64, src);
-    line.put_text(" ");
-    line.offset(off);
+    line.put_text(" = ");
+    put_place(line, Memory::Unsigned(size), src, off);
     line.put_text(")\n");
 }
 
@@ -142,12 +142,8 @@ fn put_signed_load(line: &mut ListedLine, size: Size, dst: Reg, src: Reg, off: i
     ensures { Puts line.old (line_text (Insn.LoadSx size dst src off)) line.new }
 {
     line.register(Width::W64, dst);
-    line.put_text(" = *(");
-    line.spelled(Memory::Signed(size));
-    line.put_text(" *)(");
-    line.register(Width::W64, src);
-    line.put_text(" ");
-    line.offset(off);
+    line.put_text(" = ");
+    put_place(line, Memory::Signed(size), src, off);
     line.put_text(")\n");
 }
 
@@ -155,12 +151,7 @@ fn put_signed_load(line: &mut ListedLine, size: Size, dst: Reg, src: Reg, off: i
 fn put_store(line: &mut ListedLine, size: Size, dst: Reg, off: i16, src: Reg)
     ensures { Puts line.old (line_text (Insn.Store size dst off src)) line.new }
 {
-    line.put_text("*(");
-    line.spelled(Memory::Unsigned(size));
-    line.put_text(" *)(");
-    line.register(Width::W64, dst);
-    line.put_text(" ");
-    line.offset(off);
+    put_place(line, Memory::Unsigned(size), dst, off);
     line.put_text(") = ");
     line.register(Width::W64, src);
     line.put_text("\n");
@@ -170,12 +161,7 @@ fn put_store(line: &mut ListedLine, size: Size, dst: Reg, off: i16, src: Reg)
 fn put_constant_store(line: &mut ListedLine, size: Size, dst: Reg, off: i16, imm: i32)
     ensures { Puts line.old (line_text (Insn.StoreImm size dst off imm)) line.new }
 {
-    line.put_text("*(");
-    line.spelled(Memory::Unsigned(size));
-    line.put_text(" *)(");
-    line.register(Width::W64, dst);
-    line.put_text(" ");
-    line.offset(off);
+    put_place(line, Memory::Unsigned(size), dst, off);
     line.put_text(") = ");
     line.number(imm);
     line.put_text("\n");
@@ -187,12 +173,7 @@ fn put_atomic(line: &mut ListedLine, wide: bool, op: AtomicOp, dst: Reg, off: i1
 {
     line.put_text("lock ");
     put_atomic_word(line, op);
-    line.put_text("*(");
-    line.spelled(Memory::Unsigned(word_size(wide)));
-    line.put_text(" *)(");
-    line.register(Width::W64, dst);
-    line.put_text(" ");
-    line.offset(off);
+    put_place(line, Memory::Unsigned(Size::of_word(wide)), dst, off);
     put_atomic_sign(line, op);
     line.register(Width::W64, src);
     line.put_text("\n");

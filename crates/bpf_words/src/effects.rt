@@ -7,7 +7,7 @@ ghost use Rattle.bpf_insn.specs.declared.instruction.Insn.TheVariants.{Alu};
 ghost use Rattle.bpf_insn.specs.declared.instruction.Width.{Width};
 
 use crate::places::PlaceSet;
-use bpf_insn::{AluOp, AtomicOp, Insn, Operand, Reg, Size};
+use bpf_insn::{AluOp, AtomicOp, FRAME_BYTES, Insn, Operand, Reg, Size};
 use bpf_state::{Place, RegState, State};
 use std::marker::Model;
 
@@ -200,7 +200,7 @@ impl Access {
 
 /// The number of the slot in which an offset from the frame's end lies, from 1 to 64.
 fn slot_of(offset: i64) -> u8 {
-    let below = 0i64.saturating_sub(offset).clamp(1, 512);
+    let below = 0i64.saturating_sub(offset).clamp(1, FRAME_BYTES as i64);
     u8::try_from(below.saturating_add(7) / 8).unwrap_or(64)
 }
 

@@ -3,34 +3,17 @@
 ghost use Rattle.std.specs.Prelude.{◌≡◌};
 
 use bpf_cert::{Label, value_slot};
-use bpf_insn::Reg;
-use bpf_state::{Place, Pointer, SlotState, State, Tag};
+use bpf_state::{Place, Pointer, SlotState, State, Tag, numbered};
 
 /// How many places a state has: eleven registers and sixty-four slots.
 pub const PLACES: usize = 75;
 
-const REGISTERS: [Reg; 11] = [
-    Reg::R0,
-    Reg::R1,
-    Reg::R2,
-    Reg::R3,
-    Reg::R4,
-    Reg::R5,
-    Reg::R6,
-    Reg::R7,
-    Reg::R8,
-    Reg::R9,
-    Reg::R10,
-];
-
 /// The place by its number: r0 to r10, then s1 to s64.
 pub fn place_at(index: usize) -> Place {
-    match REGISTERS.get(index) {
-        Some(reg) => Place::Register(*reg),
-        None => {
-            let number = index.saturating_sub(10).min(64);
-            Place::Slot(u8::try_from(number).unwrap_or(64))
-        }
+    if index <= 10 {
+        Place::Register(numbered(index as u8))
+    } else {
+        Place::Slot((index - 10).min(64) as u8)
     }
 }
 

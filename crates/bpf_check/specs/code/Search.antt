@@ -1,5 +1,10 @@
 -- Searches in lists that rise by a key.
-use Rattle.std.specs.Prelude.{ℕ, ◌==◌, nat_le, List, [], ◌∷◌, Option, Some, None, if◌then◌else◌}
+use Rattle.std.specs.Prelude.{ℕ, ◌==◌, nat_le, nat_lt, Bool, List, [], ◌∷◌, Option, Some, None, if◌then◌else◌}
+use Rattle.bpf_cert.specs.Faults.{is_rising}
+
+-- each key is above the one before it
+abbrev pub rises : {A : Type 0} → (A → ℕ) → List A → Bool
+rises key xs = is_rising (λ x y. nat_lt (key x) (key y)) xs
 
 -- the last of the first elements whose keys are at most a number
 abbrev pub last_up_to : {A : Type 0} → (A → ℕ) → Option A → ℕ → List A → Option A

@@ -1,5 +1,5 @@
 -- An instruction in its place, with what is looked up there.
-use Rattle.std.specs.Prelude.{◌≡◌, ℕ, ◌+◌, ◌≤◌, List, option_map, option_copied, IfSome, IsTrue}
+use Rattle.std.specs.Prelude.{◌≡◌, ◌+◌, ◌≤◌, List, option_map, option_copied, IfSome, IsTrue}
 use Rattle.bpf_insn.specs.Instruction.{slot_count}
 use Rattle.bpf_cert.specs.View.{CertificateView, label_view, function_view}
 use Rattle.bpf_cert.specs.Limits.{is_limited_label}

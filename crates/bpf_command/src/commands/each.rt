@@ -5,10 +5,11 @@ ghost use Rattle.bpf_command.specs.Opened.{opening};
 ghost use Rattle.bpf_command.specs.Lines.{AllAnswered, Spelled, Turns};
 ghost use Rattle.bpf_command.specs.Each.{AnswersAt, FailsAt, LinesFail};
 
-use crate::context::{ContextError, MAX_CONTEXT};
+use crate::context::ContextError;
 use crate::failure::{DONE, Failure};
 use crate::places::Places;
 use arrayvec::ArrayVec;
+use bpf_insn::MAX_CONTEXT;
 use bpf_lines::{LineReader, Stop};
 use std::alloc::Global;
 use std::io::{Read, Write};

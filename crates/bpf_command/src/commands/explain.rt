@@ -10,7 +10,6 @@ ghost use Rattle.bpf_command.specs.Told.{OutputFails};
 use crate::commands::asm::{refuse_text, text_at};
 use crate::commands::certificate;
 use crate::commands::image::{image_at, refuse};
-use crate::context::MAX_CONTEXT;
 use crate::failure::{DONE, Failure, REFUSED};
 use crate::keeping::Keeping;
 use crate::places::Places;
@@ -21,7 +20,7 @@ use bpf_explain::{
     explain_searched, explain_slot, explain_text,
 };
 use bpf_infer::Watch;
-use bpf_insn::{Code, DecodeError, Order, Program, ProgramView, decode};
+use bpf_insn::{Code, DecodeError, MAX_CONTEXT, Order, Program, ProgramView, decode};
 use bpf_request::Subject;
 use bpf_text::{TextError, assemble};
 use std::alloc::Global;

@@ -14,12 +14,11 @@ ghost use Rattle.bpf_command.specs.Told.{OutputFails};
 
 use crate::commands::image::{program_at, refuse};
 use crate::commands::output::put;
-use crate::context::MAX_CONTEXT;
 use crate::failure::{Failure, REFUSED, say};
 use crate::places::Places;
 use bpf_cert::Certificate;
 use bpf_infer::{InferError, Watch, infer, search};
-use bpf_insn::{Order, Program};
+use bpf_insn::{MAX_CONTEXT, Order, Program};
 use std::alloc::{AllocError, Global};
 use std::io::Write;
 

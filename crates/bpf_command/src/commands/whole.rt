@@ -5,9 +5,10 @@ ghost use Rattle.std.specs.Io.KnownBytes.{Consumes, IsAtEnd};
 ghost use Rattle.bpf_command.specs.Opened.{opening};
 ghost use Rattle.bpf_command.specs.Given.{ContextAt, ContextFails};
 
-use crate::context::{ContextError, MAX_CONTEXT};
+use crate::context::ContextError;
 use crate::failure::Failure;
 use crate::places::Places;
+use bpf_insn::MAX_CONTEXT;
 use std::alloc::{AllocError, Global};
 use std::io::Read;
 

@@ -1,20 +1,20 @@
 //! Calls of local functions, and exits (RFC 9669, section 4.3.2).
 
 ghost use Rattle.std.specs.Prelude.{◌<◌};
-ghost use Rattle.bpf_machine.specs.Answers.{Does, Leads};
+ghost use Rattle.bpf_semantics.specs.Targets.{LeadsToSlot};
+ghost use Rattle.bpf_machine.specs.Answers.{Does};
 
 use crate::machine::Machine;
 use crate::outcome::Step;
-use crate::step::jump::target_of;
 use bpf_insn::{Code, Insn, Reg};
-use bpf_semantics::{Reason, Value};
+use bpf_semantics::{Reason, Value, target_of};
 
 #[tactic(auto, unfolding(bpf_semantics::specs::Step::does, bpf_semantics::specs::Stuck::reason_at))]
 impl<'a, C: Code> Machine<'a, C> {
     #[inline(always)]
     pub(crate) fn call(&mut self, off: i32) -> Step
         requires here { self.old.state.top.slot < 65536 }
-        requires led { Leads self.old.state.top.slot off }
+        requires led { LeadsToSlot self.old.state.top.slot off }
         ensures { Does self.old (Insn.CallLocal off) result self.new }
     {
         if self.is_full() {

@@ -1,34 +1,20 @@
 //! Constants of 64 bits, loads and stores (RFC 9669, sections 5.1, 5.2 and 5.4).
 
-ghost use Rattle.std.specs.Prelude.{◌≡◌, ◌==◌, ◌<◌, ◌^◌, IfOk, IfErr, Some, None};
-ghost use Rattle.std.specs.Int.{cast_signed};
+ghost use Rattle.std.specs.Prelude.{◌≡◌, ◌==◌, ◌<◌, IfOk, IfErr, Some, None, false};
 ghost use Rattle.bpf_insn.specs.Arithmetic.{modulo};
+ghost use Rattle.bpf_insn.specs.Effects.{is_frame_pointer};
 ghost use Rattle.bpf_insn.specs.Instruction.{byte_count};
 ghost use Rattle.bpf_semantics.specs.Memory.{pointer_at};
-ghost use Rattle.bpf_semantics.specs.Step.{size_type, load};
+ghost use Rattle.bpf_semantics.specs.Step.{load};
 ghost use Rattle.bpf_semantics.specs.Stuck.{unreadable_at};
-ghost use Rattle.bpf_machine.specs.Places.{place_is, IsInside};
-ghost use Rattle.bpf_machine.specs.Answers.{Does};
+ghost use Rattle.bpf_machine.specs.Places.{place_is, IsInside, IsPlaceFrom};
+ghost use Rattle.bpf_machine.specs.Answers.{Does, reason_before_access};
 ghost use Rattle.bpf_machine.specs.Stored.{may_be_stored};
 
 use crate::machine::{Machine, Place, sum_of};
 use crate::outcome::Step;
 use bpf_insn::{Code, Insn, Reg, Size, extended};
-use bpf_semantics::{Reason, Value};
-
-/// A number of some bytes as two's complement, extended to 64 bits.
-fn sign_extend_from(size: Size, x: u64) -> u64
-    requires { x < 256 ^ byte_count size }
-    ensures { result ≡ modulo (cast_signed (size_type size) x) (2 ^ 64) }
-{
-    let signed = match size {
-        Size::B => (x as u8).cast_signed() as i64,
-        Size::H => (x as u16).cast_signed() as i64,
-        Size::W => (x as u32).cast_signed() as i64,
-        Size::DW => x.cast_signed(),
-    };
-    signed.cast_unsigned()
-}
+use bpf_semantics::{Reason, Value, sign_extend_from};
 
 fn is_multiple_of_8(z: i128) -> bool
     ensures { result ≡ (modulo z 8 == 0) }
@@ -71,16 +57,9 @@ impl<'a, C: Code> Machine<'a, C> {
         requires { self.old.state.top.slot < 65536 }
         ensures { Does self.old (Insn.Load size dst src off) result self.new }
     {
-        if dst.is_frame_pointer() {
-            return Step::Fault(Reason::FramePointerWrite);
-        }
-        let base = match self.register(src) {
-            Some(Value::Pointer(region, at)) => Value::Pointer(region, at),
-            Some(Value::Number(_number)) => return Step::Fault(Reason::OperandKind),
-            None => return Step::Fault(Reason::UnsetRegister),
-        };
-        let Some(place) = self.place(size, off, base) else {
-            return Step::Fault(Reason::OutOfBounds);
+        let place = match self.place_to_load(size, dst, src, off) {
+            Ok(place) => place,
+            Err(reason) => return Step::Fault(reason),
         };
         match self.value_at(size, place) {
             Ok(value) => {
@@ -89,6 +68,23 @@ impl<'a, C: Code> Machine<'a, C> {
             }
             Err(reason) => Step::Fault(reason),
         }
+    }
+
+    /// The place that a load reads; else the first reason why there is none.
+    #[inline(always)]
+    fn place_to_load(&self, size: Size, dst: Reg, src: Reg, off: i16) -> Result<Place, Reason>
+        ensures ok { IfOk result (λ place. (is_frame_pointer dst ≡ false) × IsPlaceFrom self.now.state (byte_count size) src off place) }
+        ensures err { IfErr result (λ reason. reason_before_access self.now.state (Insn.Load size dst src off) ≡ Some reason) }
+    {
+        if dst.is_frame_pointer() {
+            return Err(Reason::FramePointerWrite);
+        }
+        let base = match self.register(src) {
+            Some(Value::Pointer(region, at)) => Value::Pointer(region, at),
+            Some(Value::Number(_number)) => return Err(Reason::OperandKind),
+            None => return Err(Reason::UnsetRegister),
+        };
+        self.place(size, off, base).ok_or(Reason::OutOfBounds)
     }
 
     /// The number or, in a whole slot, the pointer at a place; else why the first byte that can't be read can't.
@@ -113,16 +109,9 @@ impl<'a, C: Code> Machine<'a, C> {
         requires { self.old.state.top.slot < 65536 }
         ensures { Does self.old (Insn.LoadSx size dst src off) result self.new }
     {
-        if dst.is_frame_pointer() {
-            return Step::Fault(Reason::FramePointerWrite);
-        }
-        let base = match self.register(src) {
-            Some(Value::Pointer(region, at)) => Value::Pointer(region, at),
-            Some(Value::Number(_number)) => return Step::Fault(Reason::OperandKind),
-            None => return Step::Fault(Reason::UnsetRegister),
-        };
-        let Some(place) = self.place(size, off, base) else {
-            return Step::Fault(Reason::OutOfBounds);
+        let place = match self.place_to_load(size, dst, src, off) {
+            Ok(place) => place,
+            Err(reason) => return Step::Fault(reason),
         };
         match self.number_at(size, place) {
             Ok(number) => {

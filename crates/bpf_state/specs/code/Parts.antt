@@ -38,6 +38,10 @@ pub record AreTouched (p : Span) (first end : ℕ) : Type 0 where
 
 -- ---- memory
 
+-- why a value is no pointer to access memory through
+abbrev pub base_fault : RegState → Option ℕ
+base_fault v = if is_any v then Some 3 else if not (is_pointer v) then Some 4 else None
+
 -- why the bytes of an access may not be read, pointers aside
 abbrev pub byte_fault : ℕ → AbstractState → Span → Option ℕ
 byte_fault len s p =

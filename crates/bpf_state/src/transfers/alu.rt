@@ -16,12 +16,9 @@ ghost use Rattle.bpf_state.specs.code.Results.{IsKnown, near, near_value, number
 
 use crate::abstract_state::State;
 use crate::fault::StateFault;
-use crate::state::{Area, Pointer, RegState, Tag};
+use crate::state::{Area, FARTHEST, Pointer, RegState, Tag};
 use bpf_insn::{AluOp, EndBits, EndKind, Operand, Order, Reg, SignBits, Width};
 use bpf_num::{KnownBits, Num, Signed, Unsigned, WordDomain};
-
-/// The greatest distance of a pointer's offset from 0.
-const FARTHEST: i128 = 1 << 31;
 
 /// The greatest distance of a counter's offset from 0.
 const MAX_OFFSET: i128 = 1 << 40;
@@ -55,7 +52,7 @@ fn near(area: Area, lo: i128, hi: i128) -> Result<Option<RegState>, StateFault>
     ensures value { result ≡ near area lo hi }
     ensures ordered { IsKnown result }
 {
-    if -FARTHEST <= lo && hi <= FARTHEST {
+    if -(FARTHEST as i128) <= lo && hi <= FARTHEST as i128 {
         Ok(Some(RegState::Ptr(Pointer {
             area,
             lo: lo as i64,

@@ -66,10 +66,7 @@ pub(crate) fn loaded(state: &State, reach: Reach, size: Size) -> Option<RegState
     if reach.in_frame() && reach.is_slot() {
         Some(state.slots.get(reach.place()).value())
     } else {
-        match any_number(size) {
-            Some(n) => Some(RegState::Num(n)),
-            None => None,
-        }
+        any_number(size).map(RegState::Num)
     }
 }
 
@@ -150,19 +147,10 @@ pub(crate) fn load(
         ≡ transfer order (Load size dst src off) least state.old }
     ensures kept { KeepsUnlessDone result state.old state.new }
 {
-    if state.reg(src).is_any() {
-        return Err(StateFault::UnsetRegister);
+    match Reach::from_base(state.reg(src), off, size) {
+        Ok(reach) => load_at(dst, size, reach, least, state),
+        Err(fault) => Err(fault),
     }
-    if !state.reg(src).is_pointer() {
-        return Err(StateFault::WrongKinds);
-    }
-    load_at(
-        dst,
-        size,
-        Reach::of(state.reg(src), off, size),
-        least,
-        state,
-    )
 }
 
 /// A load of bytes that lie so, sign-extended.
@@ -202,17 +190,8 @@ pub(crate) fn load_sx(
         ≡ transfer order (LoadSx size dst src off) least state.old }
     ensures kept { KeepsUnlessDone result state.old state.new }
 {
-    if state.reg(src).is_any() {
-        return Err(StateFault::UnsetRegister);
+    match Reach::from_base(state.reg(src), off, size) {
+        Ok(reach) => load_sx_at(dst, size, reach, least, state),
+        Err(fault) => Err(fault),
     }
-    if !state.reg(src).is_pointer() {
-        return Err(StateFault::WrongKinds);
-    }
-    load_sx_at(
-        dst,
-        size,
-        Reach::of(state.reg(src), off, size),
-        least,
-        state,
-    )
 }

@@ -94,16 +94,15 @@ pub(crate) fn store(
         ≡ transfer order (Store size dst off src) least state.old }
     ensures kept { KeepsUnlessDone result state.old state.new }
 {
-    if state.reg(dst).is_any() || state.reg(src).is_any() {
+    if state.reg(src).is_any() {
         return Err(StateFault::UnsetRegister);
     }
-    if !state.reg(dst).is_pointer() {
-        return Err(StateFault::WrongKinds);
-    }
     let tag = state.register_tag(src);
-    let reach = Reach::of(state.reg(dst), off, size);
     let pointer = state.reg(src).is_pointer();
-    store_at(reach, pointer, state.reg(src), tag, least, state)
+    match Reach::from_base(state.reg(dst), off, size) {
+        Ok(reach) => store_at(reach, pointer, state.reg(src), tag, least, state),
+        Err(fault) => Err(fault),
+    }
 }
 
 /// A store of a constant.
@@ -119,19 +118,9 @@ pub(crate) fn store_imm(
         ≡ transfer order (StoreImm size dst off imm) least state.old }
     ensures kept { KeepsUnlessDone result state.old state.new }
 {
-    if state.reg(dst).is_any() {
-        return Err(StateFault::UnsetRegister);
+    let constant = state.operand(Operand::Imm(imm));
+    match Reach::from_base(state.reg(dst), off, size) {
+        Ok(reach) => store_at(reach, false, constant, None, least, state),
+        Err(fault) => Err(fault),
     }
-    if !state.reg(dst).is_pointer() {
-        return Err(StateFault::WrongKinds);
-    }
-    let reach = Reach::of(state.reg(dst), off, size);
-    store_at(
-        reach,
-        false,
-        state.operand(Operand::Imm(imm)),
-        None,
-        least,
-        state,
-    )
 }

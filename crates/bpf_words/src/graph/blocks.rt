@@ -5,7 +5,7 @@ use crate::graph::quoted::Quoted;
 use crate::known::spelling_of;
 use crate::listing::{write_budget, write_function};
 use bpf_check::{Refusal, function_at, label_at};
-use bpf_insn::{Code, Insn};
+use bpf_insn::{Code, Insn, MAX_SLOTS};
 use std::io::{self, Write};
 
 /// How a block looks.
@@ -144,7 +144,7 @@ pub fn write_blocks<'a, 'b, C: Code, W: Write>(
         block: None,
         in_function: false,
     };
-    for slot in 0..program.slots().min(65_536) {
+    for slot in 0..program.slots().min(MAX_SLOTS as u32) {
         if let Some(insn) = program.insn(slot) {
             if scene.plan.blocks.has(slot) {
                 drawn.begin_block(out, scene, slot)?;

@@ -5,7 +5,7 @@ ghost use Rattle.std.specs.Prelude.{◌≤◌};
 use crate::graph::Scene;
 use crate::graph::plan::call_target;
 use bpf_check::{goes_on, jump_target};
-use bpf_insn::{Code, Insn};
+use bpf_insn::{Code, Insn, MAX_SLOTS};
 use std::io::{self, Write};
 
 /// What an edge stands for.
@@ -76,7 +76,7 @@ pub fn write_edges<'a, 'b, C: Code, W: Write>(
     program: &C,
     scene: &Scene<'a, 'b>,
 ) -> io::Result<()> {
-    let slots = program.slots().min(65_536);
+    let slots = program.slots().min(MAX_SLOTS as u32);
     let mut from = 0;
     for slot in 0..slots {
         if let Some(insn) = program.insn(slot) {

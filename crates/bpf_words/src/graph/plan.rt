@@ -5,7 +5,7 @@ ghost use Rattle.std.specs.Prelude.{◌≤◌};
 use crate::graph::slots::Slots;
 use bpf_cert::Function;
 use bpf_check::{Index, goes_on, jump_target};
-use bpf_insn::{Code, Insn, target};
+use bpf_insn::{Code, Insn, MAX_SLOTS, target};
 
 /// Where blocks and functions begin.
 #[derive(Drop)]
@@ -33,7 +33,7 @@ impl Plan {
         };
         plan.blocks.add(0);
         plan.functions.add(0);
-        for slot in 0..program.slots().min(65_536) {
+        for slot in 0..program.slots().min(MAX_SLOTS as u32) {
             if let Some(insn) = program.insn(slot) {
                 plan.note_jump(slot, &insn);
                 plan.note_call(slot, &insn);

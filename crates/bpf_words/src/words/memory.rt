@@ -7,7 +7,7 @@ use crate::sight::Sight;
 use crate::words::register;
 use bpf_check::Index;
 use bpf_insn::{Insn, Operand};
-use bpf_state::{Place, SlotState, State};
+use bpf_state::{FRAME_START, Place, SlotState, State};
 use std::io::{self, Write};
 
 fn verb(access: Access) -> &'static str {
@@ -31,7 +31,7 @@ fn tell_outside<W: Write>(out: &mut W, certificate: &Index, reach: Reach) -> io:
     let (first, last) = (reach.first, reach.last);
     let least = certificate.least();
     if reach.in_frame {
-        if first < -512 {
+        if first < FRAME_START {
             write!(out, "byte {first} of a frame from -512 to -1")
         } else {
             write!(out, "byte {last} of a frame from -512 to -1")

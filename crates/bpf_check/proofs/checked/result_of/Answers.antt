@@ -1,5 +1,5 @@
 use Rattle.std.proofs.Common.{arith, subst, sym}
-use Rattle.bpf_flat.specs.Runs.{RunsTo, Ends}
+use Rattle.bpf_flat.specs.Runs.{Ends}
 use Rattle.bpf_check.proofs.Promise.{ends}
 use Rattle.bpf_check.proofs.checked.result_of.Goals as goal
 

@@ -5,6 +5,9 @@ use Rattle.bpf_check.proofs.SearchLemmas.{is_rising-map, among_empty, among_abov
 use Rattle.bpf_check.proofs.labels.label_among.Goals as goal
 use Rattle.bpf_check.proofs.labels.label_among.Goals.{then-is_empty-via-then-is_empty, then-is_empty-via-else-is_empty+then-slot-labels, then-is_empty-via-else-is_empty+else-slot-labels+then-labels-slot}
 
+pub last_from-requires : goal.last_from-requires
+last_from-requires c = sym (is_rising-map slot_before label_view c.args.labels.now) ∙ c.requires
+
 pub returns-then-is_empty : goal.returns-then-is_empty
 returns-then-is_empty c =
     let rising = sym (is_rising-map slot_before label_view c.args.labels.now) ∙ c.requires in

@@ -1,16 +1,14 @@
 //! The bases of budgets, from the last components of a function to the first.
 
 use crate::deep::ranking::graph::{Components, Graph, number_in};
-use crate::deep::ranking::plan::{MOST_TERMS, Part, Parts, Plan};
+use crate::deep::ranking::plan::{Part, Parts, Plan};
 use crate::deep::ranking::weights::MOST_PASSES;
 use crate::loops::Counter;
 use crate::rounds::put;
+use bpf_cert::{MAX_BASE, MAX_TERMS};
 use bpf_proposal::InferError;
 use bpf_state::Tag;
 use std::alloc::Global;
-
-/// The greatest base of a budget in a certificate.
-const MOST_BASE: i128 = 1 << 40;
 
 /// Bases that are found.
 #[derive(Drop)]
@@ -113,7 +111,7 @@ impl Settling {
         let greatest = plan.greatest(label);
         self.settle_with(plan, index, lifted)?;
         if plan.greatest(label) > greatest {
-            self.settle_with(plan, index, [None; MOST_TERMS])?;
+            self.settle_with(plan, index, [None; MAX_TERMS])?;
         }
         Ok(())
     }
@@ -129,7 +127,7 @@ impl Settling {
             self.lift(plan, start)?;
         }
         for index in start..end {
-            if plan.base(self.node(index)) > MOST_BASE {
+            if plan.base(self.node(index)) > MAX_BASE as i128 {
                 return Err(InferError::NoBudget {
                     slot: plan.slot(self.node(index)),
                 });
@@ -210,7 +208,7 @@ fn take_all(plan: &Plan, number: usize, to: usize, label: usize, parts: &mut Par
 
 /// The terms of the labels behind a label, at the places where they come from.
 fn lifted_to(plan: &Plan, label: usize) -> Parts {
-    let mut parts = [None; MOST_TERMS];
+    let mut parts = [None; MAX_TERMS];
     for number in plan.ways.first(label)..plan.ways.first(label.saturating_add(1)) {
         if let Some(way) = plan.ways.at(number) {
             if let Some(to) = way.to {

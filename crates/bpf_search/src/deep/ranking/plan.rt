@@ -6,12 +6,9 @@ use crate::lines::{Line, Span};
 use crate::loops::Counter;
 use crate::places::number_said;
 use crate::rounds::put;
-use bpf_cert::Function;
+use bpf_cert::{Function, MAX_TERMS};
 use bpf_state::Tag;
 use std::alloc::{AllocError, Global};
-
-/// The most terms of a budget.
-pub const MOST_TERMS: usize = 4;
 
 /// A term of the budget at a label: what its place counts there, and the number of its weight.
 #[derive(Clone, Copy)]
@@ -21,7 +18,7 @@ pub struct Part {
 }
 
 /// The terms of a budget.
-pub type Parts = [Option<Part>; MOST_TERMS];
+pub type Parts = [Option<Part>; MAX_TERMS];
 
 /// Budgets of a function's labels.
 #[derive(Drop)]
@@ -59,7 +56,7 @@ impl<'a> Plan<'a> {
         Ok(Plan {
             function,
             ways,
-            parts: vec![in alloc; [None; MOST_TERMS]; count]?,
+            parts: vec![in alloc; [None; MAX_TERMS]; count]?,
             weights: Vec::new(alloc),
             bases: vec![in alloc; 0; count]?,
         })
@@ -96,7 +93,7 @@ impl<'a> Plan<'a> {
 
     /// The terms of a label's budget.
     pub fn parts(&self, label: usize) -> Parts {
-        self.parts.get(label).copied().unwrap_or([None; MOST_TERMS])
+        self.parts.get(label).copied().unwrap_or([None; MAX_TERMS])
     }
 
     /// The term of a label's budget that counts a place.
@@ -204,7 +201,7 @@ impl<'a> Plan<'a> {
     pub fn length(&self, way: &Way) -> i128 {
         let parts = match way.to {
             Some(to) => self.parts(to),
-            None => [None; MOST_TERMS],
+            None => [None; MAX_TERMS],
         };
         let mut sum = way.cost.saturating_add(self.taken_by_all(way, &parts));
         for part in parts {

@@ -5,11 +5,9 @@ use crate::deep::ranking::graph::{Graph, longest_ways};
 use crate::deep::ranking::groups::{Counted, Group};
 use crate::deep::ranking::plan::Plan;
 use crate::rounds::put;
+use bpf_cert::MAX_WEIGHT;
 use bpf_proposal::InferError;
 use std::alloc::{AllocError, Global};
-
-/// The greatest weight of a term.
-const MOST_WEIGHT: i128 = 1 << 20;
 
 /// The most labels of a region whose weights are made least.
 const FEW_LABELS: usize = 64;
@@ -178,7 +176,7 @@ fn lower(
 pub fn weigh(alloc: Global, plan: &mut Plan, group: &Group) -> Result<(), InferError> {
     let lengths = lengths_of(alloc, plan, &group.region.graph)?;
     let weight = match weight_of(alloc, group, &lengths)? {
-        Some(weight) if weight <= MOST_WEIGHT => weight,
+        Some(weight) if weight <= MAX_WEIGHT as i128 => weight,
         _ => {
             return Err(InferError::NoBudget {
                 slot: plan.slot(group.region.label(0)),

@@ -9,7 +9,7 @@ use crate::places::REGISTERS;
 use crate::rounds::put;
 use bpf_insn::{AluOp, AtomicOp, Insn, Operand, Reg, Size};
 use bpf_num::{KnownBits, Num, Signed, Unsigned, WordDomain};
-use bpf_state::{RegState, SlotState, State};
+use bpf_state::{RegState, SlotState, State, numbered};
 use std::alloc::{AllocError, Global};
 
 /// The most rounds over a function. Where they don't do, all places stay.
@@ -368,7 +368,8 @@ pub fn least_number(number: Num) -> Num {
 }
 
 fn spare_registers(state: &mut State, live: Places) {
-    for r in REGISTERS {
+    for i in 0..REGISTERS {
+        let r = numbered(i as u8);
         if !live.has_register(r) {
             state.set_reg(r, RegState::Any);
         } else if let RegState::Num(number) = state.reg(r) {

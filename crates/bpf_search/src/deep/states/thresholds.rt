@@ -4,7 +4,7 @@ use crate::join::{join_register, join_slot};
 use crate::places::REGISTERS;
 use crate::widen::Stops;
 use bpf_insn::{Insn, Operand, Reg};
-use bpf_state::{RegState, SlotState, State};
+use bpf_state::{RegState, SlotState, State, numbered};
 use std::alloc::{AllocError, Global};
 
 /// The most bounds of one register's operands that are kept.
@@ -58,7 +58,7 @@ impl Thresholds {
 
     /// Adds a length of contexts, for all that isn't compared with anything.
     pub fn add_length(&mut self, length: u32) -> Result<(), AllocError> {
-        self.add(REGISTERS.len(), length as i64)
+        self.add(REGISTERS, length as i64)
     }
 
     /// A register is compared with a number.
@@ -138,12 +138,12 @@ impl Thresholds {
         let mut stops = Stops::new(self.alloc);
         let mut has_any = false;
         for compared in self.compared.as_slice() {
-            if compared.register == register || register >= REGISTERS.len() {
+            if compared.register == register || register >= REGISTERS {
                 has_any = true;
                 stops.add(compared.number)?;
             }
         }
-        if !has_any && register < REGISTERS.len() {
+        if !has_any && register < REGISTERS {
             return Ok(None);
         }
         for number in ALWAYS {
@@ -158,7 +158,7 @@ impl Thresholds {
         if !self.stops.is_empty() {
             return Ok(());
         }
-        for register in 0..REGISTERS.len().saturating_add(1) {
+        for register in 0..REGISTERS.saturating_add(1) {
             let stops = self.stops_of(register)?;
             self.stops.push(stops)?;
         }
@@ -168,7 +168,7 @@ impl Thresholds {
     fn stops_at(&self, register: usize) -> Option<&Stops> {
         match self.stops.get(register) {
             Some(Some(stops)) => Some(stops),
-            _ => match self.stops.get(REGISTERS.len()) {
+            _ => match self.stops.get(REGISTERS) {
                 Some(Some(stops)) => Some(stops),
                 _ => None,
             },
@@ -189,11 +189,12 @@ impl Thresholds {
     }
 
     fn join_each(&self, old: &mut State, new: &State) {
-        for r in REGISTERS {
-            let stops = self.stops_at(r as usize);
+        for i in 0..REGISTERS {
+            let r = numbered(i as u8);
+            let stops = self.stops_at(i);
             old.set_reg(r, join_register(old.reg(r), new.reg(r), stops));
         }
-        let stops = self.stops_at(REGISTERS.len());
+        let stops = self.stops_at(REGISTERS);
         for k in 1..65u8 {
             let held = old.slot(k);
             if !matches!(held, SlotState::Bytes(0)) {

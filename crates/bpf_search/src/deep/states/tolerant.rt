@@ -4,13 +4,7 @@ ghost use Rattle.bpf_state.specs.State.{IsRegister};
 
 use bpf_insn::{AluOp, AtomicOp, Insn, Operand, Reg, Size, Width};
 use bpf_num::{KnownBits, Num, Signed, Unsigned, WordDomain};
-use bpf_state::{Pointer, RegState, SlotState, State};
-
-/// The farthest offset of a pointer in a certificate.
-const FARTHEST: i64 = 1 << 31;
-
-/// The lowest offset in the frame.
-const LOWEST: i64 = -512;
+use bpf_state::{FARTHEST, FRAME_START, Pointer, RegState, SlotState, State};
 
 fn any_number(size: Size) -> Num {
     let unsigned = match size {
@@ -106,22 +100,9 @@ fn set(state: &mut State, r: Reg, value: RegState)
     }
 }
 
-fn size_of(wide: bool) -> Size {
-    if wide { Size::DW } else { Size::W }
-}
-
-fn bytes_of(size: Size) -> i64 {
-    match size {
-        Size::B => 1,
-        Size::H => 2,
-        Size::W => 4,
-        Size::DW => 8,
-    }
-}
-
 /// The number of the slot that a byte of the frame lies in, by its offset, cut to the frame.
 pub fn slot_of(offset: i64) -> u8 {
-    let below = 0i64.saturating_sub(offset.max(LOWEST).min(-1));
+    let below = 0i64.saturating_sub(offset.max(FRAME_START).min(-1));
     u8::try_from(below.saturating_add(7) >> 3).unwrap_or(64)
 }
 
@@ -134,9 +115,9 @@ pub fn touched(base: RegState, off: i16, size: Size) -> Option<(u8, u8)> {
     let highest = p
         .hi
         .saturating_add(off as i64)
-        .saturating_add(bytes_of(size))
+        .saturating_add(i64::from(size.bytes()))
         .saturating_sub(1);
-    if !p.area.is_frame() || highest < LOWEST || lowest >= 0 {
+    if !p.area.is_frame() || highest < FRAME_START || lowest >= 0 {
         return None;
     }
     Some((slot_of(highest), slot_of(lowest).saturating_add(1)))
@@ -218,8 +199,8 @@ pub fn go_on(insn: &Insn, state: &mut State) {
             off,
             src,
         } => {
-            spoil(state, dst, off, size_of(wide));
-            set_fetched(state, op, src, size_of(wide));
+            spoil(state, dst, off, Size::of_word(wide));
+            set_fetched(state, op, src, Size::of_word(wide));
         }
         _ => {}
     }

@@ -1,9 +1,10 @@
 use Rattle.std.proofs.lemmas.Int.{to_z-of_z}
-use Rattle.bpf_text.proofs.PutLemmas.{puts_more}
+use Rattle.bpf_text.specs.declared.spelling.Memory.TheVariants.{Unsigned}
+use Rattle.bpf_text.proofs.PutLemmas.{puts_more, place_then}
 use Rattle.bpf_text.proofs.lister.put_constant_store.Goals as goal
 
 pub returns : goal.returns
 returns c =
-    let offset_put = simp (to_z-of_z, c.ranges.off) at c.offset.ensures in
+    let place_put = simp (to_z-of_z, c.ranges.off) at c.put_place.ensures in
     let number_put = simp (to_z-of_z, c.ranges.imm) at c.number.ensures in
-    puts_more _ _ _ _ _ c.put_text.ensures (puts_more _ _ _ _ _ c.spelled.ensures (puts_more _ _ _ _ _ c.put_text-2.ensures (puts_more _ _ _ _ _ c.register.ensures (puts_more _ _ _ _ _ c.put_text-3.ensures (puts_more _ _ _ _ _ offset_put (puts_more _ _ _ _ _ c.put_text-4.ensures (puts_more _ _ _ _ _ number_put c.put_text-5.ensures)))))))
+    place_then _ _ _ (Unsigned c.args.size) c.args.dst c.args.off _ place_put (puts_more _ _ _ _ _ c.put_text.ensures (puts_more _ _ _ _ _ number_put c.put_text-2.ensures))

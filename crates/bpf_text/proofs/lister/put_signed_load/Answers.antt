@@ -1,8 +1,9 @@
 use Rattle.std.proofs.lemmas.Int.{to_z-of_z}
-use Rattle.bpf_text.proofs.PutLemmas.{puts_more}
+use Rattle.bpf_text.specs.declared.spelling.Memory.TheVariants.{Signed}
+use Rattle.bpf_text.proofs.PutLemmas.{puts_more, place_then}
 use Rattle.bpf_text.proofs.lister.put_signed_load.Goals as goal
 
 pub returns : goal.returns
 returns c =
-    let offset_put = simp (to_z-of_z, c.ranges.off) at c.offset.ensures in
-    puts_more _ _ _ _ _ c.register.ensures (puts_more _ _ _ _ _ c.put_text.ensures (puts_more _ _ _ _ _ c.spelled.ensures (puts_more _ _ _ _ _ c.put_text-2.ensures (puts_more _ _ _ _ _ c.register-2.ensures (puts_more _ _ _ _ _ c.put_text-3.ensures (puts_more _ _ _ _ _ offset_put c.put_text-4.ensures))))))
+    let place_put = simp (to_z-of_z, c.ranges.off) at c.put_place.ensures in
+    puts_more _ _ _ _ _ c.register.ensures (puts_more _ _ _ _ _ c.put_text.ensures (place_then _ _ _ (Signed c.args.size) c.args.src c.args.off _ place_put c.put_text-2.ensures))

@@ -1,4 +1,4 @@
-//! What loads that extend and atomic operations compute (RFC 9669, sections 5.2 and 5.3).
+//! Numbers as a step of either machine computes them (RFC 9669, sections 5.2 and 5.3).
 
 ghost use Rattle.std.specs.Prelude.{◌≡◌, ◌<◌, ◌%◌, ◌^◌, Some};
 ghost use Rattle.std.specs.Int.{cast_signed};
@@ -9,9 +9,9 @@ ghost use Rattle.bpf_semantics.specs.Step.{atomic_result, modified, size_type};
 
 use bpf_insn::{AtomicOp, Modify, Size};
 
-/// A number of some bytes as two's complement, extended to 64 bits.
+/// A number of 1, 2, 4 or 8 bytes as two's complement, extended to 64 bits: what a sign-extending load puts into its register.
 #[inline(always)]
-pub(crate) fn sign_extend_from(size: Size, x: u64) -> u64
+pub fn sign_extend_from(size: Size, x: u64) -> u64
     requires { x < 256 ^ byte_count size }
     ensures { result ≡ modulo (cast_signed (size_type size) x) (2 ^ 64) }
 {
@@ -25,7 +25,7 @@ pub(crate) fn sign_extend_from(size: Size, x: u64) -> u64
 }
 
 /// A changed number; sums wrap.
-#[tactic(auto, using(crate::proofs::ByteLemmas::or_fits, crate::proofs::ByteLemmas::xor_fits))]
+#[tactic(auto, using(crate::proofs::NumberLemmas::or_fits, crate::proofs::NumberLemmas::xor_fits))]
 #[inline(always)]
 fn modify(by: Modify, old: u64, x: u64) -> u64
     ensures { result ≡ modified by old x % 2 ^ 64 }
@@ -38,9 +38,10 @@ fn modify(by: Modify, old: u64, x: u64) -> u64
     }
 }
 
-/// The number that is written; CMPXCHG compares the old one with the low bytes of r0.
+/// The number that an atomic operation writes, of 64 bits, of which a narrow one writes the low half: of the number that was
+/// there, of the source's and of r0's, whose low 32 or 64 bits CMPXCHG compares with the old one.
 #[inline(always)]
-pub(crate) fn result_of(op: AtomicOp, wide: bool, old: u64, x: u64, r0: u64) -> u64
+pub fn atomic_result(op: AtomicOp, wide: bool, old: u64, x: u64, r0: u64) -> u64
     ensures { option_map (λ n. n % 2 ^ 64) (atomic_result op (word_size wide) old x (Some r0)) ≡ Some result }
 {
     match op {

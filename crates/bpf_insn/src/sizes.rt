@@ -1,0 +1,16 @@
+//! How large programs, and what they work on, may be.
+
+/// The most slots of a program.
+pub const MAX_SLOTS: usize = 65_536;
+
+/// The most bytes of an image: 8 for each slot.
+pub const MAX_IMAGE: usize = 8 * MAX_SLOTS;
+
+/// The most bytes of a context.
+pub const MAX_CONTEXT: usize = 4_096;
+
+/// The bytes of a frame.
+pub const FRAME_BYTES: usize = 512;
+
+/// The most frames, the outermost one among them.
+pub const MAX_FRAMES: usize = 8;
