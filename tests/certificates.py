@@ -2,7 +2,7 @@
 """certificates.py BPF: holds the built command to certificates and programs that are too long for an example of tests/rows, or
 generated:
 
-- texts about the limits of lines, functions and labels, and long ones that are written again as they were;
+- texts about the limits of lines, functions and labels, a text cut at each byte, and long ones that are written again as they were;
 - the longest program, its work and its run, and a longer one; as many functions as a certificate may have, and one more;
 - generated programs with jumps to and fro, and loops in one another: what is proposed is certified, a run ends within its bound,
   and the deep search is as good as the plain one.
@@ -88,6 +88,16 @@ def hold_refused():
     return folder.commands
 
 
+def hold_cuts():
+    """A text that ends before its end is refused at the line that it ends in."""
+    folder, text = Folder(), CERTIFICATE.replace("at 0 2\n", "at 0 2 +1*r6\nr6 u1..10,s1..10\ns1 b3\n")
+    folder.put("p.img", MOVE + EXIT)
+    for length in range(len(text)):
+        folder.put("p.cert", text[:length])
+        folder.says(f"the first {length} bytes", ["check", "p.img", "p.cert"], f"no K1 at line {text[:length].count(chr(10)) + 1}\n")
+    return folder.commands
+
+
 # ---- what is long
 
 def full_labels():
@@ -98,14 +108,24 @@ def full_labels():
     return "fn 0 1 *\n" + "".join(label.format(slot=slot) for slot in range(9)) + "end\n"
 
 
+def greatest():
+    """Texts that are as long as a limit allows, without their first line."""
+    return {
+        "full labels": full_labels(),
+        "256 functions": each("fn {n} 1 *\nat {n} 2\n", range(256)) + "end\n",
+        "65,536 labels": "fn 0 1 *\n" + each("at {n} 2\n", range(65536)) + "end\n",
+    }
+
+
 def hold_migrations():
     """A text of several pieces is written again as it was, but for its version."""
-    folder, rest = Folder(), full_labels()
-    for version in ("bpfcert 1 0 2\n", "bpfcert 2 0 0 2\n"):
-        folder.put("full.cert", version + rest)
-        folder.says("full labels", ["migrate", "full.cert", "new.cert"], "")
-        if folder.get("new.cert") != "bpfcert 2 0 0 2\n" + rest:
-            wrong("full labels, written", folder.get("new.cert")[:200], "the same in version 2")
+    folder = Folder()
+    for shows, rest in greatest().items():
+        for version in ("bpfcert 1 0 2\n", "bpfcert 2 0 0 2\n"):
+            folder.put("full.cert", version + rest)
+            folder.says(shows, ["migrate", "full.cert", "new.cert"], "")
+            if folder.get("new.cert") != "bpfcert 2 0 0 2\n" + rest:
+                wrong(f"{shows}, written", folder.get("new.cert")[:200], "the same in version 2")
     return folder.commands
 
 
@@ -195,9 +215,9 @@ def hold_proposals(text):
 
 def hold_generated(pool):
     jumps, nests = random.Random(22), random.Random(7)
-    some = list(pool.map(hold_proposals, [jumping(jumps) for _ in range(300)]))
-    every = list(pool.map(hold_proposals, [nested(nests) for _ in range(100)]))
-    if sum(found for found, _ in some) <= 60:
+    some = list(pool.map(hold_proposals, [jumping(jumps) for _ in range(1000)]))
+    every = list(pool.map(hold_proposals, [nested(nests) for _ in range(300)]))
+    if sum(found for found, _ in some) <= 200:
         wrong("programs with jumps to and fro", sum(found for found, _ in some), "more than a fifth certified")
     if not all(found for found, _ in every):
         wrong("loops in one another", sum(found for found, _ in every), "all certified")
@@ -206,7 +226,7 @@ def hold_generated(pool):
 
 def main():
     with ThreadPoolExecutor(os.cpu_count()) as pool:
-        commands = hold_refused() + hold_migrations() + hold_longest() + hold_functions() + hold_generated(pool)
+        commands = hold_refused() + hold_cuts() + hold_migrations() + hold_longest() + hold_functions() + hold_generated(pool)
     print(f"certificates: {commands} commands, no wrong answer")
 
 

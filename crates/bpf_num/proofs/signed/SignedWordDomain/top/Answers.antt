@@ -1,0 +1,5 @@
+use Rattle.std.proofs.Common.{rules}
+use Rattle.bpf_num.proofs.signed.SignedWordDomain.top.Goals as goal
+
+pub returns : goal.returns
+returns c = search rules
