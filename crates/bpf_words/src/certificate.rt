@@ -2,6 +2,7 @@
 
 use crate::page::Page;
 use bpf_cert::{CertError, Certificate};
+use std::fmt;
 use std::io::{self, Write};
 use std::str::from_utf8;
 
@@ -150,34 +151,37 @@ fn first_line(bytes: &[u8]) -> &[u8] {
 }
 
 /// A line as it stands, its first 80 bytes at most.
-fn tell_line<W: Write>(out: &mut W, line: &[u8]) -> io::Result<()> {
-    let shown = line.get(..line.len().min(80)).unwrap_or(&[]);
-    match from_utf8(shown) {
-        Ok(text) => write!(out, "`{text}`"),
-        Err(_) => write!(out, "a line that is no text"),
+#[derive(Clone, Copy)]
+struct Line<'a>(&'a [u8]);
+
+impl<'a> fmt::Display for Line<'a> {
+    fn fmt<W: fmt::Write>(&self, f: &mut fmt::Formatter<W>) -> fmt::Result {
+        let shown = self.0.get(..self.0.len().min(80)).unwrap_or(&[]);
+        match from_utf8(shown) {
+            Ok(text) => write!(f, "`{text}`"),
+            Err(_) => write!(f, "a line that is no text"),
+        }
     }
 }
 
 fn tell_syntax<'a, W: Write>(out: &mut W, place: Place<'a>) -> io::Result<()> {
     let before = kind_of(place.before);
     let kind = kind_of(place.line);
+    let (line, follows) = (Line(place.line), followers(before));
     if !place.is_there {
-        let follows = followers(before);
-        return write!(out, "the text ends here without `end`: {follows}\n");
-    }
-    tell_line(out, place.line)?;
-    if place.line.contains(&b'\r') {
-        return write!(out, ": a CR stands in it, and lines end with LF alone\n");
-    }
-    if !place.is_ended {
-        return write!(out, ": no LF ends the line\n");
-    }
-    if may_follow(before, kind) {
+        write!(out, "the text ends here without `end`: {follows}\n")
+    } else if place.line.contains(&b'\r') {
+        write!(
+            out,
+            "{line}: a CR stands in it, and lines end with LF alone\n"
+        )
+    } else if !place.is_ended {
+        write!(out, "{line}: no LF ends the line\n")
+    } else if may_follow(before, kind) {
         let form = form_of(kind);
-        write!(out, ": a line that begins so has the form {form}\n")
+        write!(out, "{line}: a line that begins so has the form {form}\n")
     } else {
-        let follows = followers(before);
-        write!(out, ": {follows}\n")
+        write!(out, "{line}: {follows}\n")
     }
 }
 
@@ -196,43 +200,45 @@ fn padded_number(line: &[u8]) -> bool {
     false
 }
 
-fn tell_canonical<'a, W: Write>(out: &mut W, place: Place<'a>) -> io::Result<()> {
-    tell_line(out, place.line)?;
-    if padded_number(place.line) {
-        return write!(out, ": a number has a needless zero in front\n");
+/// What makes a line the one spelling of what it says.
+fn spelling_rule(line: &[u8]) -> &'static str {
+    if padded_number(line) {
+        return "a number has a needless zero in front";
     }
-    match kind_of(place.line) {
-        Kind::Function => write!(
-            out,
-            ": functions rise by their first slots, and a part of a number that says nothing is left out\n"
-        ),
-        Kind::Label => write!(
-            out,
-            ": a function's labels rise by their slots, and terms by their places, registers first\n"
-        ),
-        Kind::Register | Kind::Slot => write!(
-            out,
-            ": registers rise and then slots, each once; the parts of a number are u, s, k, and one that says nothing is left out\n"
-        ),
-        _ => write!(out, ": each certificate has one spelling\n"),
+    match kind_of(line) {
+        Kind::Function => {
+            "functions rise by their first slots, and a part of a number that says nothing is left out"
+        }
+        Kind::Label => {
+            "a function's labels rise by their slots, and terms by their places, registers first"
+        }
+        Kind::Register | Kind::Slot => {
+            "registers rise and then slots, each once; the parts of a number are u, s, k, and one that says nothing is left out"
+        }
+        _ => "each certificate has one spelling",
     }
 }
 
+fn tell_limit<W: Write>(out: &mut W, line: &[u8]) -> io::Result<()> {
+    if line.len() > 256 {
+        return write!(out, "a line has at most 256 bytes\n");
+    }
+    let limits = limits_of(kind_of(line));
+    let line = Line(line);
+    write!(out, "{line}: {limits}\n")
+}
+
 fn tell_error<W: Write>(out: &mut W, bytes: &[u8], error: CertError) -> io::Result<()> {
-    let (number, line) = (error.number(), error.line());
-    write!(out, "K{number} at line {line}: ")?;
-    let place = line_at(bytes, line);
+    let (number, at) = (error.number(), error.line());
+    write!(out, "K{number} at line {at}: ")?;
+    let place = line_at(bytes, at);
     match error {
         CertError::Syntax { .. } => tell_syntax(out, place),
-        CertError::NotCanonical { .. } => tell_canonical(out, place),
-        CertError::Limit { .. } => {
-            if place.line.len() > 256 {
-                return write!(out, "a line has at most 256 bytes\n");
-            }
-            tell_line(out, place.line)?;
-            let limits = limits_of(kind_of(place.line));
-            write!(out, ": {limits}\n")
+        CertError::NotCanonical { .. } => {
+            let (line, rule) = (Line(place.line), spelling_rule(place.line));
+            write!(out, "{line}: {rule}\n")
         }
+        CertError::Limit { .. } => tell_limit(out, place.line),
         CertError::Memory => write!(out, "memory ran out\n"),
         CertError::Read { .. } => write!(out, "the reader failed\n"),
     }

@@ -35,7 +35,23 @@ fn write_style<W: Write>(out: &mut W) -> io::Result<()> {
     write!(out, "  edge [fontname=\"monospace\"];\n")
 }
 
-/// The graph's title: what the certificate promises, and the checker's answer.
+/// What the certificate promises, and the checker's answer.
+fn write_answer<W: Write>(
+    out: &mut W,
+    certificate: &Index,
+    refusal: Option<Refusal>,
+) -> io::Result<()> {
+    write_header(out, certificate)?;
+    match refusal {
+        None => write!(out, "accepted\n"),
+        Some(refusal) => {
+            let (number, slot) = (refusal.number(), refusal.slot());
+            write!(out, "refused: C{number} at slot {slot}\n")
+        }
+    }
+}
+
+/// The graph's title.
 fn write_title<W: Write>(
     out: &mut W,
     certificate: &Index,
@@ -45,27 +61,34 @@ fn write_title<W: Write>(
         out,
         "  graph [fontname=\"monospace\", labelloc=t, labeljust=l, label=\""
     )?;
-    let mut quoted = Quoted::new(out);
-    write_header(&mut quoted, certificate)?;
-    match refusal {
-        None => write!(quoted, "accepted\n")?,
-        Some(refusal) => {
-            let (number, slot) = (refusal.number(), refusal.slot());
-            write!(quoted, "refused: C{number} at slot {slot}\n")?;
-        }
-    }
+    write_answer(&mut Quoted::new(out), certificate, refusal)?;
     write!(out, "\"];\n")
 }
 
-/// All behind the title.
+/// The whole graph, with a title if there is a certificate.
 fn write_graph<'a, 'b, C: Code, W: Write>(
     out: &mut W,
     program: &C,
     scene: &Scene<'a, 'b>,
 ) -> io::Result<()> {
+    write_style(out)?;
+    if let Some(certificate) = scene.certificate {
+        write_title(out, certificate, scene.refusal)?;
+    }
     write_blocks(out, program, scene)?;
     write_edges(out, program, scene)?;
     write!(out, "}}\n")
+}
+
+/// Writes the graph in pieces of up to 4,096 bytes.
+fn write_scene<'a, 'b, C: Code, W: Write>(
+    out: &mut W,
+    program: &C,
+    scene: &Scene<'a, 'b>,
+) -> io::Result<()> {
+    let mut page = Page::new(out);
+    write_graph(&mut page, program, scene)?;
+    page.flush()
 }
 
 /// Writes the control-flow graph of a program with a certificate as DOT text, with the checker's answer, which is given. A
@@ -83,11 +106,7 @@ pub fn write_dot<C: Code, W: Write>(
         flow: flow_of(program, &index),
         refusal,
     };
-    let mut page = Page::new(out);
-    write_style(&mut page)?;
-    write_title(&mut page, &index, refusal)?;
-    write_graph(&mut page, program, &scene)?;
-    page.flush()
+    write_scene(out, program, &scene)
 }
 
 /// Writes the control-flow graph of a program alone as DOT text: its blocks, in functions that begin at slot 0 and where calls
@@ -100,8 +119,5 @@ pub fn dot_plain<C: Code, W: Write>(program: &C, out: &mut W) -> io::Result<()> 
         flow: Flow::any(),
         refusal: None,
     };
-    let mut page = Page::new(out);
-    write_style(&mut page)?;
-    write_graph(&mut page, program, &scene)?;
-    page.flush()
+    write_scene(out, program, &scene)
 }

@@ -251,27 +251,56 @@ fn tell_length<W: Write>(out: &mut W, length: usize) -> io::Result<()> {
     }
 }
 
-/// Where a jump leads that leads to no instruction.
-fn tell_target<W: Write>(out: &mut W, order: Order, bytes: &[u8], slot: u32) -> io::Result<()> {
+/// What stands from a slot on.
+fn from_slot(bytes: &[u8], slot: u32) -> &[u8] {
     let start = (slot as usize).saturating_mul(8);
-    let fields = fields_of(order, bytes.get(start..).unwrap_or(&[]));
+    bytes.get(start..).unwrap_or(&[])
+}
+
+/// A slot that is refused.
+fn tell_slot<W: Write>(
+    out: &mut W,
+    order: Order,
+    bytes: &[u8],
+    slot: u32,
+    fault: SlotFault,
+) -> io::Result<()> {
+    let number = fault.number();
+    write!(out, "E{number} at slot {slot}: ")?;
+    let rest = from_slot(bytes, slot);
+    tell_fault(out, order, rest, fault)?;
+    tell_bytes(out, order, rest)
+}
+
+/// What leads from a slot, as its fields say it: `jumps to`, and the slot there.
+fn lead_of(fields: Fields, slot: u32) -> (&'static str, i64) {
     let by = match fields.opcode {
         0x06 | 0x85 => i64::from(fields.imm),
         _ => i64::from(fields.offset),
     };
-    let to = i64::from(slot).saturating_add(1).saturating_add(by);
-    let slots = bytes.len() / 8;
     let verb = if fields.opcode == 0x85 {
         "calls"
     } else {
         "jumps to"
     };
-    write!(out, "E8 at slot {slot}: {verb} slot {to}, ")?;
+    (verb, i64::from(slot).saturating_add(1).saturating_add(by))
+}
+
+/// Where a jump leads that leads to no instruction.
+fn tell_target<W: Write>(out: &mut W, order: Order, bytes: &[u8], slot: u32) -> io::Result<()> {
+    let (verb, to) = lead_of(fields_of(order, from_slot(bytes, slot)), slot);
+    let slots = bytes.len() / 8;
     if to < 0 || to >= i64::try_from(slots).unwrap_or(0) {
         let last = slots.saturating_sub(1);
-        write!(out, "outside of the program's slots, 0 to {last}\n")
+        write!(
+            out,
+            "E8 at slot {slot}: {verb} slot {to}, outside of the program's slots, 0 to {last}\n"
+        )
     } else {
-        write!(out, "which is the second slot of a 64-bit constant\n")
+        write!(
+            out,
+            "E8 at slot {slot}: {verb} slot {to}, which is the second slot of a 64-bit constant\n"
+        )
     }
 }
 
@@ -289,18 +318,10 @@ fn tell_error<W: Write>(
     }
     match error {
         DecodeError::Length => tell_length(out, bytes.len()),
-        DecodeError::Slot { slot, fault } => {
-            let number = fault.number();
-            write!(out, "E{number} at slot {slot}: ")?;
-            let start = (slot as usize).saturating_mul(8);
-            let rest = bytes.get(start..).unwrap_or(&[]);
-            tell_fault(out, order, rest, fault)?;
-            tell_bytes(out, order, rest)
-        }
+        DecodeError::Slot { slot, fault } => tell_slot(out, order, bytes, slot, fault),
         DecodeError::Target { slot } => {
             tell_target(out, order, bytes, slot)?;
-            let start = (slot as usize).saturating_mul(8);
-            tell_bytes(out, order, bytes.get(start..).unwrap_or(&[]))
+            tell_bytes(out, order, from_slot(bytes, slot))
         }
         DecodeError::Memory => write!(out, "E9: memory ran out\n"),
         DecodeError::Read { slot } => write!(out, "E10 at slot {slot}: the reader failed\n"),

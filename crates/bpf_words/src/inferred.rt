@@ -332,33 +332,72 @@ fn write_refused<W: Write>(
     }
 }
 
-/// Explains what a search found.
+/// Explains a certificate that was found, with the checker's answer.
+fn explain_certified<W: Write>(
+    program: &Program,
+    certificate: &Certificate,
+    out: &mut W,
+) -> io::Result<()> {
+    let refusal = match check(program, certificate) {
+        Ok(_checked) => None,
+        Err(refusal) => Some(refusal),
+    };
+    explain_on(program, certificate, refusal, out)
+}
+
+/// Explains what a search found. The refusal as it is told, if there is no certificate.
 fn explain_found<W: Write>(
     alloc: Global,
     program: &Program,
     least: u32,
     most: u32,
-    found: Result<Certificate, InferError>,
+    found: &Result<Certificate, InferError>,
     effort: Effort,
     out: &mut W,
-) -> io::Result<Result<Certificate, InferError>>
+) -> io::Result<Option<InferError>>
+    requires order { least ≤ most }
+    requires short { most ≤ 4096 }
+{
+    match found {
+        Ok(certificate) => {
+            explain_certified(program, certificate, out)?;
+            Ok(None)
+        }
+        Err(error) => {
+            let told = write_refused(alloc, program, least, most, *error, effort, out)?;
+            Ok(Some(told))
+        }
+    }
+}
+
+/// Explains what a search found in pieces of up to 4,096 bytes. The refusal as it is told, if there is no certificate.
+fn explain_in_pieces<W: Write>(
+    alloc: Global,
+    program: &Program,
+    least: u32,
+    most: u32,
+    found: &Result<Certificate, InferError>,
+    effort: Effort,
+    out: &mut W,
+) -> io::Result<Option<InferError>>
     requires order { least ≤ most }
     requires short { most ≤ 4096 }
 {
     let mut page = Page::new(out);
-    let answer = match found {
-        Ok(certificate) => {
-            let refusal = match check(program, &certificate) {
-                Ok(_checked) => None,
-                Err(refusal) => Some(refusal),
-            };
-            explain_on(program, &certificate, refusal, &mut page)?;
-            Ok(certificate)
-        }
-        Err(error) => Err(write_refused(alloc, program, least, most, error, effort, &mut page)?),
-    };
+    let told = explain_found(alloc, program, least, most, found, effort, &mut page)?;
     page.flush()?;
-    Ok(answer)
+    Ok(told)
+}
+
+/// What was found, or the refusal as it is told.
+fn answer(
+    found: Result<Certificate, InferError>,
+    told: Option<InferError>,
+) -> Result<Certificate, InferError> {
+    match told {
+        Some(error) => Err(error),
+        None => found,
+    }
 }
 
 /// Explains the certificate that the inferrer proposes for a program on contexts of `least` to `most` bytes, at most 4,096, with
@@ -375,7 +414,9 @@ pub fn explain_inferred<W: Write>(
     requires short { most ≤ 4096 }
 {
     let found = infer(alloc, program, least, most);
-    explain_found(alloc, program, least, most, found, Effort::Plain, out)
+    let effort = Effort::Plain;
+    let told = explain_in_pieces(alloc, program, least, most, &found, effort, out)?;
+    Ok(answer(found, told))
 }
 
 /// Explains the same of the deep search, with the plain inferrer's states where it proposes none. Who watches is told how far
@@ -392,5 +433,7 @@ pub fn explain_searched<W: Write, H: Watch>(
     requires short { most ≤ 4096 }
 {
     let found = search(alloc, program, least, most, watch);
-    explain_found(alloc, program, least, most, found, Effort::Deep, out)
+    let effort = Effort::Deep;
+    let told = explain_in_pieces(alloc, program, least, most, &found, effort, out)?;
+    Ok(answer(found, told))
 }

@@ -10,32 +10,50 @@ use bpf_cert::{Function, Label, Measure};
 use bpf_check::{Index, label_at};
 use bpf_insn::Insn;
 use bpf_state::{Place, State};
+use std::fmt;
 use std::io::{self, Write};
+use std::str::from_utf8;
 
 /// The width that an instruction is padded to.
 const WIDTH: usize = 36;
 
-const BLANKS: [u8; WIDTH] = [b' '; WIDTH];
+const BLANKS: &str = "                                    ";
 
-/// `16 bytes` or `0 to 64 bytes`
-pub fn write_lengths<W: Write>(out: &mut W, certificate: &Index) -> io::Result<()> {
-    let (least, most) = (certificate.least(), certificate.most());
-    if least != most {
-        write!(out, "{least} to {most} bytes")
-    } else if least == 1 {
-        write!(out, "1 byte")
-    } else {
-        write!(out, "{least} bytes")
+/// The lengths of contexts, as `16 bytes` or `0 to 64 bytes`.
+#[derive(Clone, Copy)]
+pub struct Lengths {
+    least: u32,
+    most: u32,
+}
+
+impl Lengths {
+    /// Those that a certificate is for.
+    pub fn of(certificate: &Index) -> Self {
+        Lengths {
+            least: certificate.least(),
+            most: certificate.most(),
+        }
+    }
+}
+
+impl fmt::Display for Lengths {
+    fn fmt<W: fmt::Write>(&self, f: &mut fmt::Formatter<W>) -> fmt::Result {
+        let (least, most) = (self.least, self.most);
+        if least != most {
+            write!(f, "{least} to {most} bytes")
+        } else if least == 1 {
+            write!(f, "1 byte")
+        } else {
+            write!(f, "{least} bytes")
+        }
     }
 }
 
 /// `contexts of 16 bytes, at most 24 steps`
 pub fn write_header<W: Write>(out: &mut W, certificate: &Index) -> io::Result<()> {
-    write!(out, "contexts of ")?;
-    write_lengths(out, certificate)?;
-    let steps = certificate.steps();
+    let (lengths, steps) = (Lengths::of(certificate), certificate.steps());
     let unit = if steps == 1 { "step" } else { "steps" };
-    write!(out, ", at most {steps} {unit}\n")
+    write!(out, "contexts of {lengths}, at most {steps} {unit}\n")
 }
 
 /// `fn 0: depth 1, returns any number`
@@ -45,15 +63,21 @@ pub fn write_function<W: Write>(out: &mut W, function: &Function) -> io::Result<
     write!(out, "fn {first}: depth {depth}, returns {returned}\n")
 }
 
-fn write_measure<W: Write>(out: &mut W, measure: Measure) -> io::Result<()> {
-    match measure {
-        Measure::Down(place) => {
-            let name = Name(place);
-            write!(out, "{name}")
-        }
-        Measure::Up(place, limit) => {
-            let name = Name(place);
-            write!(out, "({limit} - {name})")
+/// What a term counts, as `r6` or `(10 - r6)`.
+#[derive(Clone, Copy)]
+struct Counted(Measure);
+
+impl fmt::Display for Counted {
+    fn fmt<W: fmt::Write>(&self, f: &mut fmt::Formatter<W>) -> fmt::Result {
+        match self.0 {
+            Measure::Down(place) => {
+                let name = Name(place);
+                write!(f, "{name}")
+            }
+            Measure::Up(place, limit) => {
+                let name = Name(place);
+                write!(f, "({limit} - {name})")
+            }
         }
     }
 }
@@ -63,9 +87,8 @@ pub fn write_budget<W: Write>(out: &mut W, label: &Label) -> io::Result<()> {
     let base = label.budget.base;
     write!(out, "{base}")?;
     for term in label.budget.terms.as_slice() {
-        let weight = term.weight;
-        write!(out, " + {weight}*")?;
-        write_measure(out, term.measure)?;
+        let (weight, counted) = (term.weight, Counted(term.measure));
+        write!(out, " + {weight}*{counted}")?;
     }
     Ok(())
 }
@@ -103,12 +126,12 @@ pub fn write_label<W: Write>(
 // ---- instructions
 
 /// The slot and the instruction, padded.
-pub fn write_padded<W: Write>(out: &mut W, slot: u32, insn: &Insn) -> io::Result<()> {
-    write!(out, "{slot:>5}  ")?;
-    let text = spelling_of(insn);
-    out.write_all(text.as_slice())?;
+fn write_padded<W: Write>(out: &mut W, slot: u32, insn: &Insn) -> io::Result<()> {
+    let spelled = spelling_of(insn);
+    let text = from_utf8(spelled.as_slice()).unwrap_or("");
     let missing = WIDTH.saturating_sub(text.len());
-    out.write_all(BLANKS.get(..missing).unwrap_or(&[]))
+    let blanks = BLANKS.get(..missing).unwrap_or("");
+    write!(out, "{slot:>5}  {text}{blanks}")
 }
 
 /// Tells what is known of a place, unless that was told before.
@@ -173,26 +196,34 @@ fn note_changes<W: Write>(
     Ok(())
 }
 
+/// What an instruction costs with those before it.
+fn write_cost<'a, W: Write>(out: &mut W, sight: &Sight<'a>) -> io::Result<()> {
+    match (sight.outcome, sight.cost) {
+        (Outcome::Refused(_), _) => write!(out, "; refused"),
+        (_, Some(cost)) => write!(out, "; cost {cost}"),
+        (_, None) => write!(out, "; the cost isn't known"),
+    }
+}
+
+/// Tells what is known of the places that an instruction changes.
+fn note_written<'a, W: Write>(out: &mut W, sight: &Sight<'a>, shown: &mut State) -> io::Result<()> {
+    let after = match sight.insn {
+        Insn::CallLocal { .. } if sight.goes_on => sight.next_state(),
+        _ => &sight.after,
+    };
+    let written = places_written(&sight.insn, &sight.before);
+    let changed = changes(&sight.before, after, written);
+    take_all(shown, after, changed);
+    note_changes(out, changed, after, "becomes")
+}
+
 /// The notes behind an instruction that a state reaches.
 fn write_notes<'a, W: Write>(out: &mut W, sight: &Sight<'a>, shown: &mut State) -> io::Result<()> {
-    match (sight.outcome, sight.cost) {
-        (Outcome::Refused(_), _) => write!(out, "; refused")?,
-        (_, Some(cost)) => write!(out, "; cost {cost}")?,
-        (_, None) => write!(out, "; the cost isn't known")?,
-    }
+    write_cost(out, sight)?;
     note_registers(out, sight, shown)?;
     note_slots(out, sight, shown)?;
     match sight.outcome {
-        Outcome::Done => {
-            let after = match sight.insn {
-                Insn::CallLocal { .. } if sight.goes_on => sight.next_state(),
-                _ => &sight.after,
-            };
-            let written = places_written(&sight.insn, &sight.before);
-            let changed = changes(&sight.before, after, written);
-            take_all(shown, after, changed);
-            note_changes(out, changed, after, "becomes")
-        }
+        Outcome::Done => note_written(out, sight, shown),
         Outcome::Dead => write!(out, "; no run goes on from here"),
         Outcome::Refused(_) | Outcome::Unreached => Ok(()),
     }
@@ -234,15 +265,18 @@ fn write_slack<'a, W: Write>(
     };
     let total = total_of(slack);
     let (base, there) = (here.label.budget.base, new.budget.base);
-    write!(
-        out,
-        "; slack {total}: base {base}, cost {cost}, base there {there}"
-    )?;
     if have_terms(here.label, new) {
         let (kept, taken) = (slack.kept, slack.free);
-        write!(out, ", kept {kept}, taken {taken}")?;
+        write!(
+            out,
+            "; slack {total}: base {base}, cost {cost}, base there {there}, kept {kept}, taken {taken}"
+        )
+    } else {
+        write!(
+            out,
+            "; slack {total}: base {base}, cost {cost}, base there {there}"
+        )
     }
-    Ok(())
 }
 
 /// The line of an edge: where it leads, what is known there more, and what is left of the budget.

@@ -1,6 +1,6 @@
 //! A program with a certificate, explained.
 
-use crate::listing::{write_header, write_lengths};
+use crate::listing::{Lengths, write_header};
 use crate::page::Page;
 use crate::pass::see;
 use crate::report::{Report, View};
@@ -63,11 +63,12 @@ fn write_answer<C: Code, W: Write>(
 ) -> io::Result<()> {
     match refusal {
         None => {
-            let steps = certificate.steps();
+            let (lengths, steps) = (Lengths::of(certificate), certificate.steps());
             let unit = if steps == 1 { "step" } else { "steps" };
-            write!(out, "accepted: at most {steps} {unit} on contexts of ")?;
-            write_lengths(out, certificate)?;
-            write!(out, "\n")
+            write!(
+                out,
+                "accepted: at most {steps} {unit} on contexts of {lengths}\n"
+            )
         }
         Some(refusal) => {
             let (number, slot) = (refusal.number(), refusal.slot());
@@ -128,6 +129,20 @@ pub fn write_explanation<C: Code, W: Write>(
     page.flush()
 }
 
+/// One instruction with the whole state before and after it, and what is wrong there.
+fn tell_at<C: Code, W: Write>(
+    program: &C,
+    certificate: &Certificate,
+    slot: u32,
+    out: &mut W,
+) -> io::Result<()> {
+    let index = Index::of(certificate);
+    if program.insn(slot).is_none() {
+        write!(out, "no instruction begins at slot {slot}\n")?;
+    }
+    tell_all(program, &index, View::Slot(slot), out)
+}
+
 /// Writes one instruction of a program with the whole state before and after it, and what is wrong there. A fault of the
 /// writer, or a write of no bytes, ends it.
 pub fn explain_slot<C: Code, W: Write>(
@@ -137,10 +152,6 @@ pub fn explain_slot<C: Code, W: Write>(
     out: &mut W,
 ) -> io::Result<()> {
     let mut page = Page::new(out);
-    let index = Index::of(certificate);
-    if program.insn(slot).is_none() {
-        write!(page, "no instruction begins at slot {slot}\n")?;
-    }
-    tell_all(program, &index, View::Slot(slot), &mut page)?;
+    tell_at(program, certificate, slot, &mut page)?;
     page.flush()
 }

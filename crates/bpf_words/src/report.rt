@@ -7,7 +7,7 @@ use crate::sight::{Outcome, Sight};
 use crate::standing::{label_flaws, label_in, lacks_first_label, standing_flaws, start_flaws};
 use crate::whole::write_whole;
 use crate::words::{Silence, tell, tell_function, tell_label, tell_silence, tell_start};
-use bpf_cert::Function;
+use bpf_cert::{Function, Label};
 use bpf_check::{Cause, Index};
 use bpf_insn::Code;
 use bpf_state::State;
@@ -128,12 +128,10 @@ impl Report {
         write!(out, "\n")
     }
 
-    /// Tells a flaw of a function or of its label at a slot.
-    fn tell_in_function<W: Write, C: Code>(
-        &mut self,
+    /// Tells that the first slot of a function, which is at a slot, has no label.
+    fn tell_shape<W: Write>(
+        &self,
         out: &mut W,
-        program: &C,
-        certificate: &Index,
         function: &Function,
         slot: u32,
         cause: Cause,
@@ -143,14 +141,24 @@ impl Report {
             tell_function(out, function)?;
             write!(out, "\n")?;
         }
-        let Some(label) = label_in(function, slot) else {
-            return Ok(());
-        };
+        Ok(())
+    }
+
+    /// Tells a flaw of a label.
+    fn tell_in_label<W: Write, C: Code>(
+        &mut self,
+        out: &mut W,
+        program: &C,
+        certificate: &Index,
+        function: &Function,
+        label: &Label,
+        cause: Cause,
+    ) -> io::Result<()> {
         let found = label_flaws(program, certificate, function, label, &mut self.room);
         if !found.flaws.has(cause) {
             return Ok(());
         }
-        self.begin(out, cause, slot, None)?;
+        self.begin(out, cause, label.slot, None)?;
         let bad = found.bad;
         tell_label(out, program, certificate, function, label, cause, bad)?;
         write!(out, "\n")
@@ -165,9 +173,25 @@ impl Report {
         cause: Cause,
     ) -> io::Result<()> {
         for function in certificate.functions() {
-            self.tell_in_function(out, program, certificate, function, slot, cause)?;
+            self.tell_shape(out, function, slot, cause)?;
+            if let Some(label) = label_in(function, slot) {
+                self.tell_in_label(out, program, certificate, function, label, cause)?;
+            }
         }
         Ok(())
+    }
+
+    /// Tells a flaw of a certificate's beginning.
+    fn tell_at_start<W: Write>(
+        &self,
+        out: &mut W,
+        certificate: &Index,
+        slot: u32,
+        cause: Cause,
+    ) -> io::Result<()> {
+        self.begin(out, cause, slot, None)?;
+        tell_start(out, certificate, cause)?;
+        write!(out, "\n")
     }
 
     /// Tells all that is wrong at a slot.
@@ -180,15 +204,9 @@ impl Report {
         sight: Option<&Sight<'a>>,
         found: &Found,
     ) -> io::Result<()> {
-        let all = found.all();
-        if all.is_empty() {
-            return Ok(());
-        }
         for cause in CAUSES {
             if found.start.has(cause) {
-                self.begin(out, cause, slot, None)?;
-                tell_start(out, certificate, cause)?;
-                write!(out, "\n")?;
+                self.tell_at_start(out, certificate, slot, cause)?;
             }
             if let Some(sight) = sight {
                 if found.visit.has(cause) {
@@ -365,8 +383,8 @@ impl Report {
         Ok(())
     }
 
-    /// Tells of an instruction.
-    pub fn tell_sight<'a, W: Write, C: Code>(
+    /// Tells of an instruction what the view shows.
+    fn show<'a, W: Write, C: Code>(
         &mut self,
         out: &mut W,
         program: &C,
@@ -376,24 +394,34 @@ impl Report {
         match self.view {
             View::Listing => {
                 self.write_lines(out, certificate, sight)?;
-                self.tell_flaws(out, program, certificate, sight)?;
+                self.tell_flaws(out, program, certificate, sight)
             }
-            View::List => self.tell_flaws(out, program, certificate, sight)?,
+            View::List => self.tell_flaws(out, program, certificate, sight),
             View::Slot(slot) if slot == sight.slot => {
                 write_whole(out, sight)?;
-                self.tell_flaws(out, program, certificate, sight)?;
+                self.tell_flaws(out, program, certificate, sight)
             }
-            View::Sketch(slot, number) => {
+            View::Sketch(slot, number) if slot == sight.slot => {
                 self.write_lines(out, certificate, sight)?;
-                if slot == sight.slot {
-                    self.tell_one(out, program, certificate, sight, number)?;
-                }
+                self.tell_one(out, program, certificate, sight, number)
             }
+            View::Sketch(..) => self.write_lines(out, certificate, sight),
             View::Reason(slot, number) if slot == sight.slot => {
-                self.tell_one(out, program, certificate, sight, number)?;
+                self.tell_one(out, program, certificate, sight, number)
             }
-            View::Slot(_) | View::Reason(..) => {}
+            View::Slot(_) | View::Reason(..) => Ok(()),
         }
+    }
+
+    /// Tells of an instruction.
+    pub fn tell_sight<'a, W: Write, C: Code>(
+        &mut self,
+        out: &mut W,
+        program: &C,
+        certificate: &Index,
+        sight: &Sight<'a>,
+    ) -> io::Result<()> {
+        self.show(out, program, certificate, sight)?;
         self.note_silence(sight);
         Ok(())
     }

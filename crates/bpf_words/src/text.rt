@@ -1,11 +1,12 @@
 //! Why a text is no program, in words.
 
-use crate::form::{Excess, FORMS, Reading, skip_blanks, word_in};
+use crate::form::{Excess, FORMS, Form, Reading, skip_blanks, word_in};
 use crate::page::Page;
 use bpf_insn::{BuildError, Order};
 use bpf_text::{TextError, assemble};
 use std::alloc::{AllocError, Global};
 use std::collections::BTreeMap;
+use std::fmt;
 use std::io::{self, Write};
 use std::str::from_utf8;
 
@@ -52,11 +53,16 @@ fn behind_labels(code: &[u8]) -> &[u8] {
 // ---- words
 
 /// A word as it stands, its first 40 bytes at most.
-fn tell_word<W: Write>(out: &mut W, word: &[u8]) -> io::Result<()> {
-    let shown = word.get(..word.len().min(40)).unwrap_or(&[]);
-    match from_utf8(shown) {
-        Ok(text) => write!(out, "`{text}`"),
-        Err(_) => write!(out, "a byte that is no ASCII"),
+#[derive(Clone, Copy)]
+struct Word<'a>(&'a [u8]);
+
+impl<'a> fmt::Display for Word<'a> {
+    fn fmt<W: fmt::Write>(&self, f: &mut fmt::Formatter<W>) -> fmt::Result {
+        let shown = self.0.get(..self.0.len().min(40)).unwrap_or(&[]);
+        match from_utf8(shown) {
+            Ok(text) => write!(f, "`{text}`"),
+            Err(_) => write!(f, "a byte that is no ASCII"),
+        }
     }
 }
 
@@ -92,12 +98,17 @@ fn farthest(code: &[u8]) -> (Reading<'_>, bool) {
     (best, false)
 }
 
+/// Whether a line follows a form until so many bytes are left.
+fn follows(code: &[u8], form: &Form, left: usize) -> bool {
+    let (reading, _) = Reading::new(code).follow(form);
+    skip_blanks(reading.rest).len() == left
+}
+
 /// The forms that a line follows as far as any.
 fn tell_forms<W: Write>(out: &mut W, code: &[u8], left: usize) -> io::Result<()> {
     let mut comma = "forms that begin so: ";
     for form in &FORMS {
-        let (reading, _) = Reading::new(code).follow(form);
-        if skip_blanks(reading.rest).len() == left {
+        if follows(code, form, left) {
             let text = form.text;
             write!(out, "{comma}{text}")?;
             comma = ", ";
@@ -118,9 +129,8 @@ fn tell_place<W: Write>(out: &mut W, line: &[u8], code: &[u8]) -> io::Result<()>
     if rest.is_empty() {
         write!(out, ", column {column}: the line ends here\n")?;
     } else {
-        write!(out, ", column {column}: ")?;
-        tell_word(out, front_of(rest))?;
-        write!(out, " can't stand here\n")?;
+        let word = Word(front_of(rest));
+        write!(out, ", column {column}: {word} can't stand here\n")?;
     }
     if is_comment(rest) {
         return write!(out, "a comment begins with `;`\n");
@@ -140,13 +150,15 @@ fn tell_excess<'a, W: Write>(out: &mut W, code: &[u8], excess: Excess<'a>) -> io
         [b'-' | b'+', digits @ ..] => (excess.rest.first().copied(), digits),
         _ => (None, excess.rest),
     };
-    write!(out, ", column {column}: ")?;
-    if let Some(b'-') = sign {
-        write!(out, "minus ")?;
-    }
-    tell_word(out, front_of(skip_blanks(digits)))?;
-    let range = excess.range.text();
-    write!(out, " is out of its range: {range}\n")
+    let minus = match sign {
+        Some(b'-') => "minus ",
+        _ => "",
+    };
+    let (word, range) = (Word(front_of(skip_blanks(digits))), excess.range.text());
+    write!(
+        out,
+        ", column {column}: {minus}{word} is out of its range: {range}\n"
+    )
 }
 
 fn tell_range<W: Write>(out: &mut W, text: &[u8], number: usize) -> io::Result<()> {
@@ -219,9 +231,8 @@ fn tell_second<W: Write>(alloc: Global, out: &mut W, text: &[u8], number: usize)
     write!(out, "A3 at line {number}: ")?;
     match second_label(alloc, text, number) {
         Ok(Some((name, above))) => {
-            write!(out, "the label ")?;
-            tell_word(out, name)?;
-            write!(out, " is defined at line {above}, too\n")
+            let word = Word(name);
+            write!(out, "the label {word} is defined at line {above}, too\n")
         }
         Ok(None) => write!(out, "a label is defined twice in the line\n"),
         Err(_) => write!(out, "a label is defined again\n"),
@@ -254,9 +265,8 @@ fn tell_target<W: Write>(
     cause: u8,
     words: &str,
 ) -> io::Result<()> {
-    write!(out, "A{cause} at line {number}: the label ")?;
-    tell_word(out, last_word(code_of(line_at(text, number))))?;
-    write!(out, " {words}\n")
+    let word = Word(last_word(code_of(line_at(text, number))));
+    write!(out, "A{cause} at line {number}: the label {word} {words}\n")
 }
 
 fn tell_program<W: Write>(out: &mut W, number: usize, error: BuildError) -> io::Result<()> {
@@ -302,29 +312,39 @@ fn tell_error<W: Write>(
     }
 }
 
+/// How many slots the program of a text has.
+fn slots_of(alloc: Global, text: &str) -> Result<u32, TextError> {
+    match assemble(alloc, text, Order::Little) {
+        Ok(program) => Ok(program.slots()),
+        Err(error) => Err(error),
+    }
+}
+
+/// Tells what bytes are as a text. Whether they are a program's.
+fn tell_text<W: Write>(alloc: Global, out: &mut W, bytes: &[u8]) -> io::Result<bool> {
+    let Ok(text) = from_utf8(bytes) else {
+        write!(out, "the bytes are no text: they aren't UTF-8\n")?;
+        return Ok(false);
+    };
+    match slots_of(alloc, text) {
+        Ok(slots) => {
+            let unit = if slots == 1 { "slot" } else { "slots" };
+            write!(out, "a program of {slots} {unit}\n")?;
+            Ok(true)
+        }
+        Err(error) => {
+            tell_error(alloc, out, bytes, error)?;
+            Ok(false)
+        }
+    }
+}
+
 /// Tells in words why bytes are refused as a program's text (A1 to A7): the column, the word at fault, and the forms that begin
 /// so; of a program, how many slots it has. True if it is a program's text; false also of bytes that aren't UTF-8. A fault of
 /// the writer, or a write of no bytes, ends it.
 pub fn explain_text<W: Write>(alloc: Global, bytes: &[u8], out: &mut W) -> io::Result<bool> {
     let mut page = Page::new(out);
-    let is_program = match from_utf8(bytes) {
-        Ok(text) => match assemble(alloc, text, Order::Little) {
-            Ok(program) => {
-                let slots = program.slots();
-                let unit = if slots == 1 { "slot" } else { "slots" };
-                write!(page, "a program of {slots} {unit}\n")?;
-                true
-            }
-            Err(error) => {
-                tell_error(alloc, &mut page, bytes, error)?;
-                false
-            }
-        },
-        Err(_) => {
-            write!(page, "the bytes are no text: they aren't UTF-8\n")?;
-            false
-        }
-    };
+    let is_program = tell_text(alloc, &mut page, bytes)?;
     page.flush()?;
     Ok(is_program)
 }

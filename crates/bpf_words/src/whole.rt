@@ -4,7 +4,7 @@ use crate::known::{Known, Name, Spelled};
 use crate::places::{PLACES, content, is_unknown, place_at, tag_at};
 use crate::sight::{Edge, Outcome, Sight};
 use bpf_cert::Label;
-use bpf_check::place_of;
+use bpf_check::{Here, place_of};
 use bpf_insn::Insn;
 use bpf_state::{State, Tag};
 use std::io::{self, Write};
@@ -67,14 +67,8 @@ fn write_behind<'a, W: Write>(out: &mut W, label: &Label, sight: &Sight<'a>) -> 
     Ok(())
 }
 
-/// Writes an instruction, the state in front of it, and those behind it.
-pub fn write_whole<'a, W: Write>(out: &mut W, sight: &Sight<'a>) -> io::Result<()> {
-    let slot = sight.slot;
-    let text = Spelled(sight.insn);
-    write!(out, "slot {slot}: {text}\n")?;
-    let Some(here) = sight.here else {
-        return write!(out, "no state is known here\n");
-    };
+/// The state in front of an instruction.
+fn write_before<'a, W: Write>(out: &mut W, here: Here<'a>, state: &State) -> io::Result<()> {
     let from = here.label.slot;
     match here.cost {
         Some(cost) => write!(
@@ -83,10 +77,28 @@ pub fn write_whole<'a, W: Write>(out: &mut W, sight: &Sight<'a>) -> io::Result<(
         )?,
         None => write!(out, "before, since the label at slot {from}:\n")?,
     }
-    write_state(out, Some(here.label), &sight.before)?;
+    write_state(out, Some(here.label), state)
+}
+
+/// What becomes of a state behind an instruction.
+fn write_outcome<'a, W: Write>(out: &mut W, label: &Label, sight: &Sight<'a>) -> io::Result<()> {
     match sight.outcome {
-        Outcome::Done => write_behind(out, here.label, sight),
+        Outcome::Done => write_behind(out, label, sight),
         Outcome::Dead => write!(out, "no run goes on from here\n"),
         Outcome::Refused(_) | Outcome::Unreached => Ok(()),
+    }
+}
+
+/// Writes an instruction, the state in front of it, and those behind it.
+pub fn write_whole<'a, W: Write>(out: &mut W, sight: &Sight<'a>) -> io::Result<()> {
+    let slot = sight.slot;
+    let text = Spelled(sight.insn);
+    write!(out, "slot {slot}: {text}\n")?;
+    match sight.here {
+        Some(here) => {
+            write_before(out, here, &sight.before)?;
+            write_outcome(out, here.label, sight)
+        }
+        None => write!(out, "no state is known here\n"),
     }
 }

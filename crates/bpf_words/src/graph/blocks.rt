@@ -2,9 +2,9 @@
 
 use crate::graph::Scene;
 use crate::graph::quoted::Quoted;
-use crate::known::spelling_of;
+use crate::known::Spelled;
 use crate::listing::{write_budget, write_function};
-use bpf_check::{Refusal, function_at, label_at};
+use bpf_check::{Index, Refusal, function_at, label_at};
 use bpf_insn::{Code, Insn, MAX_SLOTS};
 use std::io::{self, Write};
 
@@ -26,14 +26,49 @@ struct Drawn {
     in_function: bool,
 }
 
-/// Whether the first flaw is at an instruction.
-fn is_refused_at(refusal: Option<Refusal>, slot: u32, insn: &Insn) -> bool {
-    match refusal {
-        Some(refusal) => {
-            let at = refusal.slot();
-            slot <= at && at - slot < insn.slots()
-        }
-        None => false,
+/// The number of the first flaw, if it is at an instruction.
+fn flaw_at(refusal: Option<Refusal>, slot: u32, insn: &Insn) -> Option<u8> {
+    let refusal = refusal?;
+    let at = refusal.slot();
+    if slot <= at && at - slot < insn.slots() {
+        Some(refusal.number())
+    } else {
+        None
+    }
+}
+
+/// The first line of the function at a slot.
+fn write_head<W: Write>(out: &mut W, certificate: Option<&Index>, slot: u32) -> io::Result<()> {
+    let known = match certificate {
+        Some(certificate) => function_at(certificate, slot),
+        None => None,
+    };
+    match known {
+        Some(function) => write_function(out, function),
+        None => write!(out, "fn {slot}\n"),
+    }
+}
+
+/// The line of the label at a slot, if one stands there.
+fn write_promise<W: Write>(out: &mut W, certificate: Option<&Index>, slot: u32) -> io::Result<()> {
+    let known = match certificate {
+        Some(certificate) => label_at(certificate, slot),
+        None => None,
+    };
+    let Some(label) = known else {
+        return Ok(());
+    };
+    write!(out, "at {slot}: budget ")?;
+    write_budget(out, label)?;
+    write!(out, "\n")
+}
+
+/// The line of an instruction, with the number of its flaw.
+fn write_insn<W: Write>(out: &mut W, slot: u32, insn: &Insn, flaw: Option<u8>) -> io::Result<()> {
+    let text = Spelled(*insn);
+    match flaw {
+        Some(number) => write!(out, "{slot:>5}  {text}  ! C{number}\n"),
+        None => write!(out, "{slot:>5}  {text}\n"),
     }
 }
 
@@ -70,15 +105,7 @@ impl Drawn {
         self.end_function(out)?;
         self.in_function = true;
         write!(out, "  subgraph cluster_{slot} {{\n    label=\"")?;
-        let mut quoted = Quoted::new(out);
-        let known = match scene.certificate {
-            Some(certificate) => function_at(certificate, slot),
-            None => None,
-        };
-        match known {
-            Some(function) => write_function(&mut quoted, function)?,
-            None => write!(quoted, "fn {slot}\n")?,
-        }
+        write_head(&mut Quoted::new(out), scene.certificate, slot)?;
         write!(out, "\";\n")
     }
 
@@ -100,16 +127,7 @@ impl Drawn {
             Look::Unreached
         });
         write!(out, "    b{slot} [label=\"")?;
-        let Some(certificate) = scene.certificate else {
-            return Ok(());
-        };
-        let Some(label) = label_at(certificate, slot) else {
-            return Ok(());
-        };
-        let mut quoted = Quoted::new(out);
-        write!(quoted, "at {slot}: budget ")?;
-        write_budget(&mut quoted, label)?;
-        write!(quoted, "\n")
+        write_promise(&mut Quoted::new(out), scene.certificate, slot)
     }
 
     /// The line of an instruction.
@@ -120,17 +138,11 @@ impl Drawn {
         slot: u32,
         insn: &Insn,
     ) -> io::Result<()> {
-        let mut quoted = Quoted::new(out);
-        write!(quoted, "{slot:>5}  ")?;
-        quoted.write_all(spelling_of(insn).as_slice())?;
-        if let Some(refusal) = scene.refusal {
-            if is_refused_at(scene.refusal, slot, insn) {
-                let number = refusal.number();
-                write!(quoted, "  ! C{number}")?;
-                self.block = Some(Look::Refused);
-            }
+        let flaw = flaw_at(scene.refusal, slot, insn);
+        if flaw.is_some() {
+            self.block = Some(Look::Refused);
         }
-        write!(quoted, "\n")
+        write_insn(&mut Quoted::new(out), slot, insn, flaw)
     }
 }
 

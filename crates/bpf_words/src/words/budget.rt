@@ -73,6 +73,31 @@ fn tell_terms<W: Write>(out: &mut W, old: &Label, new: &Label, state: &State) ->
     Ok(())
 }
 
+/// Tells of a way that isn't paid: `the loop back to slot 1 costs 4, the base goes from 2 to 7`.
+fn tell_way<W: Write>(
+    out: &mut W,
+    way: &str,
+    cost: i128,
+    old: &Label,
+    new: &Label,
+) -> io::Result<()> {
+    let (to, before, behind) = (new.slot, old.budget.base, new.budget.base);
+    if before == behind {
+        write!(out, "{way} slot {to} costs {cost}")
+    } else {
+        write!(
+            out,
+            "{way} slot {to} costs {cost}, the base goes from {before} to {behind}"
+        )
+    }
+}
+
+/// What is missing on an edge that isn't paid.
+fn lack_of(edge: Edge) -> Option<i128> {
+    let total = total_of(edge.slack?);
+    if total < 0 { Some(total) } else { None }
+}
+
 /// Tells of an edge that isn't paid. Whether there was something to tell.
 fn tell_edge<'a, W: Write>(
     out: &mut W,
@@ -81,29 +106,20 @@ fn tell_edge<'a, W: Write>(
     edge: Edge,
     state: &State,
 ) -> io::Result<bool> {
-    let (Some(here), Some(slack)) = (sight.here, edge.slack) else {
+    let (Some(here), Some(cost), Some(lack)) = (sight.here, sight.cost, lack_of(edge)) else {
         return Ok(false);
     };
-    let (Some(new), Some(cost)) = (label_at(certificate, edge.to), sight.cost) else {
+    let Some(new) = label_at(certificate, edge.to) else {
         return Ok(false);
     };
-    let total = total_of(slack);
-    if total >= 0 {
-        return Ok(false);
-    }
-    let to = edge.to;
-    let way = if to <= sight.slot {
+    let way = if edge.to <= sight.slot {
         "the loop back to"
     } else {
         "the way to"
     };
-    write!(out, "{way} slot {to} costs {cost}")?;
-    let (before, behind) = (here.label.budget.base, new.budget.base);
-    if before != behind {
-        write!(out, ", the base goes from {before} to {behind}")?;
-    }
+    tell_way(out, way, cost, here.label, new)?;
     tell_terms(out, here.label, new, state)?;
-    write!(out, ": slack {total}")?;
+    write!(out, ": slack {lack}")?;
     Ok(true)
 }
 

@@ -24,21 +24,27 @@ fn is_pointer(state: &State, reg: Reg) -> bool {
     matches!(state.reg(reg), RegState::Ptr(_))
 }
 
-fn tell_register<W: Write>(out: &mut W, state: &State, reg: Reg) -> io::Result<()> {
-    let name = register(reg);
-    let held = known_register(state.reg(reg));
-    write!(out, "{name} is {held}")
+/// A rule, and what a register holds.
+fn tell_register<W: Write>(out: &mut W, rule: &str, state: &State, reg: Reg) -> io::Result<()> {
+    let (name, held) = (register(reg), known_register(state.reg(reg)));
+    write!(out, "{rule}: {name} is {held}")
 }
 
-/// What the operands hold, as far as they are registers.
-fn tell_operands<W: Write>(out: &mut W, state: &State, dst: Reg, src: Operand) -> io::Result<()> {
-    tell_register(out, state, dst)?;
+/// A rule, and what the operands hold, as far as they are registers.
+fn tell_operands<W: Write>(
+    out: &mut W,
+    rule: &str,
+    state: &State,
+    dst: Reg,
+    src: Operand,
+) -> io::Result<()> {
     match src {
         Operand::Reg(src) => {
-            write!(out, " and ")?;
-            tell_register(out, state, src)
+            let (name, held) = (register(dst), known_register(state.reg(dst)));
+            let (other, more) = (register(src), known_register(state.reg(src)));
+            write!(out, "{rule}: {name} is {held} and {other} is {more}")
         }
-        Operand::Imm(_) => Ok(()),
+        Operand::Imm(_) => tell_register(out, rule, state, dst),
     }
 }
 
@@ -69,16 +75,14 @@ fn tell_operation<W: Write>(
         Width::W32 => "an operation at 32 bits takes numbers alone",
         Width::W64 => rule_of(op, state, dst),
     };
-    write!(out, "{rule}: ")?;
     match (op, src) {
-        (AluOp::Mov, Operand::Reg(src)) => tell_register(out, state, src),
-        _ => tell_operands(out, state, dst, src),
+        (AluOp::Mov, Operand::Reg(src)) => tell_register(out, rule, state, src),
+        _ => tell_operands(out, rule, state, dst, src),
     }
 }
 
 fn tell_number_wanted<W: Write>(out: &mut W, state: &State, reg: Reg) -> io::Result<()> {
-    write!(out, "this operation takes numbers alone: ")?;
-    tell_register(out, state, reg)
+    tell_register(out, "this operation takes numbers alone", state, reg)
 }
 
 /// The first slot that an access may touch and that holds a pointer.
@@ -126,20 +130,23 @@ fn tell_access<W: Write>(
 ) -> io::Result<()> {
     if !is_pointer(state, access.base) {
         let (name, off) = (register(access.base), Offset(access.off));
-        write!(out, "the address {name} {off} isn't in a pointer: ")?;
-        return tell_register(out, state, access.base);
+        let held = known_register(state.reg(access.base));
+        return write!(
+            out,
+            "the address {name} {off} isn't in a pointer: {name} is {held}"
+        );
     }
     if let Some(reg) = number_wanted(insn, state) {
         return tell_number_wanted(out, state, reg);
     }
     match *insn {
-        Insn::Store { src, .. } => {
-            write!(
-                out,
-                "a pointer is stored as 8 bytes at one known multiple of 8 of the frame: "
-            )?;
-            tell_operands(out, state, src, Operand::Reg(access.base))
-        }
+        Insn::Store { src, .. } => tell_operands(
+            out,
+            "a pointer is stored as 8 bytes at one known multiple of 8 of the frame",
+            state,
+            src,
+            Operand::Reg(access.base),
+        ),
         _ => tell_part(out, state, access),
     }
 }
@@ -156,17 +163,14 @@ pub fn tell_kinds<'a, W: Write>(out: &mut W, sight: &Sight<'a>) -> io::Result<()
         } => tell_operation(out, state, op, width, dst, src),
         Insn::Neg { dst, .. } | Insn::End { dst, .. } => tell_number_wanted(out, state, dst),
         Insn::MovSx { src, .. } => tell_number_wanted(out, state, src),
-        Insn::JumpIf { dst, src, .. } => {
-            write!(
-                out,
-                "a pointer is compared by == and != at 64 bits alone, with a pointer of its kind: "
-            )?;
-            tell_operands(out, state, dst, src)
-        }
-        Insn::Exit => {
-            write!(out, "the result must be a number: ")?;
-            tell_register(out, state, Reg::R0)
-        }
+        Insn::JumpIf { dst, src, .. } => tell_operands(
+            out,
+            "a pointer is compared by == and != at 64 bits alone, with a pointer of its kind",
+            state,
+            dst,
+            src,
+        ),
+        Insn::Exit => tell_register(out, "the result must be a number", state, Reg::R0),
         _ => match access_of(&sight.insn) {
             Some(access) => tell_access(out, state, &sight.insn, access),
             None => write!(out, "takes operands of other kinds"),

@@ -8,6 +8,7 @@ use crate::words::register;
 use bpf_check::Index;
 use bpf_insn::{Insn, Operand};
 use bpf_state::{FRAME_START, Place, SlotState, State};
+use std::fmt;
 use std::io::{self, Write};
 
 fn verb(access: Access) -> &'static str {
@@ -18,29 +19,34 @@ fn verb(access: Access) -> &'static str {
     }
 }
 
-/// `reads 2 bytes at r1 + 15`
-fn tell_what<W: Write>(out: &mut W, access: Access) -> io::Result<()> {
-    let (verb, bytes) = (verb(access), access.bytes());
-    let unit = if bytes == 1 { "byte" } else { "bytes" };
-    let (name, off) = (register(access.base), Offset(access.off));
-    write!(out, "{verb} {bytes} {unit} at {name} {off}")
+/// What an access does, as `reads 2 bytes at r1 + 15`.
+#[derive(Clone, Copy)]
+struct Touch(Access);
+
+impl fmt::Display for Touch {
+    fn fmt<W: fmt::Write>(&self, f: &mut fmt::Formatter<W>) -> fmt::Result {
+        let (verb, bytes) = (verb(self.0), self.0.bytes());
+        let unit = if bytes == 1 { "byte" } else { "bytes" };
+        let (name, off) = (register(self.0.base), Offset(self.0.off));
+        write!(f, "{verb} {bytes} {unit} at {name} {off}")
+    }
 }
 
-/// The byte that lies outside of the context or the frame.
+/// `: `, and the byte that lies outside of the context or the frame.
 fn tell_outside<W: Write>(out: &mut W, certificate: &Index, reach: Reach) -> io::Result<()> {
     let (first, last) = (reach.first, reach.last);
     let least = certificate.least();
     if reach.in_frame {
         if first < FRAME_START {
-            write!(out, "byte {first} of a frame from -512 to -1")
+            write!(out, ": byte {first} of a frame from -512 to -1")
         } else {
-            write!(out, "byte {last} of a frame from -512 to -1")
+            write!(out, ": byte {last} of a frame from -512 to -1")
         }
     } else if last >= i64::from(least) {
         let unit = if least == 1 { "byte" } else { "bytes" };
-        write!(out, "byte {last} of a context of {least} {unit}")
+        write!(out, ": byte {last} of a context of {least} {unit}")
     } else {
-        write!(out, "byte {first}, in front of the context")
+        write!(out, ": byte {first}, in front of the context")
     }
 }
 
@@ -54,13 +60,12 @@ fn tell_far<W: Write>(out: &mut W, state: &State, insn: &Insn) -> io::Result<()>
         return Ok(());
     };
     let (name, held) = (register(dst), known_register(state.reg(dst)));
-    write!(out, ": {name} is {held}")?;
     match src {
         Operand::Reg(src) => {
-            let (name, held) = (register(src), known_register(state.reg(src)));
-            write!(out, " and {name} is {held}")
+            let (other, more) = (register(src), known_register(state.reg(src)));
+            write!(out, ": {name} is {held} and {other} is {more}")
         }
-        Operand::Imm(_) => Ok(()),
+        Operand::Imm(_) => write!(out, ": {name} is {held}"),
     }
 }
 
@@ -74,17 +79,14 @@ pub fn tell_bounds<'a, W: Write>(
     let Some(access) = access_of(&sight.insn) else {
         return tell_far(out, state, &sight.insn);
     };
-    tell_what(out, access)?;
     let (name, held) = (
         register(access.base),
         known_register(state.reg(access.base)),
     );
-    write!(out, ", {name} is {held}")?;
+    let touch = Touch(access);
+    write!(out, "{touch}, {name} is {held}")?;
     match access.reach(state) {
-        Some(reach) => {
-            write!(out, ": ")?;
-            tell_outside(out, certificate, reach)
-        }
+        Some(reach) => tell_outside(out, certificate, reach),
         None => Ok(()),
     }
 }
@@ -120,7 +122,7 @@ pub fn tell_unknown_bytes<'a, W: Write>(out: &mut W, sight: &Sight<'a>) -> io::R
     let Some(access) = access_of(&sight.insn) else {
         return write!(out, "reads bytes that aren't known to be initialised");
     };
-    tell_what(out, access)?;
+    let touch = Touch(access);
     let found = match access.reach(&sight.before) {
         Some(reach) => unknown_slot(&sight.before, reach),
         None => None,
@@ -128,16 +130,16 @@ pub fn tell_unknown_bytes<'a, W: Write>(out: &mut W, sight: &Sight<'a>) -> io::R
     match found {
         Some((slot, 0)) => {
             let name = Name(Place::Slot(slot));
-            write!(out, ": no byte of {name} is known to be initialised")
+            write!(out, "{touch}: no byte of {name} is known to be initialised")
         }
         Some((slot, known)) => {
             let name = Name(Place::Slot(slot));
             write!(
                 out,
-                ": of {name} only the bytes b{known} are known to be initialised"
+                "{touch}: of {name} only the bytes b{known} are known to be initialised"
             )
         }
-        None => Ok(()),
+        None => write!(out, "{touch}"),
     }
 }
 
@@ -145,10 +147,12 @@ pub fn tell_unknown_bytes<'a, W: Write>(out: &mut W, sight: &Sight<'a>) -> io::R
 pub fn tell_protected<'a, W: Write>(out: &mut W, sight: &Sight<'a>) -> io::Result<()> {
     match access_of(&sight.insn) {
         Some(access) if access.writes => {
-            tell_what(out, access)?;
             let held = known_register(sight.before.reg(access.base));
-            let name = register(access.base);
-            write!(out, ", {name} is {held}: the context may only be read")
+            let (name, touch) = (register(access.base), Touch(access));
+            write!(
+                out,
+                "{touch}, {name} is {held}: the context may only be read"
+            )
         }
         _ => write!(out, "writes r10, which stays at the frame's end"),
     }

@@ -1,5 +1,7 @@
 //! Conditions on where instructions lead to.
 
+ghost use Rattle.std.specs.Prelude.{◌≤◌};
+
 use crate::sight::Sight;
 use bpf_check::{Index, callee, function_at, goes_on, jump_target};
 use bpf_insn::{Code, Insn};
@@ -87,6 +89,28 @@ fn tell_nowhere<W: Write>(out: &mut W, slot: u32, off: i32) -> io::Result<()> {
     )
 }
 
+/// Where a jump or the next instruction leads out of the function that begins at `first`.
+fn way_out<'a, C: Code>(
+    program: &C,
+    certificate: &Index,
+    sight: &Sight<'a>,
+    first: u32,
+) -> Option<(&'static str, u32)>
+    requires { sight.now.slot ≤ 65535 }
+{
+    if let Some(to) = jump_target(sight.slot, &sight.insn) {
+        if !lies_in(certificate, to, first) {
+            return Some(("jumps to", to));
+        }
+    }
+    let next = sight.slot + sight.insn.slots();
+    if goes_on(&sight.insn) && next < program.slots() {
+        Some(("goes on to", next))
+    } else {
+        None
+    }
+}
+
 /// C12: a jump or the next instruction lies in another function, or a call leads to none.
 pub fn tell_leaving<'a, W: Write, C: Code>(
     out: &mut W,
@@ -106,20 +130,11 @@ pub fn tell_leaving<'a, W: Write, C: Code>(
         return Ok(());
     };
     let first = function.first;
-    if let Some(to) = jump_target(sight.slot, &sight.insn) {
-        if !lies_in(certificate, to, first) {
-            return write!(
-                out,
-                "jumps to slot {to}, out of the function at slot {first}"
-            );
-        }
-    }
-    let next = sight.slot + sight.insn.slots();
-    if goes_on(&sight.insn) && next < program.slots() {
-        return write!(
+    match way_out(program, certificate, sight, first) {
+        Some((leads, to)) => write!(
             out,
-            "goes on to slot {next}, out of the function at slot {first}"
-        );
+            "{leads} slot {to}, out of the function at slot {first}"
+        ),
+        None => Ok(()),
     }
-    Ok(())
 }

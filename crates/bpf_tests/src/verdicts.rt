@@ -1,9 +1,9 @@
 //! That a program and the view of its image are judged and run alike, and what a checked program and a refusal tell.
 
-use crate::same::assert_same;
+use crate::same::{assert_same, encoded};
 use bpf_cert::{Certificate, migrate, read};
 use bpf_check::{Checked, VerifyError, check, verify};
-use bpf_insn::{Code, Order, Program, ProgramView, encode};
+use bpf_insn::{Code, Order, Program, ProgramView};
 use bpf_machine::{Outcome, run};
 use bpf_text::assemble;
 use std::alloc::{AllocError, Global};
@@ -109,13 +109,6 @@ fn verdict_of_image(alloc: Global, image: &[u8], row: &Row) -> Answered {
     }
 }
 
-/// The image of a program.
-fn image_of(alloc: Global, program: &Program) -> Result<Vec<u8>, Fail> {
-    let mut image = Vec::new(alloc);
-    encode(program, &mut image)?;
-    Ok(image)
-}
-
 /// The program of a row.
 fn program_of(alloc: Global, row: &Row) -> Result<Program, Fail> {
     Ok(assemble(alloc, row.text, row.order)?)
@@ -159,7 +152,7 @@ fn assert_image(
 fn assert_row(rt: &(impl Abort + Alloc<A = Global>), row: &Row) -> Result<(), Fail> {
     let program = program_of(rt.alloc(), row)?;
     assert_program(rt, row, &program)?;
-    let image = image_of(rt.alloc(), &program)?;
+    let image = encoded(rt.alloc(), &program)?;
     assert_image(rt, row, &image)
 }
 
@@ -241,7 +234,7 @@ fn assert_view(
 fn assert_run(rt: &(impl Abort + Alloc<A = Global>), run: Run<'_>) -> Result<(), Fail> {
     let program = program_of(rt.alloc(), run.row)?;
     assert_results(rt, run, &program)?;
-    let image = image_of(rt.alloc(), &program)?;
+    let image = encoded(rt.alloc(), &program)?;
     assert_view(rt, run, &image)
 }
 
@@ -319,7 +312,7 @@ const REFUSED: [[&str; 2]; 2] = [
 #[test]
 fn refusals_are_told(rt: HostRuntime) -> Result<(), Fail> {
     let program = assemble(rt.alloc(), SMALLEST, Order::Little)?;
-    let image = image_of(rt.alloc(), &program)?;
+    let image = encoded(rt.alloc(), &program)?;
     for [certificate, message] in REFUSED {
         let said = said_of(rt.alloc(), &image, certificate)?;
         assert_same(&rt, &certificate, &said.as_str(), &message);
