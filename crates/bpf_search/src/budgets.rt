@@ -2,9 +2,10 @@
 
 use crate::functions::Depths;
 use crate::lines::{Line, Span};
+use crate::lists::{get_or, put};
 use crate::loops::{Counter, Loop, Loops};
 use crate::places::place;
-use crate::rounds::{Rounds, put};
+use crate::rounds::Rounds;
 use crate::walk::{Edge, Visitor, Walk};
 use bpf_cert::{MAX_BASE, MAX_WEIGHT};
 use bpf_proposal::InferError;
@@ -108,7 +109,7 @@ impl Budgets {
     }
 
     fn plan(&self, block: usize) -> Plan {
-        self.plans.get(block).copied().unwrap_or(Plan::NONE)
+        get_or(&self.plans, block, Plan::NONE)
     }
 
     fn line_at(&self, block: usize) -> Line {
@@ -325,7 +326,7 @@ impl Budgets {
         depth: u32,
     ) -> Result<(), InferError> {
         for function in 0..walk.outline.function_count() {
-            if depths.get(function).copied().unwrap_or(0) == depth {
+            if get_or(depths, function, 0) == depth {
                 self.plan_function(alloc, walk, rounds, function)?;
             }
         }

@@ -2,6 +2,7 @@
 
 use crate::flow::Flow;
 use crate::labels::Outline;
+use crate::lists::get_or;
 use bpf_cert::MAX_DEPTH;
 use bpf_insn::{Insn, Program};
 use bpf_proposal::InferError;
@@ -121,7 +122,7 @@ fn deepen(depths: &mut Depths, calls: &[Call]) {
 /// The first slot of the lowest function that is too deep.
 fn first_too_deep(depths: &Depths, outline: &Outline) -> Option<u32> {
     for function in 0..outline.function_count() {
-        if depths.get(function).copied().unwrap_or(0) > MAX_DEPTH {
+        if get_or(depths, function, 0) > MAX_DEPTH {
             return Some(outline.label(outline.first_block(function)));
         }
     }

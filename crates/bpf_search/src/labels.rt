@@ -1,6 +1,7 @@
 //! The labels of a program, and the blocks of slots from one to the next.
 
 use crate::flow::Flow;
+use crate::lists::get_or;
 use bpf_insn::{Code, Program};
 use bpf_proposal::InferError;
 use std::alloc::{AllocError, Global};
@@ -119,7 +120,7 @@ impl Outline {
 
     /// The number of the block that a slot is in.
     pub fn block_of(&self, slot: u32) -> usize {
-        self.block_of.get(slot as usize).copied().unwrap_or(0)
+        get_or(&self.block_of, slot as usize, 0)
     }
 
     /// The number of the function that a slot is in.

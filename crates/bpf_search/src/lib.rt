@@ -8,6 +8,7 @@ mod functions;
 mod join;
 mod labels;
 mod lines;
+mod lists;
 mod loops;
 mod losses;
 mod places;

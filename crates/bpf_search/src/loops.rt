@@ -1,7 +1,8 @@
 //! The loops of a program, and what counts their rounds.
 
+use crate::lists::{get_or, put};
 use crate::places::{PLACES, number_at, place};
-use crate::rounds::{Rounds, put};
+use crate::rounds::Rounds;
 use crate::walk::{Edge, Visitor, Walk};
 use bpf_proposal::InferError;
 use bpf_state::{State, Tag};
@@ -42,7 +43,7 @@ pub struct Loops {
 impl Loops {
     /// The loop that a block is in.
     pub fn at(&self, block: usize) -> Option<Loop> {
-        let number = self.loop_of.get(block).copied().unwrap_or(None)?;
+        let number = get_or(&self.loop_of, block, None)?;
         self.loops.get(number).copied()
     }
 
@@ -87,7 +88,7 @@ impl Loops {
 
 /// The loop whose head is a block, if a way leads back to it.
 pub fn loop_from(rounds: &Rounds, head: usize) -> Option<Loop> {
-    let last = rounds.backs.get(head).copied().unwrap_or(None)?;
+    let last = get_or(&rounds.backs, head, None)?;
     Some(Loop {
         head,
         last,
@@ -196,7 +197,7 @@ impl Visitor for Search {
 impl Search {
     fn moves_to(&self, block: usize) -> Option<Moves> {
         let index = block.saturating_sub(self.head);
-        self.moves.get(index).copied().unwrap_or(None)
+        get_or(&self.moves, index, None)
     }
 
     /// How much more than at the label before each place holds; places of which that isn't known are given up.

@@ -5,6 +5,7 @@ ghost use Rattle.std.specs.Prelude.{◌≤◌};
 use crate::budgets::{Budgets, budgets_of};
 use crate::functions::{Depths, check_bounds, depths_of};
 use crate::labels::Outline;
+use crate::lists::get_or;
 use crate::loops::{Counter, loops_of};
 use crate::places::place;
 use crate::proposal::Proposal;
@@ -82,7 +83,7 @@ fn functions_of(
         let end = outline.first_block(number.saturating_add(1));
         functions.push(Function {
             first: outline.label(first),
-            depth: depths.get(number).copied().unwrap_or(0),
+            depth: get_or(depths, number, 0),
             ret: Num::top(),
             labels: labels_of(alloc, outline, rounds, budgets, first, end)?,
         })?;

@@ -2,6 +2,7 @@
 
 use crate::functions::Depths;
 use crate::join::join;
+use crate::lists::{get_or, put, vacant};
 use crate::places::{number_said, pointer_said};
 use crate::walk::{Edge, Visitor, Walk};
 use crate::watch::Watch;
@@ -38,25 +39,10 @@ pub struct Rounds {
     room: State,
 }
 
-/// Puts an element into its place, if there is one.
-pub fn put<T: Drop>(list: &mut Vec<T>, index: usize, element: T) {
-    if let Some(place) = list.get_mut(index) {
-        *place = element;
-    }
-}
-
 fn add_back(backs: &mut Vec<Option<usize>>, edge: Edge) {
     if let Some(last) = backs.get_mut(edge.to) {
         *last = Some(last.unwrap_or(0).max(edge.from));
     }
-}
-
-fn no_states(alloc: Global, count: usize) -> Result<Vec<Option<Entries>>, AllocError> {
-    let mut states = Vec::with_capacity(alloc, count)?;
-    for _ in 0..count {
-        states.push(None)?;
-    }
-    Ok(states)
 }
 
 impl Visitor for Rounds {
@@ -83,7 +69,7 @@ impl Rounds {
     pub fn new(alloc: Global, walk: &Walk) -> Result<Rounds, AllocError> {
         let count = walk.outline.block_count();
         Ok(Rounds {
-            states: no_states(alloc, count)?,
+            states: vacant(alloc, count)?,
             backs: vec![in alloc; None; count]?,
             reached: vec![in alloc; 0; count]?,
             changed: vec![in alloc; false; count]?,
@@ -184,7 +170,7 @@ impl Rounds {
         let mut count = 0usize;
         let end = walk.outline.first_block(function.saturating_add(1));
         for block in walk.outline.first_block(function)..end {
-            if self.changed.get(block).copied().unwrap_or(false) {
+            if get_or(&self.changed, block, false) {
                 self.walk_over(walk, block, room)?;
                 count = count.saturating_add(1);
             }
@@ -233,7 +219,7 @@ impl Rounds {
         watch: &mut W,
     ) -> Result<(), InferError> {
         for function in 0..walk.outline.function_count() {
-            if depths.get(function).copied().unwrap_or(0) == depth {
+            if get_or(depths, function, 0) == depth {
                 self.settle(walk, function, watch)?;
             }
         }
@@ -243,7 +229,7 @@ impl Rounds {
     /// I4 (C11) at the lowest instruction that isn't reached.
     fn check_reached(&self, walk: &Walk) -> Result<(), InferError> {
         for block in 0..self.reached.len() {
-            let reached = self.reached.get(block).copied().unwrap_or(0);
+            let reached = get_or(&self.reached, block, 0);
             if reached < walk.outline.end(block) {
                 return Err(InferError::Fault {
                     slot: reached.max(walk.outline.label(block)),

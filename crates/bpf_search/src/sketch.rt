@@ -4,6 +4,7 @@ ghost use Rattle.std.specs.Prelude.{◌≤◌};
 
 use crate::functions::{Depths, check_bounds, depths_of};
 use crate::labels::Outline;
+use crate::lists::get_or;
 use crate::loops::{Loop, Moves, Search, first_crossing, loop_from, searched};
 use crate::losses::{Loss, Losses, losses_in};
 use crate::places::{PLACES, place};
@@ -126,7 +127,7 @@ fn functions_of(
         if !labels.is_empty() {
             functions.push(Function {
                 first: outline.label(outline.first_block(number)),
-                depth: depths.get(number).copied().unwrap_or(0),
+                depth: get_or(depths, number, 0),
                 ret: Num::top(),
                 labels,
             })?;
@@ -144,7 +145,7 @@ fn move_of(
     losses: &Losses,
     number: usize,
 ) -> Option<Move> {
-    let loss = losses.get(number).copied().unwrap_or(None);
+    let loss = get_or(losses, number, None);
     if rounds.number(found.head, number).is_none() {
         return match loss {
             Some(_) if rounds.has_pointer(found.head, number) => Some(Move::Pointer),

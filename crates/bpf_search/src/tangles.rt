@@ -2,6 +2,7 @@
 
 use crate::deep::ranking::graph::{Arc, Graph};
 use crate::flow::Flow;
+use crate::lists::get_or;
 use crate::loops::Loop;
 use crate::rounds::Rounds;
 use crate::walk::{Edge, Visitor, Walk};
@@ -64,7 +65,7 @@ fn graph_of(alloc: Global, walk: &Walk, rounds: &Rounds) -> Result<Graph, AllocE
 }
 
 fn is_met(reached: &[bool], block: usize) -> bool {
-    reached.get(block).copied().unwrap_or(false)
+    get_or(reached, block, false)
 }
 
 /// The slot of the last jump that leads back to a loop's head.

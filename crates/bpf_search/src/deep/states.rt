@@ -16,7 +16,7 @@ ghost use Rattle.std.specs.Prelude.{◌≤◌};
 
 use crate::functions::{Depths, check_bounds, depths_of};
 use crate::labels::Outline;
-use crate::rounds::put;
+use crate::lists::{get_or, put, vacant};
 use crate::watch::Watch;
 use arrayvec::ArrayVec;
 use bpf_cert::{Budget, Function, Label};
@@ -31,7 +31,7 @@ use nest::Nest;
 use region::{Graph, Region};
 use settle::Settler;
 use std::alloc::{AllocError, Global};
-use sums::{Held, held, no_states, take_in_at};
+use sums::{Held, held, take_in_at};
 use task::Task;
 
 /// The most times that labels are added for dead code of a function, or their states are changed.
@@ -104,10 +104,6 @@ impl<'a> Analysis<'a> {
     ) -> Result<Analysis<'a>, AllocError> {
         let firsts = firsts_of(alloc, program, outline)?;
         let count = outline.function_count();
-        let mut judged = Vec::with_capacity(alloc, count)?;
-        for _ in 0..count {
-            judged.push(None)?;
-        }
         Ok(Analysis {
             alloc,
             program,
@@ -117,14 +113,14 @@ impl<'a> Analysis<'a> {
             firsts,
             rets: vec![in alloc; Num::top(); count]?,
             is_changed: vec![in alloc; false; count]?,
-            entries: no_states(alloc, count)?,
-            judged,
+            entries: vacant(alloc, count)?,
+            judged: vacant(alloc, count)?,
         })
     }
 
     /// The first slot of a function.
     fn first(&self, function: usize) -> u32 {
-        self.firsts.get(function).copied().unwrap_or(0)
+        get_or(&self.firsts, function, 0)
     }
 
     fn task<'b>(&'b self, region: &'b Region) -> Task<'b> {
@@ -233,7 +229,7 @@ impl<'a> Analysis<'a> {
             return false;
         };
         for called in judged.report.entries.as_slice() {
-            if self.is_changed.get(called.callee).copied().unwrap_or(true) {
+            if get_or(&self.is_changed, called.callee, true) {
                 return false;
             }
         }
@@ -273,7 +269,7 @@ impl<'a> Analysis<'a> {
         watch: &mut W,
     ) -> Result<Option<usize>, AllocError> {
         let count = self.judged.len();
-        self.entries = no_states(self.alloc, count)?;
+        self.entries = vacant(self.alloc, count)?;
         take_in_at(self.alloc, &mut self.entries, 0, start)?;
         for depth in (1..9).rev() {
             if let Some(function) = self.pass_depth(depths, depth, watch)? {
@@ -290,9 +286,7 @@ impl<'a> Analysis<'a> {
         watch: &mut W,
     ) -> Result<Option<usize>, AllocError> {
         for function in 0..self.judged.len() {
-            if depths.get(function).copied().unwrap_or(0) == depth
-                && !self.visit(function, watch)?
-            {
+            if get_or(depths, function, 0) == depth && !self.visit(function, watch)? {
                 return Ok(Some(function));
             }
         }
@@ -312,7 +306,7 @@ impl<'a> Analysis<'a> {
     fn update_rets(&mut self, may_fall: bool) -> bool {
         let mut has_changed = false;
         for function in 0..self.judged.len() {
-            let old = self.rets.get(function).copied().unwrap_or(Num::top());
+            let old = get_or(&self.rets, function, Num::top());
             let new = self.exit(function);
             let next = if !new.entails(old) {
                 Num::top()
@@ -389,7 +383,7 @@ impl<'a> Analysis<'a> {
         read: &mut Vec<Places>,
     ) -> Result<(), AllocError> {
         for function in 0..self.judged.len() {
-            if depths.get(function).copied().unwrap_or(0) == depth {
+            if get_or(depths, function, 0) == depth {
                 let places = self.spare(function, read)?;
                 put(read, function, places);
             }
@@ -443,7 +437,7 @@ impl<'a> Analysis<'a> {
         for number in 0..self.judged.len() {
             functions.push(Function {
                 first: self.first(number),
-                depth: depths.get(number).copied().unwrap_or(0),
+                depth: get_or(depths, number, 0),
                 ret: self.ret(number),
                 labels: self.labels(number)?,
             })?;

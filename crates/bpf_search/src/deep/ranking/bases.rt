@@ -3,8 +3,8 @@
 use crate::deep::ranking::graph::{Components, Graph, number_in};
 use crate::deep::ranking::plan::{Part, Parts, Plan};
 use crate::deep::ranking::weights::MOST_PASSES;
+use crate::lists::{get_or, put};
 use crate::loops::Counter;
-use crate::rounds::put;
 use bpf_cert::{MAX_BASE, MAX_TERMS};
 use bpf_proposal::InferError;
 use bpf_state::Tag;
@@ -36,7 +36,7 @@ impl Settling {
                     Some(to) => plan.base(to),
                     None => 0,
                 };
-                let length = self.lengths.get(number).copied().unwrap_or(0);
+                let length = get_or(&self.lengths, number, 0);
                 base = base.max(length.saturating_add(behind));
             }
         }

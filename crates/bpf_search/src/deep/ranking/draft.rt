@@ -1,8 +1,8 @@
 //! A program with the labels of a draft, and what its functions cost.
 
 use crate::lines::{Line, Span};
+use crate::lists::{get_or, put};
 use crate::places::number_said;
-use crate::rounds::put;
 use bpf_cert::{Function, Label};
 use bpf_insn::Program;
 use bpf_state::State;
@@ -58,7 +58,7 @@ impl<'a> Draft<'a> {
 
     /// The number of the label at a slot.
     pub fn label_at(&self, slot: u32) -> Option<usize> {
-        self.labels.get(slot as usize).copied().unwrap_or(None)
+        get_or(&self.labels, slot as usize, None)
     }
 
     /// The number of the function that begins at a slot.

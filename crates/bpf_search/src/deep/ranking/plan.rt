@@ -3,9 +3,9 @@
 use crate::deep::ranking::draft::{Price, span_at};
 use crate::deep::ranking::ways::{Way, Ways};
 use crate::lines::{Line, Span};
+use crate::lists::{get_or, put};
 use crate::loops::Counter;
 use crate::places::number_said;
-use crate::rounds::put;
 use bpf_cert::{Function, MAX_TERMS};
 use bpf_state::Tag;
 use std::alloc::{AllocError, Global};
@@ -88,12 +88,12 @@ impl<'a> Plan<'a> {
 
     /// The base of a label's budget.
     pub fn base(&self, label: usize) -> i128 {
-        self.bases.get(label).copied().unwrap_or(0)
+        get_or(&self.bases, label, 0)
     }
 
     /// The terms of a label's budget.
     pub fn parts(&self, label: usize) -> Parts {
-        self.parts.get(label).copied().unwrap_or([None; MAX_TERMS])
+        get_or(&self.parts, label, [None; MAX_TERMS])
     }
 
     /// The term of a label's budget that counts a place.
@@ -134,7 +134,7 @@ impl<'a> Plan<'a> {
 
     /// The weight with a number.
     pub fn weight(&self, number: usize) -> i128 {
-        self.weights.get(number).copied().unwrap_or(0)
+        get_or(&self.weights, number, 0)
     }
 
     /// Sets the weight with a number.

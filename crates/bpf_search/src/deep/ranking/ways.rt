@@ -3,6 +3,7 @@
 use crate::deep::ranking::draft::{Draft, Price};
 use crate::flow::{Flow, compared};
 use crate::lines::Span;
+use crate::lists::get_or;
 use crate::places::{PLACES, number_at, number_said, place};
 use bpf_cert::{Function, Label};
 use bpf_insn::{Insn, Reg};
@@ -53,7 +54,7 @@ impl Ways {
     /// The number of the first way that leaves a label or a higher one.
     pub fn first(&self, label: usize) -> usize {
         match label.checked_sub(1) {
-            Some(before) => self.ends.get(before).copied().unwrap_or(0),
+            Some(before) => get_or(&self.ends, before, 0),
             None => 0,
         }
     }

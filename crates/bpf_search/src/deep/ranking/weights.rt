@@ -4,7 +4,7 @@ use crate::deep::ranking::candidates::graph_of;
 use crate::deep::ranking::graph::{Graph, longest_ways};
 use crate::deep::ranking::groups::{Counted, Group};
 use crate::deep::ranking::plan::Plan;
-use crate::rounds::put;
+use crate::lists::{get_or, put};
 use bpf_cert::MAX_WEIGHT;
 use bpf_proposal::InferError;
 use std::alloc::{AllocError, Global};
@@ -67,7 +67,7 @@ impl Split {
         change: i128,
     ) -> Result<(), AllocError> {
         if change < 0 {
-            let height = length.max(self.heights.get(from).copied().unwrap_or(0));
+            let height = length.max(get_or(&self.heights, from, 0));
             put(&mut self.heights, from, height);
             self.step = self.step.min(0i128.saturating_sub(change));
         } else {

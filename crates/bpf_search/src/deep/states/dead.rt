@@ -2,10 +2,10 @@
 
 use super::judge::{Fault, Report, Wrong, walk_all};
 use super::repair::{fill_registers, fill_slots, lead, make_numbers};
-use super::sums::{Held, held, no_states, take_in_at};
+use super::sums::{Held, held, take_in_at};
 use super::task::{Task, Watcher};
 use crate::flow::Flow;
-use crate::rounds::put;
+use crate::lists::{put, vacant};
 use bpf_insn::Insn;
 use bpf_state::{State, StateFault};
 use std::alloc::{AllocError, Global};
@@ -25,7 +25,7 @@ impl Seeds {
         Ok(Seeds {
             alloc,
             first,
-            states: no_states(alloc, slots)?,
+            states: vacant(alloc, slots)?,
         })
     }
 

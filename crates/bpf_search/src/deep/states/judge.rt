@@ -2,7 +2,7 @@
 
 use super::sums::{Held, load};
 use super::task::{Task, Watcher};
-use crate::rounds::put;
+use crate::lists::{get_or, put};
 use bpf_insn::{Insn, Reg};
 use bpf_num::Num;
 use bpf_state::{RegState, State, StateFault, enter};
@@ -132,7 +132,7 @@ impl Report {
     /// Whether the instruction at a slot is reached.
     pub fn is_reached(&self, slot: u32) -> bool {
         let place = slot.saturating_sub(self.first) as usize;
-        self.reached.get(place).copied().unwrap_or(false)
+        get_or(&self.reached, place, false)
     }
 
     /// The lowest instruction that isn't reached.

@@ -5,8 +5,8 @@ use super::sums::Held;
 use super::task::{Task, Watcher};
 use super::tolerant::{fetched, touched};
 use crate::flow::Flow;
+use crate::lists::{get_or, put};
 use crate::places::REGISTERS;
-use crate::rounds::put;
 use bpf_insn::{AluOp, AtomicOp, Insn, Operand, Reg, Size};
 use bpf_num::{KnownBits, Num, Signed, Unsigned, WordDomain};
 use bpf_state::{RegState, SlotState, State, numbered};
@@ -251,7 +251,7 @@ impl<'a> Watcher for Liveness<'a> {
         let mut needs = needs_of(insn, state);
         if let Flow::Call(target) = Flow::of(slot, insn) {
             let callee = self.task.outline.function_of(target) as usize;
-            let read = self.callees.get(callee).copied().unwrap_or(Places::ALL);
+            let read = get_or(&self.callees, callee, Places::ALL);
             needs.read = needs.read.and(read.handed_over());
         }
         let place = self.task.region.place(slot);
@@ -274,7 +274,7 @@ impl<'a> Watcher for Liveness<'a> {
 
 impl<'a> Liveness<'a> {
     fn live_at(&self, label: usize) -> Places {
-        self.live.get(label).copied().unwrap_or(Places::NONE)
+        get_or(&self.live, label, Places::NONE)
     }
 
     /// What is read before an instruction, from what is read behind it.
@@ -391,7 +391,7 @@ fn spare_slots(state: &mut State, live: Places) {
 /// Makes labels' states say nothing of places that aren't read behind them, and no more of numbers than is needed.
 pub fn spare(states: &mut Vec<Held>, live: &[Places]) {
     for label in 0..states.len() {
-        let read = live.get(label).copied().unwrap_or(Places::ALL);
+        let read = get_or(live, label, Places::ALL);
         if let Some(Some(state)) = states.get_mut(label) {
             spare_registers(&mut **state, read);
             spare_slots(&mut **state, read);

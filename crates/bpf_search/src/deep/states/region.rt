@@ -1,6 +1,7 @@
 //! A function cut into segments at its labels.
 
 use crate::flow::Flow;
+use crate::lists::get_or;
 use bpf_insn::{Insn, Program};
 use std::alloc::{AllocError, Global};
 
@@ -93,7 +94,7 @@ impl Region {
 
     /// The slot of a label.
     pub fn slot(&self, label: usize) -> u32 {
-        self.labels.get(label).copied().unwrap_or(self.end)
+        get_or(&self.labels, label, self.end)
     }
 
     /// The slot after a label's segment.
@@ -108,7 +109,7 @@ impl Region {
 
     /// The number of the segment that a slot is in.
     pub fn segment(&self, slot: u32) -> usize {
-        self.numbers.get(self.place(slot)).copied().unwrap_or(0)
+        get_or(&self.numbers, self.place(slot), 0)
     }
 
     /// Whether a label stands at a slot.
@@ -118,7 +119,7 @@ impl Region {
 }
 
 fn is_marked(marks: &[bool], place: u32) -> bool {
-    marks.get(place as usize).copied().unwrap_or(false)
+    get_or(marks, place as usize, false)
 }
 
 // ---- where segments lead
@@ -180,7 +181,7 @@ impl Graph {
 
     /// The place of a label's first edge.
     pub fn start(&self, label: usize) -> usize {
-        self.starts.get(label).copied().unwrap_or(0)
+        get_or(&self.starts, label, 0)
     }
 
     /// The place after a label's last edge.
@@ -193,7 +194,7 @@ impl Graph {
 
     /// The label that the edge at a place leads to.
     pub fn target(&self, edge: usize) -> usize {
-        self.targets.get(edge).copied().unwrap_or(0)
+        get_or(&self.targets, edge, 0)
     }
 
     /// How many labels and edges there are.

@@ -2,10 +2,10 @@
 
 use super::judge::Wrong;
 use super::nest::{Loop, Nest};
-use super::sums::{Held, Sums, held, load, no_states, take_in};
+use super::sums::{Held, Sums, held, load, take_in};
 use super::task::{Task, Watcher};
 use super::thresholds::{Reach, Thresholds};
-use crate::rounds::put;
+use crate::lists::{put, vacant};
 use crate::watch::Watch;
 use bpf_insn::Insn;
 use bpf_state::State;
@@ -125,7 +125,7 @@ impl<'a> Settler<'a> {
             task,
             nest,
             sums: Sums::new(alloc, nest)?,
-            states: no_states(alloc, nest.labels())?,
+            states: vacant(alloc, nest.labels())?,
             changes: vec![in alloc; 0; nest.loops()]?,
             active: Vec::new(alloc),
             room: None,

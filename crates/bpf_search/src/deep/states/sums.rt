@@ -2,7 +2,7 @@
 
 use super::nest::Nest;
 use crate::join::join;
-use crate::rounds::put;
+use crate::lists::{get_or, put, vacant};
 use bpf_state::State;
 use std::alloc::{AllocError, Global};
 
@@ -54,15 +54,6 @@ pub fn take_in_at(
     Ok(())
 }
 
-/// A list of no states.
-pub fn no_states(alloc: Global, count: usize) -> Result<Vec<Held>, AllocError> {
-    let mut states = Vec::with_capacity(alloc, count)?;
-    for _ in 0..count {
-        states.push(None)?;
-    }
-    Ok(states)
-}
-
 /// For each label the states over its edges joined, apart by the innermost loop that an edge is in.
 #[derive(Drop)]
 pub struct Sums {
@@ -85,12 +76,12 @@ impl Sums {
         Ok(Sums {
             alloc,
             starts,
-            sums: no_states(alloc, count)?,
+            sums: vacant(alloc, count)?,
         })
     }
 
     fn start(&self, label: usize) -> usize {
-        self.starts.get(label).copied().unwrap_or(0)
+        get_or(&self.starts, label, 0)
     }
 
     fn end(&self, label: usize) -> usize {

@@ -5,6 +5,7 @@ use super::region::Region;
 use super::tolerant::go_on;
 use crate::flow::{Flow, compared};
 use crate::labels::Outline;
+use crate::lists::get_or;
 use bpf_insn::{Insn, Program};
 use bpf_num::Num;
 use bpf_state::{State, branch, leave, transfer};
@@ -126,6 +127,6 @@ impl<'a> Task<'a> {
 
     /// What a function returns.
     fn ret(&self, function: usize) -> Num {
-        self.rets.get(function).copied().unwrap_or(Num::top())
+        get_or(&self.rets, function, Num::top())
     }
 }

@@ -1,6 +1,7 @@
 //! Numbers at which the bounds of a loop's states may stop.
 
 use crate::join::{join_register, join_slot};
+use crate::lists::get_or;
 use crate::places::REGISTERS;
 use crate::widen::Stops;
 use bpf_insn::{Insn, Operand, Reg};
@@ -113,7 +114,7 @@ impl Thresholds {
     }
 
     fn learn_number(&mut self, register: usize, number: i64) -> Result<(), AllocError> {
-        let count = self.learned.get(register).copied().unwrap_or(0);
+        let count = get_or(&self.learned, register, 0);
         if count >= MOST_LEARNED || self.has(register, number) {
             return Ok(());
         }

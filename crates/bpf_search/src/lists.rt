@@ -1,0 +1,27 @@
+//! Elements of lists by their index, which may be past the end.
+
+use std::alloc::{AllocError, Global};
+
+/// The element at an index, or another one where there is none.
+pub fn get_or<T: Copy>(list: &[T], index: usize, other: T) -> T {
+    match list.get(index) {
+        Some(element) => *element,
+        None => other,
+    }
+}
+
+/// Puts an element into its place, if there is one.
+pub fn put<T: Drop>(list: &mut Vec<T>, index: usize, element: T) {
+    if let Some(place) = list.get_mut(index) {
+        *place = element;
+    }
+}
+
+/// A list of so many places with nothing in them.
+pub fn vacant<T: Drop>(alloc: Global, count: usize) -> Result<Vec<Option<T>>, AllocError> {
+    let mut list = Vec::with_capacity(alloc, count)?;
+    for _ in 0..count {
+        list.push(None)?;
+    }
+    Ok(list)
+}
