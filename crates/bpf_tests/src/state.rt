@@ -1,5 +1,4 @@
 //! Abstract states.
 
-mod changes;
 mod comparisons;
 mod swaps;
