@@ -1,6 +1,6 @@
 //! Why a text is no certificate, in words.
 
-use crate::page::Page;
+use crate::page::{Page, Tell};
 use bpf_cert::{CertError, Certificate};
 use std::fmt;
 use std::io::{self, Write};
@@ -164,24 +164,24 @@ impl<'a> fmt::Display for Line<'a> {
     }
 }
 
-fn tell_syntax<'a, W: Write>(out: &mut W, place: Place<'a>) -> io::Result<()> {
+fn tell_syntax<'a, W: Tell>(out: &mut W, place: Place<'a>) {
     let before = kind_of(place.before);
     let kind = kind_of(place.line);
     let (line, follows) = (Line(place.line), followers(before));
     if !place.is_there {
-        write!(out, "the text ends here without `end`: {follows}\n")
+        write!(out, "the text ends here without `end`: {follows}\n");
     } else if place.line.contains(&b'\r') {
         write!(
             out,
             "{line}: a CR stands in it, and lines end with LF alone\n"
-        )
+        );
     } else if !place.is_ended {
-        write!(out, "{line}: no LF ends the line\n")
+        write!(out, "{line}: no LF ends the line\n");
     } else if may_follow(before, kind) {
         let form = form_of(kind);
-        write!(out, "{line}: a line that begins so has the form {form}\n")
+        write!(out, "{line}: a line that begins so has the form {form}\n");
     } else {
-        write!(out, "{line}: {follows}\n")
+        write!(out, "{line}: {follows}\n");
     }
 }
 
@@ -219,24 +219,24 @@ fn spelling_rule(line: &[u8]) -> &'static str {
     }
 }
 
-fn tell_limit<W: Write>(out: &mut W, line: &[u8]) -> io::Result<()> {
+fn tell_limit<W: Tell>(out: &mut W, line: &[u8]) {
     if line.len() > 256 {
         return write!(out, "a line has at most 256 bytes\n");
     }
     let limits = limits_of(kind_of(line));
     let line = Line(line);
-    write!(out, "{line}: {limits}\n")
+    write!(out, "{line}: {limits}\n");
 }
 
-fn tell_error<W: Write>(out: &mut W, bytes: &[u8], error: CertError) -> io::Result<()> {
+fn tell_error<W: Tell>(out: &mut W, bytes: &[u8], error: CertError) {
     let (number, at) = (error.number(), error.line());
-    write!(out, "K{number} at line {at}: ")?;
+    write!(out, "K{number} at line {at}: ");
     let place = line_at(bytes, at);
     match error {
         CertError::Syntax { .. } => tell_syntax(out, place),
         CertError::NotCanonical { .. } => {
             let (line, rule) = (Line(place.line), spelling_rule(place.line));
-            write!(out, "{line}: {rule}\n")
+            write!(out, "{line}: {rule}\n");
         }
         CertError::Limit { .. } => tell_limit(out, place.line),
         CertError::Memory => write!(out, "memory ran out\n"),
@@ -244,7 +244,7 @@ fn tell_error<W: Write>(out: &mut W, bytes: &[u8], error: CertError) -> io::Resu
     }
 }
 
-fn tell_certificate<W: Write>(out: &mut W, certificate: &Certificate) -> io::Result<()> {
+fn tell_certificate<W: Tell>(out: &mut W, certificate: &Certificate) {
     let mut labels = 0usize;
     for function in certificate.functions() {
         labels = labels.saturating_add(function.labels.len());
@@ -253,20 +253,20 @@ fn tell_certificate<W: Write>(out: &mut W, certificate: &Certificate) -> io::Res
     write!(
         out,
         "a certificate of version {version}; functions: {functions}, labels: {labels}\n"
-    )
+    );
 }
 
 /// Tells in words why bytes are refused as a certificate: the line, and what was expected of it. A fault of the writer, or a
 /// write of no bytes, ends it.
 pub fn write_fault<W: Write>(bytes: &[u8], error: CertError, out: &mut W) -> io::Result<()> {
     let mut page = Page::new(out);
-    tell_error(&mut page, bytes, error)?;
-    page.flush()
+    tell_error(&mut page, bytes, error);
+    page.finish()
 }
 
 /// Tells how many functions and labels a certificate has. A fault of the writer, or a write of no bytes, ends it.
 pub fn write_counts<W: Write>(certificate: &Certificate, out: &mut W) -> io::Result<()> {
     let mut page = Page::new(out);
-    tell_certificate(&mut page, certificate)?;
-    page.flush()
+    tell_certificate(&mut page, certificate);
+    page.finish()
 }

@@ -4,16 +4,14 @@ mod blocks;
 mod edges;
 mod flow;
 mod plan;
-mod quoted;
 mod slots;
 
 use crate::graph::blocks::write_blocks;
 use crate::graph::edges::write_edges;
 use crate::graph::flow::{Flow, flow_of};
 use crate::graph::plan::Plan;
-use crate::graph::quoted::Quoted;
 use crate::listing::write_header;
-use crate::page::Page;
+use crate::page::{Page, Tell};
 use bpf_cert::Certificate;
 use bpf_check::{Index, Refusal};
 use bpf_insn::Code;
@@ -29,55 +27,45 @@ pub struct Scene<'a, 'b> {
 }
 
 /// The first lines: how nodes and edges look.
-fn write_style<W: Write>(out: &mut W) -> io::Result<()> {
-    write!(out, "digraph program {{\n")?;
-    write!(out, "  node [shape=box, fontname=\"monospace\"];\n")?;
-    write!(out, "  edge [fontname=\"monospace\"];\n")
+fn write_style<W: Tell>(out: &mut W) {
+    write!(out, "digraph program {{\n");
+    write!(out, "  node [shape=box, fontname=\"monospace\"];\n");
+    write!(out, "  edge [fontname=\"monospace\"];\n");
 }
 
 /// What the certificate promises, and the checker's answer.
-fn write_answer<W: Write>(
-    out: &mut W,
-    certificate: &Index,
-    refusal: Option<Refusal>,
-) -> io::Result<()> {
-    write_header(out, certificate)?;
+fn write_answer<W: Tell>(out: &mut W, certificate: &Index, refusal: Option<Refusal>) {
+    write_header(out, certificate);
     match refusal {
         None => write!(out, "accepted\n"),
         Some(refusal) => {
             let (number, slot) = (refusal.number(), refusal.slot());
-            write!(out, "refused: C{number} at slot {slot}\n")
+            write!(out, "refused: C{number} at slot {slot}\n");
         }
     }
 }
 
 /// The graph's title.
-fn write_title<W: Write>(
-    out: &mut W,
-    certificate: &Index,
-    refusal: Option<Refusal>,
-) -> io::Result<()> {
+fn write_title<W: Tell>(out: &mut W, certificate: &Index, refusal: Option<Refusal>) {
     write!(
         out,
         "  graph [fontname=\"monospace\", labelloc=t, labeljust=l, label=\""
-    )?;
-    write_answer(&mut Quoted::new(out), certificate, refusal)?;
-    write!(out, "\"];\n")
+    );
+    out.set_quoted(true);
+    write_answer(out, certificate, refusal);
+    out.set_quoted(false);
+    write!(out, "\"];\n");
 }
 
 /// The whole graph, with a title if there is a certificate.
-fn write_graph<'a, 'b, C: Code, W: Write>(
-    out: &mut W,
-    program: &C,
-    scene: &Scene<'a, 'b>,
-) -> io::Result<()> {
-    write_style(out)?;
+fn write_graph<'a, 'b, C: Code, W: Tell>(out: &mut W, program: &C, scene: &Scene<'a, 'b>) {
+    write_style(out);
     if let Some(certificate) = scene.certificate {
-        write_title(out, certificate, scene.refusal)?;
+        write_title(out, certificate, scene.refusal);
     }
-    write_blocks(out, program, scene)?;
-    write_edges(out, program, scene)?;
-    write!(out, "}}\n")
+    write_blocks(out, program, scene);
+    write_edges(out, program, scene);
+    write!(out, "}}\n");
 }
 
 /// Writes the graph in pieces of up to 4,096 bytes.
@@ -87,8 +75,8 @@ fn write_scene<'a, 'b, C: Code, W: Write>(
     scene: &Scene<'a, 'b>,
 ) -> io::Result<()> {
     let mut page = Page::new(out);
-    write_graph(&mut page, program, scene)?;
-    page.flush()
+    write_graph(&mut page, program, scene);
+    page.finish()
 }
 
 /// Writes the control-flow graph of a program with a certificate as DOT text, with the checker's answer, which is given. A

@@ -1,6 +1,6 @@
 //! Why bytes are no image, in words.
 
-use crate::page::Page;
+use crate::page::{Page, Tell};
 use bpf_insn::{Code, DecodeError, Insn, Order, ProgramView, SlotFault};
 use std::io::{self, Write};
 
@@ -124,28 +124,28 @@ fn wrong_fields(order: Order, bytes: &[u8]) -> Option<Cleared> {
     best
 }
 
-fn tell_unused<W: Write>(out: &mut W, order: Order, bytes: &[u8]) -> io::Result<()> {
+fn tell_unused<W: Tell>(out: &mut W, order: Order, bytes: &[u8]) {
     let Some(fields) = wrong_fields(order, bytes) else {
         return write!(out, "a field that isn't used must be zero\n");
     };
     let mut comma = "";
     for (index, name) in NAMES.iter().enumerate() {
         if fields.has(index) {
-            write!(out, "{comma}{name}")?;
+            write!(out, "{comma}{name}");
             comma = " and ";
         }
     }
     let used = if fields.count() > 1 { "them" } else { "it" };
-    write!(out, " must be zero: the instruction doesn't use {used}\n")
+    write!(out, " must be zero: the instruction doesn't use {used}\n");
 }
 
-fn tell_register<W: Write>(out: &mut W, fields: Fields) -> io::Result<()> {
+fn tell_register<W: Tell>(out: &mut W, fields: Fields) {
     if fields.dst > 10 {
         let dst = fields.dst;
         return write!(out, "dst is {dst}: registers are 0 to 10\n");
     }
     let src = fields.src;
-    write!(out, "src is {src}: registers are 0 to 10\n")
+    write!(out, "src is {src}: registers are 0 to 10\n");
 }
 
 /// The values that select an operation of an opcode.
@@ -164,7 +164,7 @@ fn choices(opcode: u8) -> &'static str {
     }
 }
 
-fn tell_left_out<W: Write>(out: &mut W, fields: Fields) -> io::Result<()> {
+fn tell_left_out<W: Tell>(out: &mut W, fields: Fields) {
     let (src, imm) = (fields.src, fields.imm);
     match (fields.opcode, src) {
         (0x18, _) => write!(
@@ -186,12 +186,7 @@ fn tell_left_out<W: Write>(out: &mut W, fields: Fields) -> io::Result<()> {
     }
 }
 
-fn tell_fault<W: Write>(
-    out: &mut W,
-    order: Order,
-    bytes: &[u8],
-    fault: SlotFault,
-) -> io::Result<()> {
+fn tell_fault<W: Tell>(out: &mut W, order: Order, bytes: &[u8], fault: SlotFault) {
     let fields = fields_of(order, bytes);
     let opcode = fields.opcode;
     match fault {
@@ -200,7 +195,7 @@ fn tell_fault<W: Write>(
         SlotFault::Unused => tell_unused(out, order, bytes),
         SlotFault::Selector => {
             let text = choices(opcode);
-            write!(out, "{text}\n")
+            write!(out, "{text}\n");
         }
         SlotFault::Truncated => write!(
             out,
@@ -211,11 +206,11 @@ fn tell_fault<W: Write>(
 }
 
 /// The bytes of a slot, and its fields.
-fn tell_bytes<W: Write>(out: &mut W, order: Order, bytes: &[u8]) -> io::Result<()> {
-    write!(out, "  bytes")?;
+fn tell_bytes<W: Tell>(out: &mut W, order: Order, bytes: &[u8]) {
+    write!(out, "  bytes");
     for value in bytes.iter().take(8) {
         let value = *value;
-        write!(out, " {value:02x}")?;
+        write!(out, " {value:02x}");
     }
     let fields = fields_of(order, bytes);
     let (opcode, dst, src) = (fields.opcode, fields.dst, fields.src);
@@ -223,7 +218,7 @@ fn tell_bytes<W: Write>(out: &mut W, order: Order, bytes: &[u8]) -> io::Result<(
     write!(
         out,
         ": opcode {opcode:02x}, dst {dst}, src {src}, offset {offset}, imm {imm}\n"
-    )
+    );
 }
 
 // ---- the image
@@ -232,22 +227,22 @@ fn is_elf(bytes: &[u8]) -> bool {
     bytes.starts_with(b"\x7fELF")
 }
 
-fn tell_length<W: Write>(out: &mut W, length: usize) -> io::Result<()> {
+fn tell_length<W: Tell>(out: &mut W, length: usize) {
     if length == 0 {
         write!(
             out,
             "E1: there are no bytes: an image has at least one slot of 8 bytes\n"
-        )
+        );
     } else if length % 8 != 0 {
         write!(
             out,
             "E1: {length} bytes are no multiple of 8, the size of a slot\n"
-        )
+        );
     } else {
         write!(
             out,
             "E1: {length} bytes: an image has at most 524288 bytes, 65536 slots of 8\n"
-        )
+        );
     }
 }
 
@@ -258,18 +253,12 @@ fn from_slot(bytes: &[u8], slot: u32) -> &[u8] {
 }
 
 /// A slot that is refused.
-fn tell_slot<W: Write>(
-    out: &mut W,
-    order: Order,
-    bytes: &[u8],
-    slot: u32,
-    fault: SlotFault,
-) -> io::Result<()> {
+fn tell_slot<W: Tell>(out: &mut W, order: Order, bytes: &[u8], slot: u32, fault: SlotFault) {
     let number = fault.number();
-    write!(out, "E{number} at slot {slot}: ")?;
+    write!(out, "E{number} at slot {slot}: ");
     let rest = from_slot(bytes, slot);
-    tell_fault(out, order, rest, fault)?;
-    tell_bytes(out, order, rest)
+    tell_fault(out, order, rest, fault);
+    tell_bytes(out, order, rest);
 }
 
 /// What leads from a slot, as its fields say it: `jumps to`, and the slot there.
@@ -287,7 +276,7 @@ fn lead_of(fields: Fields, slot: u32) -> (&'static str, i64) {
 }
 
 /// Where a jump leads that leads to no instruction.
-fn tell_target<W: Write>(out: &mut W, order: Order, bytes: &[u8], slot: u32) -> io::Result<()> {
+fn tell_target<W: Tell>(out: &mut W, order: Order, bytes: &[u8], slot: u32) {
     let (verb, to) = lead_of(fields_of(order, from_slot(bytes, slot)), slot);
     let slots = bytes.len() / 8;
     if to < 0 || to >= i64::try_from(slots).unwrap_or(0) {
@@ -295,33 +284,28 @@ fn tell_target<W: Write>(out: &mut W, order: Order, bytes: &[u8], slot: u32) -> 
         write!(
             out,
             "E8 at slot {slot}: {verb} slot {to}, outside of the program's slots, 0 to {last}\n"
-        )
+        );
     } else {
         write!(
             out,
             "E8 at slot {slot}: {verb} slot {to}, which is the second slot of a 64-bit constant\n"
-        )
+        );
     }
 }
 
-fn tell_error<W: Write>(
-    out: &mut W,
-    order: Order,
-    bytes: &[u8],
-    error: DecodeError,
-) -> io::Result<()> {
+fn tell_error<W: Tell>(out: &mut W, order: Order, bytes: &[u8], error: DecodeError) {
     if is_elf(bytes) {
         write!(
             out,
             "these bytes are an ELF object and no image: take its code, as by llvm-objcopy -O binary -j .text IN OUT\n"
-        )?;
+        );
     }
     match error {
         DecodeError::Length => tell_length(out, bytes.len()),
         DecodeError::Slot { slot, fault } => tell_slot(out, order, bytes, slot, fault),
         DecodeError::Target { slot } => {
-            tell_target(out, order, bytes, slot)?;
-            tell_bytes(out, order, from_slot(bytes, slot))
+            tell_target(out, order, bytes, slot);
+            tell_bytes(out, order, from_slot(bytes, slot));
         }
         DecodeError::Memory => write!(out, "E9: memory ran out\n"),
         DecodeError::Read { slot } => write!(out, "E10 at slot {slot}: the reader failed\n"),
@@ -329,7 +313,7 @@ fn tell_error<W: Write>(
 }
 
 /// What a lost relocation leaves most often: a call to itself, or a 64-bit constant that is 0.
-fn tell_suspect<W: Write>(out: &mut W, slot: u32, insn: &Insn) -> io::Result<()> {
+fn tell_suspect<W: Tell>(out: &mut W, slot: u32, insn: &Insn) {
     match *insn {
         Insn::CallLocal { off: -1 } => write!(
             out,
@@ -339,20 +323,19 @@ fn tell_suspect<W: Write>(out: &mut W, slot: u32, insn: &Insn) -> io::Result<()>
             out,
             "slot {slot} loads a 64-bit 0: mostly an address that a lost relocation left out\n"
         ),
-        _ => Ok(()),
+        _ => {}
     }
 }
 
-fn tell_program<'a, W: Write>(out: &mut W, program: &ProgramView<'a>) -> io::Result<()> {
+fn tell_program<'a, W: Tell>(out: &mut W, program: &ProgramView<'a>) {
     let slots = program.slots();
     let unit = if slots == 1 { "slot" } else { "slots" };
-    write!(out, "an image of {slots} {unit}\n")?;
+    write!(out, "an image of {slots} {unit}\n");
     for slot in 0..slots {
         if let Some(insn) = program.insn(slot) {
-            tell_suspect(out, slot, &insn)?;
+            tell_suspect(out, slot, &insn);
         }
     }
-    Ok(())
 }
 
 /// Tells in words why bytes are refused as an image in a byte order, with the bytes of the slot taken apart and what would be
@@ -364,14 +347,14 @@ pub fn write_refusal<W: Write>(
     out: &mut W,
 ) -> io::Result<()> {
     let mut page = Page::new(out);
-    tell_error(&mut page, order, bytes, error)?;
-    page.flush()
+    tell_error(&mut page, order, bytes, error);
+    page.finish()
 }
 
 /// Tells how many slots an image has, and what looks like a lost relocation. A fault of the writer, or a write of no bytes,
 /// ends it. It takes no memory.
 pub fn write_size<'a, W: Write>(program: &ProgramView<'a>, out: &mut W) -> io::Result<()> {
     let mut page = Page::new(out);
-    tell_program(&mut page, program)?;
-    page.flush()
+    tell_program(&mut page, program);
+    page.finish()
 }

@@ -3,7 +3,7 @@
 ghost use Rattle.std.specs.Prelude.{◌≤◌};
 
 use crate::known::{Name, Spelled};
-use crate::page::Page;
+use crate::page::{Page, Tell};
 use crate::program::{explain_on, tell_reason, tell_sketch};
 use crate::words::register;
 use bpf_cert::Certificate;
@@ -23,14 +23,14 @@ enum Effort {
 }
 
 /// `no certificate: I2 at slot 3`
-fn write_refusal<W: Write>(out: &mut W, error: InferError) -> io::Result<()> {
+fn write_refusal<W: Tell>(out: &mut W, error: InferError) {
     let (number, slot) = (error.number(), error.slot());
     match error {
         InferError::Fault { condition, .. } => {
             write!(
                 out,
                 "no certificate: I{number} (C{condition}) at slot {slot}\n"
-            )
+            );
         }
         InferError::Memory => write!(out, "no certificate: I5, memory ran out\n"),
         _ => write!(out, "no certificate: I{number} at slot {slot}\n"),
@@ -38,7 +38,7 @@ fn write_refusal<W: Write>(out: &mut W, error: InferError) -> io::Result<()> {
 }
 
 /// Why a place isn't followed through a loop.
-fn write_loss<W: Write>(out: &mut W, name: Name, loss: Loss) -> io::Result<()> {
+fn write_loss<W: Tell>(out: &mut W, name: Name, loss: Loss) {
     match loss {
         Loss::Given => write!(
             out,
@@ -68,7 +68,7 @@ fn write_loss<W: Write>(out: &mut W, name: Name, loss: Loss) -> io::Result<()> {
 }
 
 /// A place that was tried as a counter, and why it isn't one.
-fn write_trial<W: Write>(out: &mut W, trial: &Trial) -> io::Result<()> {
+fn write_trial<W: Tell>(out: &mut W, trial: &Trial) {
     let name = Name(trial.place);
     match trial.moves {
         Move::By {
@@ -87,22 +87,21 @@ fn write_trial<W: Write>(out: &mut W, trial: &Trial) -> io::Result<()> {
     }
 }
 
-fn write_trials<W: Write>(out: &mut W, slot: u32, trials: &[Trial]) -> io::Result<()> {
+fn write_trials<W: Tell>(out: &mut W, slot: u32, trials: &[Trial]) {
     write!(
         out,
         "nothing counts the rounds of the loop at slot {slot}:\n"
-    )?;
+    );
     if trials.is_empty() {
-        write!(out, "  no place holds a number there\n")?;
+        write!(out, "  no place holds a number there\n");
     }
     for trial in trials {
-        write_trial(out, trial)?;
+        write_trial(out, trial);
     }
-    Ok(())
 }
 
 /// What begins between a slot and the last way back to it.
-fn write_tangle<W: Write>(out: &mut W, slot: u32, tangle: Tangle) -> io::Result<()> {
+fn write_tangle<W: Tell>(out: &mut W, slot: u32, tangle: Tangle) {
     match tangle {
         Tangle::Nested { inner } => write!(
             out,
@@ -120,7 +119,7 @@ fn write_tangle<W: Write>(out: &mut W, slot: u32, tangle: Tangle) -> io::Result<
 }
 
 /// I2: a loop has no counter, or a limit is passed.
-fn write_obstacle<W: Write>(out: &mut W, slot: u32, obstacle: &Obstacle) -> io::Result<()> {
+fn write_obstacle<W: Tell>(out: &mut W, slot: u32, obstacle: &Obstacle) {
     match obstacle {
         Obstacle::Tangled(tangle) => write_tangle(out, slot, *tangle),
         Obstacle::NoCounter(trials) => write_trials(out, slot, trials),
@@ -133,13 +132,13 @@ fn write_obstacle<W: Write>(out: &mut W, slot: u32, obstacle: &Obstacle) -> io::
             write!(
                 out,
                 "{name} is a pointer that the loop at slot {head} moves, and only numbers count and have bounds: count the rounds in a register, and add it to a pointer that stays\n"
-            )
+            );
         }
     }
 }
 
 /// The same where the search went deeper: what was in the way of the plain one alone isn't told.
-fn write_deep_obstacle<W: Write>(out: &mut W, slot: u32, obstacle: &Obstacle) -> io::Result<()> {
+fn write_deep_obstacle<W: Tell>(out: &mut W, slot: u32, obstacle: &Obstacle) {
     match obstacle {
         Obstacle::NoCounter(_) | Obstacle::Walking { .. } => write_obstacle(out, slot, obstacle),
         Obstacle::Tangled(_) | Obstacle::Limit => write!(
@@ -150,7 +149,7 @@ fn write_deep_obstacle<W: Write>(out: &mut W, slot: u32, obstacle: &Obstacle) ->
 }
 
 /// I3: a call is part of a recursion.
-fn write_recursion<W: Write>(out: &mut W, program: &Program, slot: u32) -> io::Result<()> {
+fn write_recursion<W: Tell>(out: &mut W, program: &Program, slot: u32) {
     match program.insn(slot) {
         Some(Insn::CallLocal { off: -1 }) => write!(
             out,
@@ -161,19 +160,14 @@ fn write_recursion<W: Write>(out: &mut W, program: &Program, slot: u32) -> io::R
             write!(
                 out,
                 "`{text}` leads back to the function it stands in: recursion can't be certified\n"
-            )
+            );
         }
-        None => Ok(()),
+        None => {}
     }
 }
 
 /// Tells the reason of a refusal, as far as the program alone tells it.
-fn write_reason<W: Write>(
-    out: &mut W,
-    program: &Program,
-    error: InferError,
-    effort: Effort,
-) -> io::Result<()> {
+fn write_reason<W: Tell>(out: &mut W, program: &Program, error: InferError, effort: Effort) {
     match (error, effort) {
         (InferError::Unstable { slot }, Effort::Plain) => write!(
             out,
@@ -194,7 +188,7 @@ fn write_reason<W: Write>(
             out,
             "slot {slot} jumps out of its function, or goes on into the next one\n"
         ),
-        _ => Ok(()),
+        _ => {}
     }
 }
 
@@ -233,16 +227,9 @@ fn may_be_found(program: &Program, error: InferError) -> bool {
 }
 
 /// Tells to search deeper, where that may help.
-fn write_hint<W: Write>(
-    out: &mut W,
-    program: &Program,
-    error: InferError,
-    effort: Effort,
-) -> io::Result<()> {
+fn write_hint<W: Tell>(out: &mut W, program: &Program, error: InferError, effort: Effort) {
     if effort == Effort::Plain && may_be_found(program, error) {
-        write!(out, "or try --deep: it searches longer, and finds more\n")
-    } else {
-        Ok(())
+        write!(out, "or try --deep: it searches longer, and finds more\n");
     }
 }
 
@@ -255,39 +242,34 @@ fn condition_of(error: InferError) -> u8 {
 }
 
 /// Tells the states that the plain inferrer has, and what is in the way of a refusal.
-fn write_sketch<W: Write>(
+fn write_sketch<W: Tell>(
     out: &mut W,
     program: &Program,
     sketch: &Sketch,
     error: InferError,
     effort: Effort,
-) -> io::Result<()> {
+) {
     let (slot, number) = (error.slot(), condition_of(error));
     if let Some(certificate) = &sketch.certificate {
         if effort == Effort::Deep {
-            write!(out, "as far as the plain search sees:\n")?;
+            write!(out, "as far as the plain search sees:\n");
         }
-        tell_sketch(program, certificate, slot, number, out)?;
+        tell_sketch(program, certificate, slot, number, out);
     }
-    write_refusal(out, error)?;
+    write_refusal(out, error);
     if let Some(certificate) = &sketch.certificate {
-        tell_reason(program, certificate, slot, number, out)?;
+        tell_reason(program, certificate, slot, number, out);
     }
     match (&sketch.obstacle, effort) {
         (Some(obstacle), Effort::Plain) => write_obstacle(out, slot, obstacle),
         (Some(obstacle), Effort::Deep) => write_deep_obstacle(out, slot, obstacle),
-        (None, _) => Ok(()),
+        (None, _) => {}
     }
 }
 
 /// A refusal before there are states: of calls, or of jumps out of a function.
-fn write_unseen<W: Write>(
-    out: &mut W,
-    program: &Program,
-    error: InferError,
-    effort: Effort,
-) -> io::Result<()> {
-    write_refusal(out, error)?;
+fn write_unseen<W: Tell>(out: &mut W, program: &Program, error: InferError, effort: Effort) {
+    write_refusal(out, error);
     match error {
         InferError::NoBudget { .. } => write!(
             out,
@@ -298,7 +280,7 @@ fn write_unseen<W: Write>(
 }
 
 /// Tells what the inferrer has of a program that it refuses. The refusal: I5 where memory runs out meanwhile.
-fn write_refused<W: Write>(
+fn write_refused<W: Tell>(
     alloc: Global,
     program: &Program,
     least: u32,
@@ -306,7 +288,7 @@ fn write_refused<W: Write>(
     error: InferError,
     effort: Effort,
     out: &mut W,
-) -> io::Result<InferError>
+) -> InferError
     requires order { least ≤ most }
     requires short { most ≤ 4096 }
 {
@@ -316,37 +298,33 @@ fn write_refused<W: Write>(
     };
     match sketch {
         Ok(sketch) => {
-            write_sketch(out, program, &sketch, error, effort)?;
-            write_reason(out, program, error, effort)?;
-            write_hint(out, program, error, effort)?;
-            Ok(error)
+            write_sketch(out, program, &sketch, error, effort);
+            write_reason(out, program, error, effort);
+            write_hint(out, program, error, effort);
+            error
         }
         Err(InferError::Memory) => {
-            write_refusal(out, InferError::Memory)?;
-            Ok(InferError::Memory)
+            write_refusal(out, InferError::Memory);
+            InferError::Memory
         }
         Err(_) => {
-            write_unseen(out, program, error, effort)?;
-            Ok(error)
+            write_unseen(out, program, error, effort);
+            error
         }
     }
 }
 
 /// Explains a certificate that was found, with the checker's answer.
-fn explain_certified<W: Write>(
-    program: &Program,
-    certificate: &Certificate,
-    out: &mut W,
-) -> io::Result<()> {
+fn explain_certified<W: Tell>(program: &Program, certificate: &Certificate, out: &mut W) {
     let refusal = match check(program, certificate) {
         Ok(_checked) => None,
         Err(refusal) => Some(refusal),
     };
-    explain_on(program, certificate, refusal, out)
+    explain_on(program, certificate, refusal, out);
 }
 
 /// Explains what a search found. The refusal as it is told, if there is no certificate.
-fn explain_found<W: Write>(
+fn explain_found<W: Tell>(
     alloc: Global,
     program: &Program,
     least: u32,
@@ -354,18 +332,18 @@ fn explain_found<W: Write>(
     found: &Result<Certificate, InferError>,
     effort: Effort,
     out: &mut W,
-) -> io::Result<Option<InferError>>
+) -> Option<InferError>
     requires order { least ≤ most }
     requires short { most ≤ 4096 }
 {
     match found {
         Ok(certificate) => {
-            explain_certified(program, certificate, out)?;
-            Ok(None)
+            explain_certified(program, certificate, out);
+            None
         }
         Err(error) => {
-            let told = write_refused(alloc, program, least, most, *error, effort, out)?;
-            Ok(Some(told))
+            let told = write_refused(alloc, program, least, most, *error, effort, out);
+            Some(told)
         }
     }
 }
@@ -384,8 +362,8 @@ fn explain_in_pieces<W: Write>(
     requires short { most ≤ 4096 }
 {
     let mut page = Page::new(out);
-    let told = explain_found(alloc, program, least, most, found, effort, &mut page)?;
-    page.flush()?;
+    let told = explain_found(alloc, program, least, most, found, effort, &mut page);
+    page.finish()?;
     Ok(told)
 }
 

@@ -14,6 +14,7 @@ mod page;
 mod pass;
 mod places;
 mod program;
+mod quoted;
 mod report;
 mod sight;
 mod standing;

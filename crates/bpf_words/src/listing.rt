@@ -2,6 +2,7 @@
 
 use crate::effects::{access_of, places_compared, places_written, registers_read};
 use crate::known::{Known, Name, Number, Written, spelling_of};
+use crate::page::Tell;
 use crate::places::{
     PLACES, PlaceSet, changes, content, is_same, is_unknown, place_at, take_all, take_over,
 };
@@ -11,7 +12,6 @@ use bpf_check::{Index, label_at};
 use bpf_insn::Insn;
 use bpf_state::{Place, State};
 use std::fmt;
-use std::io::{self, Write};
 use std::str::from_utf8;
 
 /// The width that an instruction is padded to.
@@ -50,17 +50,17 @@ impl fmt::Display for Lengths {
 }
 
 /// `contexts of 16 bytes, at most 24 steps`
-pub fn write_header<W: Write>(out: &mut W, certificate: &Index) -> io::Result<()> {
+pub fn write_header<W: Tell>(out: &mut W, certificate: &Index) {
     let (lengths, steps) = (Lengths::of(certificate), certificate.steps());
     let unit = if steps == 1 { "step" } else { "steps" };
-    write!(out, "contexts of {lengths}, at most {steps} {unit}\n")
+    write!(out, "contexts of {lengths}, at most {steps} {unit}\n");
 }
 
 /// `fn 0: depth 1, returns any number`
-pub fn write_function<W: Write>(out: &mut W, function: &Function) -> io::Result<()> {
+pub fn write_function<W: Tell>(out: &mut W, function: &Function) {
     let (first, depth) = (function.first, function.depth);
     let returned = Number(function.ret);
-    write!(out, "fn {first}: depth {depth}, returns {returned}\n")
+    write!(out, "fn {first}: depth {depth}, returns {returned}\n");
 }
 
 /// What a term counts, as `r6` or `(10 - r6)`.
@@ -83,121 +83,97 @@ impl fmt::Display for Counted {
 }
 
 /// `2 + 5*r6`
-pub fn write_budget<W: Write>(out: &mut W, label: &Label) -> io::Result<()> {
+pub fn write_budget<W: Tell>(out: &mut W, label: &Label) {
     let base = label.budget.base;
-    write!(out, "{base}")?;
+    write!(out, "{base}");
     for term in label.budget.terms.as_slice() {
         let (weight, counted) = (term.weight, Counted(term.measure));
-        write!(out, " + {weight}*{counted}")?;
+        write!(out, " + {weight}*{counted}");
     }
-    Ok(())
 }
 
 /// What a label says of each place, as it is written.
-fn write_claims<W: Write>(out: &mut W, state: &State) -> io::Result<()> {
+fn write_claims<W: Tell>(out: &mut W, state: &State) {
     for index in 0..PLACES {
         let place = place_at(index);
         if !is_unknown(content(state, place)) && index != 10 {
             let (name, text) = (Name(place), Written(place, content(state, place)));
-            write!(out, "; {name} {text}")?;
+            write!(out, "; {name} {text}");
         }
     }
-    Ok(())
 }
 
 /// `at 1: budget 2 + 5*r6; r6 u1..10`, or without the budget `at 1; r6 u1..10`, with room for the label's state.
-pub fn write_label<W: Write>(
-    out: &mut W,
-    label: &Label,
-    has_budgets: bool,
-    room: &mut State,
-) -> io::Result<()> {
+pub fn write_label<W: Tell>(out: &mut W, label: &Label, has_budgets: bool, room: &mut State) {
     let slot = label.slot;
-    write!(out, "at {slot}")?;
+    write!(out, "at {slot}");
     if has_budgets {
-        write!(out, ": budget ")?;
-        write_budget(out, label)?;
+        write!(out, ": budget ");
+        write_budget(out, label);
     }
     label.state.put_into(room);
-    write_claims(out, room)?;
-    write!(out, "\n")
+    write_claims(out, room);
+    write!(out, "\n");
 }
 
 // ---- instructions
 
 /// The slot and the instruction, padded.
-fn write_padded<W: Write>(out: &mut W, slot: u32, insn: &Insn) -> io::Result<()> {
+fn write_padded<W: Tell>(out: &mut W, slot: u32, insn: &Insn) {
     let spelled = spelling_of(insn);
     let text = from_utf8(spelled.as_slice()).unwrap_or("");
     let missing = WIDTH.saturating_sub(text.len());
     let blanks = BLANKS.get(..missing).unwrap_or("");
-    write!(out, "{slot:>5}  {text}{blanks}")
+    write!(out, "{slot:>5}  {text}{blanks}");
 }
 
 /// Tells what is known of a place, unless that was told before.
-fn note_read<W: Write>(
-    out: &mut W,
-    state: &State,
-    shown: &mut State,
-    place: Place,
-) -> io::Result<()> {
+fn note_read<W: Tell>(out: &mut W, state: &State, shown: &mut State, place: Place) {
     if is_same(content(state, place), content(shown, place)) {
-        return Ok(());
+        return;
     }
     take_over(shown, state, place);
     let (name, held) = (Name(place), Known(content(state, place)));
-    write!(out, "; {name} is {held}")
+    write!(out, "; {name} is {held}");
 }
 
 /// Tells what is known of the registers that are read.
-fn note_registers<'a, W: Write>(
-    out: &mut W,
-    sight: &Sight<'a>,
-    shown: &mut State,
-) -> io::Result<()> {
+fn note_registers<'a, W: Tell>(out: &mut W, sight: &Sight<'a>, shown: &mut State) {
     for reg in registers_read(&sight.insn).into_iter().flatten() {
-        note_read(out, &sight.before, shown, Place::Register(reg))?;
+        note_read(out, &sight.before, shown, Place::Register(reg));
     }
-    Ok(())
 }
 
 /// Tells what is known of the slots that are read.
-fn note_slots<'a, W: Write>(out: &mut W, sight: &Sight<'a>, shown: &mut State) -> io::Result<()> {
+fn note_slots<'a, W: Tell>(out: &mut W, sight: &Sight<'a>, shown: &mut State) {
     let Some(access) = access_of(&sight.insn) else {
-        return Ok(());
+        return;
     };
     if !access.reads {
-        return Ok(());
+        return;
     }
     let Some((low, high)) = access.slots(&sight.before) else {
-        return Ok(());
+        return;
     };
     for slot in low..=high {
-        note_read(out, &sight.before, shown, Place::Slot(slot))?;
+        note_read(out, &sight.before, shown, Place::Slot(slot));
     }
-    Ok(())
 }
 
 /// Tells what is known of places that changed.
-fn note_changes<W: Write>(
-    out: &mut W,
-    changed: PlaceSet,
-    after: &State,
-    verb: &str,
-) -> io::Result<()> {
+fn note_changes<W: Tell>(out: &mut W, changed: PlaceSet, after: &State, verb: &str) {
     let mut rest = changed;
     for _ in 0..PLACES {
         let Some(place) = rest.take_first() else {
             break;
         };
         let (name, held) = (Name(place), Known(content(after, place)));
-        write!(out, "; {name} {verb} {held}")?;
+        write!(out, "; {name} {verb} {held}");
     }
-    Ok(())
 }
 
 /// What an instruction costs with those before it.
-fn write_cost<'a, W: Write>(out: &mut W, sight: &Sight<'a>) -> io::Result<()> {
+fn write_cost<'a, W: Tell>(out: &mut W, sight: &Sight<'a>) {
     match (sight.outcome, sight.cost) {
         (Outcome::Refused(_), _) => write!(out, "; refused"),
         (_, Some(cost)) => write!(out, "; cost {cost}"),
@@ -206,7 +182,7 @@ fn write_cost<'a, W: Write>(out: &mut W, sight: &Sight<'a>) -> io::Result<()> {
 }
 
 /// Tells what is known of the places that an instruction changes.
-fn note_written<'a, W: Write>(out: &mut W, sight: &Sight<'a>, shown: &mut State) -> io::Result<()> {
+fn note_written<'a, W: Tell>(out: &mut W, sight: &Sight<'a>, shown: &mut State) {
     let after = match sight.insn {
         Insn::CallLocal { .. } if sight.goes_on => sight.next_state(),
         _ => &sight.after,
@@ -214,33 +190,29 @@ fn note_written<'a, W: Write>(out: &mut W, sight: &Sight<'a>, shown: &mut State)
     let written = places_written(&sight.insn, &sight.before);
     let changed = changes(&sight.before, after, written);
     take_all(shown, after, changed);
-    note_changes(out, changed, after, "becomes")
+    note_changes(out, changed, after, "becomes");
 }
 
 /// The notes behind an instruction that a state reaches.
-fn write_notes<'a, W: Write>(out: &mut W, sight: &Sight<'a>, shown: &mut State) -> io::Result<()> {
-    write_cost(out, sight)?;
-    note_registers(out, sight, shown)?;
-    note_slots(out, sight, shown)?;
+fn write_notes<'a, W: Tell>(out: &mut W, sight: &Sight<'a>, shown: &mut State) {
+    write_cost(out, sight);
+    note_registers(out, sight, shown);
+    note_slots(out, sight, shown);
     match sight.outcome {
         Outcome::Done => note_written(out, sight, shown),
         Outcome::Dead => write!(out, "; no run goes on from here"),
-        Outcome::Refused(_) | Outcome::Unreached => Ok(()),
+        Outcome::Refused(_) | Outcome::Unreached => {}
     }
 }
 
 /// The line of an instruction.
-pub fn write_instruction<'a, W: Write>(
-    out: &mut W,
-    sight: &Sight<'a>,
-    shown: &mut State,
-) -> io::Result<()> {
-    write_padded(out, sight.slot, &sight.insn)?;
+pub fn write_instruction<'a, W: Tell>(out: &mut W, sight: &Sight<'a>, shown: &mut State) {
+    write_padded(out, sight.slot, &sight.insn);
     match sight.outcome {
-        Outcome::Unreached => write!(out, "; no state is known here")?,
-        _ => write_notes(out, sight, shown)?,
+        Outcome::Unreached => write!(out, "; no state is known here"),
+        _ => write_notes(out, sight, shown),
     }
-    write!(out, "\n")
+    write!(out, "\n");
 }
 
 // ---- edges
@@ -251,14 +223,9 @@ fn have_terms(old: &Label, new: &Label) -> bool {
 }
 
 /// `; slack 0: base 23, cost 1, base there 2, kept 0, taken 20`
-fn write_slack<'a, W: Write>(
-    out: &mut W,
-    certificate: &Index,
-    sight: &Sight<'a>,
-    edge: Edge,
-) -> io::Result<()> {
+fn write_slack<'a, W: Tell>(out: &mut W, certificate: &Index, sight: &Sight<'a>, edge: Edge) {
     let (Some(here), Some(new)) = (sight.here, label_at(certificate, edge.to)) else {
-        return Ok(());
+        return;
     };
     let (Some(slack), Some(cost)) = (edge.slack, sight.cost) else {
         return write!(out, "; the slack isn't known");
@@ -270,17 +237,17 @@ fn write_slack<'a, W: Write>(
         write!(
             out,
             "; slack {total}: base {base}, cost {cost}, base there {there}, kept {kept}, taken {taken}"
-        )
+        );
     } else {
         write!(
             out,
             "; slack {total}: base {base}, cost {cost}, base there {there}"
-        )
+        );
     }
 }
 
 /// The line of an edge: where it leads, what is known there more, and what is left of the budget.
-fn write_edge<'a, W: Write>(
+fn write_edge<'a, W: Tell>(
     out: &mut W,
     certificate: &Index,
     sight: &Sight<'a>,
@@ -288,18 +255,18 @@ fn write_edge<'a, W: Write>(
     state: &State,
     more: PlaceSet,
     condition: &str,
-) -> io::Result<()> {
+) {
     let to = edge.to;
-    write!(out, "       to {to}{condition}")?;
+    write!(out, "       to {to}{condition}");
     if edge.is_live {
-        note_changes(out, more, state, "is")?;
+        note_changes(out, more, state, "is");
         if edge.is_labelled && sight.has_budgets {
-            write_slack(out, certificate, sight, edge)?;
+            write_slack(out, certificate, sight, edge);
         }
     } else {
-        write!(out, "; no run takes it")?;
+        write!(out, "; no run takes it");
     }
-    write!(out, "\n")
+    write!(out, "\n");
 }
 
 /// The places of which more is known on an edge than behind the instruction.
@@ -307,29 +274,24 @@ fn known_more<'a>(sight: &Sight<'a>, state: &State) -> PlaceSet {
     changes(&sight.after, state, places_compared(&sight.insn))
 }
 
-fn write_jump<'a, W: Write>(
-    out: &mut W,
-    certificate: &Index,
-    sight: &Sight<'a>,
-    edge: Edge,
-) -> io::Result<()> {
+fn write_jump<'a, W: Tell>(out: &mut W, certificate: &Index, sight: &Sight<'a>, edge: Edge) {
     let condition = match sight.insn {
         Insn::JumpIf { .. } => " if so",
         _ => "",
     };
     let state = sight.jump_state();
     let more = known_more(sight, state);
-    write_edge(out, certificate, sight, edge, state, more, condition)
+    write_edge(out, certificate, sight, edge, state, more, condition);
 }
 
 /// The line of the edge to the next instruction, if it says more than that it is there.
-fn write_next<'a, W: Write>(
+fn write_next<'a, W: Tell>(
     out: &mut W,
     certificate: &Index,
     sight: &Sight<'a>,
     edge: Edge,
     shown: &mut State,
-) -> io::Result<()> {
+) {
     let condition = match sight.insn {
         Insn::JumpIf { .. } => " if not",
         _ => "",
@@ -337,42 +299,40 @@ fn write_next<'a, W: Write>(
     let state = sight.next_state();
     let more = known_more(sight, state);
     if edge.is_live && !edge.is_labelled && more.is_empty() {
-        return Ok(());
+        return;
     }
     take_all(shown, state, more);
-    write_edge(out, certificate, sight, edge, state, more, condition)
+    write_edge(out, certificate, sight, edge, state, more, condition);
 }
 
-fn write_exit<'a, W: Write>(out: &mut W, sight: &Sight<'a>) -> io::Result<()> {
+fn write_exit<'a, W: Tell>(out: &mut W, sight: &Sight<'a>) {
     let (Some(least), Some(cost)) = (sight.least_budget, sight.cost) else {
-        return Ok(());
+        return;
     };
     let slack = least.saturating_sub(cost);
     write!(
         out,
         "       out; slack {slack}: budget at least {least}, cost {cost}\n"
-    )
+    );
 }
 
 /// The lines of an instruction's edges.
-pub fn write_edges<'a, W: Write>(
+pub fn write_edges<'a, W: Tell>(
     out: &mut W,
     certificate: &Index,
     sight: &Sight<'a>,
     shown: &mut State,
-) -> io::Result<()> {
+) {
     if let (Insn::Exit, Outcome::Done) = (sight.insn, sight.outcome) {
-        return if sight.has_budgets {
-            write_exit(out, sight)
-        } else {
-            Ok(())
-        };
+        if sight.has_budgets {
+            write_exit(out, sight);
+        }
+        return;
     }
     if let Some(edge) = sight.jump {
-        write_jump(out, certificate, sight, edge)?;
+        write_jump(out, certificate, sight, edge);
     }
-    match sight.next {
-        Some(edge) => write_next(out, certificate, sight, edge, shown),
-        None => Ok(()),
+    if let Some(edge) = sight.next {
+        write_next(out, certificate, sight, edge, shown);
     }
 }

@@ -1,25 +1,19 @@
-//! Output in pieces of 4,096 bytes.
+//! What is told goes out in pieces of 4,096 bytes.
 
+use crate::quoted::Quoted;
 use arrayvec::ArrayVec;
 use bpf_insn::written::write_bytes;
+use std::fmt::Display;
 use std::io::{self, ErrorKind, Write};
 
 /// A writer that hands on pieces of 4,096 bytes. What it holds at the end is handed on by `flush` alone.
 #[derive(Drop)]
-pub struct Page<'a, W: Write> {
+struct Pieces<'a, W: Write> {
     out: &'a mut W,
     held: ArrayVec<u8, 4096>,
 }
 
-impl<'a, W: Write> Page<'a, W> {
-    /// An empty page in front of a writer.
-    pub fn new(out: &'a mut W) -> Self {
-        Page {
-            out,
-            held: ArrayVec::new(),
-        }
-    }
-
+impl<'a, W: Write> Pieces<'a, W> {
     fn hand_on(&mut self) -> io::Result<()> {
         write_bytes(self.out, self.held.as_slice())?;
         self.held.clear();
@@ -35,7 +29,7 @@ fn final_fault(error: io::Error) -> io::Error {
     }
 }
 
-impl<'a, W: Write> Write for Page<'a, W> {
+impl<'a, W: Write> Write for Pieces<'a, W> {
     fn write(&mut self, buf: &[u8]) -> io::Result<usize> {
         if self.held.is_full() {
             self.hand_on().map_err(final_fault)?;
@@ -46,5 +40,72 @@ impl<'a, W: Write> Write for Page<'a, W> {
     fn flush(&mut self) -> io::Result<()> {
         self.hand_on()?;
         self.out.flush()
+    }
+}
+
+/// Where an explanation is told.
+pub trait Tell {
+    /// Tells a text: what `write!` calls.
+    fn write_fmt<D: Display + Drop>(&mut self, text: D);
+
+    /// What follows stands between quotes in DOT, or no longer does.
+    fn set_quoted(&mut self, is_quoted: bool);
+
+    /// Whether what is told is lost.
+    fn has_failed(&self) -> bool;
+}
+
+/// A page in front of a writer. It keeps the writer's first fault for the end, and writes nothing behind it, so that who tells need
+/// not ask at each word.
+#[derive(Drop)]
+pub struct Page<'a, W: Write> {
+    pieces: Pieces<'a, W>,
+    is_quoted: bool,
+    fault: Option<io::Error>,
+}
+
+impl<'a, W: Write> Page<'a, W> {
+    /// An empty page in front of a writer.
+    pub fn new(out: &'a mut W) -> Self {
+        Page {
+            pieces: Pieces {
+                out,
+                held: ArrayVec::new(),
+            },
+            is_quoted: false,
+            fault: None,
+        }
+    }
+
+    /// Hands on what is held. The writer's first fault, if it failed.
+    pub fn finish(&mut self) -> io::Result<()> {
+        match self.fault.take() {
+            Some(error) => Err(error),
+            None => self.pieces.flush(),
+        }
+    }
+}
+
+impl<'a, W: Write> Tell for Page<'a, W> {
+    fn write_fmt<D: Display + Drop>(&mut self, text: D) {
+        if self.fault.is_some() {
+            return;
+        }
+        let result = if self.is_quoted {
+            Quoted::new(&mut self.pieces).write_fmt(text)
+        } else {
+            self.pieces.write_fmt(text)
+        };
+        if let Err(error) = result {
+            self.fault = Some(error);
+        }
+    }
+
+    fn set_quoted(&mut self, is_quoted: bool) {
+        self.is_quoted = is_quoted;
+    }
+
+    fn has_failed(&self) -> bool {
+        self.fault.is_some()
     }
 }

@@ -1,7 +1,7 @@
 //! A program with a certificate, explained.
 
 use crate::listing::{Lengths, write_header};
-use crate::page::Page;
+use crate::page::{Page, Tell};
 use crate::pass::see;
 use crate::report::{Report, View};
 use crate::sight::Sight;
@@ -12,27 +12,22 @@ use bpf_insn::Code;
 use std::io::{self, Write};
 
 /// Goes over the slots of a program, and over those behind it at which labels stand.
-fn tell_all<C: Code, W: Write>(
-    program: &C,
-    certificate: &Index,
-    view: View,
-    out: &mut W,
-) -> io::Result<()> {
+fn tell_all<C: Code, W: Tell>(program: &C, certificate: &Index, view: View, out: &mut W) {
     let mut report = Report::new(view);
-    let end = tell_program(program, certificate, &mut report, out)?;
+    let end = tell_program(program, certificate, &mut report, out);
     for slot in end..last_slot(certificate).saturating_add(1) {
-        report.tell_slot(out, program, certificate, slot)?;
+        report.tell_slot(out, program, certificate, slot);
     }
-    report.tell_quiet(out)
+    report.tell_quiet(out);
 }
 
 /// Goes over the instructions of a program. The slot behind the last one.
-fn tell_program<C: Code, W: Write>(
+fn tell_program<C: Code, W: Tell>(
     program: &C,
     certificate: &Index,
     report: &mut Report,
     out: &mut W,
-) -> io::Result<u32> {
+) -> u32 {
     let mut sight = Sight::new(report.has_budgets());
     let mut walk = Walk::new();
     let mut here = Spot::of(&*certificate, 0);
@@ -45,22 +40,25 @@ fn tell_program<C: Code, W: Write>(
         }
         let site = Site::of(&*certificate, here, insn);
         see(program, &site, &mut walk, &mut sight);
-        report.tell_sight(out, program, certificate, &sight)?;
+        report.tell_sight(out, program, certificate, &sight);
         if insn.slots() > 1 {
-            report.tell_slot(out, program, certificate, here.slot + 1)?;
+            report.tell_slot(out, program, certificate, here.slot + 1);
         }
         here = site.next;
+        if out.has_failed() {
+            break;
+        }
     }
-    Ok(here.slot)
+    here.slot
 }
 
 /// The last lines: the answer, and all flaws.
-fn write_answer<C: Code, W: Write>(
+fn write_answer<C: Code, W: Tell>(
     program: &C,
     certificate: &Index,
     refusal: Option<Refusal>,
     out: &mut W,
-) -> io::Result<()> {
+) {
     match refusal {
         None => {
             let (lengths, steps) = (Lengths::of(certificate), certificate.steps());
@@ -68,49 +66,49 @@ fn write_answer<C: Code, W: Write>(
             write!(
                 out,
                 "accepted: at most {steps} {unit} on contexts of {lengths}\n"
-            )
+            );
         }
         Some(refusal) => {
             let (number, slot) = (refusal.number(), refusal.slot());
-            write!(out, "refused: C{number} at slot {slot}\n")?;
-            tell_all(program, certificate, View::List, out)
+            write!(out, "refused: C{number} at slot {slot}\n");
+            tell_all(program, certificate, View::List, out);
         }
     }
 }
 
 /// Explains a program with a certificate, and with the checker's answer, on a page.
-pub fn explain_on<C: Code, W: Write>(
+pub fn explain_on<C: Code, W: Tell>(
     program: &C,
     certificate: &Certificate,
     refusal: Option<Refusal>,
     page: &mut W,
-) -> io::Result<()> {
+) {
     let index = Index::of(certificate);
-    write_header(page, &index)?;
-    tell_all(program, &index, View::Listing, page)?;
+    write_header(page, &index);
+    tell_all(program, &index, View::Listing, page);
     write_answer(program, &index, refusal, page)
 }
 
 /// Writes the listing of a program with the states of a certificate without budgets, and the flaw with a number at a slot.
-pub fn tell_sketch<C: Code, W: Write>(
+pub fn tell_sketch<C: Code, W: Tell>(
     program: &C,
     certificate: &Certificate,
     slot: u32,
     number: u8,
     page: &mut W,
-) -> io::Result<()> {
+) {
     let index = Index::of(certificate);
     tell_all(program, &index, View::Sketch(slot, number), page)
 }
 
 /// Writes the flaw with a number at a slot, judged without budgets.
-pub fn tell_reason<C: Code, W: Write>(
+pub fn tell_reason<C: Code, W: Tell>(
     program: &C,
     certificate: &Certificate,
     slot: u32,
     number: u8,
     page: &mut W,
-) -> io::Result<()> {
+) {
     let index = Index::of(certificate);
     tell_all(program, &index, View::Reason(slot, number), page)
 }
@@ -125,22 +123,17 @@ pub fn write_explanation<C: Code, W: Write>(
     out: &mut W,
 ) -> io::Result<()> {
     let mut page = Page::new(out);
-    explain_on(program, certificate, refusal, &mut page)?;
-    page.flush()
+    explain_on(program, certificate, refusal, &mut page);
+    page.finish()
 }
 
 /// One instruction with the whole state before and after it, and what is wrong there.
-fn tell_at<C: Code, W: Write>(
-    program: &C,
-    certificate: &Certificate,
-    slot: u32,
-    out: &mut W,
-) -> io::Result<()> {
+fn tell_at<C: Code, W: Tell>(program: &C, certificate: &Certificate, slot: u32, out: &mut W) {
     let index = Index::of(certificate);
     if program.insn(slot).is_none() {
-        write!(out, "no instruction begins at slot {slot}\n")?;
+        write!(out, "no instruction begins at slot {slot}\n");
     }
-    tell_all(program, &index, View::Slot(slot), out)
+    tell_all(program, &index, View::Slot(slot), out);
 }
 
 /// Writes one instruction of a program with the whole state before and after it, and what is wrong there. A fault of the
@@ -152,6 +145,6 @@ pub fn explain_slot<C: Code, W: Write>(
     out: &mut W,
 ) -> io::Result<()> {
     let mut page = Page::new(out);
-    tell_at(program, certificate, slot, &mut page)?;
-    page.flush()
+    tell_at(program, certificate, slot, &mut page);
+    page.finish()
 }

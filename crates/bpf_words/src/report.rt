@@ -3,6 +3,7 @@
 use crate::flaws::{CAUSES, Flaws};
 use crate::known::Spelled;
 use crate::listing::{write_edges, write_function, write_instruction, write_label};
+use crate::page::Tell;
 use crate::sight::{Outcome, Sight};
 use crate::standing::{label_flaws, label_in, lacks_first_label, standing_flaws, start_flaws};
 use crate::whole::write_whole;
@@ -11,7 +12,6 @@ use bpf_cert::{Function, Label};
 use bpf_check::{Cause, Index};
 use bpf_insn::Code;
 use bpf_state::State;
-use std::io::{self, Write};
 
 /// What is written of a program.
 #[derive(Clone, Copy, PartialEq, Eq)]
@@ -91,13 +91,7 @@ impl Report {
     }
 
     /// What a flaw's line begins with.
-    fn begin<'a, W: Write>(
-        &self,
-        out: &mut W,
-        cause: Cause,
-        slot: u32,
-        sight: Option<&Sight<'a>>,
-    ) -> io::Result<()> {
+    fn begin<'a, W: Tell>(&self, out: &mut W, cause: Cause, slot: u32, sight: Option<&Sight<'a>>) {
         let number = cause.number();
         if let View::Listing | View::Sketch(..) = self.view {
             return write!(out, "     ! C{number}: ");
@@ -105,47 +99,40 @@ impl Report {
         match sight {
             Some(sight) => {
                 let text = Spelled(sight.insn);
-                write!(out, "C{number} at slot {slot}, {text}: ")
+                write!(out, "C{number} at slot {slot}, {text}: ");
             }
             None => write!(out, "C{number} at slot {slot}: "),
         }
     }
 
     /// Tells a flaw of the instruction at a slot.
-    fn tell_visit<'a, W: Write, C: Code>(
+    fn tell_visit<'a, W: Tell, C: Code>(
         &self,
         out: &mut W,
         program: &C,
         certificate: &Index,
         sight: &Sight<'a>,
         cause: Cause,
-    ) -> io::Result<()> {
-        self.begin(out, cause, sight.slot, Some(sight))?;
+    ) {
+        self.begin(out, cause, sight.slot, Some(sight));
         match cause {
-            Cause::FallsOff if sight.is_never => tell_silence(out, self.silence)?,
-            _ => tell(out, program, certificate, sight, cause)?,
+            Cause::FallsOff if sight.is_never => tell_silence(out, self.silence),
+            _ => tell(out, program, certificate, sight, cause),
         }
-        write!(out, "\n")
+        write!(out, "\n");
     }
 
     /// Tells that the first slot of a function, which is at a slot, has no label.
-    fn tell_shape<W: Write>(
-        &self,
-        out: &mut W,
-        function: &Function,
-        slot: u32,
-        cause: Cause,
-    ) -> io::Result<()> {
+    fn tell_shape<W: Tell>(&self, out: &mut W, function: &Function, slot: u32, cause: Cause) {
         if cause == Cause::Misshapen && lacks_first_label(function, slot) {
-            self.begin(out, cause, slot, None)?;
-            tell_function(out, function)?;
-            write!(out, "\n")?;
+            self.begin(out, cause, slot, None);
+            tell_function(out, function);
+            write!(out, "\n");
         }
-        Ok(())
     }
 
     /// Tells a flaw of a label.
-    fn tell_in_label<W: Write, C: Code>(
+    fn tell_in_label<W: Tell, C: Code>(
         &mut self,
         out: &mut W,
         program: &C,
@@ -153,49 +140,42 @@ impl Report {
         function: &Function,
         label: &Label,
         cause: Cause,
-    ) -> io::Result<()> {
+    ) {
         let found = label_flaws(program, certificate, function, label, &mut self.room);
         if !found.flaws.has(cause) {
-            return Ok(());
+            return;
         }
-        self.begin(out, cause, label.slot, None)?;
+        self.begin(out, cause, label.slot, None);
         let bad = found.bad;
-        tell_label(out, program, certificate, function, label, cause, bad)?;
-        write!(out, "\n")
+        tell_label(out, program, certificate, function, label, cause, bad);
+        write!(out, "\n");
     }
 
-    fn tell_standing<W: Write, C: Code>(
+    fn tell_standing<W: Tell, C: Code>(
         &mut self,
         out: &mut W,
         program: &C,
         certificate: &Index,
         slot: u32,
         cause: Cause,
-    ) -> io::Result<()> {
+    ) {
         for function in certificate.functions() {
-            self.tell_shape(out, function, slot, cause)?;
+            self.tell_shape(out, function, slot, cause);
             if let Some(label) = label_in(function, slot) {
-                self.tell_in_label(out, program, certificate, function, label, cause)?;
+                self.tell_in_label(out, program, certificate, function, label, cause);
             }
         }
-        Ok(())
     }
 
     /// Tells a flaw of a certificate's beginning.
-    fn tell_at_start<W: Write>(
-        &self,
-        out: &mut W,
-        certificate: &Index,
-        slot: u32,
-        cause: Cause,
-    ) -> io::Result<()> {
-        self.begin(out, cause, slot, None)?;
-        tell_start(out, certificate, cause)?;
-        write!(out, "\n")
+    fn tell_at_start<W: Tell>(&self, out: &mut W, certificate: &Index, slot: u32, cause: Cause) {
+        self.begin(out, cause, slot, None);
+        tell_start(out, certificate, cause);
+        write!(out, "\n");
     }
 
     /// Tells all that is wrong at a slot.
-    fn tell_found<'a, W: Write, C: Code>(
+    fn tell_found<'a, W: Tell, C: Code>(
         &mut self,
         out: &mut W,
         program: &C,
@@ -203,21 +183,20 @@ impl Report {
         slot: u32,
         sight: Option<&Sight<'a>>,
         found: &Found,
-    ) -> io::Result<()> {
+    ) {
         for cause in CAUSES {
             if found.start.has(cause) {
-                self.tell_at_start(out, certificate, slot, cause)?;
+                self.tell_at_start(out, certificate, slot, cause);
             }
             if let Some(sight) = sight {
                 if found.visit.has(cause) {
-                    self.tell_visit(out, program, certificate, sight, cause)?;
+                    self.tell_visit(out, program, certificate, sight, cause);
                 }
             }
             if found.standing.has(cause) {
-                self.tell_standing(out, program, certificate, slot, cause)?;
+                self.tell_standing(out, program, certificate, slot, cause);
             }
         }
-        Ok(())
     }
 
     /// What is wrong at a slot.
@@ -245,19 +224,19 @@ impl Report {
     // ---- slots at which no state is known
 
     /// Tells of the slots that were passed over.
-    pub fn tell_quiet<W: Write>(&mut self, out: &mut W) -> io::Result<()> {
+    pub fn tell_quiet<W: Tell>(&mut self, out: &mut W) {
         let Some(quiet) = self.quiet else {
-            return Ok(());
+            return;
         };
         self.quiet = None;
         let (from, to) = (quiet.from, quiet.to);
         if from == to {
-            write!(out, "C11 at slot {from}: ")?;
+            write!(out, "C11 at slot {from}: ");
         } else {
-            write!(out, "C11 at slots {from} to {to}: ")?;
+            write!(out, "C11 at slots {from} to {to}: ");
         }
-        tell_silence(out, quiet.silence)?;
-        write!(out, "\n")
+        tell_silence(out, quiet.silence);
+        write!(out, "\n");
     }
 
     /// Passes over a slot at which no state is known.
@@ -276,58 +255,47 @@ impl Report {
     // ---- slots
 
     /// The lines of the functions and labels at a slot.
-    fn write_standing<W: Write>(
-        &mut self,
-        out: &mut W,
-        certificate: &Index,
-        slot: u32,
-    ) -> io::Result<()> {
+    fn write_standing<W: Tell>(&mut self, out: &mut W, certificate: &Index, slot: u32) {
         for function in certificate.functions() {
             if function.first == slot {
-                write_function(out, function)?;
+                write_function(out, function);
             }
             if let Some(label) = label_in(function, slot) {
                 let has_budgets = self.view == View::Listing;
-                write_label(out, label, has_budgets, &mut self.room)?;
+                write_label(out, label, has_budgets, &mut self.room);
             }
         }
-        Ok(())
     }
 
     /// Tells of a slot at which no instruction begins.
-    pub fn tell_slot<W: Write, C: Code>(
+    pub fn tell_slot<W: Tell, C: Code>(
         &mut self,
         out: &mut W,
         program: &C,
         certificate: &Index,
         slot: u32,
-    ) -> io::Result<()> {
+    ) {
         match self.view {
-            View::Listing => self.write_standing(out, certificate, slot)?,
+            View::Listing => self.write_standing(out, certificate, slot),
             View::Sketch(..) => return self.write_standing(out, certificate, slot),
-            View::Reason(..) => return Ok(()),
-            View::Slot(wanted) if wanted != slot => return Ok(()),
+            View::Reason(..) => return,
+            View::Slot(wanted) if wanted != slot => return,
             View::Slot(_) | View::List => {}
         }
         let found = self.found_at(program, certificate, slot, None);
         if !found.all().is_empty() {
-            self.tell_quiet(out)?;
+            self.tell_quiet(out);
         }
-        self.tell_found(out, program, certificate, slot, None, &found)
+        self.tell_found(out, program, certificate, slot, None, &found);
     }
 
-    fn write_lines<'a, W: Write>(
-        &mut self,
-        out: &mut W,
-        certificate: &Index,
-        sight: &Sight<'a>,
-    ) -> io::Result<()> {
-        self.write_standing(out, certificate, sight.slot)?;
+    fn write_lines<'a, W: Tell>(&mut self, out: &mut W, certificate: &Index, sight: &Sight<'a>) {
+        self.write_standing(out, certificate, sight.slot);
         if sight.label.is_some() {
             self.shown.copy_from(&sight.before);
         }
-        write_instruction(out, sight, &mut self.shown)?;
-        write_edges(out, certificate, sight, &mut self.shown)
+        write_instruction(out, sight, &mut self.shown);
+        write_edges(out, certificate, sight, &mut self.shown);
     }
 
     /// Notes why no state goes on, if none does.
@@ -345,84 +313,82 @@ impl Report {
     }
 
     /// Tells the flaws at an instruction, those that only pass on an earlier one together.
-    fn tell_flaws<'a, W: Write, C: Code>(
+    fn tell_flaws<'a, W: Tell, C: Code>(
         &mut self,
         out: &mut W,
         program: &C,
         certificate: &Index,
         sight: &Sight<'a>,
-    ) -> io::Result<()> {
+    ) {
         let slot = sight.slot;
         let found = self.found_at(program, certificate, slot, Some(sight));
         if found.is_quiet(sight) && self.view != View::Slot(slot) {
             if self.view == View::List {
                 self.pass_over(slot);
             }
-            return Ok(());
+            return;
         }
         if !found.all().is_empty() {
-            self.tell_quiet(out)?;
+            self.tell_quiet(out);
         }
-        self.tell_found(out, program, certificate, slot, Some(sight), &found)
+        self.tell_found(out, program, certificate, slot, Some(sight), &found);
     }
 
     /// Tells the flaw with a number of an instruction, if it has it.
-    fn tell_one<'a, W: Write, C: Code>(
+    fn tell_one<'a, W: Tell, C: Code>(
         &mut self,
         out: &mut W,
         program: &C,
         certificate: &Index,
         sight: &Sight<'a>,
         number: u8,
-    ) -> io::Result<()> {
+    ) {
         for cause in CAUSES {
             if cause.number() == number && sight.flaws.has(cause) {
-                self.tell_visit(out, program, certificate, sight, cause)?;
+                self.tell_visit(out, program, certificate, sight, cause);
             }
         }
-        Ok(())
     }
 
     /// Tells of an instruction what the view shows.
-    fn show<'a, W: Write, C: Code>(
+    fn show<'a, W: Tell, C: Code>(
         &mut self,
         out: &mut W,
         program: &C,
         certificate: &Index,
         sight: &Sight<'a>,
-    ) -> io::Result<()> {
+    ) {
         match self.view {
             View::Listing => {
-                self.write_lines(out, certificate, sight)?;
-                self.tell_flaws(out, program, certificate, sight)
+                self.write_lines(out, certificate, sight);
+                self.tell_flaws(out, program, certificate, sight);
             }
             View::List => self.tell_flaws(out, program, certificate, sight),
             View::Slot(slot) if slot == sight.slot => {
-                write_whole(out, sight)?;
-                self.tell_flaws(out, program, certificate, sight)
+                write_whole(out, sight);
+                self.tell_flaws(out, program, certificate, sight);
             }
             View::Sketch(slot, number) if slot == sight.slot => {
-                self.write_lines(out, certificate, sight)?;
-                self.tell_one(out, program, certificate, sight, number)
+                self.write_lines(out, certificate, sight);
+                self.tell_one(out, program, certificate, sight, number);
             }
             View::Sketch(..) => self.write_lines(out, certificate, sight),
             View::Reason(slot, number) if slot == sight.slot => {
-                self.tell_one(out, program, certificate, sight, number)
+                self.tell_one(out, program, certificate, sight, number);
             }
-            View::Slot(_) | View::Reason(..) => Ok(()),
+            View::Slot(_) | View::Reason(..) => {}
         }
     }
 
     /// Tells of an instruction.
-    pub fn tell_sight<'a, W: Write, C: Code>(
+    pub fn tell_sight<'a, W: Tell, C: Code>(
         &mut self,
         out: &mut W,
         program: &C,
         certificate: &Index,
         sight: &Sight<'a>,
-    ) -> io::Result<()> {
-        self.show(out, program, certificate, sight)?;
+    ) {
+        self.show(out, program, certificate, sight);
         self.note_silence(sight);
-        Ok(())
     }
 }

@@ -1,7 +1,7 @@
 //! Why a text is no program, in words.
 
 use crate::form::{Excess, FORMS, Form, Reading, skip_blanks, word_in};
-use crate::page::Page;
+use crate::page::{Page, Tell};
 use bpf_insn::{BuildError, Order};
 use bpf_text::{TextError, assemble};
 use std::alloc::{AllocError, Global};
@@ -105,16 +105,16 @@ fn follows(code: &[u8], form: &Form, left: usize) -> bool {
 }
 
 /// The forms that a line follows as far as any.
-fn tell_forms<W: Write>(out: &mut W, code: &[u8], left: usize) -> io::Result<()> {
+fn tell_forms<W: Tell>(out: &mut W, code: &[u8], left: usize) {
     let mut comma = "forms that begin so: ";
     for form in &FORMS {
         if follows(code, form, left) {
             let text = form.text;
-            write!(out, "{comma}{text}")?;
+            write!(out, "{comma}{text}");
             comma = ", ";
         }
     }
-    write!(out, "\n")
+    write!(out, "\n");
 }
 
 fn is_comment(rest: &[u8]) -> bool {
@@ -122,29 +122,29 @@ fn is_comment(rest: &[u8]) -> bool {
 }
 
 /// A line that follows no form to its end.
-fn tell_place<W: Write>(out: &mut W, line: &[u8], code: &[u8]) -> io::Result<()> {
+fn tell_place<W: Tell>(out: &mut W, line: &[u8], code: &[u8]) {
     let (reading, _) = farthest(code);
     let rest = skip_blanks(reading.rest);
     let column = column_of(line, rest);
     if rest.is_empty() {
-        write!(out, ", column {column}: the line ends here\n")?;
+        write!(out, ", column {column}: the line ends here\n");
     } else {
         let word = Word(front_of(rest));
-        write!(out, ", column {column}: {word} can't stand here\n")?;
+        write!(out, ", column {column}: {word} can't stand here\n");
     }
     if is_comment(rest) {
         return write!(out, "a comment begins with `;`\n");
     }
-    tell_forms(out, code, rest.len())
+    tell_forms(out, code, rest.len());
 }
 
-fn tell_form<W: Write>(out: &mut W, text: &[u8], number: usize) -> io::Result<()> {
-    write!(out, "A1 at line {number}")?;
+fn tell_form<W: Tell>(out: &mut W, text: &[u8], number: usize) {
+    write!(out, "A1 at line {number}");
     let line = code_of(line_at(text, number));
-    tell_place(out, line, behind_labels(line))
+    tell_place(out, line, behind_labels(line));
 }
 
-fn tell_excess<'a, W: Write>(out: &mut W, code: &[u8], excess: Excess<'a>) -> io::Result<()> {
+fn tell_excess<'a, W: Tell>(out: &mut W, code: &[u8], excess: Excess<'a>) {
     let column = column_of(code, excess.rest);
     let (sign, digits) = match excess.rest {
         [b'-' | b'+', digits @ ..] => (excess.rest.first().copied(), digits),
@@ -158,11 +158,11 @@ fn tell_excess<'a, W: Write>(out: &mut W, code: &[u8], excess: Excess<'a>) -> io
     write!(
         out,
         ", column {column}: {minus}{word} is out of its range: {range}\n"
-    )
+    );
 }
 
-fn tell_range<W: Write>(out: &mut W, text: &[u8], number: usize) -> io::Result<()> {
-    write!(out, "A2 at line {number}")?;
+fn tell_range<W: Tell>(out: &mut W, text: &[u8], number: usize) {
+    write!(out, "A2 at line {number}");
     let code = code_of(line_at(text, number));
     let (reading, _) = farthest(behind_labels(code));
     match reading.excess {
@@ -227,12 +227,12 @@ fn second_label(
     Ok(None)
 }
 
-fn tell_second<W: Write>(alloc: Global, out: &mut W, text: &[u8], number: usize) -> io::Result<()> {
-    write!(out, "A3 at line {number}: ")?;
+fn tell_second<W: Tell>(alloc: Global, out: &mut W, text: &[u8], number: usize) {
+    write!(out, "A3 at line {number}: ");
     match second_label(alloc, text, number) {
         Ok(Some((name, above))) => {
             let word = Word(name);
-            write!(out, "the label {word} is defined at line {above}, too\n")
+            write!(out, "the label {word} is defined at line {above}, too\n");
         }
         Ok(None) => write!(out, "a label is defined twice in the line\n"),
         Err(_) => write!(out, "a label is defined again\n"),
@@ -258,20 +258,14 @@ fn last_word(code: &[u8]) -> &[u8] {
     last
 }
 
-fn tell_target<W: Write>(
-    out: &mut W,
-    text: &[u8],
-    number: usize,
-    cause: u8,
-    words: &str,
-) -> io::Result<()> {
+fn tell_target<W: Tell>(out: &mut W, text: &[u8], number: usize, cause: u8, words: &str) {
     let word = Word(last_word(code_of(line_at(text, number))));
-    write!(out, "A{cause} at line {number}: the label {word} {words}\n")
+    write!(out, "A{cause} at line {number}: the label {word} {words}\n");
 }
 
-fn tell_program<W: Write>(out: &mut W, number: usize, error: BuildError) -> io::Result<()> {
+fn tell_program<W: Tell>(out: &mut W, number: usize, error: BuildError) {
     let cause = error.number();
-    write!(out, "A6 at line {number} (E{cause}): ")?;
+    write!(out, "A6 at line {number} (E{cause}): ");
     match error {
         BuildError::Length => write!(
             out,
@@ -286,12 +280,7 @@ fn tell_program<W: Write>(out: &mut W, number: usize, error: BuildError) -> io::
     }
 }
 
-fn tell_error<W: Write>(
-    alloc: Global,
-    out: &mut W,
-    text: &[u8],
-    error: TextError,
-) -> io::Result<()> {
+fn tell_error<W: Tell>(alloc: Global, out: &mut W, text: &[u8], error: TextError) {
     match error {
         TextError::Form { line } => tell_form(out, text, line),
         TextError::Range { line } => tell_range(out, text, line),
@@ -307,7 +296,7 @@ fn tell_error<W: Write>(
         TextError::Program { line, error } => tell_program(out, line, error),
         _ => {
             let cause = error.number();
-            write!(out, "A{cause}: {error}\n")
+            write!(out, "A{cause}: {error}\n");
         }
     }
 }
@@ -321,20 +310,20 @@ fn slots_of(alloc: Global, text: &str) -> Result<u32, TextError> {
 }
 
 /// Tells what bytes are as a text. Whether they are a program's.
-fn tell_text<W: Write>(alloc: Global, out: &mut W, bytes: &[u8]) -> io::Result<bool> {
+fn tell_text<W: Tell>(alloc: Global, out: &mut W, bytes: &[u8]) -> bool {
     let Ok(text) = from_utf8(bytes) else {
-        write!(out, "the bytes are no text: they aren't UTF-8\n")?;
-        return Ok(false);
+        write!(out, "the bytes are no text: they aren't UTF-8\n");
+        return false;
     };
     match slots_of(alloc, text) {
         Ok(slots) => {
             let unit = if slots == 1 { "slot" } else { "slots" };
-            write!(out, "a program of {slots} {unit}\n")?;
-            Ok(true)
+            write!(out, "a program of {slots} {unit}\n");
+            true
         }
         Err(error) => {
-            tell_error(alloc, out, bytes, error)?;
-            Ok(false)
+            tell_error(alloc, out, bytes, error);
+            false
         }
     }
 }
@@ -344,7 +333,7 @@ fn tell_text<W: Write>(alloc: Global, out: &mut W, bytes: &[u8]) -> io::Result<b
 /// the writer, or a write of no bytes, ends it.
 pub fn explain_text<W: Write>(alloc: Global, bytes: &[u8], out: &mut W) -> io::Result<bool> {
     let mut page = Page::new(out);
-    let is_program = tell_text(alloc, &mut page, bytes)?;
-    page.flush()?;
+    let is_program = tell_text(alloc, &mut page, bytes);
+    page.finish()?;
     Ok(is_program)
 }

@@ -8,13 +8,13 @@ mod memory;
 mod shape;
 
 use crate::known::Name;
+use crate::page::Tell;
 use crate::sight::Sight;
 use bpf_check::{Cause, Index};
 use bpf_insn::{Code, Reg};
 use bpf_state::Place;
 pub use labels::{tell_function, tell_label, tell_start};
 pub use shape::{Silence, tell_silence};
-use std::io::{self, Write};
 
 /// The name of a register.
 pub fn register(reg: Reg) -> Name {
@@ -22,13 +22,13 @@ pub fn register(reg: Reg) -> Name {
 }
 
 /// Tells why a condition fails at an instruction.
-pub fn tell<'a, W: Write, C: Code>(
+pub fn tell<'a, W: Tell, C: Code>(
     out: &mut W,
     program: &C,
     certificate: &Index,
     sight: &Sight<'a>,
     cause: Cause,
-) -> io::Result<()> {
+) {
     match cause {
         Cause::NoLabel => shape::tell_missing_label(out, sight),
         Cause::UnsetRegister => kinds::tell_unknown(out, sight),
@@ -42,6 +42,6 @@ pub fn tell<'a, W: Write, C: Code>(
         Cause::FallsOff => shape::tell_end(out),
         Cause::LeavesFunction => shape::tell_leaving(out, program, certificate, sight),
         // These aren't found at instructions.
-        Cause::MisplacedLabel | Cause::Misshapen => Ok(()),
+        Cause::MisplacedLabel | Cause::Misshapen => {}
     }
 }

@@ -1,12 +1,11 @@
 //! The nodes of a graph: blocks of instructions, in functions.
 
 use crate::graph::Scene;
-use crate::graph::quoted::Quoted;
 use crate::known::Spelled;
 use crate::listing::{write_budget, write_function};
+use crate::page::Tell;
 use bpf_check::{Index, Refusal, function_at, label_at};
 use bpf_insn::{Code, Insn, MAX_SLOTS};
-use std::io::{self, Write};
 
 /// How a block looks.
 #[derive(Clone, Copy)]
@@ -38,7 +37,7 @@ fn flaw_at(refusal: Option<Refusal>, slot: u32, insn: &Insn) -> Option<u8> {
 }
 
 /// The first line of the function at a slot.
-fn write_head<W: Write>(out: &mut W, certificate: Option<&Index>, slot: u32) -> io::Result<()> {
+fn write_head<W: Tell>(out: &mut W, certificate: Option<&Index>, slot: u32) {
     let known = match certificate {
         Some(certificate) => function_at(certificate, slot),
         None => None,
@@ -50,21 +49,21 @@ fn write_head<W: Write>(out: &mut W, certificate: Option<&Index>, slot: u32) -> 
 }
 
 /// The line of the label at a slot, if one stands there.
-fn write_promise<W: Write>(out: &mut W, certificate: Option<&Index>, slot: u32) -> io::Result<()> {
+fn write_promise<W: Tell>(out: &mut W, certificate: Option<&Index>, slot: u32) {
     let known = match certificate {
         Some(certificate) => label_at(certificate, slot),
         None => None,
     };
     let Some(label) = known else {
-        return Ok(());
+        return;
     };
-    write!(out, "at {slot}: budget ")?;
-    write_budget(out, label)?;
-    write!(out, "\n")
+    write!(out, "at {slot}: budget ");
+    write_budget(out, label);
+    write!(out, "\n");
 }
 
 /// The line of an instruction, with the number of its flaw.
-fn write_insn<W: Write>(out: &mut W, slot: u32, insn: &Insn, flaw: Option<u8>) -> io::Result<()> {
+fn write_insn<W: Tell>(out: &mut W, slot: u32, insn: &Insn, flaw: Option<u8>) {
     let text = Spelled(*insn);
     match flaw {
         Some(number) => write!(out, "{slot:>5}  {text}  ! C{number}\n"),
@@ -74,9 +73,9 @@ fn write_insn<W: Write>(out: &mut W, slot: u32, insn: &Insn, flaw: Option<u8>) -
 
 impl Drawn {
     /// Ends the block that is being written.
-    fn end_block<W: Write>(&mut self, out: &mut W) -> io::Result<()> {
+    fn end_block<W: Tell>(&mut self, out: &mut W) {
         let Some(look) = self.block else {
-            return Ok(());
+            return;
         };
         self.block = None;
         let rest = match look {
@@ -84,41 +83,32 @@ impl Drawn {
             Look::Unreached => "\", color=gray, fontcolor=gray];\n",
             Look::Refused => "\", color=red, penwidth=2];\n",
         };
-        out.write_all(rest.as_bytes())
+        write!(out, "{rest}");
     }
 
-    fn end_function<W: Write>(&mut self, out: &mut W) -> io::Result<()> {
+    fn end_function<W: Tell>(&mut self, out: &mut W) {
         if self.in_function {
             self.in_function = false;
-            write!(out, "  }}\n")?;
+            write!(out, "  }}\n");
         }
-        Ok(())
     }
 
     /// Begins the function at a slot.
-    fn begin_function<'a, 'b, W: Write>(
-        &mut self,
-        out: &mut W,
-        scene: &Scene<'a, 'b>,
-        slot: u32,
-    ) -> io::Result<()> {
-        self.end_function(out)?;
+    fn begin_function<'a, 'b, W: Tell>(&mut self, out: &mut W, scene: &Scene<'a, 'b>, slot: u32) {
+        self.end_function(out);
         self.in_function = true;
-        write!(out, "  subgraph cluster_{slot} {{\n    label=\"")?;
-        write_head(&mut Quoted::new(out), scene.certificate, slot)?;
-        write!(out, "\";\n")
+        write!(out, "  subgraph cluster_{slot} {{\n    label=\"");
+        out.set_quoted(true);
+        write_head(out, scene.certificate, slot);
+        out.set_quoted(false);
+        write!(out, "\";\n");
     }
 
     /// Begins the block at a slot, with its label.
-    fn begin_block<'a, 'b, W: Write>(
-        &mut self,
-        out: &mut W,
-        scene: &Scene<'a, 'b>,
-        slot: u32,
-    ) -> io::Result<()> {
-        self.end_block(out)?;
+    fn begin_block<'a, 'b, W: Tell>(&mut self, out: &mut W, scene: &Scene<'a, 'b>, slot: u32) {
+        self.end_block(out);
         if scene.plan.functions.has(slot) {
-            self.begin_function(out, scene, slot)?;
+            self.begin_function(out, scene, slot);
         }
         let is_reached = scene.flow.reached.has(slot);
         self.block = Some(if is_reached {
@@ -126,32 +116,32 @@ impl Drawn {
         } else {
             Look::Unreached
         });
-        write!(out, "    b{slot} [label=\"")?;
-        write_promise(&mut Quoted::new(out), scene.certificate, slot)
+        write!(out, "    b{slot} [label=\"");
+        out.set_quoted(true);
+        write_promise(out, scene.certificate, slot);
+        out.set_quoted(false);
     }
 
     /// The line of an instruction.
-    fn write_line<'a, 'b, W: Write>(
+    fn write_line<'a, 'b, W: Tell>(
         &mut self,
         out: &mut W,
         scene: &Scene<'a, 'b>,
         slot: u32,
         insn: &Insn,
-    ) -> io::Result<()> {
+    ) {
         let flaw = flaw_at(scene.refusal, slot, insn);
         if flaw.is_some() {
             self.block = Some(Look::Refused);
         }
-        write_insn(&mut Quoted::new(out), slot, insn, flaw)
+        out.set_quoted(true);
+        write_insn(out, slot, insn, flaw);
+        out.set_quoted(false);
     }
 }
 
 /// Writes the blocks by their slots, each in its function.
-pub fn write_blocks<'a, 'b, C: Code, W: Write>(
-    out: &mut W,
-    program: &C,
-    scene: &Scene<'a, 'b>,
-) -> io::Result<()> {
+pub fn write_blocks<'a, 'b, C: Code, W: Tell>(out: &mut W, program: &C, scene: &Scene<'a, 'b>) {
     let mut drawn = Drawn {
         block: None,
         in_function: false,
@@ -159,11 +149,11 @@ pub fn write_blocks<'a, 'b, C: Code, W: Write>(
     for slot in 0..program.slots().min(MAX_SLOTS as u32) {
         if let Some(insn) = program.insn(slot) {
             if scene.plan.blocks.has(slot) {
-                drawn.begin_block(out, scene, slot)?;
+                drawn.begin_block(out, scene, slot);
             }
-            drawn.write_line(out, scene, slot, &insn)?;
+            drawn.write_line(out, scene, slot, &insn);
         }
     }
-    drawn.end_block(out)?;
-    drawn.end_function(out)
+    drawn.end_block(out);
+    drawn.end_function(out);
 }

@@ -4,9 +4,9 @@ ghost use Rattle.std.specs.Prelude.{◌≤◌};
 
 use crate::graph::Scene;
 use crate::graph::plan::call_target;
+use crate::page::Tell;
 use bpf_check::{goes_on, jump_target};
 use bpf_insn::{Code, Insn, MAX_SLOTS};
-use std::io::{self, Write};
 
 /// What an edge stands for.
 #[derive(Clone, Copy)]
@@ -31,26 +31,21 @@ fn attributes(way: Way, is_live: bool) -> &'static str {
     }
 }
 
-fn write_edge<W: Write>(
-    out: &mut W,
-    from: u32,
-    to: u32,
-    way: Way,
-    is_live: bool,
-) -> io::Result<()> {
-    write!(out, "  b{from} -> b{to}")?;
-    out.write_all(attributes(way, is_live).as_bytes())
+fn write_edge<W: Tell>(out: &mut W, from: u32, to: u32, way: Way, is_live: bool) {
+    write!(out, "  b{from} -> b{to}");
+    let rest = attributes(way, is_live);
+    write!(out, "{rest}");
 }
 
 /// The edges of the instruction at a slot, in the block that begins at `from`.
-fn write_from<'a, 'b, W: Write>(
+fn write_from<'a, 'b, W: Tell>(
     out: &mut W,
     scene: &Scene<'a, 'b>,
     from: u32,
     slot: u32,
     insn: &Insn,
     slots: u32,
-) -> io::Result<()>
+)
     requires { slot ≤ 65535 }
 {
     let (so, not) = match *insn {
@@ -58,24 +53,19 @@ fn write_from<'a, 'b, W: Write>(
         _ => (Way::Next, Way::Next),
     };
     if let Some(to) = call_target(slot, insn) {
-        write_edge(out, from, to, Way::Call, scene.flow.reached.has(slot))?;
+        write_edge(out, from, to, Way::Call, scene.flow.reached.has(slot));
     }
     if let Some(to) = jump_target(slot, insn) {
-        write_edge(out, from, to, so, scene.flow.jumps.has(slot))?;
+        write_edge(out, from, to, so, scene.flow.jumps.has(slot));
     }
     let next = slot + insn.slots();
     if goes_on(insn) && next < slots && scene.plan.blocks.has(next) {
-        write_edge(out, from, next, not, scene.flow.nexts.has(slot))?;
+        write_edge(out, from, next, not, scene.flow.nexts.has(slot));
     }
-    Ok(())
 }
 
 /// Writes the edges by the slots from which they lead.
-pub fn write_edges<'a, 'b, C: Code, W: Write>(
-    out: &mut W,
-    program: &C,
-    scene: &Scene<'a, 'b>,
-) -> io::Result<()> {
+pub fn write_edges<'a, 'b, C: Code, W: Tell>(out: &mut W, program: &C, scene: &Scene<'a, 'b>) {
     let slots = program.slots().min(MAX_SLOTS as u32);
     let mut from = 0;
     for slot in 0..slots {
@@ -83,8 +73,7 @@ pub fn write_edges<'a, 'b, C: Code, W: Write>(
             if scene.plan.blocks.has(slot) {
                 from = slot;
             }
-            write_from(out, scene, from, slot, &insn, slots)?;
+            write_from(out, scene, from, slot, &insn, slots);
         }
     }
-    Ok(())
 }

@@ -2,19 +2,19 @@
 
 use crate::effects::{Access, access_of, unknown_register};
 use crate::known::{Known, Name, Offset, known_register};
+use crate::page::Tell;
 use crate::places::content;
 use crate::sight::Sight;
 use crate::words::register;
 use bpf_insn::{AluOp, AtomicOp, Insn, Operand, Reg, Width};
 use bpf_state::{Place, RegState, SlotState, State};
-use std::io::{self, Write};
 
 /// C3: a register that is read may be uninitialised.
-pub fn tell_unknown<'a, W: Write>(out: &mut W, sight: &Sight<'a>) -> io::Result<()> {
+pub fn tell_unknown<'a, W: Tell>(out: &mut W, sight: &Sight<'a>) {
     match unknown_register(&sight.insn, &sight.before) {
         Some(reg) => {
             let name = register(reg);
-            write!(out, "reads {name}, of which nothing is known")
+            write!(out, "reads {name}, of which nothing is known");
         }
         None => write!(out, "reads a register of which nothing is known"),
     }
@@ -25,24 +25,18 @@ fn is_pointer(state: &State, reg: Reg) -> bool {
 }
 
 /// A rule, and what a register holds.
-fn tell_register<W: Write>(out: &mut W, rule: &str, state: &State, reg: Reg) -> io::Result<()> {
+fn tell_register<W: Tell>(out: &mut W, rule: &str, state: &State, reg: Reg) {
     let (name, held) = (register(reg), known_register(state.reg(reg)));
-    write!(out, "{rule}: {name} is {held}")
+    write!(out, "{rule}: {name} is {held}");
 }
 
 /// A rule, and what the operands hold, as far as they are registers.
-fn tell_operands<W: Write>(
-    out: &mut W,
-    rule: &str,
-    state: &State,
-    dst: Reg,
-    src: Operand,
-) -> io::Result<()> {
+fn tell_operands<W: Tell>(out: &mut W, rule: &str, state: &State, dst: Reg, src: Operand) {
     match src {
         Operand::Reg(src) => {
             let (name, held) = (register(dst), known_register(state.reg(dst)));
             let (other, more) = (register(src), known_register(state.reg(src)));
-            write!(out, "{rule}: {name} is {held} and {other} is {more}")
+            write!(out, "{rule}: {name} is {held} and {other} is {more}");
         }
         Operand::Imm(_) => tell_register(out, rule, state, dst),
     }
@@ -63,14 +57,14 @@ fn rule_of(op: AluOp, state: &State, dst: Reg) -> &'static str {
     }
 }
 
-fn tell_operation<W: Write>(
+fn tell_operation<W: Tell>(
     out: &mut W,
     state: &State,
     op: AluOp,
     width: Width,
     dst: Reg,
     src: Operand,
-) -> io::Result<()> {
+) {
     let rule = match width {
         Width::W32 => "an operation at 32 bits takes numbers alone",
         Width::W64 => rule_of(op, state, dst),
@@ -81,8 +75,8 @@ fn tell_operation<W: Write>(
     }
 }
 
-fn tell_number_wanted<W: Write>(out: &mut W, state: &State, reg: Reg) -> io::Result<()> {
-    tell_register(out, "this operation takes numbers alone", state, reg)
+fn tell_number_wanted<W: Tell>(out: &mut W, state: &State, reg: Reg) {
+    tell_register(out, "this operation takes numbers alone", state, reg);
 }
 
 /// The first slot that an access may touch and that holds a pointer.
@@ -96,7 +90,7 @@ fn pointer_slot(state: &State, access: Access) -> Option<u8> {
     None
 }
 
-fn tell_part<W: Write>(out: &mut W, state: &State, access: Access) -> io::Result<()> {
+fn tell_part<W: Tell>(out: &mut W, state: &State, access: Access) {
     match pointer_slot(state, access) {
         Some(slot) => {
             let place = Place::Slot(slot);
@@ -104,7 +98,7 @@ fn tell_part<W: Write>(out: &mut W, state: &State, access: Access) -> io::Result
             write!(
                 out,
                 "may read a part of {name}, which holds the pointer {held}: a pointer is read as 8 bytes at its slot"
-            )
+            );
         }
         None => write!(out, "takes operands of other kinds"),
     }
@@ -122,12 +116,7 @@ fn number_wanted(insn: &Insn, state: &State) -> Option<Reg> {
     }
 }
 
-fn tell_access<W: Write>(
-    out: &mut W,
-    state: &State,
-    insn: &Insn,
-    access: Access,
-) -> io::Result<()> {
+fn tell_access<W: Tell>(out: &mut W, state: &State, insn: &Insn, access: Access) {
     if !is_pointer(state, access.base) {
         let (name, off) = (register(access.base), Offset(access.off));
         let held = known_register(state.reg(access.base));
@@ -152,7 +141,7 @@ fn tell_access<W: Write>(
 }
 
 /// C4: operands or slots are of the wrong kinds.
-pub fn tell_kinds<'a, W: Write>(out: &mut W, sight: &Sight<'a>) -> io::Result<()> {
+pub fn tell_kinds<'a, W: Tell>(out: &mut W, sight: &Sight<'a>) {
     let state = &sight.before;
     match sight.insn {
         Insn::Alu {

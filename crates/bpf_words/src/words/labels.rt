@@ -1,32 +1,32 @@
 //! Why conditions fail at a label, at a function, or at the start.
 
 use crate::known::{Known, Name, Written};
+use crate::page::Tell;
 use crate::places::{PLACES, content, place_at, state_at};
 use crate::words::edges::first_difference;
 use bpf_cert::{Function, Label, Measure, Term};
 use bpf_check::{Cause, Index, begins_elsewhere, function_at, greatest_budget, label_at, place_of};
 use bpf_insn::Code;
 use bpf_state::{Place, SlotState, State};
-use std::io::{self, Write};
 
 /// C2: a label is at no instruction's first slot.
-fn tell_place<W: Write, C: Code>(out: &mut W, program: &C, slot: u32) -> io::Result<()> {
+fn tell_place<W: Tell, C: Code>(out: &mut W, program: &C, slot: u32) {
     let slots = program.slots();
     if slot < slots {
         write!(
             out,
             "the label stands at the second slot of a wide instruction"
-        )
+        );
     } else {
         write!(
             out,
             "the label stands behind the program's end: it has {slots} slots"
-        )
+        );
     }
 }
 
 /// C9: a term counts what is no number, or what may be above its limit.
-fn tell_term<W: Write>(out: &mut W, label: &Label, term: &Term) -> io::Result<()> {
+fn tell_term<W: Tell>(out: &mut W, label: &Label, term: &Term) {
     let place = place_of(term);
     let name = Name(place);
     let held = content(&state_at(label), place);
@@ -36,14 +36,14 @@ fn tell_term<W: Write>(out: &mut W, label: &Label, term: &Term) -> io::Result<()
             write!(
                 out,
                 "the label counts {name} up to {limit}, and {name} is {held}"
-            )
+            );
         }
         _ => {
             let held = Known(held);
             write!(
                 out,
                 "the label counts {name}, which is {held} and no number"
-            )
+            );
         }
     }
 }
@@ -63,12 +63,7 @@ fn empty_place(label: &Label) -> Option<Place> {
 }
 
 /// C13: a label lies outside of its function, or has no member.
-fn tell_shape<W: Write>(
-    out: &mut W,
-    certificate: &Index,
-    function: &Function,
-    label: &Label,
-) -> io::Result<()> {
+fn tell_shape<W: Tell>(out: &mut W, certificate: &Index, function: &Function, label: &Label) {
     let first = function.first;
     match function_at(certificate, label.slot) {
         Some(owner) if owner.first == first => {}
@@ -90,14 +85,14 @@ fn tell_shape<W: Write>(
         Some(place) => {
             let name = Name(place);
             let said = Written(place, content(&state_at(label), place));
-            write!(out, "no number is {said}, as the label says of {name}")
+            write!(out, "no number is {said}, as the label says of {name}");
         }
         None => write!(out, "the label's state has no member"),
     }
 }
 
 /// Tells why a condition fails at a label. A bad term is told by `bad`.
-pub fn tell_label<W: Write, C: Code>(
+pub fn tell_label<W: Tell, C: Code>(
     out: &mut W,
     program: &C,
     certificate: &Index,
@@ -105,42 +100,38 @@ pub fn tell_label<W: Write, C: Code>(
     label: &Label,
     cause: Cause,
     bad: Option<Term>,
-) -> io::Result<()> {
+) {
     match (cause, bad) {
         (Cause::MisplacedLabel, _) => tell_place(out, program, label.slot),
         (Cause::OverBudget, Some(term)) => tell_term(out, label, &term),
         (Cause::Misshapen, _) => tell_shape(out, certificate, function, label),
-        _ => Ok(()),
+        _ => {}
     }
 }
 
 /// C13: a function has no label where it begins.
-pub fn tell_function<W: Write>(out: &mut W, function: &Function) -> io::Result<()> {
+pub fn tell_function<W: Tell>(out: &mut W, function: &Function) {
     let first = function.first;
     write!(
         out,
         "the function at slot {first} has no label where it begins"
-    )
+    );
 }
 
 /// C13: the start doesn't lie in the label at slot 0.
-fn tell_outside<W: Write>(out: &mut W, start: &State, label: &Label) -> io::Result<()> {
-    match first_difference(start, &state_at(label)) {
-        Some(place) => {
-            let name = Name(place);
-            let held = Known(content(start, place));
-            let said = Written(place, content(&state_at(label), place));
-            write!(
-                out,
-                "{name} at the start is {held}; the label at slot 0 says {said}"
-            )
-        }
-        None => Ok(()),
+fn tell_outside<W: Tell>(out: &mut W, start: &State, label: &Label) {
+    if let Some(place) = first_difference(start, &state_at(label)) {
+        let (name, held) = (Name(place), Known(content(start, place)));
+        let said = Written(place, content(&state_at(label), place));
+        write!(
+            out,
+            "{name} at the start is {held}; the label at slot 0 says {said}"
+        );
     }
 }
 
 /// Tells why a condition fails at the start.
-pub fn tell_start<W: Write>(out: &mut W, certificate: &Index, cause: Cause) -> io::Result<()> {
+pub fn tell_start<W: Tell>(out: &mut W, certificate: &Index, cause: Cause) {
     certificate.valid();
     let start = State::start(certificate.least(), certificate.most());
     if let Cause::Misshapen = cause {
@@ -149,18 +140,18 @@ pub fn tell_start<W: Write>(out: &mut W, certificate: &Index, cause: Cause) -> i
         }
     }
     let Some(label) = label_at(certificate, 0) else {
-        return Ok(());
+        return;
     };
     if let Cause::OverBudget = cause {
         let steps = certificate.steps();
         let unit = if steps == 1 { "step" } else { "steps" };
-        return match greatest_budget(label, &start) {
-            Some(most) => write!(
+        if let Some(most) = greatest_budget(label, &start) {
+            write!(
                 out,
                 "the budget at slot 0 is up to {most} at the start, and the certificate promises {steps} {unit}"
-            ),
-            None => Ok(()),
-        };
+            );
+        }
+        return;
     }
-    tell_outside(out, &start, label)
+    tell_outside(out, &start, label);
 }

@@ -2,6 +2,7 @@
 
 use crate::effects::{Access, Reach, access_of};
 use crate::known::{Name, Offset, known_register};
+use crate::page::Tell;
 use crate::places::content;
 use crate::sight::Sight;
 use crate::words::register;
@@ -9,7 +10,6 @@ use bpf_check::Index;
 use bpf_insn::{Insn, Operand};
 use bpf_state::{FRAME_START, Place, SlotState, State};
 use std::fmt;
-use std::io::{self, Write};
 
 fn verb(access: Access) -> &'static str {
     match (access.reads, access.writes) {
@@ -33,48 +33,44 @@ impl fmt::Display for Touch {
 }
 
 /// `: `, and the byte that lies outside of the context or the frame.
-fn tell_outside<W: Write>(out: &mut W, certificate: &Index, reach: Reach) -> io::Result<()> {
+fn tell_outside<W: Tell>(out: &mut W, certificate: &Index, reach: Reach) {
     let (first, last) = (reach.first, reach.last);
     let least = certificate.least();
     if reach.in_frame {
         if first < FRAME_START {
-            write!(out, ": byte {first} of a frame from -512 to -1")
+            write!(out, ": byte {first} of a frame from -512 to -1");
         } else {
-            write!(out, ": byte {last} of a frame from -512 to -1")
+            write!(out, ": byte {last} of a frame from -512 to -1");
         }
     } else if last >= i64::from(least) {
         let unit = if least == 1 { "byte" } else { "bytes" };
-        write!(out, ": byte {last} of a context of {least} {unit}")
+        write!(out, ": byte {last} of a context of {least} {unit}");
     } else {
-        write!(out, ": byte {first}, in front of the context")
+        write!(out, ": byte {first}, in front of the context");
     }
 }
 
 /// The registers of an operation that moves a pointer too far.
-fn tell_far<W: Write>(out: &mut W, state: &State, insn: &Insn) -> io::Result<()> {
+fn tell_far<W: Tell>(out: &mut W, state: &State, insn: &Insn) {
     write!(
         out,
         "the pointer may leave its bounds, -2147483648 to 2147483648"
-    )?;
+    );
     let Insn::Alu { dst, src, .. } = *insn else {
-        return Ok(());
+        return;
     };
     let (name, held) = (register(dst), known_register(state.reg(dst)));
     match src {
         Operand::Reg(src) => {
             let (other, more) = (register(src), known_register(state.reg(src)));
-            write!(out, ": {name} is {held} and {other} is {more}")
+            write!(out, ": {name} is {held} and {other} is {more}");
         }
         Operand::Imm(_) => write!(out, ": {name} is {held}"),
     }
 }
 
 /// C5: an access may leave the context or the frame, or a pointer its bounds.
-pub fn tell_bounds<'a, W: Write>(
-    out: &mut W,
-    certificate: &Index,
-    sight: &Sight<'a>,
-) -> io::Result<()> {
+pub fn tell_bounds<'a, W: Tell>(out: &mut W, certificate: &Index, sight: &Sight<'a>) {
     let state = &sight.before;
     let Some(access) = access_of(&sight.insn) else {
         return tell_far(out, state, &sight.insn);
@@ -84,10 +80,9 @@ pub fn tell_bounds<'a, W: Write>(
         known_register(state.reg(access.base)),
     );
     let touch = Touch(access);
-    write!(out, "{touch}, {name} is {held}")?;
-    match access.reach(state) {
-        Some(reach) => tell_outside(out, certificate, reach),
-        None => Ok(()),
+    write!(out, "{touch}, {name} is {held}");
+    if let Some(reach) = access.reach(state) {
+        tell_outside(out, certificate, reach);
     }
 }
 
@@ -118,7 +113,7 @@ fn unknown_slot(state: &State, reach: Reach) -> Option<(u8, u8)> {
 }
 
 /// C6: a stack byte that may be read isn't known to be initialised.
-pub fn tell_unknown_bytes<'a, W: Write>(out: &mut W, sight: &Sight<'a>) -> io::Result<()> {
+pub fn tell_unknown_bytes<'a, W: Tell>(out: &mut W, sight: &Sight<'a>) {
     let Some(access) = access_of(&sight.insn) else {
         return write!(out, "reads bytes that aren't known to be initialised");
     };
@@ -130,21 +125,21 @@ pub fn tell_unknown_bytes<'a, W: Write>(out: &mut W, sight: &Sight<'a>) -> io::R
     match found {
         Some((slot, 0)) => {
             let name = Name(Place::Slot(slot));
-            write!(out, "{touch}: no byte of {name} is known to be initialised")
+            write!(out, "{touch}: no byte of {name} is known to be initialised");
         }
         Some((slot, known)) => {
             let name = Name(Place::Slot(slot));
             write!(
                 out,
                 "{touch}: of {name} only the bytes b{known} are known to be initialised"
-            )
+            );
         }
         None => write!(out, "{touch}"),
     }
 }
 
 /// C7: the context or r10 is written.
-pub fn tell_protected<'a, W: Write>(out: &mut W, sight: &Sight<'a>) -> io::Result<()> {
+pub fn tell_protected<'a, W: Tell>(out: &mut W, sight: &Sight<'a>) {
     match access_of(&sight.insn) {
         Some(access) if access.writes => {
             let held = known_register(sight.before.reg(access.base));
@@ -152,7 +147,7 @@ pub fn tell_protected<'a, W: Write>(out: &mut W, sight: &Sight<'a>) -> io::Resul
             write!(
                 out,
                 "{touch}, {name} is {held}: the context may only be read"
-            )
+            );
         }
         _ => write!(out, "writes r10, which stays at the frame's end"),
     }

@@ -2,10 +2,10 @@
 
 ghost use Rattle.std.specs.Prelude.{◌≤◌};
 
+use crate::page::Tell;
 use crate::sight::Sight;
 use bpf_check::{Index, callee, function_at, goes_on, jump_target};
 use bpf_insn::{Code, Insn};
-use std::io::{self, Write};
 
 /// Why no state goes on to an instruction without a label.
 #[derive(Clone, Copy, PartialEq, Eq)]
@@ -19,11 +19,11 @@ pub enum Silence {
 }
 
 /// C11: no state reaches an instruction.
-pub fn tell_silence<W: Write>(out: &mut W, silence: Silence) -> io::Result<()> {
+pub fn tell_silence<W: Tell>(out: &mut W, silence: Silence) {
     match silence {
         Silence::Start => write!(out, "no state goes on here: no label stands at slot 0"),
         Silence::Refused(slot) => {
-            write!(out, "no state goes on behind the refusal at slot {slot}")
+            write!(out, "no state goes on behind the refusal at slot {slot}");
         }
         Silence::Ends(slot) => write!(
             out,
@@ -33,42 +33,37 @@ pub fn tell_silence<W: Write>(out: &mut W, silence: Silence) -> io::Result<()> {
 }
 
 /// C11: the last instruction can go on.
-pub fn tell_end<W: Write>(out: &mut W) -> io::Result<()> {
+pub fn tell_end<W: Tell>(out: &mut W) {
     write!(
         out,
         "goes on past the program's end: the last instruction must be an exit or a jump"
-    )
+    );
 }
 
 /// C1: no label stands at a jump's target.
-pub fn tell_missing_label<'a, W: Write>(out: &mut W, sight: &Sight<'a>) -> io::Result<()> {
+pub fn tell_missing_label<'a, W: Tell>(out: &mut W, sight: &Sight<'a>) {
     if sight.slot > 65_535 {
-        return Ok(());
+        return;
     }
-    match jump_target(sight.slot, &sight.insn) {
-        Some(to) => write!(out, "jumps to slot {to}, where no label stands"),
-        None => Ok(()),
+    if let Some(to) = jump_target(sight.slot, &sight.insn) {
+        write!(out, "jumps to slot {to}, where no label stands");
     }
 }
 
 /// C10: a callee's depth isn't below its caller's.
-pub fn tell_depth<'a, W: Write>(
-    out: &mut W,
-    certificate: &Index,
-    sight: &Sight<'a>,
-) -> io::Result<()> {
+pub fn tell_depth<'a, W: Tell>(out: &mut W, certificate: &Index, sight: &Sight<'a>) {
     if sight.slot > 65_535 {
-        return Ok(());
+        return;
     }
     let called = callee(certificate, sight.slot, &sight.insn);
     let (Some(callee), Some(caller)) = (called, function_at(certificate, sight.slot)) else {
-        return Ok(());
+        return;
     };
     let (first, depth, own) = (callee.first, callee.depth, caller.depth);
     write!(
         out,
         "calls the function at slot {first} of depth {depth} from depth {own}: a callee's depth must be below its caller's"
-    )
+    );
 }
 
 /// Whether a slot lies in the function that begins at `first`.
@@ -79,14 +74,14 @@ fn lies_in(certificate: &Index, slot: u32, first: u32) -> bool {
     }
 }
 
-fn tell_nowhere<W: Write>(out: &mut W, slot: u32, off: i32) -> io::Result<()> {
+fn tell_nowhere<W: Tell>(out: &mut W, slot: u32, off: i32) {
     let to = i64::from(slot)
         .saturating_add(1)
         .saturating_add(i64::from(off));
     write!(
         out,
         "calls slot {to}, where no function of the certificate begins"
-    )
+    );
 }
 
 /// Where a jump or the next instruction leads out of the function that begins at `first`.
@@ -112,14 +107,14 @@ fn way_out<'a, C: Code>(
 }
 
 /// C12: a jump or the next instruction lies in another function, or a call leads to none.
-pub fn tell_leaving<'a, W: Write, C: Code>(
+pub fn tell_leaving<'a, W: Tell, C: Code>(
     out: &mut W,
     program: &C,
     certificate: &Index,
     sight: &Sight<'a>,
-) -> io::Result<()> {
+) {
     if sight.slot > 65_535 {
-        return Ok(());
+        return;
     }
     if let Insn::CallLocal { off } = sight.insn {
         if callee(certificate, sight.slot, &sight.insn).is_none() {
@@ -127,14 +122,13 @@ pub fn tell_leaving<'a, W: Write, C: Code>(
         }
     }
     let Some(function) = function_at(certificate, sight.slot) else {
-        return Ok(());
+        return;
     };
     let first = function.first;
-    match way_out(program, certificate, sight, first) {
-        Some((leads, to)) => write!(
+    if let Some((leads, to)) = way_out(program, certificate, sight, first) {
+        write!(
             out,
             "{leads} slot {to}, out of the function at slot {first}"
-        ),
-        None => Ok(()),
+        );
     }
 }
