@@ -9,13 +9,13 @@ words=(--crate-type staticlib --antt-project "$kit/rattle/logic/antt-project.jso
 words+=(--toolchain "$kit/toolchain" -L "dependency=$kit/rlibs" --extern "std=$kit/rlibs/std.rlib" --links "$name=")
 for library in $(sed -n "s/^$name staticlib://p" "$root/crates.txt"); do
     case $library in
-    bpf_*)
-        built=$root/crates/$library/out/rlib
-        words+=(-L "dependency=$built")
-        ;;
+    bpf_*) built=$root/crates/$library/out/rlib ;;
     *) built=$kit/rlibs ;;
     esac
     words+=(--extern "$library=$built/$library.rlib")
+done
+for built in "$root"/crates/*/out/rlib; do
+    words+=(-L "dependency=$built")
 done
 cd "$root/crates/$name"
 mkdir -p out
