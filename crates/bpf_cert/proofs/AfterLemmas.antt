@@ -7,7 +7,7 @@ use Rattle.bpf_cert.specs.Numeral.{number, is_from_to}
 use Rattle.bpf_cert.specs.Line.{Line, Number, Term}
 use Rattle.bpf_cert.specs.Faults.{is_canonical, is_limited, may_stand, is_in_order, has_room, is_function, is_label, ends_bare}
 use Rattle.bpf_cert.specs.code.Standing.{Stands, ruled}
-use Rattle.bpf_cert.specs.declared.finding.Flaw.TheVariants.{Syntax, NotCanonical, Limit}
+use Rattle.bpf_cert.specs.declared.finding.PartFault.TheVariants.{Syntax, NotCanonical, Limit}
 use Rattle.bpf_cert.specs.declared.standing.Stage.TheVariants as stage
 use Rattle.bpf_cert.specs.declared.standing.Standing.{Standing}
 use Rattle.bpf_cert.proofs.Bools.{both_true}

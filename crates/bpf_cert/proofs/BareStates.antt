@@ -4,11 +4,11 @@ use Rattle.std.specs.Prelude.{◌&&◌, is_none, replicate}
 use Rattle.std.specs.List.{list_all}
 use Rattle.std.proofs.lemmas.Int.{ints}
 use Rattle.bpf_insn.specs.declared.instruction.Reg.TheVariants.{R10}
-use Rattle.bpf_state.specs.declared.state.RegState.{RegState}
-use Rattle.bpf_state.specs.declared.state.RegState.TheVariants as reg
-use Rattle.bpf_state.specs.declared.state.Area.{Area}
-use Rattle.bpf_state.specs.declared.state.Area.TheVariants as area
-use Rattle.bpf_state.specs.State.{AbstractState, IsState, register, is_frame, start_of, blank, no_tags}
+use Rattle.bpf_state.specs.declared.known.RegState.{RegState}
+use Rattle.bpf_state.specs.declared.known.RegState.TheVariants as reg
+use Rattle.bpf_state.specs.declared.known.Area.{Area}
+use Rattle.bpf_state.specs.declared.known.Area.TheVariants as area
+use Rattle.bpf_state.specs.State.{AbstractState, IsAbstractState, register, is_frame, start_of, blank, no_tags}
 use Rattle.bpf_state.specs.Bare.{bare}
 use Rattle.bpf_cert.specs.Numeral.{int_eq}
 use Rattle.bpf_cert.specs.Limits.{is_frame_end, is_canonical_state}
@@ -37,7 +37,7 @@ frame_end reg.Any e = cc
 frame_end (reg.Num n) e = cc
 frame_end (reg.Ptr p) e = ap reg.Ptr (at_end p.area p.lo p.hi e)
 
-pub bare_canonical : (s : AbstractState) → IsState s → is_canonical_state s ≡ true → bare s ≡ s
+pub bare_canonical : (s : AbstractState) → IsAbstractState s → is_canonical_state s ≡ true → bare s ≡ s
 bare_canonical s is e =
     let parts = both_true (is_frame_end (register s R10) && list_all is_none s.register_tags) (list_all is_none s.slot_tags) e in
     let front = both_true (is_frame_end (register s R10)) (list_all is_none s.register_tags) parts.0 in

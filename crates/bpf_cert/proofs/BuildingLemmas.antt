@@ -6,12 +6,12 @@ use Rattle.std.proofs.Common.{take, length, get_or, refl}
 use Rattle.std.proofs.Math.ListN.{set}
 use Rattle.bpf_insn.specs.declared.instruction.Reg.{Reg}
 use Rattle.bpf_insn.specs.Instruction.{register_number}
-use Rattle.bpf_state.specs.State.{value_slot, AbstractState, IsState, register, slot}
-use Rattle.bpf_state.specs.declared.state.Place.{Place}
-use Rattle.bpf_state.specs.declared.state.RegState.{RegState}
-use Rattle.bpf_state.specs.declared.state.RegState.TheVariants as reg
-use Rattle.bpf_state.specs.declared.state.SlotState.{SlotState}
-use Rattle.bpf_state.specs.declared.state.SlotState.TheVariants as slot
+use Rattle.bpf_state.specs.State.{value_slot, AbstractState, IsAbstractState, register, slot}
+use Rattle.bpf_state.specs.declared.known.Place.{Place}
+use Rattle.bpf_state.specs.declared.known.RegState.{RegState}
+use Rattle.bpf_state.specs.declared.known.RegState.TheVariants as reg
+use Rattle.bpf_state.specs.declared.known.SlotState.{SlotState}
+use Rattle.bpf_state.specs.declared.known.SlotState.TheVariants as slot
 use Rattle.bpf_cert.specs.Spelling.{contents}
 use Rattle.bpf_cert.specs.code.Building.{Puts, index_of}
 use Rattle.bpf_cert.specs.code.Sound.{IsLabelState}
@@ -29,7 +29,7 @@ contents_register registers slots i value content few long e =
 pub contents_slot : (front slots : List SlotState) (k : ℕ) (content : SlotState) → length front ≡ 10 → 1 ≤ k → k ≤ 64 → front ++ set slots (k - 1) content ≡ set (front ++ slots) (9 + k) content
 contents_slot front slots k content long low high = let same : 9 + k - 10 ≡ k - 1 = omega arith in ap (λ i. front ++ set slots i content) (sym same) ∙ sym (set-append_right front slots 10 (9 + k) content long (omega arith))
 
-pub front_length : (s : AbstractState) → IsState s → length (map value_slot (take 10 s.registers)) ≡ 10
+pub front_length : (s : AbstractState) → IsAbstractState s → length (map value_slot (take 10 s.registers)) ≡ 10
 front_length s st = let long : length s.registers ≡ 11 = st.register_count in omega (arith, length-map (take 10 s.registers) value_slot, length-take-le 10 s.registers (omega arith))
 
 -- a register of which nothing is said, and a slot
@@ -39,7 +39,7 @@ no_value (reg.Num n) e = cc
 no_value (reg.Ptr p) e = cc
 
 -- what a state holds, by its index
-pub content_register : (s : AbstractState) (i : ℕ) → i < 10 → IsState s → get_or (contents s) i (slot.Bytes 0) ≡ value_slot (get_or s.registers i reg.Any)
+pub content_register : (s : AbstractState) (i : ℕ) → i < 10 → IsAbstractState s → get_or (contents s) i (slot.Bytes 0) ≡ value_slot (get_or s.registers i reg.Any)
 content_register s i few is =
     let long : length s.registers ≡ 11 = is.register_count in
     let front : length (map value_slot (take 10 s.registers)) ≡ 10 = front_length s is in
@@ -48,20 +48,20 @@ content_register s i few is =
     ∙ get_or-map value_slot (take 10 s.registers) i reg.Any (slot.Bytes 0) (omega arith)
     ∙ ap value_slot (get_or-take 10 s.registers i reg.Any (omega arith))
 
-pub content_slot : (s : AbstractState) (j k : ℕ) → j ≡ 10 + k → IsState s → get_or (contents s) j (slot.Bytes 0) ≡ get_or s.slots k (slot.Bytes 0)
+pub content_slot : (s : AbstractState) (j k : ℕ) → j ≡ 10 + k → IsAbstractState s → get_or (contents s) j (slot.Bytes 0) ≡ get_or s.slots k (slot.Bytes 0)
 content_slot s j k e is =
     let front : length (map value_slot (take 10 s.registers)) ≡ 10 = front_length s is in
     let same : j - 10 ≡ k = omega arith in
     get_or-append_right (map value_slot (take 10 s.registers)) s.slots j (slot.Bytes 0) (omega arith) ∙ ap (λ n. get_or s.slots n (slot.Bytes 0)) (ap (λ n. j - n) front ∙ same)
 
-pub register_unsaid : (s : AbstractState) (r : Reg) → register_number r ≤ 9 → IsState s → get_or (contents s) (register_number r) (slot.Bytes 0) ≡ slot.Bytes 0 → register s r ≡ reg.Any
+pub register_unsaid : (s : AbstractState) (r : Reg) → register_number r ≤ 9 → IsAbstractState s → get_or (contents s) (register_number r) (slot.Bytes 0) ≡ slot.Bytes 0 → register s r ≡ reg.Any
 register_unsaid s r few is e = no_value (register s r) (sym (content_register s (register_number r) (omega arith) is) ∙ e)
 
-pub slot_unsaid : (s : AbstractState) (k : ℕ) → 1 ≤ k → IsState s → get_or (contents s) (9 + k) (slot.Bytes 0) ≡ slot.Bytes 0 → slot s k ≡ slot.Bytes 0
+pub slot_unsaid : (s : AbstractState) (k : ℕ) → 1 ≤ k → IsAbstractState s → get_or (contents s) (9 + k) (slot.Bytes 0) ≡ slot.Bytes 0 → slot s k ≡ slot.Bytes 0
 slot_unsaid s k low is e = sym (content_slot s (9 + k) (k - 1) (omega arith) is) ∙ e
 
 -- a builder in which the state of the last label alone is another one
-pub puts : (place : Place) (content : SlotState) (old : Builder) (state new : AbstractState) → new ≡ state → IsState old.label.state → contents state ≡ set (contents old.label.state) (index_of place) content
+pub puts : (place : Place) (content : SlotState) (old : Builder) (state new : AbstractState) → new ≡ state → IsAbstractState old.label.state → contents state ≡ set (contents old.label.state) (index_of place) content
     → (IsLabelState old.label.state → IsLabelState state) → Puts place content old (record old { label = record old.label { state = new } })
 puts place content old state new e is said sound =
     record {

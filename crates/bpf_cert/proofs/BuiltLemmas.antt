@@ -10,12 +10,12 @@ use Rattle.bpf_cert.specs.Line.{Line}
 use Rattle.bpf_cert.specs.Faults.{is_canonical, is_limited, has_room, judged, may_stand, is_in_order, comes_after, place_before, last_place, is_ended}
 use Rattle.bpf_cert.specs.Reading.{line_in}
 use Rattle.bpf_cert.specs.View.{label_view}
-use Rattle.bpf_cert.specs.Spelling.{is_unknown, contents, header_line, label_lines, label_line, lines_from, entry_lines, place_at, place_of, content_of}
+use Rattle.bpf_cert.specs.Spelling.{is_unknown, contents, header_line, label_lines, label_line, lines_from, entry_lines, place_at, spelled_place, content_of}
 use Rattle.bpf_cert.specs.code.Standing.{Stands, IsEntry, ruled, stage_of, is_start, may_have_label, may_have_entry}
 use Rattle.bpf_cert.specs.code.Sound.{IsSound}
 use Rattle.bpf_cert.specs.code.Building.{IsBuilt, IsOpen, Closes, ClosesLabel, Puts, Takes, closed_lines, open_lines, lines_at, index_of, next_index, fault_at}
-use Rattle.bpf_cert.specs.declared.finding.Flaw.{Flaw}
-use Rattle.bpf_cert.specs.declared.finding.Flaw.TheVariants as flaws
+use Rattle.bpf_cert.specs.declared.finding.PartFault.{PartFault}
+use Rattle.bpf_cert.specs.declared.finding.PartFault.TheVariants as flaws
 use Rattle.bpf_cert.specs.declared.error.CertError.{CertError}
 use Rattle.bpf_cert.specs.declared.certificate.Label.{Label}
 use Rattle.bpf_cert.specs.Limits.{is_limited_place}
@@ -25,10 +25,10 @@ use Rattle.bpf_cert.specs.declared.building.Builder.{Builder}
 use Rattle.bpf_cert.specs.declared.header.Header.{Header}
 use Rattle.bpf_insn.specs.Instruction.{register_number}
 use Rattle.bpf_state.specs.State.{blank}
-use Rattle.bpf_state.specs.declared.state.Place.{Place}
-use Rattle.bpf_state.specs.declared.state.Place.TheVariants as place
-use Rattle.bpf_state.specs.declared.state.SlotState.{SlotState}
-use Rattle.bpf_state.specs.declared.state.SlotState.TheVariants as slot
+use Rattle.bpf_state.specs.declared.known.Place.{Place}
+use Rattle.bpf_state.specs.declared.known.Place.TheVariants as place
+use Rattle.bpf_state.specs.declared.known.SlotState.{SlotState}
+use Rattle.bpf_state.specs.declared.known.SlotState.TheVariants as slot
 use Rattle.bpf_cert.proofs.Bools.{both_true}
 use Rattle.bpf_cert.proofs.NumeralLaws.{numeral-decimal}
 use Rattle.bpf_cert.proofs.LineLaws.{line_spelled}
@@ -140,7 +140,7 @@ closes_label_rest stage.Function old mid g e c = rw c.keeps.header (ap (λ r. he
 closes_label_rest stage.Label old mid g e c = rw c.keeps.header (ap (λ r. header_line old.header ∷ r) (c.label e))
 closes_label_rest stage.Ended old mid g e c = absurd g
 
-no_place : (o : Option Place) → option_map place_of o ≡ None → o ≡ None
+no_place : (o : Option Place) → option_map spelled_place o ≡ None → o ≡ None
 no_place None e = refl
 no_place (Some p) e = cc
 
@@ -193,7 +193,7 @@ behind_put (suc i) [] v = refl
 behind_put (suc i) (x ∷ xs) v = let same : suc i + 1 ≡ suc (i + 1) = omega arith in rw same (behind_put i xs v)
 
 -- the place of an entry, by its index
-index_place : (p : Place) → is_limited_place p ≡ true → place_at (index_of p) ≡ place_of p
+index_place : (p : Place) → is_limited_place p ≡ true → place_at (index_of p) ≡ spelled_place p
 index_place (place.Register r) e = let few : register_number r ≤ 9 = leb-true (register_number r) 9 e in rw (lt-ltb (register_number r) 10 (omega arith)) refl
 index_place (place.Slot k) e =
     let ends = both_true (leb 1 k) (leb k 64) e in let low : 1 ≤ k = leb-true 1 k ends.0 in
@@ -207,7 +207,7 @@ index_inside (place.Slot k) e = let ends = both_true (leb 1 k) (leb k 64) e in l
 rises : (i j : ℕ) → i < 2 ^ 16 → j < 2 ^ 16 → ltb (number (decimal i)) (number (decimal j)) ≡ true → i < j
 rises i j a b e = let x = (numeral-decimal i (omega arith)).1 in let y = (numeral-decimal j (omega arith)).1 in ltb-true i j (sym (ap (λ n. ltb n (number (decimal j))) x ∙ ap (ltb i) y) ∙ e)
 
-index_rises : (o : Option Place) (p : Place) → IfSome o (λ q. is_limited_place q ≡ true) → is_limited_place p ≡ true → comes_after place_before (option_map place_of o) (place_of p) ≡ true → next_index o ≤ index_of p
+index_rises : (o : Option Place) (p : Place) → IfSome o (λ q. is_limited_place q ≡ true) → is_limited_place p ≡ true → comes_after place_before (option_map spelled_place o) (spelled_place p) ≡ true → next_index o ≤ index_of p
 index_rises None p f g e = omega arith
 index_rises (Some (place.Register r)) (place.Register t) f g e =
     let low : register_number r ≤ 9 = leb-true (register_number r) 9 f in let high : register_number t ≤ 9 = leb-true (register_number t) 9 g in
@@ -221,25 +221,25 @@ index_rises (Some (place.Slot j)) (place.Slot k) f g e =
 
 -- a label's lines with one entry more
 entry_more : (old mid : Builder) (p : Place) (v : SlotState) (next : ℕ) → IsEntry p v → Puts p v old mid → next ≤ index_of p → list_all is_unknown (drop next (contents old.label.state)) ≡ true
-    → label_lines (label_view mid.label) ≡ label_lines (label_view old.label) ++ Line.entry (place_of p) (content_of v) ∷ []
+    → label_lines (label_view mid.label) ≡ label_lines (label_view old.label) ++ Line.entry (spelled_place p) (content_of v) ∷ []
 entry_more old mid p v next entry puts room bare_places =
     let i = index_of p in
     let inside : i < length (contents old.label.state) = subst (λ n. i < n) (sym puts.long) (index_inside p entry.limited) in
     let zero_more : 0 + i ≡ i = omega arith in
-    let said : lines_from 0 (contents mid.label.state) ≡ lines_from 0 (contents old.label.state) ++ Line.entry (place_of p) (content_of v) ∷ [] =
+    let said : lines_from 0 (contents mid.label.state) ≡ lines_from 0 (contents old.label.state) ++ Line.entry (spelled_place p) (content_of v) ∷ [] =
     ap (lines_from 0) puts.said ∙ lines_put 0 i (contents old.label.state) v inside (later next i (contents old.label.state) room bare_places)
     ∙ ap (λ n. lines_from 0 (contents old.label.state) ++ entry_lines (place_at n) v) zero_more ∙ ap (λ q. lines_from 0 (contents old.label.state) ++ entry_lines q v) (index_place p entry.limited)
-    ∙ ap (λ b. lines_from 0 (contents old.label.state) ++ cond b [] (Line.entry (place_of p) (content_of v) ∷ [])) entry.known.known in
+    ∙ ap (λ b. lines_from 0 (contents old.label.state) ++ cond b [] (Line.entry (spelled_place p) (content_of v) ∷ [])) entry.known.known in
     rw (puts.slot, puts.budget) (ap (λ ls. label_line (label_view old.label) ∷ ls) said)
 
-pub built_entry : (lines : List Line) (old mid new : Builder) (l : Line) (p : Place) (v : SlotState) → IsBuilt lines old → ruled lines (Some l) ≡ Ok l → l ≡ Line.entry (place_of p) (content_of v) → Stands (l ∷ lines) new.standing
+pub built_entry : (lines : List Line) (old mid new : Builder) (l : Line) (p : Place) (v : SlotState) → IsBuilt lines old → ruled lines (Some l) ≡ Ok l → l ≡ Line.entry (spelled_place p) (content_of v) → Stands (l ∷ lines) new.standing
     → IsEntry p v → Puts p v old mid → new.standing.place ≡ Some p → new.header ≡ mid.header → closed_lines new ≡ closed_lines mid → open_lines new ≡ open_lines mid → new.label ≡ mid.label → IsSound new → IsBuilt (l ∷ lines) new
 built_entry lines old mid new l p v built fine e stands entry puts at a same opened labels sound =
     let f = ruled_fine lines l l fine in
-    let may : may_have_entry (stage_of lines) ≡ true = sym (stand_entry lines (place_of p) (content_of v)) ∙ ap (may_stand lines) (sym e) ∙ f.stands in
+    let may : may_have_entry (stage_of lines) ≡ true = sym (stand_entry lines (spelled_place p) (content_of v)) ∙ ap (may_stand lines) (sym e) ∙ f.stands in
     let was : old.standing.stage ≡ stage.Label = built.stands.stage ∙ in_label lines may in
     let now : new.standing.stage ≡ stage.Label = stands.stage ∙ ap (λ x. stage_of (x ∷ lines)) e in
-    let order : comes_after place_before (option_map place_of old.standing.place) (place_of p) ≡ true = ap (λ o. comes_after place_before o (place_of p)) built.stands.place ∙ ap (is_in_order lines) (sym e) ∙ f.order in
+    let order : comes_after place_before (option_map spelled_place old.standing.place) (spelled_place p) ≡ true = ap (λ o. comes_after place_before o (spelled_place p)) built.stands.place ∙ ap (is_in_order lines) (sym e) ∙ f.order in
     let room : next_index old.standing.place ≤ index_of p = index_rises old.standing.place p built.stands.low_place entry.limited order in
     let bare_places : list_all is_unknown (drop (next_index old.standing.place) (contents old.label.state)) ≡ true = subst (λ s. IsOpen s old.standing.place old.label.state) was built.open_places in
     let here : label_lines (label_view new.label) ≡ label_lines (label_view old.label) ++ l ∷ [] = ap (λ x. label_lines (label_view x)) labels ∙ entry_more old mid p v (next_index old.standing.place) entry puts room bare_places ∙ ap (λ x. label_lines (label_view old.label) ++ x ∷ []) (sym e) in
@@ -266,7 +266,7 @@ ruled_some lines (Some m) l e = by_tests (may_stand lines m) (is_canonical m && 
     by_tests true false c e = cc
     by_tests false b c e = cc
 
-abbrev faulted : ℕ → Result Line Flaw → Result Line CertError
+abbrev faulted : ℕ → Result Line PartFault → Result Line CertError
 faulted n (Ok l) = Ok l
 faulted n (Err f) = Err (fault_at n f)
 
@@ -286,7 +286,7 @@ judged_is n lines text (Some l) short e = judged_tests n lines text l (may_stand
 pub judged_fine : (n : ℕ) (lines : List Line) (text : List ℕ) (l : Line) → length text ≤ 256 → ruled lines (line_in text) ≡ Ok l → judged n lines text ≡ Ok l
 judged_fine n lines text l short e = judged_is n lines text (line_in text) short refl ∙ ap (faulted n) e
 
-pub takes_flaw : (n : ℕ) (lines : List Line) (text : List ℕ) (new : Builder) (flaw : Flaw) → length text ≤ 256 → ruled lines (line_in text) ≡ Err flaw → Takes n lines text new (Err (fault_at n flaw))
+pub takes_flaw : (n : ℕ) (lines : List Line) (text : List ℕ) (new : Builder) (flaw : PartFault) → length text ≤ 256 → ruled lines (line_in text) ≡ Err flaw → Takes n lines text new (Err (fault_at n flaw))
 takes_flaw n lines text new flaws.Syntax short e = judged_is n lines text (line_in text) short refl ∙ ap (faulted n) e
 takes_flaw n lines text new flaws.NotCanonical short e = judged_is n lines text (line_in text) short refl ∙ ap (faulted n) e
 takes_flaw n lines text new flaws.Limit short e = judged_is n lines text (line_in text) short refl ∙ ap (faulted n) e
@@ -305,13 +305,13 @@ unknown_in (suc n) zero (x ∷ xs) h e = absurd (omega arith)
 unknown_in (suc n) (suc i) (x ∷ xs) h e = unknown_in n i xs (omega arith) e
 
 -- nothing was said of the place of an entry that is fine
-pub unsaid_place : (lines : List Line) (old : Builder) (l : Line) (p : Place) (v : SlotState) → IsBuilt lines old → ruled lines (Some l) ≡ Ok l → l ≡ Line.entry (place_of p) (content_of v) → IsEntry p v
+pub unsaid_place : (lines : List Line) (old : Builder) (l : Line) (p : Place) (v : SlotState) → IsBuilt lines old → ruled lines (Some l) ≡ Ok l → l ≡ Line.entry (spelled_place p) (content_of v) → IsEntry p v
     → get_or (contents old.label.state) (index_of p) (slot.Bytes 0) ≡ slot.Bytes 0
 unsaid_place lines old l p v built fine e entry =
     let f = ruled_fine lines l l fine in
-    let may : may_have_entry (stage_of lines) ≡ true = sym (stand_entry lines (place_of p) (content_of v)) ∙ ap (may_stand lines) (sym e) ∙ f.stands in
+    let may : may_have_entry (stage_of lines) ≡ true = sym (stand_entry lines (spelled_place p) (content_of v)) ∙ ap (may_stand lines) (sym e) ∙ f.stands in
     let was : old.standing.stage ≡ stage.Label = built.stands.stage ∙ in_label lines may in
-    let order : comes_after place_before (option_map place_of old.standing.place) (place_of p) ≡ true = ap (λ o. comes_after place_before o (place_of p)) built.stands.place ∙ ap (is_in_order lines) (sym e) ∙ f.order in
+    let order : comes_after place_before (option_map spelled_place old.standing.place) (spelled_place p) ≡ true = ap (λ o. comes_after place_before o (spelled_place p)) built.stands.place ∙ ap (is_in_order lines) (sym e) ∙ f.order in
     let room : next_index old.standing.place ≤ index_of p = index_rises old.standing.place p built.stands.low_place entry.limited order in
     let bare_places : list_all is_unknown (drop (next_index old.standing.place) (contents old.label.state)) ≡ true = subst (λ s. IsOpen s old.standing.place old.label.state) was built.open_places in
     unknown_in (next_index old.standing.place) (index_of p) (contents old.label.state) room bare_places

@@ -4,7 +4,7 @@ use Rattle.std.proofs.lemmas.Bool.{le-ltb}
 use Rattle.bpf_cert.specs.Line.{Line, line_text}
 use Rattle.bpf_cert.specs.Reading.{line_in}
 use Rattle.bpf_cert.specs.Spelling.{lines_text}
-use Rattle.bpf_cert.specs.Faults.{judged, rest_fault, fault_from, fault_of, complete}
+use Rattle.bpf_cert.specs.Faults.{judged, rest_fault, fault_from, text_fault, complete}
 use Rattle.bpf_lines.specs.Taken.{IsOneLine}
 use Rattle.bpf_cert.proofs.AfterLemmas.{IsFine}
 use Rattle.bpf_cert.proofs.FineLines.{AreFine, IsWritten, AreWritten}
@@ -30,8 +30,8 @@ faultless_from n before (l ∷ ls) f w = ap (fault_from complete n before) (piec
     ∙ next_fine complete n before (line_text l) (lines_text (ls ++ Line.end ∷ [])) l f.0 (judged_written n before l f.1 w.0)
     ∙ faultless_from (n + 1) (l ∷ before) ls f.2 w.1
 
-pub fine_faultless : (ls : List Line) → AreFine [] (ls ++ Line.end ∷ []) → AreWritten (ls ++ Line.end ∷ []) → fault_of complete (lines_text (ls ++ Line.end ∷ [])) ≡ None
-unfolding fault_of
+pub fine_faultless : (ls : List Line) → AreFine [] (ls ++ Line.end ∷ []) → AreWritten (ls ++ Line.end ∷ []) → text_fault complete (lines_text (ls ++ Line.end ∷ [])) ≡ None
+unfolding text_fault
 fine_faultless ls f w = faultless_from 1 [] ls f w
 
 same_line : (l m : Line) → IsWritten l → IsWritten m → line_text l ≡ line_text m → l ≡ m

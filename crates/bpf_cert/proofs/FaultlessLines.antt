@@ -6,7 +6,7 @@ use Rattle.std.proofs.lemmas.List.Splits.{join_with_byte-slice_split}
 use Rattle.bpf_cert.specs.Line.{Line, is_line, line_text}
 use Rattle.bpf_cert.specs.Reading.{line_in}
 use Rattle.bpf_cert.specs.Spelling.{lines_text}
-use Rattle.bpf_cert.specs.Faults.{is_canonical, is_limited, may_stand, is_in_order, has_room, judged, rest_fault, fault_from, fault_of, is_ended, complete}
+use Rattle.bpf_cert.specs.Faults.{is_canonical, is_limited, may_stand, is_in_order, has_room, judged, rest_fault, fault_from, text_fault, is_ended, complete}
 use Rattle.bpf_cert.specs.declared.error.CertError.{CertError}
 use Rattle.bpf_cert.specs.declared.error.CertError.TheVariants.{Syntax, NotCanonical, Limit}
 use Rattle.bpf_cert.specs.Certificates.{FaultlessIsSpelled}
@@ -105,7 +105,7 @@ joined_lines (l ∷ []) = sym (append_assoc (line_text l) (10 ∷ []) [])
 joined_lines (l ∷ m ∷ ls) = ap (λ z. line_text l ++ 10 ∷ z) (joined_lines (m ∷ ls)) ∙ sym (append_assoc (line_text l) (10 ∷ []) (lines_text (m ∷ ls)))
 
 pub spelled : FaultlessIsSpelled
-unfolding fault_of
+unfolding text_fault
 spelled text e =
     let s = pieces_some text in
     let has = has_lines 1 [] s.0 s.1 refl (ap (fault_from complete 1 []) (sym s.2) ∙ e) in

@@ -3,7 +3,7 @@ use Rattle.std.proofs.Common.{◌≡◌, ℕ, ◌+◌, ◌<◌, Bool, true, fals
 use Rattle.std.specs.List.{onto_first}
 use Rattle.std.proofs.lemmas.Bool.{ltb-true}
 use Rattle.bpf_cert.specs.Line.{Line}
-use Rattle.bpf_cert.specs.Faults.{judged, rest_fault, fault_from, fault_of, is_ended, Ending, complete, failed, unknown}
+use Rattle.bpf_cert.specs.Faults.{judged, rest_fault, fault_from, text_fault, is_ended, Ending, complete, failed, unknown}
 use Rattle.bpf_cert.specs.declared.error.CertError.{CertError}
 use Rattle.bpf_cert.specs.declared.error.CertError.TheVariants.{Syntax, Limit}
 use Rattle.bpf_cert.specs.Certificates.{FaultStays}
@@ -59,8 +59,8 @@ from_stays e n before (p ∷ q ∷ ps) w ws f bad = let s = going_some (q ∷ ps
     by_cases false (Err k) v vs g h s next bad = let same : Some k ≡ Some f = rw (g, h) at bad in rw (s, g, h) same
     by_cases false (Ok l) v vs g h s next bad = let after : fault_from unknown (n + 1) (l ∷ before) (q ∷ ps) ≡ Some f = rw (g, h) at bad in let goes = next l after in rw (s, g, h) (rw s at goes)
 
-stays_so : (e : Ending) (text more : List ℕ) (f : CertError) → fault_of unknown text ≡ Some f → fault_of e (text ++ more) ≡ Some f
-unfolding fault_of
+stays_so : (e : Ending) (text more : List ℕ) (f : CertError) → text_fault unknown text ≡ Some f → text_fault e (text ++ more) ≡ Some f
+unfolding text_fault
 stays_so e text more f bad = let s = pieces_some more in ap (fault_from e 1 []) (pieces_more text more s.0 s.1 s.2) ∙ from_stays e 1 [] (pieces text) s.0 s.1 f bad
 
 pub stays : FaultStays

@@ -3,8 +3,8 @@ use Rattle.std.proofs.Common.{◌≡◌, Bool, true, false, cond, not, List, [],
 use Rattle.std.specs.Prelude.{◌&&◌}
 use Rattle.std.specs.List.{list_all}
 use Rattle.bpf_cert.specs.code.Findings.{tested, joined, valued}
-use Rattle.bpf_cert.specs.declared.finding.Flaw.{Flaw}
-use Rattle.bpf_cert.specs.declared.finding.Flaw.TheVariants.{NotCanonical, Limit}
+use Rattle.bpf_cert.specs.declared.finding.PartFault.{PartFault}
+use Rattle.bpf_cert.specs.declared.finding.PartFault.TheVariants.{NotCanonical, Limit}
 
 -- what is found in a form is what its tests say
 pub found_tested : {A : Type 0} (a b : Bool) (x : A) → cond (not a) (Err NotCanonical) (cond (not b) (Err Limit) (Ok x)) ≡ valued (λ (u : Unit {0}). x) (tested a b)
@@ -38,7 +38,7 @@ joined_valued false b true false x = refl
 joined_valued false b false d x = refl
 
 -- where nothing is refused, neither finding refuses
-pub joined_ok : {A : Type 0} (r : Result (Unit {0}) Flaw) (s : Result A Flaw) (x : A) → joined r s ≡ Ok x → (r ≡ Ok tt) × (s ≡ Ok x)
+pub joined_ok : {A : Type 0} (r : Result (Unit {0}) PartFault) (s : Result A PartFault) (x : A) → joined r s ≡ Ok x → (r ≡ Ok tt) × (s ≡ Ok x)
 joined_ok (Ok u) s x e = (refl, e)
 joined_ok (Err f) (Ok y) x e = cc
 joined_ok (Err f) (Err g) x e = cc

@@ -15,9 +15,9 @@ use Rattle.bpf_cert.specs.code.Standing.{stage_of, may_have_label, may_have_entr
 use Rattle.bpf_cert.specs.declared.standing.Stage.{Stage}
 use Rattle.bpf_cert.specs.declared.standing.Stage.TheVariants as stage
 use Rattle.bpf_state.specs.State.{AbstractState, value_slot}
-use Rattle.bpf_state.specs.declared.state.RegState.{RegState}
-use Rattle.bpf_state.specs.declared.state.RegState.TheVariants as reg
-use Rattle.bpf_state.specs.declared.state.SlotState.{SlotState}
+use Rattle.bpf_state.specs.declared.known.RegState.{RegState}
+use Rattle.bpf_state.specs.declared.known.RegState.TheVariants as reg
+use Rattle.bpf_state.specs.declared.known.SlotState.{SlotState}
 use Rattle.bpf_cert.proofs.Bools.{both_true}
 use Rattle.bpf_cert.proofs.AfterLemmas.{IsFine}
 use Rattle.bpf_cert.proofs.FineLines.{AreFine}

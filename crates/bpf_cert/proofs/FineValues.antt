@@ -5,21 +5,21 @@ use Rattle.std.specs.List.{list_all}
 use Rattle.std.proofs.lemmas.Bool.{leb-true, ltb-true, ltb-false, lt-ltb, le-leb, and_from}
 use Rattle.std.proofs.lemmas.Int.{ints}
 use Rattle.bpf_cert.specs.Numeral.{is_plain_signed, digits_of_int, signed_number, is_from_to, number}
-use Rattle.bpf_cert.specs.Line.{Place}
-use Rattle.bpf_cert.specs.Faults.{is_rising, is_pointer_range, is_canonical_content, is_limited_content, is_plain_place, is_limited_place, is_plain_measure, is_limited_measure, is_limited_term, place_before, place_of as line_place}
+use Rattle.bpf_cert.specs.Line.{PlaceText}
+use Rattle.bpf_cert.specs.Faults.{is_rising, is_pointer_range, is_canonical_content, is_limited_content, is_plain_place, is_limited_place, is_plain_measure, is_limited_measure, is_limited_term, place_before, line_place}
 use Rattle.bpf_cert.specs.code.TermSums.{is_plain_term, term_before}
-use Rattle.bpf_cert.specs.Limits.{is_limited_slot, is_limited_place as is_limited_value, is_limited_measure as is_limited_measured, is_limited_term as is_limited_termed, place_before as value_before, place_in, term_before as termed_before}
-use Rattle.bpf_cert.specs.Spelling.{is_unknown, bounds_in, content_of, place_at, place_of, measure_of, term_of}
+use Rattle.bpf_cert.specs.Limits.{is_limited_slot, is_limited_place as is_limited_value, is_limited_measure as is_limited_measured, is_limited_term as is_limited_termed, place_before as value_before, place_measured, term_before as termed_before}
+use Rattle.bpf_cert.specs.Spelling.{is_unknown, bounds_in, content_of, place_at, spelled_place, measure_of, term_of}
 use Rattle.bpf_cert.specs.declared.certificate.Term.{Term as TermValue}
 use Rattle.bpf_cert.specs.declared.certificate.Measure.{Measure}
 use Rattle.bpf_cert.specs.declared.certificate.Measure.TheVariants as measure
 use Rattle.bpf_insn.specs.Instruction.{register_number}
-use Rattle.bpf_state.specs.declared.state.Area.{Area}
-use Rattle.bpf_state.specs.declared.state.Area.TheVariants as area
-use Rattle.bpf_state.specs.declared.state.SlotState.{SlotState}
-use Rattle.bpf_state.specs.declared.state.SlotState.TheVariants as slot
-use Rattle.bpf_state.specs.declared.state.Place.{Place as PlaceValue}
-use Rattle.bpf_state.specs.declared.state.Place.TheVariants as place
+use Rattle.bpf_state.specs.declared.known.Area.{Area}
+use Rattle.bpf_state.specs.declared.known.Area.TheVariants as area
+use Rattle.bpf_state.specs.declared.known.SlotState.{SlotState}
+use Rattle.bpf_state.specs.declared.known.SlotState.TheVariants as slot
+use Rattle.bpf_state.specs.declared.known.Place.{Place as PlaceValue}
+use Rattle.bpf_state.specs.declared.known.Place.TheVariants as place
 use Rattle.bpf_cert.proofs.Bools.{both_true}
 use Rattle.bpf_cert.proofs.NumLemmas.{in_range}
 use Rattle.bpf_cert.proofs.FineParts.{decimal_writes, digits_write, number_good}
@@ -43,7 +43,7 @@ content_good (slot.Bytes m) e some = let few : m ≤ 254 = leb-true m 254 e in l
 content_good (slot.Word n) e some = number_good n e
 content_good (slot.Spilled p) e some = bounds_good p.area p.lo p.hi e
 
-pub place_good : (p : PlaceValue) → is_limited_value p ≡ true → (is_plain_place (place_of p) ≡ true) × (is_limited_place (place_of p) ≡ true)
+pub place_good : (p : PlaceValue) → is_limited_value p ≡ true → (is_plain_place (spelled_place p) ≡ true) × (is_limited_place (spelled_place p) ≡ true)
 place_good (place.Register r) e = let few : register_number r ≤ 9 = leb-true (register_number r) 9 e in let d = decimal_writes (register_number r) (omega arith) in (d.plain, rw d.same e)
 place_good (place.Slot k) e =
     let ends = both_true (leb 1 k) (leb k 64) e in let few : k ≤ 64 = leb-true k 64 ends.1 in
@@ -53,7 +53,7 @@ place_good (place.Slot k) e =
 pub place_at_good : (j : ℕ) → j < 74 → (is_plain_place (place_at j) ≡ true) × (is_limited_place (place_at j) ≡ true)
 place_at_good j inside = by_test (ltb j 10) refl
   where
-    by_test : (b : Bool) → ltb j 10 ≡ b → (is_plain_place (cond b (Place.register (decimal j)) (Place.slot (decimal (j - 9)))) ≡ true) × (is_limited_place (cond b (Place.register (decimal j)) (Place.slot (decimal (j - 9)))) ≡ true)
+    by_test : (b : Bool) → ltb j 10 ≡ b → (is_plain_place (cond b (PlaceText.register (decimal j)) (PlaceText.slot (decimal (j - 9)))) ≡ true) × (is_limited_place (cond b (PlaceText.register (decimal j)) (PlaceText.slot (decimal (j - 9)))) ≡ true)
     by_test true e = let low : j < 10 = ltb-true j 10 e in let d = decimal_writes j (omega arith) in (d.plain, rw d.same (le-leb j 9 (omega arith)))
     by_test false e = let high : 10 ≤ j = ltb-false j 10 e in let d = decimal_writes (j - 9) (omega arith) in
         (d.plain, rw d.same (and_from (leb 1 (j - 9)) (leb (j - 9) 64) (le-leb 1 (j - 9) (omega arith)) (le-leb (j - 9) 64 (omega arith))))
@@ -62,7 +62,7 @@ place_at_good j inside = by_test (ltb j 10) refl
 pub places_rise : (i j : ℕ) → i < j → j < 74 → place_before (place_at i) (place_at j) ≡ true
 places_rise i j h inside = by_tests (ltb i 10) (ltb j 10) refl refl
   where
-    by_tests : (a b : Bool) → ltb i 10 ≡ a → ltb j 10 ≡ b → place_before (cond a (Place.register (decimal i)) (Place.slot (decimal (i - 9)))) (cond b (Place.register (decimal j)) (Place.slot (decimal (j - 9)))) ≡ true
+    by_tests : (a b : Bool) → ltb i 10 ≡ a → ltb j 10 ≡ b → place_before (cond a (PlaceText.register (decimal i)) (PlaceText.slot (decimal (i - 9)))) (cond b (PlaceText.register (decimal j)) (PlaceText.slot (decimal (j - 9)))) ≡ true
     by_tests true true e f = let x = decimal_writes i (omega arith) in let y = decimal_writes j (omega arith) in rw (x.same, y.same) (lt-ltb i j h)
     by_tests true false e f = refl
     by_tests false true e f = let high : 10 ≤ i = ltb-false i 10 e in let low : j < 10 = ltb-true j 10 f in absurd (omega arith)
@@ -72,7 +72,7 @@ rises_same : (i j : ℕ) → i < 2 ^ 64 → j < 2 ^ 64 → ltb i j ≡ true → 
 rises_same i j a b e = let x = decimal_writes i a in let y = decimal_writes j b in rw (x.same, y.same) e
 
 -- places in order are spelled in order
-pub place_rises : (p q : PlaceValue) → is_limited_value p ≡ true → is_limited_value q ≡ true → value_before p q ≡ true → place_before (place_of p) (place_of q) ≡ true
+pub place_rises : (p q : PlaceValue) → is_limited_value p ≡ true → is_limited_value q ≡ true → value_before p q ≡ true → place_before (spelled_place p) (spelled_place q) ≡ true
 place_rises (place.Register r) (place.Register t) e f g =
     let a : register_number r ≤ 9 = leb-true (register_number r) 9 e in let b : register_number t ≤ 9 = leb-true (register_number t) 9 f in
     rises_same (register_number r) (register_number t) (omega arith) (omega arith) g
@@ -106,11 +106,11 @@ terms_good (t ∷ ts) e =
     let rest = terms_good ts parts.1 in
     (rw (here.0, rest.0) refl, rw (here.1, rest.1) refl)
 
-measure_place : (m : Measure) (w : List ℕ) → line_place (record { weight = w; measure = measure_of m }) ≡ place_of (place_in m)
+measure_place : (m : Measure) (w : List ℕ) → line_place (record { weight = w; measure = measure_of m }) ≡ spelled_place (place_measured m)
 measure_place (measure.Down p) w = refl
 measure_place (measure.Up p limit) w = refl
 
-measured_place : (m : Measure) → is_limited_measured m ≡ true → is_limited_value (place_in m) ≡ true
+measured_place : (m : Measure) → is_limited_measured m ≡ true → is_limited_value (place_measured m) ≡ true
 measured_place (measure.Down p) e = e
 measured_place (measure.Up p limit) e = (both_true (ltb limit (2 ^ 64)) (is_limited_value p) e).1
 
@@ -118,7 +118,7 @@ term_rises : (t u : TermValue) → is_limited_termed t ≡ true → is_limited_t
 term_rises t u e f g =
     let a = measured_place t.measure (both_true (is_from_to 1 (2 ^ 20) t.weight) (is_limited_measured t.measure) e).1 in
     let b = measured_place u.measure (both_true (is_from_to 1 (2 ^ 20) u.weight) (is_limited_measured u.measure) f).1 in
-    rw (measure_place t.measure (decimal t.weight), measure_place u.measure (decimal u.weight)) (place_rises (place_in t.measure) (place_in u.measure) a b g)
+    rw (measure_place t.measure (decimal t.weight), measure_place u.measure (decimal u.weight)) (place_rises (place_measured t.measure) (place_measured u.measure) a b g)
 
 pub terms_rise : (ts : List TermValue) → list_all is_limited_termed ts ≡ true → is_rising termed_before ts ≡ true → is_rising term_before (map term_of ts) ≡ true
 terms_rise [] e f = refl

@@ -4,18 +4,18 @@ use Rattle.std.specs.Prelude.{◌&&◌, option_map, decimal, codes, count_by}
 use Rattle.std.specs.List.{list_all, slice_split}
 use Rattle.std.specs.Str.{bytes_eq}
 use Rattle.bpf_cert.specs.Numeral.{is_plain, number, is_from_to}
-use Rattle.bpf_cert.specs.Line.{Line, Place, Number, Content, Term, Lengths}
+use Rattle.bpf_cert.specs.Line.{Line, PlaceText, Number, Content, Term, Lengths}
 use Rattle.bpf_cert.specs.Faults.{is_canonical, is_limited, comes_after, place_before, last_first, last_slot, is_function, ends_bare, is_canonical_number, is_limited_number, is_canonical_content, is_limited_content, is_plain_place, is_limited_place, is_rising, is_limited_term}
 use Rattle.bpf_cert.specs.Reading.{number_in, content_in, header_in, function_in, label_in, entry_in, end_in, line_in, line_of_fields}
 use Rattle.bpf_cert.specs.code.Findings.{tested, found, joined, valued}
 use Rattle.bpf_cert.specs.code.TermSums.{terms_in, are_canonical_terms, are_limited_terms, is_plain_term, term_before}
-use Rattle.bpf_cert.specs.Spelling.{place_of}
+use Rattle.bpf_cert.specs.Spelling.{spelled_place}
 use Rattle.bpf_cert.specs.code.Standing.{Stands, HeaderIs, FunctionIs, LabelIs, EntryIs, stage_of, is_start, may_have_label, may_have_entry, ruled, fields_in, uncons}
 use Rattle.bpf_cert.specs.code.Seen.{header_seen}
 use Rattle.bpf_cert.specs.declared.header.HeaderForm.{HeaderForm}
 use Rattle.bpf_cert.specs.declared.header.HeaderForm.TheVariants as header
-use Rattle.bpf_cert.specs.declared.finding.Flaw.{Flaw}
-use Rattle.bpf_cert.specs.declared.finding.Flaw.TheVariants.{Syntax}
+use Rattle.bpf_cert.specs.declared.finding.PartFault.{PartFault}
+use Rattle.bpf_cert.specs.declared.finding.PartFault.TheVariants.{Syntax}
 use Rattle.bpf_cert.specs.declared.standing.Standing.{Standing}
 use Rattle.bpf_cert.proofs.Bools.{both_true}
 use Rattle.bpf_cert.proofs.NumLemmas.{tested_ok}
@@ -45,7 +45,7 @@ header_ruled before fs f b form e g = rw form.1 (by_form f)
     by_form (header.Range least most steps) = by_lengths (Lengths.range least.now most.now) steps.now
 
 -- what is computed of a function's own fields
-pub record FunctionFacts (before : List Line) (s : Standing) (fs : List (List ℕ)) (first depth text : List ℕ) (slot deep : ℕ) (plain rise canonical mid limited room all : Bool) (own : Result (Unit {0}) Flaw) : Type 0 where
+pub record FunctionFacts (before : List Line) (s : Standing) (fs : List (List ℕ)) (first depth text : List ℕ) (slot deep : ℕ) (plain rise canonical mid limited room all : Bool) (own : Result (Unit {0}) PartFault) : Type 0 where
   pub stands : Stands before s
   pub form : FunctionIs fs (Some (first, depth, text))
   pub slot_is : slot ≡ min (number first) (2 ^ 64)
@@ -75,8 +75,8 @@ swap_last true false true = refl
 swap_last true false false = refl
 swap_last false b c = refl
 
-pub function_found : {V : Type 0} (before : List Line) (s : Standing) (fs : List (List ℕ)) (first depth text : List ℕ) (slot deep : ℕ) (plain rise canonical mid limited room all : Bool) (own : Result (Unit {0}) Flaw)
-    (spell : V → Number) (r j : Result V Flaw) (b : Bool) → FunctionFacts before s fs first depth text slot deep plain rise canonical mid limited room all own → b ≡ is_start (stage_of before) → b ≡ false
+pub function_found : {V : Type 0} (before : List Line) (s : Standing) (fs : List (List ℕ)) (first depth text : List ℕ) (slot deep : ℕ) (plain rise canonical mid limited room all : Bool) (own : Result (Unit {0}) PartFault)
+    (spell : V → Number) (r j : Result V PartFault) (b : Bool) → FunctionFacts before s fs first depth text slot deep plain rise canonical mid limited room all own → b ≡ is_start (stage_of before) → b ≡ false
     → valued spell r ≡ found is_canonical_number is_limited_number (number_in text) → j ≡ joined own r → valued (Line.function first depth) (valued spell j) ≡ ruled before (function_in fs)
 function_found before s fs first depth text slot deep plain rise canonical mid limited room all own spell r j b f e g value h =
     judged_line before is_canonical_number is_limited_number canonical all (Line.function first depth) spell (number_in text) r j own (function_in fs) (f.form.2)
@@ -90,8 +90,8 @@ function_found before s fs first depth text slot deep plain rise canonical mid l
     ∙ ap (λ x. (x && room) && is_limited_number n) (sym f.limited_is) ∙ ap (λ x. x && is_limited_number n) (sym f.all_is))
     f.own_is value h
 
-pub function_spelled : {V : Type 0} (before : List Line) (s : Standing) (fs : List (List ℕ)) (first depth text : List ℕ) (slot deep : ℕ) (plain rise canonical mid limited room all : Bool) (own : Result (Unit {0}) Flaw)
-    (r : Result V Flaw) (v : V) → FunctionFacts before s fs first depth text slot deep plain rise canonical mid limited room all own → Ok v ≡ joined own r → (decimal slot ≡ first) × (decimal deep ≡ depth)
+pub function_spelled : {V : Type 0} (before : List Line) (s : Standing) (fs : List (List ℕ)) (first depth text : List ℕ) (slot deep : ℕ) (plain rise canonical mid limited room all : Bool) (own : Result (Unit {0}) PartFault)
+    (r : Result V PartFault) (v : V) → FunctionFacts before s fs first depth text slot deep plain rise canonical mid limited room all own → Ok v ≡ joined own r → (decimal slot ≡ first) × (decimal deep ≡ depth)
 function_spelled before s fs first depth text slot deep plain rise canonical mid limited room all own r v f h =
     let t = tested_ok canonical all tt (sym f.own_is ∙ (joined_ok own r v (sym h)).0) in
     let plains = both_true (is_plain first) (is_plain depth) (sym f.plain_is ∙ (both_true plain rise (sym f.canonical_is ∙ t.0)).0) in
@@ -105,7 +105,7 @@ pub function_never : (before : List Line) (fs : List (List ℕ)) (first depth te
 function_never before fs first depth text b form e f = ruled_never before (Line.function first depth) (number_in text) (λ n. stand_function before first depth n ∙ ap not (sym e ∙ f)) ∙ ap (ruled before) (sym form.2)
 
 -- what is computed of a label's own fields
-pub record LabelFacts (before : List Line) (s : Standing) (fs : List (List ℕ)) (at base : List ℕ) (text : Option (List ℕ)) (slot most : ℕ) (plain rise canonical limited all : Bool) (own : Result (Unit {0}) Flaw) : Type 0 where
+pub record LabelFacts (before : List Line) (s : Standing) (fs : List (List ℕ)) (at base : List ℕ) (text : Option (List ℕ)) (slot most : ℕ) (plain rise canonical limited all : Bool) (own : Result (Unit {0}) PartFault) : Type 0 where
   pub stands : Stands before s
   pub form : LabelIs fs (Some (at, base, text))
   pub slot_is : slot ≡ min (number at) (2 ^ 64)
@@ -129,8 +129,8 @@ four_canonical true false r true = refl
 four_canonical true false r false = refl
 four_canonical false q r o = refl
 
-pub label_found : {V : Type 0} (before : List Line) (s : Standing) (fs : List (List ℕ)) (at base : List ℕ) (text : Option (List ℕ)) (slot most : ℕ) (plain rise canonical limited all : Bool) (own : Result (Unit {0}) Flaw)
-    (spell : V → List Term) (r j : Result V Flaw) (b : Bool) → LabelFacts before s fs at base text slot most plain rise canonical limited all own → b ≡ may_have_label (stage_of before) → b ≡ true
+pub label_found : {V : Type 0} (before : List Line) (s : Standing) (fs : List (List ℕ)) (at base : List ℕ) (text : Option (List ℕ)) (slot most : ℕ) (plain rise canonical limited all : Bool) (own : Result (Unit {0}) PartFault)
+    (spell : V → List Term) (r j : Result V PartFault) (b : Bool) → LabelFacts before s fs at base text slot most plain rise canonical limited all own → b ≡ may_have_label (stage_of before) → b ≡ true
     → valued spell r ≡ found are_canonical_terms are_limited_terms (terms_in text) → j ≡ joined own r → valued (Line.label at base) (valued spell j) ≡ ruled before (label_in fs)
 label_found before s fs at base text slot most plain rise canonical limited all own spell r j b f e g value h =
     judged_line before are_canonical_terms are_limited_terms canonical all (Line.label at base) spell (terms_in text) r j own (label_in fs) (f.form.2)
@@ -144,8 +144,8 @@ label_found before s fs at base text slot most plain rise canonical limited all 
     ∙ ap (λ x. (x && ltb s.labels 65536) && are_limited_terms ts) (sym f.limited_is) ∙ ap (λ x. x && are_limited_terms ts) (sym f.all_is))
     f.own_is value h
 
-pub label_spelled : {V : Type 0} (before : List Line) (s : Standing) (fs : List (List ℕ)) (at base : List ℕ) (text : Option (List ℕ)) (slot most : ℕ) (plain rise canonical limited all : Bool) (own : Result (Unit {0}) Flaw)
-    (r : Result V Flaw) (v : V) → LabelFacts before s fs at base text slot most plain rise canonical limited all own → Ok v ≡ joined own r → (decimal slot ≡ at) × (decimal most ≡ base)
+pub label_spelled : {V : Type 0} (before : List Line) (s : Standing) (fs : List (List ℕ)) (at base : List ℕ) (text : Option (List ℕ)) (slot most : ℕ) (plain rise canonical limited all : Bool) (own : Result (Unit {0}) PartFault)
+    (r : Result V PartFault) (v : V) → LabelFacts before s fs at base text slot most plain rise canonical limited all own → Ok v ≡ joined own r → (decimal slot ≡ at) × (decimal most ≡ base)
 label_spelled before s fs at base text slot most plain rise canonical limited all own r v f h =
     let t = tested_ok canonical all tt (sym f.own_is ∙ (joined_ok own r v (sym h)).0) in
     let plains = both_true (is_plain at) (is_plain base) (sym f.plain_is ∙ (both_true plain rise (sym f.canonical_is ∙ t.0)).0) in
@@ -158,17 +158,17 @@ pub label_never : (before : List Line) (fs : List (List ℕ)) (at base : List �
 label_never before fs at base text b form e f = ruled_never before (Line.label at base) (terms_in text) (λ ts. stand_label before at base ts ∙ sym e ∙ f) ∙ ap (ruled before) (sym form.2)
 
 -- what is computed of an entry's place
-pub record EntryFacts (before : List Line) (s : Standing) (name : List ℕ) (fs : List (List ℕ)) (p : Place) (text : List ℕ) (plain rise canonical limited : Bool) (own : Result (Unit {0}) Flaw) : Type 0 where
+pub record EntryFacts (before : List Line) (s : Standing) (name : List ℕ) (fs : List (List ℕ)) (p : PlaceText) (text : List ℕ) (plain rise canonical limited : Bool) (own : Result (Unit {0}) PartFault) : Type 0 where
   pub stands : Stands before s
   pub form : EntryIs name fs (Some (p, text))
   pub plain_is : plain ≡ is_plain_place p
-  pub rise_is : rise ≡ comes_after place_before (option_map place_of s.place) p
+  pub rise_is : rise ≡ comes_after place_before (option_map spelled_place s.place) p
   pub canonical_is : canonical ≡ (plain && rise)
   pub limited_is : limited ≡ is_limited_place p
   pub own_is : own ≡ tested canonical limited
 
-pub entry_found : {V : Type 0} (before : List Line) (s : Standing) (name : List ℕ) (fs : List (List ℕ)) (p : Place) (text : List ℕ) (plain rise canonical limited : Bool) (own : Result (Unit {0}) Flaw)
-    (spell : V → Content) (r j : Result V Flaw) (b : Bool) → EntryFacts before s name fs p text plain rise canonical limited own → b ≡ may_have_entry (stage_of before) → b ≡ true
+pub entry_found : {V : Type 0} (before : List Line) (s : Standing) (name : List ℕ) (fs : List (List ℕ)) (p : PlaceText) (text : List ℕ) (plain rise canonical limited : Bool) (own : Result (Unit {0}) PartFault)
+    (spell : V → Content) (r j : Result V PartFault) (b : Bool) → EntryFacts before s name fs p text plain rise canonical limited own → b ≡ may_have_entry (stage_of before) → b ≡ true
     → valued spell r ≡ found is_canonical_content is_limited_content (content_in p text) → j ≡ joined own r → valued (Line.entry p) (valued spell j) ≡ ruled before (entry_in name fs)
 entry_found before s name fs p text plain rise canonical limited own spell r j b f e g value h =
     judged_line before is_canonical_content is_limited_content canonical limited (Line.entry p) spell (content_in p text) r j own (entry_in name fs) (f.form.1)
@@ -178,12 +178,12 @@ entry_found before s name fs p text plain rise canonical limited own spell r j b
     (λ c. and_true (is_limited_place p && is_limited_content c) ∙ ap (λ x. x && is_limited_content c) (sym f.limited_is))
     f.own_is value h
 
-pub entry_plain : {V : Type 0} (before : List Line) (s : Standing) (name : List ℕ) (fs : List (List ℕ)) (p : Place) (text : List ℕ) (plain rise canonical limited : Bool) (own : Result (Unit {0}) Flaw)
-    (r : Result V Flaw) (v : V) → own ≡ tested canonical limited → canonical ≡ (plain && rise) → plain ≡ is_plain_place p → limited ≡ is_limited_place p → Ok v ≡ joined own r → (is_plain_place p ≡ true) × (is_limited_place p ≡ true)
+pub entry_plain : {V : Type 0} (before : List Line) (s : Standing) (name : List ℕ) (fs : List (List ℕ)) (p : PlaceText) (text : List ℕ) (plain rise canonical limited : Bool) (own : Result (Unit {0}) PartFault)
+    (r : Result V PartFault) (v : V) → own ≡ tested canonical limited → canonical ≡ (plain && rise) → plain ≡ is_plain_place p → limited ≡ is_limited_place p → Ok v ≡ joined own r → (is_plain_place p ≡ true) × (is_limited_place p ≡ true)
 entry_plain before s name fs p text plain rise canonical limited own r v o c q l h =
     let t = tested_ok canonical limited tt (sym o ∙ (joined_ok own r v (sym h)).0) in (sym q ∙ (both_true plain rise (sym c ∙ t.0)).0, sym l ∙ t.1)
 
-pub entry_never : (before : List Line) (name : List ℕ) (fs : List (List ℕ)) (p : Place) (text : List ℕ) (b : Bool) → EntryIs name fs (Some (p, text)) → b ≡ may_have_entry (stage_of before) → b ≡ false → Err Syntax ≡ ruled before (entry_in name fs)
+pub entry_never : (before : List Line) (name : List ℕ) (fs : List (List ℕ)) (p : PlaceText) (text : List ℕ) (b : Bool) → EntryIs name fs (Some (p, text)) → b ≡ may_have_entry (stage_of before) → b ≡ false → Err Syntax ≡ ruled before (entry_in name fs)
 entry_never before name fs p text b form e f = ruled_never before (Line.entry p) (content_in p text) (λ c. stand_entry before p c ∙ sym e ∙ f) ∙ ap (ruled before) (sym form.1)
 
 pub end_none : (before : List Line) (fs more : List (List ℕ)) (f : List ℕ) → Some (f, more) ≡ uncons fs → Err Syntax ≡ ruled before (end_in fs)

@@ -5,7 +5,7 @@ use Rattle.std.specs.List.{slice_split, onto_first, join_with_byte, list_all}
 use Rattle.std.specs.Str.{bytes_eq}
 use Rattle.std.proofs.lemmas.Bool.{eq-eqb, ne_eqb, leb-true}
 use Rattle.bpf_cert.specs.Numeral.{is_numeral, is_decimal_digit, SignedDigits}
-use Rattle.bpf_cert.specs.Line.{Part, Number, Content, Place, Measure, Term, Lengths, Line, signed_text, range_text, part_text, number_text, content_text, place_text, measure_text, term_text, fields, line_text, is_part, is_number, is_content, is_place, is_measure, is_term, is_line}
+use Rattle.bpf_cert.specs.Line.{Part, Number, Content, PlaceText, Measure, Term, Lengths, Line, signed_text, range_text, part_text, number_text, content_text, place_text, measure_text, term_text, fields, line_text, is_part, is_number, is_content, is_place, is_measure, is_term, is_line}
 use Rattle.bpf_cert.specs.Reading.{◌>>=◌, or_else, all_there, cut, behind, numeral_in, end_in, signed_in, range_in, part_in, number_in, pointer_in, bytes_in, content_in, place_in, place_closed_in, measure_in, term_in, one_length_in, two_lengths_in, header_in, function_in, label_in, entry_in, line_of_fields, line_in}
 use Rattle.bpf_cert.proofs.Bools.{both_true}
 
@@ -153,58 +153,58 @@ number_free (Number.parts []) e = cc
 number_free (Number.parts (p ∷ ps)) e = joined_free 32 44 (map part_text (p ∷ ps)) refl (all_free 32 part_text is_part (part_free 32 space) (p ∷ ps) e)
 
 -- a number's text is of no other content
-only_number : (q : Place) (p : Part) (ps : List Part) → content_in q (number_text (Number.parts (p ∷ ps))) ≡ (number_in (number_text (Number.parts (p ∷ ps))) >>= λ n. Some (Content.number n))
+only_number : (q : PlaceText) (p : Part) (ps : List Part) → content_in q (number_text (Number.parts (p ∷ ps))) ≡ (number_in (number_text (Number.parts (p ∷ ps))) >>= λ n. Some (Content.number n))
 unfolding content_in pointer_in bytes_in behind ◌>>=◌ or_else
-only_number (Place.register i) (Part.unsigned lo hi) [] = refl
-only_number (Place.register i) (Part.unsigned lo hi) (r ∷ rs) = refl
-only_number (Place.register i) (Part.signed lo hi) [] = refl
-only_number (Place.register i) (Part.signed lo hi) (r ∷ rs) = refl
-only_number (Place.register i) (Part.bits v m) [] = refl
-only_number (Place.register i) (Part.bits v m) (r ∷ rs) = refl
-only_number (Place.slot i) (Part.unsigned lo hi) [] = refl
-only_number (Place.slot i) (Part.unsigned lo hi) (r ∷ rs) = refl
-only_number (Place.slot i) (Part.signed lo hi) [] = refl
-only_number (Place.slot i) (Part.signed lo hi) (r ∷ rs) = refl
-only_number (Place.slot i) (Part.bits v m) [] = refl
-only_number (Place.slot i) (Part.bits v m) (r ∷ rs) = refl
+only_number (PlaceText.register i) (Part.unsigned lo hi) [] = refl
+only_number (PlaceText.register i) (Part.unsigned lo hi) (r ∷ rs) = refl
+only_number (PlaceText.register i) (Part.signed lo hi) [] = refl
+only_number (PlaceText.register i) (Part.signed lo hi) (r ∷ rs) = refl
+only_number (PlaceText.register i) (Part.bits v m) [] = refl
+only_number (PlaceText.register i) (Part.bits v m) (r ∷ rs) = refl
+only_number (PlaceText.slot i) (Part.unsigned lo hi) [] = refl
+only_number (PlaceText.slot i) (Part.unsigned lo hi) (r ∷ rs) = refl
+only_number (PlaceText.slot i) (Part.signed lo hi) [] = refl
+only_number (PlaceText.slot i) (Part.signed lo hi) (r ∷ rs) = refl
+only_number (PlaceText.slot i) (Part.bits v m) [] = refl
+only_number (PlaceText.slot i) (Part.bits v m) (r ∷ rs) = refl
 
-content_again : (q : Place) (c : Content) → is_content q c ≡ true → content_in q (content_text c) ≡ Some c
+content_again : (q : PlaceText) (c : Content) → is_content q c ≡ true → content_in q (content_text c) ≡ Some c
 unfolding content_in pointer_in bytes_in number_in behind ◌>>=◌ or_else
-content_again (Place.register i) (Content.number Number.top) e = refl
-content_again (Place.slot i) (Content.number Number.top) e = refl
+content_again (PlaceText.register i) (Content.number Number.top) e = refl
+content_again (PlaceText.slot i) (Content.number Number.top) e = refl
 content_again q (Content.number (Number.parts [])) e = cc
 content_again q (Content.number (Number.parts (p ∷ ps))) e = only_number q p ps ∙ ap (λ o. o >>= λ n. Some (Content.number n)) (number_again (Number.parts (p ∷ ps)) e)
 content_again q (Content.context lo hi) e = let both = both_true (is_numeral lo.digits) (is_numeral hi.digits) e in rw (signed_range_again lo hi both.0 both.1) refl
 content_again q (Content.frame lo hi) e = let both = both_true (is_numeral lo.digits) (is_numeral hi.digits) e in rw (signed_range_again lo hi both.0 both.1) refl
-content_again (Place.register i) (Content.bytes mask) e = cc
-content_again (Place.slot i) (Content.bytes mask) e = rw (numeral_again mask e) refl
+content_again (PlaceText.register i) (Content.bytes mask) e = cc
+content_again (PlaceText.slot i) (Content.bytes mask) e = rw (numeral_again mask e) refl
 content_again q Content.any e = refl
 
-content_free : (q : Place) (c : Content) → is_content q c ≡ true → Free 32 (content_text c)
+content_free : (q : PlaceText) (c : Content) → is_content q c ≡ true → Free 32 (content_text c)
 content_free q (Content.number n) e = number_free n e
 content_free q (Content.context lo hi) e = let both = both_true (is_numeral lo.digits) (is_numeral hi.digits) e in
     (refl, (refl, (refl, range_free 32 space (signed_text lo) (signed_text hi) (signed_free 32 lo.minus lo.digits space.digits refl both.0) (signed_free 32 hi.minus hi.digits space.digits refl both.1))))
 content_free q (Content.frame lo hi) e = let both = both_true (is_numeral lo.digits) (is_numeral hi.digits) e in
     (refl, (refl, range_free 32 space (signed_text lo) (signed_text hi) (signed_free 32 lo.minus lo.digits space.digits refl both.0) (signed_free 32 hi.minus hi.digits space.digits refl both.1)))
-content_free (Place.register i) (Content.bytes mask) e = cc
-content_free (Place.slot i) (Content.bytes mask) e = (refl, numeral_free 32 mask space.digits e)
+content_free (PlaceText.register i) (Content.bytes mask) e = cc
+content_free (PlaceText.slot i) (Content.bytes mask) e = (refl, numeral_free 32 mask space.digits e)
 content_free q Content.any e = (refl, (refl, (refl, tt)))
 
-place_again : (p : Place) → is_place p ≡ true → place_in (place_text p) ≡ Some p
+place_again : (p : PlaceText) → is_place p ≡ true → place_in (place_text p) ≡ Some p
 unfolding place_in behind ◌>>=◌ or_else
-place_again (Place.register i) e = rw (numeral_again i e) refl
-place_again (Place.slot k) e = rw (numeral_again k e) refl
+place_again (PlaceText.register i) e = rw (numeral_again i e) refl
+place_again (PlaceText.slot k) e = rw (numeral_again k e) refl
 
-place_free : (c : ℕ) → (c < 48) ⊎ (57 < c) → eqb 114 c ≡ false → eqb 115 c ≡ false → (p : Place) → is_place p ≡ true → Free c (place_text p)
-place_free c out r s (Place.register i) e = (r, numeral_free c i out e)
-place_free c out r s (Place.slot k) e = (s, numeral_free c k out e)
+place_free : (c : ℕ) → (c < 48) ⊎ (57 < c) → eqb 114 c ≡ false → eqb 115 c ≡ false → (p : PlaceText) → is_place p ≡ true → Free c (place_text p)
+place_free c out r s (PlaceText.register i) e = (r, numeral_free c i out e)
+place_free c out r s (PlaceText.slot k) e = (s, numeral_free c k out e)
 
-closed_again : (p : Place) → is_place p ≡ true → place_closed_in (place_text p ++ 41 ∷ []) ≡ Some p
+closed_again : (p : PlaceText) → is_place p ≡ true → place_closed_in (place_text p ++ 41 ∷ []) ≡ Some p
 unfolding place_closed_in ◌>>=◌
 closed_again p e = rw (cut_again 41 (place_text p) [] (place_free 41 (inl (omega arith)) refl refl p e), place_again p e) refl
 
 -- the measure `(limit-place)` without its first byte
-up_text : (limit : List ℕ) (p : Place) → (limit ++ 45 ∷ [] ++ place_text p) ++ 41 ∷ [] ≡ limit ++ 45 ∷ (place_text p ++ 41 ∷ [])
+up_text : (limit : List ℕ) (p : PlaceText) → (limit ++ 45 ∷ [] ++ place_text p) ++ 41 ∷ [] ≡ limit ++ 45 ∷ (place_text p ++ 41 ∷ [])
 up_text limit p = append_assoc (limit ++ 45 ∷ []) (place_text p) (41 ∷ []) ∙ append_assoc limit (45 ∷ []) (place_text p ++ 41 ∷ [])
 
 no_place : (text : List ℕ) → place_in (40 ∷ text) ≡ None
@@ -250,10 +250,10 @@ fields_again (Line.function first depth ret) e =
 fields_again (Line.label at base terms) e =
     let most = both_true (is_numeral at && is_numeral base) (list_all is_term terms) e in let both = both_true (is_numeral at) (is_numeral base) most.0 in
     rw (numeral_again at both.0, numeral_again base both.1, all_again term_in term_text is_term term_again terms most.1) refl
-fields_again (Line.entry (Place.register i) c) e = let both = both_true (is_numeral i) (is_content (Place.register i) c) e in
-    rw (place_again (Place.register i) both.0, content_again (Place.register i) c both.1) refl
-fields_again (Line.entry (Place.slot k) c) e = let both = both_true (is_numeral k) (is_content (Place.slot k) c) e in
-    rw (place_again (Place.slot k) both.0, content_again (Place.slot k) c both.1) refl
+fields_again (Line.entry (PlaceText.register i) c) e = let both = both_true (is_numeral i) (is_content (PlaceText.register i) c) e in
+    rw (place_again (PlaceText.register i) both.0, content_again (PlaceText.register i) c both.1) refl
+fields_again (Line.entry (PlaceText.slot k) c) e = let both = both_true (is_numeral k) (is_content (PlaceText.slot k) c) e in
+    rw (place_again (PlaceText.slot k) both.0, content_again (PlaceText.slot k) c both.1) refl
 fields_again Line.end e = refl
 
 -- what is spelled as a line is read as that line

@@ -4,7 +4,7 @@ use Rattle.std.specs.Prelude.{codes, ◌&&◌, ◌↔◌}
 use Rattle.std.specs.List.{slice_split, onto_first, list_all}
 use Rattle.std.specs.Str.{bytes_eq}
 use Rattle.bpf_cert.specs.Numeral.{is_numeral}
-use Rattle.bpf_cert.specs.Line.{Part, Number, Content, Place, Measure, Lengths, Line, part_text, line_text, is_part, is_number, is_content, is_place, is_measure, is_term, is_line}
+use Rattle.bpf_cert.specs.Line.{Part, Number, Content, PlaceText, Measure, Lengths, Line, part_text, line_text, is_part, is_number, is_content, is_place, is_measure, is_term, is_line}
 use Rattle.bpf_cert.specs.Reading.{all_there, cut, behind, numeral_in, end_in, signed_in, range_in, part_in, number_in, pointer_in, bytes_in, content_in, place_in, place_closed_in, measure_in, term_in, one_length_in, two_lengths_in, header_in, function_in, label_in, entry_in, line_of_fields, line_in}
 use Rattle.bpf_cert.proofs.LineLaws.{Gives, none_gives, some_gives, bind_gives, or_gives, if_gives, choice_gives, all_gives, part_gives, line_spelled}
 use Rattle.bpf_cert.proofs.LineAgain.{line_again}
@@ -66,18 +66,18 @@ number_is text = choice_gives (bytes_eq text (codes "*")) (λ e. some_gives Numb
     pair_gives : {A : Type 0} {o : Option A} {P Q : A → Type 0} → Gives o P → Gives o Q → Gives o (λ x. P x × Q x)
     pair_gives g h = record { holds = λ x e. (g.holds x e, h.holds x e) }
 
-pub pointer_is : (p : Place) (text : List ℕ) → Gives (pointer_in text) (λ c. is_content p c ≡ true)
+pub pointer_is : (p : PlaceText) (text : List ℕ) → Gives (pointer_in text) (λ c. is_content p c ≡ true)
 unfolding pointer_in
 pointer_is p text = or_gives
     (bind_gives (any (behind (codes "ctx") text)) (λ range u. bind_gives (range_is signed_in (λ s. is_numeral s.digits ≡ true) signed_is range) (λ ends e. some_gives (Content.context ends.0 ends.1) (both e.0 e.1))))
     (bind_gives (any (behind (codes "fp") text)) (λ range u. bind_gives (range_is signed_in (λ s. is_numeral s.digits ≡ true) signed_is range) (λ ends e. some_gives (Content.frame ends.0 ends.1) (both e.0 e.1))))
 
-pub bytes_is : (p : Place) (text : List ℕ) → Gives (bytes_in p text) (λ c. is_content p c ≡ true)
+pub bytes_is : (p : PlaceText) (text : List ℕ) → Gives (bytes_in p text) (λ c. is_content p c ≡ true)
 unfolding bytes_in
-bytes_is (Place.register i) text = none_gives
-bytes_is (Place.slot k) text = bind_gives (any (behind (codes "b") text)) (λ mask u. bind_gives (numeral_is mask) (λ m e. some_gives (Content.bytes m) e))
+bytes_is (PlaceText.register i) text = none_gives
+bytes_is (PlaceText.slot k) text = bind_gives (any (behind (codes "b") text)) (λ mask u. bind_gives (numeral_is mask) (λ m e. some_gives (Content.bytes m) e))
 
-pub content_is : (p : Place) (text : List ℕ) → Gives (content_in p text) (λ c. is_content p c ≡ true)
+pub content_is : (p : PlaceText) (text : List ℕ) → Gives (content_in p text) (λ c. is_content p c ≡ true)
 unfolding content_in
 content_is p text = choice_gives (bytes_eq text (codes "any")) (λ e. some_gives Content.any refl)
     (λ e. or_gives (pointer_is p text) (or_gives (bytes_is p text) (bind_gives (number_is text) (λ n h. some_gives (Content.number n) h))))
@@ -85,8 +85,8 @@ content_is p text = choice_gives (bytes_eq text (codes "any")) (λ e. some_gives
 pub place_is : (text : List ℕ) → Gives (place_in text) (λ p. is_place p ≡ true)
 unfolding place_in
 place_is text = or_gives
-    (bind_gives (any (behind (codes "r") text)) (λ digits u. bind_gives (numeral_is digits) (λ i e. some_gives (Place.register i) e)))
-    (bind_gives (any (behind (codes "s") text)) (λ digits u. bind_gives (numeral_is digits) (λ k e. some_gives (Place.slot k) e)))
+    (bind_gives (any (behind (codes "r") text)) (λ digits u. bind_gives (numeral_is digits) (λ i e. some_gives (PlaceText.register i) e)))
+    (bind_gives (any (behind (codes "s") text)) (λ digits u. bind_gives (numeral_is digits) (λ k e. some_gives (PlaceText.slot k) e)))
 
 closed_is : (text : List ℕ) → Gives (place_closed_in text) (λ p. is_place p ≡ true)
 unfolding place_closed_in

@@ -6,7 +6,7 @@ use Rattle.std.specs.Str.{bytes_eq}
 use Rattle.std.proofs.lemmas.Bool.{eqb-true}
 use Rattle.std.proofs.lemmas.List.Splits.{join_with_byte-slice_split}
 use Rattle.bpf_cert.specs.Numeral.{is_numeral}
-use Rattle.bpf_cert.specs.Line.{Part, Number, Content, Place, Measure, Lengths, Line, signed_text, range_text, part_text, number_text, content_text, place_text, measure_text, term_text, fields, line_text}
+use Rattle.bpf_cert.specs.Line.{Part, Number, Content, PlaceText, Measure, Lengths, Line, signed_text, range_text, part_text, number_text, content_text, place_text, measure_text, term_text, fields, line_text}
 use Rattle.bpf_cert.specs.Reading.{◌>>=◌, or_else, all_there, cut, behind, numeral_in, end_in, signed_in, range_in, part_in, number_in, pointer_in, bytes_in, content_in, place_in, place_closed_in, measure_in, term_in, one_length_in, two_lengths_in, header_in, function_in, label_in, entry_in, line_of_fields, line_in}
 use Rattle.bpf_cert.proofs.Bools.{both_true}
 
@@ -123,12 +123,12 @@ pointer_gives text = or_gives
     (bind_gives (behind_gives (codes "ctx") text) (λ range h. bind_gives (range_gives signed_in signed_text signed_gives range) (λ ends e. some_gives (Content.context ends.0 ends.1) (h ∙ ap (λ z. codes "ctx" ++ z) e))))
     (bind_gives (behind_gives (codes "fp") text) (λ range h. bind_gives (range_gives signed_in signed_text signed_gives range) (λ ends e. some_gives (Content.frame ends.0 ends.1) (h ∙ ap (λ z. codes "fp" ++ z) e))))
 
-bytes_give : (p : Place) (text : List ℕ) → Gives (bytes_in p text) (λ c. text ≡ content_text c)
+bytes_give : (p : PlaceText) (text : List ℕ) → Gives (bytes_in p text) (λ c. text ≡ content_text c)
 unfolding bytes_in
-bytes_give (Place.register i) text = none_gives
-bytes_give (Place.slot k) text = bind_gives (behind_gives (codes "b") text) (λ mask h. bind_gives (numeral_gives mask) (λ m e. some_gives (Content.bytes m) (h ∙ ap (λ z. codes "b" ++ z) e)))
+bytes_give (PlaceText.register i) text = none_gives
+bytes_give (PlaceText.slot k) text = bind_gives (behind_gives (codes "b") text) (λ mask h. bind_gives (numeral_gives mask) (λ m e. some_gives (Content.bytes m) (h ∙ ap (λ z. codes "b" ++ z) e)))
 
-content_gives : (p : Place) (text : List ℕ) → Gives (content_in p text) (λ c. text ≡ content_text c)
+content_gives : (p : PlaceText) (text : List ℕ) → Gives (content_in p text) (λ c. text ≡ content_text c)
 unfolding content_in
 content_gives p text = choice_gives (bytes_eq text (codes "any")) (λ e. some_gives Content.any (equal_texts text (codes "any") e))
     (λ e. or_gives (pointer_gives text) (or_gives (bytes_give p text) (bind_gives (number_gives text) (λ n h. some_gives (Content.number n) h))))
@@ -136,8 +136,8 @@ content_gives p text = choice_gives (bytes_eq text (codes "any")) (λ e. some_gi
 place_gives : (text : List ℕ) → Gives (place_in text) (λ p. text ≡ place_text p)
 unfolding place_in
 place_gives text = or_gives
-    (bind_gives (behind_gives (codes "r") text) (λ digits h. bind_gives (numeral_gives digits) (λ i e. some_gives (Place.register i) (h ∙ ap (λ z. codes "r" ++ z) e))))
-    (bind_gives (behind_gives (codes "s") text) (λ digits h. bind_gives (numeral_gives digits) (λ k e. some_gives (Place.slot k) (h ∙ ap (λ z. codes "s" ++ z) e))))
+    (bind_gives (behind_gives (codes "r") text) (λ digits h. bind_gives (numeral_gives digits) (λ i e. some_gives (PlaceText.register i) (h ∙ ap (λ z. codes "r" ++ z) e))))
+    (bind_gives (behind_gives (codes "s") text) (λ digits h. bind_gives (numeral_gives digits) (λ k e. some_gives (PlaceText.slot k) (h ∙ ap (λ z. codes "s" ++ z) e))))
 
 closed_gives : (text : List ℕ) → Gives (place_closed_in text) (λ p. text ≡ place_text p ++ codes ")")
 unfolding place_closed_in

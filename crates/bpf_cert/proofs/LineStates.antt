@@ -6,15 +6,15 @@ use Rattle.std.proofs.lemmas.Bool.{ltb-false, eqb-true, ne_eqb}
 use Rattle.std.proofs.lemmas.List.{take_at, drop_at, drop_more, at_drop_all, take-append-drop, length-map, length-take-le}
 use Rattle.std.proofs.lemmas.List.Folds.{list_all-append}
 use Rattle.bpf_insn.specs.declared.instruction.Reg.TheVariants.{R10}
-use Rattle.bpf_state.specs.declared.state.RegState.{RegState}
-use Rattle.bpf_state.specs.declared.state.RegState.TheVariants as reg
-use Rattle.bpf_state.specs.declared.state.SlotState.{SlotState}
-use Rattle.bpf_state.specs.declared.state.SlotState.TheVariants as slot
-use Rattle.bpf_state.specs.declared.state.Area.TheVariants as area
-use Rattle.bpf_state.specs.declared.state.Tag.{Tag}
+use Rattle.bpf_state.specs.declared.known.RegState.{RegState}
+use Rattle.bpf_state.specs.declared.known.RegState.TheVariants as reg
+use Rattle.bpf_state.specs.declared.known.SlotState.{SlotState}
+use Rattle.bpf_state.specs.declared.known.SlotState.TheVariants as slot
+use Rattle.bpf_state.specs.declared.known.Area.TheVariants as area
+use Rattle.bpf_state.specs.declared.known.Tag.{Tag}
 use Rattle.bpf_state.specs.State.{AbstractState, register, value_slot, slot_value, start_of, no_tags}
 use Rattle.bpf_cert.specs.Numeral.{number}
-use Rattle.bpf_cert.specs.Line.{Line, Place as PlaceText}
+use Rattle.bpf_cert.specs.Line.{Line, PlaceText}
 use Rattle.bpf_cert.specs.Limits.{is_limited_register, is_limited_slot, is_limited_state, is_canonical_state, is_frame_end, has_shape}
 use Rattle.bpf_cert.specs.Spelling.{content_of, is_unknown, place_at, contents, lines_from}
 use Rattle.bpf_cert.proofs.Bools.{both_true}

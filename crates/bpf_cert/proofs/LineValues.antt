@@ -9,20 +9,20 @@ use Rattle.bpf_num.specs.Interval.{Interval, interval, unsigned_top}
 use Rattle.bpf_num.specs.SignedInterval.{SignedInterval, signed_interval, signed_top}
 use Rattle.bpf_num.specs.Number.{Number as NumberValue, number as number_of_parts, top}
 use Rattle.bpf_cert.specs.Numeral.{SignedDigits, number, signed_number, digits_of_int, int_eq, is_from_to}
-use Rattle.bpf_cert.specs.Line.{Part, Number, Content, Place as PlaceText, Measure as MeasureText, Term as TermText}
+use Rattle.bpf_cert.specs.Line.{Part, Number, Content, PlaceText, Measure as MeasureText, Term as TermText}
 use Rattle.bpf_cert.specs.Faults.{is_range, is_int_range, is_pointer_range, is_bits}
 use Rattle.bpf_cert.specs.Limits.{is_limited_num, is_limited_slot, is_limited_place, is_limited_measure, is_limited_term}
-use Rattle.bpf_cert.specs.Spelling.{unsigned_parts, signed_parts, bits_parts, of_parts, number_of, bounds_in, content_of, place_of, measure_of, term_of}
+use Rattle.bpf_cert.specs.Spelling.{unsigned_parts, signed_parts, bits_parts, of_parts, number_of, bounds_in, content_of, spelled_place, measure_of, term_of}
 use Rattle.bpf_cert.specs.declared.certificate.Measure.{Measure}
 use Rattle.bpf_cert.specs.declared.certificate.Measure.TheVariants as measure
 use Rattle.bpf_cert.specs.declared.certificate.Term.{Term}
-use Rattle.bpf_state.specs.declared.state.Area.{Area}
-use Rattle.bpf_state.specs.declared.state.Area.TheVariants as area
-use Rattle.bpf_state.specs.declared.state.Pointer.{Pointer}
-use Rattle.bpf_state.specs.declared.state.SlotState.{SlotState}
-use Rattle.bpf_state.specs.declared.state.SlotState.TheVariants as slot
-use Rattle.bpf_state.specs.declared.state.Place.{Place}
-use Rattle.bpf_state.specs.declared.state.Place.TheVariants as place
+use Rattle.bpf_state.specs.declared.known.Area.{Area}
+use Rattle.bpf_state.specs.declared.known.Area.TheVariants as area
+use Rattle.bpf_state.specs.declared.known.Pointer.{Pointer}
+use Rattle.bpf_state.specs.declared.known.SlotState.{SlotState}
+use Rattle.bpf_state.specs.declared.known.SlotState.TheVariants as slot
+use Rattle.bpf_state.specs.declared.known.Place.{Place}
+use Rattle.bpf_state.specs.declared.known.Place.TheVariants as place
 use Rattle.bpf_insn.specs.declared.instruction.Reg.{Reg}
 use Rattle.bpf_insn.specs.declared.instruction.Reg.TheVariants.{R0, R1, R2, R3, R4, R5, R6, R7, R8, R9, R10}
 use Rattle.bpf_insn.specs.Instruction.{register_number}
@@ -193,7 +193,7 @@ abbrev pub place_said : PlaceText → Place
 place_said (PlaceText.register i) = place.Register (register_said (number i))
 place_said (PlaceText.slot k) = place.Slot (number k)
 
-place_again : (p : Place) → is_limited_place p ≡ true → place_said (place_of p) ≡ p
+place_again : (p : Place) → is_limited_place p ≡ true → place_said (spelled_place p) ≡ p
 place_again (place.Register r) e = let few : register_number r ≤ 9 = leb-true (register_number r) 9 e in
     ap place.Register (ap register_said (number_again (register_number r) (omega arith)) ∙ register_again r)
 place_again (place.Slot k) e = let few : k ≤ 64 = leb-true k 64 (both_true (leb 1 k) (leb k 64) e).1 in ap place.Slot (number_again k (omega arith))

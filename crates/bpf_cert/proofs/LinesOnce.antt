@@ -3,7 +3,7 @@ use Rattle.std.proofs.Common.{◌≡◌, ℕ, ◌+◌, ◌^◌, ◌≤◌, Bool,
 use Rattle.std.specs.Prelude.{◌&&◌, decimal, flat_map, sum_by}
 use Rattle.std.specs.List.{list_all}
 use Rattle.std.proofs.lemmas.Bool.{leb-true}
-use Rattle.bpf_state.specs.declared.state.SlotState.{SlotState}
+use Rattle.bpf_state.specs.declared.known.SlotState.{SlotState}
 use Rattle.bpf_state.specs.State.{AbstractState}
 use Rattle.bpf_num.specs.Number.{Number as NumberValue}
 use Rattle.bpf_cert.specs.declared.certificate.Term.{Term as TermValue}

@@ -11,8 +11,8 @@ use Rattle.bpf_cert.specs.Spelling.{unsigned_parts, signed_parts, bits_parts}
 use Rattle.bpf_cert.specs.code.Seen.{is_canonical_part, capped_signed}
 use Rattle.bpf_cert.specs.code.Sums.{single, is_whole, is_whole_signed, least, greatest}
 use Rattle.bpf_cert.proofs.NumeralLaws.{plain_decimal}
-use Rattle.bpf_cert.specs.declared.finding.Flaw.{Flaw}
-use Rattle.bpf_cert.specs.declared.finding.Flaw.TheVariants as flaws
+use Rattle.bpf_cert.specs.declared.finding.PartFault.{PartFault}
+use Rattle.bpf_cert.specs.declared.finding.PartFault.TheVariants as flaws
 use Rattle.bpf_cert.proofs.Bools.{both_true}
 
 pub not_true : (a : Bool) → not a ≡ true → a ≡ false
@@ -165,7 +165,7 @@ signed_ok s t lo hi plain whole limited some u digits_s digits_t e f p w m l ok 
     let high = signed_again t hi f r.high_low r.high digits_t plains.1 in
     rw (low.0, high.0, plains.0, plains.1, some_said, range, low.1, high.1) refl
 
-pub signed_err : (s t : SignedDigits) (lo hi : ℤ) (plain whole limited some : Bool) (flaw : Flaw)
+pub signed_err : (s t : SignedDigits) (lo hi : ℤ) (plain whole limited some : Bool) (flaw : PartFault)
     → lo ≡ capped_signed s → hi ≡ capped_signed t → plain ≡ (is_plain_signed s && is_plain_signed t) → whole ≡ is_whole_signed lo hi → some ≡ (plain && not whole) → limited ≡ is_int_range least greatest lo hi
     → tested some limited ≡ Err flaw → valued (λ (x : List Part). x) (Err flaw) ≡ valued single (found is_canonical_part is_limited_part (Some (Part.signed s t)))
 signed_err s t lo hi plain whole limited some flaw e f p w m l bad =

@@ -8,9 +8,9 @@ use Rattle.bpf_cert.specs.Faults.{is_rising, part_before, part_rank, is_limited_
 use Rattle.bpf_cert.specs.code.Findings.{tested, found, joined, valued}
 use Rattle.bpf_cert.specs.Spelling.{unsigned_parts, signed_parts, bits_parts, number_of, of_parts}
 use Rattle.bpf_cert.specs.code.Seen.{is_canonical_part}
-use Rattle.bpf_cert.specs.code.PartSums.{are_canonical, next_rank, Says, IsSum, IsKept}
+use Rattle.bpf_cert.specs.code.PartSums.{are_canonical, next_rank, SaysParts, IsSum, IsKept}
 use Rattle.bpf_cert.specs.declared.num.Parts.{Parts}
-use Rattle.bpf_cert.specs.declared.finding.Flaw.{Flaw}
+use Rattle.bpf_cert.specs.declared.finding.PartFault.{PartFault}
 use Rattle.bpf_cert.proofs.FindingLemmas.{found_tested, joined_tested, joined_ok, tested_true, list_all_both, list_all_end}
 use Rattle.bpf_num.specs.Number.{number, top, Number as Num}
 use Rattle.bpf_cert.proofs.LineForms.{part_is}
@@ -18,7 +18,7 @@ use Rattle.std.specs.Prelude.{codes}
 use Rattle.std.specs.Str.{bytes_eq}
 use Rattle.bpf_cert.specs.Reading.{◌>>=◌, part_in, number_in}
 use Rattle.bpf_cert.proofs.PieceLemmas.{Taken, all_read}
-use Rattle.bpf_cert.specs.declared.finding.Flaw.TheVariants.{Syntax}
+use Rattle.bpf_cert.specs.declared.finding.PartFault.TheVariants.{Syntax}
 
 ltb_leb : (a b : ℕ) → ltb a b ≡ leb (a + 1) b
 ltb_leb a b = by_test (ltb a b) refl
@@ -64,8 +64,8 @@ canonical_end ps p = ap (λ b. b && is_rising part_before (ps ++ p ∷ [])) (lis
     exchange false b c d = refl
 
 -- a part more, of the lowest rank that may follow or above
-says_more : (done : List Part) (p : Part) (old kept : Parts) → Says old.next (unsigned_parts old.unsigned) (signed_parts old.signed) (bits_parts old.bits) done
-    → old.next ≤ part_rank p → IsKept p old kept → Says (part_rank p + 1) (unsigned_parts kept.unsigned) (signed_parts kept.signed) (bits_parts kept.bits) (done ++ p ∷ [])
+says_more : (done : List Part) (p : Part) (old kept : Parts) → SaysParts old.next (unsigned_parts old.unsigned) (signed_parts old.signed) (bits_parts old.bits) done
+    → old.next ≤ part_rank p → IsKept p old kept → SaysParts (part_rank p + 1) (unsigned_parts kept.unsigned) (signed_parts kept.signed) (bits_parts kept.bits) (done ++ p ∷ [])
 says_more done (Part.unsigned lo hi) old kept says room k =
     let us = says.no_unsigned room in let ss = says.no_signed (omega (arith, room)) in let ks = says.no_bits (omega (arith, room)) in
     let empty : [] ≡ done = rw (us, ss, ks) at says.same in
@@ -97,7 +97,7 @@ says_more done (Part.bits v m) old kept says room k =
       no_bits = λ h. absurd (omega (arith, h));
     }
 
-pub sum_more : (done : List Part) (p : Part) (old kept : Parts) (in_order found joint all : Result (Unit {0}) Flaw) (rank : ℕ) → IsSum done old → rank ≡ part_rank p → in_order ≡ tested (leb old.next rank) true
+pub sum_more : (done : List Part) (p : Part) (old kept : Parts) (in_order found joint all : Result (Unit {0}) PartFault) (rank : ℕ) → IsSum done old → rank ≡ part_rank p → in_order ≡ tested (leb old.next rank) true
     → found ≡ tested (is_canonical_part p) (is_limited_part p) → (kept.found ≡ old.found) × (kept.next ≡ old.next) → OnOk found (IsKept p old kept) → joint ≡ joined kept.found in_order → all ≡ joined joint found
     → IsSum (done ++ p ∷ []) (record { found = all; next = rank + 1; unsigned = kept.unsigned; signed = kept.signed; bits = kept.bits })
 sum_more done p old kept in_order found joint all rank sum r o f k keeps j a =
@@ -118,7 +118,7 @@ sum_more done p old kept in_order found joint all rank sum r o f k keeps j a =
           let fits = tested_true (leb old.next rank) true tt (sym o ∙ deeper.1) in
           let room : old.next ≤ part_rank p = subst (λ n. old.next ≤ n) r (leb-true old.next rank fits.0) in
           let is_kept : IsKept p old kept = subst (λ x. OnOk x (IsKept p old kept)) outer.1 keeps in
-          subst (λ n. Says (n + 1) (unsigned_parts kept.unsigned) (signed_parts kept.signed) (bits_parts kept.bits) (done ++ p ∷ [])) (sym r) (says_more done p old kept (sum.says deeper.0) room is_kept);
+          subst (λ n. SaysParts (n + 1) (unsigned_parts kept.unsigned) (signed_parts kept.signed) (bits_parts kept.bits) (done ++ p ∷ [])) (sym r) (says_more done p old kept (sum.says deeper.0) room is_kept);
     }
   where
     and_true : (b : Bool) → (b && true) ≡ b
@@ -154,12 +154,12 @@ pub found_none : (text : List ℕ) → bytes_eq text (codes "*") ≡ false → a
 unfolding number_in ◌>>=◌
 found_none text star e = rw (star, e) refl
 
-pub found_all : (text : List ℕ) (ps : List Part) (r : Result Num Flaw) → bytes_eq text (codes "*") ≡ false → all_read 44 part_in text ≡ Some ps
+pub found_all : (text : List ℕ) (ps : List Part) (r : Result Num PartFault) → bytes_eq text (codes "*") ≡ false → all_read 44 part_in text ≡ Some ps
     → number_in text ≡ Some (Number.parts ps)
 unfolding number_in ◌>>=◌
 found_all text ps r star e = rw (star, e) refl
 
-pub found_parts : (text : List ℕ) (done : List Part) (p : Part) (s : Parts) (r : Result Num Flaw) → bytes_eq text (codes "*") ≡ false → all_read 44 part_in text ≡ Some (done ++ p ∷ [])
+pub found_parts : (text : List ℕ) (done : List Part) (p : Part) (s : Parts) (r : Result Num PartFault) → bytes_eq text (codes "*") ≡ false → all_read 44 part_in text ≡ Some (done ++ p ∷ [])
     → IsSum (done ++ p ∷ []) s → ((q : Part) (qs : List Part) → IsSum (q ∷ qs) s → valued number_of r ≡ found is_canonical_number is_limited_number (Some (Number.parts (q ∷ qs))))
     → valued number_of r ≡ found is_canonical_number is_limited_number (number_in text)
 found_parts text done p s r star e sum value = rw (found_all text (done ++ p ∷ []) r star e) (by_first done sum)

@@ -9,7 +9,7 @@ use Rattle.std.proofs.lemmas.Grind.{flat_map-append}
 use Rattle.std.proofs.lemmas.List.{reverse-append}
 use Rattle.bpf_cert.specs.Line.{Line, line_text}
 use Rattle.bpf_cert.specs.Spelling.{lines_text}
-use Rattle.bpf_cert.specs.Faults.{judged, rest_fault, fault_from, fault_of, is_ended, Ending, complete, failed}
+use Rattle.bpf_cert.specs.Faults.{judged, rest_fault, fault_from, text_fault, is_ended, Ending, complete, failed}
 use Rattle.bpf_cert.specs.declared.error.CertError.{CertError}
 use Rattle.bpf_cert.specs.declared.error.CertError.TheVariants.{Syntax, NotCanonical, Limit, Memory, Read}
 use Rattle.bpf_cert.specs.View.{CertificateView}
@@ -73,7 +73,7 @@ pub record Progress (text rest : List ℕ) (n : ℕ) (before : List Line) : Type
   pub taken : List ℕ
   pub whole : text ≡ taken ++ rest
   pub same : taken ≡ lines_text (reverse before)
-  pub faults : (e : Ending) (p : List ℕ) → fault_of e (taken ++ p) ≡ fault_from e n before (pieces p)
+  pub faults : (e : Ending) (p : List ℕ) → text_fault e (taken ++ p) ≡ fault_from e n before (pieces p)
 
 abbrev pub Progresses : Option (List ℕ) → Option (List ℕ) → ℕ → List Line → Type 0
 Progresses None rest n before = Unit {0}
@@ -81,7 +81,7 @@ Progresses (Some text) None n before = ⊥
 Progresses (Some text) (Some rest) n before = Progress text rest n before
 
 pub start : (r : Option (List ℕ)) → Progresses r r 1 []
-unfolding fault_of
+unfolding text_fault
 start None = tt
 start (Some text) = record { taken = []; whole = refl; same = refl; faults = λ e p. refl }
 
@@ -94,7 +94,7 @@ advanced text rest left line n before l p took one going fine spelled = record {
       ∙ ap (λ z. lines_text (reverse before) ++ z) (sym (append-nil (line_text l ++ 10 ∷ [])))
       ∙ sym (flat_map-append (λ m. line_text m ++ 10 ∷ []) (reverse before) (l ∷ []))
       ∙ ap lines_text (sym (reverse-append (l ∷ []) before));
-  faults = λ e q. ap (fault_of e) (append_assoc p.taken (line ++ 10 ∷ []) q ∙ ap (λ z. p.taken ++ z) (append_assoc line (10 ∷ []) q))
+  faults = λ e q. ap (text_fault e) (append_assoc p.taken (line ++ 10 ∷ []) q ∙ ap (λ z. p.taken ++ z) (append_assoc line (10 ∷ []) q))
       ∙ p.faults e (line ++ 10 ∷ q) ∙ ap (fault_from e n before) (pieces_line line q one) ∙ next_fine e n before line q l going fine;
 }
 
@@ -107,12 +107,12 @@ advance (Some text) (Some rest) (Some left) line n before l p took one going fin
 
 -- a fault of the text, where it is known
 abbrev pub HasFault : Option (List ℕ) → CertError → Type 0
-HasFault text f = IfSome text (λ t. fault_of complete t ≡ Some f)
+HasFault text f = IfSome text (λ t. text_fault complete t ≡ Some f)
 
 -- what the rest shows of the whole
 shown : (text rest : List ℕ) (n : ℕ) (before : List Line) (f : CertError) → Progress text rest n before
-    → fault_from complete n before (pieces rest) ≡ Some f → fault_of complete text ≡ Some f
-shown text rest n before f p e = ap (fault_of complete) p.whole ∙ p.faults complete rest ∙ e
+    → fault_from complete n before (pieces rest) ≡ Some f → text_fault complete text ≡ Some f
+shown text rest n before f p e = ap (text_fault complete) p.whole ∙ p.faults complete rest ∙ e
 
 pub bad_line : (text old new : Option (List ℕ)) (line : List ℕ) (n : ℕ) (before : List Line) (f : CertError) → Progresses text old n before → Consumes old new (line ++ 10 ∷ [])
     → IsOneLine line → is_ended before ≡ false → judged n before line ≡ Err f → HasFault text f

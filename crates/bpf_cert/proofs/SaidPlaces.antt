@@ -3,10 +3,10 @@ use Rattle.std.proofs.Common.{◌≡◌, ℕ, zero, suc, ◌+◌, ◌-◌, ◌<�
 use Rattle.std.specs.Prelude.{IfSome}
 use Rattle.std.specs.List.{list_all}
 use Rattle.std.proofs.lemmas.Bool.{leb-true, ltb-true}
-use Rattle.bpf_state.specs.declared.state.SlotState.{SlotState}
-use Rattle.bpf_state.specs.declared.state.SlotState.TheVariants as slot
+use Rattle.bpf_state.specs.declared.known.SlotState.{SlotState}
+use Rattle.bpf_state.specs.declared.known.SlotState.TheVariants as slot
 use Rattle.bpf_cert.specs.Numeral.{number}
-use Rattle.bpf_cert.specs.Line.{Content, Place, Line, is_place, is_content}
+use Rattle.bpf_cert.specs.Line.{Content, PlaceText, Line, is_place, is_content}
 use Rattle.bpf_cert.specs.Faults.{is_plain_place, is_limited_place, place_before, last_place, comes_after}
 use Rattle.bpf_cert.specs.Limits.{is_limited_slot}
 use Rattle.bpf_cert.specs.Spelling.{lines_from}
@@ -27,7 +27,7 @@ next_index (Line.entry p c ∷ ls) = place_index p + 1
 next_index (Line.end ∷ ls) = 74
 
 -- the last entry's place is one of a state
-abbrev pub IsLow : Option Place → Type 0
+abbrev pub IsLow : Option PlaceText → Type 0
 IsLow o = IfSome o (λ p. is_limited_place p ≡ true)
 
 pub next_low : (before : List Line) → IsLow (last_place before) → next_index before ≤ 74
@@ -38,16 +38,16 @@ next_low (Line.label _ _ _ ∷ ls) low = omega arith
 next_low (Line.entry p c ∷ ls) low = let inside = place_inside p low in omega arith
 next_low (Line.end ∷ ls) low = omega arith
 
-index_rises : (q p : Place) → is_limited_place q ≡ true → is_limited_place p ≡ true → place_before q p ≡ true → place_index q < place_index p
-index_rises (Place.register i) (Place.register j) e f g = ltb-true (number i) (number j) g
-index_rises (Place.register i) (Place.slot k) e f g =
+index_rises : (q p : PlaceText) → is_limited_place q ≡ true → is_limited_place p ≡ true → place_before q p ≡ true → place_index q < place_index p
+index_rises (PlaceText.register i) (PlaceText.register j) e f g = ltb-true (number i) (number j) g
+index_rises (PlaceText.register i) (PlaceText.slot k) e f g =
     let few : number i ≤ 9 = leb-true (number i) 9 e in
     let some : 1 ≤ number k = leb-true 1 (number k) (both_true _ _ f).0 in
     omega arith
-index_rises (Place.slot k) (Place.register i) e f g = cc
-index_rises (Place.slot j) (Place.slot k) e f g = let less : number j < number k = ltb-true (number j) (number k) g in omega arith
+index_rises (PlaceText.slot k) (PlaceText.register i) e f g = cc
+index_rises (PlaceText.slot j) (PlaceText.slot k) e f g = let less : number j < number k = ltb-true (number j) (number k) g in omega arith
 
-pub entry_index : (before : List Line) (p : Place) → may_have_entry (stage_of before) ≡ true → IsLow (last_place before) → comes_after place_before (last_place before) p ≡ true → is_limited_place p ≡ true
+pub entry_index : (before : List Line) (p : PlaceText) → may_have_entry (stage_of before) ≡ true → IsLow (last_place before) → comes_after place_before (last_place before) p ≡ true → is_limited_place p ≡ true
     → next_index before ≤ place_index p
 entry_index [] p may low order limited = cc
 entry_index (Line.header _ _ ∷ ls) p may low order limited = cc
@@ -93,16 +93,16 @@ no_places j low = places_past (74 - j) j 74 [] (omega arith) (record { long = re
 pub no_entries : (j : ℕ) → j ≤ 74 → lines_from j (unknowns (74 - j) []) ≡ []
 no_entries j low = no_lines (74 - j) j 74 [] (omega arith)
 
-register_content : (p : Place) (c : Content) → is_content p c ≡ true → is_limited_place p ≡ true → place_index p < 10 → IsRegister (content_said c)
+register_content : (p : PlaceText) (c : Content) → is_content p c ≡ true → is_limited_place p ≡ true → place_index p < 10 → IsRegister (content_said c)
 register_content p (Content.number n) form limited low = refl
 register_content p (Content.context lo hi) form limited low = refl
 register_content p (Content.frame lo hi) form limited low = refl
-register_content (Place.register i) (Content.bytes m) form limited low = cc
-register_content (Place.slot k) (Content.bytes m) form limited low = let some : 1 ≤ number k = leb-true 1 (number k) (both_true _ _ limited).0 in absurd (omega arith)
+register_content (PlaceText.register i) (Content.bytes m) form limited low = cc
+register_content (PlaceText.slot k) (Content.bytes m) form limited low = let some : 1 ≤ number k = leb-true 1 (number k) (both_true _ _ limited).0 in absurd (omega arith)
 register_content p Content.any form limited low = refl
 
 -- an entry, and those of later places
-pub more_places : (j : ℕ) (p : Place) (c : Content) (cs : List SlotState) → j ≤ place_index p → is_content p c ≡ true → is_limited_place p ≡ true → IsKept c → Places (place_index p + 1) cs
+pub more_places : (j : ℕ) (p : PlaceText) (c : Content) (cs : List SlotState) → j ≤ place_index p → is_content p c ≡ true → is_limited_place p ≡ true → IsKept c → Places (place_index p + 1) cs
     → Places j (unknowns (place_index p - j) (content_said c ∷ cs))
 more_places j p c cs low form limited kept rest =
     let long : place_index p + 1 + length cs ≡ 74 = rest.long in
@@ -112,6 +112,6 @@ more_places j p c cs low form limited kept rest =
       limited = rw (kept.limited, rest.limited) refl;
     })
 
-pub more_entries : (j : ℕ) (p : Place) (c : Content) (cs : List SlotState) → j ≤ place_index p → is_place p ≡ true → is_plain_place p ≡ true → is_limited_place p ≡ true → IsKept c
+pub more_entries : (j : ℕ) (p : PlaceText) (c : Content) (cs : List SlotState) → j ≤ place_index p → is_place p ≡ true → is_plain_place p ≡ true → is_limited_place p ≡ true → IsKept c
     → lines_from j (unknowns (place_index p - j) (content_said c ∷ cs)) ≡ Line.entry p c ∷ lines_from (place_index p + 1) cs
 more_entries j p c cs low form plain limited kept = no_lines (place_index p - j) j (place_index p) (content_said c ∷ cs) (omega arith) ∙ rw (kept.some, place_kept p form plain limited, kept.same) refl

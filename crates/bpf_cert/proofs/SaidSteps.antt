@@ -5,10 +5,10 @@ use Rattle.std.specs.List.{list_all}
 use Rattle.std.proofs.lemmas.Bool.{leb-true, ltb-true, lt-ltb}
 use Rattle.std.proofs.lemmas.List.{length-map}
 use Rattle.std.proofs.lemmas.List.Sums.{sum_by-cons}
-use Rattle.bpf_state.specs.declared.state.SlotState.{SlotState}
+use Rattle.bpf_state.specs.declared.known.SlotState.{SlotState}
 use Rattle.bpf_cert.specs.Numeral.{number, is_numeral, is_plain, is_from_to}
-use Rattle.bpf_cert.specs.Line.{Number, Content, Place, Term, Line, is_place, is_content, is_number, is_term, is_line}
-use Rattle.bpf_cert.specs.Faults.{is_rising, place_before, place_of, last_first, last_slot, last_place, comes_after, is_function, is_label, ends_bare, is_plain_place, is_canonical_content, is_limited_place, is_limited_content, is_canonical_number, is_limited_number, is_limited_term as is_limited_text}
+use Rattle.bpf_cert.specs.Line.{Number, Content, PlaceText, Term, Line, is_place, is_content, is_number, is_term, is_line}
+use Rattle.bpf_cert.specs.Faults.{is_rising, place_before, line_place, last_first, last_slot, last_place, comes_after, is_function, is_label, ends_bare, is_plain_place, is_canonical_content, is_limited_place, is_limited_content, is_canonical_number, is_limited_number, is_limited_term as is_limited_text}
 use Rattle.bpf_cert.specs.code.TermSums.{is_plain_term}
 use Rattle.bpf_cert.specs.View.{LabelView, FunctionView}
 use Rattle.bpf_cert.specs.Limits.{is_canonical_label, is_limited_label, term_before, is_canonical_function, is_limited_function, label_count}
@@ -113,7 +113,7 @@ under_label stage.Function e = cc
 under_label stage.Label e = (refl, refl)
 under_label stage.Ended e = cc
 
-pub said_entry : (before ls : List Line) (p : Place) (c : Content) → Here before → IsFine before (Line.entry p c) → is_line (Line.entry p c) ≡ true → Said (Line.entry p c ∷ before) ls → Said before (Line.entry p c ∷ ls)
+pub said_entry : (before ls : List Line) (p : PlaceText) (c : Content) → Here before → IsFine before (Line.entry p c) → is_line (Line.entry p c) ≡ true → Said (Line.entry p c ∷ before) ls → Said before (Line.entry p c ∷ ls)
 said_entry before ls p c here fine is s =
     let may : may_have_entry (stage_of before) ≡ true = sym (stand_entry before p c) ∙ fine.stands in
     let under = under_label (stage_of before) may in
@@ -155,7 +155,7 @@ label_kept : (before : List Line) (at base : List ℕ) (terms : List Term) (cs :
 label_kept before at base terms cs fine is places =
     let form = both_true (is_numeral at && is_numeral base) (list_all is_term terms) is in
     let numerals = both_true (is_numeral at) (is_numeral base) form.0 in
-    let canonical = both_true (is_plain at && is_plain base && list_all is_plain_term terms) (is_rising (λ t u. place_before (place_of t) (place_of u)) terms) fine.canonical in
+    let canonical = both_true (is_plain at && is_plain base && list_all is_plain_term terms) (is_rising (λ t u. place_before (line_place t) (line_place u)) terms) fine.canonical in
     let plain = both_true (is_plain at && is_plain base) (list_all is_plain_term terms) canonical.0 in
     let plains = both_true (is_plain at) (is_plain base) plain.0 in
     let limited = both_true (leb (number at) 65535 && leb (number base) (2 ^ 40) && leb (length terms) 4) (list_all is_limited_text terms) fine.limited in
@@ -165,7 +165,7 @@ label_kept before at base terms cs fine is places =
     let few : number base ≤ 2 ^ 40 = leb-true (number base) (2 ^ 40) ends.1 in
     let kept = terms_kept terms form.1 plain.1 limited.1 in
     let state = state_kept cs (let long = places.long in omega arith) places.held places.limited in
-    let rising : is_rising term_before (map term_said terms) ≡ true = sym (rising_terms (map term_said terms) kept.1) ∙ ap (is_rising (λ t u. place_before (place_of t) (place_of u))) kept.0 ∙ canonical.1 in
+    let rising : is_rising term_before (map term_said terms) ≡ true = sym (rising_terms (map term_said terms) kept.1) ∙ ap (is_rising (λ t u. place_before (line_place t) (line_place u))) kept.0 ∙ canonical.1 in
     record {
       lines = rw (plain_decimal at numerals.0 plains.0 (omega arith), plain_decimal base numerals.1 plains.1 (omega arith), kept.0, state.same) refl;
       canonical = rw (state.canonical, rising) refl;

@@ -6,11 +6,11 @@ use Rattle.std.proofs.lemmas.Bool.{leb-true, ltb-true, le-ltb, lt-ltb}
 use Rattle.std.proofs.lemmas.Int.{ints}
 use Rattle.bpf_insn.specs.Instruction.{register_number}
 use Rattle.bpf_cert.specs.Numeral.{SignedDigits, is_numeral, is_plain, number, signed_number, is_plain_signed, digits_of_int, is_from_to}
-use Rattle.bpf_cert.specs.Line.{Content, Place, Measure, Term, is_content, is_place, is_measure, is_term}
+use Rattle.bpf_cert.specs.Line.{Content, PlaceText, Measure, Term, is_content, is_place, is_measure, is_term}
 use Rattle.bpf_cert.specs.Faults.{is_pointer_range, is_canonical_content, is_limited_content, is_plain_place, is_limited_place, is_plain_measure, is_limited_measure, is_limited_term}
 use Rattle.bpf_cert.specs.code.TermSums.{is_plain_term}
 use Rattle.bpf_cert.specs.Limits.{is_limited_slot, is_limited_place as is_limited_value, is_limited_measure as is_limited_measured, is_limited_term as is_limited_termed}
-use Rattle.bpf_cert.specs.Spelling.{is_unknown, content_of, place_at, place_of, measure_of, term_of}
+use Rattle.bpf_cert.specs.Spelling.{is_unknown, content_of, place_at, spelled_place, measure_of, term_of}
 use Rattle.bpf_cert.proofs.NumeralLaws.{plain_decimal}
 use Rattle.bpf_cert.proofs.Bools.{both_true}
 use Rattle.bpf_cert.proofs.NumLemmas.{not_true, in_range, plain_signed}
@@ -39,28 +39,28 @@ mask_kept m form canonical limited =
     let few : number m ≤ 254 = leb-true (number m) 254 limited in
     record { same = ap Content.bytes (plain_decimal m form plain.0 (omega arith)); limited = limited; some = not_true (eqb (number m) 0) plain.1 }
 
-pub content_kept : (p : Place) (c : Content) → is_content p c ≡ true → is_canonical_content c ≡ true → is_limited_content c ≡ true → IsKept c
+pub content_kept : (p : PlaceText) (c : Content) → is_content p c ≡ true → is_canonical_content c ≡ true → is_limited_content c ≡ true → IsKept c
 content_kept p (Content.number n) form canonical limited = let k = number_kept n form canonical limited in record { same = ap Content.number k.0; limited = k.1; some = refl }
 content_kept p (Content.context lo hi) form canonical limited = let b = bounds_kept lo hi form canonical limited in record { same = ap₂ Content.context b.0 b.1; limited = limited; some = refl }
 content_kept p (Content.frame lo hi) form canonical limited = let b = bounds_kept lo hi form canonical limited in record { same = ap₂ Content.frame b.0 b.1; limited = limited; some = refl }
-content_kept (Place.register i) (Content.bytes m) form canonical limited = cc
-content_kept (Place.slot k) (Content.bytes m) form canonical limited = mask_kept m form canonical limited
+content_kept (PlaceText.register i) (Content.bytes m) form canonical limited = cc
+content_kept (PlaceText.slot k) (Content.bytes m) form canonical limited = mask_kept m form canonical limited
 content_kept p Content.any form canonical limited = cc
 
 -- the place again from where it stands among all
-pub place_kept : (p : Place) → is_place p ≡ true → is_plain_place p ≡ true → is_limited_place p ≡ true → place_at (place_index p) ≡ p
-place_kept (Place.register i) form plain limited =
+pub place_kept : (p : PlaceText) → is_place p ≡ true → is_plain_place p ≡ true → is_limited_place p ≡ true → place_at (place_index p) ≡ p
+place_kept (PlaceText.register i) form plain limited =
     let few : number i ≤ 9 = leb-true (number i) 9 limited in
     rw (lt-ltb (number i) 10 (omega arith), plain_decimal i form plain (omega arith)) refl
-place_kept (Place.slot k) form plain limited =
+place_kept (PlaceText.slot k) form plain limited =
     let few : number k ≤ 64 = leb-true (number k) 64 (both_true (leb 1 (number k)) (leb (number k) 64) limited).1 in
     let same : number k + 9 - 9 ≡ number k = omega arith in
     let some : 1 ≤ number k = leb-true 1 (number k) (both_true (leb 1 (number k)) (leb (number k) 64) limited).0 in
     rw (le-ltb (number k + 9) 10 (omega arith), same, plain_decimal k form plain (omega arith)) refl
 
-pub place_inside : (p : Place) → is_limited_place p ≡ true → place_index p < 74
-place_inside (Place.register i) limited = let few : number i ≤ 9 = leb-true (number i) 9 limited in omega arith
-place_inside (Place.slot k) limited = let few : number k ≤ 64 = leb-true (number k) 64 (both_true (leb 1 (number k)) (leb (number k) 64) limited).1 in omega arith
+pub place_inside : (p : PlaceText) → is_limited_place p ≡ true → place_index p < 74
+place_inside (PlaceText.register i) limited = let few : number i ≤ 9 = leb-true (number i) 9 limited in omega arith
+place_inside (PlaceText.slot k) limited = let few : number k ≤ 64 = leb-true (number k) 64 (both_true (leb 1 (number k)) (leb (number k) 64) limited).1 in omega arith
 
 register_kept : (n : ℕ) → n ≤ 9 → register_number (register_said n) ≡ n
 register_kept zero h = refl
@@ -75,14 +75,14 @@ register_kept (suc (suc (suc (suc (suc (suc (suc (suc zero)))))))) h = refl
 register_kept (suc (suc (suc (suc (suc (suc (suc (suc (suc zero))))))))) h = refl
 register_kept (suc (suc (suc (suc (suc (suc (suc (suc (suc (suc n)))))))))) h = absurd (omega arith)
 
-value_kept : (p : Place) → is_place p ≡ true → is_plain_place p ≡ true → is_limited_place p ≡ true → (place_of (place_said p) ≡ p) × (is_limited_value (place_said p) ≡ true)
-value_kept (Place.register i) form plain limited =
+value_kept : (p : PlaceText) → is_place p ≡ true → is_plain_place p ≡ true → is_limited_place p ≡ true → (spelled_place (place_said p) ≡ p) × (is_limited_value (place_said p) ≡ true)
+value_kept (PlaceText.register i) form plain limited =
     let few : number i ≤ 9 = leb-true (number i) 9 limited in
     let same = register_kept (number i) few in
-    (ap (λ n. Place.register (decimal n)) same ∙ ap Place.register (plain_decimal i form plain (omega arith)), ap (λ n. leb n 9) same ∙ limited)
-value_kept (Place.slot k) form plain limited =
+    (ap (λ n. PlaceText.register (decimal n)) same ∙ ap PlaceText.register (plain_decimal i form plain (omega arith)), ap (λ n. leb n 9) same ∙ limited)
+value_kept (PlaceText.slot k) form plain limited =
     let few : number k ≤ 64 = leb-true (number k) 64 (both_true (leb 1 (number k)) (leb (number k) 64) limited).1 in
-    (ap Place.slot (plain_decimal k form plain (omega arith)), limited)
+    (ap PlaceText.slot (plain_decimal k form plain (omega arith)), limited)
 
 measure_kept : (m : Measure) → is_measure m ≡ true → is_plain_measure m ≡ true → is_limited_measure m ≡ true → (measure_of (measure_said m) ≡ m) × (is_limited_measured (measure_said m) ≡ true)
 measure_kept (Measure.down p) form plain limited = let k = value_kept p form plain limited in (ap Measure.down k.0, k.1)

@@ -3,11 +3,11 @@ use Rattle.std.proofs.Common.{◌≡◌, ◌^◌, ◌<◌, true, false, not, ltb
 use Rattle.std.specs.Prelude.{count_by}
 use Rattle.std.specs.List.{list_all}
 use Rattle.bpf_cert.specs.Line.{Line}
-use Rattle.bpf_state.specs.declared.state.Place.{Place}
-use Rattle.bpf_state.specs.declared.state.SlotState.{SlotState}
+use Rattle.bpf_state.specs.declared.known.Place.{Place}
+use Rattle.bpf_state.specs.declared.known.SlotState.{SlotState}
 use Rattle.bpf_cert.specs.Faults.{is_ended, is_function, ends_bare}
 use Rattle.bpf_cert.specs.View.{label_view, function_view, certificate_of}
-use Rattle.bpf_cert.specs.Spelling.{header_line, function_line, label_line, place_of, content_of}
+use Rattle.bpf_cert.specs.Spelling.{header_line, function_line, label_line, spelled_place, content_of}
 use Rattle.bpf_cert.specs.Limits.{is_limited_num, is_limited_term, is_limited_header, IsCertificate}
 use Rattle.bpf_cert.specs.code.Standing.{Stands, ruled, stage_of, is_start, may_have_label}
 use Rattle.bpf_cert.specs.code.Sound.{IsLabelState, AreWhole, HasFunction, IsSoundAt, IsSound, closed, function_at, functions_at, with_label}
@@ -100,18 +100,18 @@ label_sound lines old mid new l built more fine e stands closes a same last smal
     let stands_too : Stands (label_line m ∷ lines) new.standing = subst (λ x. Stands (x ∷ lines) new.standing) e stands in
     subst (λ s. IsSoundAt s new) (sym now) (sound_label lines old.standing new.standing new.header (closed new) (function_view new.function) m small_slot small_base terms state has built.stands stands_too is)
 
-pub entry_sound : (lines : List Line) (old mid new : Builder) (l : Line) (p : Place) (v : SlotState) → IsBuilt lines old → ruled lines (Some l) ≡ Ok l → l ≡ Line.entry (place_of p) (content_of v) → Stands (l ∷ lines) new.standing
+pub entry_sound : (lines : List Line) (old mid new : Builder) (l : Line) (p : Place) (v : SlotState) → IsBuilt lines old → ruled lines (Some l) ≡ Ok l → l ≡ Line.entry (spelled_place p) (content_of v) → Stands (l ∷ lines) new.standing
     → Puts p v old mid → new.header ≡ mid.header → closed new ≡ closed mid → function_view new.function ≡ function_view mid.function → new.label ≡ mid.label → IsSound new
 entry_sound lines old mid new l p v built fine e stands puts a same last labels =
-    let is : IsFine lines (Line.entry (place_of p) (content_of v)) = subst (IsFine lines) e (ruled_fine lines l l fine) in
+    let is : IsFine lines (Line.entry (spelled_place p) (content_of v)) = subst (IsFine lines) e (ruled_fine lines l l fine) in
     let was : old.standing.stage ≡ stage.Label = built.stands.stage ∙ in_label lines (sym (stand_entry lines _ _) ∙ is.stands) in
     let has : HasFunction old.standing old.header (closed old) (with_label (function_view old.function) (label_view old.label)) = subst (λ s. IsSoundAt s old) was built.sound in
     let state : IsLabelState mid.label.state = puts.sound (last_state (map label_view old.function.labels.items) (label_view old.label) has.labels) in
     let now : new.standing.stage ≡ stage.Label = stands.stage ∙ ap (λ x. stage_of (x ∷ lines)) e in
-    let stands_too : Stands (Line.entry (place_of p) (content_of v) ∷ lines) new.standing = subst (λ x. Stands (x ∷ lines) new.standing) e stands in
+    let stands_too : Stands (Line.entry (spelled_place p) (content_of v) ∷ lines) new.standing = subst (λ x. Stands (x ∷ lines) new.standing) e stands in
     let whole : function_at stage.Label new ≡ with_label (function_view old.function) (label_view mid.label) = ap (λ f. with_label f (label_view new.label)) (last ∙ puts.last) ∙ ap (λ x. with_label (function_view old.function) (label_view x)) labels in
     subst (λ s. IsSoundAt s new) (sym now) (subst (HasFunction new.standing new.header (closed new)) (sym whole) (rw (a, same, puts.keeps.header, puts.list)
-    (sound_entry lines old.standing new.standing old.header (closed old) (function_view old.function) (label_view old.label) (label_view mid.label) (place_of p) (content_of v) puts.slot (ap (λ x. x.base) puts.budget) (ap (λ x. x.terms.items) puts.budget) state has built.stands stands_too)))
+    (sound_entry lines old.standing new.standing old.header (closed old) (function_view old.function) (label_view old.label) (label_view mid.label) (spelled_place p) (content_of v) puts.slot (ap (λ x. x.base) puts.budget) (ap (λ x. x.terms.items) puts.budget) state has built.stands stands_too)))
 
 ended_stage : (ls : List Line) → is_ended ls ≡ true → stage_of ls ≡ stage.Ended
 ended_stage [] e = cc

@@ -8,9 +8,9 @@ use Rattle.bpf_insn.specs.Instruction.{register_number}
 use Rattle.bpf_insn.specs.declared.instruction.Reg.{Reg}
 use Rattle.bpf_insn.specs.declared.instruction.Reg.TheVariants.{R10}
 use Rattle.bpf_state.specs.State.{AbstractState, register, value_slot, with_register, with_slot, blank}
-use Rattle.bpf_state.specs.declared.state.RegState.{RegState}
-use Rattle.bpf_state.specs.declared.state.RegState.TheVariants as reg
-use Rattle.bpf_state.specs.declared.state.SlotState.{SlotState}
+use Rattle.bpf_state.specs.declared.known.RegState.{RegState}
+use Rattle.bpf_state.specs.declared.known.RegState.TheVariants as reg
+use Rattle.bpf_state.specs.declared.known.SlotState.{SlotState}
 use Rattle.bpf_cert.specs.Limits.{is_frame_end, is_limited_register, is_limited_slot, has_shape}
 use Rattle.bpf_cert.specs.code.Sound.{IsLabelState}
 use Rattle.bpf_cert.proofs.Bools.{both_true}

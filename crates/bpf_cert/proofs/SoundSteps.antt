@@ -7,7 +7,7 @@ use Rattle.std.proofs.lemmas.List.{length-map}
 use Rattle.std.proofs.lemmas.List.Sums.{sum_by-append, sum_by-cons}
 use Rattle.bpf_num.specs.Number.{Number as AbstractNumber, IsNumber}
 use Rattle.bpf_cert.specs.Numeral.{number, is_from_to}
-use Rattle.bpf_cert.specs.Line.{Line, Place, Content}
+use Rattle.bpf_cert.specs.Line.{Line, PlaceText, Content}
 use Rattle.bpf_cert.specs.Faults.{is_rising, comes_after, is_function, is_label, ends_bare, last_first}
 use Rattle.bpf_cert.specs.code.TermSums.{last}
 use Rattle.bpf_cert.specs.View.{LabelView, FunctionView, certificate_of}
@@ -158,7 +158,7 @@ last_state ls l are =
     let front = both_true _ (leb l.base (2 ^ 40)) inner.0 in
     record { canonical = (both_true (is_canonical_state l.state) (is_rising term_before l.terms) is.canonical).0; limited = (both_true (leb l.slot 65535) (is_limited_state l.state) front.0).1 }
 
-pub sound_entry : (lines : List Line) (old new : Standing) (head : Header) (fs : List FunctionView) (f : FunctionView) (l m : LabelView) (p : Place) (v : Content) → m.slot ≡ l.slot → m.base ≡ l.base → m.terms ≡ l.terms → IsLabelState m.state
+pub sound_entry : (lines : List Line) (old new : Standing) (head : Header) (fs : List FunctionView) (f : FunctionView) (l m : LabelView) (p : PlaceText) (v : Content) → m.slot ≡ l.slot → m.base ≡ l.base → m.terms ≡ l.terms → IsLabelState m.state
     → HasFunction old head fs (with_label f l) → Stands lines old → Stands (Line.entry p v ∷ lines) new → HasFunction new head fs (with_label f m)
 sound_entry lines old new head fs f l m p v e g h state has was stands =
     let parts = labels_less f.labels l has.labels in

@@ -3,7 +3,7 @@ use Rattle.std.proofs.Common.{◌≡◌, List, ◌∷◌, ℕ, Option, Some, Non
 use Rattle.std.specs.Prelude.{IfSome, MatchResult, flat_map}
 use Rattle.bpf_cert.specs.View.{CertificateView, header_of}
 use Rattle.bpf_cert.specs.Spelling.{header_line, function_lines, certificate_lines}
-use Rattle.bpf_cert.specs.Faults.{fault_of, complete}
+use Rattle.bpf_cert.specs.Faults.{text_fault, complete}
 use Rattle.bpf_cert.specs.Certificates.{Spells, SpelledIsFaultless, SpelledOnce}
 use Rattle.bpf_cert.specs.ReadAnswers.{IsFromOutside}
 use Rattle.bpf_cert.specs.declared.error.CertError.{CertError}
@@ -15,7 +15,7 @@ use Rattle.bpf_cert.proofs.LinesOnce.{lines_once}
 use Rattle.bpf_cert.proofs.ReadingLemmas.{Gives}
 
 pub faultless : SpelledIsFaultless
-faultless text c s = ap (fault_of complete) s.spelled
+faultless text c s = ap (text_fault complete) s.spelled
     ∙ fine_faultless (header_line (header_of c) ∷ flat_map function_lines c.functions) (certificate_fine c s.valid) (certificate_written c s.valid)
 
 pub once : SpelledOnce

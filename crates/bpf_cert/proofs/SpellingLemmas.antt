@@ -7,8 +7,8 @@ use Rattle.bpf_cert.specs.Line.{signed_text, range_text, content_text, term_text
 use Rattle.bpf_cert.specs.Spelling.{bounds_in, term_of}
 use Rattle.bpf_cert.specs.code.SpellingParts.{terms_tail, area_text}
 use Rattle.bpf_cert.specs.declared.certificate.Term.{Term}
-use Rattle.bpf_state.specs.declared.state.Area.{Area}
-use Rattle.bpf_state.specs.declared.state.Area.TheVariants as area
+use Rattle.bpf_state.specs.declared.known.Area.{Area}
+use Rattle.bpf_state.specs.declared.known.Area.TheVariants as area
 
 pub signed_text_digits : (z : ℤ) → signed_text (digits_of_int z) ≡ signed_decimal z
 signed_text_digits (pos n) = refl

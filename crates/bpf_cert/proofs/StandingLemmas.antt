@@ -3,14 +3,14 @@ use Rattle.std.proofs.Common.{◌≡◌, ℕ, ◌^◌, ◌<◌, ◌≤◌, Bool,
 use Rattle.std.specs.Prelude.{◌&&◌, option_map, IfSome, decimal}
 use Rattle.std.proofs.lemmas.Bool.{leb-true, lt-ltb, ltb-true, ltb-false}
 use Rattle.bpf_cert.specs.Numeral.{is_numeral, is_plain, number, is_from_to}
-use Rattle.bpf_cert.specs.Line.{Line, Place, Number, Content, Term, Lengths}
+use Rattle.bpf_cert.specs.Line.{Line, PlaceText, Number, Content, Term, Lengths}
 use Rattle.bpf_cert.specs.Faults.{is_canonical, is_limited, may_stand, is_in_order, has_room, comes_after}
 use Rattle.bpf_cert.specs.Reading.{◌>>=◌, numeral_in, all_there, term_in, place_in, number_in, content_in, function_in, label_in, entry_in}
 use Rattle.bpf_cert.specs.code.Findings.{tested, found, joined, valued}
 use Rattle.bpf_cert.specs.code.TermSums.{terms_in}
 use Rattle.bpf_cert.specs.code.Standing.{FunctionIs, LabelIs, EntryIs, stage_of, is_start, may_have_label, may_have_entry, ruled, fields_in, uncons, three_of}
-use Rattle.bpf_cert.specs.declared.finding.Flaw.{Flaw}
-use Rattle.bpf_cert.specs.declared.finding.Flaw.TheVariants.{Syntax}
+use Rattle.bpf_cert.specs.declared.finding.PartFault.{PartFault}
+use Rattle.bpf_cert.specs.declared.finding.PartFault.TheVariants.{Syntax}
 use Rattle.bpf_cert.proofs.Bools.{both_true}
 use Rattle.bpf_cert.proofs.NumeralLaws.{numeral-decimal}
 use Rattle.bpf_cert.proofs.FindingLemmas.{found_tested, joined_valued}
@@ -109,12 +109,12 @@ pub nowhere : (name a : List ℕ) (fs : List (List ℕ)) → fs ≡ a ∷ [] →
 unfolding entry_in ◌>>=◌
 nowhere name a fs e f = rw (e, f) refl
 
-content_then : (p : Place) (o : Option _) → (o >>= (λ c. Some (Line.entry p c))) ≡ option_map (Line.entry p) o
+content_then : (p : PlaceText) (o : Option _) → (o >>= (λ c. Some (Line.entry p c))) ≡ option_map (Line.entry p) o
 unfolding ◌>>=◌
 content_then p None = refl
 content_then p (Some c) = refl
 
-pub entry_yes : (name a : List ℕ) (fs : List (List ℕ)) (p : Place) → fs ≡ a ∷ [] → place_in name ≡ Some p → EntryIs name fs (Some (p, a))
+pub entry_yes : (name a : List ℕ) (fs : List (List ℕ)) (p : PlaceText) → fs ≡ a ∷ [] → place_in name ≡ Some p → EntryIs name fs (Some (p, a))
 unfolding entry_in ◌>>=◌
 entry_yes name a fs p e f = ((place_is name).holds p f, rw (e, f) (content_then p (content_in p a)))
 
@@ -144,7 +144,7 @@ stand_label (Line.label _ _ _ ∷ ls) s b ts = refl
 stand_label (Line.entry _ _ ∷ ls) s b ts = refl
 stand_label (Line.end ∷ ls) s b ts = refl
 
-pub stand_entry : (before : List Line) (p : Place) (c : Content) → may_stand before (Line.entry p c) ≡ may_have_entry (stage_of before)
+pub stand_entry : (before : List Line) (p : PlaceText) (c : Content) → may_stand before (Line.entry p c) ≡ may_have_entry (stage_of before)
 stand_entry [] p c = refl
 stand_entry (Line.header _ _ ∷ ls) p c = refl
 stand_entry (Line.function _ _ _ ∷ ls) p c = refl
@@ -180,17 +180,17 @@ ruled_joined before c l a b mk None may canon limit = none a b
 ruled_joined before c l a b mk (Some x) may canon limit = rw (may x, canon x, limit x) (found_tested (a && c x) (b && l x) (mk x)
     ∙ sym (mapped (tested (a && c x) (b && l x))) ∙ ap (valued mk) (sym (ap (joined (tested a b)) (found_tested (c x) (l x) x) ∙ joined_valued a b (c x) (l x) x)))
   where
-    mapped : (r : Result (Unit {0}) Flaw) → valued mk (valued (λ (u : Unit {0}). x) r) ≡ valued (λ (u : Unit {0}). mk x) r
+    mapped : (r : Result (Unit {0}) PartFault) → valued mk (valued (λ (u : Unit {0}). x) r) ≡ valued (λ (u : Unit {0}). mk x) r
     mapped (Ok u) = refl
     mapped (Err f) = refl
 
-joined_maps : {A V : Type 0} (spell : V → A) (r : Result (Unit {0}) Flaw) (s : Result V Flaw) → valued spell (joined r s) ≡ joined r (valued spell s)
+joined_maps : {A V : Type 0} (spell : V → A) (r : Result (Unit {0}) PartFault) (s : Result V PartFault) → valued spell (joined r s) ≡ joined r (valued spell s)
 joined_maps spell (Ok u) s = refl
 joined_maps spell (Err f) (Ok v) = refl
 joined_maps spell (Err f) (Err g) = refl
 
 -- a line by what was found in its own fields and in the part that is read apart
-pub judged_line : {A V : Type 0} (before : List Line) (c l : A → Bool) (a b : Bool) (mk : A → Line) (spell : V → A) (o : Option A) (r j : Result V Flaw) (own : Result (Unit {0}) Flaw) (whole : Option Line)
+pub judged_line : {A V : Type 0} (before : List Line) (c l : A → Bool) (a b : Bool) (mk : A → Line) (spell : V → A) (o : Option A) (r j : Result V PartFault) (own : Result (Unit {0}) PartFault) (whole : Option Line)
     → whole ≡ option_map mk o → ((x : A) → may_stand before (mk x) ≡ true)
     → ((x : A) → (is_canonical (mk x) && is_in_order before (mk x)) ≡ (a && c x)) → ((x : A) → (is_limited (mk x) && has_room before (mk x)) ≡ (b && l x))
     → own ≡ tested a b → valued spell r ≡ found c l o → j ≡ joined own r → valued mk (valued spell j) ≡ ruled before whole
@@ -261,7 +261,7 @@ label_short fs rest s e f = no_base fs s (uncons_some fs s rest (sym e) ∙ ap (
 pub entry_long : (name : List ℕ) (fs rest more : List (List ℕ)) (a b : List ℕ) → Some (a, rest) ≡ uncons fs → Some (b, more) ≡ uncons rest → entry_in name fs ≡ None
 entry_long name fs rest more a b e f = long_entry name a b fs more (uncons_some fs a rest (sym e) ∙ ap (λ xs. a ∷ xs) (uncons_some rest b more (sym f)))
 
-pub entry_then : (name : List ℕ) (fs rest : List (List ℕ)) (a : List ℕ) (p : Place) → Some (a, rest) ≡ uncons fs → None ≡ uncons rest → Some p ≡ place_in name → EntryIs name fs (Some (p, a))
+pub entry_then : (name : List ℕ) (fs rest : List (List ℕ)) (a : List ℕ) (p : PlaceText) → Some (a, rest) ≡ uncons fs → None ≡ uncons rest → Some p ≡ place_in name → EntryIs name fs (Some (p, a))
 entry_then name fs rest a p e f g = entry_yes name a fs p (uncons_some fs a rest (sym e) ∙ ap (λ xs. a ∷ xs) (uncons_none rest (sym f))) (sym g)
 
 pub entry_nowhere : (name : List ℕ) (fs rest : List (List ℕ)) (a : List ℕ) → Some (a, rest) ≡ uncons fs → None ≡ uncons rest → None ≡ place_in name → entry_in name fs ≡ None

@@ -8,21 +8,21 @@ use Rattle.std.proofs.lemmas.List.{map-append}
 use Rattle.std.specs.Str.{bytes_eq}
 use Rattle.bpf_cert.specs.Numeral.{is_from_to}
 use Rattle.bpf_cert.specs.Numeral.{is_numeral, is_plain, number}
-use Rattle.bpf_cert.specs.Line.{Place, Measure, Term, is_place, is_measure, is_term}
-use Rattle.bpf_cert.specs.Faults.{is_rising, place_before, place_of, comes_after, is_plain_place, is_plain_measure, is_limited_place, is_limited_measure, is_limited_term}
+use Rattle.bpf_cert.specs.Line.{PlaceText, Measure, Term, is_place, is_measure, is_term}
+use Rattle.bpf_cert.specs.Faults.{is_rising, place_before, line_place, comes_after, is_plain_place, is_plain_measure, is_limited_place, is_limited_measure, is_limited_term}
 use Rattle.bpf_cert.specs.Limits as limits
 use Rattle.bpf_cert.specs.code.Findings.{tested, found, joined, valued}
-use Rattle.bpf_cert.specs.Spelling.{term_of, place_of as spelled_place}
+use Rattle.bpf_cert.specs.Spelling.{term_of, spelled_place}
 use Rattle.bpf_cert.specs.code.Seen.{place_seen, measure_seen, term_seen}
 use Rattle.bpf_cert.specs.Reading.{term_in}
 use Rattle.bpf_cert.specs.code.TermSums.{is_plain_term, term_before, are_canonical_terms, are_limited_terms, last, IsTermSum, IsPlainPlace}
 use Rattle.bpf_cert.specs.declared.term.TermForm.{TermForm}
 use Rattle.bpf_cert.specs.declared.term.Terms.{Terms}
 use Rattle.bpf_cert.specs.declared.place.PlaceForm.{PlaceForm}
-use Rattle.bpf_cert.specs.declared.finding.Flaw.{Flaw}
+use Rattle.bpf_cert.specs.declared.finding.PartFault.{PartFault}
 use Rattle.bpf_cert.specs.declared.certificate.Term.{Term as TermValue}
 use Rattle.bpf_cert.specs.declared.certificate.Measure.TheVariants.{Down, Up}
-use Rattle.bpf_state.specs.declared.state.Place.{Place as PlaceValue}
+use Rattle.bpf_state.specs.declared.known.Place.{Place as PlaceValue}
 use Rattle.bpf_cert.proofs.FindingLemmas.{found_tested, joined_tested, joined_ok, tested_true, list_all_end}
 use Rattle.bpf_cert.proofs.Bools.{both_true}
 use Rattle.bpf_cert.proofs.NumberLemmas.{plain_value}
@@ -38,7 +38,7 @@ measure_place (Some limit) p e = (both_true (is_numeral limit.now) (is_place (pl
 pub term_place : (t : TermForm) → is_term (term_seen t) ≡ true → is_place (place_seen t.place) ≡ true
 term_place t e = measure_place t.limit t.place (both_true (is_numeral t.weight.now) (is_measure (measure_seen t.limit t.place)) e).1
 
-pub place_of_seen : (l : Option (Bor (List ℕ))) (p : PlaceForm) (w : List ℕ) → place_of (record { weight = w; measure = measure_seen l p }) ≡ place_seen p
+pub place_of_seen : (l : Option (Bor (List ℕ))) (p : PlaceForm) (w : List ℕ) → line_place (record { weight = w; measure = measure_seen l p }) ≡ place_seen p
 place_of_seen None p w = refl
 place_of_seen (Some limit) p w = refl
 
@@ -75,14 +75,14 @@ term_up t n m p limit e f g h form plain limited =
     let digits = limit_again t limit m e h parts.1 plains.1 limits.1 in
     rw (e, f, g, digits) refl
 
-rising_end : (ts : List Term) (t : Term) → is_rising term_before (ts ++ t ∷ []) ≡ (is_rising term_before ts && comes_after place_before (option_map place_of (last ts)) (place_of t))
+rising_end : (ts : List Term) (t : Term) → is_rising term_before (ts ++ t ∷ []) ≡ (is_rising term_before ts && comes_after place_before (option_map line_place (last ts)) (line_place t))
 rising_end [] t = refl
 rising_end (u ∷ []) t = one (term_before u t)
   where
     one : (b : Bool) → (b && true) ≡ (true && b)
     one true = refl
     one false = refl
-rising_end (u ∷ v ∷ vs) t = ap (λ b. term_before u v && b) (rising_end (v ∷ vs) t) ∙ grouped (term_before u v) (is_rising term_before (v ∷ vs)) (comes_after place_before (option_map place_of (last (v ∷ vs))) (place_of t))
+rising_end (u ∷ v ∷ vs) t = ap (λ b. term_before u v && b) (rising_end (v ∷ vs) t) ∙ grouped (term_before u v) (is_rising term_before (v ∷ vs)) (comes_after place_before (option_map line_place (last (v ∷ vs))) (line_place t))
   where
     grouped : (a b c : Bool) → (a && (b && c)) ≡ ((a && b) && c)
     grouped true b c = refl
@@ -93,16 +93,16 @@ last_end [] t = refl
 last_end (u ∷ []) t = refl
 last_end (u ∷ v ∷ vs) t = last_end (v ∷ vs) t
 
-plain_measure : (m : Measure) (w : List ℕ) → is_plain_measure m ≡ true → is_plain_place (place_of (record { weight = w; measure = m })) ≡ true
+plain_measure : (m : Measure) (w : List ℕ) → is_plain_measure m ≡ true → is_plain_place (line_place (record { weight = w; measure = m })) ≡ true
 plain_measure (Measure.down p) w e = e
 plain_measure (Measure.up limit p) w e = (both_true (is_plain limit) (is_plain_place p) e).1
 
-form_measure : (m : Measure) (w : List ℕ) → is_measure m ≡ true → is_place (place_of (record { weight = w; measure = m })) ≡ true
+form_measure : (m : Measure) (w : List ℕ) → is_measure m ≡ true → is_place (line_place (record { weight = w; measure = m })) ≡ true
 form_measure (Measure.down p) w e = e
 form_measure (Measure.up limit p) w e = (both_true (is_numeral limit) (is_place p) e).1
 
 -- the last of plain terms has a plain place
-last_plain : (ts : List Term) → list_all is_term ts ≡ true → list_all is_plain_term ts ≡ true → IfSome (option_map place_of (last ts)) IsPlainPlace
+last_plain : (ts : List Term) → list_all is_term ts ≡ true → list_all is_plain_term ts ≡ true → IfSome (option_map line_place (last ts)) IsPlainPlace
 last_plain [] form plain = tt
 last_plain (t ∷ []) form plain =
     let f = both_true (is_numeral t.weight) (is_measure t.measure) (both_true (is_term t) true form).0 in
@@ -110,8 +110,8 @@ last_plain (t ∷ []) form plain =
     (form_measure t.measure t.weight f.1, plain_measure t.measure t.weight p.1)
 last_plain (t ∷ u ∷ us) form plain = last_plain (u ∷ us) (both_true (is_term t) (list_all is_term (u ∷ us)) form).1 (both_true (is_plain_term t) (list_all is_plain_term (u ∷ us)) plain).1
 
-canonical_end : (ts : List Term) (t : Term) (l : Option Place) (next : Bool) → list_all is_term ts ≡ true → l ≡ option_map place_of (last ts)
-    → (IfSome l IsPlainPlace → next ≡ (is_plain_term t && comes_after place_before l (place_of t))) → (are_canonical_terms ts && next) ≡ are_canonical_terms (ts ++ t ∷ [])
+canonical_end : (ts : List Term) (t : Term) (l : Option PlaceText) (next : Bool) → list_all is_term ts ≡ true → l ≡ option_map line_place (last ts)
+    → (IfSome l IsPlainPlace → next ≡ (is_plain_term t && comes_after place_before l (line_place t))) → (are_canonical_terms ts && next) ≡ are_canonical_terms (ts ++ t ∷ [])
 canonical_end ts t l next form e f = by_plain (list_all is_plain_term ts) refl
     ∙ sym (ap (λ b. b && is_rising term_before (ts ++ t ∷ [])) (list_all_end is_plain_term ts t) ∙ ap (λ b. (list_all is_plain_term ts && is_plain_term t) && b) (rising_end ts t))
   where
@@ -121,10 +121,10 @@ canonical_end ts t l next form e f = by_plain (list_all is_plain_term ts) refl
     exchange false false o = refl
 
     by_plain : (b : Bool) → list_all is_plain_term ts ≡ b → ((list_all is_plain_term ts && is_rising term_before ts) && next)
-        ≡ ((list_all is_plain_term ts && is_plain_term t) && (is_rising term_before ts && comes_after place_before (option_map place_of (last ts)) (place_of t)))
-    by_plain true g = let known : next ≡ (is_plain_term t && comes_after place_before (option_map place_of (last ts)) (place_of t)) =
-        f (subst (λ o. IfSome o IsPlainPlace) (sym e) (last_plain ts form g)) ∙ ap (λ o. is_plain_term t && comes_after place_before o (place_of t)) e in
-        rw (g, known) (exchange (is_rising term_before ts) (is_plain_term t) (comes_after place_before (option_map place_of (last ts)) (place_of t)))
+        ≡ ((list_all is_plain_term ts && is_plain_term t) && (is_rising term_before ts && comes_after place_before (option_map line_place (last ts)) (line_place t)))
+    by_plain true g = let known : next ≡ (is_plain_term t && comes_after place_before (option_map line_place (last ts)) (line_place t)) =
+        f (subst (λ o. IfSome o IsPlainPlace) (sym e) (last_plain ts form g)) ∙ ap (λ o. is_plain_term t && comes_after place_before o (line_place t)) e in
+        rw (g, known) (exchange (is_rising term_before ts) (is_plain_term t) (comes_after place_before (option_map line_place (last ts)) (line_place t)))
     by_plain false g = rw g refl
 
 room_left : (n : ℕ) → (leb n 4 && ltb 0 (4 - n)) ≡ leb (n + 1) 4
@@ -156,15 +156,15 @@ limited_end ts t room e = ap (λ r. are_limited_terms ts && (ltb 0 r && is_limit
     exchange true false false d = refl
     exchange false b c d = refl
 
-pub sum_more : (done : List Term) (t : Term) (old new : Terms) (canonical limited : Bool) (next : Result (Unit {0}) Flaw) → IsTermSum done old → is_term t ≡ true
-    → (IfSome (option_map place_seen old.last) IsPlainPlace → canonical ≡ (is_plain_term t && comes_after place_before (option_map place_seen old.last) (place_of t)))
-    → limited ≡ (ltb 0 old.room && is_limited_term t) → next ≡ tested canonical limited → new.found ≡ joined old.found next → option_map place_seen new.last ≡ Some (place_of t) → new.room ≡ old.room - 1
+pub sum_more : (done : List Term) (t : Term) (old new : Terms) (canonical limited : Bool) (next : Result (Unit {0}) PartFault) → IsTermSum done old → is_term t ≡ true
+    → (IfSome (option_map place_seen old.last) IsPlainPlace → canonical ≡ (is_plain_term t && comes_after place_before (option_map place_seen old.last) (line_place t)))
+    → limited ≡ (ltb 0 old.room && is_limited_term t) → next ≡ tested canonical limited → new.found ≡ joined old.found next → option_map place_seen new.last ≡ Some (line_place t) → new.room ≡ old.room - 1
     → list_all limits.is_limited_term new.terms.items ≡ true → (new.found ≡ Ok tt → map term_of new.terms.items ≡ map term_of old.terms.items ++ t ∷ []) → IsTermSum (done ++ t ∷ []) new
 sum_more done t old new canonical limited next sum form c l n all last_is room few pushed = record {
   flaws = all ∙ ap (λ x. joined x next) sum.flaws ∙ ap (joined (tested (are_canonical_terms done) (are_limited_terms done))) n ∙ joined_tested (are_canonical_terms done) (are_limited_terms done) canonical limited
       ∙ ap (λ b. tested b (are_limited_terms done && limited)) (canonical_end done t (option_map place_seen old.last) canonical sum.forms sum.last c)
       ∙ ap (λ b. tested (are_canonical_terms (done ++ t ∷ [])) (are_limited_terms done && b)) l ∙ ap (tested (are_canonical_terms (done ++ t ∷ []))) (limited_end done t old.room sum.room);
-  last = last_is ∙ ap (option_map place_of) (sym (last_end done t));
+  last = last_is ∙ ap (option_map line_place) (sym (last_end done t));
   forms = list_all_end is_term done t ∙ rw (sum.forms, form) refl;
   room = let n : length (done ++ t ∷ []) ≡ length done + 1 = length_end done t in let r : old.room ≡ 4 - length done = sum.room in omega arith;
   limited = few;
@@ -177,8 +177,8 @@ pub record IsFine (done : List Term) (t : Term) (canonical limited : Bool) : Typ
   pub limit : is_limited_term t ≡ true
   pub few : length done < 4
 
-pub fine : (done : List Term) (t : Term) (old : Terms) (canonical limited : Bool) (next all : Result (Unit {0}) Flaw) → IsTermSum done old
-    → (IfSome (option_map place_seen old.last) IsPlainPlace → canonical ≡ (is_plain_term t && comes_after place_before (option_map place_seen old.last) (place_of t)))
+pub fine : (done : List Term) (t : Term) (old : Terms) (canonical limited : Bool) (next all : Result (Unit {0}) PartFault) → IsTermSum done old
+    → (IfSome (option_map place_seen old.last) IsPlainPlace → canonical ≡ (is_plain_term t && comes_after place_before (option_map place_seen old.last) (line_place t)))
     → limited ≡ (ltb 0 old.room && is_limited_term t) → next ≡ tested canonical limited → all ≡ joined old.found next → all ≡ Ok tt → IsFine done t canonical limited
 fine done t old canonical limited next all sum c l n a ok =
     let both = joined_ok old.found next tt (sym a ∙ ok) in
@@ -190,7 +190,7 @@ fine done t old canonical limited next all sum c l n a ok =
     let some : 0 < old.room = ltb-true 0 old.room limits.0 in
     let room : old.room ≡ 4 - length done = sum.room in
     record {
-      plain = (both_true (is_plain_term t) (comes_after place_before (option_map place_seen old.last) (place_of t)) (sym known ∙ tests.0)).0;
+      plain = (both_true (is_plain_term t) (comes_after place_before (option_map place_seen old.last) (line_place t)) (sym known ∙ tests.0)).0;
       limit = limits.1;
       few = omega arith;
     }
@@ -204,7 +204,7 @@ empty_text (x ∷ xs) b e f = let none : eqb (length (x ∷ xs)) 0 ≡ true = sy
 
 pub follows : (t : TermForm) (before : PlaceForm) (o : Option PlaceForm) (r p : Bool) → o ≡ Some before → p ≡ true → p ≡ is_plain_term (term_seen t)
     → (is_place (place_seen before) ≡ true → is_plain_place (place_seen before) ≡ true → is_place (place_seen t.place) ≡ true → is_plain_place (place_seen t.place) ≡ true → r ≡ place_before (place_seen before) (place_seen t.place))
-    → is_term (term_seen t) ≡ true → IfSome (option_map place_seen o) IsPlainPlace → r ≡ (is_plain_term (term_seen t) && comes_after place_before (option_map place_seen o) (place_of (term_seen t)))
+    → is_term (term_seen t) ≡ true → IfSome (option_map place_seen o) IsPlainPlace → r ≡ (is_plain_term (term_seen t) && comes_after place_before (option_map place_seen o) (line_place (term_seen t)))
 follows t before o r p e f g answer form plain =
     let is_plain_too : is_plain_term (term_seen t) ≡ true = sym g ∙ f in
     let parts = both_true (is_plain t.weight.now) (is_plain_measure (measure_seen t.limit t.place)) is_plain_too in
@@ -213,7 +213,7 @@ follows t before o r p e f g answer form plain =
     let here : is_plain_place (place_seen t.place) ≡ true = subst (λ x. is_plain_place x ≡ true) same (plain_measure (measure_seen t.limit t.place) t.weight.now parts.1) in
     rw (is_plain_too, e, same) (answer known.0 known.1 (term_place t form) here)
 
-pub found_last : (t : TermForm) → option_map place_seen (Some t.place) ≡ Some (place_of (term_seen t))
+pub found_last : (t : TermForm) → option_map place_seen (Some t.place) ≡ Some (line_place (term_seen t))
 found_last t = ap Some (sym (place_of_seen t.limit t.place t.weight.now))
 
 pub pushed : (old new : List TermValue) (v : TermValue) (t : Term) → new ≡ old ++ v ∷ [] → term_of v ≡ t → map term_of new ≡ map term_of old ++ t ∷ []

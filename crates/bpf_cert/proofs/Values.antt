@@ -8,14 +8,14 @@ use Rattle.bpf_cert.specs.Limits.{IsCertificate}
 use Rattle.bpf_insn.specs.declared.instruction.Reg.{Reg}
 use Rattle.bpf_insn.specs.declared.instruction.Reg.TheVariants.{R6, R7}
 use Rattle.bpf_num.specs.Number.{Number}
-use Rattle.bpf_state.specs.declared.state.RegState.{RegState}
-use Rattle.bpf_state.specs.declared.state.RegState.TheVariants as reg
-use Rattle.bpf_state.specs.declared.state.Area.TheVariants as area
-use Rattle.bpf_state.specs.declared.state.SlotState.{SlotState}
-use Rattle.bpf_state.specs.declared.state.SlotState.TheVariants as slot
+use Rattle.bpf_state.specs.declared.known.RegState.{RegState}
+use Rattle.bpf_state.specs.declared.known.RegState.TheVariants as reg
+use Rattle.bpf_state.specs.declared.known.Area.TheVariants as area
+use Rattle.bpf_state.specs.declared.known.SlotState.{SlotState}
+use Rattle.bpf_state.specs.declared.known.SlotState.TheVariants as slot
 use Rattle.bpf_state.specs.State.{AbstractState, start_of}
 use Rattle.bpf_cert.specs.declared.certificate.Term.{Term}
-use Rattle.bpf_state.specs.declared.state.Place.TheVariants as place
+use Rattle.bpf_state.specs.declared.known.Place.TheVariants as place
 use Rattle.bpf_cert.specs.declared.certificate.Measure.TheVariants as measure
 use Rattle.bpf_cert.proofs.LineValues.{pointer_to}
 

@@ -6,12 +6,12 @@ use Rattle.std.proofs.lemmas.List.{at_drop_more, at_drop_all, length-map}
 use Rattle.std.proofs.lemmas.Grind.{flat_map-append}
 use Rattle.bpf_insn.specs.Written.{AppendsBeginning, Gathers}
 use Rattle.bpf_insn.proofs.WriteLemmas.{gathers_nothing, gathers_more, waits_first, waits_later, gathered_all, gathered_some}
-use Rattle.bpf_state.specs.declared.state.SlotState.{SlotState}
-use Rattle.bpf_state.specs.State.{AbstractState, IsState, value_slot}
+use Rattle.bpf_state.specs.declared.known.SlotState.{SlotState}
+use Rattle.bpf_state.specs.State.{AbstractState, IsAbstractState, value_slot}
 use Rattle.bpf_cert.specs.Written.{Puts, Writes}
 use Rattle.bpf_cert.specs.declared.header.Header.{Header}
 use Rattle.bpf_cert.specs.View.{CertificateView, header_of}
-use Rattle.bpf_cert.specs.Line.{Line, Place}
+use Rattle.bpf_cert.specs.Line.{Line, PlaceText}
 use Rattle.bpf_cert.specs.Spelling.{line_with_end, lines_text, lines_from, entry_lines, place_at, contents, function_lines, header_line, certificate_text}
 
 -- nothing was put
@@ -59,7 +59,7 @@ next_lines lines view xs i x inside e =
     ∙ flat_map-append line_with_end (lines (view x)) (flat_map lines (map view (drop (i + 1) xs)))
 
 -- the line of a place, and those of the places behind it
-pub next_entry : (cs : List SlotState) (j : ℕ) (place : Place) (value d : SlotState) → j < length cs → place ≡ place_at j → value ≡ get_or cs j d
+pub next_entry : (cs : List SlotState) (j : ℕ) (place : PlaceText) (value d : SlotState) → j < length cs → place ≡ place_at j → value ≡ get_or cs j d
     → lines_text (lines_from j (drop j cs)) ≡ lines_text (entry_lines place value) ++ lines_text (lines_from (j + 1) (drop (j + 1) cs))
 next_entry cs j place value d inside at holds =
     at_drop_more (λ ys. lines_text (lines_from j ys)) cs j d inside
@@ -70,7 +70,7 @@ next_entry cs j place value d inside at holds =
 pub no_entry : (cs : List SlotState) (j : ℕ) → length cs ≤ j → lines_text (lines_from j (drop j cs)) ≡ []
 no_entry cs j all = at_drop_all (λ ys. lines_text (lines_from j ys)) cs j all
 
-pub length-contents : (s : AbstractState) → IsState s → length (contents s) ≡ 74
+pub length-contents : (s : AbstractState) → IsAbstractState s → length (contents s) ≡ 74
 length-contents s h =
     length-append (map value_slot (take 10 s.registers)) s.slots
     ∙ ap (λ n. n + length s.slots) (length-map (take 10 s.registers) value_slot)

@@ -5,15 +5,15 @@ use Rattle.std.specs.List.{list_all, join_with_byte}
 use Rattle.std.proofs.lemmas.Bool.{leb-true, lt-ltb, eqb-true, le-ltb}
 use Rattle.std.proofs.lemmas.List.{length-map, length-take-le}
 use Rattle.bpf_cert.specs.Numeral.{is_from_to}
-use Rattle.bpf_cert.specs.Line.{Line, Lengths, Place as PlaceText, place_text, content_text, number_text, term_text}
+use Rattle.bpf_cert.specs.Line.{Line, Lengths, PlaceText, place_text, content_text, number_text, term_text}
 use Rattle.bpf_cert.specs.Spelling.{number_of, content_of, term_of, place_at, is_unknown, entry_lines, lines_from, contents, header_line, label_line, label_lines, function_lines, certificate_lines}
 use Rattle.bpf_cert.specs.View.{LabelView, FunctionView, CertificateView, header_of}
 use Rattle.bpf_cert.specs.Limits.{is_canonical, is_limited, is_limited_header, is_limited_num, is_limited_register, is_limited_slot, is_limited_state, is_limited_term, is_limited_label, is_limited_function, has_shape, label_count, IsCertificate}
 use Rattle.bpf_state.specs.State.{AbstractState, value_slot}
-use Rattle.bpf_state.specs.declared.state.RegState.{RegState}
-use Rattle.bpf_state.specs.declared.state.RegState.TheVariants as reg
-use Rattle.bpf_state.specs.declared.state.SlotState.{SlotState}
-use Rattle.bpf_state.specs.declared.state.SlotState.TheVariants as slot
+use Rattle.bpf_state.specs.declared.known.RegState.{RegState}
+use Rattle.bpf_state.specs.declared.known.RegState.TheVariants as reg
+use Rattle.bpf_state.specs.declared.known.SlotState.{SlotState}
+use Rattle.bpf_state.specs.declared.known.SlotState.TheVariants as slot
 use Rattle.bpf_cert.proofs.Bools.{both_true}
 use Rattle.bpf_cert.specs.declared.header.Header.{Header}
 use Rattle.bpf_cert.proofs.HeaderValues.{header_facts, versions, lengths_one, lengths_two}

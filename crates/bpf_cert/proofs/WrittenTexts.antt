@@ -9,21 +9,21 @@ use Rattle.std.proofs.lemmas.List.{length-map}
 use Rattle.std.proofs.lemmas.List.Elements.{All-append, All-from_recursion}
 use Rattle.bpf_lines.specs.Taken.{IsOneLine}
 use Rattle.bpf_cert.specs.Numeral.{is_decimal_digit, is_numeral, digits_of_int, SignedDigits, int_eq, is_from_to}
-use Rattle.bpf_cert.specs.Line.{Part, Number, Content, Place as PlaceText, Measure as MeasureText, Term as TermText, signed_text, range_text, part_text, number_text, content_text, place_text, measure_text, term_text, is_part, is_number, is_content, is_place, is_measure, is_term}
+use Rattle.bpf_cert.specs.Line.{Part, Number, Content, PlaceText, Measure as MeasureText, Term as TermText, signed_text, range_text, part_text, number_text, content_text, place_text, measure_text, term_text, is_part, is_number, is_content, is_place, is_measure, is_term}
 use Rattle.bpf_cert.specs.Faults.{is_int_range, is_range, is_bits}
 use Rattle.bpf_cert.specs.Limits.{is_limited_num, is_limited_place, is_limited_measure, is_limited_term, is_limited_pointer}
-use Rattle.bpf_cert.specs.Spelling.{unsigned_parts, signed_parts, bits_parts, of_parts, number_of, place_of, measure_of, term_of, bounds_in, content_of}
+use Rattle.bpf_cert.specs.Spelling.{unsigned_parts, signed_parts, bits_parts, of_parts, number_of, spelled_place, measure_of, term_of, bounds_in, content_of}
 use Rattle.bpf_cert.specs.code.Sums.{least, greatest}
 use Rattle.bpf_num.specs.Interval.{Interval}
 use Rattle.bpf_num.specs.SignedInterval.{SignedInterval}
 use Rattle.bpf_num.specs.Tristate.{Tristate}
 use Rattle.bpf_num.specs.Number.{Number as AbstractNumber}
-use Rattle.bpf_state.specs.declared.state.Pointer.{Pointer}
-use Rattle.bpf_state.specs.declared.state.Area.{Area}
-use Rattle.bpf_state.specs.declared.state.Area.TheVariants as area
-use Rattle.bpf_state.specs.declared.state.SlotState.TheVariants as slot
-use Rattle.bpf_state.specs.declared.state.Place.{Place}
-use Rattle.bpf_state.specs.declared.state.Place.TheVariants as place
+use Rattle.bpf_state.specs.declared.known.Pointer.{Pointer}
+use Rattle.bpf_state.specs.declared.known.Area.{Area}
+use Rattle.bpf_state.specs.declared.known.Area.TheVariants as area
+use Rattle.bpf_state.specs.declared.known.SlotState.TheVariants as slot
+use Rattle.bpf_state.specs.declared.known.Place.{Place}
+use Rattle.bpf_state.specs.declared.known.Place.TheVariants as place
 use Rattle.bpf_cert.specs.declared.certificate.Measure.{Measure}
 use Rattle.bpf_cert.specs.declared.certificate.Measure.TheVariants as measure
 use Rattle.bpf_cert.specs.declared.certificate.Term.{Term}
@@ -221,7 +221,7 @@ pub slot_short : (k : ℕ) → k < 100 → IsPlaceShort (PlaceText.slot (decimal
 slot_short k low = let s = short_decimal 2 k (omega arith) (omega arith) (omega arith) in
     record { form = s.form; fits = fits_append 1 2 (codes "s") (decimal k) (fits_word (codes "s") refl) s.fits }
 
-place_short : (p : Place) → is_limited_place p ≡ true → IsPlaceShort (place_of p)
+place_short : (p : Place) → is_limited_place p ≡ true → IsPlaceShort (spelled_place p)
 place_short (place.Register r) e = let low = leb-true (register_number r) 9 e in register_short (register_number r) (omega arith)
 place_short (place.Slot k) e = let ends = both_true (leb 1 k) (leb k 64) e in let low = leb-true k 64 ends.1 in slot_short k (omega arith)
 
@@ -230,15 +230,15 @@ record IsMeasureShort (m : MeasureText) : Type 0 where
   fits : Fits 26 (measure_text m)
 
 measure_short : (m : Measure) → is_limited_measure m ≡ true → IsMeasureShort (measure_of m)
-measure_short (measure.Down p) e = let s = place_short p e in record { form = s.form; fits = fits_more 3 26 (place_text (place_of p)) (omega arith) s.fits }
+measure_short (measure.Down p) e = let s = place_short p e in record { form = s.form; fits = fits_more 3 26 (place_text (spelled_place p)) (omega arith) s.fits }
 measure_short (measure.Up p limit) e =
     let parts = both_true (ltb limit (2 ^ 64)) (is_limited_place p) e in
     let top = decimal_short limit (ltb-true limit (2 ^ 64) parts.0) in
     let s = place_short p parts.1 in
     record {
       form = both top.form s.form;
-      fits = fits_append 25 1 (codes "(" ++ decimal limit ++ codes "-" ++ place_text (place_of p)) (codes ")")
-          (fits_append 22 3 (codes "(" ++ decimal limit ++ codes "-") (place_text (place_of p))
+      fits = fits_append 25 1 (codes "(" ++ decimal limit ++ codes "-" ++ place_text (spelled_place p)) (codes ")")
+          (fits_append 22 3 (codes "(" ++ decimal limit ++ codes "-") (place_text (spelled_place p))
           (fits_append 21 1 (codes "(" ++ decimal limit) (codes "-") (fits_append 1 20 (codes "(") (decimal limit) (fits_word (codes "(") refl) top.fits) (fits_word (codes "-") refl)) s.fits)
           (fits_word (codes ")") refl);
     }

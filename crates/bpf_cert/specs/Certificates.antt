@@ -3,7 +3,7 @@ use Rattle.std.specs.Prelude.{◌≡◌, ℕ, List, ◌++◌, Some, None}
 use Rattle.bpf_cert.specs.View.{CertificateView}
 use Rattle.bpf_cert.specs.Spelling.{certificate_text}
 use Rattle.bpf_cert.specs.Limits.{IsCertificate}
-use Rattle.bpf_cert.specs.Faults.{fault_of, complete, failed, unknown}
+use Rattle.bpf_cert.specs.Faults.{text_fault, complete, failed, unknown}
 use Rattle.bpf_cert.specs.declared.error.CertError.{CertError}
 
 -- the text is the certificate's
@@ -15,7 +15,7 @@ pub record Spells (text : List ℕ) (c : CertificateView) : Type 0 where
 
 -- The text of a certificate has no fault.
 abbrev pub SpelledIsFaultless : Type 0
-SpelledIsFaultless = (text : List ℕ) (c : CertificateView) → Spells text c → fault_of complete text ≡ None
+SpelledIsFaultless = (text : List ℕ) (c : CertificateView) → Spells text c → text_fault complete text ≡ None
 
 -- It is of one certificate alone.
 abbrev pub SpelledOnce : Type 0
@@ -23,8 +23,8 @@ SpelledOnce = (text : List ℕ) (c d : CertificateView) → Spells text c → Sp
 
 -- A text without fault is a certificate's.
 abbrev pub FaultlessIsSpelled : Type 0
-FaultlessIsSpelled = (text : List ℕ) → fault_of complete text ≡ None → (c : CertificateView) × Spells text c
+FaultlessIsSpelled = (text : List ℕ) → text_fault complete text ≡ None → (c : CertificateView) × Spells text c
 
 -- A fault that shows before all bytes came stays, whatever comes behind them and however the text stops.
 abbrev pub FaultStays : Type 0
-FaultStays = (text more : List ℕ) (f : CertError) → fault_of unknown text ≡ Some f → (fault_of complete (text ++ more) ≡ Some f) × (fault_of failed (text ++ more) ≡ Some f)
+FaultStays = (text more : List ℕ) (f : CertError) → text_fault unknown text ≡ Some f → (text_fault complete (text ++ more) ≡ Some f) × (text_fault failed (text ++ more) ≡ Some f)

@@ -6,7 +6,7 @@
 use Rattle.std.specs.Prelude.{ℕ, ◌+◌, ◌-◌, ◌^◌, Bool, true, false, not, ◌&&◌, List, [], ◌∷◌, length, count_by, ℤ, pos, neg_ℤ, int_le, Option, Some, None, Result, Ok, Err, nat_lt, nat_le, ◌==◌, bit_and, if◌then◌else◌}
 use Rattle.std.specs.List.{list_all, slice_split}
 use Rattle.bpf_cert.specs.Numeral.{number as value, is_plain, signed_number as int_value, is_plain_signed, is_from_to, int_eq}
-use Rattle.bpf_cert.specs.Line.{Part, Number, Content, Place, Measure, Term, Lengths, Line}
+use Rattle.bpf_cert.specs.Line.{Part, Number, Content, PlaceText, Measure, Term, Lengths, Line}
 use Rattle.bpf_cert.specs.Reading.{line_in}
 use Rattle.bpf_cert.specs.declared.error.CertError.{CertError}
 use Rattle.bpf_cert.specs.declared.error.CertError.TheVariants as errors
@@ -49,20 +49,20 @@ is_canonical_content (Content.bytes mask) = is_plain mask && not (value mask == 
 is_canonical_content Content.any = false
 
 -- registers come before slots
-abbrev pub place_before : Place → Place → Bool
-place_before (Place.register i) (Place.register j) = nat_lt (value i) (value j)
-place_before (Place.register i) (Place.slot k) = true
-place_before (Place.slot k) (Place.register i) = false
-place_before (Place.slot j) (Place.slot k) = nat_lt (value j) (value k)
+abbrev pub place_before : PlaceText → PlaceText → Bool
+place_before (PlaceText.register i) (PlaceText.register j) = nat_lt (value i) (value j)
+place_before (PlaceText.register i) (PlaceText.slot k) = true
+place_before (PlaceText.slot k) (PlaceText.register i) = false
+place_before (PlaceText.slot j) (PlaceText.slot k) = nat_lt (value j) (value k)
 
-abbrev pub is_plain_place : Place → Bool
-is_plain_place (Place.register i) = is_plain i
-is_plain_place (Place.slot k) = is_plain k
+abbrev pub is_plain_place : PlaceText → Bool
+is_plain_place (PlaceText.register i) = is_plain i
+is_plain_place (PlaceText.slot k) = is_plain k
 
-abbrev pub place_of : Term → Place
-place_of t = of_measure t.measure
+abbrev pub line_place : Term → PlaceText
+line_place t = of_measure t.measure
   where
-    of_measure : Measure → Place
+    of_measure : Measure → PlaceText
     of_measure (Measure.down p) = p
     of_measure (Measure.up limit p) = p
 
@@ -79,7 +79,7 @@ is_canonical (Line.header lengths steps) = are_plain_lengths lengths && is_plain
 is_canonical (Line.function first depth ret) = is_plain first && is_plain depth && is_canonical_number ret
 is_canonical (Line.label at base terms) = is_plain at && is_plain base
     && list_all (λ t. is_plain t.weight && is_plain_measure t.measure) terms
-    && is_rising (λ t u. place_before (place_of t) (place_of u)) terms
+    && is_rising (λ t u. place_before (line_place t) (line_place u)) terms
 is_canonical (Line.entry p c) = is_plain_place p && is_canonical_content c
 is_canonical Line.end = true
 
@@ -115,9 +115,9 @@ is_limited_content (Content.frame lo hi) = is_pointer_range (int_value lo) (int_
 is_limited_content (Content.bytes mask) = nat_le (value mask) 254
 is_limited_content Content.any = true
 
-abbrev pub is_limited_place : Place → Bool
-is_limited_place (Place.register i) = nat_le (value i) 9
-is_limited_place (Place.slot k) = is_from_to 1 64 (value k)
+abbrev pub is_limited_place : PlaceText → Bool
+is_limited_place (PlaceText.register i) = nat_le (value i) 9
+is_limited_place (PlaceText.slot k) = is_from_to 1 64 (value k)
 
 abbrev pub is_limited_measure : Measure → Bool
 is_limited_measure (Measure.down p) = is_limited_place p
@@ -178,7 +178,7 @@ last_slot ((Line.function first depth ret) ∷ before) = None
 last_slot (_ ∷ before) = last_slot before
 
 -- the place of the last entry under the label that the lines end in
-abbrev pub last_place : List Line → Option Place
+abbrev pub last_place : List Line → Option PlaceText
 last_place ((Line.entry p c) ∷ before) = Some p
 last_place _ = None
 
@@ -265,5 +265,5 @@ fault_from e n before (text ∷ next ∷ more) = if is_ended before then Some (e
     go (Ok l) k = k l
 
 -- why the bytes that came are no certificate; `unknown`: why they are none however they go on
-unfoldable pub fault_of : Ending → List ℕ → Option CertError
-fault_of e text = fault_from e 1 [] (slice_split (λ c. c == 10) text)
+unfoldable pub text_fault : Ending → List ℕ → Option CertError
+text_fault e text = fault_from e 1 [] (slice_split (λ c. c == 10) text)

@@ -6,15 +6,15 @@ use Rattle.bpf_cert.specs.Faults.{is_rising, is_range, is_int_range, is_pointer_
 use Rattle.bpf_insn.specs.Instruction.{register_number}
 use Rattle.bpf_cert.specs.View.{LabelView, FunctionView, CertificateView, header_of}
 use Rattle.bpf_num.specs.Number.{Number as AbstractNumber}
-use Rattle.bpf_state.specs.declared.state.RegState.{RegState}
-use Rattle.bpf_state.specs.declared.state.RegState.TheVariants as reg
-use Rattle.bpf_state.specs.declared.state.Pointer.{Pointer}
-use Rattle.bpf_state.specs.declared.state.SlotState.{SlotState}
-use Rattle.bpf_state.specs.declared.state.SlotState.TheVariants as slot
+use Rattle.bpf_state.specs.declared.known.RegState.{RegState}
+use Rattle.bpf_state.specs.declared.known.RegState.TheVariants as reg
+use Rattle.bpf_state.specs.declared.known.Pointer.{Pointer}
+use Rattle.bpf_state.specs.declared.known.SlotState.{SlotState}
+use Rattle.bpf_state.specs.declared.known.SlotState.TheVariants as slot
 use Rattle.bpf_insn.specs.declared.instruction.Reg.TheVariants.{R10}
 use Rattle.bpf_state.specs.State.{AbstractState, register, is_frame}
-use Rattle.bpf_state.specs.declared.state.Place.{Place}
-use Rattle.bpf_state.specs.declared.state.Place.TheVariants as place
+use Rattle.bpf_state.specs.declared.known.Place.{Place}
+use Rattle.bpf_state.specs.declared.known.Place.TheVariants as place
 use Rattle.bpf_cert.specs.declared.certificate.Measure.{Measure}
 use Rattle.bpf_cert.specs.declared.certificate.Measure.TheVariants as measure
 use Rattle.bpf_cert.specs.declared.certificate.Term.{Term}
@@ -31,9 +31,9 @@ place_before (place.Register i) (place.Slot k) = true
 place_before (place.Slot k) (place.Register i) = false
 place_before (place.Slot j) (place.Slot k) = nat_lt j k
 
-abbrev pub place_in : Measure → Place
-place_in (measure.Down p) = p
-place_in (measure.Up p limit) = p
+abbrev pub place_measured : Measure → Place
+place_measured (measure.Down p) = p
+place_measured (measure.Up p limit) = p
 
 -- the end of the function's own frame
 abbrev pub is_frame_end : RegState → Bool
@@ -44,7 +44,7 @@ abbrev pub is_canonical_state : AbstractState → Bool
 is_canonical_state s = is_frame_end (register s R10) && list_all is_none s.register_tags && list_all is_none s.slot_tags
 
 abbrev pub term_before : Term → Term → Bool
-term_before t u = place_before (place_in t.measure) (place_in u.measure)
+term_before t u = place_before (place_measured t.measure) (place_measured u.measure)
 
 abbrev pub is_canonical_label : LabelView → Bool
 is_canonical_label l = is_canonical_state l.state && is_rising term_before l.terms

@@ -25,14 +25,14 @@ pub data Content : Type 0 where
   any : Content
 
 -- `r6` or `s1`
-pub data Place : Type 0 where
-  register : (index : List ℕ) → Place
-  slot : (index : List ℕ) → Place
+pub data PlaceText : Type 0 where
+  register : (index : List ℕ) → PlaceText
+  slot : (index : List ℕ) → PlaceText
 
 -- `r6` or `(4-r6)`
 pub data Measure : Type 0 where
-  down : Place → Measure
-  up : (limit : List ℕ) → Place → Measure
+  down : PlaceText → Measure
+  up : (limit : List ℕ) → PlaceText → Measure
 
 -- `+2*r6`
 pub record Term : Type 0 where
@@ -48,7 +48,7 @@ pub data Line : Type 0 where
   header : Lengths → (steps : List ℕ) → Line
   function : (first depth : List ℕ) (ret : Number) → Line
   label : (at base : List ℕ) (terms : List Term) → Line
-  entry : Place → Content → Line
+  entry : PlaceText → Content → Line
   end : Line
 
 -- the text of each
@@ -77,7 +77,7 @@ content_text (frame lo hi) = codes "fp" ++ range_text (signed_text lo) (signed_t
 content_text (bytes mask) = codes "b" ++ mask
 content_text any = codes "any"
 
-abbrev pub place_text : Place → List ℕ
+abbrev pub place_text : PlaceText → List ℕ
 place_text (register i) = codes "r" ++ i
 place_text (slot k) = codes "s" ++ k
 
@@ -112,11 +112,11 @@ is_number top = true
 is_number (parts []) = false
 is_number (parts (p ∷ ps)) = list_all is_part (p ∷ ps)
 
-abbrev pub is_place : Place → Bool
+abbrev pub is_place : PlaceText → Bool
 is_place (register i) = is_numeral i
 is_place (slot k) = is_numeral k
 
-abbrev pub is_content : Place → Content → Bool
+abbrev pub is_content : PlaceText → Content → Bool
 is_content p (number n) = is_number n
 is_content p (context lo hi) = is_numeral lo.digits && is_numeral hi.digits
 is_content p (frame lo hi) = is_numeral lo.digits && is_numeral hi.digits

@@ -3,7 +3,7 @@ use Rattle.std.specs.Prelude.{ℕ, true, false, List, [], ◌∷◌, map, codes,
 use Rattle.std.specs.List.{slice_split}
 use Rattle.std.specs.Str.{bytes_eq}
 use Rattle.bpf_cert.specs.Numeral.{is_numeral, SignedDigits}
-use Rattle.bpf_cert.specs.Line.{Part, Number, Content, Place, Measure, Term, Lengths, Line}
+use Rattle.bpf_cert.specs.Line.{Part, Number, Content, PlaceText, Measure, Term, Lengths, Line}
 
 infixl 10 ◌>>=◌
 unfoldable pub ◌>>=◌ : {A B : Type 0} → Option A → (A → Option B) → Option B
@@ -106,36 +106,36 @@ unfoldable pub pointer_in : List ℕ → Option Content
 pointer_in text = or_else (context_in text) (frame_in text)
 
 -- the mask of a slot's bytes; a register has none
-unfoldable pub bytes_in : Place → List ℕ → Option Content
-bytes_in (Place.register i) text = None
-bytes_in (Place.slot k) text = do
+unfoldable pub bytes_in : PlaceText → List ℕ → Option Content
+bytes_in (PlaceText.register i) text = None
+bytes_in (PlaceText.slot k) text = do
   mask ← behind (codes "b") text
   m ← numeral_in mask
   Some (Content.bytes m)
 
-unfoldable pub content_in : Place → List ℕ → Option Content
+unfoldable pub content_in : PlaceText → List ℕ → Option Content
 content_in p text = if bytes_eq text (codes "any") then Some Content.any else
     or_else (pointer_in text) (or_else (bytes_in p text) (do
       n ← number_in text
       Some (Content.number n)))
 
-abbrev pub register_in : List ℕ → Option Place
+abbrev pub register_in : List ℕ → Option PlaceText
 register_in text = do
   digits ← behind (codes "r") text
   i ← numeral_in digits
-  Some (Place.register i)
+  Some (PlaceText.register i)
 
-abbrev pub slot_in : List ℕ → Option Place
+abbrev pub slot_in : List ℕ → Option PlaceText
 slot_in text = do
   digits ← behind (codes "s") text
   k ← numeral_in digits
-  Some (Place.slot k)
+  Some (PlaceText.slot k)
 
-unfoldable pub place_in : List ℕ → Option Place
+unfoldable pub place_in : List ℕ → Option PlaceText
 place_in text = or_else (register_in text) (slot_in text)
 
 -- the place before a `)` that ends the text
-unfoldable pub place_closed_in : List ℕ → Option Place
+unfoldable pub place_closed_in : List ℕ → Option PlaceText
 place_closed_in text = do
   both ← cut 41 text
   p ← place_in both.0

@@ -1,18 +1,18 @@
 -- The one text of a certificate: its lines in their order, each in its one spelling, and LF behind each.
 use Rattle.std.specs.Prelude.{ℕ, ◌+◌, nat_lt, Bool, false, ◌-◌, ◌^◌, ◌&&◌, List, [], ◌∷◌, ◌++◌, map, flat_map, take, pos, neg_ℤ, ◌==◌, decimal, if◌then◌else◌}
 use Rattle.bpf_cert.specs.Numeral.{SignedDigits, digits_of_int, int_eq}
-use Rattle.bpf_cert.specs.Line.{Part, Number, Content, Place as PlaceText, Measure as MeasureText, Term as TermText, Lengths, Line, line_text}
+use Rattle.bpf_cert.specs.Line.{Part, Number, Content, PlaceText, Measure as MeasureText, Term as TermText, Lengths, Line, line_text}
 use Rattle.bpf_num.specs.Tristate.{Tristate}
 use Rattle.bpf_num.specs.Interval.{Interval}
 use Rattle.bpf_num.specs.SignedInterval.{SignedInterval}
 use Rattle.bpf_num.specs.Number.{Number as AbstractNumber}
 use Rattle.bpf_state.specs.State.{AbstractState, value_slot}
-use Rattle.bpf_state.specs.declared.state.Area.{Area}
-use Rattle.bpf_state.specs.declared.state.Area.TheVariants as area
-use Rattle.bpf_state.specs.declared.state.SlotState.{SlotState}
-use Rattle.bpf_state.specs.declared.state.SlotState.TheVariants as slot
-use Rattle.bpf_state.specs.declared.state.Place.{Place}
-use Rattle.bpf_state.specs.declared.state.Place.TheVariants as place
+use Rattle.bpf_state.specs.declared.known.Area.{Area}
+use Rattle.bpf_state.specs.declared.known.Area.TheVariants as area
+use Rattle.bpf_state.specs.declared.known.SlotState.{SlotState}
+use Rattle.bpf_state.specs.declared.known.SlotState.TheVariants as slot
+use Rattle.bpf_state.specs.declared.known.Place.{Place}
+use Rattle.bpf_state.specs.declared.known.Place.TheVariants as place
 use Rattle.bpf_cert.specs.declared.certificate.Measure.{Measure}
 use Rattle.bpf_cert.specs.declared.certificate.Measure.TheVariants as measure
 use Rattle.bpf_cert.specs.declared.certificate.Term.{Term}
@@ -70,13 +70,13 @@ abbrev pub lines_from : ℕ → List SlotState → List Line
 lines_from j [] = []
 lines_from j (s ∷ ss) = entry_lines (place_at j) s ++ lines_from (j + 1) ss
 
-abbrev pub place_of : Place → PlaceText
-place_of (place.Register r) = PlaceText.register (decimal (register_number r))
-place_of (place.Slot k) = PlaceText.slot (decimal k)
+abbrev pub spelled_place : Place → PlaceText
+spelled_place (place.Register r) = PlaceText.register (decimal (register_number r))
+spelled_place (place.Slot k) = PlaceText.slot (decimal k)
 
 abbrev pub measure_of : Measure → MeasureText
-measure_of (measure.Down p) = MeasureText.down (place_of p)
-measure_of (measure.Up p limit) = MeasureText.up (decimal limit) (place_of p)
+measure_of (measure.Down p) = MeasureText.down (spelled_place p)
+measure_of (measure.Up p limit) = MeasureText.up (decimal limit) (spelled_place p)
 
 abbrev pub term_of : Term → TermText
 term_of t = record { weight = decimal t.weight; measure = measure_of t.measure }

@@ -5,13 +5,13 @@ ghost use Rattle.bpf_cert.specs.Line.{Line};
 ghost use Rattle.bpf_cert.specs.code.Standing.{IsValue, IsEntry, value_line, ruled};
 ghost use Rattle.bpf_cert.specs.code.Building.{IsBuilt, IsRegisterContent, ClosesLabel, Closes, Puts, index_of, fault_at, Takes, AreLinesOf};
 ghost use Rattle.bpf_cert.specs.Spelling.{contents};
-ghost use Rattle.bpf_state.specs.declared.state.SlotState.TheVariants.{Bytes};
+ghost use Rattle.bpf_state.specs.declared.known.SlotState.TheVariants.{Bytes};
 ghost use Rattle.bpf_cert.specs.Faults.{is_ended};
 ghost use Rattle.bpf_state.specs.State.{value_slot, IsRegister};
 
 use crate::certificate::{Budget, Certificate, Function, Label};
 use crate::error::CertError;
-use crate::finding::Flaw;
+use crate::finding::PartFault;
 use crate::header::Header;
 use crate::standing::{LineValue, Stage, Standing};
 use arrayvec::ArrayVec;
@@ -47,13 +47,13 @@ fn register_value(content: SlotState) -> RegState
     }
 }
 
-fn at_line(flaw: Flaw, line: usize) -> CertError
+fn at_line(flaw: PartFault, line: usize) -> CertError
     ensures { result ≡ fault_at line flaw }
 {
     match flaw {
-        Flaw::Syntax => CertError::Syntax { line },
-        Flaw::NotCanonical => CertError::NotCanonical { line },
-        Flaw::Limit => CertError::Limit { line },
+        PartFault::Syntax => CertError::Syntax { line },
+        PartFault::NotCanonical => CertError::NotCanonical { line },
+        PartFault::Limit => CertError::Limit { line },
     }
 }
 

@@ -29,7 +29,7 @@ pub struct Term {
 impl Default for Term {
     ghost use Rattle.std.specs.Prelude.{◌≡◌};
     ghost use Rattle.bpf_insn.specs.declared.instruction.Reg.TheVariants.{R0};
-    ghost use Rattle.bpf_state.specs.declared.state.Place.TheVariants.{Register};
+    ghost use Rattle.bpf_state.specs.declared.known.Place.TheVariants.{Register};
     ghost use Rattle.bpf_cert.specs.declared.certificate.Measure.TheVariants.{Down};
 
     /// The least weight, times r0.

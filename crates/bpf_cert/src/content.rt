@@ -2,7 +2,7 @@
 
 ghost use Rattle.std.specs.Prelude.{◌≡◌, true, List, ℕ, [], option_map, Some, IfOk};
 ghost use Rattle.bpf_cert.specs.Numeral.{is_numeral};
-ghost use Rattle.bpf_cert.specs.Line.{Place, Content, is_content};
+ghost use Rattle.bpf_cert.specs.Line.{PlaceText, Content, is_content};
 ghost use Rattle.bpf_cert.specs.Reading.{pointer_in, bytes_in, number_in, content_in};
 ghost use Rattle.bpf_cert.specs.Faults.{is_pointer_range, is_canonical_content, is_limited_content};
 ghost use Rattle.bpf_cert.specs.code.Findings.{found, valued};
@@ -11,9 +11,9 @@ ghost use Rattle.bpf_cert.specs.code.Seen.{signed_seen, place_seen, pointer_seen
 ghost use Rattle.bpf_cert.specs.code.Contents.{IsContent, digits_of_bounds, are_plain_bounds, are_limited_bounds};
 
 use crate::cut::behind;
-use crate::finding::{Flaw, tested};
+use crate::decimal::{SignedForm, is_numeral, is_plain, number};
+use crate::finding::{PartFault, tested};
 use crate::num::{are_plain_signed, is_int_range, narrow, number_in, says_some, signed_value};
-use crate::number::{SignedForm, is_numeral, is_plain, number};
 use crate::part::signed_range;
 use crate::place::PlaceForm;
 use bpf_state::{Area, Pointer, SlotState};
@@ -49,13 +49,13 @@ fn pointer(text: &[u8]) -> Option<PointerForm<'_>>
 
 // The digits of the mask of a slot's bytes.
 fn bytes(text: &[u8]) -> Option<&[u8]>
-    ensures { (k : List ℕ) → option_map (λ m. Content.bytes m.now) result ≡ bytes_in (Place.slot k) text.now }
+    ensures { (k : List ℕ) → option_map (λ m. Content.bytes m.now) result ≡ bytes_in (PlaceText.slot k) text.now }
 {
     let mask = behind(text, b"b")?;
     if is_numeral(mask) { Some(mask) } else { None }
 }
 
-fn mask(digits: &[u8]) -> Result<SlotState, Flaw>
+fn mask(digits: &[u8]) -> Result<SlotState, PartFault>
     requires { is_numeral digits.now ≡ true }
     ensures value { valued content_of result ≡ found is_canonical_content is_limited_content (Some (Content.bytes digits.now)) }
     ensures kept { IfOk result IsContent }
@@ -67,7 +67,7 @@ fn mask(digits: &[u8]) -> Result<SlotState, Flaw>
     }
 }
 
-fn bounds(low: SignedForm<'_>, high: SignedForm<'_>) -> Result<(i64, i64), Flaw>
+fn bounds(low: SignedForm<'_>, high: SignedForm<'_>) -> Result<(i64, i64), PartFault>
     requires low { is_numeral (signed_seen low).digits ≡ true }
     requires high { is_numeral (signed_seen high).digits ≡ true }
     ensures value { valued digits_of_bounds result ≡ found are_plain_bounds are_limited_bounds (Some (signed_seen low.entry, signed_seen high.entry)) }
@@ -82,8 +82,8 @@ fn bounds(low: SignedForm<'_>, high: SignedForm<'_>) -> Result<(i64, i64), Flaw>
     }
 }
 
-fn pointer_value(form: PointerForm<'_>) -> Result<SlotState, Flaw>
-    requires { is_content (Place.slot []) (pointer_seen form) ≡ true }
+fn pointer_value(form: PointerForm<'_>) -> Result<SlotState, PartFault>
+    requires { is_content (PlaceText.slot []) (pointer_seen form) ≡ true }
     ensures value { valued content_of result ≡ found is_canonical_content is_limited_content (Some (pointer_seen form.entry)) }
     ensures kept { IfOk result IsContent }
 {
@@ -94,7 +94,7 @@ fn pointer_value(form: PointerForm<'_>) -> Result<SlotState, Flaw>
     }
 }
 
-fn word(text: &[u8]) -> Result<SlotState, Flaw>
+fn word(text: &[u8]) -> Result<SlotState, PartFault>
     ensures value { valued content_of result ≡ found is_canonical_content is_limited_content (option_map Content.number (number_in text.now)) }
     ensures kept { IfOk result IsContent }
 {
@@ -108,12 +108,12 @@ fn word(text: &[u8]) -> Result<SlotState, Flaw>
 }
 
 /// What a text says of a register or slot.
-pub fn content(place: PlaceForm<'_>, text: &[u8]) -> Result<SlotState, Flaw>
+pub fn content(place: PlaceForm<'_>, text: &[u8]) -> Result<SlotState, PartFault>
     ensures value { valued content_of result ≡ found is_canonical_content is_limited_content (content_in (place_seen place.entry) text.now) }
     ensures kept { IfOk result IsContent }
 {
     if text == b"any".as_slice() {
-        return Err(Flaw::NotCanonical);
+        return Err(PartFault::NotCanonical);
     }
     if let Some(form) = pointer(text) {
         return pointer_value(form);

@@ -1,11 +1,11 @@
-//! What is found in a part of a line: its value, or the gravest flaw.
+//! What is found in a part of a line: its value, or the gravest fault.
 
 ghost use Rattle.std.specs.Prelude.{◌≡◌, ◌&&◌};
 ghost use Rattle.bpf_cert.specs.code.Findings.{tested, joined, graver};
 
 /// Why a part of a line is refused, the gravest first.
 #[derive(Clone, Copy, PartialEq, Eq)]
-pub enum Flaw {
+pub enum PartFault {
     Syntax,
     NotCanonical,
     Limit,
@@ -19,31 +19,34 @@ pub fn both(first: bool, second: bool) -> bool
 }
 
 /// Refuses what is not canonical, or else past a limit.
-pub fn tested(canonical: bool, limited: bool) -> Result<(), Flaw>
+pub fn tested(canonical: bool, limited: bool) -> Result<(), PartFault>
     ensures { result ≡ tested canonical limited }
 {
     if !canonical {
-        Err(Flaw::NotCanonical)
+        Err(PartFault::NotCanonical)
     } else if !limited {
-        Err(Flaw::Limit)
+        Err(PartFault::Limit)
     } else {
         Ok(())
     }
 }
 
-fn graver(first: Flaw, second: Flaw) -> Flaw
+fn graver(first: PartFault, second: PartFault) -> PartFault
     ensures { result ≡ graver first second }
 {
     match (first, second) {
-        (Flaw::Syntax, _) => Flaw::Syntax,
-        (Flaw::NotCanonical, Flaw::Syntax) => Flaw::Syntax,
-        (Flaw::NotCanonical, _) => Flaw::NotCanonical,
-        (Flaw::Limit, second) => second,
+        (PartFault::Syntax, _) => PartFault::Syntax,
+        (PartFault::NotCanonical, PartFault::Syntax) => PartFault::Syntax,
+        (PartFault::NotCanonical, _) => PartFault::NotCanonical,
+        (PartFault::Limit, second) => second,
     }
 }
 
 /// The graver flaw of two findings, and the value where there is none.
-pub fn joined<T: Drop>(first: Result<(), Flaw>, second: Result<T, Flaw>) -> Result<T, Flaw>
+pub fn joined<T: Drop>(
+    first: Result<(), PartFault>,
+    second: Result<T, PartFault>,
+) -> Result<T, PartFault>
     ensures { result ≡ joined first second }
 {
     match (first, second) {

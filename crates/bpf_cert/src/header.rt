@@ -13,9 +13,9 @@ ghost use Rattle.bpf_cert.specs.Spelling.{header_line};
 ghost use Rattle.bpf_cert.specs.code.Standing.{HeaderIs, fields_in};
 
 use crate::cut::{next_field, three_fields, two_fields};
-use crate::finding::{Flaw, both, tested};
+use crate::decimal::{between, is_numeral, is_plain, number};
+use crate::finding::{PartFault, both, tested};
 use crate::num::are_plain;
-use crate::number::{between, is_numeral, is_plain, number};
 use bpf_insn::MAX_CONTEXT;
 
 /// What the first line says.
@@ -90,7 +90,7 @@ pub fn header_form(rest: Option<&[u8]>) -> Option<HeaderForm<'_>>
 }
 
 // What version 1 says: its length is the least and the greatest.
-fn one_value(len: &[u8], steps: &[u8]) -> Result<Header, Flaw>
+fn one_value(len: &[u8], steps: &[u8]) -> Result<Header, PartFault>
     requires len { is_numeral len.now ≡ true }
     requires steps { is_numeral steps.now ≡ true }
     ensures value { valued header_line result ≡ found is_canonical is_limited (Some (Line.header (one len.now) steps.now)) }
@@ -111,7 +111,7 @@ fn one_value(len: &[u8], steps: &[u8]) -> Result<Header, Flaw>
 }
 
 // What version 2 says.
-fn range_value(least: &[u8], most: &[u8], steps: &[u8]) -> Result<Header, Flaw>
+fn range_value(least: &[u8], most: &[u8], steps: &[u8]) -> Result<Header, PartFault>
     requires least { is_numeral least.now ≡ true }
     requires most { is_numeral most.now ≡ true }
     requires steps { is_numeral steps.now ≡ true }
@@ -136,7 +136,7 @@ fn range_value(least: &[u8], most: &[u8], steps: &[u8]) -> Result<Header, Flaw>
 }
 
 /// What a first line says.
-pub fn header_value(form: HeaderForm<'_>) -> Result<Header, Flaw>
+pub fn header_value(form: HeaderForm<'_>) -> Result<Header, PartFault>
     requires { is_line (header_seen form) ≡ true }
     ensures value { valued header_line result ≡ found is_canonical is_limited (Some (header_seen form.entry)) }
     ensures kept { IfOk result (λ h. is_limited_header h ≡ true) }

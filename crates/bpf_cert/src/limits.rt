@@ -12,7 +12,7 @@ use crate::certificate::{Function, Label, Measure, Term};
 use crate::header::Header;
 use bpf_insn::{MAX_CONTEXT, MAX_FRAMES, MAX_SLOTS, Reg};
 use bpf_num::Num;
-use bpf_state::{Entries, Place, Pointer, RegState, SlotState, State, numbered};
+use bpf_state::{Entries, Place, Pointer, RegState, SlotState, State};
 
 /// The most functions.
 pub const MAX_FUNCTIONS: usize = 256;
@@ -48,8 +48,8 @@ fn place_before(p: Place, q: Place) -> bool
     }
 }
 
-fn place_in(measure: Measure) -> Place
-    ensures { result ≡ limits.place_in measure }
+fn place_measured(measure: Measure) -> Place
+    ensures { result ≡ limits.place_measured measure }
 {
     match measure {
         Measure::Down(place) => place,
@@ -63,7 +63,10 @@ fn places_rise(terms: &[Term]) -> bool
 {
     let mut rest = terms;
     'terms: while rest.len() > 1 {
-        if !place_before(place_in(rest[0].measure), place_in(rest[1].measure)) {
+        if !place_before(
+            place_measured(rest[0].measure),
+            place_measured(rest[1].measure),
+        ) {
             return false;
         }
         rest = &rest[1..];
@@ -114,7 +117,7 @@ fn has_no_register_tag(state: &State) -> bool
 {
     state.valid();
     for i in 0..11u8 {
-        if state.tag(Place::Register(numbered(i))).is_some() {
+        if state.tag(Place::Register(Reg::numbered(i))).is_some() {
             return false;
         }
     }
@@ -239,7 +242,7 @@ fn has_limited_registers(state: &Entries) -> bool
 {
     state.valid();
     for i in 0..11u8 {
-        if !is_limited_register(state.reg(numbered(i))) {
+        if !is_limited_register(state.reg(Reg::numbered(i))) {
             return false;
         }
     }

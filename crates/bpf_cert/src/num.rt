@@ -12,8 +12,8 @@ ghost use Rattle.bpf_cert.specs.code.Sums.{single, is_whole, is_whole_signed, le
 ghost use Rattle.bpf_cert.specs.code.PartSums.{IsSum, IsKept};
 
 use crate::cut::cut;
-use crate::finding::{Flaw, joined, tested};
-use crate::number::{HUGE, SignedForm, is_plain, number};
+use crate::decimal::{HUGE, SignedForm, is_plain, number};
+use crate::finding::{PartFault, joined, tested};
 use crate::part::{PartForm, part};
 use bpf_num::{KnownBits, Num, Signed, Unsigned};
 
@@ -44,7 +44,7 @@ pub fn are_plain(first: &[u8], second: &[u8]) -> bool
     is_plain(first) && is_plain(second)
 }
 
-fn unsigned(low: &[u8], high: &[u8]) -> Result<Unsigned, Flaw>
+fn unsigned(low: &[u8], high: &[u8]) -> Result<Unsigned, PartFault>
     requires low { is_numeral low.now ≡ true }
     requires high { is_numeral high.now ≡ true }
     ensures { valued unsigned_parts result ≡ valued single (found is_canonical_part is_limited_part (Some (Part.unsigned low.now high.now))) }
@@ -64,7 +64,7 @@ fn is_bits(value: u128, mask: u128) -> bool
     value < HUGE && mask < HUGE && value & mask == 0
 }
 
-fn bits(value: &[u8], mask: &[u8]) -> Result<KnownBits, Flaw>
+fn bits(value: &[u8], mask: &[u8]) -> Result<KnownBits, PartFault>
     requires value { is_numeral value.now ≡ true }
     requires mask { is_numeral mask.now ≡ true }
     ensures { valued bits_parts result ≡ valued single (found is_canonical_part is_limited_part (Some (Part.bits value.now mask.now))) }
@@ -123,7 +123,7 @@ fn is_whole_signed(lo: i128, hi: i128) -> bool
     lo == i64::MIN as i128 && hi == i64::MAX as i128
 }
 
-fn signed(low: SignedForm<'_>, high: SignedForm<'_>) -> Result<Signed, Flaw>
+fn signed(low: SignedForm<'_>, high: SignedForm<'_>) -> Result<Signed, PartFault>
     requires low { is_numeral (signed_seen low).digits ≡ true }
     requires high { is_numeral (signed_seen high).digits ≡ true }
     ensures { valued signed_parts result ≡ valued single (found is_canonical_part is_limited_part (Some (Part.signed (signed_seen low.entry) (signed_seen high.entry)))) }
@@ -141,7 +141,7 @@ fn signed(low: SignedForm<'_>, high: SignedForm<'_>) -> Result<Signed, Flaw>
 // What the parts so far say.
 #[derive(Clone, Copy)]
 pub struct Parts {
-    pub found: Result<(), Flaw>,
+    pub found: Result<(), PartFault>,
     // the ranks from here on may still come: 0 for `u`, 1 for `s`, 2 for `k`
     pub next: u8,
     pub unsigned: Unsigned,
@@ -175,7 +175,7 @@ impl Parts {
     }
 
     // Keeps what the part says, if it is canonical and within the limits.
-    fn keep(&mut self, part: PartForm<'_>) -> Result<(), Flaw>
+    fn keep(&mut self, part: PartForm<'_>) -> Result<(), PartFault>
         requires { is_part (part_seen part) ≡ true }
         ensures found { result ≡ tested (is_canonical_part (part_seen part.entry)) (is_limited_part (part_seen part.entry)) }
         ensures rest { (self.new.found ≡ self.old.found) × (self.new.next ≡ self.old.next) }
@@ -209,7 +209,7 @@ impl Parts {
         self.next = rank + 1;
     }
 
-    fn value(&self) -> Result<Num, Flaw>
+    fn value(&self) -> Result<Num, PartFault>
         ensures { (p : Part) (ps : List Part) → IsSum (p ∷ ps) self.now → valued number_of result ≡ found is_canonical_number is_limited_number (Some (Number.parts (p ∷ ps))) }
     {
         match self.found {
@@ -220,7 +220,7 @@ impl Parts {
 }
 
 /// What a text says of a number.
-pub fn number_in(text: &[u8]) -> Result<Num, Flaw>
+pub fn number_in(text: &[u8]) -> Result<Num, PartFault>
     ensures { valued number_of result ≡ found is_canonical_number is_limited_number (number_in text.now) }
 {
     if text == b"*".as_slice() {
@@ -230,13 +230,13 @@ pub fn number_in(text: &[u8]) -> Result<Num, Flaw>
     let mut rest = text;
     'pieces: while let Some((piece, more)) = cut(rest, b',') {
         let Some(part) = part(piece) else {
-            return Err(Flaw::Syntax);
+            return Err(PartFault::Syntax);
         };
         parts.add(part);
         rest = more;
     }
     let Some(last) = part(rest) else {
-        return Err(Flaw::Syntax);
+        return Err(PartFault::Syntax);
     };
     parts.add(last);
     parts.value()

@@ -6,7 +6,7 @@ ghost use Rattle.bpf_cert.specs.Reading.{range_in, signed_in, unsigned_part_in, 
 ghost use Rattle.bpf_cert.specs.code.Seen.{ends_in, signed_seen, part_seen};
 
 use crate::cut::{behind, cut};
-use crate::number::{SignedForm, is_numeral, signed};
+use crate::decimal::{SignedForm, is_numeral, signed};
 
 /// A part of what is known of a number.
 #[derive(Clone, Copy)]

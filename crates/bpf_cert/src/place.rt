@@ -5,12 +5,13 @@ ghost use Rattle.bpf_cert.specs.Reading.{place_in};
 ghost use Rattle.bpf_cert.specs.Faults.{place_before, is_plain_place, is_limited_place};
 ghost use Rattle.bpf_cert.specs.Line.{is_place};
 ghost use Rattle.bpf_cert.specs.Limits as limits;
-ghost use Rattle.bpf_cert.specs.Spelling.{place_of};
+ghost use Rattle.bpf_cert.specs.Spelling.{spelled_place};
 ghost use Rattle.bpf_cert.specs.code.Seen.{place_seen};
 
 use crate::cut::behind;
-use crate::number::{is_less, is_numeral, is_plain, number};
-use bpf_state::{Place, numbered};
+use crate::decimal::{is_less, is_numeral, is_plain, number};
+use bpf_insn::Reg;
+use bpf_state::Place;
 
 /// A register or a slot by its digits.
 #[derive(Clone, Copy)]
@@ -77,11 +78,11 @@ pub fn place_value(place: PlaceForm<'_>) -> Place
     requires form { is_place (place_seen place) ≡ true }
     requires plain { is_plain_place (place_seen place) ≡ true }
     requires limited { is_limited_place (place_seen place) ≡ true }
-    ensures spelled { place_of result ≡ place_seen place.entry }
+    ensures spelled { spelled_place result ≡ place_seen place.entry }
     ensures value { limits.is_limited_place result ≡ true }
 {
     match place {
-        PlaceForm::Register(index) => Place::Register(numbered(number(index) as u8)),
+        PlaceForm::Register(index) => Place::Register(Reg::numbered(number(index) as u8)),
         PlaceForm::Slot(index) => Place::Slot(number(index) as u8),
     }
 }

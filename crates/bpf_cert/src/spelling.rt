@@ -3,11 +3,11 @@
 ghost use Rattle.std.specs.Prelude.{◌≡◌, ◌≤◌, ◌<◌, ◌+◌, ◌++◌, ◌∷◌, [], length, codes, decimal, All};
 ghost use Rattle.bpf_cert.specs.Numeral.{digits_of_int};
 ghost use Rattle.bpf_cert.specs.Line.{range_text, signed_text, number_text, place_text, content_text, measure_text, term_text};
-ghost use Rattle.bpf_cert.specs.Spelling.{unsigned_parts, signed_parts, bits_parts, number_of, content_of, place_of, measure_of, term_of, header_line, function_line, label_line, line_with_end};
+ghost use Rattle.bpf_cert.specs.Spelling.{unsigned_parts, signed_parts, bits_parts, number_of, content_of, spelled_place, measure_of, term_of, header_line, function_line, label_line, line_with_end};
 ghost use Rattle.bpf_cert.specs.code.SpellingParts.{is_cons, parts_tail, terms_tail, area_text};
 ghost use Rattle.bpf_cert.specs.View.{function_view, label_view};
 ghost use Rattle.bpf_cert.specs.Line.Line.{entry};
-ghost use Rattle.bpf_state.specs.declared.state.SlotState.TheVariants.{Spilled};
+ghost use Rattle.bpf_state.specs.declared.known.SlotState.TheVariants.{Spilled};
 
 use crate::certificate::{Function, Label, Measure, Term};
 use crate::header::Header;
@@ -194,7 +194,7 @@ fn content(line: &mut LineText, value: SlotState)
 #[tactic(auto, using(crate::proofs::SpellingLemmas::texts))]
 fn place(line: &mut LineText, place: Place)
     requires { length line.old.items + 4 ≤ 256 }
-    ensures text { line.new.items ≡ line.old.items ++ (place_text (place_of place)) }
+    ensures text { line.new.items ≡ line.old.items ++ (place_text (spelled_place place)) }
     ensures grows { length line.new.items ≤ length line.old.items + 4 }
 {
     match place {
@@ -307,7 +307,7 @@ pub fn label_text(label: &Label) -> LineText
 /// The line of what a place holds.
 #[tactic(auto, using(crate::proofs::SpellingLemmas::texts))]
 pub fn entry_text(at: Place, value: SlotState) -> LineText
-    ensures { result.items ≡ line_with_end (entry (place_of at) (content_of value)) }
+    ensures { result.items ≡ line_with_end (entry (spelled_place at) (content_of value)) }
 {
     let mut line = LineText::new();
     place(&mut line, at);

@@ -7,18 +7,18 @@ ghost use Rattle.bpf_cert.specs.Numeral.{is_numeral};
 ghost use Rattle.bpf_insn.specs.Instruction.{register_number};
 ghost use Rattle.bpf_cert.specs.Reading.{header_in, function_in, label_in, entry_in, end_in, line_in};
 ghost use Rattle.bpf_cert.specs.code.Findings.{found, valued};
-ghost use Rattle.bpf_cert.specs.Spelling.{place_of};
+ghost use Rattle.bpf_cert.specs.Spelling.{spelled_place};
 ghost use Rattle.bpf_cert.specs.code.Seen.{place_seen};
 ghost use Rattle.bpf_cert.specs.code.Standing.{Stands, IsValue, FunctionIs, LabelIs, EntryIs, value_line, value_place, stage_of, is_start, may_have_label, may_have_entry, ruled, fields_in};
 
 use crate::certificate::Term;
 use crate::content::content;
 use crate::cut::{next_field, three_fields};
-use crate::finding::{Flaw, both, joined, tested};
+use crate::decimal::{between, is_numeral, number};
+use crate::finding::{PartFault, both, joined, tested};
 use crate::header::{Header, header_form, header_value};
 use crate::limits::{LAST_SLOT, MAX_BASE, MAX_DEPTH, MAX_FUNCTIONS, MAX_LABELS};
 use crate::num::{are_plain, number_in};
-use crate::number::{between, is_numeral, number};
 use crate::place::{PlaceForm, is_limited_place, is_plain_place, place, place_value};
 use crate::term::all_terms;
 use arrayvec::ArrayVec;
@@ -87,7 +87,7 @@ fn register_number(r: Reg) -> u8
 }
 
 fn place_rises(last: Option<Place>, next: PlaceForm<'_>) -> bool
-    ensures { result ≡ comes_after place_before (option_map place_of last) (place_seen next.entry) }
+    ensures { result ≡ comes_after place_before (option_map spelled_place last) (place_seen next.entry) }
 {
     let Some(last) = last else {
         return true;
@@ -166,15 +166,15 @@ impl Standing {
         }
     }
 
-    fn header(self, rest: Option<&[u8]>) -> Result<LineValue, Flaw>
+    fn header(self, rest: Option<&[u8]>) -> Result<LineValue, PartFault>
         ensures value { (before : List Line) → Stands before self → valued value_line result ≡ ruled before (header_in (fields_in (option_map (λ x. x.now) rest.entry))) }
         ensures kept { IfOk result IsValue }
     {
         let Some(form) = header_form(rest) else {
-            return Err(Flaw::Syntax);
+            return Err(PartFault::Syntax);
         };
         if !self.is_at_start() {
-            return Err(Flaw::Syntax);
+            return Err(PartFault::Syntax);
         }
         match header_value(form) {
             Ok(header) => Ok(LineValue::Header(header)),
@@ -182,15 +182,15 @@ impl Standing {
         }
     }
 
-    fn function(self, rest: Option<&[u8]>) -> Result<LineValue, Flaw>
+    fn function(self, rest: Option<&[u8]>) -> Result<LineValue, PartFault>
         ensures value { (before : List Line) → Stands before self → valued value_line result ≡ ruled before (function_in (fields_in (option_map (λ x. x.now) rest.entry))) }
         ensures kept { IfOk result IsValue }
     {
         let Some((first, depth, ret)) = function_form(rest) else {
-            return Err(Flaw::Syntax);
+            return Err(PartFault::Syntax);
         };
         if self.is_at_start() {
-            return Err(Flaw::Syntax);
+            return Err(PartFault::Syntax);
         }
         let slot = number(first);
         let deep = number(depth);
@@ -210,15 +210,15 @@ impl Standing {
         }
     }
 
-    fn label(self, rest: Option<&[u8]>) -> Result<LineValue, Flaw>
+    fn label(self, rest: Option<&[u8]>) -> Result<LineValue, PartFault>
         ensures value { (before : List Line) → Stands before self → valued value_line result ≡ ruled before (label_in (fields_in (option_map (λ x. x.now) rest.entry))) }
         ensures kept { IfOk result IsValue }
     {
         let Some((at, base, terms)) = label_form(rest) else {
-            return Err(Flaw::Syntax);
+            return Err(PartFault::Syntax);
         };
         if !self.may_have_label() {
-            return Err(Flaw::Syntax);
+            return Err(PartFault::Syntax);
         }
         let slot = number(at);
         let most = number(base);
@@ -235,15 +235,15 @@ impl Standing {
         }
     }
 
-    fn entry(self, name: &[u8], rest: Option<&[u8]>) -> Result<LineValue, Flaw>
+    fn entry(self, name: &[u8], rest: Option<&[u8]>) -> Result<LineValue, PartFault>
         ensures value { (before : List Line) → Stands before self → valued value_line result ≡ ruled before (entry_in name.now (fields_in (option_map (λ x. x.now) rest.entry))) }
         ensures kept { IfOk result IsValue }
     {
         let Some((place, said)) = entry_form(name, rest) else {
-            return Err(Flaw::Syntax);
+            return Err(PartFault::Syntax);
         };
         if !self.may_have_entry() {
-            return Err(Flaw::Syntax);
+            return Err(PartFault::Syntax);
         }
         let canonical = both(is_plain_place(place), place_rises(self.place, place));
         let found = tested(canonical, is_limited_place(place));
@@ -256,15 +256,15 @@ impl Standing {
         }
     }
 
-    fn end(self, rest: Option<&[u8]>) -> Result<LineValue, Flaw>
+    fn end(self, rest: Option<&[u8]>) -> Result<LineValue, PartFault>
         ensures value { (before : List Line) → Stands before self → valued value_line result ≡ ruled before (end_in (fields_in (option_map (λ x. x.now) rest.entry))) }
         ensures kept { IfOk result IsValue }
     {
         let None = next_field(rest) else {
-            return Err(Flaw::Syntax);
+            return Err(PartFault::Syntax);
         };
         if self.is_at_start() {
-            return Err(Flaw::Syntax);
+            return Err(PartFault::Syntax);
         }
         match tested(true, self.may_end()) {
             Ok(()) => Ok(LineValue::End),
@@ -273,12 +273,12 @@ impl Standing {
     }
 
     /// What a line says behind the lines so far, or the gravest flaw of it.
-    pub fn judge(self, text: &[u8]) -> Result<LineValue, Flaw>
+    pub fn judge(self, text: &[u8]) -> Result<LineValue, PartFault>
         ensures value { (before : List Line) → Stands before self → valued value_line result ≡ ruled before (line_in text.now) }
         ensures kept { IfOk result IsValue }
     {
         let Some((name, rest)) = next_field(Some(text)) else {
-            return Err(Flaw::Syntax);
+            return Err(PartFault::Syntax);
         };
         if name == b"bpfcert".as_slice() {
             return self.header(rest);

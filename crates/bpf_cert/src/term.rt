@@ -4,7 +4,7 @@ ghost use Rattle.std.specs.Prelude.{◌≡◌, ◌++◌, ◌∷◌, ◌&&◌, []
 ghost use Rattle.std.specs.List.{list_all};
 ghost use Rattle.bpf_cert.specs.Line.{Term as TermText, is_term};
 ghost use Rattle.bpf_cert.specs.Reading.{measure_in, term_in};
-ghost use Rattle.bpf_cert.specs.Faults.{is_limited_term, comes_after, place_before, place_of};
+ghost use Rattle.bpf_cert.specs.Faults.{is_limited_term, comes_after, place_before, line_place};
 ghost use Rattle.bpf_cert.specs.Limits as limits;
 ghost use Rattle.bpf_cert.specs.code.Findings.{found, valued};
 ghost use Rattle.bpf_cert.specs.Spelling.{term_of};
@@ -13,9 +13,9 @@ ghost use Rattle.bpf_cert.specs.code.TermSums.{IsTermSum, is_plain_term, IsPlain
 
 use crate::certificate::{Measure, Term};
 use crate::cut::{behind, cut};
-use crate::finding::{Flaw, joined, tested};
+use crate::decimal::{HUGE, is_numeral, is_plain, number};
+use crate::finding::{PartFault, joined, tested};
 use crate::limits::MAX_WEIGHT;
-use crate::number::{HUGE, is_numeral, is_plain, number};
 use crate::place::{PlaceForm, is_before, is_limited_place, is_plain_place, place, place_value};
 use arrayvec::ArrayVec;
 
@@ -106,7 +106,7 @@ fn term_value(term: TermForm<'_>) -> Term
 // Whether the place comes after the last one, and all is spelled plainly.
 fn may_follow(last: Option<PlaceForm<'_>>, term: TermForm<'_>) -> bool
     ensures { is_term (term_seen term.entry) ≡ true → IfSome (option_map place_seen last.entry) IsPlainPlace
-        → result ≡ (is_plain_term (term_seen term.entry) && comes_after place_before (option_map place_seen last.entry) (place_of (term_seen term.entry))) }
+        → result ≡ (is_plain_term (term_seen term.entry) && comes_after place_before (option_map place_seen last.entry) (line_place (term_seen term.entry))) }
 {
     if !is_plain_term(term) {
         return false;
@@ -126,7 +126,7 @@ fn has_room(room: u8, term: TermForm<'_>) -> bool
 // What the terms so far say.
 #[derive(Drop)]
 pub struct Terms<'a> {
-    pub found: Result<(), Flaw>,
+    pub found: Result<(), PartFault>,
     pub last: Option<PlaceForm<'a>>,
     // how many more may come
     pub room: u8,
@@ -162,7 +162,7 @@ impl<'a> Terms<'a> {
         }
     }
 
-    fn value(self) -> Result<ArrayVec<Term, 4>, Flaw>
+    fn value(self) -> Result<ArrayVec<Term, 4>, PartFault>
         ensures value { (done : List TermText) → IsTermSum done self.entry → valued (λ v. map term_of v.items) result ≡ found are_canonical_terms are_limited_terms (Some done) }
         ensures kept { (done : List TermText) → IsTermSum done self.entry → IfOk result (λ v. list_all limits.is_limited_term v.items ≡ true) }
     {
@@ -173,7 +173,7 @@ impl<'a> Terms<'a> {
     }
 }
 
-fn terms_of(text: &[u8]) -> Result<ArrayVec<Term, 4>, Flaw>
+fn terms_of(text: &[u8]) -> Result<ArrayVec<Term, 4>, PartFault>
     ensures value { valued (λ v. map term_of v.items) result ≡ found are_canonical_terms are_limited_terms (terms_in (Some text.now)) }
     ensures kept { IfOk result (λ v. list_all limits.is_limited_term v.items ≡ true) }
 {
@@ -181,20 +181,20 @@ fn terms_of(text: &[u8]) -> Result<ArrayVec<Term, 4>, Flaw>
     let mut rest = text;
     'pieces: while let Some((piece, more)) = cut(rest, b' ') {
         let Some(term) = term(piece) else {
-            return Err(Flaw::Syntax);
+            return Err(PartFault::Syntax);
         };
         terms.add(term);
         rest = more;
     }
     let Some(last) = term(rest) else {
-        return Err(Flaw::Syntax);
+        return Err(PartFault::Syntax);
     };
     terms.add(last);
     terms.value()
 }
 
 /// The terms in the text behind a label's base, if there is one.
-pub fn all_terms(rest: Option<&[u8]>) -> Result<ArrayVec<Term, 4>, Flaw>
+pub fn all_terms(rest: Option<&[u8]>) -> Result<ArrayVec<Term, 4>, PartFault>
     ensures value { valued (λ v. map term_of v.items) result ≡ found are_canonical_terms are_limited_terms (terms_in (option_map (λ x. x.now) rest.entry)) }
     ensures kept { IfOk result (λ v. list_all limits.is_limited_term v.items ≡ true) }
 {

@@ -4,13 +4,14 @@ ghost use Rattle.std.specs.Prelude.{◌≡◌, ◌≤◌, ◌<◌, map, flat_map
 ghost use Rattle.bpf_cert.specs.Written.{Puts, Writes};
 ghost use Rattle.bpf_cert.specs.View.{function_view, label_view};
 ghost use Rattle.bpf_state.specs.State.{value_slot};
-ghost use Rattle.bpf_state.specs.declared.state.SlotState.TheVariants.{Bytes};
-ghost use Rattle.bpf_cert.specs.Spelling.{place_of, place_at, contents, entry_lines, lines_from, lines_text, label_lines, function_lines, certificate_text};
+ghost use Rattle.bpf_state.specs.declared.known.SlotState.TheVariants.{Bytes};
+ghost use Rattle.bpf_cert.specs.Spelling.{spelled_place, place_at, contents, entry_lines, lines_from, lines_text, label_lines, function_lines, certificate_text};
 
 use crate::certificate::{Certificate, Function, Label};
 use crate::spelling::{entry_text, function_text, header_text, label_text};
+use bpf_insn::Reg;
 use bpf_insn::written::Pending;
-use bpf_state::{Entries, Place, RegState, SlotState, numbered};
+use bpf_state::{Entries, Place, RegState, SlotState};
 use std::io::{self, Write};
 
 // All the bytes, by one clause for both ends.
@@ -34,10 +35,10 @@ pub fn value_slot(value: RegState) -> SlotState
 // r0 to r9, then s1 to s64.
 fn place_at(j: u8) -> Place
     requires { j < 74 }
-    ensures { place_of result ≡ place_at j }
+    ensures { spelled_place result ≡ place_at j }
 {
     if j < 10 {
-        Place::Register(numbered(j))
+        Place::Register(Reg::numbered(j))
     } else {
         Place::Slot(j - 9)
     }
@@ -50,7 +51,7 @@ fn content_at(state: &Entries, j: u8) -> SlotState
 {
     state.valid();
     if j < 10 {
-        value_slot(state.reg(numbered(j)))
+        value_slot(state.reg(Reg::numbered(j)))
     } else {
         state.slot(j - 9)
     }
@@ -63,7 +64,7 @@ fn put_entry<W: Write>(
     place: Place,
     value: SlotState,
 ) -> io::Result<()>
-    ensures { Puts (W.contents out.old) (W.contents out.new) pending.old pending.new (lines_text (entry_lines (place_of place) value)) result }
+    ensures { Puts (W.contents out.old) (W.contents out.new) pending.old pending.new (lines_text (entry_lines (spelled_place place) value)) result }
 {
     match value {
         SlotState::Bytes(0) => Ok(()),

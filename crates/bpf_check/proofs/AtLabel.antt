@@ -7,12 +7,12 @@ use Rattle.bpf_insn.specs.declared.instruction.Reg.{Reg}
 use Rattle.bpf_insn.specs.Instruction.{register_number}
 use Rattle.bpf_num.specs.Interval.{Interval}
 use Rattle.bpf_num.specs.Number.{Number, tighten}
-use Rattle.bpf_state.specs.declared.state.RegState.{RegState}
-use Rattle.bpf_state.specs.declared.state.RegState.TheVariants.{Any, Num, Ptr}
-use Rattle.bpf_state.specs.declared.state.SlotState.{SlotState}
-use Rattle.bpf_state.specs.declared.state.SlotState.TheVariants.{Bytes, Word, Spilled}
-use Rattle.bpf_state.specs.declared.state.Place.{Place}
-use Rattle.bpf_state.specs.declared.state.Place.TheVariants.{Register, Slot}
+use Rattle.bpf_state.specs.declared.known.RegState.{RegState}
+use Rattle.bpf_state.specs.declared.known.RegState.TheVariants.{Any, Num, Ptr}
+use Rattle.bpf_state.specs.declared.known.SlotState.{SlotState}
+use Rattle.bpf_state.specs.declared.known.SlotState.TheVariants.{Bytes, Word, Spilled}
+use Rattle.bpf_state.specs.declared.known.Place.{Place}
+use Rattle.bpf_state.specs.declared.known.Place.TheVariants.{Register, Slot}
 use Rattle.bpf_state.specs.State.{AbstractState, register, slot, slot_value, each_if, tightened_register, tightened_slot, blank, no_tags}
 use Rattle.bpf_state.specs.Transfer.{number_state}
 use Rattle.bpf_cert.specs.declared.certificate.Term.{Term}

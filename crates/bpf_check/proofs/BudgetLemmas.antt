@@ -7,8 +7,8 @@ use Rattle.std.proofs.lemmas.Bool.{and_parts, leb-true}
 use Rattle.std.proofs.lemmas.List.{at_drop_more, get_or_default}
 use Rattle.std.specs.List.{list_all}
 use Rattle.bpf_state.specs.State.{AbstractState, tag}
-use Rattle.bpf_state.specs.declared.state.Tag.{Tag}
-use Rattle.bpf_state.specs.declared.state.Place.{Place}
+use Rattle.bpf_state.specs.declared.known.Tag.{Tag}
+use Rattle.bpf_state.specs.declared.known.Place.{Place}
 use Rattle.bpf_cert.specs.declared.certificate.Term.{Term}
 use Rattle.bpf_cert.specs.View.{LabelView}
 use Rattle.bpf_cert.specs.Limits.{is_limited_label, is_limited_term}

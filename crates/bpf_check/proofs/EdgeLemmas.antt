@@ -12,8 +12,8 @@ use Rattle.bpf_insn.specs.Instruction.{Instructions}
 use Rattle.bpf_insn.specs.declared.instruction.Insn.{Insn}
 use Rattle.bpf_insn.specs.declared.instruction.Insn.TheVariants.{Alu, Neg, MovSx, End, LoadImm64, Load, LoadSx, Store, StoreImm, Atomic, Ja, JaLong, JumpIf, CallLocal, Exit}
 use Rattle.bpf_state.specs.State.{AbstractState, IsPlace}
-use Rattle.bpf_state.specs.declared.state.Place.{Place}
-use Rattle.bpf_state.specs.declared.state.Place.TheVariants.{Register, Slot}
+use Rattle.bpf_state.specs.declared.known.Place.{Place}
+use Rattle.bpf_state.specs.declared.known.Place.TheVariants.{Register, Slot}
 use Rattle.bpf_state.specs.Transfer.{after}
 use Rattle.bpf_cert.specs.declared.certificate.Term.{Term}
 use Rattle.bpf_cert.specs.declared.certificate.Measure.{Measure}

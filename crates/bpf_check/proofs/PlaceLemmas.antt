@@ -10,7 +10,7 @@ use Rattle.bpf_cert.specs.Limits.{IsCertificate, is_canonical_function}
 use Rattle.bpf_safety.specs.Labels.{label_at, function_at, first_with}
 use Rattle.bpf_safety.specs.Flaw.{is_not, is_outside}
 use Rattle.bpf_check.specs.code.Search.{rises, last_up_to, with_key}
-use Rattle.bpf_check.specs.Places.{holds_labels, are_in_place}
+use Rattle.bpf_check.specs.LabelIndex.{holds_labels, are_in_place}
 use Rattle.bpf_check.proofs.SearchLemmas.{rises_tail, rises_head, first_is_last, first_with-append, first_with-append_some, first_with_passes}
 use Rattle.bpf_check.proofs.CertificateFacts.{functions_rise, functions_canonical, last_from_is, last_from_passes}
 

@@ -20,7 +20,7 @@ use Rattle.bpf_safety.specs.Flaw.{Edge, edges, is_refused_by, is_unpaid, enters_
 use Rattle.bpf_check.specs.code.Slack.{IsWithin}
 use Rattle.bpf_check.specs.code.Arrivals.{arrival_of, IsReaching}
 use Rattle.bpf_check.specs.code.Edges.{visit, next_of, edges_of, unpaid_from}
-use Rattle.bpf_check.specs.code.Visits.{IsJudged, visit_with}
+use Rattle.bpf_check.specs.code.Visits.{IsJudgment, visit_with}
 use Rattle.bpf_check.specs.code.Counting.{counted_times, compared, worked_at}
 use Rattle.bpf_check.specs.declared.arrival.Here.{Here}
 use Rattle.bpf_check.proofs.CountLemmas.{times_more}
@@ -69,7 +69,7 @@ and_true false = refl
 
 -- ---- the three ends of a visit
 
-pub dead_judged : (p : Instructions) (c : CertificateView) (slot : ℕ) (i : Insn) (s : AbstractState) (h : Here) (s' t aside : AbstractState) (alive enters returns exits : Bool) (cost : Option ℤ) → alive ≡ false → outcome_told (Ok alive) s' ≡ transfer p.order i c.least s → cost ≡ cost_after c slot i (arrival_of s h) → enters ≡ enters_wrongly c (visit slot i) (arrival_of s h) → returns ≡ returns_wrongly c (visit slot i) (arrival_of s h) i → exits ≡ exits_unpaid (visit slot i) (arrival_of s h) cost i → IsJudged p c slot i (arrival_of s h) (record { state = t; aside = aside; here = None }) (record { not_entailed = enters || returns; over_budget = exits; past_end = false })
+pub dead_judged : (p : Instructions) (c : CertificateView) (slot : ℕ) (i : Insn) (s : AbstractState) (h : Here) (s' t aside : AbstractState) (alive enters returns exits : Bool) (cost : Option ℤ) → alive ≡ false → outcome_told (Ok alive) s' ≡ transfer p.order i c.least s → cost ≡ cost_after c slot i (arrival_of s h) → enters ≡ enters_wrongly c (visit slot i) (arrival_of s h) → returns ≡ returns_wrongly c (visit slot i) (arrival_of s h) i → exits ≡ exits_unpaid (visit slot i) (arrival_of s h) cost i → IsJudgment p c slot i (arrival_of s h) (record { state = t; aside = aside; here = None }) (record { not_entailed = enters || returns; over_budget = exits; past_end = false })
 dead_judged p c slot i s h s' t aside alive enters returns exits cost dead told spent en re ex =
     let both = transfer_dead p.order i c.least s s' alive dead told in
     let no_next = next_dead p c slot i s both.1 in
@@ -101,7 +101,7 @@ shared p c slot i s h s' alive refused unpaid enters returns exits cost is_alive
       over_budget = ap₂ (λ x y. x || y) (un ∙ ap (λ o. list_any (unpaid_from c (label_view h.label.now) o) (edges_of c slot i s')) spent ∙ ap (list_any (is_unpaid c (visit slot i) (arrival_of s h))) (sym same)) (ex ∙ ap (λ o. exits_unpaid (visit slot i) (arrival_of s h) o i) spent);
     }
 
-pub stop_judged : (p : Instructions) (c : CertificateView) (slot : ℕ) (i : Insn) (s : AbstractState) (h : Here) (s' s'' t aside : AbstractState) (alive refused unpaid enters returns exits goes : Bool) (cost : Option ℤ) → alive ≡ true → outcome_told (Ok alive) s' ≡ transfer p.order i c.least s → cost ≡ cost_after c slot i (arrival_of s h) → enters ≡ enters_wrongly c (visit slot i) (arrival_of s h) → returns ≡ returns_wrongly c (visit slot i) (arrival_of s h) i → exits ≡ exits_unpaid (visit slot i) (arrival_of s h) cost i → refused ≡ list_any (is_refused_by c) (edges_of c slot i s') → unpaid ≡ list_any (unpaid_from c (label_view h.label.now) cost) (edges_of c slot i s') → edge_told goes s'' ≡ next_of c slot i s' → goes ≡ false → IsJudged p c slot i (arrival_of s h) (record { state = t; aside = aside; here = None }) (record { not_entailed = (refused || enters) || returns; over_budget = unpaid || exits; past_end = false })
+pub stop_judged : (p : Instructions) (c : CertificateView) (slot : ℕ) (i : Insn) (s : AbstractState) (h : Here) (s' s'' t aside : AbstractState) (alive refused unpaid enters returns exits goes : Bool) (cost : Option ℤ) → alive ≡ true → outcome_told (Ok alive) s' ≡ transfer p.order i c.least s → cost ≡ cost_after c slot i (arrival_of s h) → enters ≡ enters_wrongly c (visit slot i) (arrival_of s h) → returns ≡ returns_wrongly c (visit slot i) (arrival_of s h) i → exits ≡ exits_unpaid (visit slot i) (arrival_of s h) cost i → refused ≡ list_any (is_refused_by c) (edges_of c slot i s') → unpaid ≡ list_any (unpaid_from c (label_view h.label.now) cost) (edges_of c slot i s') → edge_told goes s'' ≡ next_of c slot i s' → goes ≡ false → IsJudgment p c slot i (arrival_of s h) (record { state = t; aside = aside; here = None }) (record { not_entailed = (refused || enters) || returns; over_budget = unpaid || exits; past_end = false })
 stop_judged p c slot i s h s' s'' t aside alive refused unpaid enters returns exits goes cost is_alive told spent en re ex rf un leads stops =
     let all = shared p c slot i s h s' alive refused unpaid enters returns exits cost is_alive told spent en re ex rf un in
     let no_next : next_state p c slot i s ≡ None = all.next ∙ sym leads ∙ ap (λ b. edge_told b s'') stops in
@@ -114,7 +114,7 @@ stop_judged p c slot i s h s' s'' t aside alive refused unpaid enters returns ex
       past_end = and_false (slot + slot_count i == slots p.list) ∙ ap (λ o. (slot + slot_count i == slots p.list) && is_some o) (sym no_next);
     }
 
-pub pass_judged : (p : Instructions) (c : CertificateView) (slot : ℕ) (i : Insn) (s : AbstractState) (h : Here) (s' s'' aside : AbstractState) (alive refused unpaid enters returns exits goes last : Bool) (cost : Option ℤ) → alive ≡ true → outcome_told (Ok alive) s' ≡ transfer p.order i c.least s → cost ≡ cost_after c slot i (arrival_of s h) → enters ≡ enters_wrongly c (visit slot i) (arrival_of s h) → returns ≡ returns_wrongly c (visit slot i) (arrival_of s h) i → exits ≡ exits_unpaid (visit slot i) (arrival_of s h) cost i → refused ≡ list_any (is_refused_by c) (edges_of c slot i s') → unpaid ≡ list_any (unpaid_from c (label_view h.label.now) cost) (edges_of c slot i s') → edge_told goes s'' ≡ next_of c slot i s' → goes ≡ true → last ≡ (slot + slot_count i == slots p.list) → IsReaching (slot + slot_count i) (record h { cost = cost }) → IsJudged p c slot i (arrival_of s h) (record { state = s''; aside = aside; here = Some (record h { cost = cost }) }) (record { not_entailed = (refused || enters) || returns; over_budget = unpaid || exits; past_end = last })
+pub pass_judged : (p : Instructions) (c : CertificateView) (slot : ℕ) (i : Insn) (s : AbstractState) (h : Here) (s' s'' aside : AbstractState) (alive refused unpaid enters returns exits goes last : Bool) (cost : Option ℤ) → alive ≡ true → outcome_told (Ok alive) s' ≡ transfer p.order i c.least s → cost ≡ cost_after c slot i (arrival_of s h) → enters ≡ enters_wrongly c (visit slot i) (arrival_of s h) → returns ≡ returns_wrongly c (visit slot i) (arrival_of s h) i → exits ≡ exits_unpaid (visit slot i) (arrival_of s h) cost i → refused ≡ list_any (is_refused_by c) (edges_of c slot i s') → unpaid ≡ list_any (unpaid_from c (label_view h.label.now) cost) (edges_of c slot i s') → edge_told goes s'' ≡ next_of c slot i s' → goes ≡ true → last ≡ (slot + slot_count i == slots p.list) → IsReaching (slot + slot_count i) (record h { cost = cost }) → IsJudgment p c slot i (arrival_of s h) (record { state = s''; aside = aside; here = Some (record h { cost = cost }) }) (record { not_entailed = (refused || enters) || returns; over_budget = unpaid || exits; past_end = last })
 pass_judged p c slot i s h s' s'' aside alive refused unpaid enters returns exits goes last cost is_alive told spent en re ex rf un leads continues at_end valid =
     let all = shared p c slot i s h s' alive refused unpaid enters returns exits cost is_alive told spent en re ex rf un in
     let next : next_state p c slot i s ≡ Some s'' = all.next ∙ sym leads ∙ ap (λ b. edge_told b s'') continues in

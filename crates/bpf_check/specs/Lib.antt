@@ -2,4 +2,4 @@ pub mod code
 pub mod RefusalNumbers
 pub mod CheckedProgram
 pub mod Verdicts
-pub mod Places
+pub mod LabelIndex

@@ -4,7 +4,7 @@ ghost use Rattle.std.specs.Prelude.{◌≡◌, ◌≤◌, option_map, option_cop
 ghost use Rattle.bpf_cert.specs.View.{CertificateView, function_view};
 ghost use Rattle.bpf_cert.specs.Limits.{is_limited_function};
 ghost use Rattle.bpf_safety.specs.Labels.{function_at};
-ghost use Rattle.bpf_safety.specs.Flow.{callee, jump_target, goes_on};
+ghost use Rattle.bpf_safety.specs.Flow.{callee, jump_target};
 ghost use Rattle.bpf_safety.specs.Flaw.{lacks_label, calls_no_deeper, leaves_function, leaves_for, next_slot, calls_nowhere, is_not};
 ghost use Rattle.bpf_check.specs.code.Sites.{IsSpot, IsSite, visit_at};
 
@@ -51,13 +51,6 @@ pub fn callee<'a>(certificate: &'a Index, slot: u32, insn: &Insn) -> Option<&'a 
         Some(first) => function_from(certificate, first),
         None => None,
     }
-}
-
-/// Whether an instruction may go on at the next one.
-pub fn goes_on(insn: &Insn) -> bool
-    ensures { result ≡ goes_on insn.now }
-{
-    !matches!(*insn, Insn::Ja { .. } | Insn::JaLong { .. } | Insn::Exit)
 }
 
 /// Whether no label stands at a jump's target.
@@ -111,7 +104,7 @@ fn goes_elsewhere<P: Code>(program: &P, site: &Site, function: &Function) -> boo
     requires { IsSite site.now }
     ensures { result ≡ leaves_for site.now.certificate.now (function_view function.now) (next_slot (P.program program.now) (visit_at site.now)) }
 {
-    if goes_on(&site.insn) && site.next.slot != program.slots() {
+    if site.insn.goes_on() && site.next.slot != program.slots() {
         is_elsewhere(function, &site.next)
     } else {
         false

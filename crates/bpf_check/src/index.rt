@@ -2,7 +2,7 @@
 
 ghost use Rattle.std.specs.Prelude.{◌≡◌, true, IsTrue};
 ghost use Rattle.bpf_cert.specs.View.{function_view};
-ghost use Rattle.bpf_check.specs.Places.{holds_labels, are_in_place};
+ghost use Rattle.bpf_check.specs.LabelIndex.{holds_labels, are_in_place};
 
 use crate::shape::is_outside;
 use bpf_cert::{Certificate, Function};
@@ -19,7 +19,7 @@ pub struct Index<'a> {
 impl<'a> Model for Index<'a> {
     ghost use Rattle.std.specs.Prelude.{◌≡◌, true, IsTrue};
     ghost use Rattle.bpf_cert.specs.View.{CertificateView};
-    ghost use Rattle.bpf_check.specs.Places.{are_in_place};
+    ghost use Rattle.bpf_check.specs.LabelIndex.{are_in_place};
 
     ghost Value = { CertificateView };
 
@@ -32,7 +32,7 @@ impl<'a> Index<'a> {
     ghost use Rattle.std.specs.Prelude.{◌≡◌, true, map, IsTrue};
     ghost use Rattle.bpf_cert.specs.View.{function_view};
     ghost use Rattle.bpf_cert.specs.Limits.{IsCertificate};
-    ghost use Rattle.bpf_check.specs.Places.{are_in_place};
+    ghost use Rattle.bpf_check.specs.LabelIndex.{are_in_place};
 
     /// The certificate, after a look at where each label lies.
     pub fn of(certificate: &'a Certificate) -> Index<'a>

@@ -18,7 +18,6 @@ ghost use Rattle.bpf_check.specs.code.Counting.{compared};
 
 use crate::arrival::Here;
 use crate::budget::{least_budget, least_slack};
-use crate::edge::goes_on;
 use crate::site::{Site, Spot};
 use bpf_cert::Label;
 use bpf_insn::Insn;
@@ -176,7 +175,7 @@ pub fn go_to_next(site: &Site, state: &mut State) -> bool
             Some(callee) => leave(state, callee.function.ret),
             None => false,
         },
-        _ => goes_on(&site.insn),
+        _ => site.insn.goes_on(),
     }
 }
 

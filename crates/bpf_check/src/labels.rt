@@ -6,7 +6,7 @@ ghost use Rattle.bpf_cert.specs.View.{label_view, function_view};
 ghost use Rattle.bpf_cert.specs.Limits.{slot_before, first_before, is_limited_label, is_limited_function};
 ghost use Rattle.bpf_safety.specs.Labels.{first_with, label_at, function_at, function_from};
 ghost use Rattle.bpf_check.specs.code.Search.{rises, last_up_to};
-ghost use Rattle.bpf_check.specs.Places.{are_in_place};
+ghost use Rattle.bpf_check.specs.LabelIndex.{are_in_place};
 
 use crate::index::Index;
 use bpf_cert::{Function, Label};

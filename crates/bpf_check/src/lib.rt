@@ -23,7 +23,7 @@ pub use arrival::{Here, Walk, cost_after};
 pub use budget::{bounds, greatest_budget, least_budget, place_of};
 pub use checked::Checked;
 pub use checker::check;
-pub use edge::{callee, calls_no_deeper, goes_on, jump_target, lacks_label, leaves_function};
+pub use edge::{callee, calls_no_deeper, jump_target, lacks_label, leaves_function};
 pub use index::Index;
 pub use judge::go_to_next;
 pub use labels::{function_at, function_from, label_at};

@@ -2,7 +2,7 @@
 
 ghost use Rattle.std.specs.Prelude.{◌≡◌, ◌++◌, map, not, option_map};
 ghost use Rattle.bpf_cert.specs.View.{function_view};
-ghost use Rattle.bpf_state.specs.State.{start};
+ghost use Rattle.bpf_state.specs.State.{first_state};
 ghost use Rattle.bpf_state.specs.Fault.{some_passes};
 ghost use Rattle.bpf_state.specs.Entails.{state_entails};
 ghost use Rattle.bpf_safety.specs.Labels.{label_at};
@@ -32,7 +32,7 @@ pub fn begins_elsewhere(functions: &[Function]) -> bool
 
 /// The state at the start: r2 is the length of a context, from the least to the greatest.
 fn start_state(certificate: &Index) -> State
-    ensures { result ≡ start certificate.now.least certificate.now.most }
+    ensures { result ≡ first_state certificate.now.least certificate.now.most }
 {
     certificate.valid();
     State::start(certificate.least(), certificate.most())
@@ -40,7 +40,7 @@ fn start_state(certificate: &Index) -> State
 
 /// The state at the start doesn't lie in the label at slot 0.
 fn starts_outside(certificate: &Index, work: &mut Work) -> bool
-    ensures answer { result ≡ some_passes (λ l. not (state_entails (start certificate.now.least certificate.now.most) l.state)) (label_at certificate.now 0) }
+    ensures answer { result ≡ some_passes (λ l. not (state_entails (first_state certificate.now.least certificate.now.most) l.state)) (label_at certificate.now 0) }
     ensures work { work.new ≡ compared (compared_at_start certificate.now) work.old }
 {
     let Some(label) = label_at(certificate, 0) else {

@@ -11,7 +11,7 @@ ghost use Rattle.bpf_safety.specs.Flaw.{at, number_if, numbers_of_visit};
 ghost use Rattle.bpf_check.specs.code.Least.{IsLeastIn};
 ghost use Rattle.bpf_check.specs.RefusalNumbers.{cause_number, flaw_of};
 ghost use Rattle.bpf_check.specs.code.Arrivals.{arrival_of, walk_of, IsReaching};
-ghost use Rattle.bpf_check.specs.code.Visits.{IsJudged, numbers_with, passed_with, never_reached, visit_of, visit_with};
+ghost use Rattle.bpf_check.specs.code.Visits.{IsJudgment, numbers_with, passed_with, never_reached, visit_of, visit_with};
 ghost use Rattle.bpf_check.specs.code.Counting.{worked_at};
 ghost use Rattle.bpf_check.specs.code.Sites.{IsSpot, IsSite};
 
@@ -42,7 +42,7 @@ pub fn judge<'a, P: Code>(
 ) -> Result<Judged, StateFault>
     requires site { IsSite site.now }
     requires valid { IsReaching site.now.here.slot here }
-    ensures ok { IfOk result (λ j. IsJudged (P.program program.now) site.now.certificate.now site.now.here.slot site.now.insn (arrival_of walk.old.state here.entry) walk.new j) }
+    ensures ok { IfOk result (λ j. IsJudgment (P.program program.now) site.now.certificate.now site.now.here.slot site.now.insn (arrival_of walk.old.state here.entry) walk.new j) }
     ensures err { IfErr result (λ e. fault_of site.now.certificate.now.least walk.old.state site.now.insn ≡ Some (fault_number e)) }
     ensures stops { IfErr result (λ e. walk.new.here ≡ None) }
     ensures work { work.new ≡ worked_at (P.program program.now) site.now.certificate.now (visit_with site.now.here.slot site.now.insn (Some (arrival_of walk.old.state here.entry))) work.old }
@@ -147,7 +147,7 @@ fn flaw_of_state(slot: u32, judged: Judged) -> Option<Refusal>
 
 /// The conditions on an instruction that need no state.
 #[derive(Clone, Copy)]
-struct Place {
+struct Shape {
     /// No label stands at a jump's target.
     lacks_label: bool,
     /// A callee's depth isn't below its caller's.
@@ -160,17 +160,17 @@ struct Place {
 
 /// The least refusal of an instruction, from the least of what is found with a state. Mostly no other condition fails, so
 /// that is looked at first.
-fn flaw_with(slot: u32, place: Place, refusal: Option<Refusal>) -> Option<Refusal>
-    ensures { (xs : List (ℕ × ℕ)) → IsLeastIn xs (option_map flaw_of refusal) → IsLeastIn (at slot (number_if 1 place.lacks_label) ++ xs ++ at slot (number_if 10 place.no_deeper) ++ at slot (number_if 11 place.never) ++ at slot (number_if 12 place.leaves)) (option_map flaw_of result) }
+fn flaw_with(slot: u32, shape: Shape, refusal: Option<Refusal>) -> Option<Refusal>
+    ensures { (xs : List (ℕ × ℕ)) → IsLeastIn xs (option_map flaw_of refusal) → IsLeastIn (at slot (number_if 1 shape.lacks_label) ++ xs ++ at slot (number_if 10 shape.no_deeper) ++ at slot (number_if 11 shape.never) ++ at slot (number_if 12 shape.leaves)) (option_map flaw_of result) }
 {
-    let is_flawed = place.lacks_label | place.no_deeper | place.never | place.leaves;
+    let is_flawed = shape.lacks_label | shape.no_deeper | shape.never | shape.leaves;
     if !is_flawed {
         return refusal;
     }
-    let label = refused_if(place.lacks_label, slot, Cause::NoLabel);
-    let depth = refused_if(place.no_deeper, slot, Cause::NoDeeper);
-    let never = refused_if(place.never, slot, Cause::FallsOff);
-    let elsewhere = refused_if(place.leaves, slot, Cause::LeavesFunction);
+    let label = refused_if(shape.lacks_label, slot, Cause::NoLabel);
+    let depth = refused_if(shape.no_deeper, slot, Cause::NoDeeper);
+    let never = refused_if(shape.never, slot, Cause::FallsOff);
+    let elsewhere = refused_if(shape.leaves, slot, Cause::LeavesFunction);
     lesser(
         lesser(lesser(lesser(label, refusal), depth), never),
         elsewhere,
@@ -211,11 +211,11 @@ pub fn visit<'a, P: Code>(
 {
     let never = arrive(&site.here, walk);
     let refusal = visit_arrival(program, site, walk, work);
-    let place = Place {
+    let shape = Shape {
         lacks_label: lacks_label(site),
         no_deeper: calls_no_deeper(site),
         never,
         leaves: leaves_function(program, site),
     };
-    flaw_with(site.here.slot, place, refusal)
+    flaw_with(site.here.slot, shape, refusal)
 }

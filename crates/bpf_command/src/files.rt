@@ -2,7 +2,7 @@
 
 ghost use Rattle.std.specs.Prelude.{◌≡◌};
 
-use crate::places::Places;
+use crate::streams::Streams;
 use std::alloc::Global;
 use std::fs::{self, File, OpenFile};
 use std::io::{self, Read, Stdin, Stdout, Write};
@@ -10,23 +10,23 @@ use std::rt::Files;
 
 /// A file, or standard input.
 #[derive(Drop)]
-pub enum Source<F: Read + Drop> {
+pub enum FileReader<F: Read + Drop> {
     File(F),
     Input(Stdin),
 }
 
-impl<F: Read + Drop> Read for Source<F> {
+impl<F: Read + Drop> Read for FileReader<F> {
     fn read(&mut self, buf: &mut [u8]) -> io::Result<usize> {
         match self {
-            Source::File(file) => file.read(buf),
-            Source::Input(input) => input.read(buf),
+            FileReader::File(file) => file.read(buf),
+            FileReader::Input(input) => input.read(buf),
         }
     }
 }
 
 /// A file that isn't at its name yet, or what is written as it is.
 #[derive(Drop)]
-pub enum Target<F: Write + Drop> {
+pub enum FileWriter<F: Write + Drop> {
     /// A new file beside the name.
     Beside {
         file: F,
@@ -38,37 +38,37 @@ pub enum Target<F: Write + Drop> {
     Output(Stdout),
 }
 
-impl<F: Write + Drop> Write for Target<F> {
+impl<F: Write + Drop> Write for FileWriter<F> {
     fn write(&mut self, buf: &[u8]) -> io::Result<usize> {
         match self {
-            Target::Beside { file, .. } | Target::AtName(file) => file.write(buf),
-            Target::Output(output) => output.write(buf),
+            FileWriter::Beside { file, .. } | FileWriter::AtName(file) => file.write(buf),
+            FileWriter::Output(output) => output.write(buf),
         }
     }
 
     fn flush(&mut self) -> io::Result<()> {
         match self {
-            Target::Beside { file, .. } | Target::AtName(file) => file.flush(),
-            Target::Output(output) => output.flush(),
+            FileWriter::Beside { file, .. } | FileWriter::AtName(file) => file.flush(),
+            FileWriter::Output(output) => output.flush(),
         }
     }
 }
 
 /// The files of the system, and `-` for standard input and output.
 #[derive(Drop)]
-pub struct FilePlaces<'a, R: Files> {
+pub struct FileStreams<'a, R: Files> {
     runtime: &'a R,
     alloc: Global,
     input: Stdin,
     output: Stdout,
 }
 
-impl<'a, R: Files> FilePlaces<'a, R> {
+impl<'a, R: Files> FileStreams<'a, R> {
     /// The files that the runtime reaches, and these streams.
     pub fn new(runtime: &'a R, alloc: Global, input: Stdin, output: Stdout) -> Self
         ensures { result.runtime ≡ runtime.entry }
     {
-        FilePlaces {
+        FileStreams {
             runtime,
             alloc,
             input,
@@ -84,40 +84,40 @@ impl<'a, R: Files> FilePlaces<'a, R> {
     }
 }
 
-impl<'a, R: Files> Places for FilePlaces<'a, R> {
-    type Reader = Source<R::File>;
+impl<'a, R: Files> Streams for FileStreams<'a, R> {
+    type Reader = FileReader<R::File>;
 
-    type Writer = Target<R::File>;
+    type Writer = FileWriter<R::File>;
 
-    fn open(&mut self, name: &str) -> io::Result<Source<R::File>> {
+    fn open(&mut self, name: &str) -> io::Result<FileReader<R::File>> {
         if name == "-" {
-            return Ok(Source::Input(self.input));
+            return Ok(FileReader::Input(self.input));
         }
-        Ok(Source::File(fs::open(self.runtime, name)?))
+        Ok(FileReader::File(fs::open(self.runtime, name)?))
     }
 
     // Whoever changes what stands at the name between the question and the renaming has it renamed over.
-    fn create(&mut self, name: &str) -> io::Result<Target<R::File>> {
+    fn create(&mut self, name: &str) -> io::Result<FileWriter<R::File>> {
         if name == "-" {
-            return Ok(Target::Output(self.output));
+            return Ok(FileWriter::Output(self.output));
         }
         if fs::symlink_metadata(self.runtime, name).is_ok_and(|found| !found.is_file()) {
-            return Ok(Target::AtName(fs::create(self.runtime, name)?));
+            return Ok(FileWriter::AtName(fs::create(self.runtime, name)?));
         }
         let partial = format!(in self.alloc; "{name}.partial")?;
         let name = String::from_str(self.alloc, name)?;
-        Ok(Target::Beside {
+        Ok(FileWriter::Beside {
             file: File::create_new(self.runtime, partial.as_str())?,
             partial,
             name,
         })
     }
 
-    fn finish(&mut self, writer: Target<R::File>) -> io::Result<()> {
+    fn finish(&mut self, writer: FileWriter<R::File>) -> io::Result<()> {
         match writer {
-            Target::Output(mut output) => output.flush(),
-            Target::AtName(mut file) => file.flush(),
-            Target::Beside {
+            FileWriter::Output(mut output) => output.flush(),
+            FileWriter::AtName(mut file) => file.flush(),
+            FileWriter::Beside {
                 file,
                 partial,
                 name,
@@ -131,8 +131,8 @@ impl<'a, R: Files> Places for FilePlaces<'a, R> {
         }
     }
 
-    fn discard(&mut self, writer: Target<R::File>) {
-        if let Target::Beside { file, partial, .. } = writer {
+    fn discard(&mut self, writer: FileWriter<R::File>) {
+        if let FileWriter::Beside { file, partial, .. } = writer {
             drop(file);
             let _ = fs::remove_file(self.runtime, partial.as_str());
         }

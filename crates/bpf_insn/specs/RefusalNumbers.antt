@@ -7,13 +7,13 @@ use Rattle.bpf_insn.specs.declared.refusal.BuildError.TheVariants.{Length, NoEnc
 use Rattle.bpf_insn.specs.declared.refusal.DecodeError.{DecodeError}
 use Rattle.bpf_insn.specs.declared.refusal.DecodeError.TheVariants.{Length as BadLength, Slot, Target as BadTarget, Memory as NoMemory, Read}
 
-abbrev pub fault_number : SlotFault → ℕ
-fault_number Opcode = 2
-fault_number Register = 3
-fault_number Unused = 4
-fault_number Selector = 5
-fault_number Truncated = 6
-fault_number LeftOut = 7
+abbrev pub slot_fault_number : SlotFault → ℕ
+slot_fault_number Opcode = 2
+slot_fault_number Register = 3
+slot_fault_number Unused = 4
+slot_fault_number Selector = 5
+slot_fault_number Truncated = 6
+slot_fault_number LeftOut = 7
 
 abbrev pub build_number : BuildError → ℕ
 build_number Length = 1
@@ -29,7 +29,7 @@ build_slot Memory = 0
 
 abbrev pub decode_number : DecodeError → ℕ
 decode_number BadLength = 1
-decode_number (Slot slot fault) = fault_number fault
+decode_number (Slot slot fault) = slot_fault_number fault
 decode_number (BadTarget slot) = 8
 decode_number NoMemory = 9
 decode_number (Read slot) = 10

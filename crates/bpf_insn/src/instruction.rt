@@ -226,8 +226,29 @@ impl Groups {
 }
 
 impl Reg {
-    ghost use Rattle.std.specs.Prelude.{◌≡◌};
+    ghost use Rattle.std.specs.Prelude.{◌≡◌, ◌≤◌};
     ghost use Rattle.bpf_insn.specs.Effects.{is_frame_pointer};
+    ghost use Rattle.bpf_insn.specs.Instruction.{register_number};
+
+    /// The register with a number from 0 to 10.
+    pub fn numbered(number: u8) -> Reg
+        requires { number ≤ 10 }
+        ensures { register_number result ≡ number }
+    {
+        match number {
+            0 => Reg::R0,
+            1 => Reg::R1,
+            2 => Reg::R2,
+            3 => Reg::R3,
+            4 => Reg::R4,
+            5 => Reg::R5,
+            6 => Reg::R6,
+            7 => Reg::R7,
+            8 => Reg::R8,
+            9 => Reg::R9,
+            _ => Reg::R10,
+        }
+    }
 
     /// Whether it is r10, which no instruction may write.
     #[inline(always)]
@@ -281,7 +302,7 @@ impl AtomicOp {
 
 impl Insn {
     ghost use Rattle.std.specs.Prelude.{◌≡◌};
-    ghost use Rattle.bpf_insn.specs.Instruction.{slot_count, group_of, distance};
+    ghost use Rattle.bpf_insn.specs.Instruction.{slot_count, group_of, distance, goes_on};
 
     /// How many slots of eight bytes it takes: 2 for a 64-bit constant, else 1 (RFC 9669, section 3).
     pub fn slots(&self) -> u32
@@ -304,6 +325,13 @@ impl Insn {
             Insn::CallLocal { off } => Some(off),
             _ => None,
         }
+    }
+
+    /// Whether the next instruction may follow it: not behind a jump that is always taken, nor behind an exit.
+    pub fn goes_on(&self) -> bool
+        ensures { result ≡ goes_on self.now }
+    {
+        !matches!(*self, Insn::Ja { .. } | Insn::JaLong { .. } | Insn::Exit)
     }
 
     /// The conformance group that it belongs to (RFC 9669, section 2.4).

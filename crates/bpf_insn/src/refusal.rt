@@ -1,7 +1,7 @@
 //! Why bytes are no image, and why instructions are no program.
 
 ghost use Rattle.std.specs.Prelude.{◌≡◌};
-ghost use Rattle.bpf_insn.specs.RefusalNumbers.{fault_number, build_number, build_slot, decode_number, decode_slot};
+ghost use Rattle.bpf_insn.specs.RefusalNumbers.{slot_fault_number, build_number, build_slot, decode_number, decode_slot};
 
 use thiserror::Error;
 
@@ -31,7 +31,7 @@ pub enum SlotFault {
 impl SlotFault {
     /// The number of the refusal, from 2 to 7.
     pub fn number(&self) -> u8
-        ensures { result ≡ fault_number self.now }
+        ensures { result ≡ slot_fault_number self.now }
     {
         match self {
             SlotFault::Opcode => 2,

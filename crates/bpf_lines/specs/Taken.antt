@@ -5,8 +5,8 @@ use Rattle.bpf_lines.specs.declared.line_reader.Stop.{Stop}
 use Rattle.bpf_lines.specs.declared.line_reader.Stop.TheVariants as stop
 
 -- what lies in the buffer, and what the reader has left
-abbrev pub left : Option (List ℕ) → List ℕ → ℕ → ℕ → Option (List ℕ)
-left reader buffer at end = prepend_known (take (end - at) (drop at buffer)) reader
+abbrev pub unread : Option (List ℕ) → List ℕ → ℕ → ℕ → Option (List ℕ)
+unread reader buffer at end = prepend_known (take (end - at) (drop at buffer)) reader
 
 abbrev pub Byte : Option (List ℕ) → Option (List ℕ) → Option ℕ → Type 0
 Byte old new None = Keeps old new × IsAtEnd new

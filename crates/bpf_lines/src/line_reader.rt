@@ -35,11 +35,11 @@ pub struct LineReader<R: Read + Drop> {
 
 impl<R: Read + Drop> Model for LineReader<R> {
     ghost use Rattle.std.specs.Prelude.{◌≤◌, List, ℕ, Option};
-    ghost use Rattle.bpf_lines.specs.Taken.{left};
+    ghost use Rattle.bpf_lines.specs.Taken.{unread};
 
     ghost Value = { Option (List ℕ) };
 
-    ghost view = { λ s. left (R.remaining s.reader) s.buffer s.at s.end };
+    ghost view = { λ s. unread (R.remaining s.reader) s.buffer s.at s.end };
 
     ghost invariant = { λ s. (s.at ≤ s.end) × (s.end ≤ 4096) };
 }

@@ -2,6 +2,6 @@ pub mod PackedStack
 pub mod PackedRegisters
 pub mod Running
 pub mod Frames
-pub mod Places
+pub mod Locations
 pub mod Answers
 pub mod Stored

@@ -3,12 +3,12 @@
 ghost use Rattle.std.specs.Prelude.{◌≡◌, ◌<◌, ◌≤◌, ◌+◌, ◌%◌, ◌^◌, [], IsTrue, false, nat_le, pos, ◌+ℤ◌, IfSome, IfNone, IfOk, IfErr, length, option_map, is_some, IsSome, Some, None};
 ghost use Rattle.bpf_insn.specs.Order.{bytes_of};
 ghost use Rattle.bpf_insn.specs.Instruction.{register_number, byte_count, insn_at, distance};
-ghost use Rattle.bpf_semantics.specs.declared.state.Value.TheVariants.{Number};
+ghost use Rattle.bpf_semantics.specs.declared.value.Value.TheVariants.{Number};
 ghost use Rattle.bpf_semantics.specs.State.{frame_bytes, max_frames, depth, start, register, with_register, at_slot, number_of_register};
-ghost use Rattle.bpf_semantics.specs.Memory.{inside, place_of, number_at, pointer_at, stack_of, with_stack, with_bytes, with_parts};
+ghost use Rattle.bpf_semantics.specs.Memory.{inside, location_of, number_at, pointer_at, stack_of, with_stack, with_bytes, with_parts};
 ghost use Rattle.bpf_semantics.specs.Step.{operand, entered, left};
 ghost use Rattle.bpf_semantics.specs.Stuck.{unreadable_at};
-ghost use Rattle.bpf_machine.specs.Places.{place_is, IsInside};
+ghost use Rattle.bpf_machine.specs.Locations.{location_is, IsInside};
 ghost use Rattle.bpf_semantics.specs.Targets.{LeadsToSlot};
 ghost use Rattle.bpf_machine.specs.Running.{running, moved_to};
 
@@ -19,9 +19,9 @@ use bpf_insn::{Code, FRAME_BYTES, Insn, Operand, Order, Reg, Size, extended, num
 use bpf_semantics::{Reason, Region, Value};
 use std::marker::Model;
 
-/// A place in the context, or in the stack at a depth: the index of its first byte.
+/// A location in the context, or in the stack at a depth: the index of its first byte.
 #[derive(Clone, Copy)]
-pub(crate) enum Place {
+pub(crate) enum Location {
     Context(usize),
     Frame(usize, usize),
 }
@@ -226,8 +226,8 @@ impl<'a, C: Code> Machine<'a, C> {
 
     /// Where the bytes at an offset from a pointer lie, if they lie inside the context or a live frame.
     #[inline(always)]
-    pub(crate) fn place(&self, size: Size, off: i16, base: Value) -> Option<Place>
-        ensures place { option_map place_is result ≡ place_of self.now.state (byte_count size) off base }
+    pub(crate) fn location(&self, size: Size, off: i16, base: Value) -> Option<Location>
+        ensures location { option_map location_is result ≡ location_of self.now.state (byte_count size) off base }
         ensures inside { IfSome result (IsInside self.now.state (byte_count size)) }
     {
         let count = usize::from(size.bytes());
@@ -235,7 +235,7 @@ impl<'a, C: Code> Machine<'a, C> {
             Value::Number(_number) => None,
             Value::Pointer(region, at) => match region {
                 Region::Context => match in_context(count, self.context.len(), at, off) {
-                    Some(first) => Some(Place::Context(first)),
+                    Some(first) => Some(Location::Context(first)),
                     None => None,
                 },
                 Region::Frame(depth) => {
@@ -243,7 +243,7 @@ impl<'a, C: Code> Machine<'a, C> {
                         return None;
                     }
                     match in_frame(count, at, off) {
-                        Some(first) => Some(Place::Frame(depth as usize, first)),
+                        Some(first) => Some(Location::Frame(depth as usize, first)),
                         None => None,
                     }
                 }
@@ -251,51 +251,51 @@ impl<'a, C: Code> Machine<'a, C> {
         }
     }
 
-    /// The number in the bytes at a place; else why the first that can't be read can't.
+    /// The number in the bytes at a location; else why the first that can't be read can't.
     #[inline(always)]
-    pub(crate) fn number_at(&self, size: Size, place: Place) -> Result<u64, Reason>
-        requires { IsInside self.now.state (byte_count size) place }
-        ensures ok { IfOk result (λ x. number_at self.now.program.order self.now.state (byte_count size) (place_is place) ≡ Some x) }
-        ensures err { IfErr result (λ reason. unreadable_at self.now.state (byte_count size) (place_is place) ≡ Some reason) }
+    pub(crate) fn number_at(&self, size: Size, location: Location) -> Result<u64, Reason>
+        requires { IsInside self.now.state (byte_count size) location }
+        ensures ok { IfOk result (λ x. number_at self.now.program.order self.now.state (byte_count size) (location_is location) ≡ Some x) }
+        ensures err { IfErr result (λ reason. unreadable_at self.now.state (byte_count size) (location_is location) ≡ Some reason) }
         ensures fits { IfOk result (λ x. x < 256 ^ byte_count size) }
     {
-        match place {
-            Place::Context(at) => Ok(number_in(self.code.order(), size, &self.context[at..])),
-            Place::Frame(depth, at) => self.stacks.number(depth, self.code.order(), at, size),
+        match location {
+            Location::Context(at) => Ok(number_in(self.code.order(), size, &self.context[at..])),
+            Location::Frame(depth, at) => self.stacks.number(depth, self.code.order(), at, size),
         }
     }
 
-    /// The number in the bytes at a place, where they lie in the context, or in one slot and are all a number's.
+    /// The number in the bytes at a location, where they lie in the context, or in one slot and are all a number's.
     #[inline(always)]
-    pub(crate) fn number_in_slot(&self, size: Size, place: Place) -> Option<u64>
-        requires { IsInside self.now.state (byte_count size) place }
-        ensures { IfSome result (λ x. number_at self.now.program.order self.now.state (byte_count size) (place_is place) ≡ Some x) }
+    pub(crate) fn number_in_slot(&self, size: Size, location: Location) -> Option<u64>
+        requires { IsInside self.now.state (byte_count size) location }
+        ensures { IfSome result (λ x. number_at self.now.program.order self.now.state (byte_count size) (location_is location) ≡ Some x) }
     {
-        match place {
-            Place::Context(at) => Some(number_in(self.code.order(), size, &self.context[at..])),
-            Place::Frame(depth, at) => {
+        match location {
+            Location::Context(at) => Some(number_in(self.code.order(), size, &self.context[at..])),
+            Location::Frame(depth, at) => {
                 self.stacks
                     .number_in_slot(depth, self.code.order(), at, size)
             }
         }
     }
 
-    /// The pointer that the slot at a place holds, if it is a slot and holds one.
+    /// The pointer that the slot at a location holds, if it is a slot and holds one.
     #[inline(always)]
-    pub(crate) fn pointer_at(&self, place: Place) -> Option<Value>
-        requires { IsInside self.now.state 8 place }
-        ensures { result ≡ pointer_at self.now.state (place_is place) }
+    pub(crate) fn pointer_at(&self, location: Location) -> Option<Value>
+        requires { IsInside self.now.state 8 location }
+        ensures { result ≡ pointer_at self.now.state (location_is location) }
     {
-        match place {
-            Place::Context(_) => None,
-            Place::Frame(depth, at) => self.stacks.pointer(depth, at),
+        match location {
+            Location::Context(_) => None,
+            Location::Frame(depth, at) => self.stacks.pointer(depth, at),
         }
     }
 
     /// Writes the lowest bytes of a number to a live stack.
     #[inline(always)]
     pub(crate) fn store_number(&mut self, size: Size, depth: usize, at: usize, x: u64)
-        requires { IsInside self.old.state (byte_count size) (Place.Frame depth at) }
+        requires { IsInside self.old.state (byte_count size) (Location.Frame depth at) }
         ensures { self.new ≡ moved_to self.old (with_stack self.old.state depth (with_bytes (bytes_of self.old.program.order (byte_count size) x) at (stack_of self.old.state depth))) }
     {
         let order = self.code.order();
@@ -305,7 +305,7 @@ impl<'a, C: Code> Machine<'a, C> {
     /// Makes a slot of a live stack a pointer's.
     #[inline(always)]
     pub(crate) fn store_pointer(&mut self, depth: usize, at: usize, region: Region, off: i64)
-        requires inside { IsInside self.old.state 8 (Place.Frame depth at) }
+        requires inside { IsInside self.old.state 8 (Location.Frame depth at) }
         requires slot { at % 8 ≡ 0 }
         ensures { self.new ≡ moved_to self.old (with_stack self.old.state depth (with_parts region off at (stack_of self.old.state depth))) }
     {

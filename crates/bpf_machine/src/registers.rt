@@ -3,8 +3,8 @@
 ghost use Rattle.std.specs.Prelude.{◌≡◌, ◌<◌, get_or, slice_set, replicate, [], ◌∷◌, Some, None, pos, is_some, option_and_then, IsSome};
 ghost use Rattle.bpf_insn.specs.Instruction.{register_number};
 ghost use Rattle.bpf_semantics.specs.State.{number_in};
-ghost use Rattle.bpf_semantics.specs.declared.state.Value.TheVariants.{Number, Pointer};
-ghost use Rattle.bpf_semantics.specs.declared.state.Region.TheVariants.{Frame as FrameAt};
+ghost use Rattle.bpf_semantics.specs.declared.value.Value.TheVariants.{Number, Pointer};
+ghost use Rattle.bpf_semantics.specs.declared.value.Region.TheVariants.{Frame as FrameAt};
 ghost use Rattle.std.specs.Int.{w64, cast_unsigned};
 ghost use Rattle.bpf_machine.specs.PackedRegisters.{value_of, word_value, kept_values};
 
@@ -76,7 +76,7 @@ pub(crate) struct Registers {
 
 impl Model for Registers {
     ghost use Rattle.std.specs.Prelude.{List, Option};
-    ghost use Rattle.bpf_semantics.specs.declared.state.Value.{Value as Held};
+    ghost use Rattle.bpf_semantics.specs.declared.value.Value.{Value as Held};
     ghost use Rattle.bpf_machine.specs.PackedRegisters.{packed_registers};
 
     ghost Value = { List (Option Held) };

@@ -9,7 +9,7 @@ use Rattle.bpf_state.specs.State.{IsPlace, AbstractState, tightened}
 use Rattle.bpf_sound.specs.Describes.{Describes}
 use Rattle.bpf_state.specs.Entails.{state_entails}
 use Rattle.bpf_sound.specs.Laws as abstract
-use Rattle.bpf_state.specs.declared.state.Place.{Place}
+use Rattle.bpf_state.specs.declared.known.Place.{Place}
 use Rattle.bpf_cert.specs.declared.certificate.Term.{Term}
 use Rattle.bpf_cert.specs.View.{LabelView, CertificateView}
 use Rattle.bpf_safety.specs.Labels.{label_at}
@@ -29,7 +29,7 @@ use Rattle.std.proofs.Math.IntN.{zero-*ℤ, *ℤ_comm}
 use Rattle.std.proofs.lemmas.Bool.Decides.{nat_tests}
 use Rattle.std.proofs.lemmas.Option.{slice_get_within, get_or_from_slice_get}
 use Rattle.bpf_num.specs.Laws.IntegerLaws.{mul_le_pos}
-use Rattle.bpf_state.specs.declared.state.Tag.{Tag}
+use Rattle.bpf_state.specs.declared.known.Tag.{Tag}
 
 -- what is known at the label, with the values that the label's places hold
 pub record Arrives (p : Instructions) (least most : ℕ) (m : machine.State) (l : LabelView) (s : AbstractState) (x : List ℕ) : Type 0 where

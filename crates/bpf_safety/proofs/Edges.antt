@@ -7,13 +7,13 @@ use Rattle.std.proofs.lemmas.Int.{ints}
 use Rattle.bpf_insn.specs.declared.instruction.Insn.{Insn}
 use Rattle.bpf_insn.specs.declared.instruction.Insn.TheVariants.{CallLocal, Exit}
 use Rattle.bpf_insn.specs.declared.instruction.Reg.TheVariants.{R0}
-use Rattle.bpf_semantics.specs.declared.state.Value.{Value}
+use Rattle.bpf_semantics.specs.declared.value.Value.{Value}
 use Rattle.bpf_insn.specs.Instruction.{Instructions, slot_count}
 use Rattle.bpf_semantics.specs.State as machine
 use Rattle.bpf_semantics.specs.State.{Cell}
 use Rattle.bpf_semantics.specs.State.Cell.{Byte, Part}
-use Rattle.bpf_state.specs.declared.state.RegState.{RegState}
-use Rattle.bpf_state.specs.declared.state.RegState.TheVariants.{Any, Num, Ptr}
+use Rattle.bpf_state.specs.declared.known.RegState.{RegState}
+use Rattle.bpf_state.specs.declared.known.RegState.TheVariants.{Any, Num, Ptr}
 use Rattle.bpf_state.specs.State.{AbstractState, register}
 use Rattle.bpf_state.specs.Fault.{fault_of, is_number, have_right_kinds, reads_part, reads_any, has_wrong_kinds, is_out_of_bounds, reads_unknown_byte, writes_protected}
 use Rattle.bpf_sound.specs.Describes.{DescribesRegister}

@@ -7,8 +7,8 @@ use Rattle.std.proofs.lemmas.Int.{ints}
 use Rattle.bpf_insn.specs.declared.instruction.Insn.{Insn}
 use Rattle.bpf_insn.specs.declared.instruction.Insn.TheVariants.{Ja, JaLong, CallLocal, Exit}
 use Rattle.bpf_insn.specs.declared.instruction.Reg.TheVariants.{R0}
-use Rattle.bpf_semantics.specs.declared.state.Reason.{Reason}
-use Rattle.bpf_insn.specs.Instruction.{Instructions, insn_at, slots, slot_count, target}
+use Rattle.bpf_semantics.specs.declared.reason.Reason.{Reason}
+use Rattle.bpf_insn.specs.Instruction.{Instructions, insn_at, slots, slot_count, target, goes_on as flows_on}
 use Rattle.bpf_insn.specs.Image.{IsProgram}
 use Rattle.bpf_semantics.specs.State as machine
 use Rattle.bpf_semantics.specs.Step.{Step, IsStuck}
@@ -16,9 +16,9 @@ use Rattle.bpf_semantics.specs.Stuck.{reason_of}
 use Rattle.bpf_semantics.specs.State.{Cell}
 use Rattle.bpf_semantics.specs.State.Cell.{Byte, Part}
 use Rattle.bpf_semantics.specs.Run.{Steps}
-use Rattle.bpf_state.specs.declared.state.RegState.{RegState}
-use Rattle.bpf_state.specs.declared.state.RegState.TheVariants.{Any, Num, Ptr}
-use Rattle.bpf_state.specs.State.{AbstractState, start, register, entered, left}
+use Rattle.bpf_state.specs.declared.known.RegState.{RegState}
+use Rattle.bpf_state.specs.declared.known.RegState.TheVariants.{Any, Num, Ptr}
+use Rattle.bpf_state.specs.State.{AbstractState, first_state, register, callee_state, caller_state}
 use Rattle.bpf_num.specs.Number.{Has}
 use Rattle.bpf_state.specs.Fault.{fault_of, some_passes, is_number}
 use Rattle.bpf_sound.specs.Describes.{Describes, DescribesRegister}
@@ -27,7 +27,6 @@ use Rattle.bpf_sound.specs.Laws as abstract
 use Rattle.bpf_cert.specs.View.{LabelView, FunctionView, CertificateView}
 use Rattle.bpf_safety.specs.Labels.{label_at, function_at, function_from}
 use Rattle.bpf_safety.specs.Budget.{budget as budget_of, InBox, place_of, least_slack, least_budget, greatest_budget, HaveTagsOf}
-use Rattle.bpf_safety.specs.Flow as flow
 use Rattle.bpf_safety.specs.Flow.{callee, call_cost, Arrival, Visit, visits, arrives, arrives_at, at_label_arrival, label_state, jump_target, jump_state, next_state, cost_after, passed_on, sound_arrival}
 use Rattle.bpf_safety.specs.Flaw.{edges, is_refused_by, is_unpaid, enters_wrongly, returns_wrongly, exits_unpaid, is_negative_if, begins_elsewhere, calls_nowhere, leaves_for, next_slot, is_not}
 use Rattle.bpf_safety.specs.Certified.{Certified}
@@ -139,18 +138,18 @@ module _ (p : Instructions) (c : CertificateView) (laws : Laws) (program : IsPro
       insn_there None e s = absurd (true≢false s)
 
   -- the next instruction is there, and in the same function
-  goes_next : (slot : ℕ) (i : Insn) (s s' : AbstractState) → next_state p c slot i s ≡ Some s' → flow.goes_on i ≡ true
+  goes_next : (slot : ℕ) (i : Insn) (s s' : AbstractState) → next_state p c slot i s ≡ Some s' → flows_on i ≡ true
   goes_next slot (Ja off) s s' e = absurd (false≢true (ap is_some e))
   goes_next slot (JaLong off) s s' e = absurd (false≢true (ap is_some e))
   goes_next slot Exit s s' e = absurd (false≢true (ap is_some e))
   goes_next slot i s s' e = refl
 
   inside : (m : machine.State) (budget spent : ℕ) (h : Here p c m budget spent) (s : AbstractState) → next_state p c m.top.slot h.insn h.arrival.state ≡ Some s → (m.top.slot + slot_count h.insn == slots p.list) ≡ false
-  inside m budget spent h s live = left (m.top.slot + slot_count h.insn == slots p.list) (is_some (next_state p c m.top.slot h.insn h.arrival.state)) ((right m budget spent h).not_past h.arrival h.arrives_is) (ap is_some live)
+  inside m budget spent h s live = caller_state (m.top.slot + slot_count h.insn == slots p.list) (is_some (next_state p c m.top.slot h.insn h.arrival.state)) ((right m budget spent h).not_past h.arrival h.arrives_is) (ap is_some live)
     where
-      left : (a b : Bool) → (a && b) ≡ false → b ≡ true → a ≡ false
-      left true b e f = absurd (true≢false (sym f ∙ e))
-      left false b e f = refl
+      caller_state : (a b : Bool) → (a && b) ≡ false → b ≡ true → a ≡ false
+      caller_state true b e f = absurd (true≢false (sym f ∙ e))
+      caller_state false b e f = refl
 
   both_stay : (m : machine.State) (budget spent : ℕ) (h : Here p c m budget spent) → (leaves_for c h.function (jump_target m.top.slot h.insn) ≡ false) × (leaves_for c h.function (next_slot p (record { slot = m.top.slot; insn = h.insn; arrival = arrives c m.top.slot h.passed })) ≡ false)
   both_stay m budget spent h =
@@ -167,7 +166,7 @@ module _ (p : Instructions) (c : CertificateView) (laws : Laws) (program : IsPro
   function_next : (m : machine.State) (budget spent : ℕ) (h : Here p c m budget spent) (s : AbstractState) → next_state p c m.top.slot h.insn h.arrival.state ≡ Some s → function_at c (m.top.slot + slot_count h.insn) ≡ Some h.function
   function_next m budget spent h s live =
       stays_at m budget spent h (next_slot p (record { slot = m.top.slot; insn = h.insn; arrival = arrives c m.top.slot h.passed })) (m.top.slot + slot_count h.insn) (both_stay m budget spent h).1
-      (there (flow.goes_on h.insn) (m.top.slot + slot_count h.insn == slots p.list) (m.top.slot + slot_count h.insn) (goes_next m.top.slot h.insn h.arrival.state s live) (inside m budget spent h s live))
+      (there (flows_on h.insn) (m.top.slot + slot_count h.insn == slots p.list) (m.top.slot + slot_count h.insn) (goes_next m.top.slot h.insn h.arrival.state s live) (inside m budget spent h s live))
     where
       there : (a b : Bool) (n : ℕ) → a ≡ true → b ≡ false → cond (a && not b) (Some n) None ≡ Some n
       there true false n e f = refl
@@ -336,38 +335,38 @@ module _ (p : Instructions) (c : CertificateView) (laws : Laws) (program : IsPro
       l_is : label_at c m1.top.slot ≡ Some first.0
       l_is = ap (label_at c) there ∙ first.1
 
-      leads : abstract.Leads p c.least c.most h.x (Some (entered h.arrival.state)) m1
+      leads : abstract.Leads p c.least c.most h.x (Some (callee_state h.arrival.state)) m1
       leads = laws.enter_keeps p c.least c.most h.x off h.arrival.state m m1 j step
 
-      same : leads.state ≡ entered h.arrival.state
-      same = sym (some_is (entered h.arrival.state) leads.state leads.is_there)
+      same : leads.state ≡ callee_state h.arrival.state
+      same = sym (some_is (callee_state h.arrival.state) leads.state leads.is_there)
 
       callee_here : callee c m.top.slot h.insn ≡ Some g.callee_function
       callee_here = ap (callee c m.top.slot) e ∙ g.callee_is
 
-      entails : state_entails (entered h.arrival.state) first.0.state ≡ true
+      entails : state_entails (callee_state h.arrival.state) first.0.state ≡ true
       entails =
           let v : Visit = record { slot = m.top.slot; insn = h.insn; arrival = arrives c m.top.slot h.passed } in
           let wrong = (or_parts (list_any (is_refused_by c) (edges p c v h.arrival)) (enters_wrongly c v h.arrival) (or_parts (list_any (is_refused_by c) (edges p c v h.arrival) || enters_wrongly c v h.arrival) (returns_wrongly c v h.arrival h.insn) ((right m budget spent h).entailed h.arrival h.arrives_is)).0).1 in
-          not_false (state_entails (entered h.arrival.state) first.0.state)
-          (passes_none (λ l. not (state_entails (entered h.arrival.state) l.state)) (label_at c g.callee_function.first) first.0
-          (passes_none (λ g. some_passes (λ l. not (state_entails (entered h.arrival.state) l.state)) (label_at c g.first)) (callee c m.top.slot h.insn) g.callee_function wrong callee_here) first.1)
+          not_false (state_entails (callee_state h.arrival.state) first.0.state)
+          (passes_none (λ l. not (state_entails (callee_state h.arrival.state) l.state)) (label_at c g.callee_function.first) first.0
+          (passes_none (λ g. some_passes (λ l. not (state_entails (callee_state h.arrival.state) l.state)) (label_at c g.first)) (callee c m.top.slot h.insn) g.callee_function wrong callee_here) first.1)
 
-      a : Arrives p c.least c.most m1 first.0 (entered h.arrival.state) h.x
-      a = arrive p c laws certificate m1 first.0 (entered h.arrival.state) h.x m1.top.slot l_is (is_right_label p c certified m1.top.slot first.0 l_is) (subst abstract.IsAbstract same leads.valid) (subst (λ z. Describes p.order c.least c.most h.x z m1) same leads.describes) entails
+      a : Arrives p c.least c.most m1 first.0 (callee_state h.arrival.state) h.x
+      a = arrive p c laws certificate m1 first.0 (callee_state h.arrival.state) h.x m1.top.slot l_is (is_right_label p c certified m1.top.slot first.0 l_is) (subst abstract.IsAbstract same leads.valid) (subst (λ z. Describes p.order c.least c.most h.x z m1) same leads.describes) entails
 
       shallow : machine.depth m1 + g.callee_function.depth ≤ 8
       shallow = let d = ap length en.waiting in let less = g.deeper in let deep = h.shallow in omega arith
 
       r : ReachesExit p c m1 g.callee_function a.budget 0
-      r = callees m1 a.budget (here_at_label m1 g.callee_function first.0 (entered h.arrival.state) h.x (ap (function_at c) there ∙ first.2) shallow l_is (laws.step_keeps_states p m m1 program h.state step) a) g.deeper
+      r = callees m1 a.budget (here_at_label m1 g.callee_function first.0 (callee_state h.arrival.state) h.x (ap (function_at c) there ∙ first.2) shallow l_is (laws.step_keeps_states p m m1 program h.state step) a) g.deeper
 
       back : Leaves p r.state en.caller m.waiting
       back = leaves p r.state en.caller m.waiting r.value r.at_exit (r.waiting_same ∙ en.waiting) r.value_is
 
       leads_back : abstract.Leads p c.least c.most h.x (next_state p c m.top.slot h.insn h.arrival.state) back.state
       leads_back =
-          subst (λ o. abstract.Leads p c.least c.most h.x o back.state) (sym (ap (λ i. next_state p c m.top.slot i h.arrival.state) e ∙ ap (option_and_then (λ g. left g.ret h.arrival.state)) g.callee_is))
+          subst (λ o. abstract.Leads p c.least c.most h.x o back.state) (sym (ap (λ i. next_state p c m.top.slot i h.arrival.state) e ∙ ap (option_and_then (λ g. caller_state g.ret h.arrival.state)) g.callee_is))
           (laws.leave_keeps p c.least c.most h.x off h.arrival.state m m1 r.state back.state g.callee_function.ret r.value (record { judged = j; enters = step; waits = r.waiting_same; length_within = r.context_is; at_exit = r.at_exit; gives = r.value_is; is_number = certificate.returns g.callee_function g.is_element; has = r.returns; leaves = back.step }))
 
       run : Steps p (suc (suc r.steps)) m back.state
@@ -461,19 +460,19 @@ module _ (p : Instructions) (c : CertificateView) (laws : Laws) (program : IsPro
       let f = first_label p c certified in
       let l = f.0 in
       let g = first_function in
-      let entails = not_false (state_entails (start c.least c.most) l.state) (passes_none (λ l. not (state_entails (start c.least c.most) l.state)) (label_at c 0) l (or_parts (begins_elsewhere c.functions) (some_passes (λ l. not (state_entails (start c.least c.most) l.state)) (label_at c 0)) (begins_right p c certified).0).1 f.1) in
+      let entails = not_false (state_entails (first_state c.least c.most) l.state) (passes_none (λ l. not (state_entails (first_state c.least c.most) l.state)) (label_at c 0) l (or_parts (begins_elsewhere c.functions) (some_passes (λ l. not (state_entails (first_state c.least c.most) l.state)) (label_at c 0)) (begins_right p c certified).0).1 f.1) in
       let within = is_context.length_within in
       let below = within.1 in
       let short = certificate.short_context in
-      let described : Describes p.order c.least c.most [] (start c.least c.most) (machine.start context) = laws.start_describes p.order c.least c.most context [] within short in
-      let a = arrive p c laws certificate (machine.start context) l (start c.least c.most) [] 0 f.1 (is_right_label p c certified 0 l f.1) (laws.start_is_abstract c.least c.most certificate.ordered short) described entails in
-      let most = greatest_is (budget_of l) (start c.least c.most) (values a.y) a.edge_has_bounds a.inside_edge in
-      let not_over = passes_none (λ l. some_passes (λ most. int_lt (pos c.steps) most) (greatest_budget (budget_of l) (start c.least c.most))) (label_at c 0) l (begins_right p c certified).1 f.1 in
-      let test : int_lt (pos c.steps) most.greatest ≡ false = passes_none (λ most. int_lt (pos c.steps) most) (greatest_budget (budget_of l) (start c.least c.most)) most.greatest not_over most.is_there in
+      let described : Describes p.order c.least c.most [] (first_state c.least c.most) (machine.start context) = laws.start_describes p.order c.least c.most context [] within short in
+      let a = arrive p c laws certificate (machine.start context) l (first_state c.least c.most) [] 0 f.1 (is_right_label p c certified 0 l f.1) (laws.start_is_abstract c.least c.most certificate.ordered short) described entails in
+      let most = greatest_is (budget_of l) (first_state c.least c.most) (values a.y) a.edge_has_bounds a.inside_edge in
+      let not_over = passes_none (λ l. some_passes (λ most. int_lt (pos c.steps) most) (greatest_budget (budget_of l) (first_state c.least c.most))) (label_at c 0) l (begins_right p c certified).1 f.1 in
+      let test : int_lt (pos c.steps) most.greatest ≡ false = passes_none (λ most. int_lt (pos c.steps) most) (greatest_budget (budget_of l) (first_state c.least c.most)) most.greatest not_over most.is_there in
       let le = not_above most.greatest c.steps test in
       let above = most.above in
       let budget_is = a.budget_is in
-      (a.budget, omega (arith, ints), here_at_label (machine.start context) g.0 l (start c.least c.most) [] g.1 (let top = (certificate.depths g.0 (function_in p c certified 0 g.0 g.1)).1 in omega arith) f.1 (laws.start_is_state context is_context.bytes (wide (length context) (omega arith))) a)
+      (a.budget, omega (arith, ints), here_at_label (machine.start context) g.0 l (first_state c.least c.most) [] g.1 (let top = (certificate.depths g.0 (function_in p c certified 0 g.0 g.1)).1 in omega arith) f.1 (laws.start_is_state context is_context.bytes (wide (length context) (omega arith))) a)
     where
       first_function : (g : FunctionView) × (function_at c 0 ≡ Some g)
       first_function = function_at_zero p c certified certificate.one_each

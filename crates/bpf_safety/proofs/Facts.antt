@@ -5,7 +5,7 @@ use Rattle.std.proofs.lemmas.Bool.{false≢true, or_parts}
 use Rattle.std.proofs.lemmas.Bool.Decides.{nat_tests}
 use Rattle.std.proofs.lemmas.List.Elements.{Contains-append_left, Contains-append_right, Contains-append_cases}
 use Rattle.bpf_insn.specs.Instruction.{Instructions, insn_at}
-use Rattle.bpf_state.specs.State.{start, tightened}
+use Rattle.bpf_state.specs.State.{first_state, tightened}
 use Rattle.bpf_state.specs.Entails.{state_entails}
 use Rattle.bpf_state.specs.Fault.{fault_of, some_passes}
 use Rattle.bpf_cert.specs.View.{LabelView, FunctionView, CertificateView}
@@ -200,7 +200,7 @@ module _ (p : Instructions) (c : CertificateView) (certified : Certified p c) wh
 
   -- the first function begins at slot 0 with a label
   pub first_label : (l : LabelView) × (label_at c 0 ≡ Some l)
-  first_label = by_functions c.functions (or_parts (begins_elsewhere c.functions) (some_passes (λ l. not (state_entails (start c.least c.most) l.state)) (label_at c 0)) begins_right.0).0 (λ f h. function_flaw f h (f.first, 13))
+  first_label = by_functions c.functions (or_parts (begins_elsewhere c.functions) (some_passes (λ l. not (state_entails (first_state c.least c.most) l.state)) (label_at c 0)) begins_right.0).0 (λ f h. function_flaw f h (f.first, 13))
     where
       by_labels : (first : ℕ) (ls more : List LabelView) → starts_at first ls ≡ true → (first == 0) ≡ true → (l : LabelView) × (first_with (λ l. l.slot == 0) (ls ++ more) ≡ Some l)
       by_labels first [] more s z = absurd (false≢true s)
@@ -273,7 +273,7 @@ module _ (p : Instructions) (c : CertificateView) (certified : Certified p c) wh
             (k.0, k.1, ap (function_at c) (sym is) ∙ same_function f l.slot h inside)
 
     pub function_at_zero : (g : FunctionView) × (function_at c 0 ≡ Some g)
-    function_at_zero = by_functions c.functions (or_parts (begins_elsewhere c.functions) (some_passes (λ l. not (state_entails (start c.least c.most) l.state)) (label_at c 0)) begins_right.0).0 (λ f h. h)
+    function_at_zero = by_functions c.functions (or_parts (begins_elsewhere c.functions) (some_passes (λ l. not (state_entails (first_state c.least c.most) l.state)) (label_at c 0)) begins_right.0).0 (λ f h. h)
       where
         by_functions : (fs : List FunctionView) → begins_elsewhere fs ≡ false → ((f : FunctionView) → Contains fs f → Contains c.functions f) → (g : FunctionView) × (function_at c 0 ≡ Some g)
         by_functions [] e h = absurd (true≢false e)

@@ -7,7 +7,7 @@ use Rattle.std.proofs.lemmas.List.Elements.{Contains-append_left, Contains-appen
 use Rattle.bpf_insn.specs.declared.instruction.Insn.{Insn}
 use Rattle.bpf_insn.specs.declared.instruction.Insn.TheVariants.{CallLocal}
 use Rattle.bpf_insn.specs.Instruction.{Instructions, slot_count}
-use Rattle.bpf_state.specs.State.{AbstractState, start}
+use Rattle.bpf_state.specs.State.{AbstractState, first_state}
 use Rattle.bpf_state.specs.Entails.{state_entails}
 use Rattle.bpf_state.specs.Access.{Span, span_of, span_end, is_inside}
 use Rattle.bpf_state.specs.Fault.{fault_of, some_passes, reads_any, has_wrong_kinds, makes_far_pointer, is_out_of_bounds, on_span, reads_unknown_byte, writes_protected}
@@ -170,15 +170,15 @@ pub ranges_inside : RangesInside
 ranges_inside p c least most certificate certified low ordered high =
     let fits = (well_formed c certificate).short_context in
     let begins = begins_right p c certified in
-    let first = or_parts (begins_elsewhere c.functions) (some_passes (λ l. not (state_entails (start c.least c.most) l.state)) (label_at c 0)) begins.0 in
+    let first = or_parts (begins_elsewhere c.functions) (some_passes (λ l. not (state_entails (first_state c.least c.most) l.state)) (label_at c 0)) begins.0 in
     certified_other p c c.version least most low certified
     (ap₂ (λ x y. x || y) first.0 (entailed fits (label_at c 0) first.1))
     (paid fits (label_at c 0) begins.1)
   where
-    entailed : c.most ≤ 4096 → (o : Option LabelView) → some_passes (λ l. not (state_entails (start c.least c.most) l.state)) o ≡ false → some_passes (λ l. not (state_entails (start least most) l.state)) o ≡ false
+    entailed : c.most ≤ 4096 → (o : Option LabelView) → some_passes (λ l. not (state_entails (first_state c.least c.most) l.state)) o ≡ false → some_passes (λ l. not (state_entails (first_state least most) l.state)) o ≡ false
     entailed fits None e = refl
-    entailed fits (Some l) e = ap not (start_narrower c.least least most c.most low ordered high fits l.state (not_true (state_entails (start c.least c.most) l.state) e))
+    entailed fits (Some l) e = ap not (start_narrower c.least least most c.most low ordered high fits l.state (not_true (state_entails (first_state c.least c.most) l.state) e))
 
-    paid : c.most ≤ 4096 → (o : Option LabelView) → some_passes (λ l. some_passes (λ z. int_lt (pos c.steps) z) (greatest_budget (budget l) (start c.least c.most))) o ≡ false → some_passes (λ l. some_passes (λ z. int_lt (pos c.steps) z) (greatest_budget (budget l) (start least most))) o ≡ false
+    paid : c.most ≤ 4096 → (o : Option LabelView) → some_passes (λ l. some_passes (λ z. int_lt (pos c.steps) z) (greatest_budget (budget l) (first_state c.least c.most))) o ≡ false → some_passes (λ l. some_passes (λ z. int_lt (pos c.steps) z) (greatest_budget (budget l) (first_state least most))) o ≡ false
     paid fits None e = refl
     paid fits (Some l) e = budget_narrower c.least least most c.most low ordered high fits (budget l) c.steps e

@@ -4,8 +4,8 @@ use Rattle.std.proofs.lemmas.Bool.{false≢true, true≢false}
 use Rattle.std.proofs.lemmas.Bool.Decides.{nat_tests}
 use Rattle.bpf_insn.specs.declared.instruction.Insn.{Insn}
 use Rattle.bpf_insn.specs.declared.instruction.Insn.TheVariants.{CallLocal}
-use Rattle.bpf_semantics.specs.declared.state.Reason.{Reason}
-use Rattle.bpf_semantics.specs.declared.state.Reason.TheVariants.{UnsetRegister, UnsetByte, OutOfBounds, ContextWrite, FramePointerWrite, OperandKind, TooManyFrames, PointerResult}
+use Rattle.bpf_semantics.specs.declared.reason.Reason.{Reason}
+use Rattle.bpf_semantics.specs.declared.reason.Reason.TheVariants.{UnsetRegister, UnsetByte, OutOfBounds, ContextWrite, FramePointerWrite, OperandKind, TooManyFrames, PointerResult}
 use Rattle.bpf_insn.specs.Instruction.{Instructions, insn_at, byte_count}
 use Rattle.bpf_semantics.specs.State as machine
 use Rattle.bpf_semantics.specs.Stuck as stuck
@@ -15,7 +15,7 @@ use Rattle.bpf_semantics.specs.State.{Cell}
 use Rattle.bpf_semantics.specs.State.Cell.{Byte, Part}
 use Rattle.bpf_semantics.specs.Memory as memory
 use Rattle.bpf_semantics.specs.Memory.{stack_of}
-use Rattle.bpf_semantics.specs.Memory.Place.{InContext, InFrame}
+use Rattle.bpf_semantics.specs.Memory.Location.{InContext, InFrame}
 use Rattle.bpf_safety.proofs.Basics.{some_is}
 
 -- without a CALL there is no reason of too many frames
@@ -42,7 +42,7 @@ unreadable_apart (None ∷ cells) e = false≢true (frames_apart UnsetByte (some
 unreadable_apart (Some (Part i region off) ∷ cells) e = false≢true (frames_apart OperandKind (some_is OperandKind TooManyFrames e))
 unreadable_apart (Some (Byte b) ∷ cells) e = unreadable_apart cells e
 
-place_apart : (m : machine.State) (k : ℕ) (place : memory.Place) → unreadable_at m k place ≡ Some TooManyFrames → ⊥
+place_apart : (m : machine.State) (k : ℕ) (place : memory.Location) → unreadable_at m k place ≡ Some TooManyFrames → ⊥
 place_apart m k (InContext at) e = false≢true (ap is_some e)
 place_apart m k (InFrame n at) e = unreadable_apart (take k (drop at (stack_of m n))) e
 

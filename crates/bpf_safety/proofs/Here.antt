@@ -4,7 +4,7 @@ use Rattle.bpf_insn.specs.declared.order.Order.{Order}
 use Rattle.bpf_insn.specs.declared.instruction.Insn.{Insn}
 use Rattle.bpf_insn.specs.declared.instruction.Insn.TheVariants.{Exit}
 use Rattle.bpf_insn.specs.declared.instruction.Reg.TheVariants.{R0}
-use Rattle.bpf_semantics.specs.declared.state.Value.TheVariants.{Number as NumberValue}
+use Rattle.bpf_semantics.specs.declared.value.Value.TheVariants.{Number as NumberValue}
 use Rattle.bpf_insn.specs.Instruction.{Instructions, insn_at, slots}
 use Rattle.bpf_semantics.specs.State as machine
 use Rattle.bpf_semantics.specs.Run.{Steps}
@@ -12,11 +12,11 @@ use Rattle.bpf_state.specs.State.{AbstractState}
 use Rattle.bpf_sound.specs.Describes.{Describes, LengthWithin, IsStored, slot_cell}
 use Rattle.bpf_sound.specs.Laws.{IsAbstract}
 use Rattle.bpf_state.specs.Fault.{fault_of}
-use Rattle.bpf_state.specs.declared.state.Place.{Place}
+use Rattle.bpf_state.specs.declared.known.Place.{Place}
 use Rattle.bpf_cert.specs.declared.certificate.Term.{Term}
 use Rattle.bpf_cert.specs.View.{LabelView, FunctionView, CertificateView}
 use Rattle.bpf_safety.specs.Labels.{label_at, function_at}
-use Rattle.bpf_state.specs.declared.state.Place.TheVariants.{Register, Slot}
+use Rattle.bpf_state.specs.declared.known.Place.TheVariants.{Register, Slot}
 use Rattle.bpf_num.specs.Interval.{Interval}
 use Rattle.bpf_num.specs.Number.{Has, IsNumber}
 use Rattle.bpf_state.specs.State.{IsPlace, tightened}

@@ -11,14 +11,14 @@ use Rattle.bpf_insn.specs.declared.instruction.Width.{Width}
 use Rattle.bpf_insn.specs.declared.instruction.Operand.{Operand}
 use Rattle.bpf_insn.specs.declared.instruction.Size.{Size}
 use Rattle.bpf_insn.specs.declared.instruction.Size.TheVariants.{B, H, W, DW}
-use Rattle.bpf_semantics.specs.declared.state.Value.{Value}
-use Rattle.bpf_semantics.specs.declared.state.Value.TheVariants.{Number, Pointer}
-use Rattle.bpf_semantics.specs.declared.state.Region.{Region}
+use Rattle.bpf_semantics.specs.declared.value.Value.{Value}
+use Rattle.bpf_semantics.specs.declared.value.Value.TheVariants.{Number, Pointer}
+use Rattle.bpf_semantics.specs.declared.value.Region.{Region}
 use Rattle.bpf_insn.specs.Order.{bytes_of}
 use Rattle.bpf_insn.specs.Arithmetic.{extended}
 use Rattle.bpf_semantics.specs.State.{Cell}
-use Rattle.bpf_semantics.specs.Memory.{Place, place_of, number_at, with_stack, with_stack_in, with_bytes, with_parts, stack_of, store_number, store_pointer}
-use Rattle.bpf_semantics.specs.Memory.Place.{InContext, InFrame}
+use Rattle.bpf_semantics.specs.Memory.{Location, location_of, number_at, with_stack, with_stack_in, with_bytes, with_parts, stack_of, store_number, store_pointer}
+use Rattle.bpf_semantics.specs.Memory.Location.{InContext, InFrame}
 use Rattle.std.proofs.lemmas.Bool.Decides.{nat_tests}
 use Rattle.bpf_insn.specs.Instruction.{Instructions, insn_at, slot_count, target, distance, register_number, byte_count, word_size}
 use Rattle.bpf_semantics.specs.State as machine
@@ -76,12 +76,12 @@ with_stack_slot s n stack = by_test (n == machine.depth s) refl
         ap (λ k. (get_or (machine.frames s) k s.top).slot) none
     by_test false e = refl
 
-store_number_slot : (order : Order) (k x : ℕ) (place : Place) (s t : machine.State) → store_number order k x place s ≡ Some t → t.top.slot ≡ s.top.slot
+store_number_slot : (order : Order) (k x : ℕ) (place : Location) (s t : machine.State) → store_number order k x place s ≡ Some t → t.top.slot ≡ s.top.slot
 unfolding store_number
 store_number_slot order k x (InContext i) s t e = absurd (false≢true (ap is_some e))
 store_number_slot order k x (InFrame n i) s t e = ap (λ z. z.top.slot) (sym (some_is (with_stack s n (with_bytes (bytes_of order k x) i (stack_of s n))) t e)) ∙ with_stack_slot s n (with_bytes (bytes_of order k x) i (stack_of s n))
 
-store_pointer_slot : (region : Region) (off : ℤ) (place : Place) (s t : machine.State) → store_pointer region off place s ≡ Some t → t.top.slot ≡ s.top.slot
+store_pointer_slot : (region : Region) (off : ℤ) (place : Location) (s t : machine.State) → store_pointer region off place s ≡ Some t → t.top.slot ≡ s.top.slot
 unfolding store_pointer
 store_pointer_slot region off (InContext i) s t e = absurd (false≢true (ap is_some e))
 store_pointer_slot region off (InFrame n i) s t e = by_test (i % 8 == 0) e
@@ -90,7 +90,7 @@ store_pointer_slot region off (InFrame n i) s t e = by_test (i % 8 == 0) e
     by_test true e = ap (λ z. z.top.slot) (sym (some_is (with_stack s n (with_parts region off i (stack_of s n))) t e)) ∙ with_stack_slot s n (with_parts region off i (stack_of s n))
     by_test false e = absurd (false≢true (ap is_some e))
 
-store_slot : (order : Order) (size : Size) (v : Value) (place : Place) (s t : machine.State) → store order size v place s ≡ Some t → t.top.slot ≡ s.top.slot
+store_slot : (order : Order) (size : Size) (v : Value) (place : Location) (s t : machine.State) → store order size v place s ≡ Some t → t.top.slot ≡ s.top.slot
 store_slot order size (Number x) place s t e = store_number_slot order (byte_count size) x place s t e
 store_slot order DW (Pointer region off) place s t e = store_pointer_slot region off place s t e
 store_slot order B (Pointer region off) place s t e = absurd (false≢true (ap is_some e))
@@ -124,23 +124,23 @@ plain_next order (End kind bits dst) m m' plain none e =
 plain_next order (LoadImm64 dst value) m m' plain none e = put_slot dst (Number value) (next (LoadImm64 dst value) m) m' e
 plain_next order (Load size dst src off) m m' plain none e =
     let n = m.top.slot + slot_count (Load size dst src off) in
-    chain n m' (machine.register m src) _ (λ base. chain n m' (place_of m (byte_count size) off base) _ (λ at. chain n m' (load order m size at) _ (λ v. put_slot dst v (next (Load size dst src off) m) m'))) e
+    chain n m' (machine.register m src) _ (λ base. chain n m' (location_of m (byte_count size) off base) _ (λ at. chain n m' (load order m size at) _ (λ v. put_slot dst v (next (Load size dst src off) m) m'))) e
 plain_next order (LoadSx size dst src off) m m' plain none e =
     let n = m.top.slot + slot_count (LoadSx size dst src off) in
-    chain n m' (machine.register m src) _ (λ base. chain n m' (place_of m (byte_count size) off base) _ (λ at. chain n m' (load_extended order m size at) _ (λ v. put_slot dst v (next (LoadSx size dst src off) m) m'))) e
+    chain n m' (machine.register m src) _ (λ base. chain n m' (location_of m (byte_count size) off base) _ (λ at. chain n m' (load_extended order m size at) _ (λ v. put_slot dst v (next (LoadSx size dst src off) m) m'))) e
 plain_next order (Store size dst off src) m m' plain none e =
     let n = m.top.slot + slot_count (Store size dst off src) in
-    chain n m' (machine.register m dst) _ (λ base. chain n m' (machine.register m src) _ (λ v. chain n m' (place_of m (byte_count size) off base) _ (λ at. store_slot order size v at (next (Store size dst off src) m) m'))) e
+    chain n m' (machine.register m dst) _ (λ base. chain n m' (machine.register m src) _ (λ v. chain n m' (location_of m (byte_count size) off base) _ (λ at. store_slot order size v at (next (Store size dst off src) m) m'))) e
 plain_next order (StoreImm size dst off imm) m m' plain none e =
     let n = m.top.slot + slot_count (StoreImm size dst off imm) in
-    chain n m' (machine.register m dst) _ (λ base. chain n m' (place_of m (byte_count size) off base) _ (λ at. store_slot order size (Number (extended imm)) at (next (StoreImm size dst off imm) m) m')) e
+    chain n m' (machine.register m dst) _ (λ base. chain n m' (location_of m (byte_count size) off base) _ (λ at. store_slot order size (Number (extended imm)) at (next (StoreImm size dst off imm) m) m')) e
 plain_next order (Atomic wide op dst off src) m m' plain none e =
     let n = m.top.slot + slot_count (Atomic wide op dst off src) in
     let size = byte_count (word_size wide) in
     let on = next (Atomic wide op dst off src) m in
     chain n m' (machine.register m dst) _
     (λ base. chain n m' (machine.number_of_register m src) _
-    (λ x. chain n m' (place_of m size off base) _
+    (λ x. chain n m' (location_of m size off base) _
     (λ at. chain n m' (number_at order m size at) _
     (λ old. chain n m' (atomic_result op (word_size wide) old x (machine.number_of_register m R0)) _
     (λ new. chain_state n m' (store_number order size new at on) _ (λ t h. store_number_slot order size new at on t h) (λ t h. fetched_slot (fetch_register op src) old t m' h)))))) e

@@ -5,7 +5,7 @@ use Rattle.std.proofs.lemmas.Int.{ints}
 use Rattle.bpf_insn.specs.declared.order.Order.{Order}
 use Rattle.bpf_insn.specs.declared.instruction.Reg.{Reg}
 use Rattle.bpf_insn.specs.declared.instruction.Reg.TheVariants.{R0, R1, R2, R3, R4, R5, R6, R7, R8, R9, R10}
-use Rattle.bpf_semantics.specs.declared.state.Value.TheVariants.{Number as NumberValue}
+use Rattle.bpf_semantics.specs.declared.value.Value.TheVariants.{Number as NumberValue}
 use Rattle.bpf_insn.specs.Instruction.{register_number}
 use Rattle.bpf_insn.specs.Order.{number_of}
 use Rattle.bpf_semantics.specs.State as machine
@@ -13,20 +13,21 @@ use Rattle.bpf_semantics.specs.State.{Cell}
 use Rattle.bpf_semantics.specs.State.Cell.{Byte, Part}
 use Rattle.bpf_num.specs.Interval.{Interval}
 use Rattle.bpf_num.specs.Number.{Number, tighten}
-use Rattle.bpf_state.specs.declared.state.RegState.{RegState}
-use Rattle.bpf_state.specs.declared.state.RegState.TheVariants.{Any, Num, Ptr}
-use Rattle.bpf_state.specs.declared.state.SlotState.{SlotState}
-use Rattle.bpf_state.specs.declared.state.SlotState.TheVariants.{Bytes, Word, Spilled}
-use Rattle.bpf_state.specs.declared.state.Area.TheVariants.{Frame}
-use Rattle.bpf_state.specs.declared.state.Tag.{Tag}
-use Rattle.bpf_state.specs.State.{IsPlace, is_frame, start_of, entered, without_frame, each_without_frame, AbstractState, register, register_tag, slot, slot_tag, slot_value, no_tags, each_if, tightened, tightened_register, tightened_slot}
+use Rattle.bpf_state.specs.declared.known.RegState.{RegState}
+use Rattle.bpf_state.specs.declared.known.RegState.TheVariants.{Any, Num, Ptr}
+use Rattle.bpf_state.specs.declared.known.SlotState.{SlotState}
+use Rattle.bpf_state.specs.declared.known.SlotState.TheVariants.{Bytes, Word, Spilled}
+use Rattle.bpf_state.specs.declared.known.Area.TheVariants.{Frame}
+use Rattle.bpf_state.specs.declared.known.Tag.{Tag}
+use Rattle.bpf_state.specs.State.{IsPlace, is_frame, start_of, callee_state, without_frame, each_without_frame, AbstractState, register, register_tag, slot, slot_tag, slot_value, no_tags, each_if, tightened, tightened_register, tightened_slot}
 use Rattle.bpf_sound.specs.Describes.{Describes, IsStored, slot_cell, DescribesRegister, DescribesSlot, TaggedRegister, TaggedSlot, IsTagged}
 use Rattle.bpf_state.specs.Entails.{state_entails, register_entails, slot_entails, all_pairs}
 use Rattle.bpf_sound.specs.Laws.{IsAbstract}
-use Rattle.bpf_state.specs.declared.state.Place.{Place}
+use Rattle.bpf_state.specs.declared.known.Place.{Place}
 use Rattle.bpf_cert.specs.declared.certificate.Term.{Term}
-use Rattle.bpf_state.specs.declared.state.Place.TheVariants.{Register, Slot}
+use Rattle.bpf_state.specs.declared.known.Place.TheVariants.{Register, Slot}
 use Rattle.bpf_state.specs.Held.{held}
+use Rattle.bpf_state.proofs.EntryLemmas.{register_below}
 use Rattle.bpf_state.specs.State.{tag as tag_of}
 use Rattle.bpf_safety.specs.Budget.{unsigned_bounds, bounds, place_of}
 use Rattle.bpf_safety.specs.Flow.{with_tag, with_tags}
@@ -112,19 +113,6 @@ pairs_at test (x ∷ xs) (y ∷ ys) d (suc i) long lt e = pairs_at test xs ys d 
 
 abbrev pub IsBounded : RegState → Type 0
 IsBounded v = (b : Interval) × (unsigned_bounds v ≡ Some b)
-
-register_below : (r : Reg) → register_number r < 11
-register_below R0 = omega arith
-register_below R1 = omega arith
-register_below R2 = omega arith
-register_below R3 = omega arith
-register_below R4 = omega arith
-register_below R5 = omega arith
-register_below R6 = omega arith
-register_below R7 = omega arith
-register_below R8 = omega arith
-register_below R9 = omega arith
-register_below R10 = omega arith
 
 unbounded : {A : Type 0} (v : RegState) → unsigned_bounds v ≡ None → IsBounded v → A
 unbounded v e b = absurd (true≢false (sym (ap is_some b.1) ∙ ap is_some e))
@@ -345,6 +333,6 @@ bytes_in_blank zero i = refl
 bytes_in_blank (suc n) zero = refl
 bytes_in_blank (suc n) (suc i) = bytes_in_blank n i
 
-pub entered_bounds : (s : AbstractState) (place : Place) (b : Interval) → IsAbstract s → unsigned_bounds (held (entered s) place) ≡ Some b → unsigned_bounds (held s place) ≡ Some b
+pub entered_bounds : (s : AbstractState) (place : Place) (b : Interval) → IsAbstract s → unsigned_bounds (held (callee_state s) place) ≡ Some b → unsigned_bounds (held s place) ≡ Some b
 entered_bounds s (Register r) b valid e = entered_register s.registers r b valid.eleven e
 entered_bounds s (Slot k) b valid e = absurd (false≢true (ap is_some (sym (ap (λ v. unsigned_bounds (slot_value v)) (bytes_in_blank 64 (k - 1))) ∙ e)))

@@ -5,13 +5,13 @@ use Rattle.std.specs.Prelude.{slice_get, option_map, option_and_then, is_some}
 use Rattle.std.proofs.lemmas.Int.{ints}
 use Rattle.std.proofs.lemmas.Bool.{false≢true, cases_order}
 use Rattle.bpf_num.specs.Interval.{Interval}
-use Rattle.bpf_state.specs.declared.state.RegState.{RegState}
-use Rattle.bpf_state.specs.declared.state.RegState.TheVariants.{Any, Num, Ptr}
-use Rattle.bpf_state.specs.declared.state.SlotState.{SlotState}
-use Rattle.bpf_state.specs.declared.state.SlotState.TheVariants.{Bytes, Word, Spilled}
-use Rattle.bpf_state.specs.declared.state.Place.{Place}
-use Rattle.bpf_state.specs.declared.state.Place.TheVariants.{Register, Slot}
-use Rattle.bpf_state.specs.declared.state.Tag.{Tag}
+use Rattle.bpf_state.specs.declared.known.RegState.{RegState}
+use Rattle.bpf_state.specs.declared.known.RegState.TheVariants.{Any, Num, Ptr}
+use Rattle.bpf_state.specs.declared.known.SlotState.{SlotState}
+use Rattle.bpf_state.specs.declared.known.SlotState.TheVariants.{Bytes, Word, Spilled}
+use Rattle.bpf_state.specs.declared.known.Place.{Place}
+use Rattle.bpf_state.specs.declared.known.Place.TheVariants.{Register, Slot}
+use Rattle.bpf_state.specs.declared.known.Tag.{Tag}
 use Rattle.bpf_state.specs.State.{AbstractState, register, slot, slot_value}
 use Rattle.bpf_sound.specs.Laws.{IsAbstract, IsAbstractRegister, IsAbstractSlot}
 use Rattle.bpf_cert.specs.declared.certificate.Term.{Term}

@@ -19,14 +19,14 @@ use Rattle.bpf_num.specs.Interval.{Interval, interval, unsigned_meet, unsigned_e
 use Rattle.bpf_num.specs.SignedInterval.{SignedInterval, signed_interval, signed_top, signed_meet, signed_entail}
 use Rattle.bpf_num.specs.Laws.IntegerLaws.{least_at_end}
 use Rattle.bpf_num.specs.Number.{Number, number, tighten, entails, unsigned_from_bits, signed_from_unsigned, unsigned_from_signed, bits_from_unsigned}
-use Rattle.bpf_state.specs.declared.state.RegState.{RegState}
-use Rattle.bpf_state.specs.declared.state.RegState.TheVariants.{Any, Num, Ptr}
-use Rattle.bpf_state.specs.declared.state.Area.TheVariants.{Context, Frame}
-use Rattle.bpf_state.specs.declared.state.SlotState.TheVariants.{Bytes}
-use Rattle.bpf_state.specs.declared.state.Place.{Place}
-use Rattle.bpf_state.specs.declared.state.Place.TheVariants.{Register, Slot}
+use Rattle.bpf_state.specs.declared.known.RegState.{RegState}
+use Rattle.bpf_state.specs.declared.known.RegState.TheVariants.{Any, Num, Ptr}
+use Rattle.bpf_state.specs.declared.known.Area.TheVariants.{Context, Frame}
+use Rattle.bpf_state.specs.declared.known.SlotState.TheVariants.{Bytes}
+use Rattle.bpf_state.specs.declared.known.Place.{Place}
+use Rattle.bpf_state.specs.declared.known.Place.TheVariants.{Register, Slot}
 use Rattle.bpf_insn.specs.declared.instruction.Reg.TheVariants.{R0, R1, R2, R3, R4, R5, R6, R7, R8, R9, R10}
-use Rattle.bpf_state.specs.State.{AbstractState, from_to, start, start_of, slot_value}
+use Rattle.bpf_state.specs.State.{AbstractState, from_to, first_state, start_of, slot_value}
 use Rattle.bpf_state.specs.Fault.{some_passes}
 use Rattle.bpf_state.specs.Entails.{register_entails, slot_entails, all_pairs, state_entails}
 use Rattle.bpf_cert.specs.declared.certificate.Term.{Term}
@@ -305,7 +305,7 @@ module _ (l l' h' h : ℕ) (low : l ≤ l') (ordered : l' ≤ h') (high : h' ≤
       by_state (Num b) e = number_narrower b e
       by_state (Ptr p) e = absurd (false≢true e)
 
-  registers_narrower : (ts : List RegState) → all_pairs register_entails (start l h).registers ts ≡ true → all_pairs register_entails (start l' h').registers ts ≡ true
+  registers_narrower : (ts : List RegState) → all_pairs register_entails (first_state l h).registers ts ≡ true → all_pairs register_entails (first_state l' h').registers ts ≡ true
   registers_narrower [] e = refl
   registers_narrower (a ∷ []) e = e
   registers_narrower (a ∷ b ∷ []) e = e
@@ -316,16 +316,16 @@ module _ (l l' h' h : ℕ) (low : l ≤ l') (ordered : l' ≤ h') (high : h' ≤
       let w = and_parts (register_entails (from_to l h) t) rest v.1 in
       ap₂ (λ x y. x && y) u.0 (ap₂ (λ x y. x && y) v.0 (ap₂ (λ x y. x && y) (register_narrower t w.0) w.1))
 
-  pub start_narrower : (t : AbstractState) → state_entails (start l h) t ≡ true → state_entails (start l' h') t ≡ true
+  pub start_narrower : (t : AbstractState) → state_entails (first_state l h) t ≡ true → state_entails (first_state l' h') t ≡ true
   start_narrower t e =
-      let u = and_parts (all_pairs register_entails (start l h).registers t.registers) (all_pairs slot_entails (start l h).slots t.slots) e in
+      let u = and_parts (all_pairs register_entails (first_state l h).registers t.registers) (all_pairs slot_entails (first_state l h).slots t.slots) e in
       ap₂ (λ x y. x && y) (registers_narrower t.registers u.0) u.1
 
   -- ---- a budget is no greater there
 
   record IsWider (place : Place) (r' : Interval) : Type 0 where
     pub range : Interval
-    pub is_there : unsigned_bounds (held (start l h) place) ≡ Some range
+    pub is_there : unsigned_bounds (held (first_state l h) place) ≡ Some range
     pub below : range.lo ≤ r'.lo
     pub ordered' : r'.lo ≤ r'.hi
     pub above : r'.hi ≤ range.hi
@@ -333,7 +333,7 @@ module _ (l l' h' h : ℕ) (low : l ≤ l') (ordered : l' ≤ h') (high : h' ≤
   nothing : (place : Place) (r' : Interval) → None ≡ Some r' → IsWider place r'
   nothing place r' e = absurd (false≢true (ap is_some e))
 
-  bounds_narrower : (place : Place) (r' : Interval) → unsigned_bounds (held (start l' h') place) ≡ Some r' → IsWider place r'
+  bounds_narrower : (place : Place) (r' : Interval) → unsigned_bounds (held (first_state l' h') place) ≡ Some r' → IsWider place r'
   bounds_narrower (Register R2) r' e =
       let same : interval l' h' ≡ r' = some_is (interval l' h') r' (sym (ap unsigned_bounds narrow_is) ∙ e) in
       subst (IsWider (Register R2)) same (record { range = interval l h; is_there = ap unsigned_bounds wide_is; below = low; ordered' = ordered; above = high })
@@ -355,7 +355,7 @@ module _ (l l' h' h : ℕ) (low : l ≤ l') (ordered : l' ≤ h') (high : h' ≤
   bounds_narrower (Register R10) r' e = nothing (Register R10) r' e
 
   abbrev most_of : ℕ → ℕ → List Term → ℕ → List (Option ℤ)
-  most_of from to ts j = each_term (λ j t. option_map (greatest_at_ends (term_value t)) (bounds (start from to) t)) j ts
+  most_of from to ts j = each_term (λ j t. option_map (greatest_at_ends (term_value t)) (bounds (first_state from to) t)) j ts
 
   record IsAbove (from to : ℕ) (ts : List Term) (j : ℕ) (z : ℤ) : Type 0 where
     pub sum : ℤ
@@ -365,8 +365,8 @@ module _ (l l' h' h : ℕ) (low : l ≤ l') (ordered : l' ≤ h') (high : h' ≤
   sums_narrower : (j : ℕ) (ts : List Term) (z : ℤ) → sum_if (most_of l' h' ts j) ≡ Some z → IsAbove l h ts j z
   sums_narrower j [] z e = let same = some_is (pos 0) z e in record { sum = pos 0; is_there = refl; above = omega (arith, ints) }
   sums_narrower j (t ∷ ts) z e =
-      let p = parts (option_map (greatest_at_ends (term_value t)) (bounds (start l' h') t)) (most_of l' h' ts (suc j)) z e in
-      let b = from_bounds (greatest_at_ends (term_value t)) (bounds (start l' h') t) p.head p.head_is in
+      let p = parts (option_map (greatest_at_ends (term_value t)) (bounds (first_state l' h') t)) (most_of l' h' ts (suc j)) z e in
+      let b = from_bounds (greatest_at_ends (term_value t)) (bounds (first_state l' h') t) p.head p.head_is in
       let w = bounds_narrower (place_of t) b.range b.is_there in
       let later = sums_narrower (suc j) ts p.tail p.tail_is in
       let lo : pos w.range.lo ≤ℤ pos b.range.lo = let n = w.below in omega (arith, ints) in
@@ -383,7 +383,7 @@ module _ (l l' h' h : ℕ) (low : l ≤ l') (ordered : l' ≤ h') (high : h' ≤
         above = omega (arith, ints, clamps);
       }
 
-  pub budget_narrower : (b : Budget) (steps : ℕ) → some_passes (λ most. int_lt (pos steps) most) (greatest_budget b (start l h)) ≡ false → some_passes (λ most. int_lt (pos steps) most) (greatest_budget b (start l' h')) ≡ false
+  pub budget_narrower : (b : Budget) (steps : ℕ) → some_passes (λ most. int_lt (pos steps) most) (greatest_budget b (first_state l h)) ≡ false → some_passes (λ most. int_lt (pos steps) most) (greatest_budget b (first_state l' h')) ≡ false
   budget_narrower b steps e = by_sum (sum_if (most_of l' h' b.terms 0)) refl
     where
       by_sum : (o : Option ℤ) → sum_if (most_of l' h' b.terms 0) ≡ o → some_passes (λ most. int_lt (pos steps) most) (option_map (λ z. pos b.base +ℤ z) o) ≡ false

@@ -6,13 +6,13 @@ use Rattle.std.proofs.lemmas.Bool.Decides.{nat_tests}
 use Rattle.std.proofs.lemmas.Int.{ints}
 use Rattle.bpf_insn.specs.Instruction.{register_number}
 use Rattle.bpf_num.specs.Number.{Number, IsNumber}
-use Rattle.bpf_state.specs.declared.state.RegState.{RegState}
-use Rattle.bpf_state.specs.declared.state.RegState.TheVariants.{Any, Num, Ptr}
-use Rattle.bpf_state.specs.declared.state.SlotState.{SlotState}
-use Rattle.bpf_state.specs.declared.state.SlotState.TheVariants.{Bytes, Word, Spilled}
-use Rattle.bpf_state.specs.declared.state.Pointer.{Pointer}
-use Rattle.bpf_state.specs.declared.state.Place.{Place}
-use Rattle.bpf_state.specs.declared.state.Place.TheVariants.{Register, Slot}
+use Rattle.bpf_state.specs.declared.known.RegState.{RegState}
+use Rattle.bpf_state.specs.declared.known.RegState.TheVariants.{Any, Num, Ptr}
+use Rattle.bpf_state.specs.declared.known.SlotState.{SlotState}
+use Rattle.bpf_state.specs.declared.known.SlotState.TheVariants.{Bytes, Word, Spilled}
+use Rattle.bpf_state.specs.declared.known.Pointer.{Pointer}
+use Rattle.bpf_state.specs.declared.known.Place.{Place}
+use Rattle.bpf_state.specs.declared.known.Place.TheVariants.{Register, Slot}
 use Rattle.bpf_state.specs.State.{AbstractState, IsPlace, IsPointer}
 use Rattle.bpf_sound.specs.Laws.{IsAbstract, IsAbstractRegister, IsAbstractSlot}
 use Rattle.bpf_cert.specs.declared.certificate.Measure.{Measure}
@@ -21,8 +21,8 @@ use Rattle.bpf_cert.specs.declared.certificate.Term.{Term}
 use Rattle.bpf_cert.specs.View.{LabelView, FunctionView, CertificateView, header_of}
 use Rattle.bpf_cert.specs.Numeral.{is_from_to}
 use Rattle.bpf_cert.specs.Faults.{is_rising, is_range, is_int_range, is_bits}
-use Rattle.bpf_cert.specs.Limits.{IsCertificate, is_limited_header, is_version, is_canonical, is_canonical_function, first_before, is_limited, is_limited_function, is_limited_label, is_limited_term, is_limited_measure, is_limited_place, is_limited_state, has_shape, is_limited_pointer, is_limited_register, is_limited_slot, is_limited_num, label_count}
-use Rattle.bpf_safety.specs.Budget.{place_of, place_in}
+use Rattle.bpf_cert.specs.Limits.{IsCertificate, is_limited_header, is_version, is_canonical, is_canonical_function, first_before, is_limited, is_limited_function, is_limited_label, is_limited_term, is_limited_measure, is_limited_place, is_limited_state, has_shape, is_limited_pointer, is_limited_register, is_limited_slot, is_limited_num, label_count, place_measured}
+use Rattle.bpf_safety.specs.Budget.{place_of}
 use Rattle.bpf_safety.specs.Labels.{labels, label_at}
 use Rattle.bpf_safety.proofs.Basics.{some_is}
 use Rattle.bpf_safety.proofs.Here.{IsWellFormed}
@@ -122,7 +122,7 @@ place_fits : (place : Place) → is_limited_place place ≡ true → IsPlace pla
 place_fits (Register r) e = tt
 place_fits (Slot k) e = from_to 1 64 k e
 
-measure_fits : (m : Measure) → is_limited_measure m ≡ true → IsPlace (place_in m)
+measure_fits : (m : Measure) → is_limited_measure m ≡ true → IsPlace (place_measured m)
 measure_fits (Down place) e = place_fits place e
 measure_fits (Up place limit) e = place_fits place (and_parts (nat_lt limit (2 ^ 64)) (is_limited_place place) e).1
 

@@ -2,15 +2,16 @@
 use Rattle.std.specs.Prelude.{◌≡◌, ℕ, suc, ◌<◌, ◌==◌, ℤ, pos, ◌+ℤ◌, ◌-ℤ◌, ◌*ℤ◌, ◌≤ℤ◌, List, [], ◌∷◌, slice_get, Option, Some, None, option_map, option_and_then, if◌then◌else◌}
 use Rattle.std.specs.Int.{int_min, int_max}
 use Rattle.bpf_num.specs.Interval.{Interval}
-use Rattle.bpf_state.specs.declared.state.RegState.{RegState}
-use Rattle.bpf_state.specs.declared.state.RegState.TheVariants.{Num}
-use Rattle.bpf_state.specs.declared.state.Tag.{Tag}
+use Rattle.bpf_state.specs.declared.known.RegState.{RegState}
+use Rattle.bpf_state.specs.declared.known.RegState.TheVariants.{Num}
+use Rattle.bpf_state.specs.declared.known.Tag.{Tag}
 use Rattle.bpf_state.specs.State.{AbstractState, tag as tag_of}
 use Rattle.bpf_state.specs.Held.{held}
-use Rattle.bpf_state.specs.declared.state.Place.{Place}
+use Rattle.bpf_state.specs.declared.known.Place.{Place}
 use Rattle.bpf_cert.specs.declared.certificate.Measure.{Measure}
 use Rattle.bpf_cert.specs.declared.certificate.Term.{Term}
 use Rattle.bpf_cert.specs.View.{LabelView}
+use Rattle.bpf_cert.specs.Limits.{place_measured}
 use Rattle.bpf_cert.specs.declared.certificate.Measure.TheVariants.{Down, Up}
 
 -- a ranking function: how many instructions are left, at most
@@ -21,13 +22,9 @@ pub record Budget : Type 0 where
 abbrev pub budget : LabelView → Budget
 budget l = record { base = l.base; terms = l.terms }
 
--- the place that a measure looks at
-abbrev pub place_in : Measure → Place
-place_in (Down place) = place
-place_in (Up place limit) = place
-
+-- the place that a term's measure looks at
 abbrev pub place_of : Term → Place
-place_of t = place_in t.measure
+place_of t = place_measured t.measure
 
 -- ---- what an abstract state tells of a place
 

@@ -5,9 +5,9 @@ use Rattle.std.specs.Option.{option_to_list}
 use Rattle.bpf_insn.specs.declared.instruction.Insn.{Insn}
 use Rattle.bpf_insn.specs.declared.instruction.Insn.TheVariants.{CallLocal, Exit}
 use Rattle.bpf_insn.specs.declared.instruction.Reg.TheVariants.{R0}
-use Rattle.bpf_insn.specs.Instruction.{Instructions, slots, slot_count, insn_at}
-use Rattle.bpf_state.specs.declared.state.RegState.TheVariants.{Num}
-use Rattle.bpf_state.specs.State.{AbstractState, register, start, entered, tightened}
+use Rattle.bpf_insn.specs.Instruction.{Instructions, slots, slot_count, insn_at, goes_on}
+use Rattle.bpf_state.specs.declared.known.RegState.TheVariants.{Num}
+use Rattle.bpf_state.specs.State.{AbstractState, register, first_state, callee_state, tightened}
 use Rattle.bpf_state.specs.Fault.{fault_of, some_passes}
 use Rattle.bpf_state.specs.Entails.{state_entails, register_entails}
 use Rattle.bpf_cert.specs.declared.certificate.Measure.{Measure}
@@ -16,7 +16,7 @@ use Rattle.bpf_cert.specs.View.{LabelView, FunctionView, CertificateView}
 use Rattle.bpf_safety.specs.Labels.{label_at, function_at}
 use Rattle.bpf_cert.specs.declared.certificate.Measure.TheVariants.{Up}
 use Rattle.bpf_safety.specs.Budget.{budget, bounds, greatest_budget, least_budget, least_slack}
-use Rattle.bpf_safety.specs.Flow.{Arrival, Visit, visits, sound_arrival, callee, cost_after, jump_target, jump_state, next_state, goes_on}
+use Rattle.bpf_safety.specs.Flow.{Arrival, Visit, visits, sound_arrival, callee, cost_after, jump_target, jump_state, next_state}
 
 -- a number in a list if its condition holds
 abbrev pub number_if : ℕ → Bool → List ℕ
@@ -71,7 +71,7 @@ fault_at c v = option_to_list (option_and_then (λ a. fault_of c.least a.state v
 -- the state at a callee's entry doesn't lie in the label at its first
 abbrev pub enters_wrongly : CertificateView → Visit → Arrival → Bool
 enters_wrongly c v a =
-    some_passes (λ g. some_passes (λ l. not (state_entails (entered a.state) l.state)) (label_at c g.first)) (callee c v.slot v.insn)
+    some_passes (λ g. some_passes (λ l. not (state_entails (callee_state a.state) l.state)) (label_at c g.first)) (callee c v.slot v.insn)
 
 -- the result at EXIT doesn't lie in what the function returns
 abbrev pub returns_wrongly : CertificateView → Visit → Arrival → Insn → Bool
@@ -175,12 +175,12 @@ begins_elsewhere [] = true
 begins_elsewhere (f ∷ fs) = not (f.first == 0)
 
 abbrev pub begins_wrongly : CertificateView → Bool
-begins_wrongly c = begins_elsewhere c.functions || some_passes (λ l. not (state_entails (start c.least c.most) l.state)) (label_at c 0)
+begins_wrongly c = begins_elsewhere c.functions || some_passes (λ l. not (state_entails (first_state c.least c.most) l.state)) (label_at c 0)
 
 -- the budget at the start may be above the steps that are promised
 abbrev pub starts_over_budget : CertificateView → Bool
 starts_over_budget c =
-    some_passes (λ l. some_passes (λ most. int_lt (pos c.steps) most) (greatest_budget (budget l) (start c.least c.most))) (label_at c 0)
+    some_passes (λ l. some_passes (λ most. int_lt (pos c.steps) most) (greatest_budget (budget l) (first_state c.least c.most))) (label_at c 0)
 
 -- ---- all flaws
 

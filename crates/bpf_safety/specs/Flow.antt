@@ -1,16 +1,16 @@
 -- Which state reaches each instruction, and where it goes on.
 use Rattle.std.specs.Prelude.{ℕ, suc, ◌+◌, ◌-◌, ℤ, pos, ◌+ℤ◌, Bool, true, false, List, [], ◌∷◌, slice_set, Option, Some, None, is_none, option_map, option_and_then, if◌then◌else◌}
 use Rattle.bpf_insn.specs.declared.instruction.Insn.{Insn}
-use Rattle.bpf_insn.specs.declared.instruction.Insn.TheVariants.{Ja, JaLong, JumpIf, CallLocal, Exit}
-use Rattle.bpf_insn.specs.Instruction.{Instructions, register_number, slot_count, distance, target}
-use Rattle.bpf_state.specs.State.{AbstractState, tightened, left, no_tags}
+use Rattle.bpf_insn.specs.declared.instruction.Insn.TheVariants.{Ja, JaLong, JumpIf, CallLocal}
+use Rattle.bpf_insn.specs.Instruction.{Instructions, register_number, slot_count, distance, target, goes_on}
+use Rattle.bpf_state.specs.State.{AbstractState, tightened, caller_state, no_tags}
 use Rattle.bpf_state.specs.Fault.{fault_of}
 use Rattle.bpf_state.specs.Transfer.{after, branch}
-use Rattle.bpf_state.specs.declared.state.Place.{Place}
+use Rattle.bpf_state.specs.declared.known.Place.{Place}
 use Rattle.bpf_cert.specs.declared.certificate.Term.{Term}
 use Rattle.bpf_cert.specs.View.{LabelView, FunctionView, CertificateView}
 use Rattle.bpf_safety.specs.Labels.{label_at, function_from}
-use Rattle.bpf_state.specs.declared.state.Place.TheVariants.{Register, Slot}
+use Rattle.bpf_state.specs.declared.known.Place.TheVariants.{Register, Slot}
 use Rattle.bpf_safety.specs.Budget.{budget, place_of, greatest_budget}
 
 -- ---- labels
@@ -70,16 +70,10 @@ abbrev pub jump_target : ℕ → Insn → Option ℕ
 jump_target slot (CallLocal off) = None
 jump_target slot i = option_and_then (target slot) (distance i)
 
-abbrev pub goes_on : Insn → Bool
-goes_on (Ja off) = false
-goes_on (JaLong off) = false
-goes_on Exit = false
-goes_on i = true
-
 -- the state on the edge to the next instruction, of a state without fault: None if the edge is dead or isn't there
 abbrev pub next_state : Instructions → CertificateView → ℕ → Insn → AbstractState → Option AbstractState
 next_state p c slot (JumpIf cond width dst src off) s = branch (JumpIf cond width dst src off) false s
-next_state p c slot (CallLocal off) s = option_and_then (λ g. left g.ret s) (callee c slot (CallLocal off))
+next_state p c slot (CallLocal off) s = option_and_then (λ g. caller_state g.ret s) (callee c slot (CallLocal off))
 next_state p c slot i s = if goes_on i then after p.order i s else None
 
 -- the state on the edge of a jump

@@ -5,7 +5,7 @@ use Rattle.bpf_insn.specs.Image.{IsProgram}
 use Rattle.bpf_insn.specs.Laws.{AreBytes}
 use Rattle.bpf_semantics.specs.State as machine
 use Rattle.bpf_semantics.specs.Step.{IsStuck}
-use Rattle.bpf_semantics.specs.declared.state.Reason.{Reason}
+use Rattle.bpf_semantics.specs.declared.reason.Reason.{Reason}
 use Rattle.bpf_semantics.specs.Run.{Steps, IsDone, IsFault, CanMake}
 use Rattle.bpf_semantics.specs.Flat.{Placement, FlatState, FlatStep, FlatFinish, FlatSteps}
 use Rattle.bpf_semantics.specs.Placement.{IsPlacement, IsFlatStart, StaysInside}

@@ -6,7 +6,7 @@ use crate::lists::{get_or, put};
 use crate::loops::{Counter, Loop, Loops};
 use crate::places::place;
 use crate::rounds::Rounds;
-use crate::walk::{Edge, Visitor, Walk};
+use crate::walk::{Edge, Visitor, Walked};
 use bpf_cert::{MAX_BASE, MAX_WEIGHT};
 use bpf_proposal::InferError;
 use bpf_state::{State, Tag};
@@ -155,7 +155,7 @@ impl Budgets {
 
     fn walk_over(
         &mut self,
-        walk: &Walk,
+        walk: &Walked,
         rounds: &Rounds,
         block: usize,
         state: &mut State,
@@ -179,7 +179,7 @@ impl Budgets {
 
     fn walk_over_all(
         &mut self,
-        walk: &Walk,
+        walk: &Walked,
         rounds: &Rounds,
         first: usize,
         end: usize,
@@ -208,7 +208,7 @@ impl Budgets {
     }
 
     /// I2 at the head of a loop with a weight above 2^20.
-    fn weigh(&mut self, alloc: Global, walk: &Walk, head: usize) -> Result<(), InferError> {
+    fn weigh(&mut self, alloc: Global, walk: &Walked, head: usize) -> Result<(), InferError> {
         let Some(found) = self.loops.at(head) else {
             return Ok(());
         };
@@ -229,7 +229,7 @@ impl Budgets {
     fn weigh_all(
         &mut self,
         alloc: Global,
-        walk: &Walk,
+        walk: &Walked,
         first: usize,
         end: usize,
     ) -> Result<(), InferError> {
@@ -260,7 +260,7 @@ impl Budgets {
     }
 
     /// The least base that pays the ways from a label, of those that lead back only if wanted. I2 above 2^40.
-    fn pay(&mut self, walk: &Walk, block: usize, pays_back: bool) -> Result<(), InferError> {
+    fn pay(&mut self, walk: &Walked, block: usize, pays_back: bool) -> Result<(), InferError> {
         let plan = self.plan(block);
         let mut base = 0;
         for number in plan.ways_from..plan.ways_to {
@@ -281,7 +281,7 @@ impl Budgets {
     }
 
     /// Pays the ways from the labels of a loop, those back to its head too.
-    fn pay_back(&mut self, walk: &Walk, found: Loop) -> Result<(), InferError> {
+    fn pay_back(&mut self, walk: &Walked, found: Loop) -> Result<(), InferError> {
         for block in (found.head.saturating_add(1)..found.last.saturating_add(1)).rev() {
             self.pay(walk, block, true)?;
         }
@@ -289,7 +289,7 @@ impl Budgets {
     }
 
     /// From the highest label on; the ways in a loop are paid once its head is.
-    fn pay_all(&mut self, walk: &Walk, first: usize, end: usize) -> Result<(), InferError> {
+    fn pay_all(&mut self, walk: &Walked, first: usize, end: usize) -> Result<(), InferError> {
         for block in (first..end).rev() {
             self.pay(walk, block, false)?;
             if let Some(found) = self.loops.at(block) {
@@ -306,7 +306,7 @@ impl Budgets {
     fn plan_function(
         &mut self,
         alloc: Global,
-        walk: &Walk,
+        walk: &Walked,
         rounds: &Rounds,
         function: usize,
     ) -> Result<(), InferError> {
@@ -320,7 +320,7 @@ impl Budgets {
     fn plan_depth(
         &mut self,
         alloc: Global,
-        walk: &Walk,
+        walk: &Walked,
         rounds: &Rounds,
         depths: &Depths,
         depth: u32,
@@ -358,7 +358,7 @@ fn follow(costs: &mut Vec<Option<i128>>, found: Loop, way: &Way) -> i128 {
 /// The budgets of a program's labels, callees first. I2 at a label that is over a limit.
 pub fn budgets_of(
     alloc: Global,
-    walk: &Walk,
+    walk: &Walked,
     rounds: &Rounds,
     loops: Loops,
     depths: &Depths,

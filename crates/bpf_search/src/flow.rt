@@ -1,6 +1,6 @@
 //! Where instructions lead.
 
-use bpf_insn::{Insn, Operand, Reg};
+use bpf_insn::{Insn, MAX_SLOTS, Operand, Reg};
 
 /// Where an instruction leads. Targets are slots.
 #[derive(Clone, Copy, PartialEq, Eq)]
@@ -17,9 +17,9 @@ pub enum Flow {
     Exit,
 }
 
-/// The slot at a distance from the next one; those of a program are never negative.
-fn target(slot: u32, off: i32) -> u32 {
-    slot.wrapping_add(1).wrapping_add_signed(off)
+/// The slot at a distance from the next one; in a program none lies past the last, and none is negative.
+fn target(slot: u32, distance: i32) -> u32 {
+    bpf_insn::target(slot.min(MAX_SLOTS as u32), distance).unwrap_or(0)
 }
 
 impl Flow {
@@ -40,14 +40,6 @@ impl Flow {
         match self {
             Flow::Jump(target) | Flow::Branch(target) => Some(target),
             Flow::Next | Flow::Call(_) | Flow::Exit => None,
-        }
-    }
-
-    /// Whether it leads to the next instruction.
-    pub fn goes_on(self) -> bool {
-        match self {
-            Flow::Next | Flow::Branch(_) | Flow::Call(_) => true,
-            Flow::Jump(_) | Flow::Exit => false,
         }
     }
 }

@@ -1,8 +1,8 @@
 //! How deep the calls of a program go.
 
 use crate::flow::Flow;
-use crate::labels::Outline;
 use crate::lists::get_or;
+use crate::outline::Outline;
 use bpf_cert::MAX_DEPTH;
 use bpf_insn::{Insn, Program};
 use bpf_proposal::InferError;
@@ -152,11 +152,10 @@ pub fn depths_of(
 
 /// Whether the instruction at a slot jumps out of its function, or goes on into the next one.
 fn leaves_function(program: &Program, outline: &Outline, slot: u32, insn: &Insn) -> bool {
-    let flow = Flow::of(slot, insn);
     let function = outline.function_of(slot);
-    let target = flow.jump().unwrap_or(slot);
+    let target = Flow::of(slot, insn).jump().unwrap_or(slot);
     let next = slot.saturating_add(insn.slots());
-    let goes_on = flow.goes_on() && next < program.slots();
+    let goes_on = insn.goes_on() && next < program.slots();
     outline.function_of(target) != function || goes_on && outline.function_of(next) != function
 }
 

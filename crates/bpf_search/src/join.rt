@@ -5,8 +5,9 @@ ghost use Rattle.bpf_state.specs.State.{IsRegister, IsPointer, IsSlot};
 
 use crate::places::REGISTERS;
 use crate::widen::Stops;
+use bpf_insn::Reg;
 use bpf_num::Num;
-use bpf_state::{Pointer, RegState, SlotState, State, numbered};
+use bpf_state::{Pointer, RegState, SlotState, State};
 
 fn join_num(old: Num, new: Num, stops: Option<&Stops>) -> Num {
     let joined = old.join(new);
@@ -106,7 +107,7 @@ pub fn join_slot(old: SlotState, new: SlotState, stops: Option<&Stops>) -> SlotS
 
 fn join_registers(old: &mut State, new: &State, stops: Option<&Stops>) {
     for i in 0..REGISTERS {
-        let r = numbered(i as u8);
+        let r = Reg::numbered(i as u8);
         old.set_reg(r, join_register(old.reg(r), new.reg(r), stops));
     }
 }

@@ -3,7 +3,7 @@
 use crate::lists::{get_or, put};
 use crate::places::{PLACES, number_at, place};
 use crate::rounds::Rounds;
-use crate::walk::{Edge, Visitor, Walk};
+use crate::walk::{Edge, Visitor, Walked};
 use bpf_proposal::InferError;
 use bpf_state::{State, Tag};
 use std::alloc::{AllocError, Global};
@@ -53,7 +53,7 @@ impl Loops {
     }
 
     /// I2 at the head of the lowest loop between whose ends another one begins.
-    pub fn of(alloc: Global, walk: &Walk, rounds: &Rounds) -> Result<Loops, InferError> {
+    pub fn of(alloc: Global, walk: &Walked, rounds: &Rounds) -> Result<Loops, InferError> {
         if let Some((open, _)) = first_crossing(rounds) {
             return Err(InferError::NoBudget {
                 slot: walk.outline.label(open.head),
@@ -229,7 +229,7 @@ impl Search {
         }
     }
 
-    fn walk_over(&mut self, walk: &Walk, rounds: &Rounds) -> Result<(), InferError> {
+    fn walk_over(&mut self, walk: &Walked, rounds: &Rounds) -> Result<(), InferError> {
         let mut state = State::blank();
         for block in self.head..self.last.saturating_add(1) {
             if rounds.load(block, &mut state) {
@@ -268,7 +268,7 @@ impl Search {
 /// Where the places of a loop go on the ways from its head to itself.
 pub fn searched(
     alloc: Global,
-    walk: &Walk,
+    walk: &Walked,
     rounds: &Rounds,
     found: Loop,
 ) -> Result<Search, InferError> {
@@ -288,7 +288,7 @@ pub fn searched(
 /// What falls on each way from the head of a loop to itself, or rises up to a limit. I2 at the head if nothing does.
 fn counter_of(
     alloc: Global,
-    walk: &Walk,
+    walk: &Walked,
     rounds: &Rounds,
     found: Loop,
 ) -> Result<Option<Counter>, InferError> {
@@ -306,7 +306,7 @@ fn counter_of(
 
 /// The loops of a program with their counters. I2 at the head of the lowest loop in which another one begins, else of
 /// the lowest one without a counter.
-pub fn loops_of(alloc: Global, walk: &Walk, rounds: &Rounds) -> Result<Loops, InferError> {
+pub fn loops_of(alloc: Global, walk: &Walked, rounds: &Rounds) -> Result<Loops, InferError> {
     let mut loops = Loops::of(alloc, walk, rounds)?;
     for number in 0..loops.loops.len() {
         if let Some(found) = loops.loops.get(number) {

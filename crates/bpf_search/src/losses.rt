@@ -4,7 +4,7 @@ use crate::flow::Flow;
 use crate::loops::Loop;
 use crate::places::{PLACES, place};
 use crate::rounds::Rounds;
-use crate::walk::Walk;
+use crate::walk::Walked;
 use bpf_insn::{AluOp, Insn, Operand, Reg, Width};
 use bpf_num::Num;
 use bpf_state::{Place, RegState, SlotState, State, Tag, branch, leave, transfer};
@@ -130,7 +130,7 @@ fn is_followed(state: &State, number: usize) -> bool {
 /// A walk over the blocks of a loop that looks where the numbers of its places are lost.
 #[derive(Drop)]
 struct Tracker<'a> {
-    walk: &'a Walk<'a>,
+    walk: &'a Walked<'a>,
     head: usize,
     last: usize,
     losses: Losses,
@@ -259,7 +259,7 @@ impl<'a> Tracker<'a> {
 }
 
 /// By places, why each isn't followed through a loop.
-pub fn losses_in(walk: &Walk, rounds: &Rounds, found: Loop) -> Losses {
+pub fn losses_in(walk: &Walked, rounds: &Rounds, found: Loop) -> Losses {
     let mut tracker = Tracker {
         walk,
         head: found.head,

@@ -2,8 +2,9 @@
 
 ghost use Rattle.bpf_state.specs.State.{IsPlace};
 
+use bpf_insn::Reg;
 use bpf_num::Num;
-use bpf_state::{Entries, Place, RegState, State, numbered};
+use bpf_state::{Entries, Place, RegState, State};
 
 /// How many registers a program may write: r0 to r9.
 pub const REGISTERS: usize = 10;
@@ -16,7 +17,7 @@ pub fn place(number: usize) -> Place
     ensures { IsPlace result }
 {
     if number < REGISTERS {
-        Place::Register(numbered(number as u8))
+        Place::Register(Reg::numbered(number as u8))
     } else {
         Place::Slot((number.min(PLACES - 1) - 9) as u8)
     }

@@ -4,13 +4,13 @@ ghost use Rattle.std.specs.Prelude.{◌≤◌};
 
 use crate::budgets::{Budgets, budgets_of};
 use crate::functions::{Depths, check_bounds, depths_of};
-use crate::labels::Outline;
 use crate::lists::get_or;
 use crate::loops::{Counter, loops_of};
+use crate::outline::Outline;
 use crate::places::place;
 use crate::proposal::Proposal;
 use crate::rounds::{Rounds, states_of};
-use crate::walk::Walk;
+use crate::walk::Walked;
 use crate::watch::Watch;
 use arrayvec::ArrayVec;
 use bpf_cert::{Budget, Function, Label, Measure, Term};
@@ -108,7 +108,7 @@ pub fn plain_proposal<W: Watch>(
     let outline = Outline::of(alloc, program)?;
     let depths = depths_of(alloc, program, &outline)?;
     check_bounds(program, &outline)?;
-    let walk = Walk {
+    let walk = Walked {
         program,
         outline: &outline,
         least,

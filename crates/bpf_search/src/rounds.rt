@@ -4,7 +4,7 @@ use crate::functions::Depths;
 use crate::join::join;
 use crate::lists::{get_or, put, vacant};
 use crate::places::{number_said, pointer_said};
-use crate::walk::{Edge, Visitor, Walk};
+use crate::walk::{Edge, Visitor, Walked};
 use crate::watch::Watch;
 use crate::widen::Stops;
 use bpf_num::Num;
@@ -66,7 +66,7 @@ impl Visitor for Rounds {
 
 impl Rounds {
     /// No state is reached yet.
-    pub fn new(alloc: Global, walk: &Walk) -> Result<Rounds, AllocError> {
+    pub fn new(alloc: Global, walk: &Walked) -> Result<Rounds, AllocError> {
         let count = walk.outline.block_count();
         Ok(Rounds {
             states: vacant(alloc, count)?,
@@ -147,7 +147,12 @@ impl Rounds {
         }
     }
 
-    fn walk_over(&mut self, walk: &Walk, block: usize, room: &mut State) -> Result<(), InferError> {
+    fn walk_over(
+        &mut self,
+        walk: &Walked,
+        block: usize,
+        room: &mut State,
+    ) -> Result<(), InferError> {
         put(&mut self.changed, block, false);
         let reached = if self.load(block, room) {
             walk.over(block, room, self)?
@@ -162,7 +167,7 @@ impl Rounds {
     /// over.
     fn round(
         &mut self,
-        walk: &Walk,
+        walk: &Walked,
         function: usize,
         room: &mut State,
     ) -> Result<usize, InferError> {
@@ -179,7 +184,7 @@ impl Rounds {
     }
 
     /// Makes the stops, if they aren't made.
-    fn make_stops(&mut self, walk: &Walk) -> Result<(), AllocError> {
+    fn make_stops(&mut self, walk: &Walked) -> Result<(), AllocError> {
         if self.stops.is_empty() {
             self.stops = Stops::of(self.alloc, walk.program, walk.least, walk.most)?;
         }
@@ -189,7 +194,7 @@ impl Rounds {
     /// Goes over a function until nothing changes: I1 if that takes more than 64 rounds.
     fn settle<W: Watch>(
         &mut self,
-        walk: &Walk,
+        walk: &Walked,
         function: usize,
         watch: &mut W,
     ) -> Result<(), InferError> {
@@ -213,7 +218,7 @@ impl Rounds {
     /// Goes over the functions of a depth until nothing changes.
     pub fn settle_depth<W: Watch>(
         &mut self,
-        walk: &Walk,
+        walk: &Walked,
         depths: &Depths,
         depth: u32,
         watch: &mut W,
@@ -227,7 +232,7 @@ impl Rounds {
     }
 
     /// I4 (C11) at the lowest instruction that isn't reached.
-    fn check_reached(&self, walk: &Walk) -> Result<(), InferError> {
+    fn check_reached(&self, walk: &Walked) -> Result<(), InferError> {
         for block in 0..self.reached.len() {
             let reached = get_or(&self.reached, block, 0);
             if reached < walk.outline.end(block) {
@@ -245,7 +250,7 @@ impl Rounds {
 /// that is refused or never reached.
 pub fn states_of<W: Watch>(
     alloc: Global,
-    walk: &Walk,
+    walk: &Walked,
     depths: &Depths,
     start: &State,
     watch: &mut W,

@@ -3,14 +3,14 @@
 ghost use Rattle.std.specs.Prelude.{◌≤◌};
 
 use crate::functions::{Depths, check_bounds, depths_of};
-use crate::labels::Outline;
 use crate::lists::get_or;
 use crate::loops::{Loop, Moves, Search, first_crossing, loop_from, searched};
 use crate::losses::{Loss, Losses, losses_in};
+use crate::outline::Outline;
 use crate::places::{PLACES, place};
 use crate::rounds::Rounds;
 use crate::tangles::{Tangle, tangle_of};
-use crate::walk::Walk;
+use crate::walk::Walked;
 use crate::walkers::walker_at;
 use crate::watch::Unwatched;
 use arrayvec::ArrayVec;
@@ -74,7 +74,7 @@ pub struct Sketch {
 /// The rounds, as far as they go; I5 if memory runs out.
 fn rounds_so_far(
     alloc: Global,
-    walk: &Walk,
+    walk: &Walked,
     depths: &Depths,
     start: &State,
 ) -> Result<Rounds, InferError> {
@@ -164,7 +164,7 @@ fn move_of(
 /// What is known of a loop's way around; None if no round leads back to the head, or something is refused before.
 fn search_of(
     alloc: Global,
-    walk: &Walk,
+    walk: &Walked,
     rounds: &Rounds,
     found: Loop,
 ) -> Result<Option<(Search, Moves)>, InferError> {
@@ -181,7 +181,7 @@ fn search_of(
 /// The places of a loop's head that hold numbers, or pointers that are changed, with what they do in a round.
 fn trials_of(
     alloc: Global,
-    walk: &Walk,
+    walk: &Walked,
     rounds: &Rounds,
     found: Loop,
     search: &Search,
@@ -203,7 +203,7 @@ fn trials_of(
 /// Why a loop has no budget.
 fn obstacle_in(
     alloc: Global,
-    walk: &Walk,
+    walk: &Walked,
     rounds: &Rounds,
     found: Loop,
 ) -> Result<Obstacle, InferError> {
@@ -221,7 +221,7 @@ fn obstacle_in(
 /// Why there is no budget at a slot.
 fn obstacle_at(
     alloc: Global,
-    walk: &Walk,
+    walk: &Walked,
     rounds: &Rounds,
     slot: u32,
 ) -> Result<Obstacle, InferError> {
@@ -241,7 +241,7 @@ fn obstacle_at(
 /// What is in the way where a refusal says so.
 fn obstacle_of(
     alloc: Global,
-    walk: &Walk,
+    walk: &Walked,
     rounds: &Rounds,
     error: InferError,
 ) -> Result<Option<Obstacle>, InferError> {
@@ -273,7 +273,7 @@ pub fn sketch_of(
     let outline = Outline::of(alloc, program)?;
     let depths = depths_of(alloc, program, &outline)?;
     check_bounds(program, &outline)?;
-    let walk = Walk {
+    let walk = Walked {
         program,
         outline: &outline,
         least,

@@ -5,7 +5,7 @@ use crate::flow::Flow;
 use crate::lists::get_or;
 use crate::loops::Loop;
 use crate::rounds::Rounds;
-use crate::walk::{Edge, Visitor, Walk};
+use crate::walk::{Edge, Visitor, Walked};
 use bpf_proposal::InferError;
 use bpf_state::State;
 use std::alloc::{AllocError, Global};
@@ -47,7 +47,7 @@ impl Visitor for Arcs {
 }
 
 /// The blocks that were reached, and the edges between them as far as nothing is refused.
-fn graph_of(alloc: Global, walk: &Walk, rounds: &Rounds) -> Result<Graph, AllocError> {
+fn graph_of(alloc: Global, walk: &Walked, rounds: &Rounds) -> Result<Graph, AllocError> {
     let mut arcs = Arcs {
         list: Vec::new(alloc),
     };
@@ -69,7 +69,7 @@ fn is_met(reached: &[bool], block: usize) -> bool {
 }
 
 /// The slot of the last jump that leads back to a loop's head.
-fn way_back(walk: &Walk, found: Loop) -> u32 {
+fn way_back(walk: &Walked, found: Loop) -> u32 {
     let head = walk.outline.label(found.head);
     let mut last = walk.outline.label(found.last);
     for slot in last..walk.outline.end(found.last) {
@@ -85,7 +85,7 @@ fn way_back(walk: &Walk, found: Loop) -> u32 {
 /// What a loop is that begins between the head of another one and the last way back to it.
 pub fn tangle_of(
     alloc: Global,
-    walk: &Walk,
+    walk: &Walked,
     rounds: &Rounds,
     outer: Loop,
     inner: Loop,

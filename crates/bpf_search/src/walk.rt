@@ -1,7 +1,7 @@
 //! A walk over the instructions of a block.
 
 use crate::flow::{Flow, compared};
-use crate::labels::Outline;
+use crate::outline::Outline;
 use bpf_insn::{Insn, Program};
 use bpf_num::Num;
 use bpf_proposal::InferError;
@@ -29,7 +29,7 @@ pub trait Visitor {
 
 /// A program that is walked over, on contexts of `least` to `most` bytes.
 #[derive(Clone, Copy)]
-pub struct Walk<'a> {
+pub struct Walked<'a> {
     pub program: &'a Program,
     pub outline: &'a Outline,
     pub least: u32,
@@ -44,7 +44,7 @@ struct Spot {
     done: i128,
 }
 
-impl<'a> Walk<'a> {
+impl<'a> Walked<'a> {
     fn edge_to(&self, spot: Spot, target: u32) -> Edge {
         Edge {
             from: spot.block,

@@ -2,7 +2,7 @@
 
 use crate::loops::{Loop, loop_from};
 use crate::rounds::Rounds;
-use crate::walk::Walk;
+use crate::walk::Walked;
 use bpf_insn::{AluOp, Insn, Operand, Reg, Width};
 use bpf_state::RegState;
 
@@ -64,7 +64,7 @@ fn deed_of(insn: &Insn, reg: Reg) -> Deed {
 }
 
 /// Whether instructions of a loop move a register by constants, and none sets it.
-fn moves(walk: &Walk, found: Loop, reg: Reg) -> bool {
+fn moves(walk: &Walked, found: Loop, reg: Reg) -> bool {
     let mut is_moved = false;
     for slot in walk.outline.label(found.head)..walk.outline.end(found.last) {
         if let Some(insn) = walk.program.at(slot) {
@@ -103,7 +103,7 @@ fn loop_around(rounds: &Rounds, block: usize) -> Option<Loop> {
 
 /// The register whose pointer the instruction at a slot takes, if the loop around it moves that pointer by constants and does
 /// nothing else to it; and the slot of the loop.
-pub fn walker_at(walk: &Walk, rounds: &Rounds, slot: u32) -> Option<(Reg, u32)> {
+pub fn walker_at(walk: &Walked, rounds: &Rounds, slot: u32) -> Option<(Reg, u32)> {
     let reg = pointer_in(walk.program.at(slot)?)?;
     let found = loop_around(rounds, walk.outline.block_of(slot))?;
     if is_wide(rounds, found.head, reg) && moves(walk, found, reg) {

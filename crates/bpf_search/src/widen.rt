@@ -32,6 +32,22 @@ fn constant_in(insn: &Insn) -> Option<i64> {
     }
 }
 
+/// A bound that is a stop, or the stop below it.
+fn stop_below<T: Ord + Copy>(stops: &[T], bound: T) -> Option<T> {
+    match stops.binary_search(&bound) {
+        Ok(_) => Some(bound),
+        Err(above) => stops.get(above.wrapping_sub(1)).copied(),
+    }
+}
+
+/// A bound that is a stop, or the stop above it.
+fn stop_above<T: Ord + Copy>(stops: &[T], bound: T) -> Option<T> {
+    match stops.binary_search(&bound) {
+        Ok(_) => Some(bound),
+        Err(above) => stops.get(above).copied(),
+    }
+}
+
 impl Stops {
     /// The stops of a program on contexts of `least` to `most` bytes, which are constants of it too.
     pub fn of(
@@ -90,48 +106,36 @@ impl Stops {
     fn unsigned_below(&self, bound: u64) -> u64
         ensures { result ≤ bound }
     {
-        match self.unsigned.binary_search(&bound) {
-            Ok(_) => bound,
-            Err(above) => match self.unsigned.get(above.wrapping_sub(1)) {
-                Some(stop) => bound.min(*stop),
-                None => 0,
-            },
+        match stop_below(&self.unsigned, bound) {
+            Some(stop) => bound.min(stop),
+            None => 0,
         }
     }
 
     fn unsigned_above(&self, bound: u64) -> u64
         ensures { bound ≤ result }
     {
-        match self.unsigned.binary_search(&bound) {
-            Ok(_) => bound,
-            Err(above) => match self.unsigned.get(above) {
-                Some(stop) => bound.max(*stop),
-                None => u64::MAX,
-            },
+        match stop_above(&self.unsigned, bound) {
+            Some(stop) => bound.max(stop),
+            None => u64::MAX,
         }
     }
 
     fn signed_below(&self, bound: i64) -> i64
         ensures { result ≤ℤ bound }
     {
-        match self.signed.binary_search(&bound) {
-            Ok(_) => bound,
-            Err(above) => match self.signed.get(above.wrapping_sub(1)) {
-                Some(stop) => bound.min(*stop),
-                None => i64::MIN,
-            },
+        match stop_below(&self.signed, bound) {
+            Some(stop) => bound.min(stop),
+            None => i64::MIN,
         }
     }
 
     fn signed_above(&self, bound: i64) -> i64
         ensures { bound ≤ℤ result }
     {
-        match self.signed.binary_search(&bound) {
-            Ok(_) => bound,
-            Err(above) => match self.signed.get(above) {
-                Some(stop) => bound.max(*stop),
-                None => i64::MAX,
-            },
+        match stop_above(&self.signed, bound) {
+            Some(stop) => bound.max(stop),
+            None => i64::MAX,
         }
     }
 

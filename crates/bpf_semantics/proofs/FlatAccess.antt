@@ -9,16 +9,16 @@ use Rattle.bpf_insn.specs.Arithmetic.{modulo, extended}
 use Rattle.bpf_insn.specs.Instruction.{byte_count, slot_count, word_size}
 use Rattle.bpf_semantics.specs.State.{State, frame_at, depth, frame_bytes, max_frames, register, with_top, number_of_register, HoldsPointer, IsNumberCell}
 use Rattle.bpf_semantics.specs.State.Cell.{Part}
-use Rattle.bpf_semantics.specs.Memory.{Place, stack_of, place_of, number_at, pointer_at, store_number, store_pointer, pointer_in, with_stack_in, with_bytes, with_parts}
-use Rattle.bpf_semantics.specs.Memory.Place.{InContext, InFrame}
+use Rattle.bpf_semantics.specs.Memory.{Location, stack_of, location_of, number_at, pointer_at, store_number, store_pointer, pointer_in, with_stack_in, with_bytes, with_parts}
+use Rattle.bpf_semantics.specs.Memory.Location.{InContext, InFrame}
 use Rattle.bpf_semantics.specs.Flat.{addresses, Placement, FlatState, IsFlat, frame_start, flat_register, flat_put, bytes_from, flat_number, address, flat_does, flat_next, flat_store, flat_fetched}
 use Rattle.bpf_semantics.specs.Placement.{Fits, StandsFor, StandsForCell, pointer_address}
 use Rattle.bpf_insn.specs.declared.order.Order.{Order}
 use Rattle.bpf_insn.specs.declared.instruction.Reg.{Reg}
 use Rattle.bpf_insn.specs.declared.instruction.Reg.TheVariants.{R0}
-use Rattle.bpf_semantics.specs.declared.state.Value.{Value}
-use Rattle.bpf_semantics.specs.declared.state.Value.TheVariants.{Number, Pointer}
-use Rattle.bpf_semantics.specs.declared.state.Region.{Region}
+use Rattle.bpf_semantics.specs.declared.value.Value.{Value}
+use Rattle.bpf_semantics.specs.declared.value.Value.TheVariants.{Number, Pointer}
+use Rattle.bpf_semantics.specs.declared.value.Region.{Region}
 use Rattle.bpf_semantics.specs.Step.{does, next, load, load_extended, store, atomic_result, fetched, size_type}
 use Rattle.bpf_insn.specs.Effects.{fetch_register}
 use Rattle.bpf_insn.specs.declared.instruction.Size.{Size}
@@ -47,7 +47,7 @@ flat_number_below order f size a flat =
     let k = size_small size in
     omega arith
 
-option_map_number : (order : Order) (place : Placement) (s : State) (f : FlatState) (k : ℕ) (pl : Place) (v : Value) → Given order place s f → IsGood s k pl → option_map Number (number_at order s k pl) ≡ Some v → StandsFor place (flat_number order f k (place_address place pl)) (Some v)
+option_map_number : (order : Order) (place : Placement) (s : State) (f : FlatState) (k : ℕ) (pl : Location) (v : Value) → Given order place s f → IsGood s k pl → option_map Number (number_at order s k pl) ≡ Some v → StandsFor place (flat_number order f k (place_address place pl)) (Some v)
 option_map_number order place s f k pl v g good e =
     let h = option_map_some Number (number_at order s k pl) v e in
     subst (λ v. StandsFor place (flat_number order f k (place_address place pl)) (Some v)) h.2 (number_fits g.fit g.placed g.is_state k pl h.0 good h.1)
@@ -69,7 +69,7 @@ spilled_bytes order place s f n i v g live room aligned holds e =
     ap f.memory a ∙ subst (λ c. StandsForCell order place (f.memory (frame_start place n + (i + j))) c) cell_is (g.fit.cells_fit n (i + j) live (omega arith))) in
     subst (λ v. StandsFor place (flat_number order f 8 (frame_start place n + i)) (Some v)) is (ap (number_of order 8) bytes ∙ number-bytes order x (modulo_below _))
 
-spilled : (order : Order) (place : Placement) (s : State) (f : FlatState) (pl : Place) (v : Value) → Given order place s f → IsGood s 8 pl → pointer_at s pl ≡ Some v → StandsFor place (flat_number order f 8 (place_address place pl)) (Some v)
+spilled : (order : Order) (place : Placement) (s : State) (f : FlatState) (pl : Location) (v : Value) → Given order place s f → IsGood s 8 pl → pointer_at s pl ≡ Some v → StandsFor place (flat_number order f 8 (place_address place pl)) (Some v)
 spilled order place s f (InContext i) v g good e = absurd (none-some _ e)
 spilled order place s f (InFrame n i) v g good e =
     let h = cond_option (i % 8 == 0) _ v e in
@@ -81,14 +81,14 @@ spilled order place s f (InFrame n i) v g good e =
       | inr holds ↦ spilled_bytes order place s f n i v g good.0 good.1 aligned holds h.1
     ]
 
-load_fits : (order : Order) (place : Placement) (s : State) (f : FlatState) (size : Size) (pl : Place) (v : Value) → Given order place s f → IsGood s (byte_count size) pl → load order s size pl ≡ Some v → StandsFor place (flat_number order f (byte_count size) (place_address place pl)) (Some v)
+load_fits : (order : Order) (place : Placement) (s : State) (f : FlatState) (size : Size) (pl : Location) (v : Value) → Given order place s f → IsGood s (byte_count size) pl → load order s size pl ≡ Some v → StandsFor place (flat_number order f (byte_count size) (place_address place pl)) (Some v)
 load_fits order place s f DW pl v g good e = or_cases_of (λ v. StandsFor place (flat_number order f 8 (place_address place pl)) (Some v)) (pointer_at s pl) _ v e (spilled order place s f pl v g good) (option_map_number order place s f 8 pl v g good)
 load_fits order place s f size pl v g good e = option_map_number order place s f (byte_count size) pl v g good e
 
 pub load_lands : (order : Order) (place : Placement) (s t : State) (f : FlatState) (size : Size) (dst src : Reg) (off : ℤ) → Given order place s f → does order (Load size dst src off) s ≡ Some t → Lands order place (Load size dst src off) f t
 unfolding does flat_does
 load_lands order place s t f size dst src off g e =
-    option_and_then_some _ (register s src) t e (λ base ebase e1. option_and_then_some _ (place_of s (byte_count size) off base) t e1 (λ pl epl e2. option_and_then_some _ (load order s size pl) t e2 (λ v ev e3.
+    option_and_then_some _ (register s src) t e (λ base ebase e1. option_and_then_some _ (location_of s (byte_count size) off base) t e1 (λ pl epl e2. option_and_then_some _ (load order s size pl) t e2 (λ v ev e3.
     let is_at : IsAt place s (byte_count size) off (flat_register f src) pl = place_fits place s (byte_count size) off base (flat_register f src) pl (size_some size) g.placed g.is_state.few_frames (stands g.fit src base ebase) epl in
     record {
       state = flat_put dst (flat_number order f (byte_count size) (address f src off)) (flat_next (Load size dst src off) f);
@@ -100,7 +100,7 @@ load_lands order place s t f size dst src off g e =
 pub load_sx_lands : (order : Order) (place : Placement) (s t : State) (f : FlatState) (size : Size) (dst src : Reg) (off : ℤ) → Given order place s f → does order (LoadSx size dst src off) s ≡ Some t → Lands order place (LoadSx size dst src off) f t
 unfolding does flat_does
 load_sx_lands order place s t f size dst src off g e =
-    option_and_then_some _ (register s src) t e (λ base ebase e1. option_and_then_some _ (place_of s (byte_count size) off base) t e1 (λ pl epl e2. option_and_then_some _ (load_extended order s size pl) t e2 (λ v ev e3.
+    option_and_then_some _ (register s src) t e (λ base ebase e1. option_and_then_some _ (location_of s (byte_count size) off base) t e1 (λ pl epl e2. option_and_then_some _ (load_extended order s size pl) t e2 (λ v ev e3.
     let is_at : IsAt place s (byte_count size) off (flat_register f src) pl = place_fits place s (byte_count size) off base (flat_register f src) pl (size_some size) g.placed g.is_state.few_frames (stands g.fit src base ebase) epl in
     let h = option_map_some (λ x. Number (modulo (cast_signed (size_type size) x) (2 ^ 64))) (number_at order s (byte_count size) pl) v ev in
     let x : flat_number order f (byte_count size) (address f src off) ≡ h.0 = ap (flat_number order f (byte_count size)) is_at.address_is ∙ number_fits g.fit g.placed g.is_state (byte_count size) pl h.0 is_at.good h.1 in
@@ -114,7 +114,7 @@ load_sx_lands order place s t f size dst src off g e =
 pub given_next : {order : Order} {place : Placement} {s : State} {f : FlatState} → Given order place s f → (i : Insn) → Given order place (next i s) (flat_next i f)
 given_next {s = s} g i = record { fit = fits_next g.fit i; is_state = state_at g.is_state (s.top.slot + slot_count i); placed = g.placed }
 
-pub store_number_fits : (order : Order) (place : Placement) (s t : State) (f : FlatState) (k x : ℕ) (pl : Place) → Given order place s f → IsGood s k pl → store_number order k x pl s ≡ Some t → Fits order place t (flat_store order k x (place_address place pl) f)
+pub store_number_fits : (order : Order) (place : Placement) (s t : State) (f : FlatState) (k x : ℕ) (pl : Location) → Given order place s f → IsGood s k pl → store_number order k x pl s ≡ Some t → Fits order place t (flat_store order k x (place_address place pl) f)
 unfolding store_number
 store_number_fits order place s t f k x (InContext i) g good e = absurd (none-some _ e)
 store_number_fits order place s t f k x (InFrame n i) g good e =
@@ -134,7 +134,7 @@ store_number_fits order place s t f k x (InFrame n i) g good e =
       cells = λ j hj. byte_cells_fit order place f.memory (bytes_of order k x) (frame_start place n) i (stack_of s n) j (rw len hj) (rw (count, len) good.1) (rw len inside) (g.fit.cells_fit n j good.0 hj);
     }))
 
-pub store_pointer_fits : (order : Order) (place : Placement) (s t : State) (f : FlatState) (region : Region) (off : ℤ) (y : ℕ) (pl : Place) → Given order place s f → IsGood s 8 pl → StandsFor place y (Some (Pointer region off)) → store_pointer region off pl s ≡ Some t → Fits order place t (flat_store order 8 y (place_address place pl) f)
+pub store_pointer_fits : (order : Order) (place : Placement) (s t : State) (f : FlatState) (region : Region) (off : ℤ) (y : ℕ) (pl : Location) → Given order place s f → IsGood s 8 pl → StandsFor place y (Some (Pointer region off)) → store_pointer region off pl s ≡ Some t → Fits order place t (flat_store order 8 y (place_address place pl) f)
 unfolding store_pointer
 store_pointer_fits order place s t f region off y (InContext i) g good st e = absurd (none-some _ e)
 store_pointer_fits order place s t f region off y (InFrame n i) g good st e =
@@ -154,7 +154,7 @@ store_pointer_fits order place s t f region off y (InFrame n i) g good st e =
       cells = λ j hj. part_cells_fit order place f.memory region off (bytes_of order 8 y) (frame_start place n) i (stack_of s n) j (ap (bytes_of order 8) st) (rw len hj) (rw len good.1) (rw len inside) (g.fit.cells_fit n j good.0 hj);
     }))
 
-store_fits : (order : Order) (place : Placement) (s t : State) (f : FlatState) (size : Size) (v : Value) (y : ℕ) (pl : Place) → Given order place s f → IsGood s (byte_count size) pl → StandsFor place y (Some v) → store order size v pl s ≡ Some t → Fits order place t (flat_store order (byte_count size) y (place_address place pl) f)
+store_fits : (order : Order) (place : Placement) (s t : State) (f : FlatState) (size : Size) (v : Value) (y : ℕ) (pl : Location) → Given order place s f → IsGood s (byte_count size) pl → StandsFor place y (Some v) → store order size v pl s ≡ Some t → Fits order place t (flat_store order (byte_count size) y (place_address place pl) f)
 store_fits order place s t f size (Number x) y pl g good st e = subst (λ y. Fits order place t (flat_store order (byte_count size) y (place_address place pl) f)) (sym st) (store_number_fits order place s t f (byte_count size) x pl g good e)
 store_fits order place s t f DW (Pointer region off) y pl g good st e = store_pointer_fits order place s t f region off y pl g good st e
 store_fits order place s t f size (Pointer region off) y pl g good st e = absurd (none-some _ e)
@@ -162,7 +162,7 @@ store_fits order place s t f size (Pointer region off) y pl g good st e = absurd
 pub store_lands : (order : Order) (place : Placement) (s t : State) (f : FlatState) (size : Size) (dst : Reg) (off : ℤ) (src : Reg) → Given order place s f → does order (Store size dst off src) s ≡ Some t → Lands order place (Store size dst off src) f t
 unfolding does flat_does
 store_lands order place s t f size dst off src g e =
-    option_and_then_some _ (register s dst) t e (λ base ebase e1. option_and_then_some _ (register s src) t e1 (λ v ev e2. option_and_then_some _ (place_of s (byte_count size) off base) t e2 (λ pl epl e3.
+    option_and_then_some _ (register s dst) t e (λ base ebase e1. option_and_then_some _ (register s src) t e1 (λ v ev e2. option_and_then_some _ (location_of s (byte_count size) off base) t e2 (λ pl epl e3.
     let is_at : IsAt place s (byte_count size) off (flat_register f dst) pl = place_fits place s (byte_count size) off base (flat_register f dst) pl (size_some size) g.placed g.is_state.few_frames (stands g.fit dst base ebase) epl in
     let i : Insn = Store size dst off src in
     record {
@@ -175,7 +175,7 @@ store_lands order place s t f size dst off src g e =
 pub store_imm_lands : (order : Order) (place : Placement) (s t : State) (f : FlatState) (size : Size) (dst : Reg) (off imm : ℤ) → Given order place s f → does order (StoreImm size dst off imm) s ≡ Some t → Lands order place (StoreImm size dst off imm) f t
 unfolding does flat_does
 store_imm_lands order place s t f size dst off imm g e =
-    option_and_then_some _ (register s dst) t e (λ base ebase e1. option_and_then_some _ (place_of s (byte_count size) off base) t e1 (λ pl epl e3.
+    option_and_then_some _ (register s dst) t e (λ base ebase e1. option_and_then_some _ (location_of s (byte_count size) off base) t e1 (λ pl epl e3.
     let is_at : IsAt place s (byte_count size) off (flat_register f dst) pl = place_fits place s (byte_count size) off base (flat_register f dst) pl (size_some size) g.placed g.is_state.few_frames (stands g.fit dst base ebase) epl in
     let i : Insn = StoreImm size dst off imm in
     record {
@@ -193,7 +193,7 @@ result_same Xchg size old x new r0 y e h = same_Some _ _ e
 result_same CmpXchg size old x new None y e h = absurd (none-some _ e)
 result_same CmpXchg size old x new (Some n) y e h = ap (λ z. cond (old == z % 256 ^ byte_count size) x old) (h n refl) ∙ same_Some _ _ e
 
-stored_registers : (order : Order) (s t : State) (k x : ℕ) (pl : Place) → store_number order k x pl s ≡ Some t → t.top.registers ≡ s.top.registers
+stored_registers : (order : Order) (s t : State) (k x : ℕ) (pl : Location) → store_number order k x pl s ≡ Some t → t.top.registers ≡ s.top.registers
 unfolding store_number
 stored_registers order s t k x (InContext i) e = absurd (none-some _ e)
 stored_registers order s t k x (InFrame n i) e = subst (λ t. t.top.registers ≡ s.top.registers) (same_Some _ _ e)
@@ -210,7 +210,7 @@ atomic_lands order place s t f wide op dst off src g e =
     let size : Size = word_size wide in
     let k : ℕ = byte_count size in
     let i : Insn = Atomic wide op dst off src in
-    option_and_then_some _ (register s dst) t e (λ base ebase e1. option_and_then_some _ (number_of_register s src) t e1 (λ x ex e2. option_and_then_some _ (place_of s k off base) t e2 (λ pl epl e3. option_and_then_some _ (number_at order s k pl) t e3 (λ old eold e4. option_and_then_some _ (atomic_result op size old x (number_of_register s R0)) t e4 (λ new enew e5. option_and_then_some _ (store_number order k new pl (next i s)) t e5 (λ after eafter e6.
+    option_and_then_some _ (register s dst) t e (λ base ebase e1. option_and_then_some _ (number_of_register s src) t e1 (λ x ex e2. option_and_then_some _ (location_of s k off base) t e2 (λ pl epl e3. option_and_then_some _ (number_at order s k pl) t e3 (λ old eold e4. option_and_then_some _ (atomic_result op size old x (number_of_register s R0)) t e4 (λ new enew e5. option_and_then_some _ (store_number order k new pl (next i s)) t e5 (λ after eafter e6.
     let is_at : IsAt place s k off (flat_register f dst) pl = place_fits place s k off base (flat_register f dst) pl (size_some size) g.placed g.is_state.few_frames (stands g.fit dst base ebase) epl in
     let a : ℕ = address f dst off in
     let y : ℕ = flat_number order f k a in

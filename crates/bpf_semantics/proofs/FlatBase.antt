@@ -11,7 +11,7 @@ use Rattle.bpf_semantics.specs.Flat.{addresses, Placement, FlatState, frame_star
 use Rattle.bpf_semantics.specs.Placement.{Fits, StandsFor, StandsForCell}
 use Rattle.bpf_insn.specs.declared.order.Order.{Order}
 use Rattle.bpf_insn.specs.declared.instruction.Reg.{Reg}
-use Rattle.bpf_semantics.specs.declared.state.Value.{Value}
+use Rattle.bpf_semantics.specs.declared.value.Value.{Value}
 
 -- ---- registers
 

@@ -7,13 +7,13 @@ use Rattle.std.proofs.lemmas.List.{length-set, get_or-set_same, get_or-take, get
 use Rattle.std.specs.List.{AllByRecursion}
 use Rattle.bpf_semantics.specs.State.{StackFrame, State, depth, frame_bytes, max_frames, number_of_register}
 use Rattle.bpf_semantics.specs.Memory.{stack_of}
-use Rattle.bpf_semantics.specs.Flat.{addresses, Placement, FlatState, IsFlat, frame_start, frame_end, flat_register, FlatCall, FlatReturn, Return, IsReturn, IsWithin}
+use Rattle.bpf_semantics.specs.Flat.{addresses, Placement, FlatState, IsFlat, frame_start, frame_end, flat_register, FlatCall, FlatReturn, Return, IsReturn, IsAmong}
 use Rattle.bpf_semantics.specs.Placement.{Fits, StandsFor, StandsForCell, pointer_address, FitReturns, AreApart}
 use Rattle.bpf_insn.specs.declared.order.Order.{Order}
 use Rattle.bpf_insn.specs.declared.instruction.Reg.TheVariants.{R0}
-use Rattle.bpf_semantics.specs.declared.state.Value.{Value}
-use Rattle.bpf_semantics.specs.declared.state.Value.TheVariants.{Number, Pointer}
-use Rattle.bpf_semantics.specs.declared.state.Region.TheVariants.{Frame as FrameAt}
+use Rattle.bpf_semantics.specs.declared.value.Value.{Value}
+use Rattle.bpf_semantics.specs.declared.value.Value.TheVariants.{Number, Pointer}
+use Rattle.bpf_semantics.specs.declared.value.Region.TheVariants.{Frame as FrameAt}
 use Rattle.bpf_insn.specs.Instruction.{target}
 use Rattle.bpf_semantics.specs.Step.{does, entered, saved}
 use Rattle.bpf_insn.specs.declared.instruction.Insn.TheVariants.{CallLocal, Exit}
@@ -93,10 +93,10 @@ kept_fits place xs vs l old k hk =
 le_but : {m d : ℕ} → (m ≡ suc d → ⊥) → m ≤ suc d → m ≤ d
 le_but {m = m} {d = d} ne h = elim (cases_lt d m) [ inl lt ↦ absurd (ne (omega arith)) | inr le ↦ le ]
 
-away_context : {context len first j : ℕ} → AreApart context len first frame_bytes → j < len → IsWithin first frame_bytes (context + j) → ⊥
+away_context : {context len first j : ℕ} → AreApart context len first frame_bytes → j < len → IsAmong first frame_bytes (context + j) → ⊥
 away_context {context = context} {j = j} h hj w = h (context + j) (omega arith, omega arith) w
 
-away_frame : {first' first j : ℕ} → AreApart first' frame_bytes first frame_bytes → j < frame_bytes → IsWithin first frame_bytes (first' + j) → ⊥
+away_frame : {first' first j : ℕ} → AreApart first' frame_bytes first frame_bytes → j < frame_bytes → IsAmong first frame_bytes (first' + j) → ⊥
 away_frame {first' = first'} {j = j} h hj w = h (first' + j) (omega arith, omega arith) w
 
 call_fits : (order : Order) (place : Placement) (s : State) (f g : FlatState) (off : ℤ) (slot : ℕ) → Given order place s f → depth s + 1 < max_frames → target s.top.slot off ≡ Some slot → FlatCall place off f g → Fits order place (entered s slot) g

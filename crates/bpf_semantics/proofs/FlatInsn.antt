@@ -9,7 +9,7 @@ use Rattle.bpf_semantics.specs.Flat.{Placement, FlatState, flat_register, flat_p
 use Rattle.bpf_semantics.specs.Placement.{IsPlacement, Fits}
 use Rattle.bpf_insn.specs.declared.order.Order.{Order}
 use Rattle.bpf_insn.specs.declared.instruction.Reg.{Reg}
-use Rattle.bpf_semantics.specs.declared.state.Value.TheVariants.{Number}
+use Rattle.bpf_semantics.specs.declared.value.Value.TheVariants.{Number}
 use Rattle.bpf_semantics.specs.Step.{does, next, jump, alu_result, operand, test_of_values}
 use Rattle.bpf_insn.specs.declared.instruction.Width.{Width}
 use Rattle.bpf_insn.specs.declared.instruction.AluOp.{AluOp}

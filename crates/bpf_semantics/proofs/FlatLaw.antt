@@ -4,15 +4,15 @@ use Rattle.std.specs.Prelude.{ℤ, true, cond}
 use Rattle.std.proofs.lemmas.Option.{none-some, same_Some, option_and_then_some}
 use Rattle.bpf_insn.specs.Instruction.{Instructions, byte_count, insn_at, word_size}
 use Rattle.bpf_semantics.specs.State.{StackFrame, State, depth, max_frames, register, number_of_register}
-use Rattle.bpf_semantics.specs.Memory.{Place, place_of, number_at, store_number, store_pointer}
-use Rattle.bpf_semantics.specs.Memory.Place.{InContext, InFrame}
+use Rattle.bpf_semantics.specs.Memory.{Location, location_of, number_at, store_number, store_pointer}
+use Rattle.bpf_semantics.specs.Memory.Location.{InContext, InFrame}
 use Rattle.bpf_semantics.specs.Flat.{addresses, Placement, FlatState, flat_register, flat_does, FlatDoes, FlatReturn, Return}
 use Rattle.bpf_semantics.specs.Placement.{IsPlacement, Fits, IsInMemory, IsInFrames, FitReturns}
 use Rattle.bpf_insn.specs.declared.order.Order.{Order}
 use Rattle.bpf_insn.specs.declared.instruction.Reg.TheVariants.{R0}
-use Rattle.bpf_semantics.specs.declared.state.Value.{Value}
-use Rattle.bpf_semantics.specs.declared.state.Value.TheVariants.{Number, Pointer}
-use Rattle.bpf_semantics.specs.declared.state.Region.{Region}
+use Rattle.bpf_semantics.specs.declared.value.Value.{Value}
+use Rattle.bpf_semantics.specs.declared.value.Value.TheVariants.{Number, Pointer}
+use Rattle.bpf_semantics.specs.declared.value.Region.{Region}
 use Rattle.bpf_insn.specs.Image.{HasEncoding, IsProgram}
 use Rattle.bpf_insn.specs.Arithmetic.{extended}
 use Rattle.bpf_semantics.specs.Step.{does, next, store, atomic_result, step_of, finish_of}
@@ -36,26 +36,26 @@ use Rattle.bpf_semantics.proofs.StateLemmas.{IsGood, encoding_at, exit_is}
 
 -- ---- what an access reaches
 
-abbrev pub IsFramePlace : Place → Type 0
+abbrev pub IsFramePlace : Location → Type 0
 IsFramePlace (InContext i) = ⊥
 IsFramePlace (InFrame n i) = Unit {0}
 
 pub record Reaches (place : Placement) (s : State) (f : FlatState) (a : Access) : Type 0 where
-  pub where_at : Place
+  pub where_at : Location
   pub is_at : IsAt place s (byte_count a.size) a.offset (flat_register f a.base) where_at
   pub written : a.writes ≡ true → IsFramePlace where_at
 
-stored_in_frame : (order : Order) (k x : ℕ) (pl : Place) (s t : State) → store_number order k x pl s ≡ Some t → IsFramePlace pl
+stored_in_frame : (order : Order) (k x : ℕ) (pl : Location) (s t : State) → store_number order k x pl s ≡ Some t → IsFramePlace pl
 unfolding store_number
 stored_in_frame order k x (InContext i) s t e = none-some _ e
 stored_in_frame order k x (InFrame n i) s t e = tt
 
-pointer_in_frame : (region : Region) (off : ℤ) (pl : Place) (s t : State) → store_pointer region off pl s ≡ Some t → IsFramePlace pl
+pointer_in_frame : (region : Region) (off : ℤ) (pl : Location) (s t : State) → store_pointer region off pl s ≡ Some t → IsFramePlace pl
 unfolding store_pointer
 pointer_in_frame region off (InContext i) s t e = none-some _ e
 pointer_in_frame region off (InFrame n i) s t e = tt
 
-value_in_frame : (order : Order) (size : Size) (v : Value) (pl : Place) (s t : State) → store order size v pl s ≡ Some t → IsFramePlace pl
+value_in_frame : (order : Order) (size : Size) (v : Value) (pl : Location) (s t : State) → store order size v pl s ≡ Some t → IsFramePlace pl
 value_in_frame order size (Number x) pl s t e = stored_in_frame order (byte_count size) x pl s t e
 value_in_frame order DW (Pointer region off) pl s t e = pointer_in_frame region off pl s t e
 value_in_frame order size (Pointer region off) pl s t e = absurd (none-some _ e)
@@ -63,29 +63,29 @@ value_in_frame order size (Pointer region off) pl s t e = absurd (none-some _ e)
 reaches : (order : Order) (place : Placement) (s t : State) (f : FlatState) (i : Insn) (a : Access) → Given order place s f → does order i s ≡ Some t → access_of i ≡ Some a → Reaches place s f a
 unfolding does
 reaches order place s t f (Load size dst src off) a g e ea =
-    subst (Reaches place s f) (same_Some _ _ ea) (option_and_then_some _ (register s src) t e (λ base ebase e1. option_and_then_some _ (place_of s (byte_count size) off base) t e1 (λ pl epl e2.
+    subst (Reaches place s f) (same_Some _ _ ea) (option_and_then_some _ (register s src) t e (λ base ebase e1. option_and_then_some _ (location_of s (byte_count size) off base) t e1 (λ pl epl e2.
     record { where_at = pl; is_at = place_fits place s (byte_count size) off base (flat_register f src) pl (size_some size) g.placed g.is_state.few_frames (stands g.fit src base ebase) epl; written = λ h. absurd (false≢true h) })))
 reaches order place s t f (LoadSx size dst src off) a g e ea =
-    subst (Reaches place s f) (same_Some _ _ ea) (option_and_then_some _ (register s src) t e (λ base ebase e1. option_and_then_some _ (place_of s (byte_count size) off base) t e1 (λ pl epl e2.
+    subst (Reaches place s f) (same_Some _ _ ea) (option_and_then_some _ (register s src) t e (λ base ebase e1. option_and_then_some _ (location_of s (byte_count size) off base) t e1 (λ pl epl e2.
     record { where_at = pl; is_at = place_fits place s (byte_count size) off base (flat_register f src) pl (size_some size) g.placed g.is_state.few_frames (stands g.fit src base ebase) epl; written = λ h. absurd (false≢true h) })))
 reaches order place s t f (Store size dst off src) a g e ea =
-    subst (Reaches place s f) (same_Some _ _ ea) (option_and_then_some _ (register s dst) t e (λ base ebase e1. option_and_then_some _ (register s src) t e1 (λ v ev e2. option_and_then_some _ (place_of s (byte_count size) off base) t e2 (λ pl epl e3.
+    subst (Reaches place s f) (same_Some _ _ ea) (option_and_then_some _ (register s dst) t e (λ base ebase e1. option_and_then_some _ (register s src) t e1 (λ v ev e2. option_and_then_some _ (location_of s (byte_count size) off base) t e2 (λ pl epl e3.
     record { where_at = pl; is_at = place_fits place s (byte_count size) off base (flat_register f dst) pl (size_some size) g.placed g.is_state.few_frames (stands g.fit dst base ebase) epl; written = λ h. value_in_frame order size v pl _ t e3 }))))
 reaches order place s t f (StoreImm size dst off imm) a g e ea =
-    subst (Reaches place s f) (same_Some _ _ ea) (option_and_then_some _ (register s dst) t e (λ base ebase e1. option_and_then_some _ (place_of s (byte_count size) off base) t e1 (λ pl epl e3.
+    subst (Reaches place s f) (same_Some _ _ ea) (option_and_then_some _ (register s dst) t e (λ base ebase e1. option_and_then_some _ (location_of s (byte_count size) off base) t e1 (λ pl epl e3.
     record { where_at = pl; is_at = place_fits place s (byte_count size) off base (flat_register f dst) pl (size_some size) g.placed g.is_state.few_frames (stands g.fit dst base ebase) epl; written = λ h. value_in_frame order size (Number (extended imm)) pl _ t e3 })))
 reaches order place s t f (Atomic wide op dst off src) a g e ea =
     let size : Size = word_size wide in
     let k : ℕ = byte_count size in
-    subst (Reaches place s f) (same_Some _ _ ea) (option_and_then_some _ (register s dst) t e (λ base ebase e1. option_and_then_some _ (number_of_register s src) t e1 (λ x ex e2. option_and_then_some _ (place_of s k off base) t e2 (λ pl epl e3. option_and_then_some _ (number_at order s k pl) t e3 (λ old eold e4. option_and_then_some _ (atomic_result op size old x (number_of_register s R0)) t e4 (λ new enew e5. option_and_then_some _ (store_number order k new pl (next (Atomic wide op dst off src) s)) t e5 (λ after eafter e6.
+    subst (Reaches place s f) (same_Some _ _ ea) (option_and_then_some _ (register s dst) t e (λ base ebase e1. option_and_then_some _ (number_of_register s src) t e1 (λ x ex e2. option_and_then_some _ (location_of s k off base) t e2 (λ pl epl e3. option_and_then_some _ (number_at order s k pl) t e3 (λ old eold e4. option_and_then_some _ (atomic_result op size old x (number_of_register s R0)) t e4 (λ new enew e5. option_and_then_some _ (store_number order k new pl (next (Atomic wide op dst off src) s)) t e5 (λ after eafter e6.
     record { where_at = pl; is_at = place_fits place s k off base (flat_register f dst) pl (size_some size) g.placed g.is_state.few_frames (stands g.fit dst base ebase) epl; written = λ h. stored_in_frame order k new pl _ after eafter })))))))
 reaches order place s t f i a g e ea = absurd (none-some _ ea)
 
-reached_memory : (place : Placement) (s : State) (live k j : ℕ) (pl : Place) → IsPlacement (length s.context) place → depth s < max_frames → live ≡ depth s → IsGood s k pl → j < k → IsInMemory place (length s.context) live ((place_address place pl + j) % addresses)
+reached_memory : (place : Placement) (s : State) (live k j : ℕ) (pl : Location) → IsPlacement (length s.context) place → depth s < max_frames → live ≡ depth s → IsGood s k pl → j < k → IsInMemory place (length s.context) live ((place_address place pl + j) % addresses)
 reached_memory place s live k j (InContext i) isp few same good hj = let e = isp.context_inside in inl (omega arith, omega arith)
 reached_memory place s live k j (InFrame n i) isp few same good hj = let room = good.1 in let h = good.0 in let n8 : n < max_frames = omega arith in let e = isp.frame_inside n n8 in inr (n, omega arith, (omega arith, omega arith))
 
-reached_frames : (place : Placement) (s : State) (live k j : ℕ) (pl : Place) → IsPlacement (length s.context) place → depth s < max_frames → live ≡ depth s → IsGood s k pl → j < k → IsFramePlace pl → IsInFrames place live ((place_address place pl + j) % addresses)
+reached_frames : (place : Placement) (s : State) (live k j : ℕ) (pl : Location) → IsPlacement (length s.context) place → depth s < max_frames → live ≡ depth s → IsGood s k pl → j < k → IsFramePlace pl → IsInFrames place live ((place_address place pl + j) % addresses)
 reached_frames place s live k j (InContext i) isp few same good hj fr = absurd fr
 reached_frames place s live k j (InFrame n i) isp few same good hj fr = let room = good.1 in let h = good.0 in let n8 : n < max_frames = omega arith in let e = isp.frame_inside n n8 in (n, omega arith, (omega arith, omega arith))
 

@@ -9,14 +9,14 @@ use Rattle.bpf_insn.specs.Order.{number_of}
 use Rattle.bpf_insn.specs.Arithmetic.{modulo}
 use Rattle.bpf_semantics.specs.State.{Cell, State, IsState, depth, frame_bytes, max_frames}
 use Rattle.bpf_semantics.specs.State.Cell.{Byte, Part}
-use Rattle.bpf_semantics.specs.Memory.{Place, stack_of, inside, place_of, bytes_in, bytes_at, number_at, byte_in}
-use Rattle.bpf_semantics.specs.Memory.Place.{InContext, InFrame}
+use Rattle.bpf_semantics.specs.Memory.{Location, stack_of, inside, location_of, bytes_in, bytes_at, number_at, byte_in}
+use Rattle.bpf_semantics.specs.Memory.Location.{InContext, InFrame}
 use Rattle.bpf_semantics.specs.Flat.{addresses, Placement, FlatState, frame_start, frame_end, bytes_from, flat_number}
 use Rattle.bpf_semantics.specs.Placement.{IsPlacement, Fits, StandsFor, StandsForCell}
 use Rattle.bpf_insn.specs.declared.order.Order.{Order}
-use Rattle.bpf_semantics.specs.declared.state.Value.{Value}
-use Rattle.bpf_semantics.specs.declared.state.Value.TheVariants.{Number, Pointer}
-use Rattle.bpf_semantics.specs.declared.state.Region.TheVariants.{Context, Frame as FrameAt}
+use Rattle.bpf_semantics.specs.declared.value.Value.{Value}
+use Rattle.bpf_semantics.specs.declared.value.Value.TheVariants.{Number, Pointer}
+use Rattle.bpf_semantics.specs.declared.value.Region.TheVariants.{Context, Frame as FrameAt}
 use Rattle.bpf_semantics.proofs.FlatArith.{modulo_of_small, access_address, modulo_same, modulo-same, same_equal, same_trans, same_plus, same_refl}
 use Rattle.bpf_semantics.proofs.StateLemmas.{IsGood, option_map_some, inside_is, cond_option, frame_is}
 
@@ -25,11 +25,11 @@ use Rattle.bpf_semantics.proofs.StateLemmas.{IsGood, option_map_some, inside_is,
 -- ---- registers
 
 -- the first address of a place
-abbrev pub place_address : Placement → Place → ℕ
+abbrev pub place_address : Placement → Location → ℕ
 place_address place (InContext i) = place.context + i
 place_address place (InFrame n i) = frame_start place n + i
 
-pub record IsAt (place : Placement) (s : State) (k : ℕ) (off : ℤ) (x : ℕ) (pl : Place) : Type 0 where
+pub record IsAt (place : Placement) (s : State) (k : ℕ) (off : ℤ) (x : ℕ) (pl : Location) : Type 0 where
   pub good : IsGood s k pl
   pub address_is : modulo (pos x +ℤ off) addresses ≡ place_address place pl
 
@@ -42,7 +42,7 @@ list_address : (first i : ℕ) (z : ℤ) → z ≡ pos i → first + i < address
 list_address first i z e small = rw e (modulo_of_small (first + i) small)
 
 -- the flat address of an access is that of its place
-pub place_fits : (place : Placement) (s : State) (k : ℕ) (off : ℤ) (base : Value) (x : ℕ) (pl : Place) → 0 < k → IsPlacement (length s.context) place → depth s < max_frames → StandsFor place x (Some base) → place_of s k off base ≡ Some pl → IsAt place s k off x pl
+pub place_fits : (place : Placement) (s : State) (k : ℕ) (off : ℤ) (base : Value) (x : ℕ) (pl : Location) → 0 < k → IsPlacement (length s.context) place → depth s < max_frames → StandsFor place x (Some base) → location_of s k off base ≡ Some pl → IsAt place s k off x pl
 place_fits place s k off (Number n) x pl hk isp few st e = absurd (none-some _ e)
 place_fits place s k off (Pointer Context at) x pl hk isp few st e =
     let h = option_map_some InContext (inside k (length s.context) (at +ℤ off)) pl e in
@@ -93,7 +93,7 @@ bytes_in_list memory first (suc k) i xs hk hl fit =
     ap₂ (λ x xs. x ∷ xs) (ap memory small ∙ fit i lt) (ap (λ a. bytes_from memory a k) more ∙ rest) ∙ ap (take (suc k)) (sym (drop-cons xs i 0 lt))
 
 -- the bytes that a load reads
-pub bytes_fit : {order : Order} {place : Placement} {s : State} {f : FlatState} → Fits order place s f → IsPlacement (length s.context) place → IsState s → (k : ℕ) (pl : Place) (bs : List ℕ) → IsGood s k pl → bytes_at s k pl ≡ Some bs → bytes_from f.memory (place_address place pl) k ≡ bs
+pub bytes_fit : {order : Order} {place : Placement} {s : State} {f : FlatState} → Fits order place s f → IsPlacement (length s.context) place → IsState s → (k : ℕ) (pl : Location) (bs : List ℕ) → IsGood s k pl → bytes_at s k pl ≡ Some bs → bytes_from f.memory (place_address place pl) k ≡ bs
 bytes_fit {order = order} {place = place} {s = s} {f = f} fit isp iss k (InContext i) bs good e =
     bytes_in_list f.memory place.context k i s.context good isp.context_inside fit.context_fits ∙ same_Some _ _ e
 bytes_fit {order = order} {place = place} {s = s} {f = f} fit isp iss k (InFrame n i) bs good e =
@@ -103,7 +103,7 @@ bytes_fit {order = order} {place = place} {s = s} {f = f} fit isp iss k (InFrame
     let n8 : n < max_frames = omega arith in
     bytes_in_cells order place f.memory (frame_start place n) k i (stack_of s n) bs (rw len good.1) (rw len (isp.frame_inside n n8)) (λ j hj. fit.cells_fit n j good.0 (rw len at hj)) e
 
-pub number_fits : {order : Order} {place : Placement} {s : State} {f : FlatState} → Fits order place s f → IsPlacement (length s.context) place → IsState s → (k : ℕ) (pl : Place) (x : ℕ) → IsGood s k pl → number_at order s k pl ≡ Some x → flat_number order f k (place_address place pl) ≡ x
+pub number_fits : {order : Order} {place : Placement} {s : State} {f : FlatState} → Fits order place s f → IsPlacement (length s.context) place → IsState s → (k : ℕ) (pl : Location) (x : ℕ) → IsGood s k pl → number_at order s k pl ≡ Some x → flat_number order f k (place_address place pl) ≡ x
 number_fits {order = order} {f = f} fit isp iss k pl x good e =
     let h = option_map_some (number_of order k) (bytes_at _ k pl) x e in
     ap (number_of order k) (bytes_fit fit isp iss k pl h.0 good h.1) ∙ h.2

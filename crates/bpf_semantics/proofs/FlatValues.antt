@@ -10,10 +10,10 @@ use Rattle.bpf_semantics.specs.State.{State, FitsMachine}
 use Rattle.bpf_semantics.specs.Flat.{addresses, Placement, FlatState, IsFlat, flat_operand}
 use Rattle.bpf_semantics.specs.Placement.{Fits, StandsFor, pointer_address, region_address}
 use Rattle.bpf_insn.specs.declared.order.Order.{Order}
-use Rattle.bpf_semantics.specs.declared.state.Value.{Value}
-use Rattle.bpf_semantics.specs.declared.state.Value.TheVariants.{Number, Pointer}
-use Rattle.bpf_semantics.specs.declared.state.Region.{Region}
-use Rattle.bpf_semantics.specs.declared.state.Region.TheVariants.{Context, Frame as FrameAt}
+use Rattle.bpf_semantics.specs.declared.value.Value.{Value}
+use Rattle.bpf_semantics.specs.declared.value.Value.TheVariants.{Number, Pointer}
+use Rattle.bpf_semantics.specs.declared.value.Region.{Region}
+use Rattle.bpf_semantics.specs.declared.value.Region.TheVariants.{Context, Frame as FrameAt}
 use Rattle.bpf_semantics.specs.Step.{alu_of_values, alu_result, moved, operand, test_of_values, same_region}
 use Rattle.bpf_insn.specs.declared.instruction.Width.{Width}
 use Rattle.bpf_insn.specs.declared.instruction.Width.TheVariants.{W32, W64}

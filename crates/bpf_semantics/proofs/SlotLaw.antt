@@ -8,8 +8,8 @@ use Rattle.bpf_insn.specs.Instruction.{Instructions, register_number, byte_count
 use Rattle.bpf_insn.specs.Image.{IsProgram, LeadsInside}
 use Rattle.bpf_insn.specs.Arithmetic.{extended}
 use Rattle.bpf_semantics.specs.State.{State, StackFrame, frames, frame_at, depth, register, number_of_register, put, with_register, with_top, at_slot}
-use Rattle.bpf_semantics.specs.Memory.{Place, with_frame, place_of, number_at, store_number, store_pointer}
-use Rattle.bpf_semantics.specs.Memory.Place.{InContext, InFrame}
+use Rattle.bpf_semantics.specs.Memory.{Location, with_frame, location_of, number_at, store_number, store_pointer}
+use Rattle.bpf_semantics.specs.Memory.Location.{InContext, InFrame}
 use Rattle.bpf_semantics.specs.Step.{does, step_of, next, jump, call, entered, left, operand, alu_result, load, load_extended, store, test_of_values, atomic_result, fetched}
 use Rattle.bpf_insn.specs.Effects.{fetch_register}
 use Rattle.bpf_semantics.specs.MachineLaws.{StepKeepsContext, StepKeepsSlots}
@@ -20,8 +20,8 @@ use Rattle.bpf_insn.specs.declared.instruction.Size.{Size}
 use Rattle.bpf_insn.specs.declared.instruction.Size.TheVariants.{DW}
 use Rattle.bpf_insn.specs.declared.instruction.Insn.{Insn}
 use Rattle.bpf_insn.specs.declared.instruction.Insn.TheVariants.{Alu, Neg, MovSx, End, LoadImm64, Load, LoadSx, Store, StoreImm, Atomic, Ja, JaLong, JumpIf, CallLocal, Exit}
-use Rattle.bpf_semantics.specs.declared.state.Value.{Value}
-use Rattle.bpf_semantics.specs.declared.state.Value.TheVariants.{Number, Pointer}
+use Rattle.bpf_semantics.specs.declared.value.Value.{Value}
+use Rattle.bpf_semantics.specs.declared.value.Value.TheVariants.{Number, Pointer}
 use Rattle.bpf_semantics.proofs.StateLemmas.{option_map_some, cond_option, all_get, left_is}
 
 -- The context is as it was, and what held of the slots of all frames holds still.
@@ -62,12 +62,12 @@ framed {good = good} s n frame e = cond_both (n == depth s) (with_top s frame) _
     here : AllByRecursion (λ frame. good frame.slot) (frames s) → good frame.slot
     here h = subst good (sym e) (all_get (λ frame. good frame.slot) (frames s) (depth s - n) s.top h.0 h)
 
-number_stored : {good : ℕ → Type 0} (order : Order) (k x : ℕ) (place : Place) (s t : State) → store_number order k x place s ≡ Some t → Keeps good s t
+number_stored : {good : ℕ → Type 0} (order : Order) (k x : ℕ) (place : Location) (s t : State) → store_number order k x place s ≡ Some t → Keeps good s t
 unfolding store_number
 number_stored order k x (InContext i) s t e = absurd (none-some _ e)
 number_stored {good = good} order k x (InFrame n i) s t e = subst (Keeps good s) (same_Some _ _ e) (framed s n _ refl)
 
-stored : {good : ℕ → Type 0} (order : Order) (size : Size) (v : Value) (place : Place) (s t : State) → store order size v place s ≡ Some t → Keeps good s t
+stored : {good : ℕ → Type 0} (order : Order) (size : Size) (v : Value) (place : Location) (s t : State) → store order size v place s ≡ Some t → Keeps good s t
 unfolding store_pointer
 stored order size (Number x) place s t e = number_stored order (byte_count size) x place s t e
 stored order DW (Pointer region off) (InContext i) s t e = absurd (none-some _ e)
@@ -100,13 +100,13 @@ does_keeps order s t (Neg width dst) after led e = option_and_then_some _ (numbe
 does_keeps order s t (MovSx width bits dst src) after led e = option_and_then_some _ (number_of_register s src) t e (λ b eb e. both (moved s _ after) (written _ dst _ t e))
 does_keeps order s t (End kind bits dst) after led e = option_and_then_some _ (number_of_register s dst) t e (λ a ea e. both (moved s _ after) (written _ dst _ t e))
 does_keeps order s t (LoadImm64 dst value) after led e = both (moved s _ after) (written _ dst _ t e)
-does_keeps order s t (Load size dst src off) after led e = option_and_then_some _ (register s src) t e (λ base eb e. option_and_then_some _ (place_of s (byte_count size) off base) t e (λ place ep e. option_and_then_some _ (load order s size place) t e (λ v ev e. both (moved s _ after) (written _ dst v t e))))
-does_keeps order s t (LoadSx size dst src off) after led e = option_and_then_some _ (register s src) t e (λ base eb e. option_and_then_some _ (place_of s (byte_count size) off base) t e (λ place ep e. option_and_then_some _ (load_extended order s size place) t e (λ v ev e. both (moved s _ after) (written _ dst v t e))))
-does_keeps order s t (Store size dst off src) after led e = option_and_then_some _ (register s dst) t e (λ base eb e. option_and_then_some _ (register s src) t e (λ v ev e. option_and_then_some _ (place_of s (byte_count size) off base) t e (λ place ep e. both (moved s _ after) (stored order size v place _ t e))))
-does_keeps order s t (StoreImm size dst off imm) after led e = option_and_then_some _ (register s dst) t e (λ base eb e. option_and_then_some _ (place_of s (byte_count size) off base) t e (λ place ep e. both (moved s _ after) (stored order size (Number (extended imm)) place _ t e)))
+does_keeps order s t (Load size dst src off) after led e = option_and_then_some _ (register s src) t e (λ base eb e. option_and_then_some _ (location_of s (byte_count size) off base) t e (λ place ep e. option_and_then_some _ (load order s size place) t e (λ v ev e. both (moved s _ after) (written _ dst v t e))))
+does_keeps order s t (LoadSx size dst src off) after led e = option_and_then_some _ (register s src) t e (λ base eb e. option_and_then_some _ (location_of s (byte_count size) off base) t e (λ place ep e. option_and_then_some _ (load_extended order s size place) t e (λ v ev e. both (moved s _ after) (written _ dst v t e))))
+does_keeps order s t (Store size dst off src) after led e = option_and_then_some _ (register s dst) t e (λ base eb e. option_and_then_some _ (register s src) t e (λ v ev e. option_and_then_some _ (location_of s (byte_count size) off base) t e (λ place ep e. both (moved s _ after) (stored order size v place _ t e))))
+does_keeps order s t (StoreImm size dst off imm) after led e = option_and_then_some _ (register s dst) t e (λ base eb e. option_and_then_some _ (location_of s (byte_count size) off base) t e (λ place ep e. both (moved s _ after) (stored order size (Number (extended imm)) place _ t e)))
 does_keeps order s t (Atomic wide op dst off src) after led e =
     let size : Size = word_size wide in
-    option_and_then_some _ (register s dst) t e (λ base eb e. option_and_then_some _ (number_of_register s src) t e (λ x ex e. option_and_then_some _ (place_of s (byte_count size) off base) t e (λ place ep e. option_and_then_some _ (number_at order s (byte_count size) place) t e (λ old eo e. option_and_then_some _ (atomic_result op size old x (number_of_register s R0)) t e (λ new en e. option_and_then_some _ (store_number order (byte_count size) new place (next (Atomic wide op dst off src) s)) t e (λ middle em e.
+    option_and_then_some _ (register s dst) t e (λ base eb e. option_and_then_some _ (number_of_register s src) t e (λ x ex e. option_and_then_some _ (location_of s (byte_count size) off base) t e (λ place ep e. option_and_then_some _ (number_at order s (byte_count size) place) t e (λ old eo e. option_and_then_some _ (atomic_result op size old x (number_of_register s R0)) t e (λ new en e. option_and_then_some _ (store_number order (byte_count size) new place (next (Atomic wide op dst off src) s)) t e (λ middle em e.
     both (moved s _ after) (both (number_stored order (byte_count size) new place _ middle em) (fetch_written middle (fetch_register op src) old t e))))))))
 does_keeps order s t (Ja off) after led e = jumped s off t (λ slot es. led off slot refl es) e
 does_keeps order s t (JaLong off) after led e = jumped s off t (λ slot es. led off slot refl es) e

@@ -11,15 +11,15 @@ use Rattle.bpf_insn.specs.Arithmetic.{modulo, alu, low, extended, sign_extend, s
 use Rattle.bpf_insn.specs.Instruction.{register_number, byte_count, insn_at, slot_count, word_size, target}
 use Rattle.bpf_semantics.specs.State.{Cell, StackFrame, State, IsState, IsFrame, frame_at, depth, frame_bytes, max_frames, register, with_top, put, at_slot, number_of_register, FitsMachine, HoldsNoPart, HoldsPointer, IsNumberCell, cell}
 use Rattle.bpf_semantics.specs.State.Cell.{Byte, Part}
-use Rattle.bpf_semantics.specs.Memory.{Place, stack_of, inside, place_of, bytes_in, bytes_at, number_at, pointer_at, store_number, store_pointer, cell_after, part_after, with_bytes, with_parts, without_part, is_within, with_stack_in, with_frame, pointer_in}
-use Rattle.bpf_semantics.specs.Memory.Place.{InContext, InFrame}
+use Rattle.bpf_semantics.specs.Memory.{Location, stack_of, inside, location_of, bytes_in, bytes_at, number_at, pointer_at, store_number, store_pointer, cell_after, part_after, with_bytes, with_parts, without_part, is_within, with_stack_in, with_frame, pointer_in}
+use Rattle.bpf_semantics.specs.Memory.Location.{InContext, InFrame}
 use Rattle.bpf_insn.specs.declared.order.Order.{Order}
 use Rattle.bpf_insn.specs.declared.instruction.Reg.{Reg}
 use Rattle.bpf_insn.specs.declared.instruction.Reg.TheVariants.{R0}
-use Rattle.bpf_semantics.specs.declared.state.Value.{Value}
-use Rattle.bpf_semantics.specs.declared.state.Value.TheVariants.{Number, Pointer}
-use Rattle.bpf_semantics.specs.declared.state.Region.{Region}
-use Rattle.bpf_semantics.specs.declared.state.Region.TheVariants.{Context, Frame as FrameAt}
+use Rattle.bpf_semantics.specs.declared.value.Value.{Value}
+use Rattle.bpf_semantics.specs.declared.value.Value.TheVariants.{Number, Pointer}
+use Rattle.bpf_semantics.specs.declared.value.Region.{Region}
+use Rattle.bpf_semantics.specs.declared.value.Region.TheVariants.{Context, Frame as FrameAt}
 use Rattle.bpf_insn.specs.Image.{HasEncoding}
 use Rattle.bpf_semantics.specs.Step.{does, next, jump, alu_result, operand, load, load_extended, store, test_of_values, atomic_result, fetched, size_type, step_of, entered, saved, alu_of_values, moved, wrapped}
 use Rattle.bpf_insn.specs.Effects.{fetch_register}
@@ -94,7 +94,7 @@ result_machine width op None b v fa fb e = absurd (none-some _ e)
 
 -- ---- what is loaded
 
-good_of : (s : State) (k : ℕ) (off : ℤ) (base : Value) (pl : Place) → place_of s k off base ≡ Some pl → IsGood s k pl
+good_of : (s : State) (k : ℕ) (off : ℤ) (base : Value) (pl : Location) → location_of s k off base ≡ Some pl → IsGood s k pl
 good_of s k off (Number n) pl e = absurd (none-some _ e)
 good_of s k off (Pointer Context at) pl e =
     let h = option_map_some InContext (inside k (length s.context) (at +ℤ off)) pl e in
@@ -104,7 +104,7 @@ good_of s k off (Pointer (FrameAt n) at) pl e =
     let h = option_map_some (InFrame n) (inside k frame_bytes ((at +ℤ off) +ℤ pos frame_bytes)) pl d.1 in
     subst (IsGood s k) h.2 (leb-true n (depth s) d.0, (inside_is k frame_bytes ((at +ℤ off) +ℤ pos frame_bytes) h.0 h.1).1)
 
-spilled_machine : {s : State} → IsState s → (pl : Place) (v : Value) → IsGood s 8 pl → pointer_at s pl ≡ Some v → FitsMachine (Some v)
+spilled_machine : {s : State} → IsState s → (pl : Location) (v : Value) → IsGood s 8 pl → pointer_at s pl ≡ Some v → FitsMachine (Some v)
 spilled_machine {s = s} iss (InContext i) v good e = absurd (none-some _ e)
 spilled_machine {s = s} iss (InFrame n i) v good e =
     let h = cond_option (i % 8 == 0) _ v e in
@@ -166,23 +166,23 @@ taken_small (suc k) [] h j = omega arith
 taken_small (suc k) (x ∷ xs) h zero = h 0
 taken_small (suc k) (x ∷ xs) h (suc j) = taken_small k xs (λ j. h (suc j)) j
 
-bytes_at_small : {s : State} → IsState s → (k : ℕ) (pl : Place) (bs : List ℕ) → bytes_at s k pl ≡ Some bs → (j : ℕ) → slice_index bs j < 256
+bytes_at_small : {s : State} → IsState s → (k : ℕ) (pl : Location) (bs : List ℕ) → bytes_at s k pl ≡ Some bs → (j : ℕ) → slice_index bs j < 256
 bytes_at_small {s = s} iss k (InContext i) bs e = subst (λ bs. (j : ℕ) → slice_index bs j < 256) (same_Some _ _ e) (taken_small k (drop i s.context) (λ j. subst (λ x. x < 256) (sym (get_or-drop i s.context j 0)) (iss.bytes (i + j))))
 bytes_at_small {s = s} iss k (InFrame n i) bs e = bytes_in_small (take k (drop i (stack_of s n))) bs (λ j b ec. cell_small (frame_at s n) (frame_is iss n) (i + j) b (sym (get_or-drop i (stack_of s n) j None) ∙ take_some k (drop i (stack_of s n)) j (Byte b) ec)) e
 
-number_machine : {s : State} → IsState s → (order : Order) (size : Size) (pl : Place) (x : ℕ) → number_at order s (byte_count size) pl ≡ Some x → x < 2 ^ 64
+number_machine : {s : State} → IsState s → (order : Order) (size : Size) (pl : Location) (x : ℕ) → number_at order s (byte_count size) pl ≡ Some x → x < 2 ^ 64
 number_machine {s = s} iss order size pl x e =
     let h = option_map_some (number_of order (byte_count size)) (bytes_at s (byte_count size) pl) x e in
     let b : number_of order (byte_count size) h.0 < 256 ^ byte_count size = number_below order (byte_count size) h.0 (bytes_at_small iss (byte_count size) pl h.0 h.1) in
     let c = size_small size in
     subst (λ x. x < 2 ^ 64) h.2 (omega arith)
 
-loaded_number : {s : State} → IsState s → (order : Order) (size : Size) (pl : Place) (v : Value) → option_map Number (number_at order s (byte_count size) pl) ≡ Some v → FitsMachine (Some v)
+loaded_number : {s : State} → IsState s → (order : Order) (size : Size) (pl : Location) (v : Value) → option_map Number (number_at order s (byte_count size) pl) ≡ Some v → FitsMachine (Some v)
 loaded_number {s = s} iss order size pl v e =
     let h = option_map_some Number (number_at order s (byte_count size) pl) v e in
     subst (λ v. FitsMachine (Some v)) h.2 (number_machine iss order size pl h.0 h.1)
 
-load_machine : {s : State} → IsState s → (order : Order) (size : Size) (pl : Place) (v : Value) → IsGood s (byte_count size) pl → load order s size pl ≡ Some v → FitsMachine (Some v)
+load_machine : {s : State} → IsState s → (order : Order) (size : Size) (pl : Location) (v : Value) → IsGood s (byte_count size) pl → load order s size pl ≡ Some v → FitsMachine (Some v)
 load_machine {s = s} iss order DW pl v good e = or_cases_of (λ v. FitsMachine (Some v)) (pointer_at s pl) _ v e (spilled_machine iss pl v good) (loaded_number iss order DW pl v)
 load_machine {s = s} iss order size pl v good e = loaded_number iss order size pl v e
 
@@ -268,17 +268,17 @@ frame_state {s = s} iss n fr h = cond_both (n == depth s) (with_top s fr) _ IsSt
     (λ e. record { few_frames = iss.few_frames; each_frame = (h, iss.each_frame.1); bytes = iss.bytes })
     (λ e. record { few_frames = subst (λ d. d < max_frames) (sym (length-set s.waiting (depth s - n - 1) fr)) iss.few_frames; each_frame = (iss.each_frame.0, set_all s.waiting (depth s - n - 1) fr h iss.each_frame.1); bytes = iss.bytes })
 
-stored_number : {s : State} → IsState s → (order : Order) (k x : ℕ) (pl : Place) (t : State) → IsGood s k pl → store_number order k x pl s ≡ Some t → IsState t
+stored_number : {s : State} → IsState s → (order : Order) (k x : ℕ) (pl : Location) (t : State) → IsGood s k pl → store_number order k x pl s ≡ Some t → IsState t
 unfolding store_number
 stored_number {s = s} iss order k x (InContext i) t good e = absurd (none-some _ e)
 stored_number {s = s} iss order k x (InFrame n i) t good e = subst IsState (same_Some _ _ e) (frame_state iss n _ (bytes_frame (frame_at s n) (bytes_of order k x) i (frame_is iss n) (bytes_small order k x) (rw (length-bytes_of order k x) good.1)))
 
-stored_pointer : {s : State} → IsState s → (region : Region) (off : ℤ) (pl : Place) (t : State) → FitsMachine (Some (Pointer region off)) → IsGood s 8 pl → store_pointer region off pl s ≡ Some t → IsState t
+stored_pointer : {s : State} → IsState s → (region : Region) (off : ℤ) (pl : Location) (t : State) → FitsMachine (Some (Pointer region off)) → IsGood s 8 pl → store_pointer region off pl s ≡ Some t → IsState t
 unfolding store_pointer
 stored_pointer {s = s} iss region off (InContext i) t fv good e = absurd (none-some _ e)
 stored_pointer {s = s} iss region off (InFrame n i) t fv good e = let h = cond_some (i % 8 == 0) _ t e in subst IsState h.1 (frame_state iss n _ (parts_frame (frame_at s n) region off i (frame_is iss n) fv (eqb-true (i % 8) 0 h.0) good.1))
 
-stored_state : {s : State} → IsState s → (order : Order) (size : Size) (v : Value) (pl : Place) (t : State) → FitsMachine (Some v) → IsGood s (byte_count size) pl → store order size v pl s ≡ Some t → IsState t
+stored_state : {s : State} → IsState s → (order : Order) (size : Size) (v : Value) (pl : Location) (t : State) → FitsMachine (Some v) → IsGood s (byte_count size) pl → store order size v pl s ≡ Some t → IsState t
 stored_state {s = s} iss order size (Number x) pl t fv good e = stored_number iss order (byte_count size) x pl t good e
 stored_state {s = s} iss order DW (Pointer region off) pl t fv good e = stored_pointer iss region off pl t fv good e
 stored_state {s = s} iss order size (Pointer region off) pl t fv good e = absurd (none-some _ e)
@@ -375,20 +375,20 @@ kept order s t (Neg width dst) enc iss e = option_and_then_some _ (number_of_reg
 kept order s t (MovSx width bits dst src) enc iss e = option_and_then_some _ (number_of_register s src) t e (λ b eb e1. put_state (next_state iss (MovSx width bits dst src)) dst (Number (sign_extend bits width b)) t (sign_extend_below bits width b) e1)
 kept order s t (End kind bits dst) enc iss e = option_and_then_some _ (number_of_register s dst) t e (λ a ea e1. put_state (next_state iss (End kind bits dst)) dst (Number (swapped order kind bits a)) t (swapped_below order kind bits a (number_register iss dst a ea)) e1)
 kept order s t (LoadImm64 dst value) enc iss e = put_state (next_state iss (LoadImm64 dst value)) dst (Number value) t enc e
-kept order s t (Load size dst src off) enc iss e = option_and_then_some _ (register s src) t e (λ base ebase e1. option_and_then_some _ (place_of s (byte_count size) off base) t e1 (λ pl epl e2. option_and_then_some _ (load order s size pl) t e2 (λ v ev e3.
+kept order s t (Load size dst src off) enc iss e = option_and_then_some _ (register s src) t e (λ base ebase e1. option_and_then_some _ (location_of s (byte_count size) off base) t e1 (λ pl epl e2. option_and_then_some _ (load order s size pl) t e2 (λ v ev e3.
     put_state (next_state iss (Load size dst src off)) dst v t (load_machine iss order size pl v (good_of s (byte_count size) off base pl epl) ev) e3)))
-kept order s t (LoadSx size dst src off) enc iss e = option_and_then_some _ (register s src) t e (λ base ebase e1. option_and_then_some _ (place_of s (byte_count size) off base) t e1 (λ pl epl e2. option_and_then_some _ (load_extended order s size pl) t e2 (λ v ev e3.
+kept order s t (LoadSx size dst src off) enc iss e = option_and_then_some _ (register s src) t e (λ base ebase e1. option_and_then_some _ (location_of s (byte_count size) off base) t e1 (λ pl epl e2. option_and_then_some _ (load_extended order s size pl) t e2 (λ v ev e3.
     let h = option_map_some (λ x. Number (modulo (cast_signed (size_type size) x) (2 ^ 64))) (number_at order s (byte_count size) pl) v ev in
     put_state (next_state iss (LoadSx size dst src off)) dst v t (subst (λ v. FitsMachine (Some v)) h.2 (modulo_below _)) e3)))
-kept order s t (Store size dst off src) enc iss e = option_and_then_some _ (register s dst) t e (λ base ebase e1. option_and_then_some _ (register s src) t e1 (λ v ev e2. option_and_then_some _ (place_of s (byte_count size) off base) t e2 (λ pl epl e3.
+kept order s t (Store size dst off src) enc iss e = option_and_then_some _ (register s dst) t e (λ base ebase e1. option_and_then_some _ (register s src) t e1 (λ v ev e2. option_and_then_some _ (location_of s (byte_count size) off base) t e2 (λ pl epl e3.
     stored_state (next_state iss (Store size dst off src)) order size v pl t (value_fits iss src v ev) (good_next s (Store size dst off src) (byte_count size) pl (good_of s (byte_count size) off base pl epl)) e3)))
-kept order s t (StoreImm size dst off imm) enc iss e = option_and_then_some _ (register s dst) t e (λ base ebase e1. option_and_then_some _ (place_of s (byte_count size) off base) t e1 (λ pl epl e3.
+kept order s t (StoreImm size dst off imm) enc iss e = option_and_then_some _ (register s dst) t e (λ base ebase e1. option_and_then_some _ (location_of s (byte_count size) off base) t e1 (λ pl epl e3.
     stored_state (next_state iss (StoreImm size dst off imm)) order size (Number (extended imm)) pl t (modulo_below imm) (good_next s (StoreImm size dst off imm) (byte_count size) pl (good_of s (byte_count size) off base pl epl)) e3))
 kept order s t (Atomic wide op dst off src) enc iss e =
     let size : Size = word_size wide in
     let k : ℕ = byte_count size in
     let i : Insn = Atomic wide op dst off src in
-    option_and_then_some _ (register s dst) t e (λ base ebase e1. option_and_then_some _ (number_of_register s src) t e1 (λ x ex e2. option_and_then_some _ (place_of s k off base) t e2 (λ pl epl e3. option_and_then_some _ (number_at order s k pl) t e3 (λ old eold e4. option_and_then_some _ (atomic_result op size old x (number_of_register s R0)) t e4 (λ new enew e5. option_and_then_some _ (store_number order k new pl (next i s)) t e5 (λ after eafter e6.
+    option_and_then_some _ (register s dst) t e (λ base ebase e1. option_and_then_some _ (number_of_register s src) t e1 (λ x ex e2. option_and_then_some _ (location_of s k off base) t e2 (λ pl epl e3. option_and_then_some _ (number_at order s k pl) t e3 (λ old eold e4. option_and_then_some _ (atomic_result op size old x (number_of_register s R0)) t e4 (λ new enew e5. option_and_then_some _ (store_number order k new pl (next i s)) t e5 (λ after eafter e6.
     fetched_state (stored_number (next_state iss i) order k new pl after (good_next s i k pl (good_of s k off base pl epl)) eafter) (fetch_register op src) old t (number_machine iss order size pl old eold) e6))))))
 kept order s t (Ja off) enc iss e = jumped iss off t e
 kept order s t (JaLong off) enc iss e = jumped iss off t e

@@ -6,10 +6,10 @@ use Rattle.std.proofs.lemmas.Bool.{leb-true, and_cases, ltb-false, leb-false}
 use Rattle.std.specs.List.{AllByRecursion}
 use Rattle.bpf_semantics.specs.State.{Cell, State, IsState, IsFrame, frames, frame_at, depth, frame_bytes, StackFrame, register, at_slot, number_in, number_of_register, FitsMachine, IsNumberCell}
 use Rattle.bpf_semantics.specs.State.Cell.{Byte, Part}
-use Rattle.bpf_semantics.specs.Memory.{Place, inside, each_cell, is_within, pointer_in}
-use Rattle.bpf_semantics.specs.Memory.Place.{InContext, InFrame}
-use Rattle.bpf_semantics.specs.declared.state.Value.{Value}
-use Rattle.bpf_semantics.specs.declared.state.Value.TheVariants.{Number, Pointer}
+use Rattle.bpf_semantics.specs.Memory.{Location, inside, each_cell, is_within, pointer_in}
+use Rattle.bpf_semantics.specs.Memory.Location.{InContext, InFrame}
+use Rattle.bpf_semantics.specs.declared.value.Value.{Value}
+use Rattle.bpf_semantics.specs.declared.value.Value.TheVariants.{Number, Pointer}
 use Rattle.bpf_insn.specs.Instruction.{register_number, slot_count, layout, insn_in}
 use Rattle.bpf_insn.specs.declared.instruction.Reg.{Reg}
 use Rattle.bpf_semantics.specs.Step.{next, operand, left, saved, result_of_exit}
@@ -22,7 +22,7 @@ use Rattle.bpf_insn.specs.Image.{HasEncoding, AllHaveEncoding}
 use Rattle.bpf_semantics.proofs.NumberLemmas.{modulo_below}
 
 -- k bytes at the place lie inside the context or a live frame
-abbrev pub IsGood : State → ℕ → Place → Type 0
+abbrev pub IsGood : State → ℕ → Location → Type 0
 IsGood s k (InContext i) = i + k ≤ length s.context
 IsGood s k (InFrame n i) = (n ≤ depth s) × (i + k ≤ frame_bytes)
 
@@ -92,11 +92,11 @@ or_cases_of P (Some x) p v e f g = f e
 pub state_at : {s : State} → IsState s → (n : ℕ) → IsState (at_slot n s)
 state_at iss n = record { few_frames = iss.few_frames; each_frame = (record { eleven = iss.each_frame.0.eleven; values = iss.each_frame.0.values; cells = iss.each_frame.0.cells; whole = iss.each_frame.0.whole }, iss.each_frame.1); bytes = iss.bytes }
 
-pub good_at : (s : State) (n k : ℕ) (pl : Place) → IsGood s k pl → IsGood (at_slot n s) k pl
+pub good_at : (s : State) (n k : ℕ) (pl : Location) → IsGood s k pl → IsGood (at_slot n s) k pl
 good_at s n k (InContext i) h = h
 good_at s n k (InFrame m i) h = h
 
-pub good_next : (s : State) (i : Insn) (k : ℕ) (pl : Place) → IsGood s k pl → IsGood (next i s) k pl
+pub good_next : (s : State) (i : Insn) (k : ℕ) (pl : Location) → IsGood s k pl → IsGood (next i s) k pl
 good_next s i k pl h = good_at s (s.top.slot + slot_count i) k pl h
 
 pub all_none : (k j : ℕ) → get_or {A = Option Cell} (replicate k None) j None ≡ None

@@ -9,15 +9,15 @@ use Rattle.bpf_insn.specs.Arithmetic.{modulo, alu, extended, sign_extend, swappe
 use Rattle.bpf_insn.specs.Instruction.{Instructions, register_number, byte_count, insn_at, word_size, target, distance, insn_in, layout}
 use Rattle.bpf_semantics.specs.State.{Cell, StackFrame, State, depth, frame_bytes, max_frames, register, with_register, at_slot, number_in, number_of_register}
 use Rattle.bpf_semantics.specs.State.Cell.{Byte, Part}
-use Rattle.bpf_semantics.specs.Memory.{Place, stack_of, inside, place_of, bytes_in, number_at, pointer_at, store_number, store_pointer}
-use Rattle.bpf_semantics.specs.Memory.Place.{InContext, InFrame}
+use Rattle.bpf_semantics.specs.Memory.{Location, stack_of, inside, location_of, bytes_in, number_at, pointer_at, store_number, store_pointer}
+use Rattle.bpf_semantics.specs.Memory.Location.{InContext, InFrame}
 use Rattle.bpf_insn.specs.declared.order.Order.{Order}
 use Rattle.bpf_insn.specs.declared.instruction.Reg.{Reg}
 use Rattle.bpf_insn.specs.declared.instruction.Reg.TheVariants.{R0}
-use Rattle.bpf_semantics.specs.declared.state.Value.{Value}
-use Rattle.bpf_semantics.specs.declared.state.Value.TheVariants.{Number, Pointer}
-use Rattle.bpf_semantics.specs.declared.state.Region.{Region}
-use Rattle.bpf_semantics.specs.declared.state.Region.TheVariants.{Context, Frame as FrameAt}
+use Rattle.bpf_semantics.specs.declared.value.Value.{Value}
+use Rattle.bpf_semantics.specs.declared.value.Value.TheVariants.{Number, Pointer}
+use Rattle.bpf_semantics.specs.declared.value.Region.{Region}
+use Rattle.bpf_semantics.specs.declared.value.Region.TheVariants.{Context, Frame as FrameAt}
 use Rattle.bpf_semantics.specs.Step.{does, next, jump, alu_result, operand, load, load_extended, store, test_of_values, atomic_result, fetched, step_of, finish_of, result_of_exit, left, entered, modified}
 use Rattle.bpf_insn.specs.Effects.{fetch_register}
 use Rattle.bpf_insn.specs.declared.instruction.Width.{Width}
@@ -39,8 +39,8 @@ use Rattle.bpf_insn.specs.Image.{IsProgram, LeadsInside}
 use Rattle.bpf_semantics.specs.Stuck.{reason_of, reason_at, reason_of_insn, reason_if, first_of, is_pointer, has_wrong_kind, reads_unset, first_unreadable, unreadable_at, is_whole_slot, is_in_context}
 use Rattle.bpf_insn.specs.Effects.{is_frame_pointer}
 use Rattle.bpf_semantics.specs.MachineLaws.{StuckHasReason}
-use Rattle.bpf_semantics.specs.declared.state.Reason.{Reason}
-use Rattle.bpf_semantics.specs.declared.state.Reason.TheVariants.{UnsetRegister, OutOfBounds, ContextWrite, FramePointerWrite, OperandKind, TooManyFrames, PointerResult}
+use Rattle.bpf_semantics.specs.declared.reason.Reason.{Reason}
+use Rattle.bpf_semantics.specs.declared.reason.Reason.TheVariants.{UnsetRegister, OutOfBounds, ContextWrite, FramePointerWrite, OperandKind, TooManyFrames, PointerResult}
 use Rattle.std.specs.Option.{option_or, option_map_or}
 use Rattle.bpf_semantics.proofs.StateLemmas.{option_map_some, cond_option, inside_is}
 
@@ -136,7 +136,7 @@ mapped_none : {A B : Type 0} (f : A → B) (o : Option A) → is_none (option_ma
 mapped_none f None = refl
 mapped_none f (Some a) = refl
 
-number_exact_at : (order : Order) (s : State) (k : ℕ) (pl : Place) → is_some (unreadable_at s k pl) ≡ is_none (number_at order s k pl)
+number_exact_at : (order : Order) (s : State) (k : ℕ) (pl : Location) → is_some (unreadable_at s k pl) ≡ is_none (number_at order s k pl)
 number_exact_at order s k (InContext i) = refl
 number_exact_at order s k (InFrame n i) = unreadable_exact (take k (drop i (stack_of s n))) ∙ sym (mapped_none (number_of order k) (bytes_in (take k (drop i (stack_of s n)))))
 
@@ -149,7 +149,7 @@ read_exact false (Some r) None f a h = refl
 read_exact false None (Some v) f a h = refl
 read_exact false (Some r) (Some v) f a h = h
 
-place_exact : (x : Bool) (o : Option Place) (u : Option Reason) (bad : Place → Option Reason) (read : Place → Option Value) (f : Value → State) (a d : Reason) → ((pl : Place) → is_some (bad pl) ≡ is_none (read pl)) → u ≡ option_and_then bad o → is_some (first_of (reason_if x a ∷ None ∷ None ∷ reason_if (is_none o) d ∷ None ∷ u ∷ None ∷ None ∷ [])) ≡ is_none (option_and_then (λ pl. option_and_then (λ v. cond x None (Some (f v))) (read pl)) o)
+place_exact : (x : Bool) (o : Option Location) (u : Option Reason) (bad : Location → Option Reason) (read : Location → Option Value) (f : Value → State) (a d : Reason) → ((pl : Location) → is_some (bad pl) ≡ is_none (read pl)) → u ≡ option_and_then bad o → is_some (first_of (reason_if x a ∷ None ∷ None ∷ reason_if (is_none o) d ∷ None ∷ u ∷ None ∷ None ∷ [])) ≡ is_none (option_and_then (λ pl. option_and_then (λ v. cond x None (Some (f v))) (read pl)) o)
 place_exact true None u bad read f a d h e = refl
 place_exact false None u bad read f a d h e = refl
 place_exact x (Some pl) u bad read f a d h e = subst (λ u. is_some (first_of (reason_if x a ∷ None ∷ None ∷ None ∷ None ∷ u ∷ None ∷ None ∷ [])) ≡ is_none (option_and_then (λ v. cond x None (Some (f v))) (read pl))) (sym e) (read_exact x (bad pl) (read pl) f a (h pl))
@@ -158,19 +158,19 @@ place_exact x (Some pl) u bad read f a d h e = subst (λ u. is_some (first_of (r
 load_reasons : Bool → Option Value → Bool → Option Reason → Option Reason
 load_reasons x base out u = first_of (reason_if x FramePointerWrite ∷ reason_if (is_none base || false) UnsetRegister ∷ reason_if (not (is_pointer base)) OperandKind ∷ reason_if out OutOfBounds ∷ None ∷ u ∷ None ∷ None ∷ [])
 
-base_exact : (s : State) (k : ℕ) (off : ℤ) (x : Bool) (base : Option Value) (u : Option Reason) (bad : Place → Option Reason) (read : Place → Option Value) (f : Value → State) → ((pl : Place) → is_some (bad pl) ≡ is_none (read pl)) → u ≡ option_and_then bad (option_and_then (place_of s k off) base) → is_some (load_reasons x base (is_none (option_and_then (place_of s k off) base)) u) ≡ is_none (option_and_then (λ b. option_and_then (λ pl. option_and_then (λ v. cond x None (Some (f v))) (read pl)) (place_of s k off b)) base)
+base_exact : (s : State) (k : ℕ) (off : ℤ) (x : Bool) (base : Option Value) (u : Option Reason) (bad : Location → Option Reason) (read : Location → Option Value) (f : Value → State) → ((pl : Location) → is_some (bad pl) ≡ is_none (read pl)) → u ≡ option_and_then bad (option_and_then (location_of s k off) base) → is_some (load_reasons x base (is_none (option_and_then (location_of s k off) base)) u) ≡ is_none (option_and_then (λ b. option_and_then (λ pl. option_and_then (λ v. cond x None (Some (f v))) (read pl)) (location_of s k off b)) base)
 unfolding load_reasons
 base_exact s k off true None u bad read f h e = refl
 base_exact s k off false None u bad read f h e = refl
 base_exact s k off true (Some (Number n)) u bad read f h e = refl
 base_exact s k off false (Some (Number n)) u bad read f h e = refl
-base_exact s k off x (Some (Pointer region at)) u bad read f h e = place_exact x (place_of s k off (Pointer region at)) u bad read f FramePointerWrite OutOfBounds h e
+base_exact s k off x (Some (Pointer region at)) u bad read f h e = place_exact x (location_of s k off (Pointer region at)) u bad read f FramePointerWrite OutOfBounds h e
 
 -- what can't be loaded: a whole slot may hold a pointer
-bad_whole : State → Place → Option Reason
+bad_whole : State → Location → Option Reason
 bad_whole s pl = cond (not (is_some (pointer_at s pl))) (unreadable_at s 8 pl) None
 
-bad_whole_exact : (order : Order) (s : State) (pl : Place) → is_some (bad_whole s pl) ≡ is_none (load order s DW pl)
+bad_whole_exact : (order : Order) (s : State) (pl : Location) → is_some (bad_whole s pl) ≡ is_none (load order s DW pl)
 unfolding bad_whole
 bad_whole_exact order s pl = by (pointer_at s pl) (unreadable_at s 8 pl) (number_at order s 8 pl) (number_exact_at order s 8 pl)
   where
@@ -179,14 +179,14 @@ bad_whole_exact order s pl = by (pointer_at s pl) (unreadable_at s 8 pl) (number
     by None r (Some n) h = h
     by (Some v) r n h = refl
 
-whole_reason : (s : State) (o : Option Place) → cond (not (is_some (option_and_then (pointer_at s) o))) (option_and_then (unreadable_at s 8) o) None ≡ option_and_then (bad_whole s) o
+whole_reason : (s : State) (o : Option Location) → cond (not (is_some (option_and_then (pointer_at s) o))) (option_and_then (unreadable_at s 8) o) None ≡ option_and_then (bad_whole s) o
 unfolding bad_whole
 whole_reason s None = refl
 whole_reason s (Some pl) = refl
 
 load_exact : (order : Order) (s : State) (size : Size) (dst src : Reg) (off : ℤ) → is_some (reason_at s (Load size dst src off)) ≡ is_none (does order (Load size dst src off) s)
 unfolding reason_at does load_reasons
-load_exact order s DW dst src off = base_exact s 8 off (register_number dst == 10) (register s src) _ (bad_whole s) (load order s DW) (λ v. with_register (next (Load DW dst src off) s) (register_number dst) (Some v)) (bad_whole_exact order s) (whole_reason s (option_and_then (place_of s 8 off) (register s src)))
+load_exact order s DW dst src off = base_exact s 8 off (register_number dst == 10) (register s src) _ (bad_whole s) (load order s DW) (λ v. with_register (next (Load DW dst src off) s) (register_number dst) (Some v)) (bad_whole_exact order s) (whole_reason s (option_and_then (location_of s 8 off) (register s src)))
 load_exact order s size dst src off = base_exact s (byte_count size) off (register_number dst == 10) (register s src) _ (unreadable_at s (byte_count size)) (load order s size) (λ v. with_register (next (Load size dst src off) s) (register_number dst) (Some v)) (λ pl. number_exact_at order s (byte_count size) pl ∙ sym (mapped_none Number (number_at order s (byte_count size) pl))) refl
 
 load_sx_exact : (order : Order) (s : State) (size : Size) (dst src : Reg) (off : ℤ) → is_some (reason_at s (LoadSx size dst src off)) ≡ is_none (does order (LoadSx size dst src off) s)
@@ -198,16 +198,16 @@ aligned_alike : (z : ℤ) (i : ℕ) → z +ℤ pos frame_bytes ≡ pos i → mod
 aligned_alike (pos n) i e = omega (arith, ints)
 aligned_alike (negsuc n) i e = omega (arith, ints)
 
-store_reasons : Bool → Bool → Option Place → Option Reason
+store_reasons : Bool → Bool → Option Location → Option Reason
 store_reasons y z o = first_of (None ∷ reason_if y UnsetRegister ∷ reason_if z OperandKind ∷ reason_if (is_none o) OutOfBounds ∷ reason_if (option_map_or is_in_context o false) ContextWrite ∷ None ∷ None ∷ None ∷ [])
 
-number_store_exact : (order : Order) (k x : ℕ) (s : State) (o : Option Place) → is_some (store_reasons false false o) ≡ is_none (option_and_then (λ pl. store_number order k x pl s) o)
+number_store_exact : (order : Order) (k x : ℕ) (s : State) (o : Option Location) → is_some (store_reasons false false o) ≡ is_none (option_and_then (λ pl. store_number order k x pl s) o)
 unfolding store_reasons store_number
 number_store_exact order k x s None = refl
 number_store_exact order k x s (Some (InContext i)) = refl
 number_store_exact order k x s (Some (InFrame n i)) = refl
 
-none_of : (o : Option Place) → true ≡ is_none (option_and_then {U = State} (λ pl. None) o)
+none_of : (o : Option Location) → true ≡ is_none (option_and_then {U = State} (λ pl. None) o)
 none_of None = refl
 none_of (Some pl) = refl
 
@@ -217,7 +217,7 @@ opposite true false t a e = absurd (false≢true (sym e))
 opposite false true t a e = absurd (false≢true e)
 opposite false false t a e = refl
 
-pointer_store_exact : (region : Region) (off : ℤ) (s : State) (b : Bool) (o : Option Place) → ((n i : ℕ) → o ≡ Some (InFrame n i) → b ≡ (i % 8 == 0)) → is_some (store_reasons false (not b) o) ≡ is_none (option_and_then (λ pl. store_pointer region off pl s) o)
+pointer_store_exact : (region : Region) (off : ℤ) (s : State) (b : Bool) (o : Option Location) → ((n i : ℕ) → o ≡ Some (InFrame n i) → b ≡ (i % 8 == 0)) → is_some (store_reasons false (not b) o) ≡ is_none (option_and_then (λ pl. store_pointer region off pl s) o)
 unfolding store_reasons store_pointer
 pointer_store_exact region off s true None h = refl
 pointer_store_exact region off s false None h = refl
@@ -225,11 +225,11 @@ pointer_store_exact region off s true (Some (InContext i)) h = refl
 pointer_store_exact region off s false (Some (InContext i)) h = refl
 pointer_store_exact region off s b (Some (InFrame n i)) h = opposite b (i % 8 == 0) _ OperandKind (h n i refl)
 
-index_of : Place → ℕ
+index_of : Location → ℕ
 index_of (InContext i) = i
 index_of (InFrame n i) = i
 
-aligned_place : (s : State) (region : Region) (at off : ℤ) (n i : ℕ) → place_of s 8 off (Pointer region at) ≡ Some (InFrame n i) → (modulo (at +ℤ off) 8 == 0) ≡ (i % 8 == 0)
+aligned_place : (s : State) (region : Region) (at off : ℤ) (n i : ℕ) → location_of s 8 off (Pointer region at) ≡ Some (InFrame n i) → (modulo (at +ℤ off) 8 == 0) ≡ (i % 8 == 0)
 unfolding index_of
 aligned_place s Context at off n i e =
     let h = option_map_some InContext (inside 8 (length s.context) (at +ℤ off)) (InFrame n i) e in
@@ -240,25 +240,25 @@ aligned_place s (FrameAt m) at off n i e =
     let g = inside_is 8 frame_bytes ((at +ℤ off) +ℤ pos frame_bytes) h.0 h.1 in
     ap (λ x. x == 0) (aligned_alike (at +ℤ off) h.0 g.0 ∙ ap (λ x. x % 8) (ap index_of h.2))
 
-store_values : (order : Order) (size : Size) (off : ℤ) (s s' : State) (d v : Option Value) → is_some (store_reasons (is_none d || (is_none v || false)) (not (is_pointer d) || (is_pointer v && not (is_whole_slot size off d))) (option_and_then (place_of s (byte_count size) off) d)) ≡ is_none (option_and_then (λ base. option_and_then (λ value. option_and_then (λ pl. store order size value pl s') (place_of s (byte_count size) off base)) v) d)
+store_values : (order : Order) (size : Size) (off : ℤ) (s s' : State) (d v : Option Value) → is_some (store_reasons (is_none d || (is_none v || false)) (not (is_pointer d) || (is_pointer v && not (is_whole_slot size off d))) (option_and_then (location_of s (byte_count size) off) d)) ≡ is_none (option_and_then (λ base. option_and_then (λ value. option_and_then (λ pl. store order size value pl s') (location_of s (byte_count size) off base)) v) d)
 unfolding store_reasons
 store_values order size off s s' None v = refl
 store_values order size off s s' (Some (Number n)) None = refl
 store_values order size off s s' (Some (Number n)) (Some v) = refl
 store_values order size off s s' (Some (Pointer region at)) None = refl
-store_values order size off s s' (Some (Pointer region at)) (Some (Number x)) = number_store_exact order (byte_count size) x s' (place_of s (byte_count size) off (Pointer region at))
-store_values order DW off s s' (Some (Pointer region at)) (Some (Pointer region' off')) = pointer_store_exact region' off' s' (modulo (at +ℤ off) 8 == 0) (place_of s 8 off (Pointer region at)) (aligned_place s region at off)
-store_values order size off s s' (Some (Pointer region at)) (Some (Pointer region' off')) = none_of (place_of s (byte_count size) off (Pointer region at))
+store_values order size off s s' (Some (Pointer region at)) (Some (Number x)) = number_store_exact order (byte_count size) x s' (location_of s (byte_count size) off (Pointer region at))
+store_values order DW off s s' (Some (Pointer region at)) (Some (Pointer region' off')) = pointer_store_exact region' off' s' (modulo (at +ℤ off) 8 == 0) (location_of s 8 off (Pointer region at)) (aligned_place s region at off)
+store_values order size off s s' (Some (Pointer region at)) (Some (Pointer region' off')) = none_of (location_of s (byte_count size) off (Pointer region at))
 
 store_exact : (order : Order) (s : State) (size : Size) (dst : Reg) (off : ℤ) (src : Reg) → is_some (reason_at s (Store size dst off src)) ≡ is_none (does order (Store size dst off src) s)
 unfolding reason_at does store_reasons
 store_exact order s size dst off src = store_values order size off s (next (Store size dst off src) s) (register s dst) (register s src)
 
-imm_values : (order : Order) (k x : ℕ) (off : ℤ) (s s' : State) (d : Option Value) → is_some (store_reasons (is_none d || false) (not (is_pointer d)) (option_and_then (place_of s k off) d)) ≡ is_none (option_and_then (λ base. option_and_then (λ pl. store_number order k x pl s') (place_of s k off base)) d)
+imm_values : (order : Order) (k x : ℕ) (off : ℤ) (s s' : State) (d : Option Value) → is_some (store_reasons (is_none d || false) (not (is_pointer d)) (option_and_then (location_of s k off) d)) ≡ is_none (option_and_then (λ base. option_and_then (λ pl. store_number order k x pl s') (location_of s k off base)) d)
 unfolding store_reasons
 imm_values order k x off s s' None = refl
 imm_values order k x off s s' (Some (Number n)) = refl
-imm_values order k x off s s' (Some (Pointer region at)) = number_store_exact order k x s' (place_of s k off (Pointer region at))
+imm_values order k x off s s' (Some (Pointer region at)) = number_store_exact order k x s' (location_of s k off (Pointer region at))
 
 store_imm_exact : (order : Order) (s : State) (size : Size) (dst : Reg) (off imm : ℤ) → is_some (reason_at s (StoreImm size dst off imm)) ≡ is_none (does order (StoreImm size dst off imm) s)
 unfolding reason_at does store_reasons
@@ -274,7 +274,7 @@ fetched_exact (Some r) old s = by (register_number r == 10) _
     by true t = refl
     by false t = refl
 
-atomic_reasons : Bool → Bool → Bool → Option Place → Option Reason → Option Reason
+atomic_reasons : Bool → Bool → Bool → Option Location → Option Reason → Option Reason
 atomic_reasons x y z o u = first_of (reason_if x FramePointerWrite ∷ reason_if y UnsetRegister ∷ reason_if z OperandKind ∷ reason_if (is_none o) OutOfBounds ∷ reason_if (option_map_or is_in_context o false) ContextWrite ∷ u ∷ None ∷ None ∷ [])
 
 atomic_read : (x : Bool) (r : Option Reason) (n : Option ℕ) (g : ℕ → Option State) (a : Reason) → ((m : ℕ) → is_none (g m) ≡ x) → is_some r ≡ is_none n → is_some (first_of (reason_if x a ∷ None ∷ None ∷ None ∷ None ∷ r ∷ None ∷ None ∷ [])) ≡ is_none (option_and_then g n)
@@ -285,7 +285,7 @@ atomic_read false (Some r) None g a hg h = refl
 atomic_read false None (Some m) g a hg h = sym (hg m)
 atomic_read false (Some r) (Some m) g a hg h = absurd (false≢true (sym h))
 
-atomic_place : (order : Order) (s s' : State) (k : ℕ) (fr : Option Reg) (res : ℕ → ℕ) (x : Bool) (o : Option Place) → x ≡ option_map_or is_frame_pointer fr false → is_some (atomic_reasons x false false o (option_and_then (unreadable_at s k) o)) ≡ is_none (option_and_then (λ pl. option_and_then (λ old. option_and_then (λ after. fetched fr old after) (store_number order k (res old) pl s')) (number_at order s k pl)) o)
+atomic_place : (order : Order) (s s' : State) (k : ℕ) (fr : Option Reg) (res : ℕ → ℕ) (x : Bool) (o : Option Location) → x ≡ option_map_or is_frame_pointer fr false → is_some (atomic_reasons x false false o (option_and_then (unreadable_at s k) o)) ≡ is_none (option_and_then (λ pl. option_and_then (λ old. option_and_then (λ after. fetched fr old after) (store_number order k (res old) pl s')) (number_at order s k pl)) o)
 unfolding atomic_reasons store_number
 atomic_place order s s' k fr res true None hx = refl
 atomic_place order s s' k fr res false None hx = refl
@@ -294,8 +294,8 @@ atomic_place order s s' k fr res false (Some (InContext i)) hx = refl
 atomic_place order s s' k fr res x (Some (InFrame n i)) hx = atomic_read x _ (number_at order s k (InFrame n i)) _ FramePointerWrite (λ m. fetched_exact fr m _ ∙ sym hx) (number_exact_at order s k (InFrame n i))
 
 -- no r0 is read
-atomic_plain : (order : Order) (off : ℤ) (s s' : State) (k : ℕ) (fr : Option Reg) (res : ℕ → ℕ → ℕ) (x : Bool) (d v : Option Value) → x ≡ option_map_or is_frame_pointer fr false → is_some (atomic_reasons x (is_none d || (is_none v || false)) (not (is_pointer d) || (is_pointer v || false)) (option_and_then (place_of s k off) d) (option_and_then (unreadable_at s k) (option_and_then (place_of s k off) d)))
-    ≡ is_none (option_and_then (λ base. option_and_then (λ n. option_and_then (λ pl. option_and_then (λ old. option_and_then (λ after. fetched fr old after) (store_number order k (res n old) pl s')) (number_at order s k pl)) (place_of s k off base)) (option_and_then number_in v)) d)
+atomic_plain : (order : Order) (off : ℤ) (s s' : State) (k : ℕ) (fr : Option Reg) (res : ℕ → ℕ → ℕ) (x : Bool) (d v : Option Value) → x ≡ option_map_or is_frame_pointer fr false → is_some (atomic_reasons x (is_none d || (is_none v || false)) (not (is_pointer d) || (is_pointer v || false)) (option_and_then (location_of s k off) d) (option_and_then (unreadable_at s k) (option_and_then (location_of s k off) d)))
+    ≡ is_none (option_and_then (λ base. option_and_then (λ n. option_and_then (λ pl. option_and_then (λ old. option_and_then (λ after. fetched fr old after) (store_number order k (res n old) pl s')) (number_at order s k pl)) (location_of s k off base)) (option_and_then number_in v)) d)
 unfolding atomic_reasons
 atomic_plain order off s s' k fr res true None v hx = refl
 atomic_plain order off s s' k fr res false None v hx = refl
@@ -309,9 +309,9 @@ atomic_plain order off s s' k fr res true (Some (Pointer region at)) None hx = r
 atomic_plain order off s s' k fr res false (Some (Pointer region at)) None hx = refl
 atomic_plain order off s s' k fr res true (Some (Pointer region at)) (Some (Pointer region' at')) hx = refl
 atomic_plain order off s s' k fr res false (Some (Pointer region at)) (Some (Pointer region' at')) hx = refl
-atomic_plain order off s s' k fr res x (Some (Pointer region at)) (Some (Number m)) hx = atomic_place order s s' k fr (res m) x (place_of s k off (Pointer region at)) hx
+atomic_plain order off s s' k fr res x (Some (Pointer region at)) (Some (Number m)) hx = atomic_place order s s' k fr (res m) x (location_of s k off (Pointer region at)) hx
 
-none_deep : (o : Option Place) (n : Place → Option ℕ) → true ≡ is_none (option_and_then {U = State} (λ pl. option_and_then (λ old. None) (n pl)) o)
+none_deep : (o : Option Location) (n : Location → Option ℕ) → true ≡ is_none (option_and_then {U = State} (λ pl. option_and_then (λ old. None) (n pl)) o)
 none_deep None n = refl
 none_deep (Some pl) n = by (n pl)
   where
@@ -320,8 +320,8 @@ none_deep (Some pl) n = by (n pl)
     by (Some m) = refl
 
 -- r0 is compared
-atomic_compare : (order : Order) (off : ℤ) (s s' : State) (size : Size) (d v r : Option Value) → is_some (atomic_reasons false (is_none d || (is_none v || (is_none r || false))) (not (is_pointer d) || (is_pointer v || (is_pointer r || false))) (option_and_then (place_of s (byte_count size) off) d) (option_and_then (unreadable_at s (byte_count size)) (option_and_then (place_of s (byte_count size) off) d)))
-    ≡ is_none (option_and_then (λ base. option_and_then (λ n. option_and_then (λ pl. option_and_then (λ old. option_and_then (λ new. option_and_then (λ after. fetched (Some R0) old after) (store_number order (byte_count size) new pl s')) (atomic_result CmpXchg size old n (option_and_then number_in r))) (number_at order s (byte_count size) pl)) (place_of s (byte_count size) off base)) (option_and_then number_in v)) d)
+atomic_compare : (order : Order) (off : ℤ) (s s' : State) (size : Size) (d v r : Option Value) → is_some (atomic_reasons false (is_none d || (is_none v || (is_none r || false))) (not (is_pointer d) || (is_pointer v || (is_pointer r || false))) (option_and_then (location_of s (byte_count size) off) d) (option_and_then (unreadable_at s (byte_count size)) (option_and_then (location_of s (byte_count size) off) d)))
+    ≡ is_none (option_and_then (λ base. option_and_then (λ n. option_and_then (λ pl. option_and_then (λ old. option_and_then (λ new. option_and_then (λ after. fetched (Some R0) old after) (store_number order (byte_count size) new pl s')) (atomic_result CmpXchg size old n (option_and_then number_in r))) (number_at order s (byte_count size) pl)) (location_of s (byte_count size) off base)) (option_and_then number_in v)) d)
 unfolding atomic_reasons
 atomic_compare order off s s' size None v r = refl
 atomic_compare order off s s' size (Some (Number n)) None None = refl
@@ -339,9 +339,9 @@ atomic_compare order off s s' size (Some (Pointer region at)) None (Some (Pointe
 atomic_compare order off s s' size (Some (Pointer region at)) (Some (Pointer region' at')) None = refl
 atomic_compare order off s s' size (Some (Pointer region at)) (Some (Pointer region' at')) (Some (Number e)) = refl
 atomic_compare order off s s' size (Some (Pointer region at)) (Some (Pointer region' at')) (Some (Pointer region'' at'')) = refl
-atomic_compare order off s s' size (Some (Pointer region at)) (Some (Number m)) None = none_deep (place_of s (byte_count size) off (Pointer region at)) (number_at order s (byte_count size))
-atomic_compare order off s s' size (Some (Pointer region at)) (Some (Number m)) (Some (Pointer region'' at'')) = none_deep (place_of s (byte_count size) off (Pointer region at)) (number_at order s (byte_count size))
-atomic_compare order off s s' size (Some (Pointer region at)) (Some (Number m)) (Some (Number e)) = atomic_place order s s' (byte_count size) (Some R0) (λ old. cond (old == e % 256 ^ byte_count size) m old) false (place_of s (byte_count size) off (Pointer region at)) refl
+atomic_compare order off s s' size (Some (Pointer region at)) (Some (Number m)) None = none_deep (location_of s (byte_count size) off (Pointer region at)) (number_at order s (byte_count size))
+atomic_compare order off s s' size (Some (Pointer region at)) (Some (Number m)) (Some (Pointer region'' at'')) = none_deep (location_of s (byte_count size) off (Pointer region at)) (number_at order s (byte_count size))
+atomic_compare order off s s' size (Some (Pointer region at)) (Some (Number m)) (Some (Number e)) = atomic_place order s s' (byte_count size) (Some R0) (λ old. cond (old == e % 256 ^ byte_count size) m old) false (location_of s (byte_count size) off (Pointer region at)) refl
 
 atomic_exact : (order : Order) (s : State) (wide : Bool) (op : AtomicOp) (dst : Reg) (off : ℤ) (src : Reg) → is_some (reason_at s (Atomic wide op dst off src)) ≡ is_none (does order (Atomic wide op dst off src) s)
 unfolding reason_at does atomic_reasons

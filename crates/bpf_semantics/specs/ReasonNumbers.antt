@@ -1,7 +1,7 @@
 -- The number of each reason, from 1 to 9.
 use Rattle.std.specs.Prelude.{ℕ}
-use Rattle.bpf_semantics.specs.declared.state.Reason.{Reason}
-use Rattle.bpf_semantics.specs.declared.state.Reason.TheVariants.{UnsetRegister, UnsetByte, OutOfBounds, ContextWrite, FramePointerWrite, OperandKind, TooManyFrames, PastEnd, PointerResult}
+use Rattle.bpf_semantics.specs.declared.reason.Reason.{Reason}
+use Rattle.bpf_semantics.specs.declared.reason.Reason.TheVariants.{UnsetRegister, UnsetByte, OutOfBounds, ContextWrite, FramePointerWrite, OperandKind, TooManyFrames, PastEnd, PointerResult}
 
 abbrev pub reason_number : Reason → ℕ
 reason_number UnsetRegister = 1

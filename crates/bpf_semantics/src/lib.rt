@@ -4,8 +4,9 @@
 mod flat_laws;
 mod machine_laws;
 mod numbers;
-pub mod state;
+pub mod reason;
 mod targets;
+pub mod value;
 
 pub use flat_laws::{flat_finishes, flat_follows, flat_reads_only, flat_writes_only};
 pub use machine_laws::{
@@ -13,5 +14,6 @@ pub use machine_laws::{
     step_keeps_context, step_keeps_slots, step_keeps_states, steps_are_computed, stuck_has_reason,
 };
 pub use numbers::{atomic_result, sign_extend_from};
-pub use state::{Reason, Region, Value};
+pub use reason::Reason;
 pub use targets::target_of;
+pub use value::{Region, Value};

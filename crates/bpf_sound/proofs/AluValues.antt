@@ -8,17 +8,17 @@ use Rattle.bpf_insn.specs.declared.instruction.Width.{Width}
 use Rattle.bpf_insn.specs.declared.instruction.Width.TheVariants.{W32, W64}
 use Rattle.bpf_insn.specs.declared.instruction.AluOp.{AluOp}
 use Rattle.bpf_insn.specs.declared.instruction.AluOp.TheVariants.{Add, Sub, Mov}
-use Rattle.bpf_semantics.specs.declared.state.Value.{Value}
-use Rattle.bpf_semantics.specs.declared.state.Value.TheVariants.{Number as NumberValue, Pointer as PointerValue}
-use Rattle.bpf_semantics.specs.declared.state.Region.{Region}
+use Rattle.bpf_semantics.specs.declared.value.Value.{Value}
+use Rattle.bpf_semantics.specs.declared.value.Value.TheVariants.{Number as NumberValue, Pointer as PointerValue}
+use Rattle.bpf_semantics.specs.declared.value.Region.{Region}
 use Rattle.bpf_insn.specs.Arithmetic.{alu, modulo}
 use Rattle.bpf_semantics.specs.Step.{alu_result}
 use Rattle.bpf_num.specs.Number.{Number, IsNumber}
 use Rattle.bpf_num.specs.Laws.{Holds, AluKeeps, TightenKeeps}
 use Rattle.bpf_num.specs.Operation.{num_alu}
-use Rattle.bpf_state.specs.declared.state.RegState.{RegState}
-use Rattle.bpf_state.specs.declared.state.RegState.TheVariants.{Num, Ptr}
-use Rattle.bpf_state.specs.declared.state.Pointer.{Pointer}
+use Rattle.bpf_state.specs.declared.known.RegState.{RegState}
+use Rattle.bpf_state.specs.declared.known.RegState.TheVariants.{Num, Ptr}
+use Rattle.bpf_state.specs.declared.known.Pointer.{Pointer}
 use Rattle.bpf_state.specs.State.{same_area}
 use Rattle.bpf_state.specs.Fault.{alu_of_kinds, difference, leaves_bounds, some_passes}
 use Rattle.bpf_sound.specs.Describes.{DescribesRegister, PointsInto, region_of}

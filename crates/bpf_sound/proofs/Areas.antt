@@ -1,14 +1,14 @@
 -- What a pointer of an abstract state points into.
 use Rattle.std.proofs.Common.{◌≡◌, ℕ, ℤ, refl, subst, true}
 use Rattle.std.proofs.lemmas.Bool.{false≢true, eq-eqb}
-use Rattle.bpf_semantics.specs.declared.state.Region.{Region}
-use Rattle.bpf_semantics.specs.declared.state.Region.TheVariants.{Context as TheContext, Frame as FrameAt}
+use Rattle.bpf_semantics.specs.declared.value.Region.{Region}
+use Rattle.bpf_semantics.specs.declared.value.Region.TheVariants.{Context as TheContext, Frame as FrameAt}
 use Rattle.bpf_semantics.specs.Step.{same_region}
-use Rattle.bpf_state.specs.declared.state.RegState.{RegState}
-use Rattle.bpf_state.specs.declared.state.RegState.TheVariants.{Ptr}
-use Rattle.bpf_state.specs.declared.state.Area.{Area}
-use Rattle.bpf_state.specs.declared.state.Area.TheVariants.{Context, Frame}
-use Rattle.bpf_state.specs.declared.state.Pointer.{Pointer}
+use Rattle.bpf_state.specs.declared.known.RegState.{RegState}
+use Rattle.bpf_state.specs.declared.known.RegState.TheVariants.{Ptr}
+use Rattle.bpf_state.specs.declared.known.Area.{Area}
+use Rattle.bpf_state.specs.declared.known.Area.TheVariants.{Context, Frame}
+use Rattle.bpf_state.specs.declared.known.Pointer.{Pointer}
 use Rattle.bpf_state.specs.State.{same_area}
 use Rattle.bpf_sound.specs.Describes.{region_of}
 

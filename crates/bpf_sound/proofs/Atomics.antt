@@ -5,8 +5,8 @@ use Rattle.std.specs.Option.{option_map_or}
 use Rattle.std.proofs.lemmas.Bool.{false≢true, or_parts, not-false}
 use Rattle.std.proofs.lemmas.Option.{same_Some}
 use Rattle.bpf_insn.specs.declared.order.Order.{Order}
-use Rattle.bpf_semantics.specs.declared.state.Value.{Value}
-use Rattle.bpf_semantics.specs.declared.state.Value.TheVariants.{Number as NumberValue}
+use Rattle.bpf_semantics.specs.declared.value.Value.{Value}
+use Rattle.bpf_semantics.specs.declared.value.Value.TheVariants.{Number as NumberValue}
 use Rattle.bpf_insn.specs.declared.instruction.Reg.{Reg}
 use Rattle.bpf_insn.specs.declared.instruction.Reg.TheVariants.{R0}
 use Rattle.bpf_insn.specs.declared.instruction.AtomicOp.{AtomicOp}
@@ -22,11 +22,11 @@ use Rattle.bpf_semantics.specs.Stuck.{reason_at, unreadable_at}
 use Rattle.bpf_insn.specs.Effects.{Access, is_frame_pointer}
 use Rattle.bpf_semantics.specs.State as machine
 use Rattle.bpf_semantics.specs.State.{Cell, IsFrame, number_in}
-use Rattle.bpf_semantics.specs.Memory.{Place, with_bytes, store_number}
-use Rattle.bpf_semantics.specs.Memory.Place.{InFrame}
+use Rattle.bpf_semantics.specs.Memory.{Location, with_bytes, store_number}
+use Rattle.bpf_semantics.specs.Memory.Location.{InFrame}
 use Rattle.bpf_num.specs.Laws.{TightenKeeps}
-use Rattle.bpf_state.specs.declared.state.RegState.{RegState}
-use Rattle.bpf_state.specs.declared.state.RegState.TheVariants.{Any, Num, Ptr}
+use Rattle.bpf_state.specs.declared.known.RegState.{RegState}
+use Rattle.bpf_state.specs.declared.known.RegState.TheVariants.{Any, Num, Ptr}
 use Rattle.bpf_state.specs.State.{AbstractState, register, slot, put_register}
 use Rattle.bpf_state.specs.Access.{Span, span_from, any_slot, is_pointer_slot, are_known_bytes, touches, touched_bytes}
 use Rattle.bpf_state.specs.Fault.{have_right_kinds, reads_part, some_passes, is_number, is_pointer, atomic_kinds}
@@ -36,7 +36,7 @@ use Rattle.bpf_sound.specs.Laws.{Leads, IsJudged, IsAbstract, IsAbstractRegister
 use Rattle.bpf_sound.proofs.Judged.{NoFault, no_fault_is, step_is, leads_at, top_frame}
 use Rattle.bpf_sound.proofs.Registers.{reg_top, put_is, register_put}
 use Rattle.bpf_sound.proofs.ReadCells.{ReadBytes, no_slot}
-use Rattle.bpf_sound.proofs.ReadPlaces.{frame_bytes, bytes_there, bytes_readable}
+use Rattle.bpf_sound.proofs.ReadLocations.{frame_bytes, bytes_there, bytes_readable}
 use Rattle.bpf_sound.proofs.KnownNumbers.{Known, frame_known}
 use Rattle.bpf_sound.proofs.FrameStores.{InTop, in_top, store_top}
 use Rattle.bpf_sound.proofs.NumberStores.{at_top, touched_describes, touched_valid, is_slot_maybe_written, length-bytes_of, are_bytes_of}
@@ -97,7 +97,7 @@ module _ (m : machine.State) (wide : Bool) (op : AtomicOp) (dst src : Reg) (off 
       let n : ℕ = byte_count (word_size wide) in
       let old : ℕ = number_of order n r.bytes in
       let i : Insn = Atomic wide op dst off src in
-      let place : Place = InFrame (machine.depth m) t.first in
+      let place : Location = InFrame (machine.depth m) t.first in
       let goes : ℕ → ℕ → Option machine.State = λ old new. option_and_then (λ after. machine_fetched (fetch_register op src) old after) (store_number order n new place (next i m)) in
       rw (t.base, is, t.place)
       (ap (λ o. option_and_then (λ old. option_and_then (λ new. goes old new) (atomic_result op (word_size wide) old y (machine.number_of_register m R0))) (option_map (number_of order n) o)) (bytes_there m n t.first r)

@@ -5,9 +5,9 @@ use Rattle.std.proofs.lemmas.Int.{ints}
 use Rattle.std.proofs.lemmas.Nat.Bits.{bit_at-zero}
 use Rattle.std.proofs.lemmas.List.{get_or-drop, length-drop}
 use Rattle.std.proofs.lemmas.Option.{same_Some}
-use Rattle.bpf_semantics.specs.declared.state.Value.{Value}
-use Rattle.bpf_semantics.specs.declared.state.Value.TheVariants.{Number as NumberValue, Pointer as PointerValue}
-use Rattle.bpf_semantics.specs.declared.state.Region.TheVariants.{Frame as FrameAt}
+use Rattle.bpf_semantics.specs.declared.value.Value.{Value}
+use Rattle.bpf_semantics.specs.declared.value.Value.TheVariants.{Number as NumberValue, Pointer as PointerValue}
+use Rattle.bpf_semantics.specs.declared.value.Region.TheVariants.{Frame as FrameAt}
 use Rattle.bpf_insn.specs.declared.instruction.Reg.{Reg}
 use Rattle.bpf_insn.specs.declared.instruction.Reg.TheVariants.{R0, R1, R2, R3, R4, R5, R6, R7, R8, R9, R10}
 use Rattle.bpf_insn.specs.declared.instruction.Insn.TheVariants.{CallLocal, Exit}
@@ -18,11 +18,11 @@ use Rattle.bpf_semantics.specs.State.{IsFrame}
 use Rattle.bpf_semantics.specs.Step as step
 use Rattle.bpf_num.specs.Laws.{TightenKeeps}
 use Rattle.bpf_num.specs.Number.{Number, IsNumber, Has}
-use Rattle.bpf_state.specs.declared.state.RegState.{RegState}
-use Rattle.bpf_state.specs.declared.state.RegState.TheVariants.{Any, Num, Ptr}
-use Rattle.bpf_state.specs.declared.state.Area.TheVariants.{Frame}
-use Rattle.bpf_state.specs.declared.state.SlotState.TheVariants.{Bytes}
-use Rattle.bpf_state.specs.State.{AbstractState, entered, left, without_frame, each_without_frame, no_tags, start_of}
+use Rattle.bpf_state.specs.declared.known.RegState.{RegState}
+use Rattle.bpf_state.specs.declared.known.RegState.TheVariants.{Any, Num, Ptr}
+use Rattle.bpf_state.specs.declared.known.Area.TheVariants.{Frame}
+use Rattle.bpf_state.specs.declared.known.SlotState.TheVariants.{Bytes}
+use Rattle.bpf_state.specs.State.{AbstractState, callee_state, caller_state, without_frame, each_without_frame, no_tags, start_of}
 use Rattle.bpf_sound.specs.Describes.{Describes, DescribesRegister, DescribesSlot, TaggedRegister, TaggedSlot, LengthWithin, slot_cell}
 use Rattle.bpf_sound.specs.Laws.{EnterKeeps, LeaveKeeps, Leads, IsAbstract, IsAbstractRegister, IsAbstractSlot}
 use Rattle.bpf_sound.proofs.Areas.{by_area}
@@ -54,7 +54,7 @@ abbrev resumed : machine.State → ℕ → ℕ → List ℕ → machine.State
 resumed m v sl context = record { top = record { slot = sl; registers = Some (NumberValue v) ∷ drop 1 (step.saved m.top.registers); stack = m.top.stack }; waiting = m.waiting; context = context }
 
 -- what is known before a call, and of the number that is returned, describes the state after the call
-return_keeps : TightenKeeps → (p : Instructions) (least most : ℕ) (x : List ℕ) (returned : Number) (s : AbstractState) (m : machine.State) (v sl : ℕ) (context : List ℕ) → IsAbstract s → IsFrame m.top → Describes p.order least most x s m → LengthWithin least most context → IsNumber returned → Has returned v → Leads p least most x (left returned s) (resumed m v sl context)
+return_keeps : TightenKeeps → (p : Instructions) (least most : ℕ) (x : List ℕ) (returned : Number) (s : AbstractState) (m : machine.State) (v sl : ℕ) (context : List ℕ) → IsAbstract s → IsFrame m.top → Describes p.order least most x s m → LengthWithin least most context → IsNumber returned → Has returned v → Leads p least most x (caller_state returned s) (resumed m v sl context)
 return_keeps tightens p least most x returned s m v sl context valid frame d all ok has =
     let h = tightens returned v (ok, has) in
     let eleven = valid.eleven in
@@ -166,13 +166,13 @@ bytes_at_none zero j = refl
 bytes_at_none (suc n) zero = refl
 bytes_at_none (suc n) (suc j) = bytes_at_none n j
 
-enter_describes : (p : Instructions) (least most : ℕ) (x : List ℕ) (s : AbstractState) (m : machine.State) (sl : ℕ) → IsAbstract s → IsFrame m.top → Describes p.order least most x s m → Leads p least most x (Some (entered s)) (step.entered m sl)
+enter_describes : (p : Instructions) (least most : ℕ) (x : List ℕ) (s : AbstractState) (m : machine.State) (sl : ℕ) → IsAbstract s → IsFrame m.top → Describes p.order least most x s m → Leads p least most x (Some (callee_state s)) (step.entered m sl)
 enter_describes p least most x s m sl valid frame d =
     let f = five s.registers valid.eleven in
     let g = five m.top.registers frame.eleven in
     let v = enter_valid s.registers f valid.registers in
     record {
-      state = entered s;
+      state = callee_state s;
       is_there = refl;
       valid = record {
         eleven = v.0;
@@ -206,7 +206,7 @@ call_is p off m m' stands step = entered_is m m' (nat_lt (machine.depth m + 1) m
 pub enter_keeps : EnterKeeps
 enter_keeps p least most x off s m m' j goes =
     let e = call_is p off m m' j.stands goes in
-    leads_at p least most x (Some (entered s)) (step.entered m e.0) m' e.1 (enter_describes p least most x s m e.0 j.valid (top_frame m j.state) j.described)
+    leads_at p least most x (Some (callee_state s)) (step.entered m e.0) m' e.1 (enter_describes p least most x s m e.0 j.valid (top_frame m j.state) j.described)
 
 exit_is : (p : Instructions) (m m' : machine.State) (v : ℕ) → insn_at p.list m.top.slot ≡ Some Exit → machine.number_of_register m R0 ≡ Some v → Step p m m' → step.left m.waiting v m.context ≡ Some m'
 unfolding does
@@ -218,4 +218,4 @@ leave_keeps tightens p least most x off s m m1 m2 m3 returned v r =
     let back : machine.State = resumed m v (m.top.slot + 1) m2.context in
     let waiting : m2.waiting ≡ (step.entered m e.0).waiting = r.waits ∙ ap (λ n. n.waiting) (sym e.1) in
     let f : back ≡ m3 = same_Some back m3 (ap (λ w. step.left w v m2.context) (sym waiting) ∙ exit_is p m2 m3 v r.at_exit r.gives r.leaves) in
-    leads_at p least most x (left returned s) back m3 f (return_keeps tightens p least most x returned s m v (m.top.slot + 1) m2.context r.judged.valid (top_frame m r.judged.state) r.judged.described r.length_within r.is_number r.has)
+    leads_at p least most x (caller_state returned s) back m3 f (return_keeps tightens p least most x returned s m v (m.top.slot + 1) m2.context r.judged.valid (top_frame m r.judged.state) r.judged.described r.length_within r.is_number r.has)

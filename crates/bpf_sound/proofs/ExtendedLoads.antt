@@ -6,7 +6,7 @@ use Rattle.std.proofs.lemmas.Int.{ints}
 use Rattle.std.proofs.lemmas.Bool.{false≢true, or_parts, not-false}
 use mir.Val.{bits}
 use Rattle.bpf_insn.specs.declared.order.Order.{Order}
-use Rattle.bpf_semantics.specs.declared.state.Value.TheVariants.{Number as NumberValue}
+use Rattle.bpf_semantics.specs.declared.value.Value.TheVariants.{Number as NumberValue}
 use Rattle.bpf_insn.specs.declared.instruction.Reg.{Reg}
 use Rattle.bpf_insn.specs.declared.instruction.Size.{Size}
 use Rattle.bpf_insn.specs.declared.instruction.Size.TheVariants.{B, H, W, DW}
@@ -30,8 +30,8 @@ use Rattle.bpf_num.specs.Laws.{Holds, TightenKeeps}
 use Rattle.bpf_num.specs.Tristate.{bits_top}
 use Rattle.bpf_num.specs.Interval.{unsigned_top}
 use Rattle.bpf_num.specs.SignedInterval.{IsSignedInterval, SignedWithin, signed_of_width, signed_top}
-use Rattle.bpf_state.specs.declared.state.RegState.{RegState}
-use Rattle.bpf_state.specs.declared.state.RegState.TheVariants.{Any, Num, Ptr}
+use Rattle.bpf_state.specs.declared.known.RegState.{RegState}
+use Rattle.bpf_state.specs.declared.known.RegState.TheVariants.{Any, Num, Ptr}
 use Rattle.bpf_state.specs.State.{AbstractState, register, slot, put_register}
 use Rattle.bpf_state.specs.Access.{span_from, is_inside, is_pointer_slot, are_known_bytes, any_slot, touches, touched_bytes}
 use Rattle.bpf_state.specs.Fault.{reads_part, some_passes, is_pointer}
@@ -42,7 +42,7 @@ use Rattle.bpf_sound.proofs.Areas.{context_pointer, frame_pointer, by_area}
 use Rattle.bpf_sound.proofs.Judged.{NoFault, no_fault_is, not_protected}
 use Rattle.bpf_sound.proofs.Puts.{put_keeps}
 use Rattle.bpf_sound.proofs.ReadCells.{no_slot}
-use Rattle.bpf_sound.proofs.ReadPlaces.{Read, context_read, frame_read, frame_bytes}
+use Rattle.bpf_sound.proofs.ReadLocations.{Read, context_read, frame_read, frame_bytes}
 use Rattle.bpf_sound.proofs.KnownNumbers.{number_fits}
 use Rattle.bpf_sound.proofs.Loads.{load_access}
 use Rattle.bpf_sound.proofs.FrameStores.{InTop, in_top}

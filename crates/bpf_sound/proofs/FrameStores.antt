@@ -7,8 +7,8 @@ use Rattle.std.proofs.lemmas.Bool.Decides.{nat_tests}
 use Rattle.std.proofs.Math.Nat.{sub_self}
 use Rattle.std.proofs.lemmas.Option.{same_Some}
 use Rattle.bpf_insn.specs.declared.order.Order.{Order}
-use Rattle.bpf_semantics.specs.declared.state.Value.TheVariants.{Number as NumberValue, Pointer as PointerValue}
-use Rattle.bpf_semantics.specs.declared.state.Region.TheVariants.{Frame as FrameAt}
+use Rattle.bpf_semantics.specs.declared.value.Value.TheVariants.{Number as NumberValue, Pointer as PointerValue}
+use Rattle.bpf_semantics.specs.declared.value.Region.TheVariants.{Frame as FrameAt}
 use Rattle.bpf_insn.specs.declared.instruction.Reg.{Reg}
 use Rattle.bpf_insn.specs.declared.instruction.Size.{Size}
 use Rattle.bpf_insn.specs.declared.instruction.Size.TheVariants.{B, H, W, DW}
@@ -21,12 +21,12 @@ use Rattle.bpf_insn.specs.Effects.{Access}
 use Rattle.bpf_insn.specs.Order.{bytes_of}
 use Rattle.bpf_semantics.specs.State as machine
 use Rattle.bpf_semantics.specs.State.{Cell}
-use Rattle.bpf_semantics.specs.Memory.{with_bytes, store_number, place_of, stack_of, with_stack, inside}
-use Rattle.bpf_semantics.specs.Memory.Place.{InFrame}
+use Rattle.bpf_semantics.specs.Memory.{with_bytes, store_number, location_of, stack_of, with_stack, inside}
+use Rattle.bpf_semantics.specs.Memory.Location.{InFrame}
 use Rattle.bpf_num.specs.Number.{constant}
 use Rattle.bpf_num.specs.Laws.{ConstantHas}
-use Rattle.bpf_state.specs.declared.state.RegState.{RegState}
-use Rattle.bpf_state.specs.declared.state.RegState.TheVariants.{Any, Num, Ptr}
+use Rattle.bpf_state.specs.declared.known.RegState.{RegState}
+use Rattle.bpf_state.specs.declared.known.RegState.TheVariants.{Any, Num, Ptr}
 use Rattle.bpf_state.specs.Access.{span_from, is_inside, Span}
 use Rattle.bpf_state.specs.Fault.{some_passes, is_pointer}
 use Rattle.bpf_state.specs.Transfer.{after, stored}
@@ -57,7 +57,7 @@ pub record InTop (m : machine.State) (a : Access) (value : RegState) : Type 0 wh
   pub offset : ℤ
   pub base : machine.register m a.base ≡ Some (PointerValue (FrameAt (machine.depth m)) offset)
   pub first : ℕ
-  pub place : place_of m (byte_count a.size) a.offset (PointerValue (FrameAt (machine.depth m)) offset) ≡ Some (InFrame (machine.depth m) first)
+  pub place : location_of m (byte_count a.size) a.offset (PointerValue (FrameAt (machine.depth m)) offset) ≡ Some (InFrame (machine.depth m) first)
   pub at : (offset +ℤ a.offset) +ℤ pos 512 ≡ pos first
   pub count : span.count ≡ byte_count a.size
   pub lies : LiesAt span first

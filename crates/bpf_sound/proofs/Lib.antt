@@ -22,7 +22,7 @@ pub mod NumberStores
 pub mod FrameStores
 pub mod RegisterStores
 pub mod ReadCells
-pub mod ReadPlaces
+pub mod ReadLocations
 pub mod KnownNumbers
 pub mod Loads
 pub mod Calls

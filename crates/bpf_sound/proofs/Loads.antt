@@ -7,11 +7,11 @@ use Rattle.std.proofs.lemmas.Bool.{false≢true, or_parts, not-false}
 use Rattle.std.proofs.lemmas.Bool.Decides.{Decides-int_eq, Decides-eqb}
 use Rattle.std.proofs.lemmas.Option.{same_Some}
 use Rattle.bpf_insn.specs.declared.order.Order.{Order}
-use Rattle.bpf_semantics.specs.declared.state.Value.{Value}
-use Rattle.bpf_semantics.specs.declared.state.Value.TheVariants.{Number as NumberValue, Pointer as PointerValue}
-use Rattle.bpf_semantics.specs.declared.state.Region.{Region}
-use Rattle.bpf_semantics.specs.declared.state.Region.TheVariants.{Frame as FrameAt}
-use Rattle.bpf_semantics.specs.declared.state.Reason.{Reason}
+use Rattle.bpf_semantics.specs.declared.value.Value.{Value}
+use Rattle.bpf_semantics.specs.declared.value.Value.TheVariants.{Number as NumberValue, Pointer as PointerValue}
+use Rattle.bpf_semantics.specs.declared.value.Region.{Region}
+use Rattle.bpf_semantics.specs.declared.value.Region.TheVariants.{Frame as FrameAt}
+use Rattle.bpf_semantics.specs.declared.reason.Reason.{Reason}
 use Rattle.bpf_insn.specs.declared.instruction.Reg.{Reg}
 use Rattle.bpf_insn.specs.declared.instruction.Size.{Size}
 use Rattle.bpf_insn.specs.declared.instruction.Size.TheVariants.{B, H, W, DW}
@@ -23,14 +23,14 @@ use Rattle.bpf_semantics.specs.Stuck.{unreadable, unreadable_at, loads_pointer, 
 use Rattle.bpf_insn.specs.Effects.{Access}
 use Rattle.bpf_semantics.specs.State as machine
 use Rattle.bpf_semantics.specs.State.{Cell}
-use Rattle.bpf_semantics.specs.Memory.{Place, bytes_at, number_at, pointer_at, pointer_in, place_of}
-use Rattle.bpf_semantics.specs.Memory.Place.{InFrame}
+use Rattle.bpf_semantics.specs.Memory.{Location, bytes_at, number_at, pointer_at, pointer_in, location_of}
+use Rattle.bpf_semantics.specs.Memory.Location.{InFrame}
 use Rattle.bpf_num.specs.Laws.{TightenKeeps}
-use Rattle.bpf_state.specs.declared.state.RegState.{RegState}
-use Rattle.bpf_state.specs.declared.state.RegState.TheVariants.{Any, Num, Ptr}
-use Rattle.bpf_state.specs.declared.state.SlotState.{SlotState}
-use Rattle.bpf_state.specs.declared.state.SlotState.TheVariants.{Bytes, Word, Spilled}
-use Rattle.bpf_state.specs.declared.state.Tag.{Tag}
+use Rattle.bpf_state.specs.declared.known.RegState.{RegState}
+use Rattle.bpf_state.specs.declared.known.RegState.TheVariants.{Any, Num, Ptr}
+use Rattle.bpf_state.specs.declared.known.SlotState.{SlotState}
+use Rattle.bpf_state.specs.declared.known.SlotState.TheVariants.{Bytes, Word, Spilled}
+use Rattle.bpf_state.specs.declared.known.Tag.{Tag}
 use Rattle.bpf_state.specs.State.{AbstractState, register, slot, slot_tag, slot_value, put_register}
 use Rattle.bpf_state.specs.Access.{Span, span_from, span_of, is_inside, is_known, is_slot, slot_number, is_pointer_slot, are_known_bytes, any_slot, touches, touched_bytes}
 use Rattle.bpf_state.specs.Fault.{reads_part, some_passes, is_pointer}
@@ -41,7 +41,7 @@ use Rattle.bpf_sound.proofs.Areas.{context_pointer, frame_pointer, by_area}
 use Rattle.bpf_sound.proofs.Judged.{NoFault, no_fault_is, step_is, leads_at, top_frame}
 use Rattle.bpf_sound.proofs.Registers.{reg_top, put_is, register_put}
 use Rattle.bpf_sound.proofs.ReadCells.{no_slot}
-use Rattle.bpf_sound.proofs.ReadPlaces.{Read, context_read, frame_read, frame_bytes, only_slot, stack_here}
+use Rattle.bpf_sound.proofs.ReadLocations.{Read, context_read, frame_read, frame_bytes, only_slot, stack_here}
 use Rattle.bpf_sound.proofs.KnownNumbers.{Known, part_known, frame_known, number_fits, slot_value_valid}
 use Rattle.bpf_sound.proofs.RegisterStores.{size_of_eight}
 use Rattle.bpf_sound.proofs.FrameStores.{InTop, in_top}
@@ -54,7 +54,7 @@ load_access size src off = record { base = src; offset = off; size = size; reads
 
 -- ---- what the machine loads
 
-loads_number : (order : Order) (m : machine.State) (size : Size) (place : Place) (bytes : List ℕ) → bytes_at m (byte_count size) place ≡ Some bytes → pointer_at m place ≡ None → load order m size place ≡ Some (NumberValue (number_of order (byte_count size) bytes))
+loads_number : (order : Order) (m : machine.State) (size : Size) (place : Location) (bytes : List ℕ) → bytes_at m (byte_count size) place ≡ Some bytes → pointer_at m place ≡ None → load order m size place ≡ Some (NumberValue (number_of order (byte_count size) bytes))
 loads_number order m B place bytes e none = ap (λ o. option_map NumberValue (option_map (number_of order 1) o)) e
 loads_number order m H place bytes e none = ap (λ o. option_map NumberValue (option_map (number_of order 2) o)) e
 loads_number order m W place bytes e none = ap (λ o. option_map NumberValue (option_map (number_of order 4) o)) e
@@ -65,17 +65,17 @@ either_none true o e = e
 either_none false o e = refl
 
 -- bytes are readable
-place_readable : (m : machine.State) (size : Size) (dst src : Reg) (off : ℤ) (v : Value) (place : Place) → machine.register m src ≡ Some v → place_of m (byte_count size) off v ≡ Some place → unreadable_at m (byte_count size) place ≡ None → unreadable m (Load size dst src off) ≡ None
-place_readable m size dst src off v place base at ok = either_none (not (loads_pointer m (Load size dst src off))) (machine.register m src >>= place_of m (byte_count size) off >>= unreadable_at m (byte_count size)) (rw (base, at, ok))
+place_readable : (m : machine.State) (size : Size) (dst src : Reg) (off : ℤ) (v : Value) (place : Location) → machine.register m src ≡ Some v → location_of m (byte_count size) off v ≡ Some place → unreadable_at m (byte_count size) place ≡ None → unreadable m (Load size dst src off) ≡ None
+place_readable m size dst src off v place base at ok = either_none (not (loads_pointer m (Load size dst src off))) (machine.register m src >>= location_of m (byte_count size) off >>= unreadable_at m (byte_count size)) (rw (base, at, ok))
 
-pointer_readable : (m : machine.State) (dst src : Reg) (off : ℤ) (v v' : Value) (place : Place) → machine.register m src ≡ Some v → place_of m 8 off v ≡ Some place → pointer_at m place ≡ Some v' → unreadable m (Load DW dst src off) ≡ None
+pointer_readable : (m : machine.State) (dst src : Reg) (off : ℤ) (v v' : Value) (place : Location) → machine.register m src ≡ Some v → location_of m 8 off v ≡ Some place → pointer_at m place ≡ Some v' → unreadable m (Load DW dst src off) ≡ None
 pointer_readable m dst src off v v' place base at is = rw (base, at, is)
 
-load_has_none : (m : machine.State) (size : Size) (dst src : Reg) (off at : ℤ) (region : Region) (place : Place) → machine.register m src ≡ Some (PointerValue region at) → place_of m (byte_count size) off (PointerValue region at) ≡ Some place → unreadable m (Load size dst src off) ≡ None → (register_number dst == 10) ≡ false → reason_at m (Load size dst src off) ≡ None
+load_has_none : (m : machine.State) (size : Size) (dst src : Reg) (off at : ℤ) (region : Region) (place : Location) → machine.register m src ≡ Some (PointerValue region at) → location_of m (byte_count size) off (PointerValue region at) ≡ Some place → unreadable m (Load size dst src off) ≡ None → (register_number dst == 10) ≡ false → reason_at m (Load size dst src off) ≡ None
 unfolding reason_at
 load_has_none m size dst src off at region place base is ok other = rw (other, ok, base, is)
 
-does_load : (order : Order) (m : machine.State) (size : Size) (dst src : Reg) (off : ℤ) (v v' : Value) (place : Place) → machine.register m src ≡ Some v → place_of m (byte_count size) off v ≡ Some place → load order m size place ≡ Some v' → (register_number dst == 10) ≡ false → does order (Load size dst src off) m ≡ Some (reg_top m (m.top.slot + 1) dst v')
+does_load : (order : Order) (m : machine.State) (size : Size) (dst src : Reg) (off : ℤ) (v v' : Value) (place : Location) → machine.register m src ≡ Some v → location_of m (byte_count size) off v ≡ Some place → load order m size place ≡ Some v' → (register_number dst == 10) ≡ false → does order (Load size dst src off) m ≡ Some (reg_top m (m.top.slot + 1) dst v')
 unfolding does
 does_load order m size dst src off v v' place base at is other = rw (base, at, is) (put_is dst v' (m.top.slot + 1) m other)
 
@@ -84,11 +84,11 @@ does_load order m size dst src off v v' place base at is other = rw (base, at, i
 record Loaded (p : Instructions) (x : List ℕ) (s : AbstractState) (m : machine.State) (size : Size) (dst src : Reg) (off : ℤ) : Type 0 where
   pub region : Region
   pub offset : ℤ
-  pub place : Place
+  pub place : Location
   pub value : Value
   pub state : RegState
   pub base : machine.register m src ≡ Some (PointerValue region offset)
-  pub at : place_of m (byte_count size) off (PointerValue region offset) ≡ Some place
+  pub at : location_of m (byte_count size) off (PointerValue region offset) ≡ Some place
   pub loads : load p.order m size place ≡ Some value
   pub readable : unreadable m (Load size dst src off) ≡ None
   pub is_there : loaded s (span_of s (Load size dst src off)) size ≡ Some state
@@ -175,12 +175,12 @@ module _ (tightens : TightenKeeps) (p : Instructions) (least most : ℕ) (x : Li
         let even : t.first % 8 ≡ 0 = omega arith in
         let on = both_true t.lies.in_frame whole in
         let v : Value = PointerValue region sp.0 in
-        let place : Place = InFrame (machine.depth m) t.first in
+        let place : Location = InFrame (machine.depth m) t.first in
         let there : pointer_at m place ≡ Some v =
         ap (λ st. cond (t.first % 8 == 0) (pointer_in (get_or st t.first None)) None) (stack_here m)
         ∙ ap (λ b. cond b (pointer_in (get_or m.top.stack t.first None)) None) ((Decides-eqb (t.first % 8) 0).1 even)
         ∙ ap (λ n. pointer_in (get_or m.top.stack n None)) (omega arith) ∙ ap pointer_in (sp.1 0 (omega arith)) in
-        let at8 = subst (λ sz. place_of m (byte_count sz) off (PointerValue (FrameAt (machine.depth m)) t.offset) ≡ Some place) is_dw t.place in
+        let at8 = subst (λ sz. location_of m (byte_count sz) off (PointerValue (FrameAt (machine.depth m)) t.offset) ≡ Some place) is_dw t.place in
         record {
           region = FrameAt (machine.depth m);
           offset = t.offset;

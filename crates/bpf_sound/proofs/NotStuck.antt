@@ -16,17 +16,17 @@ use Rattle.bpf_insn.specs.declared.instruction.Cond.{Cond}
 use Rattle.bpf_insn.specs.declared.instruction.Cond.TheVariants.{Eq, Ne}
 use Rattle.bpf_insn.specs.declared.instruction.Insn.{Insn}
 use Rattle.bpf_insn.specs.declared.instruction.Insn.TheVariants.{Alu, Neg, MovSx, End, LoadImm64, Load, LoadSx, Store, StoreImm, Atomic, Ja, JaLong, JumpIf, CallLocal, Exit}
-use Rattle.bpf_semantics.specs.declared.state.Value.{Value}
-use Rattle.bpf_semantics.specs.declared.state.Reason.{Reason}
-use Rattle.bpf_semantics.specs.declared.state.Reason.TheVariants.{UnsetRegister, OutOfBounds, ContextWrite, FramePointerWrite, OperandKind, TooManyFrames, PointerResult}
+use Rattle.bpf_semantics.specs.declared.value.Value.{Value}
+use Rattle.bpf_semantics.specs.declared.reason.Reason.{Reason}
+use Rattle.bpf_semantics.specs.declared.reason.Reason.TheVariants.{UnsetRegister, OutOfBounds, ContextWrite, FramePointerWrite, OperandKind, TooManyFrames, PointerResult}
 use Rattle.bpf_insn.specs.Instruction.{Instructions, insn_at}
 use Rattle.bpf_semantics.specs.Step.{◌>>=◌, alu_result, test_of_values, operand as machine_operand}
 use Rattle.bpf_semantics.specs.Stuck.{reads_unset, has_wrong_kind, is_pointer as is_pointer_value, is_out_of_bounds as is_past, writes_context, unreadable, has_no_frame, exits_with_pointer, reason_if, first_of, reason_at, reason_of}
 use Rattle.bpf_insn.specs.Effects.{operand_register, registers_read, writes_frame_pointer}
 use Rattle.bpf_semantics.specs.State as machine
 use Rattle.bpf_num.specs.Laws.{ConstantHas, TightenKeeps}
-use Rattle.bpf_state.specs.declared.state.RegState.{RegState}
-use Rattle.bpf_state.specs.declared.state.RegState.TheVariants.{Any, Num, Ptr}
+use Rattle.bpf_state.specs.declared.known.RegState.{RegState}
+use Rattle.bpf_state.specs.declared.known.RegState.TheVariants.{Any, Num, Ptr}
 use Rattle.bpf_state.specs.State.{AbstractState, register, same_area}
 use Rattle.bpf_state.specs.Fault.{operand, is_any, is_number, alu_of_kinds, difference, can_test, have_right_kinds, reads_part}
 use Rattle.bpf_sound.specs.Describes.{DescribesRegister}

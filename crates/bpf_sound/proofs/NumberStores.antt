@@ -13,9 +13,9 @@ use Rattle.std.proofs.Math.Pow.{pow_mono}
 use Rattle.byteorder.specs.Numbers.{length-bytes_high_first, length-bytes_low_first, big_number-reads_back, little_number-reads_back}
 use Rattle.bpf_insn.specs.declared.order.Order.{Order}
 use Rattle.bpf_insn.specs.declared.order.Order.TheVariants.{Little, Big}
-use Rattle.bpf_semantics.specs.declared.state.Value.{Value}
-use Rattle.bpf_semantics.specs.declared.state.Value.TheVariants.{Number as NumberValue, Pointer as PointerValue}
-use Rattle.bpf_semantics.specs.declared.state.Region.{Region}
+use Rattle.bpf_semantics.specs.declared.value.Value.{Value}
+use Rattle.bpf_semantics.specs.declared.value.Value.TheVariants.{Number as NumberValue, Pointer as PointerValue}
+use Rattle.bpf_semantics.specs.declared.value.Region.{Region}
 use Rattle.bpf_insn.specs.Instruction.{Instructions}
 use Rattle.bpf_insn.specs.Order.{number_of, bytes_of}
 use Rattle.bpf_semantics.specs.State as machine
@@ -23,13 +23,13 @@ use Rattle.bpf_semantics.specs.State.{Cell, IsFrame, cell}
 use Rattle.bpf_semantics.specs.Memory.{with_bytes}
 use Rattle.bpf_num.specs.Word.{M}
 use Rattle.bpf_num.specs.Number.{IsNumber, top}
-use Rattle.bpf_state.specs.declared.state.RegState.{RegState}
-use Rattle.bpf_state.specs.declared.state.RegState.TheVariants.{Any, Num, Ptr}
-use Rattle.bpf_state.specs.declared.state.SlotState.{SlotState}
-use Rattle.bpf_state.specs.declared.state.SlotState.TheVariants.{Bytes, Word, Spilled}
-use Rattle.bpf_state.specs.declared.state.Tag.{Tag}
+use Rattle.bpf_state.specs.declared.known.RegState.{RegState}
+use Rattle.bpf_state.specs.declared.known.RegState.TheVariants.{Any, Num, Ptr}
+use Rattle.bpf_state.specs.declared.known.SlotState.{SlotState}
+use Rattle.bpf_state.specs.declared.known.SlotState.TheVariants.{Bytes, Word, Spilled}
+use Rattle.bpf_state.specs.declared.known.Tag.{Tag}
 use Rattle.bpf_state.specs.State.{AbstractState, slot, slot_tag, put_slot, value_slot}
-use Rattle.bpf_state.specs.Access.{Span, span_end, place_in, is_known, is_slot, slot_number, touches, touched_bytes}
+use Rattle.bpf_state.specs.Access.{Span, span_end, offset_in_slot, is_known, is_slot, slot_number, touches, touched_bytes}
 use Rattle.bpf_state.specs.Transfer.{slot_written, slot_maybe_written, with_touched, stored}
 use Rattle.bpf_sound.specs.Describes.{Describes, DescribesRegister, DescribesSlot, TaggedRegister, TaggedSlot, IsStored, region_of}
 use Rattle.bpf_sound.specs.Laws.{Leads, IsAbstract, IsAbstractRegister, IsAbstractSlot}
@@ -52,7 +52,7 @@ mask_small p c k at few known whole low high =
     let f : span_end p ≡ pos (c + p.count) -ℤ pos 512 = omega (arith, ints) in
     let a = place_is k c p.lowest e in
     let b = place_is k (c + p.count) (span_end p) f in
-    by_cases a b (cases_lt (place_in k p.lowest) 1) (cases_lt (place_in k (span_end p)) 8)
+    by_cases a b (cases_lt (offset_in_slot k p.lowest) 1) (cases_lt (offset_in_slot k (span_end p)) 8)
   where
     slot_after_all : c ≡ 512 - 8 * k → p.count ≡ 8 → is_slot p ≡ true
     slot_after_all e n =
@@ -62,9 +62,9 @@ mask_small p c k at few known whole low high =
         let m : unsigned_abs p.lowest % 8 ≡ 0 = omega arith in
         both_true (both_true ((Decides-int_eq p.lowest p.highest).1 known) ((Decides-eqb p.count 8).1 n)) ((Decides-eqb (unsigned_abs p.lowest % 8) 0).1 m)
 
-    by_cases : place_in k p.lowest ≡ min 8 (c + 8 * k - 512) → place_in k (span_end p) ≡ min 8 (c + p.count + 8 * k - 512) → (place_in k p.lowest < 1) ⊎ (1 ≤ place_in k p.lowest) → (place_in k (span_end p) < 8) ⊎ (8 ≤ place_in k (span_end p)) → touched_bytes p k ≤ 254
-    by_cases a b (inr one) t = let u = pow_mono {i = 1} {j = place_in k p.lowest} one in let v = pow_mono {i = place_in k (span_end p)} {j = 8} (omega arith) in omega arith
-    by_cases a b (inl none) (inl less) = let v = pow_mono {i = place_in k (span_end p)} {j = 7} (omega arith) in omega arith
+    by_cases : offset_in_slot k p.lowest ≡ min 8 (c + 8 * k - 512) → offset_in_slot k (span_end p) ≡ min 8 (c + p.count + 8 * k - 512) → (offset_in_slot k p.lowest < 1) ⊎ (1 ≤ offset_in_slot k p.lowest) → (offset_in_slot k (span_end p) < 8) ⊎ (8 ≤ offset_in_slot k (span_end p)) → touched_bytes p k ≤ 254
+    by_cases a b (inr one) t = let u = pow_mono {i = 1} {j = offset_in_slot k p.lowest} one in let v = pow_mono {i = offset_in_slot k (span_end p)} {j = 8} (omega arith) in omega arith
+    by_cases a b (inl none) (inl less) = let v = pow_mono {i = offset_in_slot k (span_end p)} {j = 7} (omega arith) in omega arith
     by_cases a b (inl none) (inr all) = absurd (false≢true (sym whole ∙ slot_after_all (omega arith) (omega arith)))
 
 pub is_number_top : IsNumber top

@@ -4,8 +4,8 @@ use Rattle.std.specs.Prelude.{◌&&◌, not, int_le, neg_ℤ, FitsSigned}
 use Rattle.std.specs.Int.{w64, int_wrap}
 use Rattle.std.proofs.lemmas.Int.{ints, int_wrap_fits, int_wrap-add_right, int_wrap-sub_right}
 use Rattle.std.proofs.lemmas.Bool.{and_parts, not-false, cond_both}
-use Rattle.bpf_semantics.specs.declared.state.Value.TheVariants.{Pointer as PointerValue}
-use Rattle.bpf_semantics.specs.declared.state.Region.{Region}
+use Rattle.bpf_semantics.specs.declared.value.Value.TheVariants.{Pointer as PointerValue}
+use Rattle.bpf_semantics.specs.declared.value.Region.{Region}
 use Rattle.bpf_insn.specs.Arithmetic.{modulo}
 use Rattle.bpf_semantics.specs.Step.{wrapped}
 use Rattle.bpf_num.specs.Word.{M, signed}

@@ -14,8 +14,8 @@ use Rattle.bpf_insn.specs.declared.instruction.EndKind.{EndKind}
 use Rattle.bpf_insn.specs.declared.instruction.Insn.{Insn}
 use Rattle.bpf_insn.specs.declared.instruction.Insn.TheVariants.{Alu, Neg, MovSx, End, LoadImm64, Ja, JaLong}
 use Rattle.bpf_insn.specs.declared.order.Order.{Order}
-use Rattle.bpf_semantics.specs.declared.state.Value.{Value}
-use Rattle.bpf_semantics.specs.declared.state.Value.TheVariants.{Number as NumberValue}
+use Rattle.bpf_semantics.specs.declared.value.Value.{Value}
+use Rattle.bpf_semantics.specs.declared.value.Value.TheVariants.{Number as NumberValue}
 use Rattle.bpf_insn.specs.Arithmetic.{alu, sign_extend, swapped}
 use Rattle.bpf_insn.specs.Instruction.{Instructions, target}
 use Rattle.bpf_semantics.specs.State as machine
@@ -25,8 +25,8 @@ use Rattle.bpf_insn.specs.Effects.{register_written}
 use Rattle.bpf_num.specs.Number.{Number, constant}
 use Rattle.bpf_num.specs.Operation.{num_neg, num_movsx, num_end}
 use Rattle.bpf_num.specs.Laws.{Member, Holds, ConstantHas, ConstantIs, TightenKeeps, AluKeeps, NegKeeps, MovsxKeeps, EndKeeps}
-use Rattle.bpf_state.specs.declared.state.RegState.{RegState}
-use Rattle.bpf_state.specs.declared.state.RegState.TheVariants.{Num}
+use Rattle.bpf_state.specs.declared.known.RegState.{RegState}
+use Rattle.bpf_state.specs.declared.known.RegState.TheVariants.{Num}
 use Rattle.bpf_state.specs.State.{AbstractState, register, put_register}
 use Rattle.bpf_state.specs.Fault.{operand, have_right_kinds, reads_part, makes_far_pointer, is_number}
 use Rattle.bpf_state.specs.Transfer.{after, alu_tag, number_state, set_number}

@@ -12,9 +12,9 @@ use Rattle.bpf_insn.specs.Order.{number_of}
 use Rattle.bpf_semantics.specs.State.{Cell, cell}
 use Rattle.bpf_semantics.specs.State.Cell.{Byte}
 use Rattle.bpf_semantics.specs.Memory.{bytes_in}
-use Rattle.bpf_state.specs.declared.state.SlotState.{SlotState}
-use Rattle.bpf_state.specs.declared.state.SlotState.TheVariants.{Bytes, Word, Spilled}
-use Rattle.bpf_state.specs.Access.{any_slot, is_pointer_slot, are_known_bytes, Span, span_end, place_in, touches, touched_bytes}
+use Rattle.bpf_state.specs.declared.known.SlotState.{SlotState}
+use Rattle.bpf_state.specs.declared.known.SlotState.TheVariants.{Bytes, Word, Spilled}
+use Rattle.bpf_state.specs.Access.{any_slot, is_pointer_slot, are_known_bytes, Span, span_end, offset_in_slot, touches, touched_bytes}
 use Rattle.bpf_sound.specs.Describes.{DescribesSlot, IsStored}
 use Rattle.bpf_sound.proofs.TouchedCells.{LiesAt, not_touched}
 use Rattle.bpf_sound.proofs.WrittenSlots.{IsByte}
@@ -36,9 +36,9 @@ pub has_bit : (p : Span) (c k i : ℕ) → LiesAt p c → 1 ≤ k → k ≤ 64 �
 has_bit p c k i at low high lt l h =
     let a = at.lowest in
     let b = at.highest in
-    let f : place_in k p.lowest ≤ i = omega (arith, ints, clamps) in
-    let g : i < place_in k (span_end p) = omega (arith, ints, clamps) in
-    bit_at_mask_inside (place_in k p.lowest) (place_in k (span_end p)) i f g
+    let f : offset_in_slot k p.lowest ≤ i = omega (arith, ints, clamps) in
+    let g : i < offset_in_slot k (span_end p) = omega (arith, ints, clamps) in
+    bit_at_mask_inside (offset_in_slot k p.lowest) (offset_in_slot k (span_end p)) i f g
 
 pub is_touched : (p : Span) (c k i : ℕ) → LiesAt p c → 1 ≤ k → k ≤ 64 → i < 8 → c ≤ 512 - 8 * k + i → 512 - 8 * k + i < c + p.count → touches p k ≡ true
 is_touched p c k i at low high lt l h = by_test (touches p k) refl

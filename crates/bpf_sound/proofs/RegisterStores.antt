@@ -8,10 +8,10 @@ use Rattle.std.proofs.lemmas.List.{length-set}
 use Rattle.std.specs.List.{list_any}
 use Rattle.std.proofs.lemmas.Option.{same_Some}
 use Rattle.bpf_insn.specs.declared.order.Order.{Order}
-use Rattle.bpf_semantics.specs.declared.state.Value.{Value}
-use Rattle.bpf_semantics.specs.declared.state.Value.TheVariants.{Number as NumberValue, Pointer as PointerValue}
-use Rattle.bpf_semantics.specs.declared.state.Region.{Region}
-use Rattle.bpf_semantics.specs.declared.state.Region.TheVariants.{Frame as FrameAt}
+use Rattle.bpf_semantics.specs.declared.value.Value.{Value}
+use Rattle.bpf_semantics.specs.declared.value.Value.TheVariants.{Number as NumberValue, Pointer as PointerValue}
+use Rattle.bpf_semantics.specs.declared.value.Region.{Region}
+use Rattle.bpf_semantics.specs.declared.value.Region.TheVariants.{Frame as FrameAt}
 use Rattle.bpf_insn.specs.declared.instruction.Reg.{Reg}
 use Rattle.bpf_insn.specs.declared.instruction.Size.{Size}
 use Rattle.bpf_insn.specs.declared.instruction.Size.TheVariants.{B, H, W, DW}
@@ -24,14 +24,14 @@ use Rattle.bpf_insn.specs.Order.{bytes_of}
 use Rattle.bpf_semantics.specs.State as machine
 use Rattle.bpf_semantics.specs.State.{Cell, cell}
 use Rattle.bpf_semantics.specs.State.Cell.{Part}
-use Rattle.bpf_semantics.specs.Memory.{with_bytes, with_parts, store_pointer, part_after, place_of, stack_of, with_stack}
-use Rattle.bpf_semantics.specs.Memory.Place.{InFrame}
+use Rattle.bpf_semantics.specs.Memory.{with_bytes, with_parts, store_pointer, part_after, location_of, stack_of, with_stack}
+use Rattle.bpf_semantics.specs.Memory.Location.{InFrame}
 use Rattle.bpf_num.specs.Word.{M}
-use Rattle.bpf_state.specs.declared.state.RegState.{RegState}
-use Rattle.bpf_state.specs.declared.state.RegState.TheVariants.{Any, Num, Ptr}
-use Rattle.bpf_state.specs.declared.state.SlotState.{SlotState}
-use Rattle.bpf_state.specs.declared.state.SlotState.TheVariants.{Bytes}
-use Rattle.bpf_state.specs.declared.state.Tag.{Tag}
+use Rattle.bpf_state.specs.declared.known.RegState.{RegState}
+use Rattle.bpf_state.specs.declared.known.RegState.TheVariants.{Any, Num, Ptr}
+use Rattle.bpf_state.specs.declared.known.SlotState.{SlotState}
+use Rattle.bpf_state.specs.declared.known.SlotState.TheVariants.{Bytes}
+use Rattle.bpf_state.specs.declared.known.Tag.{Tag}
 use Rattle.bpf_state.specs.Access.{span_of, Span, is_known, is_slot, slot_number, touched_bytes}
 use Rattle.bpf_state.specs.Fault.{can_store, have_right_kinds, is_pointer, is_any}
 use Rattle.bpf_state.specs.Transfer.{after, slot_written, slot_maybe_written, with_touched, stored}
@@ -136,7 +136,7 @@ stored_is m src span size (Num k) known n can d = number d.0 d.2.bits.fits d.1
 stored_is m src span size (Ptr p) known n can d = pointer (region_of (machine.depth m) p.area) d.0 p.lo p.hi d.1 can (size_of_eight size (sym n ∙ eight_in_slot span can)) (λ cell order sp. sp) d.2 d.3
 
 -- what a store of a pointer does
-does_store_pointer : (order : Order) (dst src : Reg) (off at off' : ℤ) (region region' : Region) (c : ℕ) (m : machine.State) → machine.register m dst ≡ Some (PointerValue region' at) → machine.register m src ≡ Some (PointerValue region off') → place_of m 8 off (PointerValue region' at) ≡ Some (InFrame (machine.depth m) c) → (c % 8 == 0) ≡ true → does order (Store DW dst off src) m ≡ Some (at_top m (m.top.slot + 1) (with_parts region off' c m.top.stack))
+does_store_pointer : (order : Order) (dst src : Reg) (off at off' : ℤ) (region region' : Region) (c : ℕ) (m : machine.State) → machine.register m dst ≡ Some (PointerValue region' at) → machine.register m src ≡ Some (PointerValue region off') → location_of m 8 off (PointerValue region' at) ≡ Some (InFrame (machine.depth m) c) → (c % 8 == 0) ≡ true → does order (Store DW dst off src) m ≡ Some (at_top m (m.top.slot + 1) (with_parts region off' c m.top.stack))
 unfolding does
 does_store_pointer order dst src off at off' region region' c m base e place even = rw (base, e, place) (store_pointer_top region off' c (m.top.slot + 1) m even)
 
@@ -149,7 +149,7 @@ store_number_reason : (size : Size) (dst src : Reg) (off : ℤ) (y : ℕ) (m : m
 unfolding reason_at
 store_number_reason size dst src off y m value t e = rw (t.base, e, t.place)
 
-store_pointer_reason : (dst src : Reg) (off at off' : ℤ) (region region' : Region) (c : ℕ) (m : machine.State) → machine.register m dst ≡ Some (PointerValue region' at) → machine.register m src ≡ Some (PointerValue region off') → place_of m 8 off (PointerValue region' at) ≡ Some (InFrame (machine.depth m) c) → (modulo (at +ℤ off) 8 == 0) ≡ true → reason_at m (Store DW dst off src) ≡ None
+store_pointer_reason : (dst src : Reg) (off at off' : ℤ) (region region' : Region) (c : ℕ) (m : machine.State) → machine.register m dst ≡ Some (PointerValue region' at) → machine.register m src ≡ Some (PointerValue region off') → location_of m 8 off (PointerValue region' at) ≡ Some (InFrame (machine.depth m) c) → (modulo (at +ℤ off) 8 == 0) ≡ true → reason_at m (Store DW dst off src) ≡ None
 unfolding reason_at
 store_pointer_reason dst src off at off' region region' c m base e place even = rw (base, e, place, even)
 
@@ -177,7 +177,7 @@ module _ (p : Instructions) (least most : ℕ) (x : List ℕ) (size : Size) (dst
           let high = w.high in
           let at = w.at in
           let even : t.first % 8 ≡ 0 = omega arith in
-          let place = subst (λ sz. place_of m (byte_count sz) off (PointerValue (FrameAt (machine.depth m)) t.offset) ≡ Some (InFrame (machine.depth m) t.first)) is_dw t.place in
+          let place = subst (λ sz. location_of m (byte_count sz) off (PointerValue (FrameAt (machine.depth m)) t.offset) ≡ Some (InFrame (machine.depth m) t.first)) is_dw t.place in
           subst (λ sz. reason_at m (Store sz dst off src) ≡ None) (sym is_dw)
           (store_pointer_reason dst src off t.offset off' region (FrameAt (machine.depth m)) t.first m t.base e place (whole_place (t.offset +ℤ off) t.first t.at (omega arith) even))
 
@@ -200,7 +200,7 @@ module _ (p : Instructions) (least most : ℕ) (x : List ℕ) (size : Size) (dst
           let even : t.first % 8 ≡ 0 = omega arith in
           let all = (top_frame m j.state).cells in
           let k0 : ℕ = slot_number t.span in
-          let place = subst (λ sz. place_of m (byte_count sz) off (PointerValue (FrameAt (machine.depth m)) t.offset) ≡ Some (InFrame (machine.depth m) t.first)) is_dw t.place in
+          let place = subst (λ sz. location_of m (byte_count sz) off (PointerValue (FrameAt (machine.depth m)) t.offset) ≡ Some (InFrame (machine.depth m) t.first)) is_dw t.place in
           let does_it = does_store_pointer p.order dst src off t.offset off' region (FrameAt (machine.depth m)) t.first m t.base e place ((Decides-eqb (t.first % 8) 0).1 even) in
           let did = subst (λ sz. does p.order (Store sz dst off src) m ≡ Some m') is_dw (step_is p m m' (Store size dst off src) j.stands step) in
           let cells : List (Option Cell) = with_parts region off' t.first m.top.stack in

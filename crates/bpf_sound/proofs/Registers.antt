@@ -3,15 +3,15 @@ use Rattle.std.proofs.Common.{◌≡◌, ℕ, ◌<◌, refl, sym, ◌∙◌, ap,
 use Rattle.std.specs.Prelude.{◌==◌}
 use Rattle.std.proofs.lemmas.Bool.{cases_lt}
 use Rattle.std.proofs.lemmas.List.{get_or-set_same, get_or-set_other, length-set}
-use Rattle.bpf_semantics.specs.declared.state.Value.{Value}
+use Rattle.bpf_semantics.specs.declared.value.Value.{Value}
 use Rattle.bpf_insn.specs.Instruction.{register_number, Instructions}
 use Rattle.bpf_insn.specs.declared.instruction.Reg.{Reg}
 use Rattle.bpf_insn.specs.declared.instruction.Reg.TheVariants.{R0, R1, R2, R3, R4, R5, R6, R7, R8, R9, R10}
 use Rattle.bpf_semantics.specs.State as machine
 use Rattle.bpf_semantics.specs.State.{put, IsFrame}
-use Rattle.bpf_state.specs.declared.state.RegState.{RegState}
-use Rattle.bpf_state.specs.declared.state.RegState.TheVariants.{Any}
-use Rattle.bpf_state.specs.declared.state.Tag.{Tag}
+use Rattle.bpf_state.specs.declared.known.RegState.{RegState}
+use Rattle.bpf_state.specs.declared.known.RegState.TheVariants.{Any}
+use Rattle.bpf_state.specs.declared.known.Tag.{Tag}
 use Rattle.bpf_state.specs.State.{AbstractState, put_register}
 use Rattle.bpf_sound.specs.Describes.{Describes, DescribesRegister, TaggedRegister}
 use Rattle.bpf_sound.specs.Laws.{Leads, IsAbstract, IsAbstractRegister}

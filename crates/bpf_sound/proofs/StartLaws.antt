@@ -12,10 +12,10 @@ use Rattle.bpf_num.specs.Number.{number, tighten}
 use Rattle.bpf_num.specs.Tristate.{bits_top}
 use Rattle.bpf_num.specs.Interval.{interval}
 use Rattle.bpf_num.specs.SignedInterval.{signed_top}
-use Rattle.bpf_state.specs.declared.state.RegState.TheVariants.{Any, Num}
-use Rattle.bpf_state.specs.declared.state.SlotState.{SlotState}
-use Rattle.bpf_state.specs.declared.state.SlotState.TheVariants.{Bytes}
-use Rattle.bpf_state.specs.State.{start, register, register_tag}
+use Rattle.bpf_state.specs.declared.known.RegState.TheVariants.{Any, Num}
+use Rattle.bpf_state.specs.declared.known.SlotState.{SlotState}
+use Rattle.bpf_state.specs.declared.known.SlotState.TheVariants.{Bytes}
+use Rattle.bpf_state.specs.State.{first_state, register, register_tag}
 use Rattle.bpf_sound.specs.Describes.{DescribesRegister, DescribesSlot, TaggedRegister, TaggedSlot, LengthWithin, slot_cell}
 use Rattle.bpf_sound.specs.Laws.{IsAbstractRegister, IsAbstractSlot, StartIsAbstract, StartDescribes}
 use Rattle.bpf_sound.proofs.NumberStores.{is_number_top}
@@ -35,7 +35,7 @@ length_holds law least most n low high fits =
     )
 
 module _ (law : TightenKeeps) (least most : ℕ) where
-  start_register : least ≤ most → most ≤ 4096 → (r : Reg) → IsAbstractRegister (register (start least most) r)
+  start_register : least ≤ most → most ≤ 4096 → (r : Reg) → IsAbstractRegister (register (first_state least most) r)
   start_register ordered fits R0 = tt
   start_register ordered fits R1 = omega (arith, ints)
   start_register ordered fits R2 = let h = length_holds law least most least (omega arith) ordered fits in subst (λ o. IsAbstractRegister (option_map_or Num o Any)) (sym h.is_there) h.valid
@@ -48,7 +48,7 @@ module _ (law : TightenKeeps) (least most : ℕ) where
   start_register ordered fits R9 = tt
   start_register ordered fits R10 = omega (arith, ints)
 
-  start_describes_register : (context : List ℕ) → LengthWithin least most context → most ≤ 4096 → (r : Reg) → DescribesRegister 0 (register (start least most) r) (machine.register (machine.start context) r)
+  start_describes_register : (context : List ℕ) → LengthWithin least most context → most ≤ 4096 → (r : Reg) → DescribesRegister 0 (register (first_state least most) r) (machine.register (machine.start context) r)
   start_describes_register context within fits R0 = tt
   start_describes_register context within fits R1 = (pos 0, refl, omega (arith, ints), omega (arith, ints))
   start_describes_register context within fits R2 = let h = length_holds law least most (length context) within.0 within.1 fits in subst (λ o. DescribesRegister 0 (option_map_or Num o Any) (machine.register (machine.start context) R2)) (sym h.is_there) (length context, refl, h.has)
@@ -61,7 +61,7 @@ module _ (law : TightenKeeps) (least most : ℕ) where
   start_describes_register context within fits R9 = tt
   start_describes_register context within fits R10 = (pos 0, refl, omega (arith, ints), omega (arith, ints))
 
-  start_tag : (x context : List ℕ) (r : Reg) → TaggedRegister x (register_tag (start least most) r) (machine.register (machine.start context) r)
+  start_tag : (x context : List ℕ) (r : Reg) → TaggedRegister x (register_tag (first_state least most) r) (machine.register (machine.start context) r)
   start_tag x context R0 = tt
   start_tag x context R1 = tt
   start_tag x context R2 = tt

@@ -12,8 +12,8 @@ use Rattle.bpf_insn.specs.declared.instruction.Width.{Width}
 use Rattle.bpf_insn.specs.declared.instruction.Width.TheVariants.{W32, W64}
 use Rattle.bpf_insn.specs.declared.instruction.AluOp.{AluOp}
 use Rattle.bpf_insn.specs.declared.instruction.AluOp.TheVariants.{Add, Sub, Mov}
-use Rattle.bpf_semantics.specs.declared.state.Value.{Value}
-use Rattle.bpf_semantics.specs.declared.state.Value.TheVariants.{Number as NumberValue}
+use Rattle.bpf_semantics.specs.declared.value.Value.{Value}
+use Rattle.bpf_semantics.specs.declared.value.Value.TheVariants.{Number as NumberValue}
 use Rattle.bpf_insn.specs.Arithmetic.{alu, modulo}
 use Rattle.bpf_semantics.specs.State as machine
 use Rattle.bpf_semantics.specs.Step.{operand as machine_operand, alu_result}
@@ -21,9 +21,9 @@ use Rattle.bpf_num.specs.Word.{M, signed}
 use Rattle.bpf_num.specs.Laws.WordLaws.{signed_is}
 use Rattle.bpf_num.specs.Number.{Number, IsNumber, Has, is_constant}
 use Rattle.bpf_num.specs.Laws.{ConstantHas, ConstantIs}
-use Rattle.bpf_state.specs.declared.state.RegState.{RegState}
-use Rattle.bpf_state.specs.declared.state.RegState.TheVariants.{Any, Num, Ptr}
-use Rattle.bpf_state.specs.declared.state.Tag.{Tag}
+use Rattle.bpf_state.specs.declared.known.RegState.{RegState}
+use Rattle.bpf_state.specs.declared.known.RegState.TheVariants.{Any, Num, Ptr}
+use Rattle.bpf_state.specs.declared.known.Tag.{Tag}
 use Rattle.bpf_state.specs.State.{AbstractState, register, register_tag}
 use Rattle.bpf_state.specs.Fault.{operand}
 use Rattle.bpf_state.specs.Transfer.{alu_tag, added, constant_of, tag_after, never_wraps, shifted_tag, max_offset}

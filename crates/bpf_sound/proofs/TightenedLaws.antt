@@ -2,16 +2,16 @@
 use Rattle.std.proofs.Common.{ℕ, suc, ◌-◌, ◌<◌, ◌≤◌, refl, ◌∙◌, ap, subst, arith, get_or, Option, None}
 use Rattle.std.specs.Prelude.{option_map, option_and_then}
 use Rattle.bpf_insn.specs.declared.order.Order.{Order}
-use Rattle.bpf_semantics.specs.declared.state.Value.{Value}
+use Rattle.bpf_semantics.specs.declared.value.Value.{Value}
 use Rattle.bpf_insn.specs.declared.instruction.Reg.{Reg}
 use Rattle.bpf_insn.specs.Instruction.{register_number}
 use Rattle.bpf_semantics.specs.State as machine
 use Rattle.bpf_semantics.specs.State.{Cell}
 use Rattle.bpf_num.specs.Laws.{TightenKeeps}
-use Rattle.bpf_state.specs.declared.state.RegState.{RegState}
-use Rattle.bpf_state.specs.declared.state.RegState.TheVariants.{Any, Num, Ptr}
-use Rattle.bpf_state.specs.declared.state.SlotState.{SlotState}
-use Rattle.bpf_state.specs.declared.state.SlotState.TheVariants.{Bytes, Word, Spilled}
+use Rattle.bpf_state.specs.declared.known.RegState.{RegState}
+use Rattle.bpf_state.specs.declared.known.RegState.TheVariants.{Any, Num, Ptr}
+use Rattle.bpf_state.specs.declared.known.SlotState.{SlotState}
+use Rattle.bpf_state.specs.declared.known.SlotState.TheVariants.{Bytes, Word, Spilled}
 use Rattle.bpf_state.specs.State.{register, slot, tightened_register, tightened_slot, each_if}
 use Rattle.bpf_sound.specs.Describes.{DescribesRegister, DescribesSlot, slot_cell}
 use Rattle.bpf_sound.specs.Laws.{IsAbstractRegister, IsAbstractSlot, TightenedDescribes}

@@ -5,7 +5,7 @@ use Rattle.std.specs.Prelude.{◌⊎◌, int_lt}
 use Rattle.std.specs.Int.{bit_at}
 use Rattle.std.proofs.lemmas.Int.{ints, clamps}
 use Rattle.std.proofs.lemmas.Nat.Bits.{bit_at_mask_below, bit_at_mask_above}
-use Rattle.bpf_state.specs.Access.{Span, span_end, touches, first_byte, place_in, touched_bytes}
+use Rattle.bpf_state.specs.Access.{Span, span_end, touches, first_byte, offset_in_slot, touched_bytes}
 use Rattle.bpf_sound.proofs.Tests.{and3_false}
 
 -- the first byte of an access by a span lies in cell c of the frame's 512
@@ -16,7 +16,7 @@ pub record LiesAt (p : Span) (c : ℕ) : Type 0 where
   pub fits : c + p.count ≤ 512
 
 -- the place of a cell in a slot
-pub place_is : (k c : ℕ) (z : ℤ) → z ≡ pos c -ℤ pos 512 → place_in k z ≡ min 8 (c + 8 * k - 512)
+pub place_is : (k c : ℕ) (z : ℤ) → z ≡ pos c -ℤ pos 512 → offset_in_slot k z ≡ min 8 (c + 8 * k - 512)
 place_is k c z e = omega (arith, ints, clamps)
 
 pub int_lt_true : (a b : ℤ) → int_lt a b ≡ true → (a +ℤ pos 1) ≤ℤ b
@@ -54,16 +54,16 @@ touched_bit p c k i at known low high lt set =
     let b = place_is k (c + p.count) (span_end p) f in
     (from_below a, from_above b)
   where
-    from_below : place_in k p.lowest ≡ min 8 (c + 8 * k - 512) → c ≤ 512 - 8 * k + i
+    from_below : offset_in_slot k p.lowest ≡ min 8 (c + 8 * k - 512) → c ≤ 512 - 8 * k + i
     from_below a =
-        elim (cases_lt i (place_in k p.lowest)) [
-          | inl less ↦ zero_or_one (sym (bit_at_mask_below (place_in k p.lowest) (place_in k (span_end p)) i less) ∙ set)
+        elim (cases_lt i (offset_in_slot k p.lowest)) [
+          | inl less ↦ zero_or_one (sym (bit_at_mask_below (offset_in_slot k p.lowest) (offset_in_slot k (span_end p)) i less) ∙ set)
           | inr more ↦ omega arith
         ]
 
-    from_above : place_in k (span_end p) ≡ min 8 (c + p.count + 8 * k - 512) → 512 - 8 * k + i < c + p.count
+    from_above : offset_in_slot k (span_end p) ≡ min 8 (c + p.count + 8 * k - 512) → 512 - 8 * k + i < c + p.count
     from_above b =
-        elim (cases_lt i (place_in k (span_end p))) [
+        elim (cases_lt i (offset_in_slot k (span_end p))) [
           | inl less ↦ omega arith
-          | inr more ↦ zero_or_one (sym (bit_at_mask_above (place_in k p.lowest) (place_in k (span_end p)) i more) ∙ set)
+          | inr more ↦ zero_or_one (sym (bit_at_mask_above (offset_in_slot k p.lowest) (offset_in_slot k (span_end p)) i more) ∙ set)
         ]

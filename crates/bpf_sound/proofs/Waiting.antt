@@ -10,8 +10,8 @@ use Rattle.bpf_insn.specs.declared.instruction.Size.{Size}
 use Rattle.bpf_insn.specs.declared.instruction.Size.TheVariants.{B, H, W, DW}
 use Rattle.bpf_insn.specs.declared.instruction.Insn.{Insn}
 use Rattle.bpf_insn.specs.declared.instruction.Insn.TheVariants.{Alu, Neg, MovSx, End, LoadImm64, Load, LoadSx, Store, StoreImm, Atomic, Ja, JaLong, JumpIf, CallLocal, Exit}
-use Rattle.bpf_semantics.specs.declared.state.Value.{Value}
-use Rattle.bpf_semantics.specs.declared.state.Value.TheVariants.{Number as NumberValue, Pointer as PointerValue}
+use Rattle.bpf_semantics.specs.declared.value.Value.{Value}
+use Rattle.bpf_semantics.specs.declared.value.Value.TheVariants.{Number as NumberValue, Pointer as PointerValue}
 use Rattle.bpf_insn.specs.Instruction.{Instructions, register_number, target, byte_count, word_size}
 use Rattle.bpf_insn.specs.Arithmetic.{extended}
 use Rattle.bpf_insn.specs.Order.{bytes_of}
@@ -19,8 +19,8 @@ use Rattle.bpf_semantics.specs.Step.{does, next, store, fetched, jump, load, loa
 use Rattle.bpf_insn.specs.Effects.{fetch_register}
 use Rattle.bpf_semantics.specs.State as machine
 use Rattle.bpf_semantics.specs.State.{Cell, StackFrame, put}
-use Rattle.bpf_semantics.specs.Memory.{place_of, number_at, stack_of, with_stack, with_bytes, with_parts, store_pointer}
-use Rattle.bpf_semantics.specs.Memory.Place.{InFrame}
+use Rattle.bpf_semantics.specs.Memory.{location_of, number_at, stack_of, with_stack, with_bytes, with_parts, store_pointer}
+use Rattle.bpf_semantics.specs.Memory.Location.{InFrame}
 use Rattle.bpf_state.specs.State.{AbstractState, register}
 use Rattle.bpf_sound.specs.Laws.{IsJudged, IsCallOrExit, WaitingFramesStay}
 use Rattle.bpf_sound.proofs.Judged.{step_is}
@@ -112,10 +112,10 @@ module _ (p : Instructions) (least most : ℕ) (x : List ℕ) where
   waits (End kind bits dst) s m j plain = stays_after m.waiting (machine.number_of_register m dst) _ (λ a. put_stays dst _ (next (End kind bits dst) m))
   waits (LoadImm64 dst value) s m j plain = put_stays dst _ (next (LoadImm64 dst value) m)
   waits (Load size dst src off) s m j plain =
-      stays_after m.waiting (machine.register m src) _ (λ base. stays_after m.waiting (place_of m (byte_count size) off base) _ (λ place.
+      stays_after m.waiting (machine.register m src) _ (λ base. stays_after m.waiting (location_of m (byte_count size) off base) _ (λ place.
       stays_after m.waiting (load p.order m size place) _ (λ v. put_stays dst v (next (Load size dst src off) m))))
   waits (LoadSx size dst src off) s m j plain =
-      stays_after m.waiting (machine.register m src) _ (λ base. stays_after m.waiting (place_of m (byte_count size) off base) _ (λ place.
+      stays_after m.waiting (machine.register m src) _ (λ base. stays_after m.waiting (location_of m (byte_count size) off base) _ (λ place.
       stays_after m.waiting (load_extended p.order m size place) _ (λ v. put_stays dst v (next (LoadSx size dst src off) m))))
   waits (Store size dst off src) s m j plain = store_waits size dst src off s m (store_base p least most x size dst src off s m j)
   waits (StoreImm size dst off imm) s m j plain = store_imm_waits size dst off imm s m (store_imm_base p least most x size dst off imm s m j)

@@ -12,8 +12,8 @@ use Rattle.bpf_semantics.specs.State.Cell.{Byte}
 use Rattle.bpf_num.specs.Word.{M}
 use Rattle.bpf_num.specs.Number.{Has, top}
 use Rattle.bpf_num.specs.Laws.SignedLaws.{in_signed_top}
-use Rattle.bpf_state.specs.declared.state.SlotState.{SlotState}
-use Rattle.bpf_state.specs.declared.state.SlotState.TheVariants.{Bytes, Word, Spilled}
+use Rattle.bpf_state.specs.declared.known.SlotState.{SlotState}
+use Rattle.bpf_state.specs.declared.known.SlotState.TheVariants.{Bytes, Word, Spilled}
 use Rattle.bpf_state.specs.Transfer.{slot_written, slot_maybe_written}
 use Rattle.bpf_sound.specs.Describes.{DescribesSlot, IsStored}
 use Rattle.bpf_sound.proofs.TouchedCells.{zero_or_one}

@@ -5,19 +5,19 @@ use Rattle.bpf_insn.specs.declared.instruction.Reg.{Reg}
 use Rattle.bpf_insn.specs.declared.instruction.Reg.TheVariants.{R0}
 use Rattle.bpf_insn.specs.declared.instruction.Insn.{Insn}
 use Rattle.bpf_insn.specs.declared.instruction.Insn.TheVariants.{JumpIf, CallLocal, Exit}
-use Rattle.bpf_semantics.specs.declared.state.Reason.{Reason}
-use Rattle.bpf_semantics.specs.declared.state.Reason.TheVariants.{TooManyFrames}
+use Rattle.bpf_semantics.specs.declared.reason.Reason.{Reason}
+use Rattle.bpf_semantics.specs.declared.reason.Reason.TheVariants.{TooManyFrames}
 use Rattle.bpf_insn.specs.Instruction.{Instructions, insn_at}
 use Rattle.bpf_insn.specs.Image.{HasEncoding}
 use Rattle.bpf_semantics.specs.State as machine
 use Rattle.bpf_semantics.specs.Step.{Step, test_of_values, operand, ◌>>=◌}
 use Rattle.bpf_semantics.specs.Stuck.{reason_of}
 use Rattle.bpf_num.specs.Number.{Number, IsNumber, Has}
-use Rattle.bpf_state.specs.declared.state.RegState.{RegState}
-use Rattle.bpf_state.specs.declared.state.RegState.TheVariants.{Num}
-use Rattle.bpf_state.specs.declared.state.SlotState.{SlotState}
-use Rattle.bpf_state.specs.declared.state.SlotState.TheVariants.{Word}
-use Rattle.bpf_state.specs.State.{AbstractState, IsRegister, IsSlot, IsState, register, slot, start, entered, left, tightened}
+use Rattle.bpf_state.specs.declared.known.RegState.{RegState}
+use Rattle.bpf_state.specs.declared.known.RegState.TheVariants.{Num}
+use Rattle.bpf_state.specs.declared.known.SlotState.{SlotState}
+use Rattle.bpf_state.specs.declared.known.SlotState.TheVariants.{Word}
+use Rattle.bpf_state.specs.State.{AbstractState, IsRegister, IsSlot, IsAbstractState, register, slot, first_state, callee_state, caller_state, tightened}
 use Rattle.bpf_state.specs.Fault.{fault_of}
 use Rattle.bpf_state.specs.Transfer.{after, branch}
 use Rattle.bpf_state.specs.Entails.{state_entails}
@@ -48,7 +48,7 @@ pub record HasNumbers (s : AbstractState) : Type 0 where
 
 -- nothing more is asked than what every state keeps, and that its numbers do
 abbrev pub StatesAreAbstract : Type 0
-StatesAreAbstract = (s : AbstractState) → IsState s → HasNumbers s → IsAbstract s
+StatesAreAbstract = (s : AbstractState) → IsAbstractState s → HasNumbers s → IsAbstract s
 
 -- ---- a machine at an instruction, described by an abstract state without fault
 
@@ -98,7 +98,7 @@ BranchKeeps =
 abbrev pub EnterKeeps : Type 0
 EnterKeeps =
     (p : Instructions) (least most : ℕ) (x : List ℕ) (off : ℤ) (s : AbstractState) (m m' : machine.State)
-    → IsJudged p least most x (CallLocal off) s m → Step p m m' → Leads p least most x (Some (entered s)) m'
+    → IsJudged p least most x (CallLocal off) s m → Step p m m' → Leads p least most x (Some (callee_state s)) m'
 
 -- A callee comes to its EXIT and gives its number to the frame that waits: m stands at the CALL, m1 at the callee's entry, m2 at
 -- its EXIT, m3 behind the CALL.
@@ -117,7 +117,7 @@ pub record IsReturn (p : Instructions) (least most : ℕ) (x : List ℕ) (off : 
 abbrev pub LeaveKeeps : Type 0
 LeaveKeeps =
     (p : Instructions) (least most : ℕ) (x : List ℕ) (off : ℤ) (s : AbstractState) (m m1 m2 m3 : machine.State) (returned : Number) (v : ℕ)
-    → IsReturn p least most x off s m m1 m2 m3 returned v → Leads p least most x (left returned s) m3
+    → IsReturn p least most x off s m m1 m2 m3 returned v → Leads p least most x (caller_state returned s) m3
 
 -- neither changes a waiting frame
 abbrev pub IsCallOrExit : Insn → Type 0
@@ -133,10 +133,10 @@ WaitingFramesStay =
 abbrev pub StartDescribes : Type 0
 StartDescribes =
     (order : Order) (least most : ℕ) (context : List ℕ) (x : List ℕ)
-    → LengthWithin least most context → most ≤ 4096 → Describes order least most x (start least most) (machine.start context)
+    → LengthWithin least most context → most ≤ 4096 → Describes order least most x (first_state least most) (machine.start context)
 
 abbrev pub StartIsAbstract : Type 0
-StartIsAbstract = (least most : ℕ) → least ≤ most → most ≤ 4096 → IsAbstract (start least most)
+StartIsAbstract = (least most : ℕ) → least ≤ most → most ≤ 4096 → IsAbstract (first_state least most)
 
 abbrev pub TightenedDescribes : Type 0
 TightenedDescribes =

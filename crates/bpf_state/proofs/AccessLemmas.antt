@@ -10,7 +10,7 @@ use Rattle.std.proofs.Math.Pow.{pow_mono}
 use Rattle.bpf_insn.specs.Instruction.{byte_count}
 use Rattle.bpf_insn.specs.declared.instruction.Size.{Size}
 use Rattle.bpf_insn.specs.declared.instruction.Size.TheVariants.{B, H, W, DW}
-use Rattle.bpf_state.specs.Access.{Span, first_byte, span_end, place_in}
+use Rattle.bpf_state.specs.Access.{Span, first_byte, span_end, offset_in_slot}
 use Rattle.bpf_state.specs.code.Parts.{IsSpan, AreTouched, depth_of}
 
 same_tests : (a b : Bool) → (a ≡ true → b ≡ true) → (b ≡ true → a ≡ true) → a ≡ b
@@ -94,28 +94,28 @@ held_is z low high = omega (arith, ints)
 min_comm : (a b : ℤ) → int_min a b ≡ int_min b a
 min_comm a b = omega (arith, ints, clamps)
 
-pub place_is : (i : ℕ) (z t r : ℤ) → pos 0 ≤ℤ r → r ≤ℤ pos 8 → r ≡ int_max (pos 0) (int_min t (pos 8)) → t ≡ z -ℤ first_byte (suc i) → unsigned_abs (held r) ≡ place_in (suc i) z
+pub place_is : (i : ℕ) (z t r : ℤ) → pos 0 ≤ℤ r → r ≤ℤ pos 8 → r ≡ int_max (pos 0) (int_min t (pos 8)) → t ≡ z -ℤ first_byte (suc i) → unsigned_abs (held r) ≡ offset_in_slot (suc i) z
 place_is i z t r above below e f =
     ap unsigned_abs (held_is r (omega (arith, ints)) (omega (arith, ints)) ∙ e ∙ ap (int_max (pos 0)) (min_comm t (pos 8) ∙ ap (int_min (pos 8)) f))
 
-place_mono : (k : ℕ) (y z : ℤ) → y ≤ℤ z → place_in k y ≤ place_in k z
+place_mono : (k : ℕ) (y z : ℤ) → y ≤ℤ z → offset_in_slot k y ≤ offset_in_slot k z
 place_mono k y z h =
     abs_mono (int_max (pos 0) (int_min (pos 8) (y -ℤ first_byte k))) (int_max (pos 0) (int_min (pos 8) (z -ℤ first_byte k))) (omega (arith, ints, clamps)) (omega (arith, ints, clamps))
 
-pub place_small : (k : ℕ) (z : ℤ) → place_in k z ≤ 8
+pub place_small : (k : ℕ) (z : ℤ) → offset_in_slot k z ≤ 8
 place_small k z = abs_mono (int_max (pos 0) (int_min (pos 8) (z -ℤ first_byte k))) (pos 8) (omega (arith, ints, clamps)) (omega (arith, ints, clamps))
 
 shifted : (n : ℕ) → n ≤ 8 → 1 * 2 ^ n % 65536 ≡ 2 ^ n
 shifted n h = one_shl n 16 (omega arith)
 
-pub mask_fits : (k m n : ℕ) (y z : ℤ) → m ≡ place_in k y → n ≡ place_in k z → y ≤ℤ z → 1 * 2 ^ m % 65536 ≤ 1 * 2 ^ n % 65536
+pub mask_fits : (k m n : ℕ) (y z : ℤ) → m ≡ offset_in_slot k y → n ≡ offset_in_slot k z → y ≤ℤ z → 1 * 2 ^ m % 65536 ≤ 1 * 2 ^ n % 65536
 mask_fits k m n y z e f h =
     let a = place_small k y in
     let b = place_small k z in
     let c = place_mono k y z h in
     rw (shifted m (omega arith), shifted n (omega arith)) (pow_mono {i = m} {j = n} (omega arith))
 
-pub mask_is : (k m n : ℕ) (y z : ℤ) → m ≡ place_in k y → n ≡ place_in k z → 1 * 2 ^ n % 65536 - 1 * 2 ^ m % 65536 ≡ 2 ^ place_in k z - 2 ^ place_in k y
+pub mask_is : (k m n : ℕ) (y z : ℤ) → m ≡ offset_in_slot k y → n ≡ offset_in_slot k z → 1 * 2 ^ n % 65536 - 1 * 2 ^ m % 65536 ≡ 2 ^ offset_in_slot k z - 2 ^ offset_in_slot k y
 mask_is k m n y z e f =
     let a = place_small k y in
     let b = place_small k z in

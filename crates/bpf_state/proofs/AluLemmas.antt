@@ -17,11 +17,11 @@ use Rattle.bpf_num.specs.Interval.{unsigned_top}
 use Rattle.bpf_num.specs.SignedInterval.{SignedInterval, signed_interval, signed_sub}
 use Rattle.bpf_num.specs.Number.{Number, number, tighten}
 use Rattle.bpf_num.specs.Operation.{num_alu}
-use Rattle.bpf_state.specs.declared.state.RegState.{RegState}
-use Rattle.bpf_state.specs.declared.state.RegState.TheVariants.{Any, Num, Ptr}
-use Rattle.bpf_state.specs.declared.state.Pointer.{Pointer}
+use Rattle.bpf_state.specs.declared.known.RegState.{RegState}
+use Rattle.bpf_state.specs.declared.known.RegState.TheVariants.{Any, Num, Ptr}
+use Rattle.bpf_state.specs.declared.known.Pointer.{Pointer}
 use Rattle.bpf_state.specs.declared.fault.StateFault.TheVariants.{WrongKinds, OutOfBounds}
-use Rattle.bpf_state.specs.declared.state.Tag.{Tag}
+use Rattle.bpf_state.specs.declared.known.Tag.{Tag}
 use Rattle.bpf_state.specs.State.{AbstractState, register, put_register, same_area}
 use Rattle.bpf_state.specs.Fault.{operand, difference, some_passes, leaves_bounds, alu_of_kinds, reads_any}
 use Rattle.bpf_state.specs.Transfer.{Outcome, Faulty, live, unless, transfer, alu_tag}

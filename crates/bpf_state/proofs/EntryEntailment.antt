@@ -7,14 +7,14 @@ use Rattle.std.proofs.lemmas.Bool.{eq-eqb, and_parts, and_from}
 use Rattle.std.proofs.lemmas.List.Sums.{list_all-from_AllPass}
 use Rattle.bpf_insn.specs.declared.instruction.Reg.TheVariants.{R10}
 use Rattle.bpf_insn.specs.Instruction.{register_number}
-use Rattle.bpf_state.specs.declared.state.RegState.{RegState}
-use Rattle.bpf_state.specs.declared.state.RegState.TheVariants.{Any, Num, Ptr}
-use Rattle.bpf_state.specs.declared.state.Area.TheVariants.{Frame}
-use Rattle.bpf_state.specs.declared.state.SlotState.{SlotState}
-use Rattle.bpf_state.specs.declared.state.SlotState.TheVariants.{Bytes, Word, Spilled}
+use Rattle.bpf_state.specs.declared.known.RegState.{RegState}
+use Rattle.bpf_state.specs.declared.known.RegState.TheVariants.{Any, Num, Ptr}
+use Rattle.bpf_state.specs.declared.known.Area.TheVariants.{Frame}
+use Rattle.bpf_state.specs.declared.known.SlotState.{SlotState}
+use Rattle.bpf_state.specs.declared.known.SlotState.TheVariants.{Bytes, Word, Spilled}
 use Rattle.bpf_state.specs.declared.entries.Entry.{Entry}
 use Rattle.bpf_state.specs.declared.entries.Entry.TheVariants.{Register, Slot}
-use Rattle.bpf_state.specs.State.{AbstractState, IsState, register, slot, start_of, blank}
+use Rattle.bpf_state.specs.State.{AbstractState, IsAbstractState, register, slot, start_of, blank}
 use Rattle.bpf_state.specs.Entails.{register_entails, slot_entails, all_pairs, state_entails}
 use Rattle.bpf_state.specs.code.Entries.{put, put_all, state_of, keeps, IsEntry, AreEntries}
 use Rattle.bpf_state.proofs.EntryLemmas.{register_below}
@@ -80,7 +80,7 @@ entails_all : (s t : AbstractState) (es : List Entry) → state_entails s t ≡ 
 entails_all s t [] e f = e
 entails_all s t (x ∷ es) e f = let parts = and_parts (keeps s x) (list_all (keeps s) es) f in entails_all s (put t x) es (entails_put s t x e parts.0) parts.1
 
-kept : (s t : AbstractState) (e : Entry) → IsState s → IsState t → IsEntry t e → state_entails s t ≡ true → keeps s e ≡ true
+kept : (s t : AbstractState) (e : Entry) → IsAbstractState s → IsAbstractState t → IsEntry t e → state_entails s t ≡ true → keeps s e ≡ true
 kept s t (Register r v) is it x e =
     let parts = and_parts (all_pairs register_entails s.registers t.registers) (all_pairs slot_entails s.slots t.slots) e in
     let few = register_below r in let long = is.register_count in let long' = it.register_count in
@@ -95,7 +95,7 @@ same_test true b f g = sym (f refl)
 same_test false true f g = g refl
 same_test false false f g = refl
 
-pub entails_entries : (s : AbstractState) (es : List Entry) → IsState s → AreEntries es → (register_entails (register s R10) (Ptr (start_of Frame)) && list_all (keeps s) es) ≡ state_entails s (state_of es)
+pub entails_entries : (s : AbstractState) (es : List Entry) → IsAbstractState s → AreEntries es → (register_entails (register s R10) (Ptr (start_of Frame)) && list_all (keeps s) es) ≡ state_entails s (state_of es)
 entails_entries s es is are =
     let t = state_of es in
     let end = register_entails (register s R10) (Ptr (start_of Frame)) in
@@ -109,5 +109,5 @@ entails_entries s es is are =
     same_test (end && list_all (keeps s) es) (state_entails s t) into from
 
 -- the first entry that isn't kept, or r10, decides
-pub entails_not : (s : AbstractState) (es : List Entry) → IsState s → AreEntries es → register_entails (register s R10) (Ptr (start_of Frame)) ≡ false → false ≡ state_entails s (state_of es)
+pub entails_not : (s : AbstractState) (es : List Entry) → IsAbstractState s → AreEntries es → register_entails (register s R10) (Ptr (start_of Frame)) ≡ false → false ≡ state_entails s (state_of es)
 entails_not s es is are e = ap (λ b. b && list_all (keeps s) es) (sym e) ∙ entails_entries s es is are

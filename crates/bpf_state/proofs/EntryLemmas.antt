@@ -6,13 +6,13 @@ use Rattle.std.proofs.lemmas.List.Elements.{All-set, All-append, All-nil, All-co
 use Rattle.bpf_insn.specs.declared.instruction.Reg.{Reg}
 use Rattle.bpf_insn.specs.declared.instruction.Reg.TheVariants.{R0, R1, R2, R3, R4, R5, R6, R7, R8, R9, R10}
 use Rattle.bpf_insn.specs.Instruction.{register_number}
-use Rattle.bpf_state.specs.declared.state.RegState.{RegState}
-use Rattle.bpf_state.specs.declared.state.RegState.TheVariants.{Any}
-use Rattle.bpf_state.specs.declared.state.SlotState.{SlotState}
-use Rattle.bpf_state.specs.declared.state.SlotState.TheVariants.{Bytes}
+use Rattle.bpf_state.specs.declared.known.RegState.{RegState}
+use Rattle.bpf_state.specs.declared.known.RegState.TheVariants.{Any}
+use Rattle.bpf_state.specs.declared.known.SlotState.{SlotState}
+use Rattle.bpf_state.specs.declared.known.SlotState.TheVariants.{Bytes}
 use Rattle.bpf_state.specs.declared.entries.Entry.{Entry}
 use Rattle.bpf_state.specs.declared.entries.Entry.TheVariants.{Register, Slot}
-use Rattle.bpf_state.specs.State.{AbstractState, IsState, IsRegister, IsSlot, register, slot, with_register, with_slot, blank}
+use Rattle.bpf_state.specs.State.{AbstractState, IsAbstractState, IsRegister, IsSlot, register, slot, with_register, with_slot, blank}
 use Rattle.bpf_state.specs.Bare.{IsBare}
 use Rattle.bpf_state.specs.code.Entries.{put, put_all, state_of, IsPlaced, IsOrdered, IsNew, IsKnown, IsSaid, IsEntry, AreEntries}
 use Rattle.bpf_state.proofs.StateLemmas.{blank_is_state}
@@ -54,10 +54,10 @@ slot_elsewhere s j k v apart low low' = get_or-set_other s.slots (j - 1) (k - 1)
 pub blank_slot : (k : ℕ) → 1 ≤ k → k ≤ 64 → slot blank k ≡ Bytes 0
 blank_slot k low high = get_or-replicate 64 (k - 1) (Bytes 0) (Bytes 0) (omega arith)
 
-pub register_ordered : (s : AbstractState) (r : Reg) → IsState s → IsRegister (register s r)
+pub register_ordered : (s : AbstractState) (r : Reg) → IsAbstractState s → IsRegister (register s r)
 register_ordered s r is = let long = is.register_count in let few = register_below r in All-get_or IsRegister s.registers (register_number r) Any (omega arith) is.registers
 
-pub slot_ordered : (s : AbstractState) (k : ℕ) → 1 ≤ k → k ≤ 64 → IsState s → IsSlot (slot s k)
+pub slot_ordered : (s : AbstractState) (k : ℕ) → 1 ≤ k → k ≤ 64 → IsAbstractState s → IsSlot (slot s k)
 slot_ordered s k low high is = let long = is.slot_count in All-get_or IsSlot s.slots (k - 1) (Bytes 0) (omega arith) is.slots
 
 -- ---- what entries keep
@@ -107,7 +107,7 @@ still_said s (Register q w) (Slot k v) placed new x = x.said
 still_said s (Slot j w) (Slot k v) placed new x =
     slot_elsewhere s j k w (λ same. x.known (sym x.said ∙ ap (slot s) (sym same) ∙ new)) placed.0 x.placed.0 ∙ x.said
 
-now_said : (s : AbstractState) (e : Entry) → IsState s → IsPlaced e → IsSaid (put s e) e
+now_said : (s : AbstractState) (e : Entry) → IsAbstractState s → IsPlaced e → IsSaid (put s e) e
 now_said s (Register r v) is placed = let long = is.register_count in get_or-set_same s.registers (register_number r) v Any (omega (arith, placed))
 now_said s (Slot k v) is placed = let long = is.slot_count in get_or-set_same s.slots (k - 1) v (Bytes 0) (omega (arith, placed.0, placed.1))
 

@@ -5,11 +5,11 @@ use Rattle.std.proofs.lemmas.Bool.{cases_eq, cases_lt, eq-eqb, ne_eqb, cond-true
 use Rattle.std.proofs.lemmas.Grind.{and_numeral}
 use Rattle.std.proofs.lemmas.List.{get_or_past}
 use Rattle.bpf_state.specs.Access.{are_known_bytes}
-use Rattle.bpf_state.specs.declared.state.SlotState.{SlotState}
-use Rattle.bpf_state.specs.declared.state.SlotState.TheVariants.{Bytes, Word, Spilled}
+use Rattle.bpf_state.specs.declared.known.SlotState.{SlotState}
+use Rattle.bpf_state.specs.declared.known.SlotState.TheVariants.{Bytes, Word, Spilled}
 use Rattle.bpf_state.specs.declared.masked.Whole.{Whole}
 use Rattle.bpf_state.specs.declared.masked.Whole.TheVariants.{Word as Number, Ptr as Pointer}
-use Rattle.bpf_state.specs.declared.state.Area.TheVariants.{Context}
+use Rattle.bpf_state.specs.declared.known.Area.TheVariants.{Context}
 use Rattle.bpf_state.specs.State.{start_of}
 use Rattle.bpf_state.specs.State.{IsSlot, tightened_slot}
 use Rattle.bpf_state.specs.code.Masked.{whole_slot, held, held_slots, mask_of, AreSlots}

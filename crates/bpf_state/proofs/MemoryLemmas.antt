@@ -19,8 +19,8 @@ use Rattle.bpf_num.specs.Interval.{Interval, interval, unsigned_top}
 use Rattle.bpf_num.specs.SignedInterval.{SignedInterval, signed_top, signed_of_width}
 use Rattle.bpf_num.specs.Number.{Number, number, constant, tighten}
 use Rattle.bpf_insn.specs.Arithmetic.{extended}
-use Rattle.bpf_state.specs.declared.state.RegState.{RegState}
-use Rattle.bpf_state.specs.declared.state.RegState.TheVariants.{Any, Num, Ptr}
+use Rattle.bpf_state.specs.declared.known.RegState.{RegState}
+use Rattle.bpf_state.specs.declared.known.RegState.TheVariants.{Any, Num, Ptr}
 use Rattle.bpf_state.specs.State.{AbstractState, register, register_tag, put_register}
 use Rattle.bpf_state.specs.Access.{Span, span_at, is_slot, is_inside, touches, touched_bytes, is_pointer_slot, are_known_bytes, any_slot}
 use Rattle.bpf_state.specs.Fault.{is_any, is_number, is_pointer, have_right_kinds, reads_part, some_passes, fault_of, reads_any, has_wrong_kinds, is_out_of_bounds, reads_unknown_byte, writes_protected}

@@ -8,10 +8,10 @@ use Rattle.std.specs.Int.{int_min, int_max}
 use Rattle.bpf_state.proofs.AccessLemmas.{place_small}
 use Rattle.std.proofs.lemmas.Int.{ints}
 use Rattle.std.proofs.lemmas.List.{get_or-set_same, get_or-set_other, length-set, ext_get_or}
-use Rattle.bpf_state.specs.declared.state.SlotState.{SlotState}
-use Rattle.bpf_state.specs.declared.state.SlotState.TheVariants.{Bytes}
-use Rattle.bpf_state.specs.declared.state.Tag.{Tag}
-use Rattle.bpf_state.specs.Access.{Span, touches, touched_bytes, any_slot, is_known, is_slot, place_in, first_byte, span_end}
+use Rattle.bpf_state.specs.declared.known.SlotState.{SlotState}
+use Rattle.bpf_state.specs.declared.known.SlotState.TheVariants.{Bytes}
+use Rattle.bpf_state.specs.declared.known.Tag.{Tag}
+use Rattle.bpf_state.specs.Access.{Span, touches, touched_bytes, any_slot, is_known, is_slot, offset_in_slot, first_byte, span_end}
 use Rattle.bpf_state.specs.Transfer.{each_slot, each_slot_tag}
 use Rattle.bpf_state.specs.code.Parts.{IsSpan, AreTouched}
 
@@ -153,7 +153,7 @@ at_slot p k known eight at =
     and_from _ _ (and_from _ _ known (eq-eqb p.count 8 eight)) (eq-eqb (unsigned_abs p.lowest % 8) 0 (ap (λ z. unsigned_abs z % 8) at ∙ ap (λ n. n % 8) (abs_down (8 * k)) ∙ omega arith))
 
 -- eight bytes from the slot's first are the slot
-whole : (p : Span) (k : ℕ) → IsSpan p → is_known p ≡ true → 8 ≤ place_in k (span_end p) → place_in k p.lowest ≡ 0 → is_slot p ≡ true
+whole : (p : Span) (k : ℕ) → IsSpan p → is_known p ≡ true → 8 ≤ offset_in_slot k (span_end p) → offset_in_slot k p.lowest ≡ 0 → is_slot p ≡ true
 whole p k ok known up down =
     let same = (Decides-int_eq p.lowest p.highest).0 known in
     let few = ok.few in
@@ -162,12 +162,12 @@ whole p k ok known up down =
     at_slot p k known (omega (arith, ints)) (omega (arith, ints))
 
 pub partial_mask : (p : Span) (k : ℕ) → IsSpan p → is_known p ≡ true → is_slot p ≡ false → touched_bytes p k ≤ 254
-partial_mask p k ok known partial = elim (cases_lt (place_in k (span_end p)) 8) [
-  | inl lt ↦ (let top = pow_mono {i = place_in k (span_end p)} {j = 7} (omega arith) in omega arith)
-  | inr ge ↦ elim (cases_eq (place_in k p.lowest) 0) [
+partial_mask p k ok known partial = elim (cases_lt (offset_in_slot k (span_end p)) 8) [
+  | inl lt ↦ (let top = pow_mono {i = offset_in_slot k (span_end p)} {j = 7} (omega arith) in omega arith)
+  | inr ge ↦ elim (cases_eq (offset_in_slot k p.lowest) 0) [
     | inl none ↦ absurd (false≢true (sym partial ∙ whole p k ok known ge none))
-    | inr some ↦ (let top = pow_mono {i = place_in k (span_end p)} {j = 8} (place_small k (span_end p)) in
-        let bottom = pow_mono {i = 1} {j = place_in k p.lowest} (positive (place_in k p.lowest) some) in omega arith)
+    | inr some ↦ (let top = pow_mono {i = offset_in_slot k (span_end p)} {j = 8} (place_small k (span_end p)) in
+        let bottom = pow_mono {i = 1} {j = offset_in_slot k p.lowest} (positive (offset_in_slot k p.lowest) some) in omega arith)
   ]
 ]
   where

@@ -1,17 +1,17 @@
 -- What every state keeps.
 use Rattle.std.proofs.Common.{◌≡◌, sym, subst, pos, List, [], ◌∷◌, length, replicate, Option, refl, arith}
 use Rattle.std.specs.Prelude.{All}
-use Rattle.bpf_state.specs.declared.state.RegState.{RegState}
+use Rattle.bpf_state.specs.declared.known.RegState.{RegState}
 use Rattle.std.proofs.lemmas.Int.{ints}
 use Rattle.std.proofs.lemmas.List.Elements.{All-nil, All-cons, All-replicate, All-append}
-use Rattle.bpf_state.specs.declared.state.RegState.TheVariants.{Any, Ptr}
-use Rattle.bpf_state.specs.declared.state.Area.TheVariants.{Frame}
-use Rattle.bpf_state.specs.declared.state.SlotState.{SlotState}
-use Rattle.bpf_state.specs.declared.state.SlotState.TheVariants.{Bytes}
-use Rattle.bpf_state.specs.declared.state.Tag.{Tag}
-use Rattle.bpf_state.specs.State.{IsState, IsRegister, IsSlot, start_of, blank, no_tags}
+use Rattle.bpf_state.specs.declared.known.RegState.TheVariants.{Any, Ptr}
+use Rattle.bpf_state.specs.declared.known.Area.TheVariants.{Frame}
+use Rattle.bpf_state.specs.declared.known.SlotState.{SlotState}
+use Rattle.bpf_state.specs.declared.known.SlotState.TheVariants.{Bytes}
+use Rattle.bpf_state.specs.declared.known.Tag.{Tag}
+use Rattle.bpf_state.specs.State.{IsAbstractState, IsRegister, IsSlot, start_of, blank, no_tags}
 
-pub blank_is_state : IsState blank
+pub blank_is_state : IsAbstractState blank
 blank_is_state =
     record {
       register_count = refl;
@@ -23,12 +23,12 @@ blank_is_state =
     }
 
 -- nothing is known of the slots, and none holds a counter
-pub unknown_is_state : (slots : List SlotState) (tags : List (Option Tag)) → slots ≡ replicate 64 (Bytes 0) → tags ≡ no_tags 64 → IsState (record blank { slots = slots; slot_tags = tags })
-unknown_is_state slots tags e none = subst (λ t. IsState (record blank { slots = slots; slot_tags = t })) (sym none) (subst (λ l. IsState (record blank { slots = l })) (sym e) blank_is_state)
+pub unknown_is_state : (slots : List SlotState) (tags : List (Option Tag)) → slots ≡ replicate 64 (Bytes 0) → tags ≡ no_tags 64 → IsAbstractState (record blank { slots = slots; slot_tags = tags })
+unknown_is_state slots tags e none = subst (λ t. IsAbstractState (record blank { slots = slots; slot_tags = t })) (sym none) (subst (λ l. IsAbstractState (record blank { slots = l })) (sym e) blank_is_state)
 
 -- nor of the registers, whatever the tags are
 pub untouched_tags : (slots : List SlotState) (register_tags slot_tags : List (Option Tag)) → slots ≡ replicate 64 (Bytes 0) → length register_tags ≡ 11 → length slot_tags ≡ 64
-    → IsState (record blank { slots = slots; register_tags = register_tags; slot_tags = slot_tags })
+    → IsAbstractState (record blank { slots = slots; register_tags = register_tags; slot_tags = slot_tags })
 untouched_tags slots register_tags slot_tags e few many =
     let is = unknown_is_state slots (no_tags 64) e refl in
     record {
@@ -55,7 +55,7 @@ callee_rest_is =
     (All-cons IsRegister Any (Ptr (start_of Frame) ∷ []) tt
     (All-cons IsRegister (Ptr (start_of Frame)) [] (omega (arith, ints)) (All-nil IsRegister)))))
 
-callee_is_state : (a b c d e : RegState) → IsRegister a → IsRegister b → IsRegister c → IsRegister d → IsRegister e → IsState (record blank { registers = callee_registers a b c d e })
+callee_is_state : (a b c d e : RegState) → IsRegister a → IsRegister b → IsRegister c → IsRegister d → IsRegister e → IsAbstractState (record blank { registers = callee_registers a b c d e })
 callee_is_state a b c d e ha hb hc hd he =
     record {
       register_count = refl;
@@ -72,7 +72,7 @@ callee_is_state a b c d e ha hb hc hd he =
       slots = All-replicate IsSlot 64 (Bytes 0) (omega arith);
     }
 
-pub entered_is_state : (a b c d e : RegState) (slots : List SlotState) (tags : List (Option Tag)) → IsRegister a → IsRegister b → IsRegister c → IsRegister d → IsRegister e → slots ≡ replicate 64 (Bytes 0) → tags ≡ no_tags 64 → IsState (record blank { registers = callee_registers a b c d e; slots = slots; slot_tags = tags })
+pub entered_is_state : (a b c d e : RegState) (slots : List SlotState) (tags : List (Option Tag)) → IsRegister a → IsRegister b → IsRegister c → IsRegister d → IsRegister e → slots ≡ replicate 64 (Bytes 0) → tags ≡ no_tags 64 → IsAbstractState (record blank { registers = callee_registers a b c d e; slots = slots; slot_tags = tags })
 entered_is_state a b c d e slots tags ha hb hc hd he is none =
-    subst (λ t. IsState (record blank { registers = callee_registers a b c d e; slots = slots; slot_tags = t })) (sym none)
-    (subst (λ l. IsState (record blank { registers = callee_registers a b c d e; slots = l })) (sym is) (callee_is_state a b c d e ha hb hc hd he))
+    subst (λ t. IsAbstractState (record blank { registers = callee_registers a b c d e; slots = slots; slot_tags = t })) (sym none)
+    (subst (λ l. IsAbstractState (record blank { registers = callee_registers a b c d e; slots = l })) (sym is) (callee_is_state a b c d e ha hb hc hd he))

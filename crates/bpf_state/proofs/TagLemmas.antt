@@ -2,7 +2,7 @@
 use Rattle.std.proofs.Common.{◌≡◌, ℕ, ◌<◌, Bool, true, false, List, length, get_or, Option, None, sym, ap, ◌∙◌}
 use Rattle.std.specs.Prelude.{set}
 use Rattle.std.proofs.lemmas.List.{get_or-replicate, set-get_or}
-use Rattle.bpf_state.specs.declared.state.Tag.{Tag}
+use Rattle.bpf_state.specs.declared.known.Tag.{Tag}
 use Rattle.bpf_state.specs.code.Tags.{held_tags}
 
 pub count_tags : (some : Bool) (tags held : List (Option Tag)) → held_tags some tags ≡ held → length tags ≡ 64 → length held ≡ 64

@@ -21,9 +21,9 @@ use Rattle.bpf_num.specs.Interval.{unsigned_top}
 use Rattle.bpf_num.specs.SignedInterval.{signed_interval, signed_sub}
 use Rattle.bpf_num.specs.Number.{Number, number, constant, tighten}
 use Rattle.bpf_num.specs.Operation.{num_alu}
-use Rattle.bpf_state.specs.declared.state.RegState.{RegState}
-use Rattle.bpf_state.specs.declared.state.RegState.TheVariants.{Any, Num, Ptr}
-use Rattle.bpf_state.specs.declared.state.Pointer.{Pointer}
+use Rattle.bpf_state.specs.declared.known.RegState.{RegState}
+use Rattle.bpf_state.specs.declared.known.RegState.TheVariants.{Any, Num, Ptr}
+use Rattle.bpf_state.specs.declared.known.Pointer.{Pointer}
 use Rattle.bpf_state.specs.State.{AbstractState, register, same_area}
 use Rattle.bpf_state.specs.Access.{Span, span_of, is_slot, is_inside, touches, touched_bytes, is_pointer_slot, are_known_bytes, any_slot}
 

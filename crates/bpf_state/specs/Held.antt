@@ -1,7 +1,7 @@
 -- What an abstract state tells of a place.
-use Rattle.bpf_state.specs.declared.state.RegState.{RegState}
-use Rattle.bpf_state.specs.declared.state.Place.{Place}
-use Rattle.bpf_state.specs.declared.state.Place.TheVariants.{Register, Slot}
+use Rattle.bpf_state.specs.declared.known.RegState.{RegState}
+use Rattle.bpf_state.specs.declared.known.Place.{Place}
+use Rattle.bpf_state.specs.declared.known.Place.TheVariants.{Register, Slot}
 use Rattle.bpf_state.specs.State.{AbstractState, register, slot, slot_value}
 
 -- what a register holds, or a slot as a whole

@@ -8,16 +8,16 @@ use Rattle.bpf_num.specs.Tristate.{bits_top}
 use Rattle.bpf_num.specs.Interval.{interval}
 use Rattle.bpf_num.specs.SignedInterval.{signed_top}
 use Rattle.bpf_num.specs.Number.{Number, number, tighten}
-use Rattle.bpf_state.specs.declared.state.RegState.{RegState}
-use Rattle.bpf_state.specs.declared.state.RegState.TheVariants.{Any, Num, Ptr}
-use Rattle.bpf_state.specs.declared.state.Area.{Area}
-use Rattle.bpf_state.specs.declared.state.Area.TheVariants.{Context, Frame}
-use Rattle.bpf_state.specs.declared.state.Pointer.{Pointer}
-use Rattle.bpf_state.specs.declared.state.SlotState.{SlotState}
-use Rattle.bpf_state.specs.declared.state.SlotState.TheVariants.{Bytes, Word, Spilled}
-use Rattle.bpf_state.specs.declared.state.Place.{Place}
-use Rattle.bpf_state.specs.declared.state.Place.TheVariants.{Register, Slot}
-use Rattle.bpf_state.specs.declared.state.Tag.{Tag}
+use Rattle.bpf_state.specs.declared.known.RegState.{RegState}
+use Rattle.bpf_state.specs.declared.known.RegState.TheVariants.{Any, Num, Ptr}
+use Rattle.bpf_state.specs.declared.known.Area.{Area}
+use Rattle.bpf_state.specs.declared.known.Area.TheVariants.{Context, Frame}
+use Rattle.bpf_state.specs.declared.known.Pointer.{Pointer}
+use Rattle.bpf_state.specs.declared.known.SlotState.{SlotState}
+use Rattle.bpf_state.specs.declared.known.SlotState.TheVariants.{Bytes, Word, Spilled}
+use Rattle.bpf_state.specs.declared.known.Place.{Place}
+use Rattle.bpf_state.specs.declared.known.Place.TheVariants.{Register, Slot}
+use Rattle.bpf_state.specs.declared.known.Tag.{Tag}
 
 -- r0 to r10, the slots 1 to 64, and the tag of each; slot k has the eight bytes from 8 * k below the frame's end
 pub record AbstractState : Type 0 where
@@ -42,7 +42,7 @@ IsSlot (Word n) = Unit {0}
 IsSlot (Spilled p) = IsPointer p
 
 -- what every state keeps
-pub record IsState (s : AbstractState) : Type 0 where
+pub record IsAbstractState (s : AbstractState) : Type 0 where
   pub register_count : length s.registers ≡ 11
   pub slot_count : length s.slots ≡ 64
   pub register_tag_count : length s.register_tags ≡ 11
@@ -142,8 +142,8 @@ abbrev pub from_to : ℕ → ℕ → RegState
 from_to least most = option_map_or Num (tighten (number bits_top (interval least most) signed_top)) Any
 
 -- a run begins with the context in r1 and its length, from `least` to `most`, in r2
-abbrev pub start : ℕ → ℕ → AbstractState
-start least most = put_register R1 (Ptr (start_of Context)) None (put_register R2 (from_to least most) None blank)
+abbrev pub first_state : ℕ → ℕ → AbstractState
+first_state least most = put_register R1 (Ptr (start_of Context)) None (put_register R2 (from_to least most) None blank)
 
 -- ---- calls
 
@@ -156,15 +156,15 @@ abbrev pub each_without_frame : List RegState → List RegState
 each_without_frame [] = []
 each_without_frame (value ∷ values) = without_frame value ∷ each_without_frame values
 
-abbrev pub entered : AbstractState → AbstractState
-entered s =
+abbrev pub callee_state : AbstractState → AbstractState
+callee_state s =
     record blank {
       registers = Any ∷ each_without_frame (take 5 (drop 1 s.registers)) ++ replicate 4 Any ++ Ptr (start_of Frame) ∷ [];
     }
 
 -- after a call r0 is what the callee returns, r1 to r5 are gone, and the rest is kept
-abbrev pub left : Number → AbstractState → Option AbstractState
-left returned s =
+abbrev pub caller_state : Number → AbstractState → Option AbstractState
+caller_state returned s =
     option_map
     (λ n. record s {
       registers = Num n ∷ replicate 5 Any ++ drop 6 s.registers;

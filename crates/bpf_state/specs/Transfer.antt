@@ -21,11 +21,11 @@ use Rattle.bpf_num.specs.SignedInterval.{signed_top, signed_of_width}
 use Rattle.bpf_num.specs.Number.{Number, number, top, constant, is_constant, tighten}
 use Rattle.bpf_num.specs.Operation.{num_neg, num_movsx, num_end}
 use Rattle.bpf_num.specs.Refine.{refine}
-use Rattle.bpf_state.specs.declared.state.RegState.{RegState}
-use Rattle.bpf_state.specs.declared.state.RegState.TheVariants.{Num}
-use Rattle.bpf_state.specs.declared.state.SlotState.{SlotState}
-use Rattle.bpf_state.specs.declared.state.SlotState.TheVariants.{Bytes, Word, Spilled}
-use Rattle.bpf_state.specs.declared.state.Tag.{Tag}
+use Rattle.bpf_state.specs.declared.known.RegState.{RegState}
+use Rattle.bpf_state.specs.declared.known.RegState.TheVariants.{Num}
+use Rattle.bpf_state.specs.declared.known.SlotState.{SlotState}
+use Rattle.bpf_state.specs.declared.known.SlotState.TheVariants.{Bytes, Word, Spilled}
+use Rattle.bpf_state.specs.declared.known.Tag.{Tag}
 use Rattle.bpf_state.specs.State.{AbstractState, register, register_tag, slot, slot_tag, put_register, put_slot, slot_value, value_slot}
 use Rattle.bpf_state.specs.Access.{Span, span_of, is_known, is_slot, slot_number, touches, touched_bytes}
 use Rattle.bpf_state.specs.Fault.{operand, alu_of_kinds, fault_of}

@@ -1,7 +1,7 @@
 //! Which bytes an access may touch.
 
 use crate::fault::StateFault;
-use crate::state::{FRAME_START, RegState};
+use crate::known::{FRAME_START, RegState};
 use bpf_insn::{FRAME_BYTES, Size};
 use std::marker::Model;
 
@@ -30,7 +30,7 @@ impl Model for Reach {
 ghost use Rattle.std.specs.Prelude.{◌≡◌, ◌<◌, ◌^◌, ◌≤ℤ◌, ◌+ℤ◌, ◌-ℤ◌, pos, neg_ℤ, suc, IsTrue, true, Some, MatchResult};
 ghost use Rattle.bpf_state.specs.Fault.{is_pointer};
 ghost use Rattle.bpf_insn.specs.Instruction.{byte_count};
-ghost use Rattle.bpf_state.specs.Access.{span_at, span_end, is_known, is_slot, is_inside, slot_number, first_byte, place_in, touched_bytes};
+ghost use Rattle.bpf_state.specs.Access.{span_at, span_end, is_known, is_slot, is_inside, slot_number, first_byte, offset_in_slot, touched_bytes};
 ghost use Rattle.bpf_state.specs.State.{IsRegister};
 ghost use Rattle.bpf_state.specs.code.Parts.{IsSpan, AreTouched, base_fault, depth_of};
 ghost use Rattle.bpf_state.specs.Answer.{fault_number};
@@ -118,7 +118,7 @@ impl Reach {
         }
     }
 
-    /// The places of the slots that may be touched among all 64: the first, and the end of these places.
+    /// The indices of the slots that may be touched among all 64: the first, and the end of these.
     pub(crate) fn slots(self) -> (usize, usize)
         ensures { AreTouched self result.0 result.1 }
     {
@@ -128,8 +128,8 @@ impl Reach {
         (depth_of(self.end()) / 8, (depth_of(self.lowest) + 7) / 8)
     }
 
-    /// The place among all slots of the one that it is.
-    pub(crate) fn place(self) -> usize
+    /// The index among all slots of the one that it is.
+    pub(crate) fn index(self) -> usize
         requires framed { IsTrue self.in_frame }
         requires slot { IsTrue (is_slot self) }
         requires inside { IsTrue (is_inside 0 self) }
@@ -144,8 +144,8 @@ impl Reach {
         requires { index < 64 }
         ensures { result ≡ touched_bytes self (suc index) }
     {
-        let from = place_in(index, self.lowest);
-        let to = place_in(index, self.end());
+        let from = offset_in_slot(index, self.lowest);
+        let to = offset_in_slot(index, self.end());
         ((1u16 << to) - (1u16 << from)) as u8
     }
 }
@@ -169,12 +169,12 @@ fn above_slot(index: usize, offset: i128) -> i128
     offset + 8 * (index as i128 + 1)
 }
 
-/// How far an offset lies above the first byte of the slot at a place: at least 0, at most 8.
-fn place_in(index: usize, offset: i128) -> u32
+/// How far an offset lies above the first byte of the slot with an index: at least 0, at most 8.
+fn offset_in_slot(index: usize, offset: i128) -> u32
     requires slot { index < 64 }
     requires above { neg_ℤ (pos (2 ^ 65)) ≤ℤ offset }
     requires below { offset ≤ℤ pos (2 ^ 65) }
-    ensures { result ≡ place_in (suc index) offset }
+    ensures { result ≡ offset_in_slot (suc index) offset }
 {
     above_slot(index, offset).clamp(0, 8) as u32
 }

@@ -4,8 +4,8 @@ ghost use Rattle.std.specs.Prelude.{◌≡◌, false};
 ghost use Rattle.bpf_state.specs.Transfer.{branch, refine_register, refine_operand, is_register};
 ghost use Rattle.bpf_state.specs.Answer.{edge_told};
 
-use crate::abstract_state::State;
-use crate::state::RegState;
+use crate::known::RegState;
+use crate::state::State;
 use bpf_insn::{Insn, Operand, Reg};
 use bpf_num::Num;
 

@@ -1,12 +1,12 @@
 //! Calls of functions: a callee's first state, and its caller's after it.
 
 ghost use Rattle.std.specs.Prelude.{◌≡◌, ◌++◌, ◌∷◌, length, replicate, drop, All, None, false};
-ghost use Rattle.bpf_state.specs.State.{IsRegister, entered, left, without_frame, no_tags};
-ghost use Rattle.bpf_state.specs.declared.state.RegState.TheVariants.{Any, Num as Number};
+ghost use Rattle.bpf_state.specs.State.{IsRegister, callee_state, caller_state, without_frame, no_tags};
+ghost use Rattle.bpf_state.specs.declared.known.RegState.TheVariants.{Any, Num as Number};
 ghost use Rattle.bpf_state.specs.Answer.{edge_told};
 
-use crate::abstract_state::State;
-use crate::state::{Area, Pointer, RegState, Tag};
+use crate::known::{Area, Pointer, RegState, Tag};
+use crate::state::State;
 use bpf_num::Num;
 
 fn without_frame(held: RegState) -> RegState
@@ -27,7 +27,7 @@ fn without_frame(held: RegState) -> RegState
 /// Makes the state of a caller its callee's: r1 to r5 are kept, but a pointer into the caller's frame; r10 points to the
 /// end of a fresh frame, and nothing else is known.
 pub fn enter(state: &mut State)
-    ensures { state.new ≡ entered state.old }
+    ensures { state.new ≡ callee_state state.old }
 {
     let registers = [
         RegState::Any,
@@ -78,7 +78,7 @@ fn forget_counters(tags: &mut [Option<Tag>; 11])
 /// Makes the state at a call the one after it: r0 is what the callee returns, nothing is known of r1 to r5, and the rest
 /// is kept. False if the returned number has no member; then the state is as it was.
 pub fn leave(state: &mut State, ret: Num) -> bool
-    ensures edge { edge_told result state.new ≡ left ret state.old }
+    ensures edge { edge_told result state.new ≡ caller_state ret state.old }
     ensures kept { result ≡ false → state.new ≡ state.old }
 {
     match ret.tighten() {

@@ -1,14 +1,14 @@
 //! Whether an abstract state lies in another. Tags aren't looked at.
 
 ghost use Rattle.std.specs.Prelude.{◌≡◌, ◌<◌, ◌-◌, get_or, bit_and, All};
-ghost use Rattle.bpf_state.specs.declared.state.SlotState.TheVariants.{Bytes};
+ghost use Rattle.bpf_state.specs.declared.known.SlotState.TheVariants.{Bytes};
 ghost use Rattle.bpf_state.specs.State.{IsSlot};
 ghost use Rattle.bpf_state.specs.code.Masked.{mask_of};
 ghost use Rattle.bpf_state.specs.Entails.{pointer_entails, register_entails, slot_entails, all_pairs, state_entails};
 
-use crate::abstract_state::State;
+use crate::known::{Pointer, RegState, SlotState};
 use crate::masked::Slots;
-use crate::state::{Pointer, RegState, SlotState};
+use crate::state::State;
 
 impl Pointer {
     /// Whether it points into the same as the other, with bounds no wider.

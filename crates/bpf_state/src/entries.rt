@@ -7,12 +7,12 @@ ghost use Rattle.bpf_state.specs.Held.{held};
 ghost use Rattle.bpf_state.specs.Entails.{state_entails};
 ghost use Rattle.std.specs.List.{list_all};
 ghost use Rattle.bpf_state.specs.code.Entries.{AreEntries, IsPlaced, state_of, keeps};
-ghost use Rattle.bpf_state.specs.declared.state.RegState.TheVariants.{Ptr};
-ghost use Rattle.bpf_state.specs.declared.state.Area.TheVariants.{Frame};
-ghost use Rattle.bpf_state.specs.declared.state.SlotState.TheVariants.{Bytes};
+ghost use Rattle.bpf_state.specs.declared.known.RegState.TheVariants.{Ptr};
+ghost use Rattle.bpf_state.specs.declared.known.Area.TheVariants.{Frame};
+ghost use Rattle.bpf_state.specs.declared.known.SlotState.TheVariants.{Bytes};
 
-use crate::abstract_state::State;
-use crate::state::{Area, Place, Pointer, RegState, SlotState, numbered};
+use crate::known::{Area, Place, Pointer, RegState, SlotState};
+use crate::state::State;
 use bpf_insn::Reg;
 use std::alloc::{AllocError, Global};
 use std::marker::Model;
@@ -140,7 +140,7 @@ fn put_registers(entries: &mut Entries, state: &State) -> Result<(), AllocError>
 {
     state.valid();
     for i in 0..10u8 {
-        let r = numbered(i);
+        let r = Reg::numbered(i);
         entries.put_reg(r, state.reg(r))?;
     }
     Ok(())
@@ -162,8 +162,8 @@ fn put_slots(entries: &mut Entries, state: &State) -> Result<(), AllocError>
 }
 
 impl Entries {
-    ghost use Rattle.bpf_state.specs.State.{IsState, with_register, with_slot};
-    ghost use Rattle.bpf_state.specs.declared.state.RegState.TheVariants.{Any};
+    ghost use Rattle.bpf_state.specs.State.{IsAbstractState, with_register, with_slot};
+    ghost use Rattle.bpf_state.specs.declared.known.RegState.TheVariants.{Any};
     ghost use Rattle.bpf_state.specs.Bare.{IsBare, bare};
     ghost use Rattle.bpf_state.specs.code.Entries.{IsOrdered, IsKnown, IsNew, put};
 

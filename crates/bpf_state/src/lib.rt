@@ -1,28 +1,28 @@
 //! Abstract states: what is known of the registers and of the top frame's slots, and what instructions make of it.
 #![tactic(auto)]
 
-mod abstract_state;
 mod access;
 mod branches;
 mod calls;
 mod entailment;
 mod entries;
 pub mod fault;
+pub mod known;
 mod lanes;
 mod masked;
 mod slots;
-pub mod state;
+mod state;
 mod tags;
 mod tightening;
 mod transfers;
 mod work;
 
-pub use abstract_state::State;
 pub use branches::branch;
 pub use calls::{enter, leave};
 pub use entries::Entries;
 pub use fault::StateFault;
+pub use known::{Area, FARTHEST, FRAME_START, Place, Pointer, RegState, SlotState, Tag};
 pub use lanes::covers;
-pub use state::{Area, FARTHEST, FRAME_START, Place, Pointer, RegState, SlotState, Tag, numbered};
+pub use state::State;
 pub use transfers::transfer;
 pub use work::Work;

@@ -1,7 +1,7 @@
 //! The slots of a frame, their byte masks together.
 
+use crate::known::{Area, Pointer, SlotState};
 use crate::lanes::{are_zero, covers};
-use crate::state::{Area, Pointer, SlotState};
 use bpf_num::Num;
 use std::fmt::{self, Debug, Formatter, Write};
 use std::marker::Model;
@@ -23,7 +23,7 @@ pub(crate) struct Slots {
 
 impl Model for Slots {
     ghost use Rattle.std.specs.Prelude.{List};
-    ghost use Rattle.bpf_state.specs.declared.state.SlotState.{SlotState};
+    ghost use Rattle.bpf_state.specs.declared.known.SlotState.{SlotState};
 
     ghost Value = { List SlotState };
 
@@ -36,7 +36,7 @@ impl Model for Slots {
 
 impl Slots {
     ghost use Rattle.std.specs.Prelude.{◌≡◌, ◌↔◌, ◌<◌, IsTrue, true, length, get_or, map, slice_set, replicate};
-    ghost use Rattle.bpf_state.specs.declared.state.SlotState.TheVariants.{Bytes};
+    ghost use Rattle.bpf_state.specs.declared.known.SlotState.TheVariants.{Bytes};
     ghost use Rattle.bpf_state.specs.State.{IsSlot};
     ghost use Rattle.bpf_state.specs.Access.{are_known_bytes};
     ghost use Rattle.bpf_state.specs.code.Masked.{mask_of};

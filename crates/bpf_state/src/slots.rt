@@ -5,10 +5,10 @@ ghost use Rattle.bpf_state.specs.State.{IsSlot};
 ghost use Rattle.bpf_state.specs.Access.{is_known, is_slot, touches, touched_bytes, is_pointer_slot, are_known_bytes, any_slot};
 ghost use Rattle.bpf_state.specs.Transfer.{slot_written, slot_maybe_written, each_slot, each_slot_tag, with_touched};
 
-use crate::abstract_state::State;
 use crate::access::Reach;
+use crate::known::{SlotState, Tag};
 use crate::masked::Slots;
-use crate::state::{SlotState, Tag};
+use crate::state::State;
 use crate::tags::SlotTags;
 use bpf_num::Num;
 

@@ -1,6 +1,6 @@
 //! The counters that the slots of a frame hold.
 
-use crate::state::Tag;
+use crate::known::Tag;
 use std::fmt::{self, Debug, Formatter, Write};
 use std::marker::Model;
 
@@ -14,7 +14,7 @@ pub(crate) struct SlotTags {
 
 impl Model for SlotTags {
     ghost use Rattle.std.specs.Prelude.{◌≡◌, List, Option, length};
-    ghost use Rattle.bpf_state.specs.declared.state.Tag.{Tag};
+    ghost use Rattle.bpf_state.specs.declared.known.Tag.{Tag};
     ghost use Rattle.bpf_state.specs.code.Tags.{held_tags};
 
     ghost Value = { List (Option Tag) };

@@ -4,9 +4,9 @@ ghost use Rattle.std.specs.Prelude.{◌≡◌, length, All, IfSome};
 ghost use Rattle.bpf_state.specs.State.{IsRegister, IsSlot, tightened_register, tightened_slot, each_if};
 ghost use Rattle.bpf_state.specs.Answer.{list_told};
 
-use crate::abstract_state::State;
+use crate::known::{RegState, SlotState};
 use crate::masked::Slots;
-use crate::state::{RegState, SlotState};
+use crate::state::State;
 
 fn tightened_register(held: RegState) -> Option<RegState>
     requires { IsRegister held }

@@ -12,9 +12,9 @@ ghost use Rattle.bpf_state.specs.Fault.{can_test};
 ghost use Rattle.bpf_state.specs.Transfer.{transfer};
 ghost use Rattle.bpf_state.specs.Answer.{outcome_told, KeepsUnlessDone};
 
-use crate::abstract_state::State;
 use crate::fault::StateFault;
-use crate::state::RegState;
+use crate::known::RegState;
+use crate::state::State;
 use bpf_insn::{Cond, Insn, Operand, Order, Reg, Width};
 
 /// Makes the state at an instruction the one after it, in every context of at least `least` bytes. False if that state

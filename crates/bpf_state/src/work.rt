@@ -1,9 +1,9 @@
 //! Counted work.
 
-use crate::abstract_state::State;
 use crate::entries::Entries;
 use crate::fault::StateFault;
-use crate::state::RegState;
+use crate::known::RegState;
+use crate::state::State;
 use crate::transfers::transfer;
 use bpf_insn::{Insn, Order, Reg};
 use bpf_num::Num;
@@ -27,7 +27,7 @@ impl Model for Work {
 impl Work {
     ghost use Rattle.std.specs.Prelude.{◌≡◌};
     ghost use Rattle.bpf_insn.specs.declared.instruction.Reg.TheVariants.{R0};
-    ghost use Rattle.bpf_state.specs.declared.state.RegState.TheVariants.{Num as Number};
+    ghost use Rattle.bpf_state.specs.declared.known.RegState.TheVariants.{Num as Number};
     ghost use Rattle.bpf_state.specs.State.{register};
     ghost use Rattle.bpf_state.specs.Transfer.{transfer};
     ghost use Rattle.bpf_state.specs.Entails.{register_entails, state_entails};

@@ -27,7 +27,7 @@ use Rattle.bpf_text.specs.code.WordReading.{word_in, behind, behind_word, behind
 use Rattle.bpf_text.specs.Statements.{plain}
 use Rattle.bpf_text.specs.Spelling.{register_text, cond_text, modify_text, unsigned_text, signed_text}
 use Rattle.bpf_text.specs.Parts.{memories, memory_text}
-use Rattle.bpf_text.specs.code.StatementReading.{load_in, place_in, assigned_in, store_in, change_in, exchange_in, atomic_in, wide_of, target_in, branch_in, register_in}
+use Rattle.bpf_text.specs.code.StatementReading.{load_in, memory_operand_in, assigned_in, store_in, change_in, exchange_in, atomic_in, wide_of, target_in, branch_in, register_in}
 use Rattle.bpf_text.specs.Statements.{store_of, jump_by}
 use Rattle.bpf_text.specs.Listing.{r_text, offset_text, distance_text, operand_text, atomic_word, atomic_sign}
 use Rattle.bpf_text.proofs.WordLemmas.{Stops, decimal_number, unsigned_here, unsigned_behind_blank, word_behind_blank}
@@ -90,8 +90,8 @@ pointer_ahead text = (refl, refl)
 pub place_here : (memory : Memory) (spelled : List ℕ) (base : Reg) (off : ℤ) (text behind_it : List ℕ) → FitsSigned w16 off
     → behind (codes "*(") text ≡ Some (spelled ++ pointer_text base off behind_it)
     → first_spelled memory_text memories (spelled ++ pointer_text base off behind_it) ≡ Some (memory, pointer_text base off behind_it)
-    → place_in text ≡ Some (record { memory = memory; base = base; off = Some off }, behind_it)
-unfolding place_in
+    → memory_operand_in text ≡ Some (record { memory = memory; base = base; off = Some off }, behind_it)
+unfolding memory_operand_in
 place_here memory spelled base off text behind_it fits star size =
     let marks = pointer_ahead (register_text W64 base ++ (codes " " ++ (offset_text off ++ 41 ∷ behind_it))) in
     let closing = pointer_ahead behind_it in
@@ -105,13 +105,13 @@ unfolding behind behind_mark
 star_ahead text = (refl, refl)
 
 unsigned_place : (size : Size) (base : Reg) (off : ℤ) (text behind_it : List ℕ) → FitsSigned w16 off → behind (codes "*(") text ≡ Some (unsigned_text size ++ pointer_text base off behind_it)
-    → place_in text ≡ Some (record { memory = Unsigned size; base = base; off = Some off }, behind_it)
+    → memory_operand_in text ≡ Some (record { memory = Unsigned size; base = base; off = Some off }, behind_it)
 unsigned_place size base off text behind_it fits star =
     place_here (Unsigned size) (unsigned_text size) base off text behind_it fits star
     (unsigned_found size (codes "*)(" ++ (register_text W64 base ++ (codes " " ++ (offset_text off ++ 41 ∷ behind_it)))))
 
 signed_place : (size : Size) (base : Reg) (off : ℤ) (text behind_it : List ℕ) → IsSigned size → FitsSigned w16 off → behind (codes "*(") text ≡ Some (signed_text size ++ pointer_text base off behind_it)
-    → place_in text ≡ Some (record { memory = Signed size; base = base; off = Some off }, behind_it)
+    → memory_operand_in text ≡ Some (record { memory = Signed size; base = base; off = Some off }, behind_it)
 signed_place size base off text behind_it is fits star =
     place_here (Signed size) (signed_text size) base off text behind_it fits star
     (signed_found size (codes "*)(" ++ (register_text W64 base ++ (codes " " ++ (offset_text off ++ 41 ∷ behind_it)))) is)

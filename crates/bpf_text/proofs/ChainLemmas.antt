@@ -1,4 +1,4 @@
--- Labels that are chained by the places of their names.
+-- Labels that are chained by the buckets of their names.
 use Rattle.std.proofs.Common.{◌≡◌, ℕ, ◌+◌, ◌-◌, ◌<◌, ◌≤◌, ⊎_elim, Bool, true, false, cond, List, [], ◌∷◌, ◌++◌, Some, None, length, take, get_or, set, map, refl, sym, ap, ◌∙◌, subst, length-append, arith}
 use Rattle.std.specs.Str.{bytes_eq}
 use Rattle.std.proofs.lemmas.Slice.Eq.{bytes_eq-Decides}
@@ -7,34 +7,34 @@ use Rattle.std.proofs.lemmas.List.{take_more, take_all, take-append-le, get_or_a
 use Rattle.bpf_text.specs.Sources.{Label}
 use Rattle.bpf_text.specs.Assembly.{slot_of}
 use Rattle.bpf_text.specs.declared.chains.Entry.{Entry}
-use Rattle.bpf_text.specs.code.Chains.{place_of, Leads, IsChained, Seeks, entry_label, entry_link}
+use Rattle.bpf_text.specs.code.Chains.{bucket_of, ChainLeads, IsChained, Seeks, entry_label, entry_link}
 use Rattle.bpf_text.proofs.AssemblerLemmas.{slot_push}
 
 -- ---- a search
 
--- the labels below one place more
+-- the labels below one bucket more
 one_more : (ls : List Label) (k : ℕ) (d : Label) (name : List ℕ) → k < length ls → slot_of (take k ls) (get_or ls k d).name ≡ None
     → slot_of (take (k + 1) ls) name ≡ cond (bytes_eq (get_or ls k d).name name) (Some (get_or ls k d).slot) (slot_of (take k ls) name)
 one_more ls k d name inside none = ap (λ xs. slot_of xs name) (take_more ls k d inside) ∙ slot_push (take k ls) (get_or ls k d) name none
 
-at_label : (places : ℕ) (ls : List Label) (heads links : List ℕ) → IsChained places ls heads links → (name : List ℕ) (at : ℕ) (d : Label) → Seeks places ls name at → 0 < at
+at_label : (buckets : ℕ) (ls : List Label) (heads links : List ℕ) → IsChained buckets ls heads links → (name : List ℕ) (at : ℕ) (d : Label) → Seeks buckets ls name at → 0 < at
     → slot_of ls name ≡ cond (bytes_eq (get_or ls (at - 1) d).name name) (Some (get_or ls (at - 1) d).slot) (slot_of (take (at - 1) ls) name)
-at_label places ls heads links chained name at d seeks some =
+at_label buckets ls heads links chained name at d seeks some =
     let whole : at ≡ at - 1 + 1 = omega (arith, some) in
     let below : at - 1 < length ls = omega (arith, some, seeks.inside) in
     sym seeks.same ∙ ap (λ n. slot_of (take n ls) name) whole ∙ one_more ls (at - 1) d name below (chained.differ (at - 1) d below)
 
-pub seek_found : (places : ℕ) (ls : List Label) (heads links : List ℕ) → IsChained places ls heads links → (name : List ℕ) (at : ℕ) (d : Label) → Seeks places ls name at → 0 < at
+pub seek_found : (buckets : ℕ) (ls : List Label) (heads links : List ℕ) → IsChained buckets ls heads links → (name : List ℕ) (at : ℕ) (d : Label) → Seeks buckets ls name at → 0 < at
     → bytes_eq (get_or ls (at - 1) d).name name ≡ true → Some (get_or ls (at - 1) d).slot ≡ slot_of ls name
-seek_found places ls heads links chained name at d seeks some e = sym (at_label places ls heads links chained name at d seeks some ∙ ap (λ b. cond b (Some (get_or ls (at - 1) d).slot) (slot_of (take (at - 1) ls) name)) e)
+seek_found buckets ls heads links chained name at d seeks some e = sym (at_label buckets ls heads links chained name at d seeks some ∙ ap (λ b. cond b (Some (get_or ls (at - 1) d).slot) (slot_of (take (at - 1) ls) name)) e)
 
-pub seek_on : (places : ℕ) (ls : List Label) (heads links : List ℕ) → IsChained places ls heads links → (name : List ℕ) (at x : ℕ) (d : Label) → Seeks places ls name at → 0 < at
-    → bytes_eq (get_or ls (at - 1) d).name name ≡ false → Seeks places ls name (get_or links (at - 1) x)
-seek_on places ls heads links chained name at x d seeks some e =
+pub seek_on : (buckets : ℕ) (ls : List Label) (heads links : List ℕ) → IsChained buckets ls heads links → (name : List ℕ) (at x : ℕ) (d : Label) → Seeks buckets ls name at → 0 < at
+    → bytes_eq (get_or ls (at - 1) d).name name ≡ false → Seeks buckets ls name (get_or links (at - 1) x)
+seek_on buckets ls heads links chained name at x d seeks some e =
     let below : at - 1 < length ls = omega (arith, some, seeks.inside) in
-    let lead : Leads places ls (place_of places (get_or ls (at - 1) d).name) (at - 1) (get_or links (at - 1) x) = chained.goes_on (at - 1) x d below in
-    let here : place_of places (get_or ls (at - 1) d).name ≡ place_of places name = seeks.there d some in
-    let rest : slot_of ls name ≡ slot_of (take (at - 1) ls) name = at_label places ls heads links chained name at d seeks some ∙ ap (λ b. cond b (Some (get_or ls (at - 1) d).slot) (slot_of (take (at - 1) ls) name)) e in
+    let lead : ChainLeads buckets ls (bucket_of buckets (get_or ls (at - 1) d).name) (at - 1) (get_or links (at - 1) x) = chained.goes_on (at - 1) x d below in
+    let here : bucket_of buckets (get_or ls (at - 1) d).name ≡ bucket_of buckets name = seeks.there d some in
+    let rest : slot_of ls name ≡ slot_of (take (at - 1) ls) name = at_label buckets ls heads links chained name at d seeks some ∙ ap (λ b. cond b (Some (get_or ls (at - 1) d).slot) (slot_of (take (at - 1) ls) name)) e in
     record {
       inside = omega (arith, lead.inside, seeks.inside);
       there = λ f more. lead.there f more ∙ here;
@@ -42,88 +42,88 @@ seek_on places ls heads links chained name at x d seeks some e =
     }
 
 -- each link goes down
-pub link_below : (places : ℕ) (ls : List Label) (heads links : List ℕ) → IsChained places ls heads links → (k x : ℕ) → Label → k < length ls → get_or links k x ≤ k
-link_below places ls heads links chained k x d inside = let lead : Leads places ls (place_of places (get_or ls k d).name) k (get_or links k x) = chained.goes_on k x d inside in lead.inside
+pub link_below : (buckets : ℕ) (ls : List Label) (heads links : List ℕ) → IsChained buckets ls heads links → (k x : ℕ) → Label → k < length ls → get_or links k x ≤ k
+link_below buckets ls heads links chained k x d inside = let lead : ChainLeads buckets ls (bucket_of buckets (get_or ls k d).name) k (get_or links k x) = chained.goes_on k x d inside in lead.inside
 
 -- ---- no labels
 
 -- ---- one label more
 
 -- the same chain, with labels behind those that it is among
-lead_more : (places : ℕ) (ls ms : List Label) (place n at : ℕ) → n ≤ length ls → Leads places ls place n at → Leads places (ls ++ ms) place n at
-lead_more places ls ms place n at few lead = record {
+lead_more : (buckets : ℕ) (ls ms : List Label) (bucket n at : ℕ) → n ≤ length ls → ChainLeads buckets ls bucket n at → ChainLeads buckets (ls ++ ms) bucket n at
+lead_more buckets ls ms bucket n at few lead = record {
   inside = lead.inside;
-  there = λ d some. ap (λ (l : Label). place_of places l.name) (get_or_append_left ls ms d (at - 1) (omega (arith, some, few, lead.inside))) ∙ lead.there d some;
+  there = λ d some. ap (λ (l : Label). bucket_of buckets l.name) (get_or_append_left ls ms d (at - 1) (omega (arith, some, few, lead.inside))) ∙ lead.there d some;
   same = λ name e. ap (λ xs. slot_of xs name) (take-append-le at ls ms (omega (arith, few, lead.inside))) ∙ lead.same name e ∙ sym (ap (λ xs. slot_of xs name) (take-append-le n ls ms few));
 }
 
-others_apart : (places : ℕ) (l : Label) (place : ℕ) (name : List ℕ) → (place ≡ place_of places l.name → ⊥) → place_of places name ≡ place → bytes_eq l.name name ≡ false
-others_apart places l place name apart e = go (bytes_eq l.name name) refl
+others_apart : (buckets : ℕ) (l : Label) (bucket : ℕ) (name : List ℕ) → (bucket ≡ bucket_of buckets l.name → ⊥) → bucket_of buckets name ≡ bucket → bytes_eq l.name name ≡ false
+others_apart buckets l bucket name apart e = go (bytes_eq l.name name) refl
   where
     go : (b : Bool) → bytes_eq l.name name ≡ b → b ≡ false
-    go true f = absurd (apart (sym e ∙ ap (place_of places) (sym ((bytes_eq-Decides l.name name).0 f))))
+    go true f = absurd (apart (sym e ∙ ap (bucket_of buckets) (sym ((bytes_eq-Decides l.name name).0 f))))
     go false f = refl
 
--- the chain of another place
-lead_other : (places : ℕ) (ls : List Label) (l : Label) (place at : ℕ) → slot_of ls l.name ≡ None → (place ≡ place_of places l.name → ⊥) → Leads places ls place (length ls) at → Leads places (ls ++ l ∷ []) place (length (ls ++ l ∷ [])) at
-lead_other places ls l place at none apart lead =
-    let more : Leads places (ls ++ l ∷ []) place (length ls) at = lead_more places ls (l ∷ []) place (length ls) at (omega arith) lead in
+-- the chain of another bucket
+lead_other : (buckets : ℕ) (ls : List Label) (l : Label) (bucket at : ℕ) → slot_of ls l.name ≡ None → (bucket ≡ bucket_of buckets l.name → ⊥) → ChainLeads buckets ls bucket (length ls) at → ChainLeads buckets (ls ++ l ∷ []) bucket (length (ls ++ l ∷ [])) at
+lead_other buckets ls l bucket at none apart lead =
+    let more : ChainLeads buckets (ls ++ l ∷ []) bucket (length ls) at = lead_more buckets ls (l ∷ []) bucket (length ls) at (omega arith) lead in
     record {
       inside = omega (arith, more.inside, length-append ls (l ∷ []));
       there = λ d some. more.there d some;
       same = λ name e. more.same name e ∙ ap (λ xs. slot_of xs name) (take-append-le (length ls) ls (l ∷ []) (omega arith) ∙ take_all (length ls) ls (omega arith))
-          ∙ sym (ap (λ xs. slot_of xs name) (take_all (length (ls ++ l ∷ [])) (ls ++ l ∷ []) (omega arith)) ∙ slot_push ls l name none ∙ ap (λ b. cond b (Some l.slot) (slot_of ls name)) (others_apart places l place name apart e));
+          ∙ sym (ap (λ xs. slot_of xs name) (take_all (length (ls ++ l ∷ [])) (ls ++ l ∷ []) (omega arith)) ∙ slot_push ls l name none ∙ ap (λ b. cond b (Some l.slot) (slot_of ls name)) (others_apart buckets l bucket name apart e));
     }
 
 -- the chain that the label is put on
-lead_here : (places : ℕ) (ls : List Label) (l : Label) → Leads places (ls ++ l ∷ []) (place_of places l.name) (length (ls ++ l ∷ [])) (length ls + 1)
-lead_here places ls l =
+lead_here : (buckets : ℕ) (ls : List Label) (l : Label) → ChainLeads buckets (ls ++ l ∷ []) (bucket_of buckets l.name) (length (ls ++ l ∷ [])) (length ls + 1)
+lead_here buckets ls l =
     let count : length (ls ++ l ∷ []) ≡ length ls + 1 = length-append ls (l ∷ []) in
     record {
       inside = omega (arith, count);
-      there = λ d some. ap (λ (m : Label). place_of places m.name) (get_or_push ls l d (length ls + 1 - 1) (omega arith));
+      there = λ d some. ap (λ (m : Label). bucket_of buckets m.name) (get_or_push ls l d (length ls + 1 - 1) (omega arith));
       same = λ name e. ap (λ n. slot_of (take n (ls ++ l ∷ [])) name) (sym count);
     }
 
-pub chained_more : (places : ℕ) (ls : List Label) (heads links : List ℕ) (l : Label) (head : ℕ) → IsChained places ls heads links → slot_of ls l.name ≡ None → place_of places l.name < places
-    → ((x : ℕ) → head ≡ get_or heads (place_of places l.name) x) → IsChained places (ls ++ l ∷ []) (set heads (place_of places l.name) (length ls + 1)) (links ++ head ∷ [])
-chained_more places ls heads links l head chained none inside is = record {
+pub chained_more : (buckets : ℕ) (ls : List Label) (heads links : List ℕ) (l : Label) (head : ℕ) → IsChained buckets ls heads links → slot_of ls l.name ≡ None → bucket_of buckets l.name < buckets
+    → ((x : ℕ) → head ≡ get_or heads (bucket_of buckets l.name) x) → IsChained buckets (ls ++ l ∷ []) (set heads (bucket_of buckets l.name) (length ls + 1)) (links ++ head ∷ [])
+chained_more buckets ls heads links l head chained none inside is = record {
   some = chained.some;
   few = chained.few;
-  counted = length-set heads (place_of places l.name) (length ls + 1) ∙ chained.counted;
+  counted = length-set heads (bucket_of buckets l.name) (length ls + 1) ∙ chained.counted;
   linked = omega (arith, chained.linked, length-append ls (l ∷ []), length-append links (head ∷ []));
-  begins = λ place d h. ⊎_elim (λ e. at_place place d e) (λ apart. at_other place d h apart) (cases_eq place (place_of places l.name));
+  begins = λ bucket d h. ⊎_elim (λ e. at_bucket bucket d e) (λ apart. at_other bucket d h apart) (cases_eq bucket (bucket_of buckets l.name));
   goes_on = λ k d e h. ⊎_elim (λ f. last_goes k d e f) (λ apart. other_goes k d e h apart) (cases_eq k (length ls));
   differ = λ k d h. ⊎_elim (λ e. last_differs k d e) (λ apart. other_differs k d h apart) (cases_eq k (length ls));
 }
   where
-    at_place : (place d : ℕ) → place ≡ place_of places l.name → Leads places (ls ++ l ∷ []) place (length (ls ++ l ∷ [])) (get_or (set heads (place_of places l.name) (length ls + 1)) place d)
-    at_place place d e =
-        let value : get_or (set heads (place_of places l.name) (length ls + 1)) (place_of places l.name) d ≡ length ls + 1 = get_or-set_same heads (place_of places l.name) (length ls + 1) d (omega (arith, inside, chained.counted)) in
-        subst (λ p. Leads places (ls ++ l ∷ []) p (length (ls ++ l ∷ [])) (get_or (set heads (place_of places l.name) (length ls + 1)) p d)) (sym e)
-        (subst (Leads places (ls ++ l ∷ []) (place_of places l.name) (length (ls ++ l ∷ []))) (sym value) (lead_here places ls l))
+    at_bucket : (bucket d : ℕ) → bucket ≡ bucket_of buckets l.name → ChainLeads buckets (ls ++ l ∷ []) bucket (length (ls ++ l ∷ [])) (get_or (set heads (bucket_of buckets l.name) (length ls + 1)) bucket d)
+    at_bucket bucket d e =
+        let value : get_or (set heads (bucket_of buckets l.name) (length ls + 1)) (bucket_of buckets l.name) d ≡ length ls + 1 = get_or-set_same heads (bucket_of buckets l.name) (length ls + 1) d (omega (arith, inside, chained.counted)) in
+        subst (λ p. ChainLeads buckets (ls ++ l ∷ []) p (length (ls ++ l ∷ [])) (get_or (set heads (bucket_of buckets l.name) (length ls + 1)) p d)) (sym e)
+        (subst (ChainLeads buckets (ls ++ l ∷ []) (bucket_of buckets l.name) (length (ls ++ l ∷ []))) (sym value) (lead_here buckets ls l))
 
-    at_other : (place d : ℕ) → place < places → (place ≡ place_of places l.name → ⊥) → Leads places (ls ++ l ∷ []) place (length (ls ++ l ∷ [])) (get_or (set heads (place_of places l.name) (length ls + 1)) place d)
-    at_other place d h apart =
-        subst (Leads places (ls ++ l ∷ []) place (length (ls ++ l ∷ []))) (sym (get_or-set_other heads (place_of places l.name) place (length ls + 1) d apart)) (lead_other places ls l place (get_or heads place d) none apart (chained.begins place d h))
+    at_other : (bucket d : ℕ) → bucket < buckets → (bucket ≡ bucket_of buckets l.name → ⊥) → ChainLeads buckets (ls ++ l ∷ []) bucket (length (ls ++ l ∷ [])) (get_or (set heads (bucket_of buckets l.name) (length ls + 1)) bucket d)
+    at_other bucket d h apart =
+        subst (ChainLeads buckets (ls ++ l ∷ []) bucket (length (ls ++ l ∷ []))) (sym (get_or-set_other heads (bucket_of buckets l.name) bucket (length ls + 1) d apart)) (lead_other buckets ls l bucket (get_or heads bucket d) none apart (chained.begins bucket d h))
 
     few_below : (k : ℕ) → k < length (ls ++ l ∷ []) → (k ≡ length ls → ⊥) → k < length ls
     few_below k h apart = omega (arith, h, apart, length-append ls (l ∷ []))
 
-    last_goes : (k d : ℕ) (e : Label) → k ≡ length ls → Leads places (ls ++ l ∷ []) (place_of places (get_or (ls ++ l ∷ []) k e).name) k (get_or (links ++ head ∷ []) k d)
+    last_goes : (k d : ℕ) (e : Label) → k ≡ length ls → ChainLeads buckets (ls ++ l ∷ []) (bucket_of buckets (get_or (ls ++ l ∷ []) k e).name) k (get_or (links ++ head ∷ []) k d)
     last_goes k d e f =
         let label : get_or (ls ++ l ∷ []) k e ≡ l = get_or_push ls l e k (sym f) in
-        let link : get_or (links ++ head ∷ []) k d ≡ get_or heads (place_of places l.name) d = get_or_push links head d k (chained.linked ∙ sym f) ∙ is d in
-        subst (λ (m : Label). Leads places (ls ++ l ∷ []) (place_of places m.name) k (get_or (links ++ head ∷ []) k d)) (sym label)
-        (subst (Leads places (ls ++ l ∷ []) (place_of places l.name) k) (sym link)
-        (subst (λ n. Leads places (ls ++ l ∷ []) (place_of places l.name) n (get_or heads (place_of places l.name) d)) (sym f) (lead_more places ls (l ∷ []) (place_of places l.name) (length ls) (get_or heads (place_of places l.name) d) (omega arith) (chained.begins (place_of places l.name) d inside))))
+        let link : get_or (links ++ head ∷ []) k d ≡ get_or heads (bucket_of buckets l.name) d = get_or_push links head d k (chained.linked ∙ sym f) ∙ is d in
+        subst (λ (m : Label). ChainLeads buckets (ls ++ l ∷ []) (bucket_of buckets m.name) k (get_or (links ++ head ∷ []) k d)) (sym label)
+        (subst (ChainLeads buckets (ls ++ l ∷ []) (bucket_of buckets l.name) k) (sym link)
+        (subst (λ n. ChainLeads buckets (ls ++ l ∷ []) (bucket_of buckets l.name) n (get_or heads (bucket_of buckets l.name) d)) (sym f) (lead_more buckets ls (l ∷ []) (bucket_of buckets l.name) (length ls) (get_or heads (bucket_of buckets l.name) d) (omega arith) (chained.begins (bucket_of buckets l.name) d inside))))
 
-    other_goes : (k d : ℕ) (e : Label) → k < length (ls ++ l ∷ []) → (k ≡ length ls → ⊥) → Leads places (ls ++ l ∷ []) (place_of places (get_or (ls ++ l ∷ []) k e).name) k (get_or (links ++ head ∷ []) k d)
+    other_goes : (k d : ℕ) (e : Label) → k < length (ls ++ l ∷ []) → (k ≡ length ls → ⊥) → ChainLeads buckets (ls ++ l ∷ []) (bucket_of buckets (get_or (ls ++ l ∷ []) k e).name) k (get_or (links ++ head ∷ []) k d)
     other_goes k d e h apart =
         let below : k < length ls = few_below k h apart in
-        subst (λ (m : Label). Leads places (ls ++ l ∷ []) (place_of places m.name) k (get_or (links ++ head ∷ []) k d)) (sym (get_or_append_left ls (l ∷ []) e k below))
-        (subst (Leads places (ls ++ l ∷ []) (place_of places (get_or ls k e).name) k) (sym (get_or_append_left links (head ∷ []) d k (omega (arith, below, chained.linked))))
-        (lead_more places ls (l ∷ []) (place_of places (get_or ls k e).name) k (get_or links k d) (omega (arith, below)) (chained.goes_on k d e below)))
+        subst (λ (m : Label). ChainLeads buckets (ls ++ l ∷ []) (bucket_of buckets m.name) k (get_or (links ++ head ∷ []) k d)) (sym (get_or_append_left ls (l ∷ []) e k below))
+        (subst (ChainLeads buckets (ls ++ l ∷ []) (bucket_of buckets (get_or ls k e).name) k) (sym (get_or_append_left links (head ∷ []) d k (omega (arith, below, chained.linked))))
+        (lead_more buckets ls (l ∷ []) (bucket_of buckets (get_or ls k e).name) k (get_or links k d) (omega (arith, below)) (chained.goes_on k d e below)))
 
     last_differs : (k : ℕ) (d : Label) → k ≡ length ls → slot_of (take k (ls ++ l ∷ [])) (get_or (ls ++ l ∷ []) k d).name ≡ None
     last_differs k d e =
@@ -145,41 +145,41 @@ read_label es k e inside is = get_or-map entry_label es k e (entry_label e) insi
 read_link : (es : List Entry) (k : ℕ) (e : Entry) → k < length es → e ≡ get_or es k e → get_or (map entry_link es) k e.link ≡ e.link
 read_link es k e inside is = get_or-map entry_link es k e e.link inside ∙ ap entry_link (sym is)
 
-pub entry_below : (places : ℕ) (es : List Entry) (heads : List ℕ) → IsChained places (map entry_label es) heads (map entry_link es) → (k : ℕ) (e : Entry) → k < length es → e ≡ get_or es k e → e.link ≤ k
-entry_below places es heads chained k e inside is =
-    let below : get_or (map entry_link es) k e.link ≤ k = link_below places (map entry_label es) heads (map entry_link es) chained k e.link (entry_label e) (omega (arith, inside, length-map es entry_label)) in
+pub entry_below : (buckets : ℕ) (es : List Entry) (heads : List ℕ) → IsChained buckets (map entry_label es) heads (map entry_link es) → (k : ℕ) (e : Entry) → k < length es → e ≡ get_or es k e → e.link ≤ k
+entry_below buckets es heads chained k e inside is =
+    let below : get_or (map entry_link es) k e.link ≤ k = link_below buckets (map entry_label es) heads (map entry_link es) chained k e.link (entry_label e) (omega (arith, inside, length-map es entry_label)) in
     let link : get_or (map entry_link es) k e.link ≡ e.link = read_link es k e inside is in
     omega (arith, below, link)
 
 -- the entry that a search has come to
-pub entry_inside : (places : ℕ) (es : List Entry) (name : List ℕ) (at : ℕ) → Seeks places (map entry_label es) name at → at ≤ length es
-entry_inside places es name at seeks = omega (arith, seeks.inside, length-map es entry_label)
+pub entry_inside : (buckets : ℕ) (es : List Entry) (name : List ℕ) (at : ℕ) → Seeks buckets (map entry_label es) name at → at ≤ length es
+entry_inside buckets es name at seeks = omega (arith, seeks.inside, length-map es entry_label)
 
-pub entry_found : (places : ℕ) (es : List Entry) (heads : List ℕ) → IsChained places (map entry_label es) heads (map entry_link es) → (name : List ℕ) (at : ℕ) (e : Entry) → Seeks places (map entry_label es) name at → 0 < at
+pub entry_found : (buckets : ℕ) (es : List Entry) (heads : List ℕ) → IsChained buckets (map entry_label es) heads (map entry_link es) → (name : List ℕ) (at : ℕ) (e : Entry) → Seeks buckets (map entry_label es) name at → 0 < at
     → e ≡ get_or es (at - 1) e → bytes_eq e.label.name.now name ≡ true → Some e.label.slot ≡ slot_of (map entry_label es) name
-entry_found places es heads chained name at e seeks some is same =
-    let inside : at - 1 < length es = omega (arith, some, entry_inside places es name at seeks) in
+entry_found buckets es heads chained name at e seeks some is same =
+    let inside : at - 1 < length es = omega (arith, some, entry_inside buckets es name at seeks) in
     let label : get_or (map entry_label es) (at - 1) (entry_label e) ≡ entry_label e = read_label es (at - 1) e inside is in
     subst (λ (l : Label). Some l.slot ≡ slot_of (map entry_label es) name) label
-    (seek_found places (map entry_label es) heads (map entry_link es) chained name at (entry_label e) seeks some (ap (λ (l : Label). bytes_eq l.name name) label ∙ same))
+    (seek_found buckets (map entry_label es) heads (map entry_link es) chained name at (entry_label e) seeks some (ap (λ (l : Label). bytes_eq l.name name) label ∙ same))
 
-pub entry_passed : (places : ℕ) (es : List Entry) (heads : List ℕ) → IsChained places (map entry_label es) heads (map entry_link es) → (name : List ℕ) (at : ℕ) (e : Entry) → Seeks places (map entry_label es) name at → 0 < at
-    → e ≡ get_or es (at - 1) e → bytes_eq e.label.name.now name ≡ false → Seeks places (map entry_label es) name e.link
-entry_passed places es heads chained name at e seeks some is apart =
-    let inside : at - 1 < length es = omega (arith, some, entry_inside places es name at seeks) in
+pub entry_passed : (buckets : ℕ) (es : List Entry) (heads : List ℕ) → IsChained buckets (map entry_label es) heads (map entry_link es) → (name : List ℕ) (at : ℕ) (e : Entry) → Seeks buckets (map entry_label es) name at → 0 < at
+    → e ≡ get_or es (at - 1) e → bytes_eq e.label.name.now name ≡ false → Seeks buckets (map entry_label es) name e.link
+entry_passed buckets es heads chained name at e seeks some is apart =
+    let inside : at - 1 < length es = omega (arith, some, entry_inside buckets es name at seeks) in
     let label : get_or (map entry_label es) (at - 1) (entry_label e) ≡ entry_label e = read_label es (at - 1) e inside is in
     let link : get_or (map entry_link es) (at - 1) e.link ≡ e.link = read_link es (at - 1) e inside is in
-    subst (Seeks places (map entry_label es) name) link
-    (seek_on places (map entry_label es) heads (map entry_link es) chained name at e.link (entry_label e) seeks some (ap (λ (l : Label). bytes_eq l.name name) label ∙ apart))
+    subst (Seeks buckets (map entry_label es) name) link
+    (seek_on buckets (map entry_label es) heads (map entry_link es) chained name at e.link (entry_label e) seeks some (ap (λ (l : Label). bytes_eq l.name name) label ∙ apart))
 
 pub entry_put : (es : List Entry) (heads : List ℕ) (e : Entry) → IsChained (length heads) (map entry_label es) heads (map entry_link es) → slot_of (map entry_label es) (entry_label e).name ≡ None
-    → place_of (length heads) (entry_label e).name < length heads → ((x : ℕ) → e.link ≡ get_or heads (place_of (length heads) (entry_label e).name) x)
-    → IsChained (length (set heads (place_of (length heads) (entry_label e).name) (length es + 1))) (map entry_label (es ++ e ∷ [])) (set heads (place_of (length heads) (entry_label e).name) (length es + 1)) (map entry_link (es ++ e ∷ []))
+    → bucket_of (length heads) (entry_label e).name < length heads → ((x : ℕ) → e.link ≡ get_or heads (bucket_of (length heads) (entry_label e).name) x)
+    → IsChained (length (set heads (bucket_of (length heads) (entry_label e).name) (length es + 1))) (map entry_label (es ++ e ∷ [])) (set heads (bucket_of (length heads) (entry_label e).name) (length es + 1)) (map entry_link (es ++ e ∷ []))
 entry_put es heads e chained none inside is =
-    let same : length (set heads (place_of (length heads) (entry_label e).name) (length es + 1)) ≡ length heads = length-set heads (place_of (length heads) (entry_label e).name) (length es + 1) in
-    let more : IsChained (length heads) (map entry_label es ++ entry_label e ∷ []) (set heads (place_of (length heads) (entry_label e).name) (length (map entry_label es) + 1)) (map entry_link es ++ e.link ∷ [])
+    let same : length (set heads (bucket_of (length heads) (entry_label e).name) (length es + 1)) ≡ length heads = length-set heads (bucket_of (length heads) (entry_label e).name) (length es + 1) in
+    let more : IsChained (length heads) (map entry_label es ++ entry_label e ∷ []) (set heads (bucket_of (length heads) (entry_label e).name) (length (map entry_label es) + 1)) (map entry_link es ++ e.link ∷ [])
     = chained_more (length heads) (map entry_label es) heads (map entry_link es) (entry_label e) e.link chained none inside is in
-    subst (λ n. IsChained n (map entry_label (es ++ e ∷ [])) (set heads (place_of (length heads) (entry_label e).name) (length es + 1)) (map entry_link (es ++ e ∷ []))) (sym same)
-    (subst (λ ls. IsChained (length heads) ls (set heads (place_of (length heads) (entry_label e).name) (length es + 1)) (map entry_link (es ++ e ∷ []))) (sym (map-append entry_label es (e ∷ [])))
-    (subst (IsChained (length heads) (map entry_label es ++ entry_label e ∷ []) (set heads (place_of (length heads) (entry_label e).name) (length es + 1))) (sym (map-append entry_link es (e ∷ [])))
-    (subst (λ n. IsChained (length heads) (map entry_label es ++ entry_label e ∷ []) (set heads (place_of (length heads) (entry_label e).name) (n + 1)) (map entry_link es ++ e.link ∷ [])) (length-map es entry_label) more)))
+    subst (λ n. IsChained n (map entry_label (es ++ e ∷ [])) (set heads (bucket_of (length heads) (entry_label e).name) (length es + 1)) (map entry_link (es ++ e ∷ []))) (sym same)
+    (subst (λ ls. IsChained (length heads) ls (set heads (bucket_of (length heads) (entry_label e).name) (length es + 1)) (map entry_link (es ++ e ∷ []))) (sym (map-append entry_label es (e ∷ [])))
+    (subst (IsChained (length heads) (map entry_label es ++ entry_label e ∷ []) (set heads (bucket_of (length heads) (entry_label e).name) (length es + 1))) (sym (map-append entry_link es (e ∷ [])))
+    (subst (λ n. IsChained (length heads) (map entry_label es ++ entry_label e ∷ []) (set heads (bucket_of (length heads) (entry_label e).name) (n + 1)) (map entry_link es ++ e.link ∷ [])) (length-map es entry_label) more)))

@@ -32,7 +32,7 @@ use Rattle.bpf_text.specs.declared.spelling.Memory.{Memory}
 use Rattle.bpf_text.specs.declared.spelling.Memory.TheVariants.{Unsigned, Signed}
 use Rattle.bpf_text.specs.declared.spelling.Keyword.{Keyword}
 use Rattle.bpf_text.specs.declared.spelling.Keyword.TheVariants as keyword
-use Rattle.bpf_text.specs.declared.statement.Place.{Place}
+use Rattle.bpf_text.specs.declared.statement.MemoryOperand.{MemoryOperand}
 use Rattle.bpf_text.specs.declared.statement.Jump.{Jump}
 use Rattle.bpf_text.specs.declared.statement.Jump.TheVariants.{Goto as ToSlot, GotoLong as FarToSlot, Call as CallSlot, If as OnTest}
 use Rattle.bpf_text.specs.Parts.{registers, operations, conditions, modifications, extensions, swaps, memories, keywords, register_spelling, swap_spelling, memory_text, keyword_text}
@@ -230,7 +230,7 @@ operand_gives width ts = way_gives _ (register_gives width ts) (λ r h. some_giv
     (then_gives _ (number_gives ts) (λ n h. some_gives (option_map Imm (fits_32 n.0), n.1) (record { part = OperandForm.constant h.part; there = h.there; says = ap (λ z. option_map Imm (fits_32 z)) h.says })))
 
 -- a place in memory: what is read or written, the register, and the offset
-pub record IsPlace (ts : List Token) (p : Place × List Token) : Type 0 where
+pub record IsPlace (ts : List Token) (p : MemoryOperand × List Token) : Type 0 where
   pub address : Address
   pub loaded : is_loaded (p.0).memory ≡ true
   pub there : ts ≡ address_tokens (p.0).memory address ++ p.1
@@ -395,7 +395,7 @@ wide_is (Unsigned DW) true e = refl
 wide_is (Signed s) wide e = cc
 
 -- behind `lock` and the operation's word
-atomic_gives_at : (wide : Bool) (op : AtomicOp) (ts : List Token) (p : Place × List Token) (rest end : List Token) (src : Reg) (place : IsPlace ts p) → wide_of (p.0).memory ≡ Some wide → p.1 ≡ tokens (atomic_marks op) ++ rest → rest ≡ word (register_text W64 src) ∷ end
+atomic_gives_at : (wide : Bool) (op : AtomicOp) (ts : List Token) (p : MemoryOperand × List Token) (rest end : List Token) (src : Reg) (place : IsPlace ts p) → wide_of (p.0).memory ≡ Some wide → p.1 ≡ tokens (atomic_marks op) ++ rest → rest ≡ word (register_text W64 src) ∷ end
     → (ts ≡ address_tokens (Unsigned (word_size wide)) place.address ++ (tokens (atomic_marks op) ++ word (register_text W64 src) ∷ end))
     × (form_said (Form.atomic wide op place.address src) ≡ option_map plain (option_map (λ off. Atomic wide op (p.0).base off src) (p.0).off))
 atomic_gives_at wide op ts p rest end src place is marks there = (

@@ -7,7 +7,7 @@ use Rattle.bpf_insn.specs.declared.instruction.Insn.{Insn}
 use Rattle.bpf_insn.specs.declared.instruction.Reg.{Reg}
 use Rattle.bpf_text.specs.Listing.{line_text, r_text, offset_text}
 use Rattle.bpf_text.specs.Parts.{memory_text}
-use Rattle.bpf_text.specs.code.Puts.{Puts, place_text}
+use Rattle.bpf_text.specs.code.Puts.{Puts, memory_operand_text}
 use Rattle.bpf_text.specs.declared.spelling.Memory.{Memory}
 use Rattle.bpf_text.proofs.LengthLemmas.{line_short}
 
@@ -21,15 +21,15 @@ front_more (suc n) (x ∷ xs) ys = ap (λ t. x ∷ t) (front_more n xs ys)
 pub puts_more : (a b c t u : List ℕ) → Puts a t b → Puts b u c → Puts a (t ++ u) c
 puts_more a b c t u h k = record { is = k.is ∙ ap (λ x. take 256 (x ++ u)) h.is ∙ front_more 256 (a ++ t) u ∙ ap (take 256) (append_assoc a t u) }
 
-behind_place : (memory : Memory) (base : Reg) (off : ℤ) (t : List ℕ) → place_text memory base off ++ t ≡ codes "*(" ++ (memory_text memory ++ (codes " *)(" ++ (r_text base ++ (codes " " ++ (offset_text off ++ t)))))
+behind_place : (memory : Memory) (base : Reg) (off : ℤ) (t : List ℕ) → memory_operand_text memory base off ++ t ≡ codes "*(" ++ (memory_text memory ++ (codes " *)(" ++ (r_text base ++ (codes " " ++ (offset_text off ++ t)))))
 behind_place memory base off t =
     ap (λ x. codes "*(" ++ x) (append_assoc (memory_text memory) (codes " *)(" ++ (r_text base ++ (codes " " ++ offset_text off))) t
     ∙ ap (λ x. memory_text memory ++ (codes " *)(" ++ x)) (append_assoc (r_text base) (codes " " ++ offset_text off) t))
 
 -- a place in memory, and a text behind it
-pub place_then : (a b c : List ℕ) (memory : Memory) (base : Reg) (off : ℤ) (t : List ℕ) → Puts a (place_text memory base off) b → Puts b t c
+pub place_then : (a b c : List ℕ) (memory : Memory) (base : Reg) (off : ℤ) (t : List ℕ) → Puts a (memory_operand_text memory base off) b → Puts b t c
     → Puts a (codes "*(" ++ (memory_text memory ++ (codes " *)(" ++ (r_text base ++ (codes " " ++ (offset_text off ++ t)))))) c
-place_then a b c memory base off t h k = record { is = (puts_more a b c (place_text memory base off) t h k).is ∙ ap (λ x. take 256 (a ++ x)) (behind_place memory base off t) }
+place_then a b c memory base off t h k = record { is = (puts_more a b c (memory_operand_text memory base off) t h k).is ∙ ap (λ x. take 256 (a ++ x)) (behind_place memory base off t) }
 
 -- a text, as far as there is room
 pub puts_front : (a t b : List ℕ) (used n : ℕ) → length a ≡ used → used ≤ 256 → n ≡ min (256 - used) (length t) → b ≡ a ++ take n t → Puts a t b

@@ -19,14 +19,14 @@ use Rattle.bpf_text.specs.declared.spelling.Swap.{Swap}
 use Rattle.bpf_text.specs.declared.spelling.Keyword.{Keyword}
 use Rattle.bpf_text.specs.declared.spelling.Keyword.TheVariants as keyword
 use Rattle.bpf_text.specs.Parts.{registers, operations, conditions, modifications, extensions, swaps, memories, keywords, register_spelling, swap_spelling, memory_text, keyword_text}
-use Rattle.bpf_text.specs.declared.statement.Place.{Place}
+use Rattle.bpf_text.specs.declared.statement.MemoryOperand.{MemoryOperand}
 use Rattle.bpf_text.specs.declared.statement.Jump.{Jump}
 use Rattle.bpf_text.specs.declared.statement.Jump.TheVariants.{Goto as ToSlot, GotoLong as FarToSlot, Call as CallSlot, If as OnTest}
 use Rattle.bpf_text.specs.code.WordReading.{◌>>=◌, skip_blanks, behind, unsigned_in, with_sign_of, number_behind, number_in, signed_behind, signed_in}
 use Rattle.bpf_text.specs.Numerals.{word_value}
 use Rattle.bpf_text.specs.Spelling.{register_text, operation_text, cond_text, modify_text, sign_bits_text}
 use Rattle.bpf_text.specs.Statements.{Statement, plain, to_label}
-use Rattle.bpf_text.specs.code.StatementReading.{first_way, same_width, any_register_in, register_in, operand_in, wide_if, constant_in, negative_in, extension_in, swap_in, place_in, load_in, assigned_in, operation_in, assignment_in, unsigned_size, store_in, wide_of, change_in, exchange_in, atomic_in, name_in, target_in, test_in, branch_in, plainly, keyword_in, statement_in, if_blank, whole_statement}
+use Rattle.bpf_text.specs.code.StatementReading.{first_way, same_width, any_register_in, register_in, operand_in, wide_if, constant_in, negative_in, extension_in, swap_in, memory_operand_in, load_in, assigned_in, operation_in, assignment_in, unsigned_size, store_in, wide_of, change_in, exchange_in, atomic_in, name_in, target_in, test_in, branch_in, plainly, keyword_in, statement_in, if_blank, whole_statement}
 use Rattle.bpf_text.specs.Numerals.{fits_16, fits_32, fits_wide}
 use Rattle.bpf_text.specs.Statements.{is_extension, load_of, store_of, jump_by}
 use Rattle.bpf_text.specs.Characters.{is_name}
@@ -93,7 +93,7 @@ extension_t width dst ts = do
   src ← register_t width rest
   if is_extension width bits.0 then Some (Some (MovSx width bits.0 dst src.0), src.1) else None
 
-unfoldable pub place_t : List Token → ReadTokens Place
+unfoldable pub place_t : List Token → ReadTokens MemoryOperand
 place_t ts = do
   inside ← strip (tokens (codes "*(")) ts
   memory ← first_t memory_text memories inside
@@ -289,8 +289,8 @@ unfolding extension_in extension_t
 extension_same width dst text = then_same _ _ (first_same sign_bits_text extensions text refl) (λ bits behind_bits. rest_then_same _ _ (mark_same 41 behind_bits refl) (λ closed.
     then_same _ _ (register_same width closed) (λ src rest. if_same (is_extension width bits) (both_some (Some (MovSx width bits dst src)) rest))))
 
-place_same : (text : List ℕ) → Same (place_in text) (place_t (tokens text))
-unfolding place_in place_t
+place_same : (text : List ℕ) → Same (memory_operand_in text) (place_t (tokens text))
+unfolding memory_operand_in place_t
 place_same text = rest_then_same _ _ (behind_same (codes "*(") text refl) (λ inside. then_same _ _ (first_same memory_text memories inside refl) (λ memory behind_memory. rest_then_same _ _ (behind_same (codes "*)(") behind_memory refl) (λ pointer.
     then_same _ _ (register_same W64 pointer) (λ base behind_base. then_same _ _ (signed_same behind_base) (λ off behind_off. rest_then_same _ _ (mark_same 41 behind_off refl) (λ rest.
     both_some (record { memory = memory; base = base; off = fits_16 off }) rest))))))

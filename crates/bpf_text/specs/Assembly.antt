@@ -101,4 +101,5 @@ pub data IsRefused (text : List ℕ) : TextError → Type 0 where
   too_long : max_text < length text → IsRefused text TooLong
   no_instructions : {source : Source} {e : TextError} → length text ≤ max_text → TextSays text source → instructions_of source ≡ Err e → IsRefused text e
   no_program :
-      {source : Source} {is : List Insn} {e : BuildError} → length text ≤ max_text → TextSays text source → instructions_of source ≡ Ok is → IsNoProgram is e → IsRefused text (program_error source.said e)
+      {source : Source} {is : List Insn} {e : BuildError} → length text ≤ max_text → TextSays text source
+      → instructions_of source ≡ Ok is → IsNoProgram is e → IsRefused text (program_error source.said e)

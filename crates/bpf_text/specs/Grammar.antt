@@ -87,7 +87,7 @@ pub data OperandForm : Type 0 where
   register : Reg → OperandForm
   constant : Number → OperandForm
 
--- a place in memory
+-- a memory operand
 pub record Address : Type 0 where
   pub base : Reg
   pub off : Number
@@ -111,7 +111,7 @@ abbrev pub target_tokens : Target → List Token
 target_tokens (distance n) = signed_tokens n
 target_tokens (label name) = one_word name.text
 
--- the word in front of an atomic operation's place, and the marks behind it
+-- the word in front of an atomic operation's memory operand, and the marks behind it
 abbrev pub atomic_word : AtomicOp → List ℕ
 atomic_word (Changes by fetch) = if fetch then codes "fetch" else []
 atomic_word Xchg = codes "xchg"

@@ -45,7 +45,7 @@ abbrev pub operand_text : Width → Operand → List ℕ
 operand_text width (Imm imm) = number_text imm
 operand_text width (FromReg r) = register_text width r
 
--- what stands before and behind the place in memory that an atomic operation changes
+-- what stands before and behind the memory operand that an atomic operation changes
 abbrev pub atomic_word : AtomicOp → List ℕ
 atomic_word (Changes by fetch) = if fetch then codes "fetch " else []
 atomic_word Xchg = codes "xchg "

@@ -3,7 +3,7 @@
 ghost use Rattle.std.specs.Prelude.{◌≡◌, ◌<◌, ◌≤◌, [], length, map, IfOk};
 ghost use Rattle.bpf_text.specs.Assembly.{slot_of};
 ghost use Rattle.bpf_text.specs.code.Seen.{label_seen};
-ghost use Rattle.bpf_text.specs.code.Chains.{hash_of, place_of, IsChained, Seeks, entry_label, entry_link, IsAdded};
+ghost use Rattle.bpf_text.specs.code.Chains.{hash_of, bucket_of, IsChained, Seeks, entry_label, entry_link, IsAdded};
 
 use crate::line::Label;
 use std::alloc::{AllocError, Global};
@@ -42,33 +42,33 @@ pub enum Added {
     Crowded,
 }
 
-/// Labels of different names. Those whose names come to one place are chained, the latest one first.
+/// Labels of different names. Those whose names come to one bucket are chained, the latest one first.
 #[derive(Drop)]
 pub struct Chains<'a> {
-    /// For each place one more than the index of the first entry of its chain, 0 if there is none.
+    /// For each bucket one more than the index of the first entry of its chain, 0 if there is none.
     pub heads: Vec<u32>,
     pub entries: Vec<Entry<'a>>,
     ghost chained: { IsChained (length heads.items) (map entry_label entries.items) heads.items (map entry_link entries.items) },
 }
 
 impl<'a> Chains<'a> {
-    /// No labels, and so many places.
-    pub fn new(alloc: Global, places: usize) -> Result<Self, AllocError>
-        requires some { 0 < places }
-        requires few { places < 4294967296 }
+    /// No labels, and so many buckets.
+    pub fn new(alloc: Global, buckets: usize) -> Result<Self, AllocError>
+        requires some { 0 < buckets }
+        requires few { buckets < 4294967296 }
         ensures { IfOk result (λ c. c.entries.items ≡ []) }
     {
-        let heads = vec![in alloc; 0; places]?;
+        let heads = vec![in alloc; 0; buckets]?;
         Ok(Chains {
             heads,
             entries: Vec::new(alloc),
         })
     }
 
-    /// The place of a name.
-    #[tactic(auto, unfolding(crate::specs::code::Chains::place_of))]
-    fn place(&self, name: &[u8]) -> usize
-        ensures place { result ≡ place_of (length self.now.heads.items) name.now }
+    /// The bucket of a name.
+    #[tactic(auto, unfolding(crate::specs::code::Chains::bucket_of))]
+    fn bucket(&self, name: &[u8]) -> usize
+        ensures bucket { result ≡ bucket_of (length self.now.heads.items) name.now }
         ensures inside { result < length self.now.heads.items }
     {
         (hash_of(name) * self.heads.len() as u64 / 4_294_967_296) as usize
@@ -88,7 +88,7 @@ impl<'a> Chains<'a> {
         true
     }
 
-    /// The slot of a name in the chain of its place.
+    /// The slot of a name in the chain of its bucket.
     fn find(&self, head: u32, name: &[u8]) -> Option<usize>
         requires { Seeks (length self.now.heads.items) (map entry_label self.now.entries.items) name.now head }
         ensures { result ≡ slot_of (map entry_label self.now.entries.items) name.now }
@@ -108,7 +108,7 @@ impl<'a> Chains<'a> {
     pub fn slot(&self, name: &[u8]) -> Option<usize>
         ensures { result ≡ slot_of (map entry_label self.now.entries.items) name.now }
     {
-        let head = self.heads[self.place(name)];
+        let head = self.heads[self.bucket(name)];
         self.find(head, name)
     }
 
@@ -117,8 +117,8 @@ impl<'a> Chains<'a> {
         requires { length self.old.entries.items < 4294967295 }
         ensures { IfOk result (IsAdded (map entry_label self.old.entries.items) (label_seen label.entry) (map entry_label self.new.entries.items)) }
     {
-        let place = self.place(label.name);
-        let head = self.heads[place];
+        let bucket = self.bucket(label.name);
+        let head = self.heads[bucket];
         if self.is_crowded(head) {
             return Ok(Added::Crowded);
         }
@@ -127,7 +127,7 @@ impl<'a> Chains<'a> {
         }
         let last = self.entries.len() as u32 + 1;
         self.entries.push(Entry { label, link: head })?;
-        self.heads[place] = last;
+        self.heads[bucket] = last;
         Ok(Added::Behind)
     }
 }

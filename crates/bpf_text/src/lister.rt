@@ -4,7 +4,7 @@ ghost use Rattle.std.specs.Prelude.{◌≡◌, ◌++◌, OnOk, OnErr, codes};
 ghost use Rattle.std.specs.Io.KnownBytes.{Appends};
 ghost use Rattle.bpf_insn.specs.Written.{AppendsBeginning, Gathers};
 ghost use Rattle.bpf_text.specs.Listing.{line_text, listing, atomic_word, atomic_sign, distance_text};
-ghost use Rattle.bpf_text.specs.code.Puts.{Puts, place_text};
+ghost use Rattle.bpf_text.specs.code.Puts.{Puts, memory_operand_text};
 
 use crate::listed_line::ListedLine;
 use crate::spelling::{Memory, Swap};
@@ -116,8 +116,8 @@ fn put_constant(line: &mut ListedLine, dst: Reg, value: u64)
 }
 
 /// `*(u8 *)(r1 + 0`, with what is said behind it still to come
-fn put_place(line: &mut ListedLine, memory: Memory, base: Reg, off: i16)
-    ensures { Puts line.old (place_text memory base off) line.new }
+fn put_memory_operand(line: &mut ListedLine, memory: Memory, base: Reg, off: i16)
+    ensures { Puts line.old (memory_operand_text memory base off) line.new }
 {
     line.put_text("*(");
     line.spelled(memory);
@@ -133,7 +133,7 @@ fn put_load(line: &mut ListedLine, size: Size, dst: Reg, src: Reg, off: i16)
 {
     line.register(Width::W64, dst);
     line.put_text(" = ");
-    put_place(line, Memory::Unsigned(size), src, off);
+    put_memory_operand(line, Memory::Unsigned(size), src, off);
     line.put_text(")\n");
 }
 
@@ -143,7 +143,7 @@ fn put_signed_load(line: &mut ListedLine, size: Size, dst: Reg, src: Reg, off: i
 {
     line.register(Width::W64, dst);
     line.put_text(" = ");
-    put_place(line, Memory::Signed(size), src, off);
+    put_memory_operand(line, Memory::Signed(size), src, off);
     line.put_text(")\n");
 }
 
@@ -151,7 +151,7 @@ fn put_signed_load(line: &mut ListedLine, size: Size, dst: Reg, src: Reg, off: i
 fn put_store(line: &mut ListedLine, size: Size, dst: Reg, off: i16, src: Reg)
     ensures { Puts line.old (line_text (Insn.Store size dst off src)) line.new }
 {
-    put_place(line, Memory::Unsigned(size), dst, off);
+    put_memory_operand(line, Memory::Unsigned(size), dst, off);
     line.put_text(") = ");
     line.register(Width::W64, src);
     line.put_text("\n");
@@ -161,7 +161,7 @@ fn put_store(line: &mut ListedLine, size: Size, dst: Reg, off: i16, src: Reg)
 fn put_constant_store(line: &mut ListedLine, size: Size, dst: Reg, off: i16, imm: i32)
     ensures { Puts line.old (line_text (Insn.StoreImm size dst off imm)) line.new }
 {
-    put_place(line, Memory::Unsigned(size), dst, off);
+    put_memory_operand(line, Memory::Unsigned(size), dst, off);
     line.put_text(") = ");
     line.number(imm);
     line.put_text("\n");
@@ -173,7 +173,7 @@ fn put_atomic(line: &mut ListedLine, wide: bool, op: AtomicOp, dst: Reg, off: i1
 {
     line.put_text("lock ");
     put_atomic_word(line, op);
-    put_place(line, Memory::Unsigned(Size::of_word(wide)), dst, off);
+    put_memory_operand(line, Memory::Unsigned(Size::of_word(wide)), dst, off);
     put_atomic_sign(line, op);
     line.register(Width::W64, src);
     line.put_text("\n");

@@ -3,7 +3,7 @@
 ghost use Rattle.std.specs.Prelude.{◌≡◌, ℕ, option_map};
 ghost use Rattle.bpf_text.specs.Statements.{seen, plain};
 ghost use Rattle.bpf_text.specs.Numerals.{fits_16, fits_32, fits_wide};
-ghost use Rattle.bpf_text.specs.code.StatementReading.{same_width, any_register_in, register_in, operand_in, wide_if, constant_in, negative_in, extension_in, swap_in, place_in, load_in, assigned_in, operation_in, assignment_in, unsigned_size, store_in, wide_of, change_in, exchange_in, atomic_in, name_in, target_in, test_in, branch_in, plainly, keyword_in, statement_in, whole_statement};
+ghost use Rattle.bpf_text.specs.code.StatementReading.{same_width, any_register_in, register_in, operand_in, wide_if, constant_in, negative_in, extension_in, swap_in, memory_operand_in, load_in, assigned_in, operation_in, assignment_in, unsigned_size, store_in, wide_of, change_in, exchange_in, atomic_in, name_in, target_in, test_in, branch_in, plainly, keyword_in, statement_in, whole_statement};
 ghost use Rattle.bpf_text.specs.Statements.{is_extension, load_of, store_of, jump_by};
 ghost use Rattle.bpf_text.specs.Characters.{is_name};
 
@@ -174,36 +174,36 @@ fn extension(width: Width, dst: Reg, text: &[u8]) -> Read<'_, Insn>
     }
 }
 
-/// A place in memory: `*(u8 *)(r1 + 0)`. The offset is None where it is out of its range.
+/// A memory operand: `*(u8 *)(r1 + 0)`. The offset is None where it is out of its range.
 #[derive(Clone, Copy)]
-pub struct Place {
+pub struct MemoryOperand {
     pub memory: Memory,
     pub base: Reg,
     pub off: Option<i16>,
 }
 
-#[tactic(auto, unfolding(crate::specs::code::StatementReading::place_in))]
-fn read_place(text: &[u8]) -> Option<(Place, &[u8])>
-    ensures { option_map (λ x. (x.0, x.1.now)) result ≡ place_in text.now }
+#[tactic(auto, unfolding(crate::specs::code::StatementReading::memory_operand_in))]
+fn read_memory_operand(text: &[u8]) -> Option<(MemoryOperand, &[u8])>
+    ensures { option_map (λ x. (x.0, x.1.now)) result ≡ memory_operand_in text.now }
 {
     let (memory, rest) = memory(behind(text, "*(")?)?;
     let (base, rest) = register(Width::W64, behind(rest, "*)(")?)?;
     let (off, rest) = signed(rest)?;
     let rest = behind_mark(rest, b')')?;
-    let place = Place {
+    let at = MemoryOperand {
         memory,
         base,
         off: fits_16(off),
     };
-    Some((place, rest))
+    Some((at, rest))
 }
 
-fn load_of(place: Place, dst: Reg) -> Option<Insn>
-    ensures { result ≡ option_map (load_of place.memory dst place.base) place.off }
+fn load_of(at: MemoryOperand, dst: Reg) -> Option<Insn>
+    ensures { result ≡ option_map (load_of at.memory dst at.base) at.off }
 {
-    let off = place.off?;
-    let src = place.base;
-    Some(match place.memory {
+    let off = at.off?;
+    let src = at.base;
+    Some(match at.memory {
         Memory::Unsigned(size) => Insn::Load {
             size,
             dst,
@@ -226,8 +226,8 @@ fn load(width: Width, dst: Reg, text: &[u8]) -> Read<'_, Insn>
     match width {
         Width::W32 => None,
         Width::W64 => {
-            let (place, rest) = read_place(text)?;
-            Some((load_of(place, dst), rest))
+            let (at, rest) = read_memory_operand(text)?;
+            Some((load_of(at, dst), rest))
         }
     }
 }
@@ -342,10 +342,10 @@ fn store_of(size: Size, dst: Reg, off: Option<i16>, src: Option<Operand>) -> Opt
 fn store(text: &[u8]) -> Read<'_, Insn>
     ensures { option_map (λ x. (x.0, x.1.now)) result ≡ store_in text.now }
 {
-    let (place, rest) = read_place(text)?;
-    let size = unsigned_size(place.memory)?;
+    let (at, rest) = read_memory_operand(text)?;
+    let size = unsigned_size(at.memory)?;
     let (src, rest) = operand(Width::W64, behind_mark(rest, b'=')?)?;
-    Some((store_of(size, place.base, place.off, src), rest))
+    Some((store_of(size, at.base, at.off, src), rest))
 }
 
 /// Whether an atomic operation on it is one of 64 bits, if there is one.
@@ -360,14 +360,14 @@ fn wide_of(memory: Memory) -> Option<bool>
     }
 }
 
-fn atomic_of(wide: bool, op: AtomicOp, place: Place, src: Reg) -> Option<Insn>
-    ensures { result ≡ option_map (λ off. Insn.Atomic wide op place.base off src) place.off }
+fn atomic_of(wide: bool, op: AtomicOp, at: MemoryOperand, src: Reg) -> Option<Insn>
+    ensures { result ≡ option_map (λ off. Insn.Atomic wide op at.base off src) at.off }
 {
     Some(Insn::Atomic {
         wide,
         op,
-        dst: place.base,
-        off: place.off?,
+        dst: at.base,
+        off: at.off?,
         src,
     })
 }
@@ -376,22 +376,22 @@ fn atomic_of(wide: bool, op: AtomicOp, place: Place, src: Reg) -> Option<Insn>
 fn change(fetch: bool, text: &[u8]) -> Read<'_, Insn>
     ensures { option_map (λ x. (x.0, x.1.now)) result ≡ change_in fetch text.now }
 {
-    let (place, rest) = read_place(text)?;
-    let wide = wide_of(place.memory)?;
+    let (at, rest) = read_memory_operand(text)?;
+    let wide = wide_of(at.memory)?;
     let (by, rest) = first_spelled(&MODIFICATIONS, rest)?;
     let (src, rest) = register(Width::W64, rest)?;
     let op = AtomicOp::Modify { by, fetch };
-    Some((atomic_of(wide, op, place, src), rest))
+    Some((atomic_of(wide, op, at, src), rest))
 }
 
 #[tactic(auto, unfolding(crate::specs::code::StatementReading::exchange_in))]
 fn exchange(op: AtomicOp, text: &[u8]) -> Read<'_, Insn>
     ensures { option_map (λ x. (x.0, x.1.now)) result ≡ exchange_in op text.now }
 {
-    let (place, rest) = read_place(text)?;
-    let wide = wide_of(place.memory)?;
+    let (at, rest) = read_memory_operand(text)?;
+    let wide = wide_of(at.memory)?;
     let (src, rest) = register(Width::W64, behind_mark(rest, b',')?)?;
-    Some((atomic_of(wide, op, place, src), rest))
+    Some((atomic_of(wide, op, at, src), rest))
 }
 
 /// What stands behind `lock`.

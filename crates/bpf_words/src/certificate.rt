@@ -106,7 +106,7 @@ fn may_follow(before: Kind, kind: Kind) -> bool {
 
 /// The line before one, that line, and whether it is ended.
 #[derive(Clone, Copy)]
-struct Place<'a> {
+struct LineAt<'a> {
     before: &'a [u8],
     line: &'a [u8],
     is_there: bool,
@@ -114,8 +114,8 @@ struct Place<'a> {
 }
 
 /// The line with a number, counted from 1.
-fn line_at(bytes: &[u8], number: usize) -> Place<'_> {
-    let mut place = Place {
+fn line_at(bytes: &[u8], number: usize) -> LineAt<'_> {
+    let mut found = LineAt {
         before: &[],
         line: &[],
         is_there: false,
@@ -128,16 +128,16 @@ fn line_at(bytes: &[u8], number: usize) -> Place<'_> {
             if count >= number {
                 break;
             }
-            place.before = bytes.get(start..index).unwrap_or(&[]);
+            found.before = bytes.get(start..index).unwrap_or(&[]);
             count = count.saturating_add(1);
             start = index.saturating_add(1);
         }
     }
     let rest = bytes.get(start..).unwrap_or(&[]);
-    place.is_there = count == number && !rest.is_empty();
-    place.is_ended = rest.contains(&b'\n');
-    place.line = first_line(rest);
-    place
+    found.is_there = count == number && !rest.is_empty();
+    found.is_ended = rest.contains(&b'\n');
+    found.line = first_line(rest);
+    found
 }
 
 /// What stands in front of the first line feed.
@@ -164,18 +164,18 @@ impl<'a> fmt::Display for Line<'a> {
     }
 }
 
-fn tell_syntax<'a, W: Tell>(out: &mut W, place: Place<'a>) {
-    let before = kind_of(place.before);
-    let kind = kind_of(place.line);
-    let (line, follows) = (Line(place.line), followers(before));
-    if !place.is_there {
+fn tell_syntax<'a, W: Tell>(out: &mut W, found: LineAt<'a>) {
+    let before = kind_of(found.before);
+    let kind = kind_of(found.line);
+    let (line, follows) = (Line(found.line), followers(before));
+    if !found.is_there {
         write!(out, "the text ends here without `end`: {follows}\n");
-    } else if place.line.contains(&b'\r') {
+    } else if found.line.contains(&b'\r') {
         write!(
             out,
             "{line}: a CR stands in it, and lines end with LF alone\n"
         );
-    } else if !place.is_ended {
+    } else if !found.is_ended {
         write!(out, "{line}: no LF ends the line\n");
     } else if may_follow(before, kind) {
         let form = form_of(kind);
@@ -231,14 +231,14 @@ fn tell_limit<W: Tell>(out: &mut W, line: &[u8]) {
 fn tell_error<W: Tell>(out: &mut W, bytes: &[u8], error: CertError) {
     let (number, at) = (error.number(), error.line());
     write!(out, "K{number} at line {at}: ");
-    let place = line_at(bytes, at);
+    let found = line_at(bytes, at);
     match error {
-        CertError::Syntax { .. } => tell_syntax(out, place),
+        CertError::Syntax { .. } => tell_syntax(out, found),
         CertError::NotCanonical { .. } => {
-            let (line, rule) = (Line(place.line), spelling_rule(place.line));
+            let (line, rule) = (Line(found.line), spelling_rule(found.line));
             write!(out, "{line}: {rule}\n");
         }
-        CertError::Limit { .. } => tell_limit(out, place.line),
+        CertError::Limit { .. } => tell_limit(out, found.line),
         CertError::Memory => write!(out, "memory ran out\n"),
         CertError::Read { .. } => write!(out, "the reader failed\n"),
     }

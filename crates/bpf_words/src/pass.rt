@@ -12,7 +12,7 @@ use crate::sight::{Edge, Outcome, Sight};
 use bpf_cert::Label;
 use bpf_check::{
     Cause, Here, Judged, Site, Slack, Spot, Walk, arrive, calls_no_deeper, cost_after, go_to_next,
-    goes_on, judge_reached, lacks_label, least_budget, leaves_function, slack_on,
+    judge_reached, lacks_label, least_budget, leaves_function, slack_on,
 };
 use bpf_insn::{Code, Insn};
 use bpf_state::{State, StateFault, branch, transfer};
@@ -89,7 +89,7 @@ fn see_next<'a>(site: &Site, here: &Here, sight: &mut Sight<'a>)
             sight.if_not.copy_from(&sight.after);
             go_to_next(site, &mut sight.if_not)
         }
-        _ => goes_on(&site.insn),
+        _ => site.insn.goes_on(),
     };
     sight.goes_on = is_live;
     let edge = edge_to(

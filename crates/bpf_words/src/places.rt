@@ -3,7 +3,8 @@
 ghost use Rattle.std.specs.Prelude.{◌≡◌};
 
 use bpf_cert::{Label, value_slot};
-use bpf_state::{Place, Pointer, SlotState, State, Tag, numbered};
+use bpf_insn::Reg;
+use bpf_state::{Place, Pointer, SlotState, State, Tag};
 
 /// How many places a state has: eleven registers and sixty-four slots.
 pub const PLACES: usize = 75;
@@ -11,7 +12,7 @@ pub const PLACES: usize = 75;
 /// The place by its number: r0 to r10, then s1 to s64.
 pub fn place_at(index: usize) -> Place {
     if index <= 10 {
-        Place::Register(numbered(index as u8))
+        Place::Register(Reg::numbered(index as u8))
     } else {
         Place::Slot((index - 10).min(64) as u8)
     }

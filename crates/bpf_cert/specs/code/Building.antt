@@ -4,8 +4,8 @@ use Rattle.std.specs.List.{list_all}
 use Rattle.bpf_cert.specs.Line.{Line, line_text}
 use Rattle.bpf_cert.specs.Faults.{judged}
 use Rattle.bpf_cert.specs.Limits.{IsCertificate}
-use Rattle.bpf_cert.specs.declared.finding.Flaw.{Flaw}
-use Rattle.bpf_cert.specs.declared.finding.Flaw.TheVariants as flaws
+use Rattle.bpf_cert.specs.declared.finding.PartFault.{PartFault}
+use Rattle.bpf_cert.specs.declared.finding.PartFault.TheVariants as flaws
 use Rattle.bpf_cert.specs.declared.error.CertError.{CertError}
 use Rattle.bpf_cert.specs.declared.error.CertError.TheVariants as errors
 use Rattle.bpf_cert.specs.View.{CertificateView, label_view, function_view}
@@ -14,10 +14,10 @@ use Rattle.bpf_cert.specs.code.Standing.{Stands}
 use Rattle.bpf_cert.specs.code.Sound.{IsLabelState, IsSound, closed, function_at, functions_at}
 use Rattle.bpf_insn.specs.Instruction.{register_number}
 use Rattle.bpf_state.specs.State.{AbstractState, IsSlot}
-use Rattle.bpf_state.specs.declared.state.Place.{Place}
-use Rattle.bpf_state.specs.declared.state.Place.TheVariants as place
-use Rattle.bpf_state.specs.declared.state.SlotState.{SlotState}
-use Rattle.bpf_state.specs.declared.state.SlotState.TheVariants as slot
+use Rattle.bpf_state.specs.declared.known.Place.{Place}
+use Rattle.bpf_state.specs.declared.known.Place.TheVariants as place
+use Rattle.bpf_state.specs.declared.known.SlotState.{SlotState}
+use Rattle.bpf_state.specs.declared.known.SlotState.TheVariants as slot
 use Rattle.bpf_cert.specs.declared.standing.Stage.{Stage}
 use Rattle.bpf_cert.specs.declared.standing.Stage.TheVariants as stage
 use Rattle.bpf_cert.specs.declared.building.Builder.{Builder}
@@ -108,7 +108,7 @@ pub record Puts (place : Place) (content : SlotState) (old new : Builder) : Type
   pub long : length (contents old.label.state) ≡ 74
   pub sound : IsLabelState old.label.state → IsLabelState new.label.state
 
-abbrev pub fault_at : ℕ → Flaw → CertError
+abbrev pub fault_at : ℕ → PartFault → CertError
 fault_at n flaws.Syntax = errors.Syntax n
 fault_at n flaws.NotCanonical = errors.NotCanonical n
 fault_at n flaws.Limit = errors.Limit n

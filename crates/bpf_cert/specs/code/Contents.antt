@@ -5,7 +5,7 @@ use Rattle.bpf_cert.specs.Faults.{is_pointer_range}
 use Rattle.bpf_cert.specs.Spelling.{is_unknown}
 use Rattle.bpf_cert.specs.Limits.{is_limited_slot}
 use Rattle.bpf_state.specs.State.{IsSlot}
-use Rattle.bpf_state.specs.declared.state.SlotState.{SlotState}
+use Rattle.bpf_state.specs.declared.known.SlotState.{SlotState}
 
 -- something is said, and it is within the limits
 pub record IsContent (s : SlotState) : Type 0 where

@@ -18,7 +18,7 @@ next_rank (p ∷ []) = part_rank p + 1
 next_rank (p ∷ q ∷ qs) = next_rank (q ∷ qs)
 
 -- these are all parts, and none of them has a rank from `next` on
-pub record Says (next : ℕ) (us ss ks all : List Part) : Type 0 where
+pub record SaysParts (next : ℕ) (us ss ks all : List Part) : Type 0 where
   pub same : us ++ ss ++ ks ≡ all
   pub no_unsigned : next ≤ 0 → us ≡ []
   pub no_signed : next ≤ 1 → ss ≡ []
@@ -27,7 +27,7 @@ pub record Says (next : ℕ) (us ss ks all : List Part) : Type 0 where
 pub record IsSum (done : List Part) (s : Parts) : Type 0 where
   pub flaws : s.found ≡ tested (are_canonical done) (list_all is_limited_part done)
   pub next : s.next ≡ next_rank done
-  pub says : s.found ≡ Ok tt → Says s.next (unsigned_parts s.unsigned) (signed_parts s.signed) (bits_parts s.bits) done
+  pub says : s.found ≡ Ok tt → SaysParts s.next (unsigned_parts s.unsigned) (signed_parts s.signed) (bits_parts s.bits) done
 
 -- the part was put where parts of its kind are
 abbrev pub IsKept : Part → Parts → Parts → Type 0

@@ -1,11 +1,11 @@
 -- Forms that the code keeps, without where their digits lie in memory.
 use Rattle.std.specs.Prelude.{◌≡◌, ℕ, Bool, true, not, ◌&&◌, List, codes, Option, Some, None, ℤ, pos, neg_ℤ, min, ◌^◌, if◌then◌else◌}
 use Rattle.bpf_cert.specs.Numeral.{SignedDigits, number, is_numeral, is_plain}
-use Rattle.bpf_cert.specs.Line.{Part, Place, Content, Measure, Term, Lengths, Line}
+use Rattle.bpf_cert.specs.Line.{Part, PlaceText, Content, Measure, Term, Lengths, Line}
 use Rattle.bpf_cert.specs.Reading.{◌>>=◌, cut, behind}
 use Rattle.bpf_cert.specs.Faults.{is_plain_part, is_top}
 use Rattle.bpf_cert.specs.Spelling.{bounds_in}
-use Rattle.bpf_cert.specs.declared.number.SignedForm.{SignedForm}
+use Rattle.bpf_cert.specs.declared.decimal.SignedForm.{SignedForm}
 use Rattle.bpf_cert.specs.declared.part.PartForm.{PartForm}
 use Rattle.bpf_cert.specs.declared.part.PartForm.TheVariants as part
 use Rattle.bpf_cert.specs.declared.content.PointerForm.{PointerForm}
@@ -39,9 +39,9 @@ is_canonical_part p = is_plain_part p && not (is_top p)
 abbrev pub IsPlainNumeral : List ℕ → Type 0
 IsPlainNumeral ds = (is_numeral ds ≡ true) × (is_plain ds ≡ true)
 
-abbrev pub place_seen : PlaceForm → Place
-place_seen (place.Register i) = Place.register i.now
-place_seen (place.Slot k) = Place.slot k.now
+abbrev pub place_seen : PlaceForm → PlaceText
+place_seen (place.Register i) = PlaceText.register i.now
+place_seen (place.Slot k) = PlaceText.slot k.now
 
 -- the number that is written, or 2^64 or -2^64 where it is past that
 abbrev pub capped_signed : SignedDigits → ℤ

@@ -3,8 +3,8 @@ use Rattle.std.specs.Prelude.{ℕ, Bool, true, false, List, [], ◌∷◌, flat_
 use Rattle.bpf_cert.specs.Line.{Part, part_text, term_text}
 use Rattle.bpf_cert.specs.Spelling.{term_of}
 use Rattle.bpf_cert.specs.declared.certificate.Term.{Term}
-use Rattle.bpf_state.specs.declared.state.Area.{Area}
-use Rattle.bpf_state.specs.declared.state.Area.TheVariants as area
+use Rattle.bpf_state.specs.declared.known.Area.{Area}
+use Rattle.bpf_state.specs.declared.known.Area.TheVariants as area
 
 abbrev pub is_cons : {A : Type 0} → List A → Bool
 is_cons [] = false

@@ -1,18 +1,18 @@
 -- A line that was read: what it says, and what is kept of the lines before it.
 use Rattle.std.specs.Prelude.{◌≡◌, ◌≤◌, ◌<◌, ◌^◌, ℕ, Bool, true, false, not, ◌&&◌, ◌==◌, List, [], ◌∷◌, count_by, Option, Some, None, option_map, IfSome, Result, Ok, Err, map, if◌then◌else◌, decimal}
 use Rattle.std.specs.List.{list_all, slice_split}
-use Rattle.bpf_cert.specs.Line.{Line, Place, is_place, is_content, is_line}
-use Rattle.bpf_state.specs.declared.state.Place.{Place as PlaceValue}
-use Rattle.bpf_state.specs.declared.state.SlotState.{SlotState}
+use Rattle.bpf_cert.specs.Line.{Line, PlaceText, is_place, is_content, is_line}
+use Rattle.bpf_state.specs.declared.known.Place.{Place as PlaceValue}
+use Rattle.bpf_state.specs.declared.known.SlotState.{SlotState}
 use Rattle.bpf_cert.specs.Numeral.{is_numeral}
 use Rattle.bpf_cert.specs.Reading.{number_in, content_in, function_in, label_in, entry_in}
 use Rattle.bpf_cert.specs.code.TermSums.{terms_in}
 use Rattle.bpf_cert.specs.Faults.{is_canonical, is_limited, may_stand, is_in_order, has_room, last_first, last_slot, last_place, is_function, is_label}
 use Rattle.bpf_cert.specs.Limits.{is_limited_place, is_limited_term, is_limited_header}
-use Rattle.bpf_cert.specs.Spelling.{place_of, term_of, number_of, content_of, header_line}
+use Rattle.bpf_cert.specs.Spelling.{spelled_place, term_of, number_of, content_of, header_line}
 use Rattle.bpf_cert.specs.code.Contents.{IsContent}
-use Rattle.bpf_cert.specs.declared.finding.Flaw.{Flaw}
-use Rattle.bpf_cert.specs.declared.finding.Flaw.TheVariants.{Syntax, NotCanonical, Limit}
+use Rattle.bpf_cert.specs.declared.finding.PartFault.{PartFault}
+use Rattle.bpf_cert.specs.declared.finding.PartFault.TheVariants.{Syntax, NotCanonical, Limit}
 use Rattle.bpf_cert.specs.declared.standing.Stage.{Stage}
 use Rattle.bpf_cert.specs.declared.standing.Stage.TheVariants as stage
 use Rattle.bpf_cert.specs.declared.standing.Standing.{Standing}
@@ -24,13 +24,13 @@ abbrev pub value_line : LineValue → Line
 value_line (value.Header h) = header_line h
 value_line (value.Function first depth ret) = Line.function (decimal first) (decimal depth) (number_of ret)
 value_line (value.Label slot base terms) = Line.label (decimal slot) (decimal base) (map term_of terms.items)
-value_line (value.Entry place content) = Line.entry (place_of place) (content_of content)
+value_line (value.Entry place content) = Line.entry (spelled_place place) (content_of content)
 value_line value.End = Line.end
 
 -- what is known of an entry besides
 pub record IsEntry (place : PlaceValue) (content : SlotState) : Type 0 where
   pub known : IsContent content
-  pub form : is_content (place_of place) (content_of content) ≡ true
+  pub form : is_content (spelled_place place) (content_of content) ≡ true
   pub limited : is_limited_place place ≡ true
 
 abbrev pub IsValue : LineValue → Type 0
@@ -62,7 +62,7 @@ pub record Stands (before : List Line) (s : Standing) : Type 0 where
   pub stage : s.stage ≡ stage_of before
   pub first : s.first ≡ last_first before
   pub slot : s.slot ≡ last_slot before
-  pub place : option_map place_of s.place ≡ last_place before
+  pub place : option_map spelled_place s.place ≡ last_place before
   pub functions : s.functions ≡ count_by is_function before
   pub labels : s.labels ≡ count_by is_label before
   pub low_first : IfSome s.first (λ n. n ≤ 65535)
@@ -70,7 +70,7 @@ pub record Stands (before : List Line) (s : Standing) : Type 0 where
   pub low_place : IfSome s.place (λ p. is_limited_place p ≡ true)
 
 -- a form behind the lines before it
-abbrev pub ruled : List Line → Option Line → Result Line Flaw
+abbrev pub ruled : List Line → Option Line → Result Line PartFault
 ruled before None = Err Syntax
 ruled before (Some l) =
     if not (may_stand before l) then Err Syntax
@@ -132,6 +132,6 @@ abbrev pub LabelIs : List (List ℕ) → Option (List ℕ × List ℕ × Option 
 LabelIs fs None = label_in fs ≡ None
 LabelIs fs (Some x) = (is_numeral x.0 ≡ true) × (is_numeral x.1 ≡ true) × (label_in fs ≡ option_map (Line.label x.0 x.1) (terms_in x.2))
 
-abbrev pub EntryIs : List ℕ → List (List ℕ) → Option (Place × List ℕ) → Type 0
+abbrev pub EntryIs : List ℕ → List (List ℕ) → Option (PlaceText × List ℕ) → Type 0
 EntryIs name fs None = entry_in name fs ≡ None
 EntryIs name fs (Some x) = (is_place x.0 ≡ true) × (entry_in name fs ≡ option_map (Line.entry x.0) (content_in x.0 x.1))

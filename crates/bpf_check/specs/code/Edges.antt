@@ -2,14 +2,14 @@
 use Rattle.std.specs.Prelude.{ℕ, ◌+◌, ℤ, Bool, false, List, ◌++◌, Option, Some, None, option_and_then, if◌then◌else◌}
 use Rattle.bpf_insn.specs.declared.instruction.Insn.{Insn}
 use Rattle.bpf_insn.specs.declared.instruction.Insn.TheVariants.{JumpIf, CallLocal}
-use Rattle.bpf_insn.specs.Instruction.{slot_count}
-use Rattle.bpf_state.specs.State.{AbstractState, left}
+use Rattle.bpf_insn.specs.Instruction.{slot_count, goes_on}
+use Rattle.bpf_state.specs.State.{AbstractState, caller_state}
 use Rattle.bpf_state.specs.Transfer.{branch}
 use Rattle.bpf_state.specs.Fault.{some_passes}
 use Rattle.bpf_cert.specs.View.{LabelView, CertificateView}
 use Rattle.bpf_safety.specs.Labels.{label_at}
 use Rattle.bpf_safety.specs.Budget.{budget, least_slack}
-use Rattle.bpf_safety.specs.Flow.{Visit, callee, goes_on, jump_target, jump_state}
+use Rattle.bpf_safety.specs.Flow.{Visit, callee, jump_target, jump_state}
 use Rattle.bpf_safety.specs.Flaw.{Edge, edge_to, is_negative_if}
 use Rattle.bpf_check.specs.code.Slack.{at_label}
 
@@ -25,7 +25,7 @@ unpaid_from c old cost e =
 -- the state on the edge to the next instruction, from the state after this one
 abbrev pub next_of : CertificateView → ℕ → Insn → AbstractState → Option AbstractState
 next_of c slot (JumpIf cond width dst src off) s = branch (JumpIf cond width dst src off) false s
-next_of c slot (CallLocal off) s = option_and_then (λ g. left g.ret s) (callee c slot (CallLocal off))
+next_of c slot (CallLocal off) s = option_and_then (λ g. caller_state g.ret s) (callee c slot (CallLocal off))
 next_of c slot i s = if goes_on i then Some s else None
 
 -- the live edges, from the state after an instruction

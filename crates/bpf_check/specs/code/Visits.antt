@@ -15,7 +15,7 @@ use Rattle.bpf_check.specs.declared.arrival.Walk.{Walk}
 use Rattle.bpf_check.specs.declared.visit.Judged.{Judged}
 
 -- an instruction without fault, with what goes on from it and which conditions on its state fail
-pub record IsJudged (p : Instructions) (c : CertificateView) (slot : ℕ) (i : Insn) (a : Arrival) (w : Walk) (j : Judged) : Type 0 where
+pub record IsJudgment (p : Instructions) (c : CertificateView) (slot : ℕ) (i : Insn) (a : Arrival) (w : Walk) (j : Judged) : Type 0 where
   pub no_fault : fault_of c.least a.state i ≡ None
   pub passed : walk_of w ≡ passed_on p c slot i a
   pub valid : IfSome w.here (λ h. IsReaching (slot + slot_count i) h)

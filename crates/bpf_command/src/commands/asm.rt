@@ -12,7 +12,7 @@ ghost use Rattle.bpf_command.specs.Told.{OutputFails};
 
 use crate::commands::output::put;
 use crate::failure::{Failure, REFUSED, say};
-use crate::places::Places;
+use crate::streams::Streams;
 use bpf_insn::Order;
 use bpf_text::{MAX_TEXT, TextError, assemble};
 use std::alloc::{AllocError, Global};
@@ -40,15 +40,15 @@ fn read_all<R: Read>(alloc: Global, reader: &mut R) -> Result<Option<Vec<u8>>, A
 }
 
 /// The text at a name, or A8. It can't be read where it isn't UTF-8.
-pub fn text_at<'a, P: Places>(
+pub fn text_at<'a, P: Streams>(
     alloc: Global,
-    places: &mut P,
+    streams: &mut P,
     name: &'a str,
 ) -> Result<Result<String, TextError>, Failure<'a>>
-    ensures ok { IfOk result (λ read. MatchResult read (λ text. TextAt (opening P.opens P.Reader.remaining) places.old name.entry.now places.new (λ bytes. string_bytes text ≡ bytes)) (TextTooLong (opening P.opens P.Reader.remaining) places.old name.entry.now places.new)) }
-    ensures err { IfErr result (TextFails (opening P.opens P.Reader.remaining) places.old name.entry.now places.new) }
+    ensures ok { IfOk result (λ read. MatchResult read (λ text. TextAt (opening P.opens P.Reader.remaining) streams.old name.entry.now streams.new (λ bytes. string_bytes text ≡ bytes)) (TextTooLong (opening P.opens P.Reader.remaining) streams.old name.entry.now streams.new)) }
+    ensures err { IfErr result (TextFails (opening P.opens P.Reader.remaining) streams.old name.entry.now streams.new) }
 {
-    let Ok(mut reader) = places.open(name) else {
+    let Ok(mut reader) = streams.open(name) else {
         return Err(Failure::CannotRead(name));
     };
     let Some(bytes) = read_all(alloc, &mut reader)? else {
@@ -98,23 +98,23 @@ pub fn refuse_text<'a, W: Write>(
 }
 
 /// Writes the image of a text. The place for it is made only where there is an image.
-pub fn assembled<'a, P: Places, W: Write>(
+pub fn assembled<'a, P: Streams, W: Write>(
     alloc: Global,
-    places: &mut P,
+    streams: &mut P,
     out: &mut W,
     input: &'a str,
     output: &'a str,
     order: Order,
 ) -> Result<u8, Failure<'a>>
-    ensures ok { IfOk result (λ status. (answer : Answer) × Says answer status (W.contents out.old) (W.contents out.new) × AsmSays (opening P.opens P.Reader.remaining) (making P.creates P.ends P.Writer.contents) order places.old input.entry.now output.entry.now places.new answer) }
-    ensures err { IfErr result (AsmFails (opening P.opens P.Reader.remaining) (making P.creates P.ends P.Writer.contents) order places.old input.entry.now output.entry.now places.new) }
+    ensures ok { IfOk result (λ status. (answer : Answer) × Says answer status (W.contents out.old) (W.contents out.new) × AsmSays (opening P.opens P.Reader.remaining) (making P.creates P.ends P.Writer.contents) order streams.old input.entry.now output.entry.now streams.new answer) }
+    ensures err { IfErr result (AsmFails (opening P.opens P.Reader.remaining) (making P.creates P.ends P.Writer.contents) order streams.old input.entry.now output.entry.now streams.new) }
 {
-    let text = match text_at(alloc, places, input)? {
+    let text = match text_at(alloc, streams, input)? {
         Ok(text) => text,
         Err(error) => return refuse_text(alloc, out, error),
     };
     match assemble(alloc, text.as_str(), order) {
-        Ok(program) => put(places, output, &program),
+        Ok(program) => put(streams, output, &program),
         Err(error) => refuse_text(alloc, out, error),
     }
 }

@@ -8,22 +8,22 @@ ghost use Rattle.bpf_command.specs.Loaded.{CertificateAt, CertificateRefused, Ce
 ghost use Rattle.bpf_command.specs.Told.{OutputFails};
 
 use crate::failure::{Failure, REFUSED, say};
-use crate::places::Places;
+use crate::streams::Streams;
 use bpf_cert::{CertError, Certificate, read};
 use bpf_check::Refusal;
 use std::alloc::Global;
 use std::io::Write;
 
 /// The certificate at a name, or why it is refused.
-pub fn certificate_at<'a, P: Places>(
+pub fn certificate_at<'a, P: Streams>(
     alloc: Global,
-    places: &mut P,
+    streams: &mut P,
     name: &'a str,
 ) -> Result<Result<Certificate, CertError>, Failure<'a>>
-    ensures ok { IfOk result (λ read. MatchResult read (CertificateAt (opening P.opens P.Reader.remaining) places.old name.entry.now places.new) (CertificateRefused (opening P.opens P.Reader.remaining) places.old name.entry.now places.new)) }
-    ensures err { IfErr result (CertificateFails (opening P.opens P.Reader.remaining) places.old name.entry.now places.new) }
+    ensures ok { IfOk result (λ read. MatchResult read (CertificateAt (opening P.opens P.Reader.remaining) streams.old name.entry.now streams.new) (CertificateRefused (opening P.opens P.Reader.remaining) streams.old name.entry.now streams.new)) }
+    ensures err { IfErr result (CertificateFails (opening P.opens P.Reader.remaining) streams.old name.entry.now streams.new) }
 {
-    let Ok(reader) = places.open(name) else {
+    let Ok(reader) = streams.open(name) else {
         return Err(Failure::CannotRead(name));
     };
     match read(alloc, reader) {

@@ -15,7 +15,7 @@ ghost use Rattle.bpf_command.specs.Told.{OutputFails};
 use crate::commands::image::{program_at, refuse};
 use crate::commands::output::put;
 use crate::failure::{Failure, REFUSED, say};
-use crate::places::Places;
+use crate::streams::Streams;
 use bpf_cert::Certificate;
 use bpf_infer::{InferError, Watch, infer, search};
 use bpf_insn::{MAX_CONTEXT, Order, Program};
@@ -77,9 +77,9 @@ fn proposed<H: Watch>(
 
 /// Writes a certificate for an image and contexts of `least` to `most` bytes. The place for it is made only where there is
 /// one.
-pub fn inferred<'a, P: Places, W: Write, H: Watch>(
+pub fn inferred<'a, P: Streams, W: Write, H: Watch>(
     alloc: Global,
-    places: &mut P,
+    streams: &mut P,
     out: &mut W,
     watch: &mut H,
     input: &'a str,
@@ -89,17 +89,17 @@ pub fn inferred<'a, P: Places, W: Write, H: Watch>(
     output: &'a str,
     order: Order,
 ) -> Result<u8, Failure<'a>>
-    ensures ok { IfOk result (λ status. (answer : Answer) × Says answer status (W.contents out.old) (W.contents out.new) × InferSays (opening P.opens P.Reader.remaining) (making P.creates P.ends P.Writer.contents) order places.old input.entry.now least most output.entry.now places.new answer) }
-    ensures err { IfErr result (InferFails (opening P.opens P.Reader.remaining) (making P.creates P.ends P.Writer.contents) order places.old input.entry.now least most output.entry.now places.new) }
+    ensures ok { IfOk result (λ status. (answer : Answer) × Says answer status (W.contents out.old) (W.contents out.new) × InferSays (opening P.opens P.Reader.remaining) (making P.creates P.ends P.Writer.contents) order streams.old input.entry.now least most output.entry.now streams.new answer) }
+    ensures err { IfErr result (InferFails (opening P.opens P.Reader.remaining) (making P.creates P.ends P.Writer.contents) order streams.old input.entry.now least most output.entry.now streams.new) }
 {
-    let program = match program_at(alloc, places, input, order)? {
+    let program = match program_at(alloc, streams, input, order)? {
         Ok(program) => program,
         Err(error) => return refuse(alloc, out, error),
     };
     // The words' parser has seen that the lengths are in order, and at most the greatest.
     let most = most.min(MAX_CONTEXT as u32);
     match proposed(alloc, &program, least.min(most), most, deep, watch) {
-        Ok(certificate) => put(places, output, &certificate),
+        Ok(certificate) => put(streams, output, &certificate),
         Err(error) => refuse_inference(alloc, out, error),
     }
 }

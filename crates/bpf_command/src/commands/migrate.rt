@@ -9,28 +9,28 @@ ghost use Rattle.bpf_command.specs.Printed.{MigrateSays, MigrateFails};
 use crate::commands::certificate::{certificate_at, refuse_text};
 use crate::commands::output::put;
 use crate::failure::Failure;
-use crate::places::Places;
+use crate::streams::Streams;
 use bpf_cert::migrate;
 use std::alloc::Global;
 use std::io::Write;
 
 /// Writes a certificate once more as version 2. The place for it is made only where there is one.
-pub fn migrated<'a, P: Places, W: Write>(
+pub fn migrated<'a, P: Streams, W: Write>(
     alloc: Global,
-    places: &mut P,
+    streams: &mut P,
     out: &mut W,
     certificate: &'a str,
     output: &'a str,
 ) -> Result<u8, Failure<'a>>
-    ensures ok { IfOk result (λ status. (answer : Answer) × Says answer status (W.contents out.old) (W.contents out.new) × MigrateSays (opening P.opens P.Reader.remaining) (making P.creates P.ends P.Writer.contents) places.old certificate.entry.now output.entry.now places.new answer) }
-    ensures err { IfErr result (MigrateFails (opening P.opens P.Reader.remaining) (making P.creates P.ends P.Writer.contents) places.old certificate.entry.now output.entry.now places.new) }
+    ensures ok { IfOk result (λ status. (answer : Answer) × Says answer status (W.contents out.old) (W.contents out.new) × MigrateSays (opening P.opens P.Reader.remaining) (making P.creates P.ends P.Writer.contents) streams.old certificate.entry.now output.entry.now streams.new answer) }
+    ensures err { IfErr result (MigrateFails (opening P.opens P.Reader.remaining) (making P.creates P.ends P.Writer.contents) streams.old certificate.entry.now output.entry.now streams.new) }
 {
-    let certificate = match certificate_at(alloc, places, certificate)? {
+    let certificate = match certificate_at(alloc, streams, certificate)? {
         Ok(certificate) => certificate,
         Err(error) => return refuse_text(alloc, out, error),
     };
     match migrate(alloc, &certificate) {
-        Ok(migrated) => put(places, output, &migrated),
+        Ok(migrated) => put(streams, output, &migrated),
         Err(error) => refuse_text(alloc, out, error),
     }
 }

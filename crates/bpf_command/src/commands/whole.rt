@@ -7,7 +7,7 @@ ghost use Rattle.bpf_command.specs.Given.{ContextAt, ContextFails};
 
 use crate::context::ContextError;
 use crate::failure::Failure;
-use crate::places::Places;
+use crate::streams::Streams;
 use bpf_insn::MAX_CONTEXT;
 use std::alloc::{AllocError, Global};
 use std::io::Read;
@@ -32,15 +32,15 @@ fn read_some<R: Read>(alloc: Global, reader: &mut R) -> Result<Option<Vec<u8>>, 
 }
 
 /// The context at a name.
-pub fn context_at<'a, P: Places>(
+pub fn context_at<'a, P: Streams>(
     alloc: Global,
-    places: &mut P,
+    streams: &mut P,
     name: &'a str,
 ) -> Result<Vec<u8>, Failure<'a>>
-    ensures ok { IfOk result (λ v. ContextAt (opening P.opens P.Reader.remaining) places.old name.entry.now places.new v.items) }
-    ensures err { IfErr result (ContextFails (opening P.opens P.Reader.remaining) places.old name.entry.now places.new) }
+    ensures ok { IfOk result (λ v. ContextAt (opening P.opens P.Reader.remaining) streams.old name.entry.now streams.new v.items) }
+    ensures err { IfErr result (ContextFails (opening P.opens P.Reader.remaining) streams.old name.entry.now streams.new) }
 {
-    let Ok(mut reader) = places.open(name) else {
+    let Ok(mut reader) = streams.open(name) else {
         return Err(Failure::CannotRead(name));
     };
     let Some(bytes) = read_some(alloc, &mut reader)? else {

@@ -6,7 +6,7 @@ ghost use Rattle.bpf_semantics.specs.Step.{fetched};
 ghost use Rattle.bpf_insn.specs.Effects.{fetch_register, is_frame_pointer};
 ghost use Rattle.bpf_machine.specs.Answers.{Does};
 
-use crate::machine::{Machine, Place};
+use crate::machine::{Location, Machine};
 use crate::outcome::Step;
 use bpf_insn::{AtomicOp, Code, Insn, Reg, Size};
 use bpf_semantics::{Reason, Value, atomic_result};
@@ -49,9 +49,9 @@ impl<'a, C: Code> Machine<'a, C> {
             return Step::Fault(Reason::OperandKind);
         };
         let size = Size::of_word(wide);
-        match self.place(size, off, Value::Pointer(region, at)) {
-            Some(Place::Frame(depth, first)) => {
-                match self.number_at(size, Place::Frame(depth, first)) {
+        match self.location(size, off, Value::Pointer(region, at)) {
+            Some(Location::Frame(depth, first)) => {
+                match self.number_at(size, Location::Frame(depth, first)) {
                     Ok(old) => {
                         let new = atomic_result(op, wide, old, x, r0);
                         self.advance();
@@ -62,7 +62,7 @@ impl<'a, C: Code> Machine<'a, C> {
                     Err(reason) => Step::Fault(reason),
                 }
             }
-            Some(Place::Context(_at)) => Step::Fault(Reason::ContextWrite),
+            Some(Location::Context(_at)) => Step::Fault(Reason::ContextWrite),
             None => Step::Fault(Reason::OutOfBounds),
         }
     }

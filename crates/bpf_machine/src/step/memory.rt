@@ -7,11 +7,11 @@ ghost use Rattle.bpf_insn.specs.Instruction.{byte_count};
 ghost use Rattle.bpf_semantics.specs.Memory.{pointer_at};
 ghost use Rattle.bpf_semantics.specs.Step.{load};
 ghost use Rattle.bpf_semantics.specs.Stuck.{unreadable_at};
-ghost use Rattle.bpf_machine.specs.Places.{place_is, IsInside, IsPlaceFrom};
+ghost use Rattle.bpf_machine.specs.Locations.{location_is, IsInside, IsLocationFrom};
 ghost use Rattle.bpf_machine.specs.Answers.{Does, reason_before_access};
 ghost use Rattle.bpf_machine.specs.Stored.{may_be_stored};
 
-use crate::machine::{Machine, Place, sum_of};
+use crate::machine::{Location, Machine, sum_of};
 use crate::outcome::Step;
 use bpf_insn::{Code, Insn, Reg, Size, extended};
 use bpf_semantics::{Reason, Value, sign_extend_from};
@@ -57,11 +57,11 @@ impl<'a, C: Code> Machine<'a, C> {
         requires { self.old.state.top.slot < 65536 }
         ensures { Does self.old (Insn.Load size dst src off) result self.new }
     {
-        let place = match self.place_to_load(size, dst, src, off) {
-            Ok(place) => place,
+        let location = match self.location_to_load(size, dst, src, off) {
+            Ok(location) => location,
             Err(reason) => return Step::Fault(reason),
         };
-        match self.value_at(size, place) {
+        match self.value_at(size, location) {
             Ok(value) => {
                 self.put(dst, value);
                 Step::Moved
@@ -70,10 +70,10 @@ impl<'a, C: Code> Machine<'a, C> {
         }
     }
 
-    /// The place that a load reads; else the first reason why there is none.
+    /// The location that a load reads; else the first reason why there is none.
     #[inline(always)]
-    fn place_to_load(&self, size: Size, dst: Reg, src: Reg, off: i16) -> Result<Place, Reason>
-        ensures ok { IfOk result (λ place. (is_frame_pointer dst ≡ false) × IsPlaceFrom self.now.state (byte_count size) src off place) }
+    fn location_to_load(&self, size: Size, dst: Reg, src: Reg, off: i16) -> Result<Location, Reason>
+        ensures ok { IfOk result (λ location. (is_frame_pointer dst ≡ false) × IsLocationFrom self.now.state (byte_count size) src off location) }
         ensures err { IfErr result (λ reason. reason_before_access self.now.state (Insn.Load size dst src off) ≡ Some reason) }
     {
         if dst.is_frame_pointer() {
@@ -84,22 +84,22 @@ impl<'a, C: Code> Machine<'a, C> {
             Some(Value::Number(_number)) => return Err(Reason::OperandKind),
             None => return Err(Reason::UnsetRegister),
         };
-        self.place(size, off, base).ok_or(Reason::OutOfBounds)
+        self.location(size, off, base).ok_or(Reason::OutOfBounds)
     }
 
-    /// The number or, in a whole slot, the pointer at a place; else why the first byte that can't be read can't.
+    /// The number or, in a whole slot, the pointer at a location; else why the first byte that can't be read can't.
     #[inline(always)]
-    fn value_at(&self, size: Size, place: Place) -> Result<Value, Reason>
-        requires { IsInside self.now.state (byte_count size) place }
-        ensures ok { IfOk result (λ value. load self.now.program.order self.now.state size (place_is place) ≡ Some value) }
-        ensures err { IfErr result (λ reason. (unreadable_at self.now.state (byte_count size) (place_is place) ≡ Some reason) × (size ≡ Size.DW → pointer_at self.now.state (place_is place) ≡ None)) }
+    fn value_at(&self, size: Size, location: Location) -> Result<Value, Reason>
+        requires { IsInside self.now.state (byte_count size) location }
+        ensures ok { IfOk result (λ value. load self.now.program.order self.now.state size (location_is location) ≡ Some value) }
+        ensures err { IfErr result (λ reason. (unreadable_at self.now.state (byte_count size) (location_is location) ≡ Some reason) × (size ≡ Size.DW → pointer_at self.now.state (location_is location) ≡ None)) }
     {
         if matches!(size, Size::DW) {
-            if let Some(pointer) = self.pointer_at(place) {
+            if let Some(pointer) = self.pointer_at(location) {
                 return Ok(pointer);
             }
         }
-        match self.number_at(size, place) {
+        match self.number_at(size, location) {
             Ok(number) => Ok(Value::Number(number)),
             Err(reason) => Err(reason),
         }
@@ -109,11 +109,11 @@ impl<'a, C: Code> Machine<'a, C> {
         requires { self.old.state.top.slot < 65536 }
         ensures { Does self.old (Insn.LoadSx size dst src off) result self.new }
     {
-        let place = match self.place_to_load(size, dst, src, off) {
-            Ok(place) => place,
+        let location = match self.location_to_load(size, dst, src, off) {
+            Ok(location) => location,
             Err(reason) => return Step::Fault(reason),
         };
-        match self.number_at(size, place) {
+        match self.number_at(size, location) {
             Ok(number) => {
                 self.put(dst, Value::Number(sign_extend_from(size, number)));
                 Step::Moved
@@ -135,13 +135,13 @@ impl<'a, C: Code> Machine<'a, C> {
             Some(Value::Number(_number)) => return Step::Fault(Reason::OperandKind),
             None => return Step::Fault(Reason::UnsetRegister),
         };
-        match self.place(size, off, base) {
-            Some(Place::Frame(depth, at)) => {
+        match self.location(size, off, base) {
+            Some(Location::Frame(depth, at)) => {
                 self.advance();
                 self.store_number(size, depth, at, extended(imm));
                 Step::Moved
             }
-            Some(Place::Context(_at)) => Step::Fault(Reason::ContextWrite),
+            Some(Location::Context(_at)) => Step::Fault(Reason::ContextWrite),
             None => Step::Fault(Reason::OutOfBounds),
         }
     }
@@ -163,8 +163,8 @@ impl<'a, C: Code> Machine<'a, C> {
         if !may_store(size, at, off, value) {
             return Step::Fault(Reason::OperandKind);
         }
-        match self.place(size, off, Value::Pointer(region, at)) {
-            Some(Place::Frame(depth, first)) => {
+        match self.location(size, off, Value::Pointer(region, at)) {
+            Some(Location::Frame(depth, first)) => {
                 self.advance();
                 match value {
                     Value::Number(number) => self.store_number(size, depth, first, number),
@@ -172,7 +172,7 @@ impl<'a, C: Code> Machine<'a, C> {
                 }
                 Step::Moved
             }
-            Some(Place::Context(_at)) => Step::Fault(Reason::ContextWrite),
+            Some(Location::Context(_at)) => Step::Fault(Reason::ContextWrite),
             None => Step::Fault(Reason::OutOfBounds),
         }
     }

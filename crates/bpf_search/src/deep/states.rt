@@ -15,8 +15,8 @@ mod tolerant;
 ghost use Rattle.std.specs.Prelude.{◌≤◌};
 
 use crate::functions::{Depths, check_bounds, depths_of};
-use crate::labels::Outline;
 use crate::lists::{get_or, put, vacant};
+use crate::outline::Outline;
 use crate::watch::Watch;
 use arrayvec::ArrayVec;
 use bpf_cert::{Budget, Function, Label};

@@ -1,8 +1,8 @@
 -- A state in entries, each of one place.
 use Rattle.std.specs.Prelude.{◌≡◌, ◌≢◌, ◌≤◌, Bool, List, [], ◌∷◌, All}
 use Rattle.bpf_insn.specs.Instruction.{register_number}
-use Rattle.bpf_state.specs.declared.state.RegState.TheVariants.{Any}
-use Rattle.bpf_state.specs.declared.state.SlotState.TheVariants.{Bytes}
+use Rattle.bpf_state.specs.declared.known.RegState.TheVariants.{Any}
+use Rattle.bpf_state.specs.declared.known.SlotState.TheVariants.{Bytes}
 use Rattle.bpf_state.specs.declared.entries.Entry.{Entry}
 use Rattle.bpf_state.specs.declared.entries.Entry.TheVariants.{Register, Slot}
 use Rattle.bpf_state.specs.State.{AbstractState, IsRegister, IsSlot, register, slot, with_register, with_slot, blank}

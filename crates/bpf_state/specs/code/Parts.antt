@@ -9,8 +9,8 @@ use Rattle.bpf_insn.specs.declared.instruction.Size.{Size}
 use Rattle.bpf_insn.specs.declared.instruction.Reg.TheVariants.{R0}
 use Rattle.bpf_insn.specs.declared.instruction.AtomicOp.{AtomicOp}
 use Rattle.bpf_insn.specs.declared.instruction.AtomicOp.TheVariants.{CmpXchg}
-use Rattle.bpf_state.specs.declared.state.RegState.{RegState}
-use Rattle.bpf_state.specs.declared.state.Tag.{Tag}
+use Rattle.bpf_state.specs.declared.known.RegState.{RegState}
+use Rattle.bpf_state.specs.declared.known.Tag.{Tag}
 use Rattle.bpf_state.specs.State.{AbstractState, register, put_register}
 use Rattle.bpf_state.specs.Transfer.{Outcome, unless, live, loaded, loaded_tag, any_signed, set_number, stored, fetched, modified_by}
 use Rattle.bpf_state.specs.Fault.{is_any, is_number, is_pointer}

@@ -8,10 +8,10 @@ use Rattle.bpf_insn.specs.declared.instruction.AluOp.TheVariants.{Mov}
 use Rattle.bpf_num.specs.Operation.{num_alu}
 use Rattle.bpf_state.specs.declared.fault.StateFault.{StateFault}
 use Rattle.bpf_state.specs.declared.fault.StateFault.TheVariants.{WrongKinds, OutOfBounds}
-use Rattle.bpf_state.specs.declared.state.RegState.{RegState}
-use Rattle.bpf_state.specs.declared.state.RegState.TheVariants.{Num, Ptr}
-use Rattle.bpf_state.specs.declared.state.Area.{Area}
-use Rattle.bpf_state.specs.declared.state.Tag.{Tag}
+use Rattle.bpf_state.specs.declared.known.RegState.{RegState}
+use Rattle.bpf_state.specs.declared.known.RegState.TheVariants.{Num, Ptr}
+use Rattle.bpf_state.specs.declared.known.Area.{Area}
+use Rattle.bpf_state.specs.declared.known.Tag.{Tag}
 use Rattle.bpf_state.specs.State.{AbstractState, IsRegister, put_register}
 use Rattle.bpf_state.specs.Fault.{alu_of_kinds, leaves_bounds}
 use Rattle.bpf_state.specs.Transfer.{Outcome, Faulty, live}

@@ -1,6 +1,6 @@
 -- The counters of slots, kept where there is one.
 use Rattle.std.specs.Prelude.{Bool, true, false, List, Option}
-use Rattle.bpf_state.specs.declared.state.Tag.{Tag}
+use Rattle.bpf_state.specs.declared.known.Tag.{Tag}
 use Rattle.bpf_state.specs.State.{no_tags}
 
 -- what is kept says nothing where no slot holds a counter

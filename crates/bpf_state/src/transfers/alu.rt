@@ -6,17 +6,17 @@ ghost use Rattle.bpf_insn.specs.declared.instruction.Width.{Width};
 ghost use Rattle.bpf_insn.specs.declared.instruction.Width.TheVariants.{W64};
 ghost use Rattle.bpf_insn.specs.declared.instruction.AluOp.TheVariants.{Add, Sub, Mov};
 ghost use Rattle.bpf_insn.specs.declared.instruction.Insn.TheVariants.{Alu, Neg, MovSx, End};
-ghost use Rattle.bpf_state.specs.declared.state.RegState.{RegState};
-ghost use Rattle.bpf_state.specs.declared.state.RegState.TheVariants.{Num as Number, Ptr};
+ghost use Rattle.bpf_state.specs.declared.known.RegState.{RegState};
+ghost use Rattle.bpf_state.specs.declared.known.RegState.TheVariants.{Num as Number, Ptr};
 ghost use Rattle.bpf_state.specs.State.{IsPointer, IsRegister};
 ghost use Rattle.bpf_state.specs.Fault.{difference, pointer_plus, pointer_minus, reads_any};
 ghost use Rattle.bpf_state.specs.Transfer.{constant_of, added, never_wraps, shifted_tag, tag_after, alu_tag, transfer};
 ghost use Rattle.bpf_state.specs.Answer.{outcome_told, KeepsUnlessDone};
 ghost use Rattle.bpf_state.specs.code.Results.{IsKnown, near, near_value, numbers_result, result_of, written};
 
-use crate::abstract_state::State;
 use crate::fault::StateFault;
-use crate::state::{Area, FARTHEST, Pointer, RegState, Tag};
+use crate::known::{Area, FARTHEST, Pointer, RegState, Tag};
+use crate::state::State;
 use bpf_insn::{AluOp, EndBits, EndKind, Operand, Order, Reg, SignBits, Width};
 use bpf_num::{KnownBits, Num, Signed, Unsigned, WordDomain};
 

@@ -11,10 +11,10 @@ ghost use Rattle.bpf_state.specs.code.Parts.{atomic_operands, atomic_outcome};
 ghost use Rattle.bpf_state.specs.Answer.{fault_number, outcome_told, edge_told, KeepsUnlessDone};
 
 use super::load::{loaded, read_fault};
-use crate::abstract_state::State;
 use crate::access::Reach;
 use crate::fault::StateFault;
 use crate::slots::maybe_write;
+use crate::state::State;
 use bpf_insn::{AtomicOp, Reg, Size};
 
 /// Why the registers that an atomic operation reads are not what it takes.

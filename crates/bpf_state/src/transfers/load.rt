@@ -10,11 +10,11 @@ ghost use Rattle.bpf_state.specs.Transfer.{transfer, any_number, any_signed, loa
 ghost use Rattle.bpf_state.specs.code.Parts.{byte_fault, read_fault, load_outcome, load_sx_outcome};
 ghost use Rattle.bpf_state.specs.Answer.{fault_number, outcome_told, KeepsUnlessDone};
 
-use crate::abstract_state::State;
 use crate::access::Reach;
 use crate::fault::StateFault;
+use crate::known::{RegState, Tag};
 use crate::slots::{any_pointer, any_unknown};
-use crate::state::{RegState, Tag};
+use crate::state::State;
 use bpf_insn::{Reg, Size};
 use bpf_num::{KnownBits, Num, Signed, Unsigned, WordDomain};
 
@@ -64,7 +64,7 @@ pub(crate) fn loaded(state: &State, reach: Reach, size: Size) -> Option<RegState
     ensures ordered { IfSome result (λ v. IsRegister v) }
 {
     if reach.in_frame() && reach.is_slot() {
-        Some(state.slots.get(reach.place()).value())
+        Some(state.slots.get(reach.index()).value())
     } else {
         any_number(size).map(RegState::Num)
     }
@@ -75,7 +75,7 @@ fn loaded_tag(state: &State, reach: Reach) -> Option<Tag>
     ensures { result ≡ loaded_tag state.now (Some reach) }
 {
     if reach.in_frame() && reach.is_slot() {
-        state.slot_tags.get(reach.place())
+        state.slot_tags.get(reach.index())
     } else {
         None
     }

@@ -9,11 +9,11 @@ ghost use Rattle.bpf_state.specs.Transfer.{transfer, stored};
 ghost use Rattle.bpf_state.specs.code.Parts.{store_fault, store_outcome};
 ghost use Rattle.bpf_state.specs.Answer.{fault_number, outcome_told, KeepsUnlessDone};
 
-use crate::abstract_state::State;
 use crate::access::Reach;
 use crate::fault::StateFault;
+use crate::known::{RegState, SlotState, Tag};
 use crate::slots::{maybe_write, write};
-use crate::state::{RegState, SlotState, Tag};
+use crate::state::State;
 use bpf_insn::{Operand, Reg, Size};
 
 /// A slot that holds what a register does.
@@ -37,7 +37,7 @@ fn put(reach: Reach, value: RegState, tag: Option<Tag>, state: &mut State)
     ensures { Some state.new ≡ stored (Some reach) value tag state.old }
 {
     if reach.is_slot() {
-        state.put_slot(reach.place(), value_slot(value), tag);
+        state.put_slot(reach.index(), value_slot(value), tag);
     } else if reach.is_known() {
         write(state, reach);
     } else {

@@ -1,4 +1,4 @@
--- Labels chained by a hash of their names: from each label one goes on to one above it whose name comes to the same place.
+-- Labels chained by a hash of their names: from each label one goes on to one above it whose name comes to the same bucket.
 use Rattle.std.specs.Prelude.{ℕ, ◌+◌, ◌-◌, ◌*◌, ◌/◌, ◌%◌, ◌<◌, ◌≤◌, List, [], ◌∷◌, ◌++◌, None, ◌≡◌, length, take, get_or, is_some, true}
 use Rattle.bpf_text.specs.declared.chains.Entry.{Entry}
 use Rattle.bpf_text.specs.declared.chains.Added.{Added}
@@ -21,31 +21,31 @@ hash_after h (c ∷ cs) = hash_after ((h + c) * 2654435761 % 4294967296) cs
 unfoldable pub hash_of : List ℕ → ℕ
 hash_of name = hash_after 0 name
 
--- its place among so many
-unfoldable pub place_of : ℕ → List ℕ → ℕ
-place_of places name = hash_of name * places / 4294967296
+-- its bucket among so many
+unfoldable pub bucket_of : ℕ → List ℕ → ℕ
+bucket_of buckets name = hash_of name * buckets / 4294967296
 
--- The chain of a place goes on, for the labels below n, with the one below this number, or ends with 0: it is one of the place,
+-- The chain of a bucket goes on, for the labels below n, with the one below this number, or ends with 0: it is one of the bucket,
 -- and from it up to n there is no other.
-pub record Leads (places : ℕ) (ls : List Label) (place n at : ℕ) : Type 0 where
+pub record ChainLeads (buckets : ℕ) (ls : List Label) (bucket n at : ℕ) : Type 0 where
   pub inside : at ≤ n
-  pub there : (d : Label) → 0 < at → place_of places (get_or ls (at - 1) d).name ≡ place
-  pub same : (name : List ℕ) → place_of places name ≡ place → slot_of (take at ls) name ≡ slot_of (take n ls) name
+  pub there : (d : Label) → 0 < at → bucket_of buckets (get_or ls (at - 1) d).name ≡ bucket
+  pub same : (name : List ℕ) → bucket_of buckets name ≡ bucket → slot_of (take at ls) name ≡ slot_of (take n ls) name
 
 -- what the chains of labels are: where each begins, and where it goes on from each label
-pub record IsChained (places : ℕ) (ls : List Label) (heads links : List ℕ) : Type 0 where
-  pub some : 0 < places
-  pub few : places < 4294967296
-  pub counted : length heads ≡ places
+pub record IsChained (buckets : ℕ) (ls : List Label) (heads links : List ℕ) : Type 0 where
+  pub some : 0 < buckets
+  pub few : buckets < 4294967296
+  pub counted : length heads ≡ buckets
   pub linked : length links ≡ length ls
-  pub begins : (place d : ℕ) → place < places → Leads places ls place (length ls) (get_or heads place d)
-  pub goes_on : (k d : ℕ) (e : Label) → k < length ls → Leads places ls (place_of places (get_or ls k e).name) k (get_or links k d)
+  pub begins : (bucket d : ℕ) → bucket < buckets → ChainLeads buckets ls bucket (length ls) (get_or heads bucket d)
+  pub goes_on : (k d : ℕ) (e : Label) → k < length ls → ChainLeads buckets ls (bucket_of buckets (get_or ls k e).name) k (get_or links k d)
   pub differ : (k : ℕ) (d : Label) → k < length ls → slot_of (take k ls) (get_or ls k d).name ≡ None
 
 -- A search for a name has come to a label of its chain, or to the end: what is there is there from here on.
-pub record Seeks (places : ℕ) (ls : List Label) (name : List ℕ) (at : ℕ) : Type 0 where
+pub record Seeks (buckets : ℕ) (ls : List Label) (name : List ℕ) (at : ℕ) : Type 0 where
   pub inside : at ≤ length ls
-  pub there : (d : Label) → 0 < at → place_of places (get_or ls (at - 1) d).name ≡ place_of places name
+  pub there : (d : Label) → 0 < at → bucket_of buckets (get_or ls (at - 1) d).name ≡ bucket_of buckets name
   pub same : slot_of (take at ls) name ≡ slot_of ls name
 
 -- What became of a label that was to be added: it stands behind the others, or its name was there, or its chain was long.

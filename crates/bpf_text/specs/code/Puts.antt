@@ -9,6 +9,6 @@ use Rattle.bpf_text.specs.declared.spelling.Memory.{Memory}
 pub record Puts (old text new : List ℕ) : Type 0 where
   pub is : new ≡ take 256 (old ++ text)
 
--- `*(u8 *)(r1 + 0`: a place in memory, with what is said behind it still to come
-abbrev pub place_text : Memory → Reg → ℤ → List ℕ
-place_text memory base off = codes "*(" ++ (memory_text memory ++ (codes " *)(" ++ (r_text base ++ (codes " " ++ offset_text off))))
+-- `*(u8 *)(r1 + 0`: a memory operand, with what is said behind it still to come
+abbrev pub memory_operand_text : Memory → Reg → ℤ → List ℕ
+memory_operand_text memory base off = codes "*(" ++ (memory_text memory ++ (codes " *)(" ++ (r_text base ++ (codes " " ++ offset_text off))))

@@ -21,7 +21,7 @@ use Rattle.bpf_text.specs.declared.spelling.Memory.{Memory}
 use Rattle.bpf_text.specs.declared.spelling.Memory.TheVariants.{Unsigned, Signed}
 use Rattle.bpf_text.specs.declared.spelling.Keyword.{Keyword}
 use Rattle.bpf_text.specs.Parts.{registers, operations, conditions, modifications, extensions, swaps, memories, keywords, register_spelling, swap_spelling, memory_text, keyword_text}
-use Rattle.bpf_text.specs.declared.statement.Place.{Place}
+use Rattle.bpf_text.specs.declared.statement.MemoryOperand.{MemoryOperand}
 use Rattle.bpf_text.specs.declared.statement.Jump.{Jump}
 use Rattle.bpf_text.specs.declared.statement.Jump.TheVariants.{Goto as ToSlot, GotoLong as FarToSlot, Call as CallSlot, If as OnTest}
 use Rattle.bpf_text.specs.Spelling.{register_text, operation_text, cond_text, modify_text, sign_bits_text}
@@ -82,8 +82,8 @@ extension_in width dst text = do
   if is_extension width bits.0 then Some (Some (MovSx width bits.0 dst src.0), src.1) else None
 
 -- `*(u8 *)(r1 + 0)`
-unfoldable pub place_in : List ℕ → Read Place
-place_in text = do
+unfoldable pub memory_operand_in : List ℕ → Read MemoryOperand
+memory_operand_in text = do
   inside ← behind (codes "*(") text
   memory ← first_spelled memory_text memories inside
   pointer ← behind (codes "*)(") memory.1
@@ -94,7 +94,7 @@ place_in text = do
 
 unfoldable pub load_in : Width → Reg → List ℕ → Checked Insn
 load_in W32 dst text = None
-load_in W64 dst text = place_in text >>= λ p. Some (option_map (load_of (p.0).memory dst (p.0).base) (p.0).off, p.1)
+load_in W64 dst text = memory_operand_in text >>= λ p. Some (option_map (load_of (p.0).memory dst (p.0).base) (p.0).off, p.1)
 
 unfoldable pub swap_in : Width → Reg → Swap → List ℕ → Checked Insn
 swap_in W32 dst swap text = None
@@ -125,7 +125,7 @@ unsigned_size (Signed size) = None
 
 unfoldable pub store_in : List ℕ → Checked Insn
 store_in text = do
-  p ← place_in text
+  p ← memory_operand_in text
   size ← unsigned_size (p.0).memory
   rest ← behind_mark 61 p.1
   src ← operand_in W64 rest
@@ -139,7 +139,7 @@ wide_of _ = None
 
 unfoldable pub change_in : Bool → List ℕ → Checked Insn
 change_in fetch text = do
-  p ← place_in text
+  p ← memory_operand_in text
   wide ← wide_of (p.0).memory
   by ← first_spelled modify_text modifications p.1
   src ← register_in W64 by.1
@@ -147,7 +147,7 @@ change_in fetch text = do
 
 unfoldable pub exchange_in : AtomicOp → List ℕ → Checked Insn
 exchange_in op text = do
-  p ← place_in text
+  p ← memory_operand_in text
   wide ← wide_of (p.0).memory
   rest ← behind_mark 44 p.1
   src ← register_in W64 rest

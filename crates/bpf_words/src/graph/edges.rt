@@ -5,7 +5,7 @@ ghost use Rattle.std.specs.Prelude.{◌≤◌};
 use crate::graph::Scene;
 use crate::graph::plan::call_target;
 use crate::page::Tell;
-use bpf_check::{goes_on, jump_target};
+use bpf_check::jump_target;
 use bpf_insn::{Code, Insn, MAX_SLOTS};
 
 /// What an edge stands for.
@@ -59,7 +59,7 @@ fn write_from<'a, 'b, W: Tell>(
         write_edge(out, from, to, so, scene.flow.jumps.has(slot));
     }
     let next = slot + insn.slots();
-    if goes_on(insn) && next < slots && scene.plan.blocks.has(next) {
+    if insn.goes_on() && next < slots && scene.plan.blocks.has(next) {
         write_edge(out, from, next, not, scene.flow.nexts.has(slot));
     }
 }

@@ -4,7 +4,7 @@ ghost use Rattle.std.specs.Prelude.{◌≤◌};
 
 use crate::graph::slots::Slots;
 use bpf_cert::Function;
-use bpf_check::{Index, goes_on, jump_target};
+use bpf_check::{Index, jump_target};
 use bpf_insn::{Code, Insn, MAX_SLOTS, target};
 
 /// Where blocks and functions begin.
@@ -57,7 +57,7 @@ impl Plan {
         requires { slot ≤ 65535 }
     {
         let to = jump_target(slot, insn);
-        if to.is_some() || !goes_on(insn) {
+        if to.is_some() || !insn.goes_on() {
             self.blocks.add(slot + 1);
         }
         if let Some(to) = to {

@@ -4,7 +4,7 @@ ghost use Rattle.std.specs.Prelude.{◌≤◌};
 
 use crate::page::Tell;
 use crate::sight::Sight;
-use bpf_check::{Index, callee, function_at, goes_on, jump_target};
+use bpf_check::{Index, callee, function_at, jump_target};
 use bpf_insn::{Code, Insn};
 
 /// Why no state goes on to an instruction without a label.
@@ -99,7 +99,7 @@ fn way_out<'a, C: Code>(
         }
     }
     let next = sight.slot + sight.insn.slots();
-    if goes_on(&sight.insn) && next < program.slots() {
+    if sight.insn.goes_on() && next < program.slots() {
         Some(("goes on to", next))
     } else {
         None

@@ -1,6 +1,6 @@
 use Rattle.std.proofs.Common.{◌≡◌, None, sym, ◌∙◌, ap, refl, []}
 use Rattle.bpf_cert.specs.code.Seen.{place_seen, pointer_seen}
-use Rattle.bpf_cert.specs.Line.{Content, Place}
+use Rattle.bpf_cert.specs.Line.{Content, PlaceText}
 use Rattle.bpf_cert.specs.Faults.{is_canonical_content, is_limited_content}
 use Rattle.bpf_cert.specs.code.Findings.{found}
 use Rattle.bpf_cert.specs.Reading.{bytes_in}
@@ -23,7 +23,7 @@ mask-requires c = bytes_form c.args.text.now c.in-Some-bytes.digits.now (sym (c.
 
 pub returns-in-Some-bytes-clause-value : goal.returns-in-Some-bytes-clause-value
 returns-in-Some-bytes-clause-value c = rw c.in-Slot.is (c.mask.ensures.value
-    ∙ ap (found is_canonical_content is_limited_content) (sym (content_bytes (Place.slot c.in-Slot.field-0.now) c.args.text.now (Content.bytes c.in-Some-bytes.digits.now) (rw c.as_slice.ensures at (sym c.eq.ensures ∙ c.if-eq.false)) (sym c.in_default.ensures) (sym (c.in-Some-bytes.ensures c.in-Slot.field-0.now)))))
+    ∙ ap (found is_canonical_content is_limited_content) (sym (content_bytes (PlaceText.slot c.in-Slot.field-0.now) c.args.text.now (Content.bytes c.in-Some-bytes.digits.now) (rw c.as_slice.ensures at (sym c.eq.ensures ∙ c.if-eq.false)) (sym c.in_default.ensures) (sym (c.in-Some-bytes.ensures c.in-Slot.field-0.now)))))
 
 pub returns-clause-value : goal.returns-clause-value
 returns-clause-value c =

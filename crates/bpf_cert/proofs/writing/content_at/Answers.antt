@@ -1,5 +1,5 @@
 use Rattle.std.proofs.Common.{◌-◌, ◌≤◌, get_or, sym, ap, ◌∙◌, arith}
-use Rattle.bpf_state.specs.declared.state.RegState.TheVariants.{Any}
+use Rattle.bpf_state.specs.declared.known.RegState.TheVariants.{Any}
 use Rattle.bpf_state.specs.State.{value_slot}
 use Rattle.bpf_cert.proofs.BuildingLemmas.{content_register, content_slot}
 use Rattle.bpf_cert.proofs.writing.content_at.Goals as goal

@@ -3,7 +3,7 @@ use Rattle.std.specs.List.{list_all}
 use Rattle.std.proofs.lemmas.List.{take_all}
 use Rattle.std.proofs.lemmas.List.Folds.{list_all-map}
 use Rattle.bpf_cert.specs.View.{function_view}
-use Rattle.bpf_check.specs.Places.{holds_labels}
+use Rattle.bpf_check.specs.LabelIndex.{holds_labels}
 use Rattle.bpf_check.proofs.index.labels_are_in_place.Goals as goal
 
 pub returns : goal.returns

@@ -29,26 +29,26 @@ impl Seeds {
         })
     }
 
-    fn place(&self, slot: u32) -> usize {
+    fn index(&self, slot: u32) -> usize {
         slot.saturating_sub(self.first) as usize
     }
 
     /// The state for a slot.
     pub fn at(&self, slot: u32) -> Option<&State> {
-        held(&self.states, self.place(slot))
+        held(&self.states, self.index(slot))
     }
 
     fn add(&mut self, slot: u32, state: &State) -> Result<(), AllocError> {
-        let place = self.place(slot);
-        take_in_at(self.alloc, &mut self.states, place, state)
+        let index = self.index(slot);
+        take_in_at(self.alloc, &mut self.states, index, state)
     }
 
     /// The slots that have a state, rising.
     pub fn slots(&self) -> Result<Vec<u32>, AllocError> {
         let mut slots = Vec::new(self.alloc);
         let mut slot = self.first;
-        for place in 0..self.states.len() {
-            if held(&self.states, place).is_some() {
+        for index in 0..self.states.len() {
+            if held(&self.states, index).is_some() {
                 slots.push(slot)?;
             }
             slot = slot.saturating_add(1);
@@ -59,8 +59,8 @@ impl Seeds {
     /// Gives each register that a state doesn't know a number, and each slot too if that is asked for. Whether there is one.
     fn fill(&mut self, has_slots: bool) -> bool {
         let mut is_filled = false;
-        for place in 0..self.states.len() {
-            if let Some(Some(state)) = self.states.get_mut(place) {
+        for index in 0..self.states.len() {
+            if let Some(Some(state)) = self.states.get_mut(index) {
                 let has_registers = fill_registers(&mut **state);
                 let has_filled = has_slots && fill_slots(&mut **state);
                 is_filled = is_filled || has_registers || has_filled;
@@ -72,8 +72,8 @@ impl Seeds {
     /// Changes the state for the label before a slot so that the instruction there takes its kinds. Whether that is a change.
     fn change_kinds(&mut self, task: Task, slot: u32) -> bool {
         let label = task.region.slot(task.region.segment(slot));
-        let place = self.place(label);
-        match self.states.get_mut(place) {
+        let index = self.index(label);
+        match self.states.get_mut(index) {
             Some(Some(state)) => {
                 make_numbers(task, label, slot, &mut **state)
                     || lead(task, label, slot, &mut **state)
@@ -98,10 +98,10 @@ impl Seeds {
     /// Takes over the states of others.
     fn take_over(&mut self, others: Seeds) {
         let mut states = others.states;
-        for place in 0..states.len() {
-            if let Some(state) = states.get_mut(place) {
+        for index in 0..states.len() {
+            if let Some(state) = states.get_mut(index) {
                 if state.is_some() {
-                    put(&mut self.states, place, state.take());
+                    put(&mut self.states, index, state.take());
                 }
             }
         }
@@ -161,7 +161,7 @@ impl<'a> Seeker<'a> {
             } else if is_cut && !self.report.is_reached(slot) && !region.has_label(slot) {
                 self.repeat(last, slot)?;
             }
-            is_cut = !Flow::of(slot, insn).goes_on();
+            is_cut = !insn.goes_on();
         }
         Ok(())
     }

@@ -9,7 +9,7 @@ use crate::lists::{get_or, put};
 use crate::places::REGISTERS;
 use bpf_insn::{AluOp, AtomicOp, Insn, Operand, Reg, Size};
 use bpf_num::{KnownBits, Num, Signed, Unsigned, WordDomain};
-use bpf_state::{RegState, SlotState, State, numbered};
+use bpf_state::{RegState, SlotState, State};
 use std::alloc::{AllocError, Global};
 
 /// The most rounds over a function. Where they don't do, all places stay.
@@ -254,8 +254,8 @@ impl<'a> Watcher for Liveness<'a> {
             let read = get_or(&self.callees, callee, Places::ALL);
             needs.read = needs.read.and(read.handed_over());
         }
-        let place = self.task.region.place(slot);
-        put(&mut self.needs, place, needs);
+        let index = self.task.region.index(slot);
+        put(&mut self.needs, index, needs);
         Ok(())
     }
 
@@ -280,12 +280,11 @@ impl<'a> Liveness<'a> {
     /// What is read before an instruction, from what is read behind it.
     fn before(&self, slot: u32, insn: &Insn, behind: Places) -> Places {
         let region = self.task.region;
-        let flow = Flow::of(slot, insn);
-        let mut live = if flow.goes_on() { behind } else { Places::NONE };
-        if let Some(target) = flow.jump() {
+        let mut live = if insn.goes_on() { behind } else { Places::NONE };
+        if let Some(target) = Flow::of(slot, insn).jump() {
             live = live.and(self.live_at(region.segment(target)));
         }
-        match self.needs.get(region.place(slot)) {
+        match self.needs.get(region.index(slot)) {
             Some(needs) => live.without(needs.written).and(needs.read),
             None => live,
         }
@@ -369,7 +368,7 @@ pub fn least_number(number: Num) -> Num {
 
 fn spare_registers(state: &mut State, live: Places) {
     for i in 0..REGISTERS {
-        let r = numbered(i as u8);
+        let r = Reg::numbered(i as u8);
         if !live.has_register(r) {
             state.set_reg(r, RegState::Any);
         } else if let RegState::Num(number) = state.reg(r) {

@@ -102,14 +102,14 @@ impl Region {
         self.slot(label.saturating_add(1))
     }
 
-    /// The place of a slot among the function's.
-    pub fn place(&self, slot: u32) -> usize {
+    /// The index of a slot among the function's.
+    pub fn index(&self, slot: u32) -> usize {
         slot.saturating_sub(self.first) as usize
     }
 
     /// The number of the segment that a slot is in.
     pub fn segment(&self, slot: u32) -> usize {
-        get_or(&self.numbers, self.place(slot), 0)
+        get_or(&self.numbers, self.index(slot), 0)
     }
 
     /// Whether a label stands at a slot.
@@ -118,8 +118,8 @@ impl Region {
     }
 }
 
-fn is_marked(marks: &[bool], place: u32) -> bool {
-    get_or(marks, place as usize, false)
+fn is_marked(marks: &[bool], index: u32) -> bool {
+    get_or(marks, index as usize, false)
 }
 
 // ---- where segments lead
@@ -127,7 +127,7 @@ fn is_marked(marks: &[bool], place: u32) -> bool {
 /// The labels that each label's segment leads to, as far as its instructions say.
 #[derive(Drop)]
 pub struct Graph {
-    /// By labels, the place of the first of its edges; at the end how many there are.
+    /// By labels, the index of the first of its edges; at the end how many there are.
     starts: Vec<usize>,
     targets: Vec<usize>,
 }
@@ -139,11 +139,10 @@ fn add_edges(
     slot: u32,
     insn: &Insn,
 ) -> Result<bool, AllocError> {
-    let flow = Flow::of(slot, insn);
-    if let Some(target) = flow.jump() {
+    if let Some(target) = Flow::of(slot, insn).jump() {
         targets.push(region.segment(target))?;
     }
-    Ok(flow.goes_on())
+    Ok(insn.goes_on())
 }
 
 fn add_segment(
@@ -179,12 +178,12 @@ impl Graph {
         Ok(Graph { starts, targets })
     }
 
-    /// The place of a label's first edge.
+    /// The index of a label's first edge.
     pub fn start(&self, label: usize) -> usize {
         get_or(&self.starts, label, 0)
     }
 
-    /// The place after a label's last edge.
+    /// The index after a label's last edge.
     pub fn end(&self, label: usize) -> usize {
         self.starts
             .get(label.saturating_add(1))
@@ -192,7 +191,7 @@ impl Graph {
             .unwrap_or(0)
     }
 
-    /// The label that the edge at a place leads to.
+    /// The label that the edge at an index leads to.
     pub fn target(&self, edge: usize) -> usize {
         get_or(&self.targets, edge, 0)
     }

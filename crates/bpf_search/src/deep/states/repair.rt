@@ -4,7 +4,7 @@ use super::task::Task;
 use crate::places::REGISTERS;
 use bpf_insn::{AluOp, Insn, Operand, Reg, Width};
 use bpf_num::Num;
-use bpf_state::{Area, Pointer, RegState, SlotState, State, numbered};
+use bpf_state::{Area, Pointer, RegState, SlotState, State};
 
 /// Where in the frame an access of dead code is led to.
 const MIDDLE: i64 = -256;
@@ -13,7 +13,7 @@ const MIDDLE: i64 = -256;
 pub fn fill_registers(state: &mut State) -> bool {
     let mut is_filled = false;
     for i in 0..REGISTERS {
-        let r = numbered(i as u8);
+        let r = Reg::numbered(i as u8);
         if matches!(state.reg(r), RegState::Any) {
             state.set_reg(r, RegState::Num(Num::constant(0)));
             is_filled = true;

@@ -5,7 +5,7 @@ use crate::lists::get_or;
 use crate::places::REGISTERS;
 use crate::widen::Stops;
 use bpf_insn::{Insn, Operand, Reg};
-use bpf_state::{RegState, SlotState, State, numbered};
+use bpf_state::{RegState, SlotState, State};
 use std::alloc::{AllocError, Global};
 
 /// The most bounds of one register's operands that are kept.
@@ -191,7 +191,7 @@ impl Thresholds {
 
     fn join_each(&self, old: &mut State, new: &State) {
         for i in 0..REGISTERS {
-            let r = numbered(i as u8);
+            let r = Reg::numbered(i as u8);
             let stops = self.stops_at(i);
             old.set_reg(r, join_register(old.reg(r), new.reg(r), stops));
         }

@@ -1,5 +1,5 @@
 use Rattle.std.proofs.Common.{◌<◌, get_or, sym, arith, inl, inr}
-use Rattle.bpf_state.specs.declared.state.SlotState.TheVariants.{Bytes}
+use Rattle.bpf_state.specs.declared.known.SlotState.TheVariants.{Bytes}
 use Rattle.bpf_state.specs.code.Masked.{mask_of}
 use Rattle.bpf_state.proofs.CoverLemmas.{entailed_by_masks}
 use Rattle.bpf_state.proofs.entailment.slot_entails.Goals as goal

@@ -1,6 +1,6 @@
 use Rattle.std.proofs.Common.{◌<◌, get_or, ◌∙◌, ap, arith}
 use Rattle.std.specs.Prelude.{set}
-use Rattle.bpf_state.specs.declared.state.RegState.TheVariants.{Any}
+use Rattle.bpf_state.specs.declared.known.RegState.TheVariants.{Any}
 use Rattle.bpf_state.specs.State.{blank, with_register}
 use Rattle.bpf_state.proofs.MixLemmas.{mix, mix_put}
 use Rattle.bpf_state.proofs.entries.put_registers.Goals as goal

@@ -1,5 +1,5 @@
 use Rattle.std.proofs.Common.{◌≡◌, take}
-use Rattle.bpf_state.specs.declared.state.SlotState.TheVariants.{Bytes}
+use Rattle.bpf_state.specs.declared.known.SlotState.TheVariants.{Bytes}
 use Rattle.bpf_state.specs.State.{slot}
 use Rattle.bpf_state.specs.code.Entries.{state_of}
 use Rattle.bpf_state.proofs.entries.slot_in.Given as goal

@@ -1,6 +1,6 @@
 use Rattle.std.proofs.Common.{sym, ◌∙◌, ap, get_or}
 use Rattle.std.specs.Prelude.{not}
-use Rattle.bpf_state.specs.declared.state.SlotState.TheVariants.{Bytes}
+use Rattle.bpf_state.specs.declared.known.SlotState.TheVariants.{Bytes}
 use Rattle.bpf_state.specs.Access.{are_known_bytes, touched_bytes}
 use Rattle.bpf_state.proofs.SlotLemmas.{touched_any, touched_none, none_more}
 use Rattle.bpf_state.proofs.slots.any_unknown.Goals as goal

@@ -1,5 +1,5 @@
 use Rattle.std.specs.Prelude.{All}
-use Rattle.bpf_state.specs.declared.state.SlotState.TheVariants.{Bytes}
+use Rattle.bpf_state.specs.declared.known.SlotState.TheVariants.{Bytes}
 use Rattle.bpf_state.specs.State.{IsSlot}
 use Rattle.bpf_state.specs.Transfer.{slot_maybe_written}
 use Rattle.bpf_state.proofs.SlotLemmas.{ChangedTo}

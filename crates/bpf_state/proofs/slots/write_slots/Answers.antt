@@ -1,6 +1,6 @@
 use Rattle.std.proofs.Common.{◌∙◌, ap₂, arith, suc}
 use Rattle.std.proofs.lemmas.List.Elements.{All-set}
-use Rattle.bpf_state.specs.declared.state.SlotState.TheVariants.{Bytes}
+use Rattle.bpf_state.specs.declared.known.SlotState.TheVariants.{Bytes}
 use Rattle.bpf_state.specs.State.{IsSlot}
 use Rattle.bpf_state.specs.Access.{touched_bytes}
 use Rattle.bpf_state.specs.Transfer.{slot_written}

@@ -1,7 +1,7 @@
 use Rattle.std.proofs.Common.{sym, ◌∙◌, ap, arith}
 use Rattle.std.proofs.lemmas.List.{length-set}
 use Rattle.std.proofs.lemmas.List.Elements.{All-set}
-use Rattle.bpf_state.specs.declared.state.SlotState.TheVariants.{Bytes}
+use Rattle.bpf_state.specs.declared.known.SlotState.TheVariants.{Bytes}
 use Rattle.bpf_state.specs.State.{IsSlot, tightened_slot}
 use Rattle.bpf_state.proofs.ListLemmas.{start_done, done_more, kept_more, all_done}
 use Rattle.bpf_state.proofs.MaskedLemmas.{tight_by_mask}

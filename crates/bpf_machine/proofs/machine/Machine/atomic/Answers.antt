@@ -2,15 +2,15 @@ use Rattle.std.proofs.Common.{◌∙◌, ◌≡◌, ap, ap₂, sym, Some, ℕ, r
 use Rattle.bpf_insn.specs.Order.{bytes_of}
 use Rattle.bpf_insn.specs.Instruction.{byte_count, word_size}
 use Rattle.bpf_semantics.specs.State.{State, register, number_of_register}
-use Rattle.bpf_semantics.specs.Memory.{with_stack, with_bytes, stack_of, place_of, number_at}
-use Rattle.bpf_semantics.specs.Memory.Place.{InFrame}
+use Rattle.bpf_semantics.specs.Memory.{with_stack, with_bytes, stack_of, location_of, number_at}
+use Rattle.bpf_semantics.specs.Memory.Location.{InFrame}
 use Rattle.bpf_semantics.specs.Step.{atomic_result, fetched}
 use Rattle.bpf_insn.specs.declared.instruction.Insn.{Insn}
 use Rattle.bpf_insn.specs.declared.instruction.Insn.TheVariants.{Atomic}
 use Rattle.bpf_insn.specs.declared.order.Order.{Order}
 use Rattle.bpf_insn.specs.declared.instruction.Size.{Size}
 use Rattle.bpf_insn.specs.declared.instruction.Reg.TheVariants.{R0}
-use Rattle.bpf_semantics.specs.declared.state.Value.TheVariants.{Number}
+use Rattle.bpf_semantics.specs.declared.value.Value.TheVariants.{Number}
 use Rattle.bpf_machine.proofs.StepLemmas.{atomic_done, changed_at, r0_unused, r0_unused_by_xchg, number_in_register}
 use Rattle.bpf_machine.proofs.machine.Machine.atomic.Goals as goal
 use Rattle.bpf_machine.proofs.machine.Machine.atomic.Goals.{in-CmpXchg+in-Some-register-2, in-Modify, in-Xchg}
@@ -28,7 +28,7 @@ returns-in-Ok g c =
     let at : ℕ = c.in-Some-Frame.first in
     let base_is : register s c.args.dst ≡ Some c.in-Some.base = search rules in
     let x_is : register s c.args.src ≡ Some (Number x) = search rules in
-    let place_is : place_of s (byte_count size) c.args.off c.in-Some.base ≡ Some (InFrame n at) = search rules in
+    let location_is : location_of s (byte_count size) c.args.off c.in-Some.base ≡ Some (InFrame n at) = search rules in
     let old_is : number_at order s (byte_count size) (InFrame n at) ≡ Some c.in-Ok.old = search rules in
     let same : atomic_result c.args.op size c.in-Ok.old x (number_of_register s R0) ≡ atomic_result c.args.op size c.in-Ok.old x (Some r0) = elim c.match-op.branch [
       | in-CmpXchg+in-Some-register-2 w ↦ (let r0_is : register s R0 ≡ Some (Number r0) = search rules in ap (atomic_result c.args.op size c.in-Ok.old x) (number_in_register s R0 r0 r0_is))
@@ -39,6 +39,6 @@ returns-in-Ok g c =
     ap (λ m. m.state) c.store_number.ensures
     ∙ ap (λ m. with_stack m.state n (with_bytes (bytes_of m.program.order (byte_count c.of_word-size.result) new) at (stack_of m.state n))) c.advance.ensures
     ∙ ap (λ size. changed_at order i size n at new s) c.of_word-size.ensures in
-    let done = atomic_done order s c.args.wide c.args.op c.args.dst c.args.off c.args.src c.in-Some.base x c.in-Ok.old new r0 n at base_is x_is place_is old_is same c.atomic_result-new.ensures in
+    let done = atomic_done order s c.args.wide c.args.op c.args.dst c.args.off c.args.src c.in-Some.base x c.in-Ok.old new r0 n at base_is x_is location_is old_is same c.atomic_result-new.ensures in
     let program = ap (λ m. m.program) c.store_number.ensures ∙ ap (λ m. m.program) c.advance.ensures in
     (c.fetch.ensures.program ∙ program, done ∙ ap₂ (λ r t. fetched r c.in-Ok.old t) (sym c.fetch_register.ensures) (sym stored) ∙ c.fetch.ensures.state)

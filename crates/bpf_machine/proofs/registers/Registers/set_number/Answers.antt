@@ -1,5 +1,5 @@
 use Rattle.std.proofs.Common.{◌∙◌, ap, Some, slice_set}
-use Rattle.bpf_semantics.specs.declared.state.Value.TheVariants.{Number as ANumber}
+use Rattle.bpf_semantics.specs.declared.value.Value.TheVariants.{Number as ANumber}
 use Rattle.bpf_machine.specs.declared.registers.Kind.TheVariants.{Number}
 use Rattle.bpf_machine.proofs.RegisterLemmas.{written}
 use Rattle.bpf_machine.proofs.registers.Registers.set_number.Goals as goal

@@ -1,7 +1,7 @@
 use Rattle.std.proofs.Common.{◌∙◌, ap, sym, subst, Some, slice_set, get_or}
 use Rattle.std.specs.Prelude.{IsSome, option_and_then, set, None}
 use Rattle.bpf_semantics.specs.State.{number_in}
-use Rattle.bpf_semantics.specs.declared.state.Value.TheVariants.{Number as ANumber}
+use Rattle.bpf_semantics.specs.declared.value.Value.TheVariants.{Number as ANumber}
 use Rattle.bpf_machine.proofs.RegisterLemmas.{packed_updated}
 use Rattle.bpf_machine.proofs.registers.Registers.update.Goals as goal
 

@@ -1,8 +1,8 @@
 use Rattle.std.proofs.Common.{◌∙◌, ap, sym, None, Some, get_or}
 use Rattle.std.specs.Int.{w64}
 use Rattle.std.proofs.lemmas.Int.{to_z-of_z}
-use Rattle.bpf_semantics.specs.declared.state.Value.TheVariants.{Pointer}
-use Rattle.bpf_semantics.specs.declared.state.Region.TheVariants.{Context as InContext, Frame as InFrame}
+use Rattle.bpf_semantics.specs.declared.value.Value.TheVariants.{Pointer}
+use Rattle.bpf_semantics.specs.declared.value.Region.TheVariants.{Context as InContext, Frame as InFrame}
 use Rattle.bpf_machine.specs.declared.registers.Kind.TheVariants.{Unset, Number, Context, Frame}
 use Rattle.bpf_machine.proofs.RegisterLemmas.{held}
 use Rattle.bpf_machine.proofs.registers.Registers.value.Goals as goal

@@ -6,7 +6,7 @@ use Rattle.bpf_num.specs.Tristate.{bits_top}
 use Rattle.bpf_num.specs.Interval.{unsigned_top}
 use Rattle.bpf_num.specs.SignedInterval.{signed_interval, signed_sub}
 use Rattle.bpf_num.specs.Number.{number, tighten}
-use Rattle.bpf_state.specs.declared.state.RegState.TheVariants.{Num}
+use Rattle.bpf_state.specs.declared.known.RegState.TheVariants.{Num}
 use Rattle.bpf_state.proofs.transfers.alu.difference.Goals as goal
 
 pub returns-clause-value : goal.returns-clause-value

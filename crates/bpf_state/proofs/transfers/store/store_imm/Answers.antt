@@ -1,7 +1,7 @@
 use Rattle.std.proofs.Common.{◌≡◌, rules, sym, ◌∙◌, None, false}
 use Rattle.bpf_insn.specs.Arithmetic.{extended}
 use Rattle.bpf_num.specs.Number.{constant}
-use Rattle.bpf_state.specs.declared.state.RegState.TheVariants.{Num}
+use Rattle.bpf_state.specs.declared.known.RegState.TheVariants.{Num}
 use Rattle.bpf_state.specs.code.Parts.{store_outcome}
 use Rattle.bpf_state.specs.Answer.{outcome_told}
 use Rattle.bpf_state.proofs.MemoryLemmas.{store_imm_is}

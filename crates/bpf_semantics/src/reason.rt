@@ -1,0 +1,46 @@
+//! Why an instruction can't be done.
+
+/// Why the machine can't do an instruction.
+#[derive(Clone, Copy, Debug, PartialEq, Eq)]
+pub enum Reason {
+    /// F1: a register is read that holds nothing.
+    UnsetRegister,
+    /// F2: a stack byte is read that holds nothing.
+    UnsetByte,
+    /// F3: an access isn't wholly inside the context or a live frame.
+    OutOfBounds,
+    /// F4: the context is written.
+    ContextWrite,
+    /// F5: r10 is written.
+    FramePointerWrite,
+    /// F6: an operand is of the wrong kind, a number for a pointer or a pointer for a number.
+    OperandKind,
+    /// F7: a call with eight live frames.
+    TooManyFrames,
+    /// F8: the slot is past the last instruction.
+    PastEnd,
+    /// F9: r0 is a pointer at an exit.
+    PointerResult,
+}
+
+impl Reason {
+    ghost use Rattle.std.specs.Prelude.{◌≡◌};
+    ghost use Rattle.bpf_semantics.specs.ReasonNumbers.{reason_number};
+
+    /// The number of the reason, from 1 to 9.
+    pub fn number(&self) -> u8
+        ensures { result ≡ reason_number self.now }
+    {
+        match self {
+            Reason::UnsetRegister => 1,
+            Reason::UnsetByte => 2,
+            Reason::OutOfBounds => 3,
+            Reason::ContextWrite => 4,
+            Reason::FramePointerWrite => 5,
+            Reason::OperandKind => 6,
+            Reason::TooManyFrames => 7,
+            Reason::PastEnd => 8,
+            Reason::PointerResult => 9,
+        }
+    }
+}

@@ -1,5 +1,0 @@
-use Rattle.std.proofs.Common.{rules}
-use Rattle.bpf_state.proofs.abstract_state.State.clear_tags.Goals as goal
-
-pub returns : goal.returns
-returns c = search rules

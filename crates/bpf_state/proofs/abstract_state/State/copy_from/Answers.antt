@@ -1,5 +1,0 @@
-use Rattle.std.proofs.Common.{rules}
-use Rattle.bpf_state.proofs.abstract_state.State.copy_from.Goals as goal
-
-pub returns : goal.returns
-returns c = search rules

@@ -1,5 +1,0 @@
-use Rattle.std.proofs.Common.{rules}
-use Rattle.bpf_state.proofs.state.RegState.number.Goals as goal
-
-pub returns-in-Num : goal.returns-in-Num
-returns-in-Num c = search rules
