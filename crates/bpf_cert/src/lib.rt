@@ -27,7 +27,9 @@ pub use error::CertError;
 pub use laws::{
     each_form_has_one_line, fault_stays, faultless_is_spelled, spelled_is_faultless, spelled_once,
 };
-pub use limits::{MAX_BASE, MAX_DEPTH, MAX_TERMS, MAX_WEIGHT, is_limited_term};
+pub use limits::{
+    LAST_SLOT, MAX_BASE, MAX_DEPTH, MAX_FUNCTIONS, MAX_TERMS, MAX_WEIGHT, is_limited_term,
+};
 pub use migration::migrate;
 pub use reading::read;
 pub use spelling::{LineText, entry_text};

@@ -33,4 +33,4 @@ pub use site::{Callee, Site, Spot};
 pub use spending::{Slack, slack_on};
 pub use start::{begins_elsewhere, starts_over_budget};
 pub use verifier::{Verdict, VerifyError, verify};
-pub use visit::{Judged, arrive, judge as judge_reached};
+pub use visit::{Judged, arrive, cause_of, judge as judge_reached};

@@ -95,8 +95,8 @@ pub fn judge<'a, P: Code>(
     })
 }
 
-/// The cause that a fault of registers and memory is.
-fn cause_of(fault: StateFault) -> Cause
+/// The cause that a fault of registers and memory is, C3 to C7.
+pub fn cause_of(fault: StateFault) -> Cause
     ensures { cause_number result ≡ fault_number fault }
 {
     match fault {

@@ -6,6 +6,15 @@ ghost use Rattle.bpf_proposal.specs.RefusalNumbers.{infer_number, infer_slot, Is
 use std::alloc::{AllocError, AllocFailed};
 use thiserror::Error;
 
+/// The number of the checker's condition that an access may leave its bounds, or a pointer its own.
+pub const OUT_OF_BOUNDS: u8 = 5;
+
+/// The number of the checker's condition that nothing leads to an instruction, or that the program's end can be passed behind it.
+pub const FALLS_OFF: u8 = 11;
+
+/// The number of the checker's condition that an instruction leaves its function otherwise than by an EXIT.
+pub const LEAVES_FUNCTION: u8 = 12;
+
 /// Why no certificate is proposed for a program, with a slot of it.
 #[derive(Clone, Copy, Debug, PartialEq, Eq, Error)]
 pub enum InferError {

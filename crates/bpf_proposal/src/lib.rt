@@ -3,4 +3,4 @@
 
 mod error;
 
-pub use error::InferError;
+pub use error::{FALLS_OFF, InferError, LEAVES_FUNCTION, OUT_OF_BOUNDS};

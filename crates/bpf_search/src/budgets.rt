@@ -108,10 +108,12 @@ impl Budgets {
         }
     }
 
+    /// What is planned at a label.
     fn plan(&self, block: usize) -> Plan {
         get_or(&self.plans, block, Plan::NONE)
     }
 
+    /// The term of a label's budget, as a line over what its place holds.
     fn line_at(&self, block: usize) -> Line {
         match self.at(block) {
             (_, Some((counter, weight))) => Line::of(counter, weight),
@@ -153,6 +155,7 @@ impl Budgets {
         Span::of(state, counter.number())
     }
 
+    /// Goes over a block, and takes note of its ways and of what its counter holds.
     fn walk_over(
         &mut self,
         walk: &Walked,
@@ -177,6 +180,7 @@ impl Budgets {
         Ok(())
     }
 
+    /// Goes over the blocks from one to another.
     fn walk_over_all(
         &mut self,
         walk: &Walked,
@@ -226,6 +230,7 @@ impl Budgets {
         Ok(())
     }
 
+    /// Weighs the counters of the loops whose heads are among the blocks from one to another.
     fn weigh_all(
         &mut self,
         alloc: Global,
@@ -303,6 +308,7 @@ impl Budgets {
 
     // ---- functions
 
+    /// Finds the budgets of a function's labels; those of its callees are there.
     fn plan_function(
         &mut self,
         alloc: Global,
@@ -317,6 +323,7 @@ impl Budgets {
         self.pay_all(walk, first, end)
     }
 
+    /// Finds the budgets of the functions of a depth.
     fn plan_depth(
         &mut self,
         alloc: Global,

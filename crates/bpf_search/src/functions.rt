@@ -3,9 +3,9 @@
 use crate::flow::Flow;
 use crate::lists::get_or;
 use crate::outline::Outline;
-use bpf_cert::MAX_DEPTH;
+use bpf_cert::{MAX_DEPTH, MAX_FUNCTIONS};
 use bpf_insn::{Insn, Program};
-use bpf_proposal::InferError;
+use bpf_proposal::{InferError, LEAVES_FUNCTION};
 use std::alloc::{AllocError, Global};
 
 /// The numbers of a function and of one that it calls.
@@ -16,10 +16,10 @@ struct Call {
 }
 
 /// A number for each function.
-pub type Depths = [u32; 256];
+pub type Depths = [u32; MAX_FUNCTIONS];
 
 /// A set of functions.
-type Set = [bool; 256];
+type Set = [bool; MAX_FUNCTIONS];
 
 /// The calls of a program, by their slots.
 fn calls_of(alloc: Global, program: &Program, outline: &Outline) -> Result<Vec<Call>, AllocError> {
@@ -39,8 +39,9 @@ fn calls_of(alloc: Global, program: &Program, outline: &Outline) -> Result<Vec<C
 
 // ---- recursion
 
+/// Adds all of another set.
 fn add_all(set: &mut Set, others: &Set) {
-    for i in 0..256 {
+    for i in 0..MAX_FUNCTIONS {
         set[i] = set[i] || others[i];
     }
 }
@@ -48,14 +49,15 @@ fn add_all(set: &mut Set, others: &Set) {
 /// Who calls a function calls what it calls.
 fn add_through(reached: &mut Vec<Set>, function: usize, calls: &Set) {
     for set in reached.iter_mut() {
-        if function < 256 && set[function] {
+        if get_or(set, function, false) {
             add_all(set, calls);
         }
     }
 }
 
+/// For each function those that it calls.
 fn directly_called(alloc: Global, calls: &[Call]) -> Result<Vec<Set>, AllocError> {
-    let mut called = vec![in alloc; [false; 256]; 256]?;
+    let mut called = vec![in alloc; [false; MAX_FUNCTIONS]; MAX_FUNCTIONS]?;
     for call in calls {
         if let Some(set) = called.get_mut(call.caller as usize) {
             set[call.callee as usize] = true;
@@ -67,7 +69,7 @@ fn directly_called(alloc: Global, calls: &[Call]) -> Result<Vec<Set>, AllocError
 /// For each function those that it calls, directly or through others.
 fn called(alloc: Global, calls: &[Call]) -> Result<Vec<Set>, AllocError> {
     let mut called = directly_called(alloc, calls)?;
-    for function in 0..256 {
+    for function in 0..MAX_FUNCTIONS {
         if let Some(set) = called.get(function) {
             let set = *set;
             add_through(&mut called, function, &set);
@@ -137,7 +139,7 @@ pub fn depths_of(
     outline: &Outline,
 ) -> Result<Depths, InferError> {
     let calls = calls_of(alloc, program, outline)?;
-    let mut depths = [1; 256];
+    let mut depths = [1; MAX_FUNCTIONS];
     for _ in 0..MAX_DEPTH {
         deepen(&mut depths, &calls);
     }
@@ -166,7 +168,7 @@ pub fn check_bounds(program: &Program, outline: &Outline) -> Result<(), InferErr
             if leaves_function(program, outline, slot, insn) {
                 return Err(InferError::Fault {
                     slot,
-                    condition: 12,
+                    condition: LEAVES_FUNCTION,
                 });
             }
         }

@@ -9,6 +9,7 @@ use bpf_insn::Reg;
 use bpf_num::Num;
 use bpf_state::{Pointer, RegState, SlotState, State};
 
+/// What is known of a number that is one of two.
 fn join_num(old: Num, new: Num, stops: Option<&Stops>) -> Num {
     let joined = old.join(new);
     match stops {
@@ -17,6 +18,7 @@ fn join_num(old: Num, new: Num, stops: Option<&Stops>) -> Num {
     }
 }
 
+/// The lower of two offsets, moved on to a stop if it moved.
 fn least(old: i64, new: i64, stops: Option<&Stops>) -> i64
     ensures old { result ≤ℤ old }
     ensures new { result ≤ℤ new }
@@ -28,6 +30,7 @@ fn least(old: i64, new: i64, stops: Option<&Stops>) -> i64
     }
 }
 
+/// The higher of two offsets, moved on to a stop if it moved.
 fn greatest(old: i64, new: i64, stops: Option<&Stops>) -> i64
     ensures old { old ≤ℤ result }
     ensures new { new ≤ℤ result }
@@ -79,7 +82,7 @@ pub fn join_register(old: RegState, new: RegState, stops: Option<&Stops>) -> Reg
 }
 
 /// What is known of a slot that is in one of two states; unlike kinds leave the bytes that both know.
-pub fn join_slot(old: SlotState, new: SlotState, stops: Option<&Stops>) -> SlotState
+fn join_slot(old: SlotState, new: SlotState, stops: Option<&Stops>) -> SlotState
     requires old { IsSlot old }
     requires new { IsSlot new }
     ensures { IsSlot result }
@@ -105,6 +108,7 @@ pub fn join_slot(old: SlotState, new: SlotState, stops: Option<&Stops>) -> SlotS
     }
 }
 
+/// Makes what is known of the registers what both know.
 fn join_registers(old: &mut State, new: &State, stops: Option<&Stops>) {
     for i in 0..REGISTERS {
         let r = Reg::numbered(i as u8);
@@ -112,7 +116,8 @@ fn join_registers(old: &mut State, new: &State, stops: Option<&Stops>) {
     }
 }
 
-fn join_slots(old: &mut State, new: &State, stops: Option<&Stops>) {
+/// Makes what is known of the slots what both know.
+pub fn join_slots(old: &mut State, new: &State, stops: Option<&Stops>) {
     for k in 1..65u8 {
         let held = old.slot(k);
         if !matches!(held, SlotState::Bytes(0)) {

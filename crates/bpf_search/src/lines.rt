@@ -2,6 +2,7 @@
 
 use crate::loops::Counter;
 use crate::places::number_at;
+use bpf_num::Num;
 use bpf_state::State;
 
 /// Numbers from `lo` to `hi`.
@@ -20,7 +21,12 @@ impl Span {
 
     /// What a place may hold.
     pub fn of(state: &State, number: usize) -> Span {
-        match number_at(state, number) {
+        Span::of_number(number_at(state, number))
+    }
+
+    /// What is known of a number, if something is.
+    pub fn of_number(number: Option<Num>) -> Span {
+        match number {
             Some(held) => Span {
                 lo: held.unsigned().lo(),
                 hi: held.unsigned().hi(),

@@ -1,11 +1,12 @@
 //! The loops of a program, and what counts their rounds.
 
 use crate::lists::{get_or, put};
-use crate::places::{PLACES, number_at, place};
+use crate::places::{PLACES, number_at, place, tag_own};
 use crate::rounds::Rounds;
 use crate::walk::{Edge, Visitor, Walked};
+use bpf_cert::{Measure, Term};
 use bpf_proposal::InferError;
-use bpf_state::{State, Tag};
+use bpf_state::State;
 use std::alloc::{AllocError, Global};
 
 /// A place by its number that falls to 0, or that rises to a limit.
@@ -20,6 +21,18 @@ impl Counter {
     pub fn number(self) -> usize {
         match self {
             Counter::Falling(number) | Counter::Rising(number, _) => number,
+        }
+    }
+
+    /// The term of a budget that counts it so many times.
+    pub fn term(self, weight: i128) -> Term {
+        let measure = match self {
+            Counter::Falling(number) => Measure::Down(place(number)),
+            Counter::Rising(number, limit) => Measure::Up(place(number), limit),
+        };
+        Term {
+            weight: u32::try_from(weight).unwrap_or(u32::MAX),
+            measure,
         }
     }
 }
@@ -62,6 +75,7 @@ impl Loops {
         Ok(Loops::all(alloc, rounds)?)
     }
 
+    /// The loops, none of which begins in another one.
     fn all(alloc: Global, rounds: &Rounds) -> Result<Loops, AllocError> {
         let mut loops = Loops {
             loops: Vec::new(alloc),
@@ -76,6 +90,7 @@ impl Loops {
         Ok(loops)
     }
 
+    /// Takes note of the loop that a block is in, the last one that began.
     fn continue_to(&mut self, block: usize) -> Result<(), AllocError> {
         let number = match self.loops.last() {
             Some(open) if block <= open.last => self.loops.len().checked_sub(1),
@@ -155,6 +170,7 @@ pub struct Search {
     pub around: Option<Moves>,
 }
 
+/// The moves on these ways and on those that are held.
 fn taken_in(held: Option<Moves>, moves: &Moves) -> Moves {
     match held {
         Some(mut held) => {
@@ -195,6 +211,7 @@ impl Visitor for Search {
 }
 
 impl Search {
+    /// The moves on the ways to a block.
     fn moves_to(&self, block: usize) -> Option<Moves> {
         let index = block.saturating_sub(self.head);
         get_or(&self.moves, index, None)
@@ -216,19 +233,14 @@ impl Search {
     fn tag_all(&mut self, state: &mut State) {
         for i in 0..PLACES {
             if number_at(state, i).is_some() {
-                state.set_tag(
-                    place(i),
-                    Some(Tag {
-                        term: i as u8,
-                        offset: 0,
-                    }),
-                );
+                tag_own(state, i);
             } else {
                 self.is_tagged[i] = false;
             }
         }
     }
 
+    /// Goes over all blocks of the loop.
     fn walk_over(&mut self, walk: &Walked, rounds: &Rounds) -> Result<(), InferError> {
         let mut state = State::blank();
         for block in self.head..self.last.saturating_add(1) {

@@ -1,8 +1,9 @@
 //! Where a loop loses track of what its places held.
 
 use crate::flow::Flow;
+use crate::lists::get_or;
 use crate::loops::Loop;
-use crate::places::{PLACES, place};
+use crate::places::{PLACES, place, tag_own};
 use crate::rounds::Rounds;
 use crate::walk::Walked;
 use bpf_insn::{AluOp, Insn, Operand, Reg, Width};
@@ -86,14 +87,6 @@ fn loss_at(slot: u32, op: AluOp, width: Width, a: RegState, b: RegState) -> Opti
     }
 }
 
-/// What is known of an operand.
-fn operand(state: &State, src: Operand) -> RegState {
-    match src {
-        Operand::Imm(imm) => RegState::Num(Num::constant((imm as i64).cast_unsigned())),
-        Operand::Reg(r) => state.reg(r),
-    }
-}
-
 /// What an instruction may lose, if its result is a number that is followed, moved by another one.
 fn doubt_at(slot: u32, insn: &Insn, state: &State) -> Option<Doubt> {
     let Insn::Alu {
@@ -111,7 +104,7 @@ fn doubt_at(slot: u32, insn: &Insn, state: &State) -> Option<Doubt> {
         _ => dst,
     };
     let tag = state.tag(Place::Register(followed))?;
-    let loss = loss_at(slot, op, width, state.reg(dst), operand(state, src))?;
+    let loss = loss_at(slot, op, width, state.reg(dst), state.operand(src))?;
     Some(Doubt {
         dst,
         term: tag.term as usize,
@@ -153,8 +146,7 @@ impl<'a> Tracker<'a> {
         self.lost = [None; TERMS];
         for number in 0..PLACES {
             if is_followed(state, number) {
-                let term = number as u8;
-                state.set_tag(place(number), Some(Tag { term, offset: 0 }));
+                tag_own(state, number);
             } else {
                 self.lose(number, Loss::Given);
             }
@@ -188,8 +180,7 @@ impl<'a> Tracker<'a> {
         match state.tag(place(number)) {
             Some(tag) if tag.term as usize == number => None,
             Some(tag) if tag.term as usize % PLACES == number => {
-                let lost = self.lost.get(tag.term as usize).copied();
-                lost.unwrap_or(None).or(Some(Loss::Given))
+                get_or(&self.lost, tag.term as usize, None).or(Some(Loss::Given))
             }
             _ => Some(Loss::Given),
         }

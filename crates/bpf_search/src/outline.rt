@@ -2,6 +2,7 @@
 
 use crate::flow::Flow;
 use crate::lists::get_or;
+use bpf_cert::MAX_FUNCTIONS;
 use bpf_insn::{Code, Program};
 use bpf_proposal::InferError;
 use std::alloc::{AllocError, Global};
@@ -35,6 +36,7 @@ pub struct Outline {
     block_of: Vec<usize>,
 }
 
+/// Marks where an instruction leads.
 fn mark_target(marks: &mut Vec<Mark>, flow: Flow) {
     match flow {
         Flow::Jump(target) | Flow::Branch(target) => {
@@ -53,6 +55,7 @@ fn mark_target(marks: &mut Vec<Mark>, flow: Flow) {
     }
 }
 
+/// By slots, what each is.
 fn marks_of(alloc: Global, program: &Program) -> Result<Vec<Mark>, AllocError> {
     let mut marks = vec![in alloc; Mark::Plain; program.slots() as usize]?;
     mark_target(&mut marks, Flow::Call(0));
@@ -86,8 +89,9 @@ impl Outline {
         Ok(outline)
     }
 
+    /// A function begins at a slot. I2 if it is the 257th.
     fn begin_function(&mut self, slot: u32) -> Result<(), InferError> {
-        if self.functions.len() == 256 {
+        if self.functions.len() == MAX_FUNCTIONS {
             return Err(InferError::NoBudget { slot });
         }
         self.functions.push(self.blocks.len())?;
@@ -95,6 +99,7 @@ impl Outline {
         Ok(())
     }
 
+    /// A block of the last function begins at a slot.
     fn begin_block(&mut self, slot: u32) -> Result<(), AllocError> {
         let function = u8::try_from(self.functions.len().saturating_sub(1)).unwrap_or(u8::MAX);
         self.blocks.push(Block { slot, function })?;

@@ -4,7 +4,7 @@ ghost use Rattle.bpf_state.specs.State.{IsPlace};
 
 use bpf_insn::Reg;
 use bpf_num::Num;
-use bpf_state::{Entries, Place, RegState, State};
+use bpf_state::{Entries, Place, RegState, State, Tag};
 
 /// How many registers a program may write: r0 to r9.
 pub const REGISTERS: usize = 10;
@@ -31,6 +31,15 @@ pub fn number_at(state: &State, number: usize) -> Option<Num> {
 /// The number that a label says of a place, if it says one.
 pub fn number_said(label: &Entries, number: usize) -> Option<Num> {
     label.held(place(number)).number()
+}
+
+/// Tags a place with its own number: a tag with it tells from then on which place holds that number, and a constant more.
+pub fn tag_own(state: &mut State, number: usize) {
+    let tag = Tag {
+        term: number.min(PLACES) as u8,
+        offset: 0,
+    };
+    state.set_tag(place(number), Some(tag));
 }
 
 /// Whether a label says that a place holds a pointer.

@@ -5,37 +5,26 @@ ghost use Rattle.std.specs.Prelude.{◌≤◌};
 use crate::budgets::{Budgets, budgets_of};
 use crate::functions::{Depths, check_bounds, depths_of};
 use crate::lists::get_or;
-use crate::loops::{Counter, loops_of};
+use crate::loops::loops_of;
 use crate::outline::Outline;
-use crate::places::place;
 use crate::proposal::Proposal;
 use crate::rounds::{Rounds, states_of};
 use crate::walk::Walked;
 use crate::watch::Watch;
 use arrayvec::ArrayVec;
-use bpf_cert::{Budget, Function, Label, Measure, Term};
+use bpf_cert::{Budget, Function, Label};
 use bpf_insn::Program;
 use bpf_num::Num;
 use bpf_proposal::InferError;
 use bpf_state::{Entries, State};
 use std::alloc::{AllocError, Global};
 
-fn term_of(counter: Counter, weight: i128) -> Term {
-    let measure = match counter {
-        Counter::Falling(number) => Measure::Down(place(number)),
-        Counter::Rising(number, limit) => Measure::Up(place(number), limit),
-    };
-    Term {
-        weight: u32::try_from(weight).unwrap_or(u32::MAX),
-        measure,
-    }
-}
-
+/// The budget at the label of a block.
 fn budget_of(budgets: &Budgets, block: usize) -> Budget {
     let (base, counter) = budgets.at(block);
     let mut terms = ArrayVec::new();
     if let Some((counter, weight)) = counter {
-        terms.push(term_of(counter, weight));
+        terms.push(counter.term(weight));
     }
     Budget {
         base: u64::try_from(base).unwrap_or(u64::MAX),
@@ -70,6 +59,7 @@ fn labels_of(
     Ok(labels)
 }
 
+/// The functions with their labels; the states are taken.
 fn functions_of(
     alloc: Global,
     outline: &Outline,

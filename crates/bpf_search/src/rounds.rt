@@ -8,7 +8,7 @@ use crate::walk::{Edge, Visitor, Walked};
 use crate::watch::Watch;
 use crate::widen::Stops;
 use bpf_num::Num;
-use bpf_proposal::InferError;
+use bpf_proposal::{FALLS_OFF, InferError};
 use bpf_state::{Entries, State, enter};
 use std::alloc::{AllocError, Global};
 
@@ -39,6 +39,7 @@ pub struct Rounds {
     room: State,
 }
 
+/// Takes note of an edge that leads back.
 fn add_back(backs: &mut Vec<Option<usize>>, edge: Edge) {
     if let Some(last) = backs.get_mut(edge.to) {
         *last = Some(last.unwrap_or(0).max(edge.from));
@@ -81,6 +82,7 @@ impl Rounds {
         })
     }
 
+    /// Whether a state lies in that of a label.
     fn lies_in(&self, block: usize, state: &State) -> bool {
         match self.states.get(block) {
             Some(Some(held)) => state.entails_entries(held),
@@ -147,6 +149,7 @@ impl Rounds {
         }
     }
 
+    /// Goes over a block from the state at its label, and takes note how far it is reached.
     fn walk_over(
         &mut self,
         walk: &Walked,
@@ -238,7 +241,7 @@ impl Rounds {
             if reached < walk.outline.end(block) {
                 return Err(InferError::Fault {
                     slot: reached.max(walk.outline.label(block)),
-                    condition: 11,
+                    condition: FALLS_OFF,
                 });
             }
         }

@@ -17,7 +17,7 @@ use arrayvec::ArrayVec;
 use bpf_cert::{Budget, Certificate, Function, Label};
 use bpf_insn::{Program, Reg};
 use bpf_num::Num;
-use bpf_proposal::InferError;
+use bpf_proposal::{InferError, OUT_OF_BOUNDS};
 use bpf_state::{Entries, Place, State};
 use std::alloc::{AllocError, Global};
 
@@ -250,7 +250,10 @@ fn obstacle_of(
             let obstacle = obstacle_at(alloc, walk, rounds, slot)?;
             Ok(Some(obstacle))
         }
-        InferError::Fault { slot, condition: 5 } => Ok(match walker_at(walk, rounds, slot) {
+        InferError::Fault {
+            slot,
+            condition: OUT_OF_BOUNDS,
+        } => Ok(match walker_at(walk, rounds, slot) {
             Some((reg, head)) => Some(Obstacle::Walking { reg, head }),
             None => None,
         }),

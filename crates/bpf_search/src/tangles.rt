@@ -64,6 +64,7 @@ fn graph_of(alloc: Global, walk: &Walked, rounds: &Rounds) -> Result<Graph, Allo
     Graph::of(alloc, count, arcs.list)
 }
 
+/// Whether a block is among those that are reached.
 fn is_met(reached: &[bool], block: usize) -> bool {
     get_or(reached, block, false)
 }

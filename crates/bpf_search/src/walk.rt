@@ -4,7 +4,7 @@ use crate::flow::{Flow, compared};
 use crate::outline::Outline;
 use bpf_insn::{Insn, Program};
 use bpf_num::Num;
-use bpf_proposal::InferError;
+use bpf_proposal::{FALLS_OFF, InferError};
 use bpf_state::{State, branch, leave, transfer};
 use std::alloc::AllocError;
 
@@ -45,6 +45,7 @@ struct Spot {
 }
 
 impl<'a> Walked<'a> {
+    /// The edge from where a walk is to a slot.
     fn edge_to(&self, spot: Spot, target: u32) -> Edge {
         Edge {
             from: spot.block,
@@ -78,7 +79,7 @@ impl<'a> Walked<'a> {
         if end >= self.program.slots() {
             return Err(InferError::Fault {
                 slot: spot.slot,
-                condition: 11,
+                condition: FALLS_OFF,
             });
         }
         visitor.edge(self.edge_to(spot, end), spot.done, state)?;

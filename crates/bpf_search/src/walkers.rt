@@ -14,12 +14,7 @@ fn pointer_in(insn: &Insn) -> Option<Reg> {
             dst,
             ..
         } => Some(dst),
-        Insn::Load { src, off: _off, .. } => Some(src),
-        Insn::LoadSx { src, off: _off, .. } => Some(src),
-        Insn::Store { dst, off: _off, .. } => Some(dst),
-        Insn::StoreImm { dst, off: _off, .. } => Some(dst),
-        Insn::Atomic { dst, off: _off, .. } => Some(dst),
-        _ => None,
+        _ => Some(insn.access()?.base),
     }
 }
 
@@ -32,14 +27,7 @@ enum Deed {
     Sets,
 }
 
-fn set_if(same: bool) -> Deed {
-    if same { Deed::Sets } else { Deed::Keeps }
-}
-
-fn is_same(a: Reg, b: Reg) -> bool {
-    a as u8 == b as u8
-}
-
+/// What an instruction does to a register. A call leaves nothing in r0 to r5 that was there.
 fn deed_of(insn: &Insn, reg: Reg) -> Deed {
     match *insn {
         Insn::Alu {
@@ -47,18 +35,9 @@ fn deed_of(insn: &Insn, reg: Reg) -> Deed {
             width: Width::W64,
             dst,
             src: Operand::Imm(_imm),
-        } if is_same(dst, reg) => Deed::Moves,
-        Insn::Alu { dst, .. } => set_if(is_same(dst, reg)),
-        Insn::Neg { dst, .. } => set_if(is_same(dst, reg)),
-        Insn::MovSx { dst, .. } => set_if(is_same(dst, reg)),
-        Insn::End { dst, .. } => set_if(is_same(dst, reg)),
-        Insn::LoadImm64 { dst, .. } => set_if(is_same(dst, reg)),
-        Insn::Load { dst, off: _off, .. } => set_if(is_same(dst, reg)),
-        Insn::LoadSx { dst, off: _off, .. } => set_if(is_same(dst, reg)),
-        Insn::Atomic { src, off: _off, .. } => {
-            set_if(is_same(src, reg) || is_same(Reg::R0, reg))
-        }
-        Insn::CallLocal { off: _off } => set_if(reg as u8 <= 5),
+        } if dst == reg => Deed::Moves,
+        Insn::CallLocal { off: _off } if reg as u8 <= 5 => Deed::Sets,
+        _ if insn.register_written() == Some(reg) => Deed::Sets,
         _ => Deed::Keeps,
     }
 }

@@ -103,6 +103,7 @@ impl Stops {
         Ok(())
     }
 
+    /// The stop at or below a bound, else 0.
     fn unsigned_below(&self, bound: u64) -> u64
         ensures { result ≤ bound }
     {
@@ -112,6 +113,7 @@ impl Stops {
         }
     }
 
+    /// The stop at or above a bound, else 2^64 - 1.
     fn unsigned_above(&self, bound: u64) -> u64
         ensures { bound ≤ result }
     {
@@ -121,6 +123,7 @@ impl Stops {
         }
     }
 
+    /// The stop at or below a bound, else -2^63.
     fn signed_below(&self, bound: i64) -> i64
         ensures { result ≤ℤ bound }
     {
@@ -130,6 +133,7 @@ impl Stops {
         }
     }
 
+    /// The stop at or above a bound, else 2^63 - 1.
     fn signed_above(&self, bound: i64) -> i64
         ensures { bound ≤ℤ result }
     {
@@ -139,6 +143,7 @@ impl Stops {
         }
     }
 
+    /// A lower bound, moved on to a stop if it fell.
     fn signed_lo(&self, old: i64, new: i64) -> i64
         ensures { result ≤ℤ new }
     {
@@ -149,6 +154,7 @@ impl Stops {
         }
     }
 
+    /// An upper bound, moved on to a stop if it rose.
     fn signed_hi(&self, old: i64, new: i64) -> i64
         ensures { new ≤ℤ result }
     {
@@ -159,6 +165,7 @@ impl Stops {
         }
     }
 
+    /// The new interval with each bound that moved moved on to a stop.
     fn unsigned(&self, old: Unsigned, new: Unsigned) -> Unsigned {
         new.valid();
         let lo = if new.lo() < old.lo() {
@@ -174,6 +181,7 @@ impl Stops {
         Unsigned::new(lo, hi)
     }
 
+    /// The new interval with each bound that moved moved on to a stop.
     fn signed(&self, old: Signed, new: Signed) -> Signed {
         new.valid();
         let lo = self.signed_lo(old.lo(), new.lo());

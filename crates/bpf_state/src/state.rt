@@ -197,7 +197,7 @@ impl State {
     }
 
     /// What is known of a second operand: a constant, sign-extended, or what is known of a register.
-    pub(crate) fn operand(&self, src: Operand) -> RegState
+    pub fn operand(&self, src: Operand) -> RegState
         ensures value { result ≡ operand self.now src }
         ensures ordered { IsRegister result }
     {

@@ -28,6 +28,7 @@ fn word_of(line: &[u8]) -> &[u8] {
     line
 }
 
+/// What a line begins with.
 fn kind_of(line: &[u8]) -> Kind {
     match word_of(line) {
         b"bpfcert" => Kind::Header,
@@ -164,6 +165,7 @@ impl<'a> fmt::Display for Line<'a> {
     }
 }
 
+/// K1: what was expected of a line.
 fn tell_syntax<'a, W: Tell>(out: &mut W, found: LineAt<'a>) {
     let before = kind_of(found.before);
     let kind = kind_of(found.line);
@@ -219,6 +221,7 @@ fn spelling_rule(line: &[u8]) -> &'static str {
     }
 }
 
+/// K3: the limits of what stands in a line.
 fn tell_limit<W: Tell>(out: &mut W, line: &[u8]) {
     if line.len() > 256 {
         return write!(out, "a line has at most 256 bytes\n");
@@ -228,6 +231,7 @@ fn tell_limit<W: Tell>(out: &mut W, line: &[u8]) {
     write!(out, "{line}: {limits}\n");
 }
 
+/// Tells a refusal.
 fn tell_error<W: Tell>(out: &mut W, bytes: &[u8], error: CertError) {
     let (number, at) = (error.number(), error.line());
     write!(out, "K{number} at line {at}: ");
@@ -244,6 +248,7 @@ fn tell_error<W: Tell>(out: &mut W, bytes: &[u8], error: CertError) {
     }
 }
 
+/// Tells what a certificate has.
 fn tell_certificate<W: Tell>(out: &mut W, certificate: &Certificate) {
     let mut labels = 0usize;
     for function in certificate.functions() {

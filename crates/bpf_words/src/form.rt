@@ -277,6 +277,7 @@ pub static FORMS: [Form; 26] = [
 
 // ---- reading
 
+/// Whether a byte may stand in a word.
 fn is_word_part(byte: u8) -> bool {
     byte.is_ascii_alphanumeric() || byte == b'_'
 }
@@ -329,6 +330,7 @@ fn behind<'a>(text: &'a [u8], spelling: &str) -> Option<&'a [u8]> {
     }
 }
 
+/// What stands behind the first of some spellings that is there.
 fn behind_one<'a>(text: &'a [u8], spellings: &[&str]) -> Option<&'a [u8]> {
     for spelling in spellings {
         if let Some(rest) = behind(text, spelling) {
@@ -361,6 +363,7 @@ fn value_of(digits: &[u8], base: u8) -> Option<i128> {
     Some(value)
 }
 
+/// The number without sign that a text begins with, and what stands behind it.
 fn number_in(text: &[u8]) -> Option<(i128, &[u8])> {
     let (word, rest) = word_in(text);
     let value = match word {
@@ -411,10 +414,12 @@ impl<'a> Reading<'a> {
         }
     }
 
+    /// Goes on at what is left.
     fn on(self, rest: &'a [u8]) -> Self {
         Reading { rest, ..self }
     }
 
+    /// Takes a register, of 64 bits by `r` or of 32 by `w`.
     fn register(self, first: u8) -> Option<Self> {
         let (word, rest) = word_in(self.rest);
         if is_register(word) && word.first() == Some(&first) {
@@ -424,6 +429,7 @@ impl<'a> Reading<'a> {
         }
     }
 
+    /// Takes a register of either width as the destination.
     fn destination(self) -> Option<Self> {
         let (word, rest) = word_in(self.rest);
         if !is_register(word) {
@@ -436,6 +442,7 @@ impl<'a> Reading<'a> {
         })
     }
 
+    /// Takes the destination once more.
     fn again(self) -> Option<Self> {
         let (word, rest) = word_in(self.rest);
         if word == self.destination {
@@ -445,6 +452,7 @@ impl<'a> Reading<'a> {
         }
     }
 
+    /// Takes the name of a label.
     fn name(self) -> Option<Self> {
         let (word, rest) = word_in(self.rest);
         match word {

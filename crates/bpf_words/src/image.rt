@@ -14,10 +14,12 @@ struct Fields {
     imm: i32,
 }
 
+/// The byte at an index, 0 past the end.
 fn byte(bytes: &[u8], index: usize) -> u8 {
     bytes.get(index).copied().unwrap_or(0)
 }
 
+/// The fields of the slot that bytes begin with; what is missing is 0.
 fn fields_of(order: Order, bytes: &[u8]) -> Fields {
     let registers = byte(bytes, 1);
     let half = [byte(bytes, 2), byte(bytes, 3)];
@@ -55,6 +57,7 @@ struct Cleared(u8);
 const NAMES: [&str; 5] = ["dst", "src", "offset", "imm", "the reserved bits"];
 
 impl Cleared {
+    /// Whether the field with an index is set to zero.
     fn has(self, index: usize) -> bool {
         index < 5 && (self.0 >> index) & 1 == 1
     }
@@ -124,6 +127,7 @@ fn wrong_fields(order: Order, bytes: &[u8]) -> Option<Cleared> {
     best
 }
 
+/// E4: the fields that must be zero.
 fn tell_unused<W: Tell>(out: &mut W, order: Order, bytes: &[u8]) {
     let Some(fields) = wrong_fields(order, bytes) else {
         return write!(out, "a field that isn't used must be zero\n");
@@ -139,6 +143,7 @@ fn tell_unused<W: Tell>(out: &mut W, order: Order, bytes: &[u8]) {
     write!(out, " must be zero: the instruction doesn't use {used}\n");
 }
 
+/// E3: the register that is none.
 fn tell_register<W: Tell>(out: &mut W, fields: Fields) {
     if fields.dst > 10 {
         let dst = fields.dst;
@@ -164,6 +169,7 @@ fn choices(opcode: u8) -> &'static str {
     }
 }
 
+/// E7: what the instruction would be.
 fn tell_left_out<W: Tell>(out: &mut W, fields: Fields) {
     let (src, imm) = (fields.src, fields.imm);
     match (fields.opcode, src) {
@@ -186,6 +192,7 @@ fn tell_left_out<W: Tell>(out: &mut W, fields: Fields) {
     }
 }
 
+/// What is wrong with a slot.
 fn tell_fault<W: Tell>(out: &mut W, order: Order, bytes: &[u8], fault: SlotFault) {
     let fields = fields_of(order, bytes);
     let opcode = fields.opcode;
@@ -223,10 +230,12 @@ fn tell_bytes<W: Tell>(out: &mut W, order: Order, bytes: &[u8]) {
 
 // ---- the image
 
+/// Whether bytes begin as an ELF object does.
 fn is_elf(bytes: &[u8]) -> bool {
     bytes.starts_with(b"\x7fELF")
 }
 
+/// E1: what is wrong with the number of bytes.
 fn tell_length<W: Tell>(out: &mut W, length: usize) {
     if length == 0 {
         write!(
@@ -293,6 +302,7 @@ fn tell_target<W: Tell>(out: &mut W, order: Order, bytes: &[u8], slot: u32) {
     }
 }
 
+/// Tells a refusal.
 fn tell_error<W: Tell>(out: &mut W, order: Order, bytes: &[u8], error: DecodeError) {
     if is_elf(bytes) {
         write!(
@@ -327,6 +337,7 @@ fn tell_suspect<W: Tell>(out: &mut W, slot: u32, insn: &Insn) {
     }
 }
 
+/// Tells how many slots an image has, and what is suspicious.
 fn tell_program<'a, W: Tell>(out: &mut W, program: &ProgramView<'a>) {
     let slots = program.slots();
     let unit = if slots == 1 { "slot" } else { "slots" };

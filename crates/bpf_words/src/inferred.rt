@@ -9,7 +9,8 @@ use crate::words::register;
 use bpf_cert::Certificate;
 use bpf_check::check;
 use bpf_infer::{
-    InferError, Loss, Move, Obstacle, Sketch, Tangle, Trial, Watch, infer, search, sketch_of,
+    FALLS_OFF, InferError, LEAVES_FUNCTION, Loss, Move, Obstacle, Sketch, Tangle, Trial, Watch,
+    infer, search, sketch_of,
 };
 use bpf_insn::{Code, Insn, Program};
 use std::alloc::Global;
@@ -87,6 +88,7 @@ fn write_trial<W: Tell>(out: &mut W, trial: &Trial) {
     }
 }
 
+/// The places that were tried as counters of a loop.
 fn write_trials<W: Tell>(out: &mut W, slot: u32, trials: &[Trial]) {
     write!(
         out,
@@ -181,7 +183,7 @@ fn write_reason<W: Tell>(out: &mut W, program: &Program, error: InferError, effo
         (
             InferError::Fault {
                 slot,
-                condition: 12,
+                condition: LEAVES_FUNCTION,
             },
             _,
         ) => write!(
@@ -195,11 +197,8 @@ fn write_reason<W: Tell>(out: &mut W, program: &Program, error: InferError, effo
 /// Whether an instruction leads back, or calls a function.
 fn leads_back(insn: &Insn) -> bool {
     match *insn {
-        Insn::Ja { off } => off < 0,
-        Insn::JaLong { off } => off < 0,
-        Insn::JumpIf { off, .. } => off < 0,
         Insn::CallLocal { off: _off } => true,
-        _ => false,
+        _ => insn.distance().is_some_and(|off| off < 0),
     }
 }
 
@@ -219,8 +218,14 @@ fn goes_round(program: &Program) -> bool {
 fn may_be_found(program: &Program, error: InferError) -> bool {
     match error {
         InferError::Recursion { .. } | InferError::Memory => false,
-        InferError::Fault { condition: 12, .. } => false,
-        InferError::Fault { condition: 11, .. } => true,
+        InferError::Fault {
+            condition: LEAVES_FUNCTION,
+            ..
+        } => false,
+        InferError::Fault {
+            condition: FALLS_OFF,
+            ..
+        } => true,
         InferError::Fault { .. } => goes_round(program),
         InferError::Unstable { .. } | InferError::NoBudget { .. } => true,
     }

@@ -46,16 +46,19 @@ fn open_bits(lo: u64, hi: u64) -> u64 {
     }
 }
 
+/// Whether the signed bounds say more than the unsigned ones do.
 fn says_more_signed(n: Num) -> bool {
     let (lo, hi) = signed_bounds(n.unsigned().lo(), n.unsigned().hi());
     n.signed().lo() > lo || n.signed().hi() < hi
 }
 
+/// Whether the bits say more than the bounds do.
 fn says_more_bits(n: Num) -> bool {
     let open = open_bits(n.unsigned().lo(), n.unsigned().hi());
     !n.bits().mask() & open != 0
 }
 
+/// A constant, with its signed value behind it where that is negative.
 fn write_constant<W: fmt::Write>(f: &mut fmt::Formatter<W>, value: u64) -> fmt::Result {
     let signed = value.cast_signed();
     if signed < 0 {

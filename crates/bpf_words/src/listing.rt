@@ -1,6 +1,6 @@
 //! The lines of a listing.
 
-use crate::effects::{access_of, places_compared, places_written, registers_read};
+use crate::effects::{places_compared, places_written, slots_touched};
 use crate::known::{Known, Name, Number, Written, spelling_of};
 use crate::page::Tell;
 use crate::places::{
@@ -139,20 +139,20 @@ fn note_read<W: Tell>(out: &mut W, state: &State, shown: &mut State, place: Plac
 
 /// Tells what is known of the registers that are read.
 fn note_registers<'a, W: Tell>(out: &mut W, sight: &Sight<'a>, shown: &mut State) {
-    for reg in registers_read(&sight.insn).into_iter().flatten() {
+    for reg in sight.insn.registers_read().into_iter().flatten() {
         note_read(out, &sight.before, shown, Place::Register(reg));
     }
 }
 
 /// Tells what is known of the slots that are read.
 fn note_slots<'a, W: Tell>(out: &mut W, sight: &Sight<'a>, shown: &mut State) {
-    let Some(access) = access_of(&sight.insn) else {
+    let Some(access) = sight.insn.access() else {
         return;
     };
     if !access.reads {
         return;
     }
-    let Some((low, high)) = access.slots(&sight.before) else {
+    let Some((low, high)) = slots_touched(access, &sight.before) else {
         return;
     };
     for slot in low..=high {
@@ -274,6 +274,7 @@ fn known_more<'a>(sight: &Sight<'a>, state: &State) -> PlaceSet {
     changes(&sight.after, state, places_compared(&sight.insn))
 }
 
+/// The line of the edge along a jump.
 fn write_jump<'a, W: Tell>(out: &mut W, certificate: &Index, sight: &Sight<'a>, edge: Edge) {
     let condition = match sight.insn {
         Insn::JumpIf { .. } => " if so",
@@ -305,6 +306,7 @@ fn write_next<'a, W: Tell>(
     write_edge(out, certificate, sight, edge, state, more, condition);
 }
 
+/// The line of an EXIT: what is left of the budget.
 fn write_exit<'a, W: Tell>(out: &mut W, sight: &Sight<'a>) {
     let (Some(least), Some(cost)) = (sight.least_budget, sight.cost) else {
         return;

@@ -14,6 +14,7 @@ struct Pieces<'a, W: Write> {
 }
 
 impl<'a, W: Write> Pieces<'a, W> {
+    /// Hands on what is held.
     fn hand_on(&mut self) -> io::Result<()> {
         write_bytes(self.out, self.held.as_slice())?;
         self.held.clear();

@@ -11,11 +11,11 @@ ghost use Rattle.bpf_check.specs.code.Slack.{IsWithin};
 use crate::sight::{Edge, Outcome, Sight};
 use bpf_cert::Label;
 use bpf_check::{
-    Cause, Here, Judged, Site, Slack, Spot, Walk, arrive, calls_no_deeper, cost_after, go_to_next,
-    judge_reached, lacks_label, least_budget, leaves_function, slack_on,
+    Cause, Here, Judged, Site, Slack, Spot, Walk, arrive, calls_no_deeper, cause_of, cost_after,
+    go_to_next, judge_reached, lacks_label, least_budget, leaves_function, slack_on,
 };
 use bpf_insn::{Code, Insn};
-use bpf_state::{State, StateFault, branch, transfer};
+use bpf_state::{State, branch, transfer};
 
 /// A cost that is within the bounds that slacks are computed in.
 fn bounded(cost: Option<i128>) -> Option<i128>
@@ -62,6 +62,7 @@ fn edge_to(
     }
 }
 
+/// Sees the edge along a jump, if the instruction is one.
 fn see_jump<'a>(site: &Site, here: &Here, sight: &mut Sight<'a>)
     requires site { IsSite site.now }
     requires valid { IsReaching site.now.here.slot here.now }
@@ -80,6 +81,7 @@ fn see_jump<'a>(site: &Site, here: &Here, sight: &mut Sight<'a>)
     sight.jump = Some(edge);
 }
 
+/// Sees the edge to the next instruction.
 fn see_next<'a>(site: &Site, here: &Here, sight: &mut Sight<'a>)
     requires site { IsSite site.now }
     requires valid { IsReaching site.now.here.slot here.now }
@@ -133,16 +135,7 @@ fn see_effect<'a, P: Code>(program: &P, site: &Site, here: &Here, sight: &mut Si
     }
 }
 
-fn cause_of(fault: StateFault) -> Cause {
-    match fault {
-        StateFault::UnsetRegister => Cause::UnsetRegister,
-        StateFault::WrongKinds => Cause::WrongKinds,
-        StateFault::OutOfBounds => Cause::OutOfBounds,
-        StateFault::UnsetByte => Cause::UnsetByte,
-        StateFault::Protected => Cause::Protected,
-    }
-}
-
+/// Takes note of the conditions that fail on edges.
 fn note_judged<'a>(judged: Judged, sight: &mut Sight<'a>) {
     sight.flaws.add_if(judged.not_entailed, Cause::NotEntailed);
     sight.flaws.add_if(judged.over_budget, Cause::OverBudget);

@@ -31,10 +31,12 @@ impl PlaceSet {
     /// r0 to r5, which a call changes.
     pub const CLOBBERED: PlaceSet = PlaceSet { held: 0b11_1111 };
 
+    /// Whether no place is in it.
     pub fn is_empty(self) -> bool {
         self.held == 0
     }
 
+    /// Puts a place in.
     pub fn add(&mut self, place: Place) {
         let number = match place {
             Place::Register(reg) => reg as u8,
@@ -117,6 +119,7 @@ pub fn take_over(state: &mut State, other: &State, place: Place) {
     }
 }
 
+/// Whether two pointers have the same area and bounds.
 fn is_same_pointer(a: Pointer, b: Pointer) -> bool {
     a.area.is_same(b.area) && a.lo == b.lo && a.hi == b.hi
 }

@@ -6,7 +6,7 @@ use crate::pass::see;
 use crate::report::{Report, View};
 use crate::sight::Sight;
 use crate::standing::last_slot;
-use bpf_cert::Certificate;
+use bpf_cert::{Certificate, LAST_SLOT};
 use bpf_check::{Index, Refusal, Site, Spot, Walk};
 use bpf_insn::Code;
 use std::io::{self, Write};
@@ -35,7 +35,7 @@ fn tell_program<C: Code, W: Tell>(
         let Some(insn) = program.insn(here.slot) else {
             break;
         };
-        if here.slot > 65_535 {
+        if here.slot > LAST_SLOT {
             break;
         }
         let site = Site::of(&*certificate, here, insn);

@@ -12,6 +12,7 @@ pub struct Quoted<'a, W: Write> {
     out: &'a mut W,
 }
 
+/// Whether a byte is written as it is.
 fn is_plain(byte: u8) -> bool {
     !matches!(byte, b'"' | b'\\' | b'\n')
 }
@@ -28,6 +29,7 @@ fn plain_length(bytes: &[u8]) -> usize
     bytes.len()
 }
 
+/// What is written for a byte that is not written as it is.
 fn escaped(byte: u8) -> &'static [u8] {
     match byte {
         b'"' => b"\\\"",

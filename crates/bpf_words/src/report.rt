@@ -58,6 +58,7 @@ struct Found {
 }
 
 impl Found {
+    /// All that is wrong.
     fn all(&self) -> Flaws {
         let mut flaws = self.start;
         flaws.add_all(&self.visit);
@@ -151,6 +152,7 @@ impl Report {
         write!(out, "\n");
     }
 
+    /// Tells a flaw of the functions and labels at a slot.
     fn tell_standing<W: Tell, C: Code>(
         &mut self,
         out: &mut W,
@@ -289,6 +291,7 @@ impl Report {
         self.tell_found(out, program, certificate, slot, None, &found);
     }
 
+    /// The lines of an instruction, with those of what stands at its slot.
     fn write_lines<'a, W: Tell>(&mut self, out: &mut W, certificate: &Index, sight: &Sight<'a>) {
         self.write_standing(out, certificate, sight.slot);
         if sight.label.is_some() {

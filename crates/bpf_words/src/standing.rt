@@ -51,6 +51,7 @@ pub fn label_in(function: &Function, slot: u32) -> Option<&Label> {
     }
 }
 
+/// The first term within limits that counts no number, or one that may be above its limit.
 fn bad_term(label: &Label, tight: Option<&State>) -> Option<Term>
     requires { option_copied tight ≡ tightened label.now.state }
 {
@@ -62,6 +63,7 @@ fn bad_term(label: &Label, tight: Option<&State>) -> Option<Term>
     None
 }
 
+/// What is wrong with a label whose state, tightened, is known.
 fn flaws_with<C: Code>(
     program: &C,
     certificate: &Index,

@@ -117,6 +117,7 @@ fn tell_forms<W: Tell>(out: &mut W, code: &[u8], left: usize) {
     write!(out, "\n");
 }
 
+/// Whether a comment of another language stands here.
 fn is_comment(rest: &[u8]) -> bool {
     rest.starts_with(b"//") || rest.starts_with(b"#")
 }
@@ -138,12 +139,14 @@ fn tell_place<W: Tell>(out: &mut W, line: &[u8], code: &[u8]) {
     tell_forms(out, code, rest.len());
 }
 
+/// A1: where a line leaves all forms.
 fn tell_form<W: Tell>(out: &mut W, text: &[u8], number: usize) {
     write!(out, "A1 at line {number}");
     let line = code_of(line_at(text, number));
     tell_place(out, line, behind_labels(line));
 }
 
+/// A number that is out of its range, and the range.
 fn tell_excess<'a, W: Tell>(out: &mut W, code: &[u8], excess: Excess<'a>) {
     let column = column_of(code, excess.rest);
     let (sign, digits) = match excess.rest {
@@ -161,6 +164,7 @@ fn tell_excess<'a, W: Tell>(out: &mut W, code: &[u8], excess: Excess<'a>) {
     );
 }
 
+/// A2: which number is out of its range.
 fn tell_range<W: Tell>(out: &mut W, text: &[u8], number: usize) {
     write!(out, "A2 at line {number}");
     let code = code_of(line_at(text, number));
@@ -227,6 +231,7 @@ fn second_label(
     Ok(None)
 }
 
+/// A3: which label is defined again, and where it was before.
 fn tell_second<W: Tell>(alloc: Global, out: &mut W, text: &[u8], number: usize) {
     write!(out, "A3 at line {number}: ");
     match second_label(alloc, text, number) {
@@ -258,11 +263,13 @@ fn last_word(code: &[u8]) -> &[u8] {
     last
 }
 
+/// A4 and A5: what is wrong with the label that a jump names.
 fn tell_target<W: Tell>(out: &mut W, text: &[u8], number: usize, cause: u8, words: &str) {
     let word = Word(last_word(code_of(line_at(text, number))));
     write!(out, "A{cause} at line {number}: the label {word} {words}\n");
 }
 
+/// A6: why the instructions are no program.
 fn tell_program<W: Tell>(out: &mut W, number: usize, error: BuildError) {
     let cause = error.number();
     write!(out, "A6 at line {number} (E{cause}): ");
@@ -280,6 +287,7 @@ fn tell_program<W: Tell>(out: &mut W, number: usize, error: BuildError) {
     }
 }
 
+/// Tells a refusal.
 fn tell_error<W: Tell>(alloc: Global, out: &mut W, text: &[u8], error: TextError) {
     match error {
         TextError::Form { line } => tell_form(out, text, line),

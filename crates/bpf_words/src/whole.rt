@@ -36,6 +36,7 @@ fn write_state<W: Tell>(out: &mut W, label: Option<&Label>, state: &State) {
     }
 }
 
+/// An edge with the state that goes along it.
 fn write_edge<W: Tell>(out: &mut W, label: &Label, edge: Edge, state: &State, condition: &str) {
     let to = edge.to;
     if !edge.is_live {

@@ -19,34 +19,23 @@ use crate::deep::ranking::plan::Plan;
 use crate::deep::ranking::ways::ways_of;
 use crate::deep::ranking::weights::weigh;
 use crate::lists::put;
-use crate::loops::Counter;
-use crate::places::{PLACES, place};
+use crate::places::PLACES;
 use crate::proposal::Proposal;
 use crate::watch::Watch;
 use arrayvec::ArrayVec;
-use bpf_cert::{Budget, Function, Measure, Term};
+use bpf_cert::{Budget, Function};
 use bpf_insn::Program;
 use bpf_proposal::InferError;
 use bpf_state::State;
 use std::alloc::{AllocError, Global};
 
-fn term_of(counter: Counter, weight: i128) -> Term {
-    let measure = match counter {
-        Counter::Falling(number) => Measure::Down(place(number)),
-        Counter::Rising(number, limit) => Measure::Up(place(number), limit),
-    };
-    Term {
-        weight: u32::try_from(weight).unwrap_or(u32::MAX),
-        measure,
-    }
-}
-
+/// The budget at a label, its terms by their places.
 fn budget_of(plan: &Plan, label: usize) -> Budget {
     let mut terms = ArrayVec::new();
     for number in 0..PLACES {
         if let Some(part) = plan.part(label, number) {
             if !terms.is_full() {
-                terms.push(term_of(part.counter, plan.weight(part.weight)));
+                terms.push(part.counter.term(plan.weight(part.weight)));
             }
         }
     }
@@ -56,6 +45,7 @@ fn budget_of(plan: &Plan, label: usize) -> Budget {
     }
 }
 
+/// The budgets of a function's labels.
 fn budgets_of(alloc: Global, plan: &Plan) -> Result<Vec<Budget>, AllocError> {
     let count = plan.function.labels.len();
     let mut budgets = Vec::with_capacity(alloc, count)?;
@@ -94,6 +84,7 @@ struct Ranking {
 }
 
 impl Ranking {
+    /// Finds the budgets of a function and what a call of it costs.
     fn rank<W: Watch>(
         &mut self,
         alloc: Global,
@@ -112,6 +103,7 @@ impl Ranking {
         Ok(())
     }
 
+    /// Finds the budgets of the functions of a depth.
     fn rank_depth<W: Watch>(
         &mut self,
         alloc: Global,
@@ -132,6 +124,7 @@ impl Ranking {
     }
 }
 
+/// So many empty lists.
 fn no_budgets(alloc: Global, count: usize) -> Result<Vec<Vec<Budget>>, AllocError> {
     let mut budgets = Vec::with_capacity(alloc, count)?;
     for _ in 0..count {
@@ -159,12 +152,14 @@ fn steps_from(ranking: &Ranking, start: &State) -> Option<u32> {
     u32::try_from(price.greatest(start)).ok()
 }
 
+/// Gives a function's labels their budgets.
 fn put_budgets(function: &mut Function, budgets: Vec<Budget>) {
     for (label, budget) in function.labels.iter_mut().zip(budgets) {
         label.budget = budget;
     }
 }
 
+/// Gives the labels of all functions their budgets.
 fn put_all(functions: &mut Vec<Function>, budgets: Vec<Vec<Budget>>) {
     for (function, budgets) in functions.iter_mut().zip(budgets) {
         put_budgets(function, budgets);

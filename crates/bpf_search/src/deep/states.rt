@@ -90,11 +90,13 @@ fn firsts_of(alloc: Global, program: &Program, outline: &Outline) -> Result<Vec<
     Ok(firsts)
 }
 
+/// Whether two numbers have the same members.
 fn is_same(a: Num, b: Num) -> bool {
     a.entails(b) && b.entails(a)
 }
 
 impl<'a> Analysis<'a> {
+    /// Nothing is known of any function.
     fn new(
         alloc: Global,
         program: &'a Program,
@@ -123,6 +125,7 @@ impl<'a> Analysis<'a> {
         get_or(&self.firsts, function, 0)
     }
 
+    /// What walks over a function are given.
     fn task<'b>(&'b self, region: &'b Region) -> Task<'b> {
         Task {
             program: self.program,
@@ -200,6 +203,7 @@ impl<'a> Analysis<'a> {
         }))
     }
 
+    /// The states of a function's labels; None if they don't settle.
     fn states_of<W: Watch>(
         &self,
         region: &Region,
@@ -252,6 +256,7 @@ impl<'a> Analysis<'a> {
         Ok(true)
     }
 
+    /// Takes note of the states in which a function calls others.
     fn enter_callees(&mut self, function: usize) -> Result<(), AllocError> {
         if let Some(Some(judged)) = self.judged.get(function) {
             for called in judged.report.entries.as_slice() {
@@ -279,6 +284,7 @@ impl<'a> Analysis<'a> {
         Ok(None)
     }
 
+    /// Judges the functions of a depth. The first of them whose states don't settle, if there is one.
     fn pass_depth<W: Watch>(
         &mut self,
         depths: &Depths,
@@ -376,6 +382,7 @@ impl<'a> Analysis<'a> {
         Ok(live.first().copied().unwrap_or(Places::ALL))
     }
 
+    /// Makes the states of the functions of a depth say no more than is read, and takes note of what they read.
     fn spare_depth(
         &mut self,
         depths: &Depths,
@@ -432,6 +439,7 @@ impl<'a> Analysis<'a> {
         }
     }
 
+    /// The functions with their labels; the states are taken.
     fn functions(&mut self, depths: &Depths) -> Result<Vec<Function>, AllocError> {
         let mut functions = Vec::new(self.alloc);
         for number in 0..self.judged.len() {

@@ -86,6 +86,7 @@ impl Drawn {
         write!(out, "{rest}");
     }
 
+    /// Ends the function that is being written, if there is one.
     fn end_function<W: Tell>(&mut self, out: &mut W) {
         if self.in_function {
             self.in_function = false;

@@ -31,6 +31,7 @@ fn attributes(way: Way, is_live: bool) -> &'static str {
     }
 }
 
+/// The line of an edge.
 fn write_edge<W: Tell>(out: &mut W, from: u32, to: u32, way: Way, is_live: bool) {
     write!(out, "  b{from} -> b{to}");
     let rest = attributes(way, is_live);

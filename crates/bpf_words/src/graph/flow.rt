@@ -3,6 +3,7 @@
 use crate::graph::slots::Slots;
 use crate::pass::see;
 use crate::sight::{Edge, Sight};
+use bpf_cert::LAST_SLOT;
 use bpf_check::{Index, Site, Spot, Walk};
 use bpf_insn::Code;
 
@@ -17,6 +18,7 @@ pub struct Flow {
     pub nexts: Slots,
 }
 
+/// Whether there is an edge, and a state goes along it.
 fn is_live(edge: Option<Edge>) -> bool {
     match edge {
         Some(edge) => edge.is_live,
@@ -43,6 +45,7 @@ impl Flow {
         }
     }
 
+    /// Takes note of what the pass sees at an instruction.
     fn note<'a>(&mut self, sight: &Sight<'a>) {
         let slot = sight.slot;
         if sight.here.is_some() {
@@ -67,7 +70,7 @@ pub fn flow_of<C: Code>(program: &C, certificate: &Index) -> Flow {
         let Some(insn) = program.insn(here.slot) else {
             break;
         };
-        if here.slot > 65_535 {
+        if here.slot > LAST_SLOT {
             break;
         }
         let site = Site::of(&*certificate, here, insn);

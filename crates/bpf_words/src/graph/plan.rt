@@ -65,6 +65,7 @@ impl Plan {
         }
     }
 
+    /// A block and a function begin where a call leads.
     fn note_call(&mut self, slot: u32, insn: &Insn)
         requires { slot ≤ 65535 }
     {
@@ -74,6 +75,7 @@ impl Plan {
         }
     }
 
+    /// Blocks begin at a function's first slot and at its labels.
     fn note_function(&mut self, function: &Function) {
         self.blocks.add(function.first);
         self.functions.add(function.first);

@@ -63,6 +63,7 @@ fn tell_worst<W: Tell>(out: &mut W, state: &State, term: &Term) {
     }
 }
 
+/// What the places did that a label's terms count.
 fn tell_terms<W: Tell>(out: &mut W, old: &Label, new: &Label, state: &State) {
     for term in new.budget.terms.as_slice() {
         match tag_at(state, place_of(term)) {
@@ -116,6 +117,7 @@ fn tell_edge<'a, W: Tell>(
     true
 }
 
+/// What an EXIT costs, and what is left of the budget.
 fn tell_exit<'a, W: Tell>(out: &mut W, sight: &Sight<'a>) {
     let (Some(here), Some(least), Some(cost)) = (sight.here, sight.least_budget, sight.cost) else {
         return;

@@ -4,6 +4,7 @@ use crate::known::{Known, Name, Written, known_register, written_number};
 use crate::page::Tell;
 use crate::places::{PLACES, content, place_at, state_at, take_over};
 use crate::sight::{Edge, Sight};
+use bpf_cert::LAST_SLOT;
 use bpf_check::{Index, callee, function_at, label_at};
 use bpf_insn::{Insn, Reg};
 use bpf_state::{Place, State, Work, enter};
@@ -54,6 +55,7 @@ fn tell_if_refused<W: Tell>(
     }
 }
 
+/// Tells where a callee's label claims more than holds at the call. Whether it does.
 fn tell_entry<W: Tell>(out: &mut W, certificate: &Index, first: u32, state: &State) -> bool {
     let mut entry = state.copy();
     enter(&mut entry);
@@ -76,6 +78,7 @@ fn tell_entry<W: Tell>(out: &mut W, certificate: &Index, first: u32, state: &Sta
     }
 }
 
+/// Tells where a function is said to return less than r0 may hold. Whether it is.
 fn tell_result<'a, W: Tell>(out: &mut W, certificate: &Index, sight: &Sight<'a>) -> bool {
     let Some(function) = function_at(certificate, sight.slot) else {
         return false;
@@ -99,7 +102,7 @@ pub fn tell_difference<'a, W: Tell>(out: &mut W, certificate: &Index, sight: &Si
         let _ = tell_result(out, certificate, sight);
         return;
     }
-    if sight.slot <= 65_535 {
+    if sight.slot <= LAST_SLOT {
         if let Some(function) = callee(certificate, sight.slot, &sight.insn) {
             if tell_entry(out, certificate, function.first, &sight.before) {
                 return;

@@ -1,12 +1,12 @@
 //! Registers of which nothing is known, and operands of the wrong kinds.
 
-use crate::effects::{Access, access_of, unknown_register};
+use crate::effects::{slots_touched, unknown_register};
 use crate::known::{Known, Name, Offset, known_register};
 use crate::page::Tell;
 use crate::places::content;
 use crate::sight::Sight;
 use crate::words::register;
-use bpf_insn::{AluOp, AtomicOp, Insn, Operand, Reg, Width};
+use bpf_insn::{Access, AluOp, AtomicOp, Insn, Operand, Reg, Width};
 use bpf_state::{Place, RegState, SlotState, State};
 
 /// C3: a register that is read may be uninitialised.
@@ -20,6 +20,7 @@ pub fn tell_unknown<'a, W: Tell>(out: &mut W, sight: &Sight<'a>) {
     }
 }
 
+/// Whether a register holds a pointer.
 fn is_pointer(state: &State, reg: Reg) -> bool {
     matches!(state.reg(reg), RegState::Ptr(_))
 }
@@ -57,6 +58,7 @@ fn rule_of(op: AluOp, state: &State, dst: Reg) -> &'static str {
     }
 }
 
+/// Why an operation may not be done on its operands.
 fn tell_operation<W: Tell>(
     out: &mut W,
     state: &State,
@@ -75,13 +77,14 @@ fn tell_operation<W: Tell>(
     }
 }
 
+/// A register that has to hold a number, and what it holds.
 fn tell_number_wanted<W: Tell>(out: &mut W, state: &State, reg: Reg) {
     tell_register(out, "this operation takes numbers alone", state, reg);
 }
 
 /// The first slot that an access may touch and that holds a pointer.
 fn pointer_slot(state: &State, access: Access) -> Option<u8> {
-    let (low, high) = access.reach(state)?.slots()?;
+    let (low, high) = slots_touched(access, state)?;
     for slot in low..=high {
         if let SlotState::Spilled(_) = content(state, Place::Slot(slot)) {
             return Some(slot);
@@ -90,6 +93,7 @@ fn pointer_slot(state: &State, access: Access) -> Option<u8> {
     None
 }
 
+/// The part of a spilled pointer that is read.
 fn tell_part<W: Tell>(out: &mut W, state: &State, access: Access) {
     match pointer_slot(state, access) {
         Some(slot) => {
@@ -116,6 +120,7 @@ fn number_wanted(insn: &Insn, state: &State) -> Option<Reg> {
     }
 }
 
+/// Why an access takes no operands as these.
 fn tell_access<W: Tell>(out: &mut W, state: &State, insn: &Insn, access: Access) {
     if !is_pointer(state, access.base) {
         let (name, off) = (register(access.base), Offset(access.off));
@@ -160,7 +165,7 @@ pub fn tell_kinds<'a, W: Tell>(out: &mut W, sight: &Sight<'a>) {
             src,
         ),
         Insn::Exit => tell_register(out, "the result must be a number", state, Reg::R0),
-        _ => match access_of(&sight.insn) {
+        _ => match sight.insn.access() {
             Some(access) => tell_access(out, state, &sight.insn, access),
             None => write!(out, "takes operands of other kinds"),
         },

@@ -1,16 +1,17 @@
 //! Accesses out of bounds, of bytes that aren't initialised, and of what may not be written.
 
-use crate::effects::{Access, Reach, access_of};
+use crate::effects::Reach;
 use crate::known::{Name, Offset, known_register};
 use crate::page::Tell;
 use crate::places::content;
 use crate::sight::Sight;
 use crate::words::register;
 use bpf_check::Index;
-use bpf_insn::{Insn, Operand};
+use bpf_insn::{Access, Insn, Operand};
 use bpf_state::{FRAME_START, Place, SlotState, State};
 use std::fmt;
 
+/// What an access does.
 fn verb(access: Access) -> &'static str {
     match (access.reads, access.writes) {
         (true, true) => "changes",
@@ -25,7 +26,7 @@ struct Touch(Access);
 
 impl fmt::Display for Touch {
     fn fmt<W: fmt::Write>(&self, f: &mut fmt::Formatter<W>) -> fmt::Result {
-        let (verb, bytes) = (verb(self.0), self.0.bytes());
+        let (verb, bytes) = (verb(self.0), self.0.size.bytes());
         let unit = if bytes == 1 { "byte" } else { "bytes" };
         let (name, off) = (register(self.0.base), Offset(self.0.off));
         write!(f, "{verb} {bytes} {unit} at {name} {off}")
@@ -72,7 +73,7 @@ fn tell_far<W: Tell>(out: &mut W, state: &State, insn: &Insn) {
 /// C5: an access may leave the context or the frame, or a pointer its bounds.
 pub fn tell_bounds<'a, W: Tell>(out: &mut W, certificate: &Index, sight: &Sight<'a>) {
     let state = &sight.before;
-    let Some(access) = access_of(&sight.insn) else {
+    let Some(access) = sight.insn.access() else {
         return tell_far(out, state, &sight.insn);
     };
     let (name, held) = (
@@ -81,7 +82,7 @@ pub fn tell_bounds<'a, W: Tell>(out: &mut W, certificate: &Index, sight: &Sight<
     );
     let touch = Touch(access);
     write!(out, "{touch}, {name} is {held}");
-    if let Some(reach) = access.reach(state) {
+    if let Some(reach) = Reach::of(access, state) {
         tell_outside(out, certificate, reach);
     }
 }
@@ -114,11 +115,11 @@ fn unknown_slot(state: &State, reach: Reach) -> Option<(u8, u8)> {
 
 /// C6: a stack byte that may be read isn't known to be initialised.
 pub fn tell_unknown_bytes<'a, W: Tell>(out: &mut W, sight: &Sight<'a>) {
-    let Some(access) = access_of(&sight.insn) else {
+    let Some(access) = sight.insn.access() else {
         return write!(out, "reads bytes that aren't known to be initialised");
     };
     let touch = Touch(access);
-    let found = match access.reach(&sight.before) {
+    let found = match Reach::of(access, &sight.before) {
         Some(reach) => unknown_slot(&sight.before, reach),
         None => None,
     };
@@ -140,7 +141,7 @@ pub fn tell_unknown_bytes<'a, W: Tell>(out: &mut W, sight: &Sight<'a>) {
 
 /// C7: the context or r10 is written.
 pub fn tell_protected<'a, W: Tell>(out: &mut W, sight: &Sight<'a>) {
-    match access_of(&sight.insn) {
+    match sight.insn.access() {
         Some(access) if access.writes => {
             let held = known_register(sight.before.reg(access.base));
             let (name, touch) = (register(access.base), Touch(access));

@@ -4,6 +4,7 @@ ghost use Rattle.std.specs.Prelude.{◌≤◌};
 
 use crate::page::Tell;
 use crate::sight::Sight;
+use bpf_cert::LAST_SLOT;
 use bpf_check::{Index, callee, function_at, jump_target};
 use bpf_insn::{Code, Insn};
 
@@ -42,7 +43,7 @@ pub fn tell_end<W: Tell>(out: &mut W) {
 
 /// C1: no label stands at a jump's target.
 pub fn tell_missing_label<'a, W: Tell>(out: &mut W, sight: &Sight<'a>) {
-    if sight.slot > 65_535 {
+    if sight.slot > LAST_SLOT {
         return;
     }
     if let Some(to) = jump_target(sight.slot, &sight.insn) {
@@ -52,7 +53,7 @@ pub fn tell_missing_label<'a, W: Tell>(out: &mut W, sight: &Sight<'a>) {
 
 /// C10: a callee's depth isn't below its caller's.
 pub fn tell_depth<'a, W: Tell>(out: &mut W, certificate: &Index, sight: &Sight<'a>) {
-    if sight.slot > 65_535 {
+    if sight.slot > LAST_SLOT {
         return;
     }
     let called = callee(certificate, sight.slot, &sight.insn);
@@ -74,6 +75,7 @@ fn lies_in(certificate: &Index, slot: u32, first: u32) -> bool {
     }
 }
 
+/// A call that leads to no function.
 fn tell_nowhere<W: Tell>(out: &mut W, slot: u32, off: i32) {
     let to = i64::from(slot)
         .saturating_add(1)
@@ -113,7 +115,7 @@ pub fn tell_leaving<'a, W: Tell, C: Code>(
     certificate: &Index,
     sight: &Sight<'a>,
 ) {
-    if sight.slot > 65_535 {
+    if sight.slot > LAST_SLOT {
         return;
     }
     if let Insn::CallLocal { off } = sight.insn {

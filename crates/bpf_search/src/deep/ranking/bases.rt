@@ -23,6 +23,7 @@ struct Settling {
 }
 
 impl Settling {
+    /// The label at an index of the order.
     fn node(&self, index: usize) -> usize {
         number_in(&self.nodes, index)
     }
@@ -52,6 +53,7 @@ impl Settling {
         }
     }
 
+    /// Measures the ways from the labels of a component.
     fn measure_all(&mut self, plan: &Plan, start: usize, end: usize) {
         for index in start..end {
             self.measure(plan, self.node(index));
@@ -116,6 +118,7 @@ impl Settling {
         Ok(())
     }
 
+    /// Finds the bases of a component, with lifted terms if that is asked for. I2 at a label with a base above 2^40.
     fn settle_component(
         &mut self,
         plan: &mut Plan,
@@ -136,6 +139,7 @@ impl Settling {
         Ok(())
     }
 
+    /// Finds the bases of all components, those that the others lead to first.
     fn settle_all(&mut self, plan: &mut Plan) -> Result<(), InferError> {
         let mut start = 0usize;
         for index in 0..self.nodes.len() {

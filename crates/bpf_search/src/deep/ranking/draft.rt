@@ -19,6 +19,7 @@ pub struct Draft<'a> {
     labels: &'a [Option<usize>],
 }
 
+/// Puts the numbers of a function's labels at their slots.
 fn add_labels(labels: &mut Vec<Option<usize>>, function: &Function) {
     for number in 0..function.labels.len() {
         if let Some(label) = function.labels.get(number) {
@@ -89,13 +90,7 @@ impl<'a> Draft<'a> {
 
 /// What the number in a place may be at a label.
 pub fn span_at(label: &Label, number: usize) -> Span {
-    match number_said(&label.state, number).and_then(|held| held.tighten()) {
-        Some(held) => Span {
-            lo: held.unsigned().lo(),
-            hi: held.unsigned().hi(),
-        },
-        None => Span::ALL,
-    }
+    Span::of_number(number_said(&label.state, number).and_then(|held| held.tighten()))
 }
 
 /// The budget at the entry of a function: a base, and lines over what places hold.

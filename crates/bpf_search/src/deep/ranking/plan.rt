@@ -186,6 +186,7 @@ impl<'a> Plan<'a> {
         }
     }
 
+    /// As `taken` for all old terms together.
     fn taken_by_all(&self, way: &Way, parts: &Parts) -> i128 {
         let mut sum = 0i128;
         for old in self.parts(way.from) {

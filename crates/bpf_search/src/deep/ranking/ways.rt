@@ -4,10 +4,10 @@ use crate::deep::ranking::draft::{Draft, Price};
 use crate::flow::{Flow, compared};
 use crate::lines::Span;
 use crate::lists::get_or;
-use crate::places::{PLACES, number_at, number_said, place};
+use crate::places::{PLACES, number_at, number_said, place, tag_own};
 use bpf_cert::{Function, Label};
 use bpf_insn::{Insn, Reg};
-use bpf_proposal::InferError;
+use bpf_proposal::{FALLS_OFF, InferError};
 use bpf_state::{RegState, State, Tag, branch, enter, leave, transfer};
 use std::alloc::{AllocError, Global};
 
@@ -77,6 +77,7 @@ impl Ways {
         self.held(way, number)?.source
     }
 
+    /// Takes note of what the places hold that a label says a number of.
     fn note(&mut self, state: &State, label: &Label) -> Result<(), AllocError> {
         for number in 0..PLACES {
             if number_said(&label.state, number).is_some() {
@@ -135,13 +136,7 @@ struct Walker<'a> {
 fn tag_all(state: &mut State) {
     for i in 0..PLACES {
         if number_at(state, i).is_some() {
-            state.set_tag(
-                place(i),
-                Some(Tag {
-                    term: i as u8,
-                    offset: 0,
-                }),
-            );
+            tag_own(state, i);
         }
     }
 }
@@ -154,6 +149,7 @@ impl<'a> Walker<'a> {
         }
     }
 
+    /// Ends a way at a label. I1 where the state does not lie in what the label says.
     fn arrive(&mut self, spot: Spot, target: u32, state: &State) -> Result<(), InferError> {
         let Some(number) = self.draft.label_at(target) else {
             return Err(InferError::NoBudget { slot: target });
@@ -197,6 +193,7 @@ impl<'a> Walker<'a> {
         Ok(leave(state, callee.ret))
     }
 
+    /// Ends a way at an EXIT. I1 where r0 is not what the function is said to return.
     fn exit(&mut self, spot: Spot, state: &State) -> Result<(), InferError> {
         if !state.reg(Reg::R0).entails(RegState::Num(self.function.ret)) {
             return Err(self.unstable());
@@ -259,7 +256,7 @@ impl<'a> Walker<'a> {
         if end >= self.draft.program.slots() {
             return Err(InferError::Fault {
                 slot: spot.slot,
-                condition: 11,
+                condition: FALLS_OFF,
             });
         }
         self.arrive(spot, end, state)
@@ -284,7 +281,7 @@ impl<'a> Walker<'a> {
                 if !goes_on {
                     return Err(InferError::Fault {
                         slot,
-                        condition: 11,
+                        condition: FALLS_OFF,
                     });
                 }
                 spot.slot = slot;
@@ -297,6 +294,7 @@ impl<'a> Walker<'a> {
         Ok(())
     }
 
+    /// Goes from each of the function's labels to those behind it.
     fn walk_all(&mut self) -> Result<(), InferError> {
         let function = self.function;
         let mut room = State::blank();

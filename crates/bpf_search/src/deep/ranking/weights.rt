@@ -31,6 +31,7 @@ fn lengths_of(alloc: Global, plan: &Plan, graph: &Graph) -> Result<Vec<i128>, Al
     Ok(lengths)
 }
 
+/// Adds what a counter grows by, so many times.
 fn add_changes(sums: &mut Vec<i128>, counted: &Counted, weight: i128) {
     for number in 0..counted.changes.len() {
         if let (Some(sum), Some(change)) = (sums.get_mut(number), counted.changes.get(number)) {
@@ -59,6 +60,7 @@ struct Split {
 }
 
 impl Split {
+    /// Puts an arc to those on which nothing falls, or to the others.
     fn add(
         &mut self,
         number: usize,
@@ -77,6 +79,7 @@ impl Split {
         Ok(())
     }
 
+    /// The arcs of a group with their lengths.
     fn of(alloc: Global, group: &Group, lengths: &[i128]) -> Result<Split, AllocError> {
         let changes = changes_of(alloc, group)?;
         let graph = &group.region.graph;
@@ -99,6 +102,7 @@ impl Split {
     }
 }
 
+/// The greatest of some numbers, 0 if all are below.
 fn greatest_of(list: &[i128]) -> i128 {
     let mut greatest = 0;
     for number in list {
@@ -107,6 +111,7 @@ fn greatest_of(list: &[i128]) -> i128 {
     greatest
 }
 
+/// How many passes a graph of so many nodes is given.
 fn passes_over(count: usize) -> usize {
     count.saturating_add(2).min(MOST_PASSES)
 }

@@ -29,6 +29,7 @@ impl Seeds {
         })
     }
 
+    /// The index of a slot among those of the function.
     fn index(&self, slot: u32) -> usize {
         slot.saturating_sub(self.first) as usize
     }
@@ -38,6 +39,7 @@ impl Seeds {
         held(&self.states, self.index(slot))
     }
 
+    /// A slot is also led to in a state.
     fn add(&mut self, slot: u32, state: &State) -> Result<(), AllocError> {
         let index = self.index(slot);
         take_in_at(self.alloc, &mut self.states, index, state)
@@ -139,6 +141,7 @@ impl<'a> Watcher for Seeker<'a> {
 }
 
 impl<'a> Seeker<'a> {
+    /// Takes note of a slot of the function that isn't reached, and would be in a state.
     fn seek(&mut self, slot: u32, state: &State) -> Result<(), AllocError> {
         let region = self.task.region;
         if slot < region.end() && !self.report.is_reached(slot) {

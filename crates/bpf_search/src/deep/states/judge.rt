@@ -2,9 +2,11 @@
 
 use super::sums::{Held, load};
 use super::task::{Task, Watcher};
+use crate::join::join;
 use crate::lists::{get_or, put};
 use bpf_insn::{Insn, Reg};
 use bpf_num::Num;
+use bpf_proposal::FALLS_OFF;
 use bpf_state::{RegState, State, StateFault, enter};
 use std::alloc::{AllocError, Global};
 
@@ -22,7 +24,7 @@ impl Wrong {
     pub fn condition(self) -> u8 {
         match self {
             Wrong::Fault(fault) => fault.number(),
-            Wrong::Dead => 11,
+            Wrong::Dead => FALLS_OFF,
         }
     }
 }
@@ -83,7 +85,7 @@ impl Watcher for Report {
         for known in self.entries.iter_mut() {
             if known.callee == callee {
                 if !entry.entails(&*known.state) {
-                    crate::join::join(&mut *known.state, &entry, None);
+                    join(&mut *known.state, &entry, None);
                 }
                 return Ok(());
             }

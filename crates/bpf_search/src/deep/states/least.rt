@@ -3,11 +3,11 @@
 use super::judge::{Wrong, walk_all};
 use super::sums::Held;
 use super::task::{Task, Watcher};
-use super::tolerant::{fetched, touched};
+use super::tolerant::touched;
 use crate::flow::Flow;
 use crate::lists::{get_or, put};
 use crate::places::REGISTERS;
-use bpf_insn::{AluOp, AtomicOp, Insn, Operand, Reg, Size};
+use bpf_insn::{Access, Insn, Reg, Size};
 use bpf_num::{KnownBits, Num, Signed, Unsigned, WordDomain};
 use bpf_state::{RegState, SlotState, State};
 use std::alloc::{AllocError, Global};
@@ -35,6 +35,7 @@ impl Places {
         slots: u64::MAX,
     };
 
+    /// A register alone.
     fn register(r: Reg) -> Places {
         Places {
             registers: 1 << (r as u32 % 16),
@@ -42,6 +43,7 @@ impl Places {
         }
     }
 
+    /// A slot alone, by its number from 1 to 64.
     fn slot(k: u8) -> Places {
         Places {
             registers: 0,
@@ -63,6 +65,7 @@ impl Places {
         }
     }
 
+    /// What is in either.
     fn and(self, other: Places) -> Places {
         Places {
             registers: self.registers | other.registers,
@@ -70,6 +73,7 @@ impl Places {
         }
     }
 
+    /// What is in it and not in another.
     fn without(self, other: Places) -> Places {
         Places {
             registers: self.registers & !other.registers,
@@ -77,10 +81,12 @@ impl Places {
         }
     }
 
+    /// Whether a register is in it.
     fn has_register(self, r: Reg) -> bool {
         self.registers & Places::register(r).registers != 0
     }
 
+    /// Whether a slot is in it.
     fn has_slot(self, k: u8) -> bool {
         self.slots & Places::slot(k).slots != 0
     }
@@ -95,17 +101,38 @@ struct Needs {
     written: Places,
 }
 
-fn operand(src: Operand) -> Places {
-    match src {
-        Operand::Imm(_imm) => Places::NONE,
-        Operand::Reg(r) => Places::register(r),
+impl Needs {
+    /// Nothing.
+    const NONE: Needs = Needs {
+        read: Places::NONE,
+        written: Places::NONE,
+    };
+}
+
+/// The registers that an instruction reads.
+fn registers_read(insn: &Insn) -> Places {
+    let mut read = Places::NONE;
+    for reg in insn.registers_read() {
+        if let Some(r) = reg {
+            read = read.and(Places::register(r));
+        }
+    }
+    read
+}
+
+/// The registers that an instruction writes.
+fn registers_written(insn: &Insn) -> Places {
+    match insn.register_written() {
+        Some(r) => Places::register(r),
+        None if matches!(*insn, Insn::CallLocal { .. }) => Places::WRITTEN_BY_CALL,
+        None => Places::NONE,
     }
 }
 
 /// The slots that an access may touch.
-fn slots_touched(state: &State, base: Reg, off: i16, size: Size) -> Places {
+fn slots_touched(state: &State, access: Access) -> Places {
     let mut slots = Places::NONE;
-    if let Some((first, end)) = touched(state.reg(base), off, size) {
+    if let Some((first, end)) = touched(state.reg(access.base), access.off, access.size) {
         for k in first..end {
             slots = slots.and(Places::slot(k));
         }
@@ -114,122 +141,30 @@ fn slots_touched(state: &State, base: Reg, off: i16, size: Size) -> Places {
 }
 
 /// The slot that a store writes as a whole.
-fn slot_written(state: &State, base: Reg, off: i16, size: Size) -> Places {
-    if let (Size::DW, RegState::Ptr(p)) = (size, state.reg(base)) {
-        let offset = p.lo.saturating_add(off as i64);
+fn slot_written(state: &State, access: Access) -> Places {
+    if let (Size::DW, RegState::Ptr(p)) = (access.size, state.reg(access.base)) {
+        let offset = p.lo.saturating_add(access.off as i64);
         if p.lo == p.hi && offset & 7 == 0 {
-            return slots_touched(state, base, off, size);
+            return slots_touched(state, access);
         }
     }
     Places::NONE
 }
 
-fn load(state: &State, dst: Reg, src: Reg, off: i16, size: Size) -> Needs {
-    Needs {
-        read: Places::register(src).and(slots_touched(state, src, off, size)),
-        written: Places::register(dst),
-    }
-}
-
-fn atomic(state: &State, wide: bool, op: AtomicOp, dst: Reg, off: i16, src: Reg) -> Needs {
-    let size = if wide { Size::DW } else { Size::W };
-    let mut read = Places::register(dst)
-        .and(Places::register(src))
-        .and(slots_touched(state, dst, off, size));
-    if op == AtomicOp::CmpXchg {
-        read = read.and(Places::register(Reg::R0));
-    }
-    let written = match fetched(op, src) {
-        Some(r) => Places::register(r),
-        None => Places::NONE,
-    };
-    Needs { read, written }
-}
-
-fn alu(op: AluOp, dst: Reg, src: Operand) -> Needs {
-    let written = Places::register(dst);
-    let read = if op == AluOp::Mov {
-        operand(src)
-    } else {
-        operand(src).and(written)
-    };
-    Needs { read, written }
-}
-
-fn reading(read: Places) -> Needs {
-    Needs {
-        read,
-        written: Places::NONE,
-    }
-}
-
-fn one(r: Reg) -> Needs {
-    Needs {
-        read: Places::register(r),
-        written: Places::register(r),
-    }
-}
-
 /// What an instruction reads and writes in a state, but for what a callee reads.
 fn needs_of(insn: &Insn, state: &State) -> Needs {
-    match *insn {
-        Insn::Alu { op, dst, src, .. } => alu(op, dst, src),
-        Insn::Neg { dst, .. } => one(dst),
-        Insn::End { dst, .. } => one(dst),
-        Insn::MovSx { dst, src, .. } => alu(AluOp::Mov, dst, Operand::Reg(src)),
-        Insn::LoadImm64 { dst, .. } => alu(AluOp::Mov, dst, Operand::Imm(0)),
-        Insn::JumpIf {
-            dst,
-            src,
-            off: _off,
-            ..
-        } => reading(Places::register(dst).and(operand(src))),
-        Insn::CallLocal { off: _off } => Needs {
-            read: Places::NONE,
-            written: Places::WRITTEN_BY_CALL,
-        },
-        Insn::Exit => reading(Places::register(Reg::R0)),
-        _ => needs_of_access(insn, state),
+    let mut needs = Needs {
+        read: registers_read(insn),
+        written: registers_written(insn),
+    };
+    if let Some(access) = insn.access() {
+        if access.reads {
+            needs.read = needs.read.and(slots_touched(state, access));
+        } else {
+            needs.written = needs.written.and(slot_written(state, access));
+        }
     }
-}
-
-/// What an access to memory reads and writes in a state.
-fn needs_of_access(insn: &Insn, state: &State) -> Needs {
-    match *insn {
-        Insn::Load {
-            size,
-            dst,
-            src,
-            off,
-        } => load(state, dst, src, off, size),
-        Insn::LoadSx {
-            size,
-            dst,
-            src,
-            off,
-        } => load(state, dst, src, off, size),
-        Insn::Store {
-            size,
-            dst,
-            off,
-            src,
-        } => Needs {
-            read: Places::register(dst).and(Places::register(src)),
-            written: slot_written(state, dst, off, size),
-        },
-        Insn::StoreImm { size, dst, off, .. } => Needs {
-            read: Places::register(dst),
-            written: slot_written(state, dst, off, size),
-        },
-        Insn::Atomic {
-            wide,
-            op,
-            dst,
-            off,
-            src,
-        } => atomic(state, wide, op, dst, off, src),
-        _ => reading(Places::NONE),
-    }
+    needs
 }
 
 // ---- what is read later
@@ -273,6 +208,7 @@ impl<'a> Watcher for Liveness<'a> {
 }
 
 impl<'a> Liveness<'a> {
+    /// The places that are read behind a label, as far as is known.
     fn live_at(&self, label: usize) -> Places {
         get_or(&self.live, label, Places::NONE)
     }
@@ -327,7 +263,7 @@ pub fn places_read(
     let mut liveness = Liveness {
         task,
         callees,
-        needs: vec![in alloc; reading(Places::NONE); task.region.slots()]?,
+        needs: vec![in alloc; Needs::NONE; task.region.slots()]?,
         live: vec![in alloc; Places::NONE; count]?,
     };
     walk_all(task, states, &mut liveness)?;
@@ -366,6 +302,7 @@ pub fn least_number(number: Num) -> Num {
     number
 }
 
+/// Forgets registers that aren't read, and what of the others is implied.
 fn spare_registers(state: &mut State, live: Places) {
     for i in 0..REGISTERS {
         let r = Reg::numbered(i as u8);
@@ -377,6 +314,7 @@ fn spare_registers(state: &mut State, live: Places) {
     }
 }
 
+/// Forgets slots that aren't read, and what of the others is implied.
 fn spare_slots(state: &mut State, live: Places) {
     for k in 1..65u8 {
         if !live.has_slot(k) {

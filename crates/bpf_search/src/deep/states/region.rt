@@ -17,6 +17,7 @@ pub struct Region {
     numbers: Vec<usize>,
 }
 
+/// Marks a slot, if it is one of the slots from the first on.
 fn mark(marks: &mut Vec<bool>, first: u32, slot: u32) {
     if slot >= first {
         if let Some(mark) = marks.get_mut((slot - first) as usize) {
@@ -73,6 +74,7 @@ impl Region {
         })
     }
 
+    /// The first slot.
     pub fn first(&self) -> u32 {
         self.first
     }
@@ -118,6 +120,7 @@ impl Region {
     }
 }
 
+/// Whether the slot with an index is marked.
 fn is_marked(marks: &[bool], index: u32) -> bool {
     get_or(marks, index as usize, false)
 }
@@ -145,6 +148,7 @@ fn add_edges(
     Ok(insn.goes_on())
 }
 
+/// Adds the edges of a label's segment.
 fn add_segment(
     targets: &mut Vec<usize>,
     program: &Program,
@@ -185,10 +189,7 @@ impl Graph {
 
     /// The index after a label's last edge.
     pub fn end(&self, label: usize) -> usize {
-        self.starts
-            .get(label.saturating_add(1))
-            .copied()
-            .unwrap_or(0)
+        get_or(&self.starts, label.saturating_add(1), 0)
     }
 
     /// The label that the edge at an index leads to.

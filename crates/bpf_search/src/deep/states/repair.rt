@@ -34,18 +34,6 @@ pub fn fill_slots(state: &mut State) -> bool {
     is_filled
 }
 
-/// The register by which an instruction accesses memory, and the offset.
-fn base_of(insn: &Insn) -> Option<(Reg, i16)> {
-    match *insn {
-        Insn::Load { src, off, .. } => Some((src, off)),
-        Insn::LoadSx { src, off, .. } => Some((src, off)),
-        Insn::Store { dst, off, .. } => Some((dst, off)),
-        Insn::StoreImm { dst, off, .. } => Some((dst, off)),
-        Insn::Atomic { dst, off, .. } => Some((dst, off)),
-        _ => None,
-    }
-}
-
 /// The register that held before an instruction what one holds after it.
 fn source(insn: &Insn, r: Reg) -> Reg {
     match *insn {
@@ -94,11 +82,11 @@ fn point(state: &mut State, base: Reg, off: i16) -> bool {
 /// is a change.
 pub fn lead(task: Task, label: u32, slot: u32, state: &mut State) -> bool {
     let found = match task.program.at(slot) {
-        Some(insn) => base_of(insn),
+        Some(insn) => insn.access(),
         None => None,
     };
     match found {
-        Some((base, off)) => point(state, traced(task, label, slot, base), off),
+        Some(access) => point(state, traced(task, label, slot, access.base), access.off),
         None => false,
     }
 }
@@ -123,6 +111,7 @@ fn operands_of(insn: &Insn) -> [Option<Reg>; 2] {
     }
 }
 
+/// The register of a second operand, if it is one.
 fn register_in(operand: Operand) -> Option<Reg> {
     match operand {
         Operand::Imm(_imm) => None,
@@ -145,6 +134,7 @@ pub fn make_numbers(task: Task, label: u32, slot: u32, state: &mut State) -> boo
     is_changed
 }
 
+/// Makes what a register holds a number, if it is a pointer and no r10. Whether that is a change.
 fn make_number(state: &mut State, r: Reg) -> bool {
     match state.reg(r) {
         RegState::Any | RegState::Num(_) => false,

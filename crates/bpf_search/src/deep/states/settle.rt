@@ -5,7 +5,7 @@ use super::nest::{Loop, Nest};
 use super::sums::{Held, Sums, held, load, take_in};
 use super::task::{Task, Watcher};
 use super::thresholds::{Reach, Thresholds};
-use crate::lists::{put, vacant};
+use crate::lists::{get_or, put, vacant};
 use crate::watch::Watch;
 use bpf_insn::Insn;
 use bpf_state::State;
@@ -181,6 +181,7 @@ impl<'a> Settler<'a> {
         self.walk(label)
     }
 
+    /// Goes over a label's segment, if the label has a state.
     fn walk(&mut self, label: usize) -> Result<(), AllocError> {
         self.patience = self.patience.saturating_sub(1);
         let mut room = match self.room.take() {
@@ -197,6 +198,7 @@ impl<'a> Settler<'a> {
 
     // ---- the turns of a loop
 
+    /// Whether as many segments were gone over as may be.
     fn is_tired(&self) -> bool {
         self.patience == 0
     }
@@ -267,12 +269,7 @@ impl<'a> Settler<'a> {
 
     /// How far bounds are moved on that a turn of a loop moved. The turn is counted.
     fn reach_of(&mut self, number: usize) -> Reach {
-        let changes = self
-            .changes
-            .get(number)
-            .copied()
-            .unwrap_or(0)
-            .saturating_add(1);
+        let changes = get_or(&self.changes, number, 0).saturating_add(1);
         put(&mut self.changes, number, changes);
         if self.is_tired() || changes > MOST_CHANGES {
             Reach::Extreme
@@ -335,6 +332,7 @@ impl<'a> Settler<'a> {
         }
     }
 
+    /// Ends the innermost loop. The place to go on from.
     fn close(&mut self, found: Loop) -> usize {
         let _active = self.active.pop();
         found.end

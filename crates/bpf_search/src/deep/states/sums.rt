@@ -80,10 +80,12 @@ impl Sums {
         })
     }
 
+    /// The index of a label's first sum.
     fn start(&self, label: usize) -> usize {
         get_or(&self.starts, label, 0)
     }
 
+    /// The index behind a label's last sum.
     fn end(&self, label: usize) -> usize {
         self.start(label.saturating_add(1))
     }

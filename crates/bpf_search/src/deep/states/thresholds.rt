@@ -1,11 +1,11 @@
 //! Numbers at which the bounds of a loop's states may stop.
 
-use crate::join::{join_register, join_slot};
+use crate::join::{join, join_register, join_slots};
 use crate::lists::get_or;
 use crate::places::REGISTERS;
 use crate::widen::Stops;
 use bpf_insn::{Insn, Operand, Reg};
-use bpf_state::{RegState, SlotState, State};
+use bpf_state::{RegState, State};
 use std::alloc::{AllocError, Global};
 
 /// The most bounds of one register's operands that are kept.
@@ -101,6 +101,7 @@ impl Thresholds {
         Ok(())
     }
 
+    /// Takes note of the bounds of a number that a register is compared with.
     fn learn_bounds(&mut self, r: Reg, operand: RegState) -> Result<(), AllocError> {
         let RegState::Num(number) = operand else {
             return Ok(());
@@ -113,6 +114,7 @@ impl Thresholds {
         Ok(())
     }
 
+    /// Takes note of a bound, once, and of few of a register.
     fn learn_number(&mut self, register: usize, number: i64) -> Result<(), AllocError> {
         let count = get_or(&self.learned, register, 0);
         if count >= MOST_LEARNED || self.has(register, number) {
@@ -135,6 +137,7 @@ impl Thresholds {
         false
     }
 
+    /// A register's stops; None if nothing is compared with it. Those for all else have all that is compared.
     fn stops_of(&self, register: usize) -> Result<Option<Stops>, AllocError> {
         let mut stops = Stops::new(self.alloc);
         let mut has_any = false;
@@ -166,6 +169,7 @@ impl Thresholds {
         Ok(())
     }
 
+    /// The stops of a register, else those for all else.
     fn stops_at(&self, register: usize) -> Option<&Stops> {
         match self.stops.get(register) {
             Some(Some(stops)) => Some(stops),
@@ -179,28 +183,23 @@ impl Thresholds {
     /// Makes a state one that another lies in too, with bounds that move moved on.
     pub fn widen(&mut self, old: &mut State, new: &State, reach: Reach) -> Result<(), AllocError> {
         match reach {
-            Reach::Nowhere => crate::join::join(old, new, None),
+            Reach::Nowhere => join(old, new, None),
             Reach::Stop => {
                 self.settle()?;
                 self.join_each(old, new);
             }
-            Reach::Extreme => crate::join::join(old, new, Some(&Stops::new(self.alloc))),
+            Reach::Extreme => join(old, new, Some(&Stops::new(self.alloc))),
         }
         Ok(())
     }
 
+    /// Makes a state one that another lies in too, each register with its stops.
     fn join_each(&self, old: &mut State, new: &State) {
         for i in 0..REGISTERS {
             let r = Reg::numbered(i as u8);
             let stops = self.stops_at(i);
             old.set_reg(r, join_register(old.reg(r), new.reg(r), stops));
         }
-        let stops = self.stops_at(REGISTERS);
-        for k in 1..65u8 {
-            let held = old.slot(k);
-            if !matches!(held, SlotState::Bytes(0)) {
-                old.set_slot(k, join_slot(held, new.slot(k), stops));
-            }
-        }
+        join_slots(old, new, self.stops_at(REGISTERS));
     }
 }

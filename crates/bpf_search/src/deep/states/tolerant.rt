@@ -2,10 +2,11 @@
 
 ghost use Rattle.bpf_state.specs.State.{IsRegister};
 
-use bpf_insn::{AluOp, AtomicOp, Insn, Operand, Reg, Size, Width};
+use bpf_insn::{AluOp, AtomicOp, Insn, Reg, Size, Width};
 use bpf_num::{KnownBits, Num, Signed, Unsigned, WordDomain};
 use bpf_state::{FARTHEST, FRAME_START, Pointer, RegState, SlotState, State};
 
+/// Any number that a load of a size may give.
 fn any_number(size: Size) -> Num {
     let unsigned = match size {
         Size::B => Unsigned::new(0, u8::MAX as u64),
@@ -17,6 +18,7 @@ fn any_number(size: Size) -> Num {
     number.tighten().unwrap_or(number)
 }
 
+/// Any number that a sign-extending load of a size may give.
 fn any_signed(size: Size) -> Num {
     let signed = match size {
         Size::B => Signed::new(i8::MIN as i64, i8::MAX as i64),
@@ -47,6 +49,7 @@ fn moved(pointer: RegState, least: i64, greatest: i64) -> RegState
     }
 }
 
+/// A pointer with a number added.
 fn plus(pointer: RegState, by: Num) -> RegState
     requires { IsRegister pointer }
     ensures { IsRegister result }
@@ -54,6 +57,7 @@ fn plus(pointer: RegState, by: Num) -> RegState
     moved(pointer, by.signed().lo(), by.signed().hi())
 }
 
+/// A pointer with a number taken off.
 fn minus(pointer: RegState, by: Num) -> RegState
     requires { IsRegister pointer }
     ensures { IsRegister result }
@@ -61,15 +65,6 @@ fn minus(pointer: RegState, by: Num) -> RegState
     let least = 0i64.saturating_sub(by.signed().hi());
     let greatest = 0i64.saturating_sub(by.signed().lo());
     moved(pointer, least, greatest)
-}
-
-fn operand(state: &State, src: Operand) -> RegState
-    ensures { IsRegister result }
-{
-    match src {
-        Operand::Imm(imm) => RegState::Num(Num::constant((imm as i64).cast_unsigned())),
-        Operand::Reg(r) => state.reg(r),
-    }
 }
 
 /// Any number, or a pointer where one was moved too far.
@@ -92,6 +87,7 @@ fn result_of(op: AluOp, width: Width, a: RegState, b: RegState) -> RegState
     }
 }
 
+/// Sets a register, but for r10.
 fn set(state: &mut State, r: Reg, value: RegState)
     requires { IsRegister value }
 {
@@ -134,6 +130,7 @@ fn spoil(state: &mut State, base: Reg, off: i16, size: Size) {
     }
 }
 
+/// Forgets what a slot holds; a number is any number then.
 fn spoil_slot(state: &mut State, k: u8) {
     if 1 <= k && k <= 64 {
         match state.slot(k) {
@@ -144,17 +141,9 @@ fn spoil_slot(state: &mut State, k: u8) {
     }
 }
 
-/// The register that an atomic operation writes.
-pub fn fetched(op: AtomicOp, src: Reg) -> Option<Reg> {
-    match op {
-        AtomicOp::Modify { by: _, fetch } => if fetch { Some(src) } else { None },
-        AtomicOp::Xchg => Some(src),
-        AtomicOp::CmpXchg => Some(Reg::R0),
-    }
-}
-
+/// Sets the register that an atomic operation fetches into.
 fn set_fetched(state: &mut State, op: AtomicOp, src: Reg, size: Size) {
-    if let Some(r) = fetched(op, src) {
+    if let Some(r) = op.fetch_register(src) {
         set(state, r, RegState::Num(any_number(size)));
     }
 }
@@ -168,7 +157,7 @@ pub fn go_on(insn: &Insn, state: &mut State) {
             dst,
             src,
         } => {
-            let value = result_of(op, width, state.reg(dst), operand(state, src));
+            let value = result_of(op, width, state.reg(dst), state.operand(src));
             set(state, dst, value);
         }
         Insn::Neg { dst, .. } => set(state, dst, RegState::Num(Num::top())),
