@@ -66,7 +66,7 @@ fn point(state: &mut State, base: Reg, off: i16) -> bool {
         RegState::Ptr(p) => p.area.is_frame() && p.lo == at && p.hi == at,
         RegState::Any | RegState::Num(_) => false,
     };
-    if base != Reg::R10 {
+    if !base.is_frame_pointer() {
         let pointer = Pointer {
             area: Area::Frame,
             lo: at,
@@ -139,10 +139,10 @@ fn make_number(state: &mut State, r: Reg) -> bool {
     match state.reg(r) {
         RegState::Any | RegState::Num(_) => false,
         RegState::Ptr(_) => {
-            if r != Reg::R10 {
+            if !r.is_frame_pointer() {
                 state.set_reg(r, RegState::Num(Num::top()));
             }
-            r != Reg::R10
+            !r.is_frame_pointer()
         }
     }
 }

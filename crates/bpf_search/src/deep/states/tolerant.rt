@@ -91,7 +91,7 @@ fn result_of(op: AluOp, width: Width, a: RegState, b: RegState) -> RegState
 fn set(state: &mut State, r: Reg, value: RegState)
     requires { IsRegister value }
 {
-    if r != Reg::R10 {
+    if !r.is_frame_pointer() {
         state.set_reg(r, value);
     }
 }
