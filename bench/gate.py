@@ -4,8 +4,8 @@ Usage: bench/gate.py [PROCESSORS], 0,1 if not said; the others should be idle. I
 temporary folder, so that files may be edited meanwhile. What the gate says is in its file gate.log.
 
 The table has seconds of processor time, by crate: its proof with the builds of its programs, its tests' proof, the second
-whole proof that its must-fail edits begin with, and the edits, with their number. A process is looked at four times a second,
-so that the last quarter of a second of each is missed."""
+whole proof that its must-fail edits begin with ("seed"), and the checks behind it, with their number. A process is looked at
+four times a second, so that the last quarter of a second of each is missed."""
 
 import collections
 import os
@@ -24,8 +24,7 @@ def kind_of(words, folder):
     if words[1] not in ("check", "build"):
         return None
     if "rt-edit-" in folder:
-        over = words[words.index("--incremental") + 1] if "--incremental" in words else ""
-        return "seed" if over.endswith("/seed") else "edits"
+        return "edits"
     return "tests" if "--test" in words else "proof"
 
 
@@ -45,8 +44,11 @@ def looked_at(number):
 
 def told(seen, minutes):
     """The table, the crate that takes longest first."""
-    spent, runs = collections.Counter(), collections.Counter()
-    for (_, crate, kind, _), seconds in seen.items():
+    spent, runs, begun = collections.Counter(), collections.Counter(), {}
+    # The first check of a crate's edits is a proof of the whole crate: what comes behind is over its work.
+    for (_, crate, kind, start), seconds in sorted(seen.items(), key=lambda run: int(run[0][3])):
+        if kind == "edits" and begun.setdefault(crate, start) == start:
+            kind = "seed"
         spent[crate, kind] += seconds
         runs[crate, kind] += 1
     whole = lambda crate: sum(spent[crate, kind] for kind in KINDS)
