@@ -125,7 +125,7 @@ impl<'a> Analysis<'a> {
         get_or(&self.firsts, function, 0)
     }
 
-    /// What walks over a function are given.
+    /// What a walk over a function is given.
     fn task<'b>(&'b self, region: &'b Region) -> Task<'b> {
         Task {
             program: self.program,

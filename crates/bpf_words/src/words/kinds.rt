@@ -120,7 +120,7 @@ fn number_wanted(insn: &Insn, state: &State) -> Option<Reg> {
     }
 }
 
-/// Why an access takes no operands as these.
+/// Why an access may not be made with its operands.
 fn tell_access<W: Tell>(out: &mut W, state: &State, insn: &Insn, access: Access) {
     if !is_pointer(state, access.base) {
         let (name, off) = (register(access.base), Offset(access.off));

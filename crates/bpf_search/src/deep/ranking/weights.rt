@@ -79,7 +79,7 @@ impl Split {
         Ok(())
     }
 
-    /// The arcs of a group with their lengths.
+    /// The arcs of a group and their lengths, apart by whether something falls on them.
     fn of(alloc: Global, group: &Group, lengths: &[i128]) -> Result<Split, AllocError> {
         let changes = changes_of(alloc, group)?;
         let graph = &group.region.graph;

@@ -114,7 +114,7 @@ impl Thresholds {
         Ok(())
     }
 
-    /// Takes note of a bound, once, and of few of a register.
+    /// Takes note of a bound, each once, and of at most 64 of a register.
     fn learn_number(&mut self, register: usize, number: i64) -> Result<(), AllocError> {
         let count = get_or(&self.learned, register, 0);
         if count >= MOST_LEARNED || self.has(register, number) {
