@@ -65,7 +65,7 @@ struct bpf_outcome {
     uint32_t number; /* of the fault or refusal, else 0 */
     uint64_t slot;   /* of the fault or refusal, else 0 */
     uint64_t value;  /* what r0 holds, else 0 */
-    uint64_t steps;  /* the instructions done */
+    uint64_t steps;  /* the instructions done, of BPF_DONE and BPF_FAULTED; else 0 */
 };
 
 /* ---- the library's functions; call those below them */
@@ -101,7 +101,7 @@ static inline int bpf_overlap(const void *out, size_t out_len, const void *in, s
     return out_len && in_len && (o < i ? i - o < out_len : o - i < in_len);
 }
 
-/* Whether memory is that of so many words: there, in line, and no larger than an object. */
+/* Whether memory is that of so many words: there, aligned, and no larger than an object. */
 static inline int bpf_are_words(const uint64_t *words, size_t words_len) {
     return words && (uintptr_t)words % sizeof(uint64_t) == 0 && words_len <= (size_t)PTRDIFF_MAX / sizeof(uint64_t);
 }
@@ -122,7 +122,7 @@ static inline int32_t bpf_verify(const void *image, size_t image_len, uint32_t o
     return answer;
 }
 
-/* How many words of memory the prepared program of an image of so many bytes takes; 0 where no image is as long. */
+/* How many words of memory the prepared program of an image of so many bytes takes; 0 where no image has that length. */
 static inline size_t bpf_prepared_size(size_t image_len) {
     return bpf_host_prepared_size(image_len);
 }

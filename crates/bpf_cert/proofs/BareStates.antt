@@ -13,7 +13,7 @@ use Rattle.bpf_state.specs.Bare.{bare}
 use Rattle.bpf_cert.specs.Numeral.{int_eq}
 use Rattle.bpf_cert.specs.Limits.{is_frame_end, is_canonical_state}
 use Rattle.bpf_cert.proofs.Bools.{both_true}
-use Rattle.bpf_cert.proofs.LineValues.{pointer_to}
+use Rattle.bpf_cert.proofs.lines.LineValues.{pointer_to}
 
 none_each : {A : Type 0} (n : ℕ) (ts : List (Option A)) → length ts ≡ n → list_all is_none ts ≡ true → replicate n None ≡ ts
 none_each zero [] long e = refl

@@ -31,7 +31,7 @@ use Rattle.bpf_state.specs.declared.known.SlotState.{SlotState}
 use Rattle.bpf_state.specs.declared.known.SlotState.TheVariants as slot
 use Rattle.bpf_cert.proofs.Bools.{both_true}
 use Rattle.bpf_cert.proofs.NumeralLaws.{numeral-decimal}
-use Rattle.bpf_cert.proofs.LineLaws.{line_spelled}
+use Rattle.bpf_cert.proofs.lines.LineLaws.{line_spelled}
 use Rattle.bpf_cert.proofs.StandingLemmas.{stand_header, stand_function, stand_label, stand_entry, stand_end}
 use Rattle.bpf_cert.proofs.AfterLemmas.{ruled_fine}
 

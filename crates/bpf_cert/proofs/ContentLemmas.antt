@@ -16,7 +16,7 @@ use Rattle.bpf_cert.proofs.NumeralLaws.{plain_decimal}
 use Rattle.bpf_cert.proofs.Bools.{both_true}
 use Rattle.bpf_cert.proofs.NumLemmas.{not_true, tested_ok, AreBounds, capped_range, in_range, signed_again}
 use Rattle.bpf_cert.proofs.FindingLemmas.{found_tested, found_valued}
-use Rattle.bpf_cert.proofs.LineForms.{pointer_is, bytes_is, content_is}
+use Rattle.bpf_cert.proofs.lines.LineForms.{pointer_is, bytes_is, content_is}
 use Rattle.bpf_state.specs.declared.known.Area.{Area}
 use Rattle.bpf_state.specs.declared.known.Area.TheVariants as area
 use Rattle.bpf_cert.specs.declared.finding.PartFault.{PartFault}

@@ -12,7 +12,7 @@ use Rattle.bpf_cert.specs.declared.header.Header.{Header}
 use Rattle.bpf_cert.proofs.Bools.{both_true}
 use Rattle.bpf_cert.proofs.NumLemmas.{tested_ok}
 use Rattle.bpf_cert.proofs.NumeralLaws.{plain_decimal}
-use Rattle.bpf_cert.proofs.FineParts.{decimal_writes}
+use Rattle.bpf_cert.proofs.fine.FineParts.{decimal_writes}
 use Rattle.bpf_cert.proofs.AfterLemmas.{IsFine}
 use Rattle.bpf_cert.proofs.StandingLemmas.{capped_most, capped_between, spelled_again}
 

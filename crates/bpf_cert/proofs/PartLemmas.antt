@@ -13,7 +13,7 @@ use Rattle.bpf_cert.specs.declared.num.Parts.{Parts}
 use Rattle.bpf_cert.specs.declared.finding.PartFault.{PartFault}
 use Rattle.bpf_cert.proofs.FindingLemmas.{found_tested, joined_tested, joined_ok, tested_true, list_all_both, list_all_end}
 use Rattle.bpf_num.specs.Number.{number, top, Number as Num}
-use Rattle.bpf_cert.proofs.LineForms.{part_is}
+use Rattle.bpf_cert.proofs.lines.LineForms.{part_is}
 use Rattle.std.specs.Prelude.{codes}
 use Rattle.std.specs.Str.{bytes_eq}
 use Rattle.bpf_cert.specs.Reading.{◌>>=◌, part_in, number_in}

@@ -8,10 +8,10 @@ use Rattle.bpf_cert.specs.Certificates.{Spells, SpelledIsFaultless, SpelledOnce}
 use Rattle.bpf_cert.specs.ReadAnswers.{IsFromOutside}
 use Rattle.bpf_cert.specs.declared.error.CertError.{CertError}
 use Rattle.bpf_cert.specs.declared.error.CertError.TheVariants.{Syntax, NotCanonical, Limit, Memory, Read}
-use Rattle.bpf_cert.proofs.CertificateFine.{certificate_fine}
-use Rattle.bpf_cert.proofs.WrittenLines.{certificate_written}
-use Rattle.bpf_cert.proofs.Faultless.{fine_faultless, lines_of_text}
-use Rattle.bpf_cert.proofs.LinesOnce.{lines_once}
+use Rattle.bpf_cert.proofs.fine.CertificateFine.{certificate_fine}
+use Rattle.bpf_cert.proofs.lines.WrittenLines.{certificate_written}
+use Rattle.bpf_cert.proofs.lines.Faultless.{fine_faultless, lines_of_text}
+use Rattle.bpf_cert.proofs.lines.LinesOnce.{lines_once}
 use Rattle.bpf_cert.proofs.ReadingLemmas.{Gives}
 
 pub faultless : SpelledIsFaultless

@@ -14,7 +14,7 @@ use Rattle.bpf_cert.specs.declared.finding.PartFault.TheVariants.{Syntax}
 use Rattle.bpf_cert.proofs.Bools.{both_true}
 use Rattle.bpf_cert.proofs.NumeralLaws.{numeral-decimal}
 use Rattle.bpf_cert.proofs.FindingLemmas.{found_tested, joined_valued}
-use Rattle.bpf_cert.proofs.LineForms.{place_is}
+use Rattle.bpf_cert.proofs.lines.LineForms.{place_is}
 use Rattle.bpf_cert.proofs.NumberLemmas.{plain_value}
 
 pub three_is : (fs : List (List ℕ)) (a b c : List ℕ) → three_of fs ≡ Some (a, b, c) → fs ≡ a ∷ b ∷ c ∷ []

@@ -26,7 +26,7 @@ use Rattle.bpf_state.specs.declared.known.Place.{Place as PlaceValue}
 use Rattle.bpf_cert.proofs.FindingLemmas.{found_tested, joined_tested, joined_ok, tested_true, list_all_end}
 use Rattle.bpf_cert.proofs.Bools.{both_true}
 use Rattle.bpf_cert.proofs.NumberLemmas.{plain_value}
-use Rattle.bpf_cert.proofs.LineForms.{term_is}
+use Rattle.bpf_cert.proofs.lines.LineForms.{term_is}
 
 pub term_form : (text : List ℕ) (t : Term) → term_in text ≡ Some t → is_term t ≡ true
 term_form text t e = (term_is text).holds t e

@@ -17,7 +17,7 @@ use Rattle.bpf_state.specs.State.{AbstractState, start_of}
 use Rattle.bpf_cert.specs.declared.certificate.Term.{Term}
 use Rattle.bpf_state.specs.declared.known.Place.TheVariants as place
 use Rattle.bpf_cert.specs.declared.certificate.Measure.TheVariants as measure
-use Rattle.bpf_cert.proofs.LineValues.{pointer_to}
+use Rattle.bpf_cert.proofs.lines.LineValues.{pointer_to}
 
 abbrev lines : List (List ℕ) → List ℕ
 lines [] = []

@@ -1,12 +1,25 @@
-pub mod Numeral
-pub mod Line
-pub mod Reading
-pub mod Faults
+-- Definitions, in the order in which they read best.
+-- a certificate without where it lies in memory
 pub mod View
-pub mod Spelling
+-- the order of its parts, and the limits
 pub mod Limits
+-- numbers as a text writes them
+pub mod Numeral
+-- the forms of lines
+pub mod Line
+-- the one text of a certificate
+pub mod Spelling
+-- which text is which certificate's
 pub mod Certificates
+-- which line a text is
+pub mod Reading
+-- why a text is no certificate
+pub mod Faults
+-- the numbers of refusals, and the lines that they name
 pub mod RefusalNumbers
-pub mod code
-pub mod Written
+-- what is answered of a reader's bytes
 pub mod ReadAnswers
+-- what a write leaves with a writer
+pub mod Written
+-- what mirrors code
+pub mod code

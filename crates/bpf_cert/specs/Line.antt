@@ -1,6 +1,6 @@
 -- The forms of a certificate's lines, with every number as the digits that stand in the text, and how each is spelled.
 -- Here a number may have needless zeros and any size, and parts and terms may come in any order: what of this is
--- refused is said in Faults. A line of no form here has no form at all.
+-- refused is said in Faults. A line that has none of these forms is refused as syntax.
 use Rattle.std.specs.Prelude.{ℕ, Bool, true, false, ◌&&◌, List, [], ◌∷◌, ◌++◌, map, codes, if◌then◌else◌}
 use Rattle.std.specs.List.{list_all, join_with_byte}
 use Rattle.bpf_cert.specs.Numeral.{is_numeral, SignedDigits}

@@ -31,6 +31,6 @@ pub use limits::{
     LAST_SLOT, MAX_BASE, MAX_DEPTH, MAX_FUNCTIONS, MAX_TERMS, MAX_WEIGHT, is_limited_term,
 };
 pub use migration::migrate;
-pub use reading::read;
+pub use reading::{read, read_lines};
 pub use spelling::{LineText, entry_text};
 pub use writing::{value_slot, write};

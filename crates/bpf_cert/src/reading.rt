@@ -34,8 +34,9 @@ fn behind_end(
     }
 }
 
-// Takes lines until it can answer. A fault of the reader isn't tried again.
-fn read_lines<R: Read + Drop>(
+/// The certificate that the bytes of a line reader spell, which stays with the caller: refused as by `read`. A fault of the reader
+/// isn't tried again; K5 names the line in which the bytes end that it had given, 1 plus the number of their LF.
+pub fn read_lines<R: Read + Drop>(
     alloc: Global,
     source: &mut LineReader<R>,
 ) -> Result<Certificate, CertError>

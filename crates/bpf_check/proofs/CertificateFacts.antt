@@ -31,6 +31,12 @@ range_is_one c valid =
     let ordered : nat_le c.least c.most ≡ true = (and_parts _ _ (and_parts _ _ (and_parts _ _ header).0).0).1 in
     grind (arith, nat_tests)
 
+pub most_fits : (c : CertificateView) → IsCertificate c → c.most ≤ 4096
+most_fits c valid =
+    let header : is_limited_header (header_of c) ≡ true = (and_parts _ _ (and_parts _ _ (and_parts _ _ (and_parts _ _ valid).1).0).0).0 in
+    let fits : nat_le c.most 4096 ≡ true = (and_parts _ _ (and_parts _ _ header).0).1 in
+    grind (arith, nat_tests)
+
 pub labels_limited : (f : FunctionView) → is_limited_function f ≡ true → list_all is_limited_label f.labels ≡ true
 labels_limited f limited = (and_parts _ _ limited).1
 

@@ -14,6 +14,7 @@ use Rattle.bpf_check.specs.CheckedProgram.{IsCertifiedBy}
 use Rattle.bpf_flat.specs.Runs.{RunsTo, Ends}
 use Rattle.bpf_check.specs.Verdicts.{Verified, Promises, HasFlaw, Certifies, program_in}
 use Rattle.bpf_check.specs.RefusalNumbers.{refusal_slot, refusal_number}
+use Rattle.bpf_check.proofs.CertificateFacts.{range_is_one, most_fits}
 use Rattle.bpf_check.specs.declared.refusal.Refusal.{Refusal}
 
 -- ---- runs
@@ -44,6 +45,8 @@ verified one safe flat order bytes p c im e by =
       program = p.list;
       is_image = record { program = by.program; bytes_are = im.bytes_are };
       only = λ other theirs. one order other p.list theirs.program.encoding by.program.encoding (sym theirs.bytes_are ∙ im.bytes_are);
+      range = range_is_one c by.certificate;
+      short = most_fits c by.certificate;
       safe = subst (λ q. IsSafe q c.least c.most c.steps) same (safe p c by.program by.certificate by.certified);
       flat = subst (λ q. IsFlatSafe q c.least c.most) same (flat p c by.program by.certificate by.certified);
     }

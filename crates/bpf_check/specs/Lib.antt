@@ -1,5 +1,11 @@
-pub mod code
-pub mod RefusalNumbers
+-- Definitions, in the order in which they read best.
+-- a checked program as its contracts see it
 pub mod CheckedProgram
+-- what is answered of an image and a certificate's text
 pub mod Verdicts
+-- the numbers of refusals, and the slots that they name
+pub mod RefusalNumbers
+-- where a certificate's labels lie
 pub mod LabelIndex
+-- what mirrors code
+pub mod code

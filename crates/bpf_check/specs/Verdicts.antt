@@ -1,5 +1,5 @@
 -- What is answered of an image and a certificate's text.
-use Rattle.std.specs.Prelude.{◌≡◌, ℕ, List}
+use Rattle.std.specs.Prelude.{◌≡◌, ◌≤◌, ℕ, List}
 use Rattle.bpf_insn.specs.Instruction.{Instructions}
 use Rattle.bpf_insn.specs.Laws.{IsImageOfProgram}
 use Rattle.bpf_insn.specs.Refusal.{IsRefused}
@@ -18,12 +18,14 @@ use Rattle.bpf_check.specs.declared.verifier.VerifyError.TheVariants.{Image as I
 abbrev pub program_in : Order → List Insn → Instructions
 program_in order is = record { order = order; list = is }
 
--- The promise of a yes: the image is in its order that of exactly one program, and on every context of a length in the range the
--- machine is never stuck, and ends within the bound with a number; so do all runs of the flat machine.
+-- The promise of a yes: the image is in its order that of exactly one program, the range isn't empty, and on every context of a length
+-- in it the machine is never stuck, and ends within the bound with a number; so do all runs of the flat machine.
 pub record Verified (order : Order) (bytes : List ℕ) (least most bound : ℕ) : Type 0 where
   pub program : List Insn
   pub is_image : IsImageOfProgram order bytes program
   pub only : (other : List Insn) → IsImageOfProgram order bytes other → other ≡ program
+  pub range : least ≤ most
+  pub short : most ≤ 4096
   pub safe : IsSafe (program_in order program) least most bound
   pub flat : IsFlatSafe (program_in order program) least most
 

@@ -8,6 +8,7 @@ use Rattle.bpf_cert.specs.View.{CertificateView}
 use Rattle.bpf_safety.specs.Theorems.{IsSafe, IsFlatSafe, CertifiedIsSafe, CertifiedIsFlatSafe}
 use Rattle.bpf_check.specs.CheckedProgram.{CheckedProgram, IsCertifiedBy, checked}
 use Rattle.bpf_check.specs.Verdicts.{Verified, program_in}
+use Rattle.bpf_check.proofs.CertificateFacts.{range_is_one, most_fits}
 use Rattle.bpf_command.specs.Opened.{Opening}
 use Rattle.bpf_command.specs.Loaded.{LoadsImage}
 use Rattle.bpf_command.specs.Answer.{Answer, Says}
@@ -24,6 +25,8 @@ verified one safe flat order bytes p c image is by =
       program = p.list;
       is_image = image;
       only = λ other theirs. one order other p.list theirs.program.encoding by.program.encoding (sym theirs.bytes_are ∙ image.bytes_are);
+      range = range_is_one c by.certificate;
+      short = most_fits c by.certificate;
       safe = subst (λ q. IsSafe q c.least c.most c.steps) same (safe p c by.program by.certificate by.certified);
       flat = subst (λ q. IsFlatSafe q c.least c.most) same (flat p c by.program by.certificate by.certified);
     }

@@ -155,3 +155,7 @@ text_of Written = []
 pub record Says (answer : Answer) (status : ℕ) (old new : Option (List ℕ)) : Type 0 where
   pub status_is : status ≡ status_of answer
   pub printed : Appends old new (text_of answer)
+
+-- an answer of which this holds was printed, with its status
+abbrev pub Answered : (Answer → Type 0) → Option (List ℕ) → Option (List ℕ) → ℕ → Type 0
+Answered says old new status = (answer : Answer) × Says answer status old new × says answer

@@ -7,7 +7,7 @@ use Rattle.bpf_check.specs.CheckedProgram.{IsCertifiedBy, checked}
 use Rattle.bpf_command.specs.Context.{context_in, max_context}
 use Rattle.bpf_command.specs.Opened.{Opening, Unreadable}
 use Rattle.bpf_command.specs.Loaded.{LoadsImage, ImageFails, TextAt, CertificateAt, CertificateFails}
-use Rattle.bpf_command.specs.Answer.{Answer, Says}
+use Rattle.bpf_command.specs.Answer.{Answer, Answered, Says}
 use Rattle.bpf_command.specs.Each.{AnswersAt, FailsAt}
 use Rattle.bpf_command.specs.Printed.{FailsWith, ImageSays, JudgedSays, LoadedFails, OutcomeSays, ResultSays, RunCheckedSays}
 use Rattle.bpf_command.specs.Told.{OutputFails}
@@ -45,7 +45,7 @@ RunAtSays {S} opening order old input name fuel new before after status =
 -- the image is refused, or its program answers each context
 abbrev pub RunEachSays : {S : Type 0} → Opening S → Order → S → List ℕ → List ℕ → ℕ → S → Option (List ℕ) → Option (List ℕ) → ℕ → Type 0
 RunEachSays {S} opening order old input contexts fuel new before after status =
-    ((answer : Answer) × Says answer status before after × ImageSays opening order old input new (λ p x. ⊥) answer)
+    Answered (ImageSays opening order old input new (λ p x. ⊥)) before after status
     ⊎ ((between : S) × (p : Instructions) × LoadsImage opening order old input between p × AnswersAt opening between contexts new (λ context. OutcomeSays context fuel p) before after status)
 
 abbrev pub RunEachFails : {S : Type 0} → Opening S → Order → S → List ℕ → List ℕ → ℕ → S → Option (List ℕ) → Option (List ℕ) → Failure → Type 0
@@ -64,7 +64,7 @@ CheckedAtSays {S} opening order old input certificate name new before after stat
 -- the certificate is refused, or the checked program answers each context
 abbrev pub JudgedEachSays : {S : Type 0} → Opening S → S → List ℕ → List ℕ → S → Instructions → Option (List ℕ) → Option (List ℕ) → ℕ → Type 0
 JudgedEachSays {S} opening old certificate contexts new p before after status =
-    ((answer : Answer) × Says answer status before after × JudgedSays opening old certificate new p (λ k x. ⊥) answer)
+    Answered (JudgedSays opening old certificate new p (λ k x. ⊥)) before after status
     ⊎ ((between : S) × (c : CertificateView) × CertificateAt opening old certificate between c × IsCertifiedBy p c
     × AnswersAt opening between contexts new (λ context. ResultSays context (checked p c)) before after status)
 
@@ -77,7 +77,7 @@ JudgedEachFails {S} opening old certificate contexts new p before after failure 
 -- the image is refused, or what is said of its program and the certificate
 abbrev pub CheckedEachSays : {S : Type 0} → Opening S → Order → S → List ℕ → List ℕ → List ℕ → S → Option (List ℕ) → Option (List ℕ) → ℕ → Type 0
 CheckedEachSays {S} opening order old input certificate contexts new before after status =
-    ((answer : Answer) × Says answer status before after × ImageSays opening order old input new (λ p x. ⊥) answer)
+    Answered (ImageSays opening order old input new (λ p x. ⊥)) before after status
     ⊎ ((between : S) × (p : Instructions) × LoadsImage opening order old input between p × JudgedEachSays opening between certificate contexts new p before after status)
 
 abbrev pub CheckedEachFails : {S : Type 0} → Opening S → Order → S → List ℕ → List ℕ → List ℕ → S → Option (List ℕ) → Option (List ℕ) → Failure → Type 0

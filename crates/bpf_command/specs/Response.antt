@@ -1,13 +1,13 @@
 -- What the command answers to its words, whatever they ask for.
-use Rattle.std.specs.Prelude.{◌≡◌, ◌⊎◌, ◌&&◌, List, ℕ, Option, Some, None, false, nat_lt, codes, if◌then◌else◌}
+use Rattle.std.specs.Prelude.{◌≡◌, ◌≢◌, ◌⊎◌, ◌&&◌, List, [], ℕ, Option, Some, None, nat_lt, codes, if◌then◌else◌}
 use Rattle.std.specs.Option.{option_or}
 use Rattle.std.specs.Io.KnownBytes.{Keeps}
-use Rattle.clap.specs.Words.{Text, subcommand_of, takes}
-use Rattle.bpf_request.specs.CommandLine.{IsAsked, bpf, name_of}
+use Rattle.clap.specs.Words.{Text, subcommand_of}
+use Rattle.bpf_request.specs.CommandLine.{IsAsked, bpf, faults_in, name_of}
 use Rattle.bpf_command.specs.Opened.{Opening}
 use Rattle.bpf_command.specs.Made.{Making}
 use Rattle.bpf_command.specs.Loaded.{ImageFails}
-use Rattle.bpf_command.specs.Answer.{Answer, Says}
+use Rattle.bpf_command.specs.Answer.{Answered}
 use Rattle.bpf_command.specs.Printed.{LoadedFails, ImageSays, GroupsSay, ListSays, notes_of, AsmSays, AsmFails, InferSays, InferFails, MigrateSays, MigrateFails, CheckSays}
 use Rattle.bpf_command.specs.Given.{CheckedFails, CheckedSays, RunFails, RunSays}
 use Rattle.bpf_command.specs.Explained.{ExplainSays, ExplainFails}
@@ -57,45 +57,39 @@ conflict_of (Explain input subject order) = conflict_with input.now subject
 
 -- The answer to a request, which was printed with its status; what stood at the names that were read, and what was put at OUT.
 abbrev pub Does : {S : Type 0} → Opening S → Making S → S → S → Option (List ℕ) → Option (List ℕ) → Request → ℕ → Type 0
-Does o m old new before after (Groups input order) = λ status. (answer : Answer) × Says answer status before after × ImageSays o order old input.now new GroupsSay answer
-Does o m old new before after (Asm input output order) = λ status. (answer : Answer) × Says answer status before after × AsmSays o m order old input.now output.now new answer
-Does o m old new before after (ListOf input slots bytes order) = λ status.
-    (answer : Answer) × Says answer status before after × ImageSays o order old input.now new (ListSays (notes_of slots bytes)) answer
+Does o m old new before after (Groups input order) = Answered (ImageSays o order old input.now new GroupsSay) before after
+Does o m old new before after (Asm input output order) = Answered (AsmSays o m order old input.now output.now new) before after
+Does o m old new before after (ListOf input slots bytes order) = Answered (ImageSays o order old input.now new (ListSays (notes_of slots bytes))) before after
 Does o m old new before after (Run input contexts steps order) = λ status. RunSays o order old input.now contexts steps new before after status
-Does o m old new before after (Check input certificate work order) = λ status.
-    (answer : Answer) × Says answer status before after × CheckSays o order old input.now certificate.now new work answer
+Does o m old new before after (Check input certificate work order) = Answered (CheckSays o order old input.now certificate.now new work) before after
 Does o m old new before after (RunChecked input certificate contexts order) = λ status. CheckedSays o order old input.now certificate.now contexts new before after status
-Does o m old new before after (Infer input least most deep output order) = λ status.
-    (answer : Answer) × Says answer status before after × InferSays o m order old input.now least most output.now new answer
+Does o m old new before after (Infer input least most deep output order) = Answered (InferSays o m order old input.now least most output.now new) before after
 Does o m old new before after (Explain input subject order) = ExplainSays o order old input.now subject new
-Does o m old new before after (Migrate certificate output) = λ status.
-    (answer : Answer) × Says answer status before after × MigrateSays o m old certificate.now output.now new answer
+Does o m old new before after (Migrate certificate output) = Answered (MigrateSays o m old certificate.now output.now new) before after
 
--- What failed of a request without a conflict.
-abbrev pub Misses : {S : Type 0} → Opening S → Making S → S → S → Request → Failure → Type 0
-Misses o m old new (Groups input order) = ImageFails o old input.now new
-Misses o m old new (Asm input output order) = AsmFails o m order old input.now output.now new
-Misses o m old new (ListOf input slots bytes order) = ImageFails o old input.now new
-Misses o m old new (Run input contexts steps order) = λ failure.
-    (before : Option (List ℕ)) × (after : Option (List ℕ)) × RunFails o order old input.now contexts steps new before after failure
-Misses o m old new (Check input certificate work order) = LoadedFails o order old input.now certificate.now new
-Misses o m old new (RunChecked input certificate contexts order) = λ failure.
-    (before : Option (List ℕ)) × (after : Option (List ℕ)) × CheckedFails o order old input.now certificate.now contexts new before after failure
-Misses o m old new (Infer input least most deep output order) = InferFails o m order old input.now least most output.now new
-Misses o m old new (Explain input subject order) = ExplainFails o order old input.now subject new
-Misses o m old new (Migrate certificate output) = MigrateFails o m old certificate.now output.now new
+-- What failed of a request without a conflict; what was answered before stands on standard output.
+abbrev pub Misses : {S : Type 0} → Opening S → Making S → S → S → Option (List ℕ) → Option (List ℕ) → Request → Failure → Type 0
+Misses o m old new before after (Groups input order) = ImageFails o old input.now new
+Misses o m old new before after (Asm input output order) = AsmFails o m order old input.now output.now new
+Misses o m old new before after (ListOf input slots bytes order) = ImageFails o old input.now new
+Misses o m old new before after (Run input contexts steps order) = RunFails o order old input.now contexts steps new before after
+Misses o m old new before after (Check input certificate work order) = LoadedFails o order old input.now certificate.now new
+Misses o m old new before after (RunChecked input certificate contexts order) = CheckedFails o order old input.now certificate.now contexts new before after
+Misses o m old new before after (Infer input least most deep output order) = InferFails o m order old input.now least most output.now new
+Misses o m old new before after (Explain input subject order) = ExplainFails o order old input.now subject new
+Misses o m old new before after (Migrate certificate output) = MigrateFails o m old certificate.now output.now new
 
 -- A request is in conflict, before any name is opened; or something of it failed.
-abbrev pub Fails : {S : Type 0} → Opening S → Making S → S → S → Request → Failure → Type 0
-Fails o m old new request failure = ((conflict_of request ≡ Some failure) × (new ≡ old)) ⊎ ((conflict_of request ≡ None) × Misses o m old new request failure)
+abbrev pub Fails : {S : Type 0} → Opening S → Making S → S → S → Option (List ℕ) → Option (List ℕ) → Request → Failure → Type 0
+Fails o m old new before after request failure = ((conflict_of request ≡ Some failure) × (new ≡ old)) ⊎ ((conflict_of request ≡ None) × Misses o m old new before after request failure)
 
 -- ---- the answer and its status
 
--- What the words ask for is done, with its status; or it fails, or there is no memory for the words, which is told with its
--- status; or the words aren't understood, with status 2.
+-- Of words with nothing wrong in them, what they ask for is done, with its status, or it fails, which is told with its status; words
+-- with something wrong have status 2; or there is no memory for the words, which is told.
 abbrev pub Responds : (Request → ℕ → Type 0) → (Request → Failure → Type 0) → List Text → ℕ → Option (List ℕ) → Option (List ℕ) → Type 0
 Responds does fails words status old new =
-    ((request : Request) × IsAsked (subcommand_of bpf words) request × (conflict_of request ≡ None) × does request status × Keeps old new)
-    ⊎ ((request : Request) × (failure : Failure) × IsAsked (subcommand_of bpf words) request × fails request failure × IsTold failure status old new)
+    ((request : Request) × (faults_in words ≡ []) × IsAsked (subcommand_of bpf words) request × (conflict_of request ≡ None) × does request status × Keeps old new)
+    ⊎ ((request : Request) × (failure : Failure) × (faults_in words ≡ []) × IsAsked (subcommand_of bpf words) request × fails request failure × IsTold failure status old new)
     ⊎ IsTold NoMemory status old new
-    ⊎ ((takes bpf words ≡ false) × (status ≡ 2))
+    ⊎ ((faults_in words ≢ []) × (status ≡ 2))

@@ -95,7 +95,7 @@ fn carry_out<'a, P: Streams, W: Write, H: Watch>(
     watch: &mut H,
 ) -> Result<u8, Failure<'a>>
     ensures ok { IfOk result (Does (opening P.opens P.Reader.remaining) (making P.creates P.ends P.Writer.contents) streams.old streams.new (W.contents out.old) (W.contents out.new) request.entry) }
-    ensures err { IfErr result (Misses (opening P.opens P.Reader.remaining) (making P.creates P.ends P.Writer.contents) streams.old streams.new request.entry) }
+    ensures err { IfErr result (Misses (opening P.opens P.Reader.remaining) (making P.creates P.ends P.Writer.contents) streams.old streams.new (W.contents out.old) (W.contents out.new) request.entry) }
 {
     match request {
         Request::Groups { input, order } => grouped(alloc, streams, out, input, order),
@@ -159,7 +159,7 @@ fn perform<'a, P: Streams, W: Write, H: Watch>(
     watch: &mut H,
 ) -> Result<u8, Failure<'a>>
     ensures ok { IfOk result (λ status. (conflict_of request.entry ≡ None) × Does (opening P.opens P.Reader.remaining) (making P.creates P.ends P.Writer.contents) streams.old streams.new (W.contents out.old) (W.contents out.new) request.entry status) }
-    ensures err { IfErr result (Fails (opening P.opens P.Reader.remaining) (making P.creates P.ends P.Writer.contents) streams.old streams.new request.entry) }
+    ensures err { IfErr result (Fails (opening P.opens P.Reader.remaining) (making P.creates P.ends P.Writer.contents) streams.old streams.new (W.contents out.old) (W.contents out.new) request.entry) }
 {
     match conflict_in(request) {
         Some(conflict) => Err(conflict),
@@ -187,7 +187,7 @@ pub fn respond<P: Streams, W: Write, E: Write, H: Watch>(
     err: &mut E,
     watch: &mut H,
 ) -> u8
-    ensures { Responds (Does (opening P.opens P.Reader.remaining) (making P.creates P.ends P.Writer.contents) streams.old streams.new (W.contents out.old) (W.contents out.new)) (Fails (opening P.opens P.Reader.remaining) (making P.creates P.ends P.Writer.contents) streams.old streams.new) (map (λ s. string_bytes s) words.now) result (E.contents err.old) (E.contents err.new) }
+    ensures { Responds (Does (opening P.opens P.Reader.remaining) (making P.creates P.ends P.Writer.contents) streams.old streams.new (W.contents out.old) (W.contents out.new)) (Fails (opening P.opens P.Reader.remaining) (making P.creates P.ends P.Writer.contents) streams.old streams.new (W.contents out.old) (W.contents out.new)) (map (λ s. string_bytes s) words.now) result (E.contents err.old) (E.contents err.new) }
 {
     let request = match request_of(alloc, words) {
         Ok(request) => request,

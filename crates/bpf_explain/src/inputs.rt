@@ -10,7 +10,7 @@ ghost use Rattle.bpf_cert.specs.ReadAnswers.{IsFaultOf};
 
 use bpf_cert::{CertError, read};
 use bpf_insn::{DecodeError, Order, ProgramView};
-use bpf_words::{write_counts, write_fault, write_refusal, write_size};
+use bpf_refusals::{write_counts, write_fault, write_refusal, write_size};
 use std::alloc::Global;
 use std::io::{self, Write};
 

@@ -5,6 +5,8 @@
 mod inputs;
 mod program;
 
-pub use bpf_words::{dot_plain, explain_inferred, explain_searched, explain_slot, explain_text};
+pub use bpf_inferred::{explain_inferred, explain_searched};
+pub use bpf_refusals::explain_text;
+pub use bpf_words::dot_plain;
 pub use inputs::{explain_certificate, explain_image};
-pub use program::{dot, explain};
+pub use program::{dot, explain, explain_slot};

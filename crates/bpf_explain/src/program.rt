@@ -8,7 +8,7 @@ ghost use Rattle.bpf_check.specs.RefusalNumbers.{refusal_number, refusal_slot};
 use bpf_cert::Certificate;
 use bpf_check::{Refusal, check};
 use bpf_insn::Code;
-use bpf_words::{write_dot, write_explanation};
+use bpf_words::{write_dot, write_explanation, write_slot};
 use std::io::{self, Write};
 
 /// What the checker answers: None if the certificate certifies the program.
@@ -36,6 +36,23 @@ pub fn explain<C: Code, W: Write>(
 {
     let refusal = refusal_of(program, certificate);
     write_explanation(program, certificate, refusal, out)?;
+    Ok(refusal)
+}
+
+/// Writes one instruction of a program with the whole states before and behind it, and what is wrong there. The checker's answer
+/// on the program is given back: None if the certificate certifies it, else the least flaw, at whatever slot. A fault of the
+/// writer, or a write of no bytes, ends it. It takes no memory, and writes pieces of up to 4,096 bytes.
+pub fn explain_slot<C: Code, W: Write>(
+    program: &C,
+    certificate: &Certificate,
+    slot: u32,
+    out: &mut W,
+) -> io::Result<Option<Refusal>>
+    ensures accepted { IfOk result (λ o. IfNone o (IsCertifiedBy (C.program program.now) certificate.now)) }
+    ensures refused { IfOk result (λ o. IfSome o (λ r. IsLeastFlaw (C.program program.now) certificate.now (refusal_slot r) (refusal_number r))) }
+{
+    let refusal = refusal_of(program, certificate);
+    write_slot(program, certificate, slot, out)?;
     Ok(refusal)
 }
 

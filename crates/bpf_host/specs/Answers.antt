@@ -1,5 +1,5 @@
 -- What the calls promise.
-use Rattle.std.specs.Prelude.{◌≡◌, ◌≤◌, ◌<◌, ◌^◌, ◌⊎◌, ◌++◌, ℕ, List, length, drop}
+use Rattle.std.specs.Prelude.{◌≡◌, ◌≢◌, ◌≤◌, ◌<◌, ◌^◌, ◌⊎◌, ◌++◌, ℕ, List, length, drop}
 use Rattle.bpf_insn.specs.Instruction.{slots}
 use Rattle.bpf_insn.specs.Laws.{IsImageOfProgram}
 use Rattle.bpf_insn.specs.Refusal.{IsRefused}
@@ -12,7 +12,8 @@ use Rattle.bpf_cert.specs.View.{CertificateView}
 use Rattle.bpf_cert.specs.Certificates.{Spells}
 use Rattle.bpf_proposal.specs.RefusalNumbers.{IsRefusalIn}
 use Rattle.bpf_proposal.specs.declared.error.InferError.{InferError}
-use Rattle.bpf_check.specs.Verdicts.{Verified, IsRefusedBy, program_in}
+use Rattle.bpf_proposal.specs.declared.error.InferError.TheVariants.{Memory as OutOfMemory}
+use Rattle.bpf_check.specs.Verdicts.{Verified, IsRefusedBy, IsUnread, program_in}
 use Rattle.bpf_check.specs.declared.verifier.VerifyError.{VerifyError}
 use Rattle.bpf_machine.specs.Answers.{IsRun}
 use Rattle.bpf_machine.specs.declared.outcome.Outcome.{Outcome}
@@ -25,10 +26,11 @@ use Rattle.bpf_host.specs.declared.proposal.Unproposed.TheVariants.{Memory as No
 
 -- ---- checks
 
--- an image and a certificate's text are refused, as is told
+-- an image and a certificate's text are refused, as is told; that memory ran out is no refusal
 pub record IsRefusedAsTold (order : Order) (image text : List ℕ) (told : BpfRefusal) : Type 0 where
   pub error : VerifyError
   pub refused : IsRefusedBy order image text error
+  pub read : ¬ (IsUnread error)
   pub tells : TellsRefusal error told
 
 -- an image is refused
@@ -56,7 +58,6 @@ pub record IsVerifiedFor (order : Order) (image context : List ℕ) : Type 0 whe
   pub bound : ℕ
   pub verified : Verified order image least most bound
   pub bound_fits : bound < 2 ^ 32
-  pub short : most ≤ 4096
   pub length_within : LengthWithin least most context
 
 -- What a prepared program may be run on: it is that of an image which is verified, for contexts of this length.
@@ -101,12 +102,13 @@ GivesProposal least most count old new = (text : List ℕ) × IsProposal least m
 abbrev pub WantsRoom : ℕ → ℕ → ℕ → List ℕ → Type 0
 WantsRoom least most count old = (text : List ℕ) × IsProposal least most text × (count ≡ length text) × (length old < count)
 
--- no certificate is proposed for the program of an image, as is told
+-- no certificate is proposed for the program of an image, as is told; that memory ran out is no refusal
 pub record IsUnproposed (order : Order) (image : List ℕ) (told : BpfRefusal) : Type 0 where
   pub program : List Insn
   pub is_image : IsImageOfProgram order image program
   pub error : InferError
   pub refusal : IsRefusalIn (slots program) error
+  pub other : error ≢ OutOfMemory
   pub tells : TellsInference error told
 
 -- the image is refused, or no certificate is proposed for its program, as is told

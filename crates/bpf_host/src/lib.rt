@@ -2,7 +2,7 @@
 //! over no pointer that is null.
 #![tactic(auto)]
 
-ghost use Rattle.std.specs.Prelude.{◌≡◌, ◌++◌, ◌⊎◌, ◌↔◌, ◌<◌, ◌≤◌, ◌+◌, ◌*◌, ◌%◌, ℕ, List, length, take, drop, pos, negsuc};
+ghost use Rattle.std.specs.Prelude.{◌≡◌, ◌≢◌, ◌++◌, ◌⊎◌, ◌↔◌, ◌<◌, ◌≤◌, ◌+◌, ◌*◌, ◌%◌, ℕ, List, length, take, drop, pos, negsuc};
 ghost use Rattle.bpf_insn.specs.Laws.{IsImageOfProgram};
 ghost use Rattle.bpf_insn.specs.declared.instruction.Insn.{Insn as Instruction};
 ghost use Rattle.bpf_cert.specs.View.{CertificateView};
@@ -33,8 +33,8 @@ use std::alloc::Global;
 use texts::{give_beginning, text_of};
 
 /// Whether a certificate certifies an image in a byte order, 0 little-endian or 1 big-endian. 1: yes, and `verdict` is what
-/// is promised. 0: no, and `refusal` says why. -1: memory ran out. -2: the order is neither 0 nor 1. What isn't answered
-/// stays as it was.
+/// is promised. 0: no, and `refusal` says why. -1: memory ran out while the certificate was read. -2: the order is neither 0
+/// nor 1. What isn't answered stays as it was.
 #[unsafe(no_mangle)]
 pub extern "C" fn bpf_host_verify(
     alloc: Global,
@@ -46,9 +46,9 @@ pub extern "C" fn bpf_host_verify(
 ) -> i32
     ensures yes { result ≡ pos 1 → Verified (order_named order) image.now verdict.new.least verdict.new.most verdict.new.bound }
     ensures promised { result ≡ pos 1 → Promises (order_named order) image.now certificate.now verdict.new.least verdict.new.most verdict.new.bound }
-    ensures limits { result ≡ pos 1 → (verdict.new.least ≤ verdict.new.most) × (verdict.new.most ≤ 4096) }
     ensures no { result ≡ pos 0 → IsRefusedAsTold (order_named order) image.now certificate.now refusal.new }
     ensures accepts { (c : CertificateView) → order ≤ 1 → Certifies (order_named order) image.now certificate.now c → ((result ≡ pos 1) × (verdict.new.least ≡ c.least) × (verdict.new.most ≡ c.most) × (verdict.new.bound ≡ c.steps)) ⊎ (result ≡ negsuc 0) }
+    ensures memory { result ≡ negsuc 0 → (is : List Instruction) × IsImageOfProgram (order_named order) image.now is }
     ensures call { (result ≡ negsuc 1) ↔ (1 < order) }
     ensures answers { (result ≡ pos 1) ⊎ (result ≡ pos 0) ⊎ (result ≡ negsuc 0) ⊎ (result ≡ negsuc 1) }
     ensures verdict_kept { (result ≡ pos 1) ⊎ (verdict.new ≡ verdict.old) }
@@ -132,7 +132,8 @@ pub extern "C" fn bpf_host_prepare(image: &[u8], order: u32, memory: &mut [u8]) 
     ensures program { result ≡ pos 1 → (is : List Instruction) × IsImageOfProgram (order_named order) image.now is }
     ensures refused { result ≡ pos 0 → IsNoImage (order_named order) image.now }
     ensures call { (result ≡ negsuc 1) ↔ (1 < order) }
-    ensures small { result ≡ negsuc 2 → length memory.old ≡ 16 + length image.now → ⊥ }
+    ensures small { result ≡ negsuc 2 → ((is : List Instruction) × IsImageOfProgram (order_named order) image.now is) × (length memory.old ≢ 16 + length image.now) }
+    ensures size { result ≡ pos 1 → length memory.old ≡ 16 + length image.now }
     ensures answers { (result ≡ pos 1) ⊎ (result ≡ pos 0) ⊎ (result ≡ negsuc 1) ⊎ (result ≡ negsuc 2) }
     ensures kept { (result ≡ pos 1) ⊎ (memory.new ≡ memory.old) }
 {
@@ -163,8 +164,8 @@ pub extern "C" fn bpf_host_run_checked(memory: &[u8], context: &[u8], value: &mu
 
 /// Proposes a certificate for the program of an image, on contexts of `least` to `most` bytes: 1, and its text stands in the
 /// first `wanted` bytes of `text`. 0: none is proposed, and `refusal` says why, by E or I. -1: memory ran out. -2: the order
-/// is neither 0 nor 1, `least` is above `most`, or `most` above 4,096. -3: `text` is too small for `wanted` bytes, and as it
-/// was. Nobody relies on a proposal: `bpf_host_verify` judges it.
+/// is neither 0 nor 1, `least` is above `most`, or `most` above 4,096. -3: `text` is too small for `wanted` bytes. What isn't
+/// answered stays as it was. Nobody relies on a proposal: `bpf_host_verify` judges it.
 #[unsafe(no_mangle)]
 pub extern "C" fn bpf_host_infer(
     alloc: Global,
@@ -182,6 +183,7 @@ pub extern "C" fn bpf_host_infer(
     ensures call { (result ≡ negsuc 1) ↔ ((1 < order) ⊎ ((most < least) ⊎ (4096 < most))) }
     ensures answers { (result ≡ pos 1) ⊎ (result ≡ pos 0) ⊎ (result ≡ negsuc 0) ⊎ (result ≡ negsuc 1) ⊎ (result ≡ negsuc 2) }
     ensures text_kept { (result ≡ pos 1) ⊎ (text.new ≡ text.old) }
+    ensures wanted_kept { (result ≡ pos 1) ⊎ (result ≡ negsuc 2) ⊎ (wanted.new ≡ wanted.old) }
     ensures refusal_kept { (result ≡ pos 0) ⊎ (refusal.new ≡ refusal.old) }
 {
     let Some(order) = order_of(u64::from(order)) else {

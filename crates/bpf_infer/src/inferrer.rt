@@ -5,10 +5,12 @@ ghost use Rattle.bpf_insn.specs.Instruction.{slots};
 ghost use Rattle.bpf_proposal.specs.RefusalNumbers.{infer_slot, IsCondition};
 ghost use Rattle.bpf_cert.specs.Limits.{IsCertificate};
 
+use crate::deep::deep_proposal;
 use bpf_cert::Certificate;
 use bpf_insn::{Code, Program};
+use bpf_outline::{Proposal, Unwatched, Watch};
+use bpf_plain::plain_proposal;
 use bpf_proposal::InferError;
-use bpf_search::{Proposal, Unwatched, Watch, deep_proposal, plain_proposal};
 use std::alloc::Global;
 
 /// The certificate of a proposal. I2 at slot 0 if it is over a limit.

@@ -8,6 +8,7 @@ pub mod WalkLemmas
 pub mod ViewLemmas
 pub mod ImageLaws
 pub mod ListLaws
+pub mod ListIsOne
 pub mod OrderLaw
 pub mod ReadLemmas
 pub mod WriteLemmas

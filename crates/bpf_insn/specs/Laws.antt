@@ -1,5 +1,5 @@
 -- The laws that tie the definitions together. Each is proved as the contract of a function of its own.
-use Rattle.std.specs.Prelude.{◌≡◌, ℕ, ◌+◌, ◌*◌, ◌/◌, ◌%◌, ◌<◌, ◌≤◌, ◌↔◌, List, [], ◌∷◌, ◌++◌, length, take, drop, slice_index, Some, None}
+use Rattle.std.specs.Prelude.{◌≡◌, ℕ, ◌+◌, ◌*◌, ◌/◌, ◌%◌, ◌<◌, ◌≤◌, ◌↔◌, ◌⊎◌, List, [], ◌∷◌, ◌++◌, length, take, drop, slice_index, Some, None}
 use Rattle.bpf_insn.specs.Instruction.{slots}
 use Rattle.bpf_insn.specs.Image.{image, instruction_bytes, HasEncoding, AllHaveEncoding, IsProgram}
 use Rattle.bpf_insn.specs.Refusal.{refusal_here, IsRefused, IsNoProgram}
@@ -70,10 +70,13 @@ NeverBoth = (order : Order) (bytes : List ℕ) (is : List Insn) (error : DecodeE
 abbrev pub RefusedOnce : Type 0
 RefusedOnce = (order : Order) (bytes : List ℕ) (error other : DecodeError) → IsRefused order bytes error → IsRefused order bytes other → error ≡ other
 
--- A list of instructions is a program, or it is refused, for one cause at one slot, and never both. That it is one of the two is what
--- `Program::new` finds out.
+-- A list of instructions is a program, or it is refused, for one cause at one slot, and never both.
 abbrev pub ListNeverBoth : Type 0
 ListNeverBoth = (is : List Insn) (error : BuildError) → IsProgram is → IsNoProgram is error → ⊥
+
+-- and it is one of the two
+abbrev pub ListIsOneOfBoth : Type 0
+ListIsOneOfBoth = (is : List Insn) → IsProgram is ⊎ ((e : BuildError) × IsNoProgram is e)
 
 abbrev pub ListRefusedOnce : Type 0
 ListRefusedOnce = (is : List Insn) (error other : BuildError) → IsNoProgram is error → IsNoProgram is other → error ≡ other

@@ -1,11 +1,23 @@
+-- Definitions, in the order in which they read best.
+-- the byte order, and all that depends on it
 pub mod Order
+-- what an instruction is made of: sizes, registers, slots, groups, distances
 pub mod Instruction
+-- arithmetic and comparisons as formulas on integers
 pub mod Arithmetic
-pub mod Image
-pub mod Refusal
-pub mod RefusalNumbers
-pub mod code
-pub mod Written
-pub mod Reading
-pub mod Laws
+-- which registers an instruction reads and writes, and which memory
 pub mod Effects
+-- the bytes of instructions, and which lists are programs
+pub mod Image
+-- which bytes are no image, and which lists no program
+pub mod Refusal
+-- the numbers of refusals, and the slots that they name
+pub mod RefusalNumbers
+-- what a write leaves with a writer
+pub mod Written
+-- what is read from a reader
+pub mod Reading
+-- laws above these definitions
+pub mod Laws
+-- what mirrors code
+pub mod code

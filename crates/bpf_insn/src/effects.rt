@@ -88,7 +88,8 @@ fn read_by(op: AluOp, dst: Reg, src: Operand) -> [Option<Reg>; 3]
 }
 
 impl Insn {
-    /// The registers that it reads (RFC 9669, sections 4 and 5), with None in the places that are left.
+    /// The registers that it reads (RFC 9669, sections 4 and 5), with None in the places that are left. A call reads none:
+    /// it hands r1 to r5 on as they are.
     pub fn registers_read(&self) -> [Option<Reg>; 3]
         ensures { filter_map (λ r. r) result ≡ registers_read self.now }
     {
@@ -117,7 +118,7 @@ impl Insn {
         }
     }
 
-    /// The register that it writes, but for those that a call changes.
+    /// The register that it writes, but for those that a call or a return changes.
     pub fn register_written(&self) -> Option<Reg>
         ensures { result ≡ register_written self.now }
     {

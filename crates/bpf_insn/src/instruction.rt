@@ -39,7 +39,9 @@ pub enum Operand {
     Reg(Reg),
 }
 
-/// An operation on two operands.
+/// An operation on two operands (RFC 9669, section 4.1). SDiv, SMod and Arsh read numbers as two's complement, the others
+/// as unsigned; Arsh fills with copies of the sign. Div and SDiv by zero give 0, Mod and SMod the first operand; a shift
+/// takes its distance modulo the width.
 #[derive(Clone, Copy, Debug, PartialEq, Eq)]
 pub enum AluOp {
     Add,
@@ -82,7 +84,8 @@ pub enum EndBits {
     B64,
 }
 
-/// The test of a conditional jump.
+/// The test of a conditional jump (RFC 9669, section 4.3). SGt, SGe, SLt and SLe read numbers as two's complement, the
+/// others as unsigned. Set holds where `dst & src` isn't zero.
 #[derive(Clone, Copy, Debug, PartialEq, Eq)]
 pub enum Cond {
     Eq,
@@ -107,7 +110,8 @@ pub enum Modify {
     Xor,
 }
 
-/// An atomic operation; one that fetches puts the old number into its source register.
+/// An atomic operation. Modify with `fetch` and Xchg put the old number into the source register, CmpXchg into r0 (RFC
+/// 9669, section 5.3).
 #[derive(Clone, Copy, Debug, PartialEq, Eq)]
 pub enum AtomicOp {
     Modify { by: Modify, fetch: bool },
@@ -115,58 +119,69 @@ pub enum AtomicOp {
     CmpXchg,
 }
 
-/// An instruction. Distances of jumps and calls count slots from the next instruction.
+/// An instruction (RFC 9669, sections 4 and 5). In Load, LoadSx, Store, StoreImm and Atomic `off` is in bytes from the base
+/// register; in jumps and calls it is in slots from the next instruction.
 #[derive(Clone, Copy, Debug, PartialEq, Eq)]
 pub enum Insn {
+    /// Puts the result of `op` on `dst` and `src` into `dst`; at 32 bits on low halves, with zero above (section 4.1).
     Alu {
         op: AluOp,
         width: Width,
         dst: Reg,
         src: Operand,
     },
+    /// Negates `dst`; at 32 bits its low half, with zero above (section 4.1).
     Neg {
         width: Width,
         dst: Reg,
     },
+    /// Puts the low bits of `src`, sign-extended to the width, into `dst`; at 32 bits with zero above (section 4.1).
     MovSx {
         width: Width,
         bits: SignBits,
         dst: Reg,
         src: Reg,
     },
+    /// Keeps the low bits of `dst`, their bytes reversed or as they are, and zero above (section 4.2).
     End {
         kind: EndKind,
         bits: EndBits,
         dst: Reg,
     },
+    /// Puts a constant into `dst`. It takes two slots (section 5.4).
     LoadImm64 {
         dst: Reg,
         value: u64,
     },
+    /// Loads what lies at `src + off` into `dst`, with zero above (section 5.1).
     Load {
         size: Size,
         dst: Reg,
         src: Reg,
         off: i16,
     },
+    /// Loads the number at `src + off` into `dst`, with its sign extended to 64 bits (section 5.2).
     LoadSx {
         size: Size,
         dst: Reg,
         src: Reg,
         off: i16,
     },
+    /// Stores the low bytes of `src` at `dst + off` (section 5.1).
     Store {
         size: Size,
         dst: Reg,
         off: i16,
         src: Reg,
     },
+    /// Stores the low bytes of a constant, with its sign extended to 64 bits, at `dst + off` (section 5.1).
     StoreImm {
         size: Size,
         dst: Reg,
         off: i16,
         imm: i32,
     },
+    /// Changes the number at `dst + off` by `src`: 8 bytes where it is wide, else 4 (section 5.3).
     Atomic {
         wide: bool,
         op: AtomicOp,
@@ -174,12 +189,15 @@ pub enum Insn {
         off: i16,
         src: Reg,
     },
+    /// Jumps always (section 4.3).
     Ja {
         off: i16,
     },
+    /// Jumps always, by a distance of 32 bits (section 4.3).
     JaLong {
         off: i32,
     },
+    /// Jumps if the test holds of `dst` and `src`; at 32 bits of their low halves (section 4.3).
     JumpIf {
         cond: Cond,
         width: Width,
@@ -187,9 +205,11 @@ pub enum Insn {
         src: Operand,
         off: i16,
     },
+    /// Calls the function of the program that begins `off` slots from the next instruction (section 4.3.2).
     CallLocal {
         off: i32,
     },
+    /// Returns from the function, or ends the program (section 4.3).
     Exit,
 }
 
@@ -314,7 +334,8 @@ impl Insn {
         }
     }
 
-    /// How far a jump or call leads, in slots from the next instruction.
+    /// How far a jump or call leads, in slots from the next instruction. None where it neither jumps nor calls (RFC 9669,
+    /// section 4.3).
     pub fn distance(&self) -> Option<i32>
         ensures { result ≡ distance self.now }
     {
@@ -352,7 +373,7 @@ impl Insn {
 ghost use Rattle.std.specs.Prelude.{◌≡◌, ◌≤◌};
 ghost use Rattle.bpf_insn.specs.Instruction.{target};
 
-/// The slot at a distance from the one after the slot, if it isn't negative.
+/// The slot at a distance from the one after the slot, if it isn't negative (RFC 9669, section 4.3).
 #[inline(always)]
 pub fn target(slot: u32, distance: i32) -> Option<u32>
     requires { slot ≤ 65536 }

@@ -1,6 +1,6 @@
 //! What holds of images, for all bytes and instructions. Each law is the contract of a function that does nothing.
 
-ghost use Rattle.bpf_insn.specs.Laws.{ImageIsInjective, ImageLength, ReadsBack, OrdersExchange, RefusalIsExact, NeverBoth, RefusedOnce, ListNeverBoth, ListRefusedOnce};
+ghost use Rattle.bpf_insn.specs.Laws.{ImageIsInjective, ImageLength, ReadsBack, OrdersExchange, RefusalIsExact, NeverBoth, RefusedOnce, ListNeverBoth, ListIsOneOfBoth, ListRefusedOnce};
 
 /// An image is the image of one list of instructions only.
 pub fn image_is_injective()
@@ -40,6 +40,11 @@ pub fn refused_once()
 /// The list of a program is not refused.
 pub fn list_never_both()
     ensures { ListNeverBoth }
+{}
+
+/// A list is a program or is refused.
+pub fn list_is_one_of_both()
+    ensures { ListIsOneOfBoth }
 {}
 
 /// A list is refused for one cause, at one slot.

@@ -39,8 +39,8 @@ pub use instruction::{
     Size, Width, target,
 };
 pub use laws::{
-    image_is_injective, image_length, list_never_both, list_refused_once, never_both,
-    orders_exchange, reads_back, refusal_is_exact, refused_once,
+    image_is_injective, image_length, list_is_one_of_both, list_never_both, list_refused_once,
+    never_both, orders_exchange, reads_back, refusal_is_exact, refused_once,
 };
 pub use numbers::{number_in, put_number};
 pub use order::Order;

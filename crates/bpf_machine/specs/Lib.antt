@@ -1,7 +1,7 @@
-pub mod PackedStack
-pub mod PackedRegisters
-pub mod Running
-pub mod Frames
-pub mod Locations
+-- Definitions, in the order in which they read best.
+-- what a step and a run answer
 pub mod Answers
-pub mod Stored
+-- a machine as its contracts see it
+pub mod Running
+-- what mirrors code
+pub mod code

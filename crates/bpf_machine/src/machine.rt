@@ -8,7 +8,7 @@ ghost use Rattle.bpf_semantics.specs.State.{frame_bytes, max_frames, depth, star
 ghost use Rattle.bpf_semantics.specs.Memory.{inside, location_of, number_at, pointer_at, stack_of, with_stack, with_bytes, with_parts};
 ghost use Rattle.bpf_semantics.specs.Step.{operand, entered, left};
 ghost use Rattle.bpf_semantics.specs.Stuck.{unreadable_at};
-ghost use Rattle.bpf_machine.specs.Locations.{location_is, IsInside};
+ghost use Rattle.bpf_machine.specs.code.Locations.{location_is, IsInside};
 ghost use Rattle.bpf_semantics.specs.Targets.{LeadsToSlot};
 ghost use Rattle.bpf_machine.specs.Running.{running, moved_to};
 
@@ -94,14 +94,14 @@ impl<'a, C: Code> Model for Machine<'a, C> {
 
     ghost Value = { Running };
 
-    ghost use Rattle.bpf_machine.specs.Frames.{state_of, IsMachine};
+    ghost use Rattle.bpf_machine.specs.code.Frames.{state_of, IsMachine};
 
     ghost view = { λ m. record { program = C.program m.code.now; state = state_of m.slot m.registers m.callers.items m.stacks m.context.now } };
 
     ghost invariant = { λ m. IsMachine (C.program m.code.now) m.registers m.callers.items m.stacks m.context.now };
 }
 
-#[tactic(auto, unfolding(crate::specs::Frames::state_of))]
+#[tactic(auto, unfolding(crate::specs::code::Frames::state_of))]
 impl<'a, C: Code> Machine<'a, C> {
     /// The machine at the start of a run: r1 is the context, r2 its length, r10 the end of the outermost frame. The
     /// context has at most 4,096 bytes.

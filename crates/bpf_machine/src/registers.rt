@@ -6,7 +6,7 @@ ghost use Rattle.bpf_semantics.specs.State.{number_in};
 ghost use Rattle.bpf_semantics.specs.declared.value.Value.TheVariants.{Number, Pointer};
 ghost use Rattle.bpf_semantics.specs.declared.value.Region.TheVariants.{Frame as FrameAt};
 ghost use Rattle.std.specs.Int.{w64, cast_unsigned};
-ghost use Rattle.bpf_machine.specs.PackedRegisters.{value_of, word_value, kept_values};
+ghost use Rattle.bpf_machine.specs.code.PackedRegisters.{value_of, word_value, kept_values};
 
 use bpf_insn::Reg;
 use bpf_semantics::{Region, Value};
@@ -77,7 +77,7 @@ pub(crate) struct Registers {
 impl Model for Registers {
     ghost use Rattle.std.specs.Prelude.{List, Option};
     ghost use Rattle.bpf_semantics.specs.declared.value.Value.{Value as Held};
-    ghost use Rattle.bpf_machine.specs.PackedRegisters.{packed_registers};
+    ghost use Rattle.bpf_machine.specs.code.PackedRegisters.{packed_registers};
 
     ghost Value = { List (Option Held) };
 
@@ -90,7 +90,7 @@ impl Model for Registers {
 
 impl Registers {
     /// Registers that hold nothing.
-    #[tactic(auto, unfolding(crate::specs::PackedRegisters::packed_registers))]
+    #[tactic(auto, unfolding(crate::specs::code::PackedRegisters::packed_registers))]
     pub(crate) fn new() -> Self
         ensures { result ≡ replicate 11 None }
     {
@@ -242,7 +242,7 @@ impl Registers {
 
     /// The registers behind a call that gave a number.
     #[inline(always)]
-    #[tactic(auto, unfolding(crate::specs::PackedRegisters::packed_registers))]
+    #[tactic(auto, unfolding(crate::specs::code::PackedRegisters::packed_registers))]
     pub(crate) fn leave(&mut self, value: u64, kept: Kept)
         ensures { self.new ≡ Some (Number value) ∷ None ∷ None ∷ None ∷ None ∷ None ∷ kept_values kept }
     {

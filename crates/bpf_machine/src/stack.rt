@@ -7,7 +7,7 @@ ghost use Rattle.bpf_semantics.specs.State.{Cell, cell, empty_stack};
 ghost use Rattle.bpf_semantics.specs.State.Cell.{Byte};
 ghost use Rattle.bpf_semantics.specs.Memory.{bytes_in, pointer_in, with_bytes, with_parts};
 ghost use Rattle.bpf_semantics.specs.Stuck.{first_unreadable};
-ghost use Rattle.bpf_machine.specs.PackedStack.{IsMask};
+ghost use Rattle.bpf_machine.specs.code.PackedStack.{IsMask};
 
 use bpf_insn::{FRAME_BYTES, MAX_FRAMES, Order, Size, number_in, put_number};
 use bpf_semantics::{Reason, Region, Value};
@@ -38,7 +38,7 @@ fn mask_of(place: usize, count: usize) -> u8
 impl Model for Stack {
     ghost use Rattle.std.specs.Prelude.{List, Option};
     ghost use Rattle.bpf_semantics.specs.State.{Cell};
-    ghost use Rattle.bpf_machine.specs.PackedStack.{packed_cells};
+    ghost use Rattle.bpf_machine.specs.code.PackedStack.{packed_cells};
 
     ghost Value = { List (Option Cell) };
 

@@ -10,6 +10,7 @@ pub record SignedInterval : Type 0 where
   pub lo : ℤ
   pub hi : ℤ
 
+-- the least and the greatest number of 64 bits, read as two's complement
 abbrev pub least : ℤ
 least = neg_ℤ (pos (2 ^ 63))
 

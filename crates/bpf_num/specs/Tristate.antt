@@ -96,7 +96,7 @@ bits_shift Rsh (Some k) a = bits_moved (λ x. exact Rsh x k) a
 bits_shift Arsh (Some k) a = bits_moved (λ x. exact Arsh x k) a
 bits_shift op (Some k) a = bits_top
 
--- the bits in which a and b differ, or which one of them doesn't know
+-- the join: unknown are the bits in which a and b differ, or which one of them doesn't know
 abbrev pub bits_join : Tristate → Tristate → Tristate
 bits_join a b = forget a.value (bit_or (bit_or a.mask b.mask) (bit_xor a.value b.value))
 
@@ -105,7 +105,7 @@ abbrev pub bits_entail : Tristate → Tristate → Bool
 bits_entail a b =
     nat_eq (bit_and a.mask (complement b.mask)) 0 && nat_eq (bit_and (bit_xor a.value b.value) (complement b.mask)) 0
 
--- what both know, if they agree where both know
+-- what either knows, if they agree where both know
 abbrev pub bits_meet : Tristate → Tristate → Option Tristate
 bits_meet a b =
     if nat_eq (bit_and (bit_xor a.value b.value) (bit_and (complement a.mask) (complement b.mask))) 0

@@ -29,7 +29,7 @@ impl KnownBits {
     ghost use Rattle.bpf_num.specs.Word.{complement, exact};
     ghost use Rattle.bpf_num.specs.Tristate.{IsTristate, IsShift, tristate, forget, bits_moved, greatest, bits_setting, bits_clearing, bits_join, bits_entail, bits_meet, bits_add, bits_sub, bits_mul, bits_and, bits_or, bits_xor};
 
-    /// The numbers that agree with the value outside the mask.
+    /// The numbers that agree with the value outside the mask. The two have no bit in common.
     pub fn new(value: u64, mask: u64) -> Self
         requires { IsTristate (tristate value mask) }
         ensures { result ≡ tristate value mask }

@@ -28,7 +28,7 @@ impl Signed {
     ghost use Rattle.std.specs.Prelude.{◌≡◌, ◌<◌, ◌^◌, pos, ◌+ℤ◌, ◌-ℤ◌, ◌*ℤ◌, ◌≤ℤ◌};
     ghost use Rattle.bpf_num.specs.SignedInterval.{signed_interval, signed_top, signed_meet, signed_join, signed_entail, signed_without, if_fits, toward_zero, signed_halved, signed_mul, signed_sdiv, signed_smod};
 
-    /// The numbers from lo to hi.
+    /// The numbers from lo to hi, which is at least lo.
     pub fn new(lo: i64, hi: i64) -> Self
         requires { lo ≤ℤ hi }
         ensures { result ≡ signed_interval lo hi }
@@ -95,7 +95,8 @@ impl Signed {
         other.lo <= self.lo && self.hi <= other.hi
     }
 
-    /// The interval less a number that is an end of it. None if that was its only member.
+    /// The interval less a number that is an end of it; a number that is no end changes nothing. None if that was its only
+    /// member.
     pub fn without(self, number: i64) -> Option<Self>
         ensures { result ≡ signed_without number self }
     {
@@ -113,7 +114,7 @@ impl Signed {
         }
     }
 
-    /// The members that lie at least by a gap above a number. None if there are none.
+    /// The members that lie at least by a gap, of 0 or more, above a number. None if there are none.
     pub fn above(self, number: i64, gap: i64) -> Option<Self>
         requires { pos 0 ≤ℤ gap }
         ensures { result ≡ signed_meet self (signed_interval (number +ℤ gap) self.hi) }
@@ -122,7 +123,7 @@ impl Signed {
         self.met_with(number.checked_add(gap)?, hi)
     }
 
-    /// The members that lie at least by a gap below a number. None if there are none.
+    /// The members that lie at least by a gap, of 0 or more, below a number. None if there are none.
     pub fn below(self, number: i64, gap: i64) -> Option<Self>
         requires { pos 0 ≤ℤ gap }
         ensures { result ≡ signed_meet self (signed_interval self.lo (number -ℤ gap)) }

@@ -29,7 +29,7 @@ impl Unsigned {
     ghost use Rattle.bpf_num.specs.Word.{M};
     ghost use Rattle.bpf_num.specs.Interval.{interval, unsigned_top, unsigned_meet, unsigned_join, unsigned_entail, unsigned_without, unsigned_add, unsigned_sub, unsigned_mul, unsigned_div, unsigned_mod, unsigned_if, most_bits};
 
-    /// The numbers from lo to hi.
+    /// The numbers from lo to hi, which is at least lo.
     pub fn new(lo: u64, hi: u64) -> Self
         requires { lo ≤ hi }
         ensures { result ≡ interval lo hi }
@@ -81,7 +81,8 @@ impl Unsigned {
         other.lo <= self.lo && self.hi <= other.hi
     }
 
-    /// The interval less a number that is an end of it. None if that was its only member.
+    /// The interval less a number that is an end of it; a number that is no end changes nothing. None if that was its only
+    /// member.
     pub fn without(self, number: u64) -> Option<Self>
         ensures { result ≡ unsigned_without number self }
     {

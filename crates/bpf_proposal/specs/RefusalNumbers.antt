@@ -1,5 +1,5 @@
 -- The numbers of refusals, and the slots that they name.
-use Rattle.std.specs.Prelude.{ℕ, ◌<◌, ◌≤◌}
+use Rattle.std.specs.Prelude.{ℕ, ◌<◌, ◌≤◌, ◌-◌, min, max}
 use Rattle.bpf_proposal.specs.declared.error.InferError.{InferError}
 use Rattle.bpf_proposal.specs.declared.error.InferError.TheVariants.{Unstable, NoBudget, Recursion, Fault, Memory}
 
@@ -16,6 +16,14 @@ infer_slot (NoBudget slot) = slot
 infer_slot (Recursion slot) = slot
 infer_slot (Fault slot condition) = slot
 infer_slot Memory = 0
+
+-- the same refusal with a slot of a program of so many, its last one in the place of one behind it, and a condition from 3 to 12
+abbrev pub within : ℕ → InferError → InferError
+within slots (Unstable slot) = Unstable (min slot (slots - 1))
+within slots (NoBudget slot) = NoBudget (min slot (slots - 1))
+within slots (Recursion slot) = Recursion (min slot (slots - 1))
+within slots (Fault slot condition) = Fault (min slot (slots - 1)) (max 3 (min 12 condition))
+within slots Memory = Memory
 
 -- the checker's conditions for an instruction are 3 to 12
 abbrev pub IsCondition : InferError → Type 0

@@ -1,7 +1,7 @@
 //! Why no certificate is proposed.
 
 ghost use Rattle.std.specs.Prelude.{◌≡◌, ◌<◌};
-ghost use Rattle.bpf_proposal.specs.RefusalNumbers.{infer_number, infer_slot, IsRefusalIn};
+ghost use Rattle.bpf_proposal.specs.RefusalNumbers.{infer_number, infer_slot, within, IsRefusalIn};
 
 use std::alloc::{AllocError, AllocFailed};
 use thiserror::Error;
@@ -66,7 +66,8 @@ impl InferError {
     /// condition from 3 to 12.
     pub fn within(self, slots: u32) -> InferError
         requires { 0 < slots }
-        ensures { IsRefusalIn slots result }
+        ensures same { result ≡ within slots self }
+        ensures inside { IsRefusalIn slots result }
     {
         let last = slots - 1;
         match self {

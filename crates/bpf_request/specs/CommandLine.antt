@@ -2,7 +2,7 @@
 use Rattle.std.specs.Prelude.{◌≡◌, ◌≢◌, ℕ, Bool, List, [], Option, Some, None, is_some, is_none, not, ◌&&◌, ◌||◌, unwrap_or, pos, codes, Result, IfOk, true, false}
 use Rattle.std.specs.Str.Parse.{ParsesUnsigned}
 use Rattle.std.specs.declared.num.ParseIntError.{ParseIntError}
-use Rattle.clap.specs.Words.{App, ReadsOne, Row, Rule, Text, app_of, first_of, one_of, new_app, new_rule, with_rule, with_subcommand}
+use Rattle.clap.specs.Words.{App, Kinds, ReadsOne, Row, Rule, Text, app_of, fault_of, first_of, one_of, new_app, new_rule, with_rule, with_subcommand}
 use Rattle.std.specs.declared.alloc.AllocError.{AllocError}
 use Rattle.clap.specs.declared.builder.command.Command.{Command}
 use Rattle.clap.specs.declared.builder.command.Command.TheViews.{out-Command}
@@ -110,6 +110,10 @@ explain = with_rule (with_rule (with_rule (with_rule (with_rule (with_rule (with
 -- `bpf` with all nine
 abbrev pub bpf : App
 bpf = with_subcommand (with_subcommand (with_subcommand (with_subcommand (with_subcommand without_certificates check.top) run_checked.top) infer.top) migrate.top) explain.top
+
+-- the kinds of what is wrong with the words, by the first step of the parse that fails; none of words that are taken
+abbrev pub faults_in : List Text → Kinds
+faults_in words = fault_of bpf words
 
 -- ---- what the words ask for
 

@@ -14,7 +14,7 @@ pub enum Subject<'a> {
     Certified(&'a str),
     /// One slot of the program with the certificate at a name.
     Slot { certificate: &'a str, slot: u32 },
-    /// What the inferrer finds for contexts of `least` to `most` bytes, or the deep search.
+    /// What the inferrer finds for contexts of `least` to `most` bytes, or the deep search. `most` may be below `least`.
     Inferred { least: u32, most: u32, deep: bool },
     /// The program's control-flow graph with what the certificate at a name says.
     Graph(&'a str),

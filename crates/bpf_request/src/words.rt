@@ -2,8 +2,8 @@
 
 ghost use Rattle.std.specs.Prelude.{◌≡◌, IfOk, IfErr, map, option_map, true};
 ghost use Rattle.std.specs.String.{string_bytes};
-ghost use Rattle.clap.specs.Words.{found_of, kind_of, one_of, rows_of, subcommand_of, takes};
-ghost use Rattle.bpf_request.specs.CommandLine.{AreContexts, Asks, GivenBy, IsAsked, IsCount, IsFlag, IsNumber, IsOrder, IsSubject, bpf, word_of};
+ghost use Rattle.clap.specs.Words.{FailsBy, found_of, kind_of, one_of, rows_of, subcommand_of, takes};
+ghost use Rattle.bpf_request.specs.CommandLine.{AreContexts, Asks, GivenBy, IsAsked, IsCount, IsFlag, IsNumber, IsOrder, IsSubject, bpf, faults_in, word_of};
 ghost use Rattle.clap.specs.declared.error.ErrorKind.TheVariants.{OutOfMemory};
 
 use crate::commands::command;
@@ -55,7 +55,8 @@ pub enum Request<'a> {
         contexts: Contexts<'a>,
         order: Order,
     },
-    /// A certificate for an image and contexts of `least` to `most` bytes, by the deep search where that is asked for.
+    /// A certificate for an image and contexts of `least` to `most` bytes, by the deep search where that is asked for. `most`
+    /// may be below `least`.
     Infer {
         input: &'a str,
         least: u32,
@@ -214,9 +215,11 @@ fn request_in<'a>(name: &str, matches: &ArgMatches<'a>) -> Request<'a>
     }
 }
 
-/// What the words ask for, the command's own name first; else the text for the one who wrote them.
+/// What the words ask for, the command's own name first, exactly where nothing is wrong with them; else the text for the one
+/// who wrote them: what is wrong, the help or the version that they ask for. Want of memory may stand in place of either.
 pub fn request_of<'a>(alloc: Global, words: &'a [String]) -> Result<Request<'a>, Error>
     ensures ok { IfOk result (IsAsked (subcommand_of bpf (map (λ s. string_bytes s) words.entry.now))) }
+    ensures judged { FailsBy (faults_in (map (λ s. string_bytes s) words.entry.now)) result }
     ensures accepts { IfErr result (λ e. takes bpf (map (λ s. string_bytes s) words.entry.now) ≡ true → kind_of e ≡ OutOfMemory) }
 {
     let matches = match command(alloc)?.try_get_matches_from(words) {

@@ -143,11 +143,12 @@ numbers_of_visit p c v =
 
 -- ---- conditions on a label
 
--- a term's place is no number, or the number may be above its limit
+-- the number in a term's place may be above its limit
 abbrev pub is_bad_limit : Option AbstractState → Measure → Term → Bool
 is_bad_limit (Some s) (Up place limit) t = some_passes (λ r. not (nat_le r.hi limit)) (bounds s t)
 is_bad_limit _ _ t = false
 
+-- or the place holds no number
 abbrev pub is_bad_term : LabelView → Term → Bool
 is_bad_term l t = is_none (bounds l.state t) || is_bad_limit (tightened l.state) t.measure t
 

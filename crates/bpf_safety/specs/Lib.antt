@@ -1,7 +1,15 @@
+-- Definitions, in the order in which they read best.
+-- which function and which label stand at a slot
 pub mod Labels
+-- ranking functions, and how an edge pays
 pub mod Budget
+-- which state reaches each instruction, and where it goes on
 pub mod Flow
+-- which condition fails where
 pub mod Flaw
+-- certified programs, and the refusal of the others
 pub mod Certified
+-- the work of a check
 pub mod Work
+-- what is promised of certified programs
 pub mod Theorems

@@ -26,12 +26,14 @@ pub record IsContext (least most : ℕ) (context : List ℕ) : Type 0 where
 
 -- ---- the machine never gets stuck, and ends in time
 
+-- the run on the context ends with a number, after at most so many instructions
 pub record EndsWithin (p : Instructions) (context : List ℕ) (bound : ℕ) : Type 0 where
   pub value : ℕ
   pub steps : ℕ
   pub in_time : steps ≤ bound
   pub done : IsDone p context value steps
 
+-- On each such context no state that steps reach from the start is stuck, and the run ends with a number within the bound.
 pub record IsSafe (p : Instructions) (least most bound : ℕ) : Type 0 where
   pub never_stuck : (context : List ℕ) (k : ℕ) (s : machine.State) → IsContext least most context → Steps p k (machine.start context) s → IsStuck p s → ⊥
   pub ends : (context : List ℕ) → IsContext least most context → EndsWithin p context bound
@@ -45,6 +47,7 @@ SafeHasNoFault =
 abbrev pub SafeEnds : Type 0
 SafeEnds = (p : Instructions) (least most bound fuel : ℕ) (context : List ℕ) → IsSafe p least most bound → IsContext least most context → bound ≤ fuel → CanMake p context fuel → ⊥
 
+-- what a certificate certifies is safe, for its range and within its steps
 abbrev pub CertifiedIsSafe : Type 0
 CertifiedIsSafe = (p : Instructions) (c : CertificateView) → IsProgram p.list → IsCertificate c → Certified p c → IsSafe p c.least c.most c.steps
 
@@ -62,7 +65,7 @@ RangesInside =
 
 -- ---- the flat machine follows
 
--- a run of the flat machine from a start that fits, on a context on which the machine ends with v after k instructions
+-- the state g, j steps behind a flat start that fits, on a context on which the machine ends with v after k instructions
 pub record FlatFollowsRun (p : Instructions) (place : Placement) (context : List ℕ) (v k j : ℕ) (g : FlatState) : Type 0 where
   pub not_past : j < k
   pub inside : StaysInside place (length context) p g
@@ -70,6 +73,7 @@ pub record FlatFollowsRun (p : Instructions) (place : Placement) (context : List
   pub goes_on : suc j < k → (h : FlatState) × FlatStep place p g h
   pub ends : suc j ≡ k → FlatFinish p g v × ((h : FlatState) → FlatStep place p g h → ⊥)
 
+-- wherever context and frames lie and whatever else memory holds, each run of the flat machine follows each run that ends
 abbrev pub IsFlatSafe : Instructions → ℕ → ℕ → Type 0
 IsFlatSafe p least most =
     (context : List ℕ) (place : Placement) (f g : FlatState) (v k j : ℕ) → IsContext least most context → IsPlacement (length context) place → IsFlatStart p.order place context f

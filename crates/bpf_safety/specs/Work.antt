@@ -8,7 +8,7 @@ use Rattle.bpf_safety.specs.Labels.{label_at, function_at}
 use Rattle.bpf_safety.specs.Flow.{Arrival, Visit, visits, sound_arrival, callee}
 use Rattle.bpf_safety.specs.Flaw.{Edge, edges}
 
--- the state of such an edge is compared with a label
+-- a live edge leads into a label, so its state is compared with it
 abbrev pub leads_into_label : CertificateView → Edge → Bool
 leads_into_label c e = is_some (label_at c e.slot)
 

@@ -17,7 +17,7 @@ pub fn slack_is_least()
     ensures { SlackIsLeast }
 {}
 
-/// A certified program is safe: on every context of the certificate's length it is never stuck, and ends with a number
+/// A certified program is safe: on every context of a length in the certificate's range it is never stuck, and ends with a number
 /// within the certificate's steps.
 pub fn certified_is_safe()
     ensures { CertifiedIsSafe }

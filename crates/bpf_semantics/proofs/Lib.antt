@@ -16,3 +16,4 @@ pub mod FlatAccess
 pub mod FlatCall
 pub mod FlatLaw
 pub mod FlatBytesLaw
+pub mod FlatRegistersLaw

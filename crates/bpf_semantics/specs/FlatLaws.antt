@@ -1,13 +1,15 @@
 -- The laws of the flat machine. Each is proved as the contract of a function of its own.
-use Rattle.std.specs.Prelude.{◌≡◌, ℕ, ◌+◌, ◌%◌, ◌<◌, true, length, Some}
-use Rattle.bpf_insn.specs.Instruction.{Instructions, byte_count}
+use Rattle.std.specs.Prelude.{◌≡◌, ◌≢◌, ℕ, ◌+◌, ◌%◌, ◌<◌, true, List, length, get_or, Some}
+use Rattle.std.specs.List.{AllByRecursion}
+use Rattle.bpf_insn.specs.Instruction.{Instructions, register_number, byte_count}
 use Rattle.bpf_insn.specs.Image.{IsProgram}
 use Rattle.bpf_semantics.specs.State.{State, IsState}
 use Rattle.bpf_semantics.specs.Step.{Step, Finish}
-use Rattle.bpf_insn.specs.Effects.{Access, access_of}
-use Rattle.bpf_semantics.specs.Flat.{Placement, FlatState, FlatStep, FlatFinish, addresses, address, flat_does}
+use Rattle.bpf_insn.specs.Effects.{Access, access_of, registers_read, register_written}
+use Rattle.bpf_semantics.specs.Flat.{Placement, FlatState, FlatStep, FlatFinish, addresses, address, flat_register, flat_does}
 use Rattle.bpf_semantics.specs.Placement.{IsPlacement, Fits, StaysInside}
 use Rattle.bpf_insn.specs.declared.order.Order.{Order}
+use Rattle.bpf_insn.specs.declared.instruction.Reg.{Reg}
 use Rattle.bpf_insn.specs.declared.instruction.Insn.{Insn}
 
 -- Where the machine steps, each flat state that fits it has a step; each of these leads to a flat state that fits the
@@ -58,3 +60,30 @@ FlatReadsOnly =
     (does : flat_does order i f ≡ Some g)
     (agrees : (r : Access) (a : ℕ) → access_of i ≡ Some r → r.reads ≡ true → Touches f r a → memory a ≡ f.memory a)
     → DoesAlike order i memory f g
+
+-- ---- the registers that an instruction reads and writes
+
+-- It changes no register but the one that it writes.
+abbrev pub FlatWritesOneRegister : Type 0
+FlatWritesOneRegister =
+    (order : Order) (i : Insn) (f g : FlatState) (r : Reg)
+    (does : flat_does order i f ≡ Some g)
+    (unwritten : (w : Reg) → register_written i ≡ Some w → register_number r ≢ register_number w) → flat_register g r ≡ flat_register f r
+
+abbrev pub in_registers : List ℕ → FlatState → FlatState
+in_registers registers f = record { slot = f.slot; registers = registers; memory = f.memory; returns = f.returns }
+
+-- slot, memory and returns are the same, and so is the number in the register that is written
+pub record DoesAlikeIn (order : Order) (i : Insn) (registers : List ℕ) (f g : FlatState) : Type 0 where
+  pub after : FlatState
+  pub does : flat_does order i (in_registers registers f) ≡ Some after
+  pub same : in_registers g.registers after ≡ g
+  pub result : (w : Reg) → register_written i ≡ Some w → flat_register after w ≡ flat_register g w
+
+-- And it depends on no register but those that it reads: in others that agree on them it does the same.
+abbrev pub FlatReadsRegisters : Type 0
+FlatReadsRegisters =
+    (order : Order) (i : Insn) (f g : FlatState) (registers : List ℕ)
+    (does : flat_does order i f ≡ Some g) (eleven : length f.registers ≡ 11) (as_many : length registers ≡ 11)
+    (agrees : AllByRecursion (λ r. get_or registers (register_number r) 0 ≡ flat_register f r) (registers_read i))
+    → DoesAlikeIn order i registers f g

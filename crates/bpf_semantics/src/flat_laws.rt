@@ -1,6 +1,6 @@
 //! Laws of the flat machine, each as the contract of a function.
 
-ghost use Rattle.bpf_semantics.specs.FlatLaws.{FlatFollows, FlatFinishes, FlatWritesOnly, FlatReadsOnly};
+ghost use Rattle.bpf_semantics.specs.FlatLaws.{FlatFollows, FlatFinishes, FlatWritesOnly, FlatReadsOnly, FlatWritesOneRegister, FlatReadsRegisters};
 
 /// The flat machine follows each step.
 pub fn flat_follows()
@@ -20,4 +20,14 @@ pub fn flat_writes_only()
 /// An instruction depends on no byte but those that it reads.
 pub fn flat_reads_only()
     ensures { FlatReadsOnly }
+{}
+
+/// An instruction changes no register but the one that it writes, calls and exits aside.
+pub fn flat_writes_one_register()
+    ensures { FlatWritesOneRegister }
+{}
+
+/// An instruction depends on no register but those that it reads, calls and exits aside.
+pub fn flat_reads_registers()
+    ensures { FlatReadsRegisters }
 {}

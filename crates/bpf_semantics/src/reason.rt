@@ -13,7 +13,8 @@ pub enum Reason {
     ContextWrite,
     /// F5: r10 is written.
     FramePointerWrite,
-    /// F6: an operand is of the wrong kind, a number for a pointer or a pointer for a number.
+    /// F6: an operand is of the wrong kind: a number for a pointer or a pointer for a number, pointers into two regions, a
+    /// part of a spilled pointer that is read, or a pointer stored otherwise than with 8 bytes at a multiple of 8.
     OperandKind,
     /// F7: a call with eight live frames.
     TooManyFrames,

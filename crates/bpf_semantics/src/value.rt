@@ -7,7 +7,8 @@ pub enum Region {
     Frame(u8),
 }
 
-/// What a register holds: a number, or a pointer into a region at an offset.
+/// What a register holds: a number, or a pointer into a region at an offset. The offset is in bytes: from the context's first
+/// byte, or from the frame's end, so that -512 to -1 are the frame's bytes.
 #[derive(Clone, Copy, Debug, PartialEq, Eq)]
 pub enum Value {
     Number(u64),

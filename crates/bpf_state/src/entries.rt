@@ -230,7 +230,7 @@ impl Entries {
 
     #[inline(always)]
     /// Makes this what is known of a register from r0 to r9 of which nothing is known yet. The bounds of a pointer are in
-    /// order.
+    /// order. It fails for want of memory alone, and what the entries then say is open.
     pub fn put_reg(&mut self, r: Reg, value: RegState) -> Result<(), AllocError>
         requires place { register_number r ≤ 9 }
         requires ordered { IsRegister value }
@@ -246,7 +246,8 @@ impl Entries {
 
     #[inline(always)]
     /// Makes this what is known of a slot, by its number from 1 to 64, of which nothing is known yet. The bounds of a
-    /// pointer are in order, and a mask is at most 254.
+    /// pointer are in order, and a mask is at most 254. It fails for want of memory alone, and what the entries then say is
+    /// open.
     pub fn put_slot(&mut self, k: u8, value: SlotState) -> Result<(), AllocError>
         requires low { 1 ≤ k }
         requires high { k ≤ 64 }

@@ -1,14 +1,29 @@
-pub mod RefusalNumbers
+-- Definitions, in the order in which they read best.
+-- characters, and which words are names
 pub mod Characters
+-- which number a word writes
 pub mod Numerals
+-- how each part of an instruction is spelled
 pub mod Spelling
-pub mod Listing
-pub mod code
-pub mod Parts
+-- what a line may say
 pub mod Statements
+-- the tokens of a line, and the forms of instructions
 pub mod Grammar
+-- what a text says, line by line
 pub mod Sources
+-- which program a text assembles to, or why none
 pub mod Assembly
+-- the listing of a program
+pub mod Listing
+-- the listing with comments
 pub mod Annotated
-pub mod Lookup
+-- the numbers of refusals, and the lines that they name
+pub mod RefusalNumbers
+-- laws above these definitions
 pub mod Laws
+-- all parts of instructions
+pub mod Parts
+-- the parts by the word in front
+pub mod Lookup
+-- what mirrors code
+pub mod code

@@ -240,8 +240,9 @@ fn put_insn<W: Write>(
 }
 
 /// Writes the listing of a program with a comment behind each instruction: its slot, its bytes in the program's image, or
-/// both. The comment begins behind column 32, or a blank behind a longer line. The text assembles to the program again. A
-/// fault of the writer, or a write of no bytes, ends it; what went out is then a beginning of the text. It takes no memory.
+/// both; `bytes` has to be that image, in the program's byte order. The comment begins behind column 32, or a blank behind a
+/// longer line. The text assembles to the program again. A fault of the writer, or a write of no bytes, ends it; what went
+/// out is then a beginning of the text. It takes no memory.
 pub fn annotate<C: Code, W: Write>(
     program: &C,
     bytes: &[u8],

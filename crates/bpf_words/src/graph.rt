@@ -11,10 +11,10 @@ use crate::graph::edges::write_edges;
 use crate::graph::flow::{Flow, flow_of};
 use crate::graph::plan::Plan;
 use crate::listing::write_header;
-use crate::page::{Page, Tell};
 use bpf_cert::Certificate;
 use bpf_check::{Index, Refusal};
 use bpf_insn::Code;
+use bpf_page::{Page, Tell};
 use std::io::{self, Write};
 
 /// What a graph shows.

@@ -3,6 +3,7 @@
 use arrayvec::ArrayVec;
 use bpf_insn::{Insn, Reg};
 use bpf_num::Num;
+use bpf_page::cut;
 use bpf_state::{Area, Place, Pointer, RegState, SlotState};
 use std::fmt;
 use std::str::from_utf8;
@@ -170,31 +171,21 @@ impl fmt::Display for Offset {
 
 /// What a place holds, as a certificate's line spells it behind the place's name.
 #[derive(Clone, Copy)]
-pub struct Written(pub Place, pub SlotState);
-
-/// A number, as a certificate's line spells it.
-pub fn written_number(number: Num) -> Written {
-    Written(Place::Register(Reg::R0), SlotState::Word(number))
-}
+pub struct Written(pub SlotState);
 
 /// What stands behind the first blank of a line, without the line's end.
 fn behind_blank(line: &[u8]) -> &[u8] {
-    for (index, byte) in line.iter().enumerate() {
-        if *byte == b' ' {
-            return line
-                .get(index.saturating_add(1)..line.len().saturating_sub(1))
-                .unwrap_or(&[]);
-        }
-    }
-    line
+    let rest = cut(line, b' ').1.unwrap_or(&[]);
+    rest.get(..rest.len().saturating_sub(1)).unwrap_or(&[])
 }
 
 impl fmt::Display for Written {
     fn fmt<W: fmt::Write>(&self, f: &mut fmt::Formatter<W>) -> fmt::Result {
-        if let SlotState::Bytes(0) = self.1 {
+        if let SlotState::Bytes(0) = self.0 {
             return write!(f, "nothing");
         }
-        let line = bpf_cert::entry_text(self.0, self.1);
+        // The name in front is cut off, so that any will do.
+        let line = bpf_cert::entry_text(Place::Register(Reg::R0), self.0);
         let text = behind_blank(line.as_slice());
         f.write_str(from_utf8(text).unwrap_or(""))
     }

@@ -2,22 +2,17 @@
 
 use crate::effects::{places_compared, places_written, slots_touched};
 use crate::known::{Known, Name, Number, Written, spelling_of};
-use crate::page::Tell;
 use crate::places::{
     PLACES, PlaceSet, changes, content, is_same, is_unknown, place_at, take_all, take_over,
 };
 use crate::sight::{Edge, Outcome, Sight, total_of};
 use bpf_cert::{Function, Label, Measure};
-use bpf_check::{Index, label_at};
+use bpf_check::Index;
 use bpf_insn::Insn;
+use bpf_page::{Count, Tell};
 use bpf_state::{Place, State};
 use std::fmt;
 use std::str::from_utf8;
-
-/// The width that an instruction is padded to.
-const WIDTH: usize = 36;
-
-const BLANKS: &str = "                                    ";
 
 /// The lengths of contexts, as `16 bytes` or `0 to 64 bytes`.
 #[derive(Clone, Copy)]
@@ -39,21 +34,24 @@ impl Lengths {
 impl fmt::Display for Lengths {
     fn fmt<W: fmt::Write>(&self, f: &mut fmt::Formatter<W>) -> fmt::Result {
         let (least, most) = (self.least, self.most);
-        if least != most {
-            write!(f, "{least} to {most} bytes")
-        } else if least == 1 {
-            write!(f, "1 byte")
+        if least == most {
+            let bytes = Count(least, "byte");
+            write!(f, "{bytes}")
         } else {
-            write!(f, "{least} bytes")
+            write!(f, "{least} to {most} bytes")
         }
     }
 }
 
+/// How many steps a certificate promises at most.
+pub fn steps_of(certificate: &Index) -> Count {
+    Count(certificate.steps(), "step")
+}
+
 /// `contexts of 16 bytes, at most 24 steps`
 pub fn write_header<W: Tell>(out: &mut W, certificate: &Index) {
-    let (lengths, steps) = (Lengths::of(certificate), certificate.steps());
-    let unit = if steps == 1 { "step" } else { "steps" };
-    write!(out, "contexts of {lengths}, at most {steps} {unit}\n");
+    let (lengths, steps) = (Lengths::of(certificate), steps_of(certificate));
+    write!(out, "contexts of {lengths}, at most {steps}\n");
 }
 
 /// `fn 0: depth 1, returns any number`
@@ -97,7 +95,7 @@ fn write_claims<W: Tell>(out: &mut W, state: &State) {
     for index in 0..PLACES {
         let place = place_at(index);
         if !is_unknown(content(state, place)) && index != 10 {
-            let (name, text) = (Name(place), Written(place, content(state, place)));
+            let (name, text) = (Name(place), Written(content(state, place)));
             write!(out, "; {name} {text}");
         }
     }
@@ -122,9 +120,7 @@ pub fn write_label<W: Tell>(out: &mut W, label: &Label, has_budgets: bool, room:
 fn write_padded<W: Tell>(out: &mut W, slot: u32, insn: &Insn) {
     let spelled = spelling_of(insn);
     let text = from_utf8(spelled.as_slice()).unwrap_or("");
-    let missing = WIDTH.saturating_sub(text.len());
-    let blanks = BLANKS.get(..missing).unwrap_or("");
-    write!(out, "{slot:>5}  {text}{blanks}");
+    write!(out, "{slot:>5}  {text:<36}");
 }
 
 /// Tells what is known of a place, unless that was told before.
@@ -223,8 +219,8 @@ fn have_terms(old: &Label, new: &Label) -> bool {
 }
 
 /// `; slack 0: base 23, cost 1, base there 2, kept 0, taken 20`
-fn write_slack<'a, W: Tell>(out: &mut W, certificate: &Index, sight: &Sight<'a>, edge: Edge) {
-    let (Some(here), Some(new)) = (sight.here, label_at(certificate, edge.to)) else {
+fn write_slack<'a, W: Tell>(out: &mut W, sight: &Sight<'a>, edge: Edge<'a>, new: &Label) {
+    let Some(here) = sight.here else {
         return;
     };
     let (Some(slack), Some(cost)) = (edge.slack, sight.cost) else {
@@ -249,9 +245,8 @@ fn write_slack<'a, W: Tell>(out: &mut W, certificate: &Index, sight: &Sight<'a>,
 /// The line of an edge: where it leads, what is known there more, and what is left of the budget.
 fn write_edge<'a, W: Tell>(
     out: &mut W,
-    certificate: &Index,
     sight: &Sight<'a>,
-    edge: Edge,
+    edge: Edge<'a>,
     state: &State,
     more: PlaceSet,
     condition: &str,
@@ -260,8 +255,9 @@ fn write_edge<'a, W: Tell>(
     write!(out, "       to {to}{condition}");
     if edge.is_live {
         note_changes(out, more, state, "is");
-        if edge.is_labelled && sight.has_budgets {
-            write_slack(out, certificate, sight, edge);
+        match edge.label {
+            Some(label) if sight.has_budgets => write_slack(out, sight, edge, label),
+            _ => {}
         }
     } else {
         write!(out, "; no run takes it");
@@ -275,35 +271,29 @@ fn known_more<'a>(sight: &Sight<'a>, state: &State) -> PlaceSet {
 }
 
 /// The line of the edge along a jump.
-fn write_jump<'a, W: Tell>(out: &mut W, certificate: &Index, sight: &Sight<'a>, edge: Edge) {
+fn write_jump<'a, W: Tell>(out: &mut W, sight: &Sight<'a>, edge: Edge<'a>) {
     let condition = match sight.insn {
         Insn::JumpIf { .. } => " if so",
         _ => "",
     };
     let state = sight.jump_state();
     let more = known_more(sight, state);
-    write_edge(out, certificate, sight, edge, state, more, condition);
+    write_edge(out, sight, edge, state, more, condition);
 }
 
 /// The line of the edge to the next instruction, if it says more than that it is there.
-fn write_next<'a, W: Tell>(
-    out: &mut W,
-    certificate: &Index,
-    sight: &Sight<'a>,
-    edge: Edge,
-    shown: &mut State,
-) {
+fn write_next<'a, W: Tell>(out: &mut W, sight: &Sight<'a>, edge: Edge<'a>, shown: &mut State) {
     let condition = match sight.insn {
         Insn::JumpIf { .. } => " if not",
         _ => "",
     };
     let state = sight.next_state();
     let more = known_more(sight, state);
-    if edge.is_live && !edge.is_labelled && more.is_empty() {
+    if edge.is_live && edge.label.is_none() && more.is_empty() {
         return;
     }
     take_all(shown, state, more);
-    write_edge(out, certificate, sight, edge, state, more, condition);
+    write_edge(out, sight, edge, state, more, condition);
 }
 
 /// The line of an EXIT: what is left of the budget.
@@ -319,12 +309,7 @@ fn write_exit<'a, W: Tell>(out: &mut W, sight: &Sight<'a>) {
 }
 
 /// The lines of an instruction's edges.
-pub fn write_edges<'a, W: Tell>(
-    out: &mut W,
-    certificate: &Index,
-    sight: &Sight<'a>,
-    shown: &mut State,
-) {
+pub fn write_edges<'a, W: Tell>(out: &mut W, sight: &Sight<'a>, shown: &mut State) {
     if let (Insn::Exit, Outcome::Done) = (sight.insn, sight.outcome) {
         if sight.has_budgets {
             write_exit(out, sight);
@@ -332,9 +317,9 @@ pub fn write_edges<'a, W: Tell>(
         return;
     }
     if let Some(edge) = sight.jump {
-        write_jump(out, certificate, sight, edge);
+        write_jump(out, sight, edge);
     }
     if let Some(edge) = sight.next {
-        write_next(out, certificate, sight, edge, shown);
+        write_next(out, sight, edge, shown);
     }
 }

@@ -39,14 +39,14 @@ fn slack_of(slot: u32, here: &Here, cost: Option<i128>, edge: &State, new: &Labe
 }
 
 /// An edge, with the state that goes along it if it is live.
-fn edge_to(
+fn edge_to<'a>(
     site: &Site,
     here: &Here,
     cost: Option<i128>,
-    to: &Spot,
+    to: &Spot<'a>,
     is_live: bool,
     state: &State,
-) -> Edge
+) -> Edge<'a>
     requires spot { IsSpot site.now.certificate.now to.now }
     requires valid { IsReaching site.now.here.slot here.now }
 {
@@ -57,13 +57,13 @@ fn edge_to(
     Edge {
         to: to.slot,
         is_live,
-        is_labelled: to.label.is_some(),
+        label: to.label,
         slack,
     }
 }
 
 /// Sees the edge along a jump, if the instruction is one.
-fn see_jump<'a>(site: &Site, here: &Here, sight: &mut Sight<'a>)
+fn see_jump<'a>(site: &Site<'a>, here: &Here, sight: &mut Sight<'a>)
     requires site { IsSite site.now }
     requires valid { IsReaching site.now.here.slot here.now }
 {
@@ -82,7 +82,7 @@ fn see_jump<'a>(site: &Site, here: &Here, sight: &mut Sight<'a>)
 }
 
 /// Sees the edge to the next instruction.
-fn see_next<'a>(site: &Site, here: &Here, sight: &mut Sight<'a>)
+fn see_next<'a>(site: &Site<'a>, here: &Here, sight: &mut Sight<'a>)
     requires site { IsSite site.now }
     requires valid { IsReaching site.now.here.slot here.now }
 {
@@ -109,7 +109,7 @@ fn see_next<'a>(site: &Site, here: &Here, sight: &mut Sight<'a>)
 }
 
 /// Sees what an instruction does in the state in front of it.
-fn see_effect<'a, P: Code>(program: &P, site: &Site, here: &Here, sight: &mut Sight<'a>)
+fn see_effect<'a, P: Code>(program: &P, site: &Site<'a>, here: &Here, sight: &mut Sight<'a>)
     requires site { IsSite site.now }
     requires valid { IsReaching site.now.here.slot here.now }
 {

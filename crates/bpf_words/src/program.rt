@@ -1,7 +1,6 @@
 //! A program with a certificate, explained.
 
-use crate::listing::{Lengths, write_header};
-use crate::page::{Page, Tell};
+use crate::listing::{Lengths, steps_of, write_header};
 use crate::pass::see;
 use crate::report::{Report, View};
 use crate::sight::Sight;
@@ -9,6 +8,7 @@ use crate::standing::last_slot;
 use bpf_cert::{Certificate, LAST_SLOT};
 use bpf_check::{Index, Refusal, Site, Spot, Walk};
 use bpf_insn::Code;
+use bpf_page::{Page, Tell};
 use std::io::{self, Write};
 
 /// Goes over the slots of a program, and over those behind it at which labels stand.
@@ -61,12 +61,8 @@ fn write_answer<C: Code, W: Tell>(
 ) {
     match refusal {
         None => {
-            let (lengths, steps) = (Lengths::of(certificate), certificate.steps());
-            let unit = if steps == 1 { "step" } else { "steps" };
-            write!(
-                out,
-                "accepted: at most {steps} {unit} on contexts of {lengths}\n"
-            );
+            let (lengths, steps) = (Lengths::of(certificate), steps_of(certificate));
+            write!(out, "accepted: at most {steps} on contexts of {lengths}\n");
         }
         Some(refusal) => {
             let (number, slot) = (refusal.number(), refusal.slot());
@@ -138,7 +134,7 @@ fn tell_at<C: Code, W: Tell>(program: &C, certificate: &Certificate, slot: u32, 
 
 /// Writes one instruction of a program with the whole state before and after it, and what is wrong there. A fault of the
 /// writer, or a write of no bytes, ends it.
-pub fn explain_slot<C: Code, W: Write>(
+pub fn write_slot<C: Code, W: Write>(
     program: &C,
     certificate: &Certificate,
     slot: u32,

@@ -3,14 +3,16 @@
 use crate::flaws::{CAUSES, Flaws};
 use crate::known::Spelled;
 use crate::listing::{write_edges, write_function, write_instruction, write_label};
-use crate::page::Tell;
 use crate::sight::{Outcome, Sight};
-use crate::standing::{label_flaws, label_in, lacks_first_label, standing_flaws, start_flaws};
+use crate::standing::{
+    functions_about, label_flaws, label_in, lacks_first_label, standing_flaws, start_flaws,
+};
 use crate::whole::write_whole;
 use crate::words::{Silence, tell, tell_function, tell_label, tell_silence, tell_start};
 use bpf_cert::{Function, Label};
 use bpf_check::{Cause, Index};
 use bpf_insn::Code;
+use bpf_page::Tell;
 use bpf_state::State;
 
 /// What is written of a program.
@@ -161,7 +163,7 @@ impl Report {
         slot: u32,
         cause: Cause,
     ) {
-        for function in certificate.functions() {
+        for function in functions_about(certificate, slot) {
             self.tell_shape(out, function, slot, cause);
             if let Some(label) = label_in(function, slot) {
                 self.tell_in_label(out, program, certificate, function, label, cause);
@@ -176,7 +178,7 @@ impl Report {
         write!(out, "\n");
     }
 
-    /// Tells all that is wrong at a slot.
+    /// Tells all that is wrong at a slot, if something is, and first of the slots that were passed over.
     fn tell_found<'a, W: Tell, C: Code>(
         &mut self,
         out: &mut W,
@@ -186,6 +188,10 @@ impl Report {
         sight: Option<&Sight<'a>>,
         found: &Found,
     ) {
+        if found.all().is_empty() {
+            return;
+        }
+        self.tell_quiet(out);
         for cause in CAUSES {
             if found.start.has(cause) {
                 self.tell_at_start(out, certificate, slot, cause);
@@ -241,11 +247,24 @@ impl Report {
         write!(out, "\n");
     }
 
-    /// Passes over a slot at which no state is known.
-    fn pass_over(&mut self, slot: u32) {
-        let from = match self.quiet {
-            Some(quiet) => quiet.from,
-            None => slot,
+    /// The first of the slots that were passed over, if it was for the reason that there is now.
+    fn quiet_from(&self) -> Option<u32> {
+        let quiet = self.quiet?;
+        if quiet.silence == self.silence {
+            Some(quiet.from)
+        } else {
+            None
+        }
+    }
+
+    /// Passes over a slot at which no state is known. Those that were passed over for another reason are told.
+    fn pass_over<W: Tell>(&mut self, out: &mut W, slot: u32) {
+        let from = match self.quiet_from() {
+            Some(from) => from,
+            None => {
+                self.tell_quiet(out);
+                slot
+            }
         };
         self.quiet = Some(Quiet {
             from,
@@ -258,12 +277,12 @@ impl Report {
 
     /// The lines of the functions and labels at a slot.
     fn write_standing<W: Tell>(&mut self, out: &mut W, certificate: &Index, slot: u32) {
-        for function in certificate.functions() {
+        let has_budgets = self.has_budgets();
+        for function in functions_about(certificate, slot) {
             if function.first == slot {
                 write_function(out, function);
             }
             if let Some(label) = label_in(function, slot) {
-                let has_budgets = self.view == View::Listing;
                 write_label(out, label, has_budgets, &mut self.room);
             }
         }
@@ -285,9 +304,6 @@ impl Report {
             View::Slot(_) | View::List => {}
         }
         let found = self.found_at(program, certificate, slot, None);
-        if !found.all().is_empty() {
-            self.tell_quiet(out);
-        }
         self.tell_found(out, program, certificate, slot, None, &found);
     }
 
@@ -298,7 +314,7 @@ impl Report {
             self.shown.copy_from(&sight.before);
         }
         write_instruction(out, sight, &mut self.shown);
-        write_edges(out, certificate, sight, &mut self.shown);
+        write_edges(out, sight, &mut self.shown);
     }
 
     /// Notes why no state goes on, if none does.
@@ -327,12 +343,9 @@ impl Report {
         let found = self.found_at(program, certificate, slot, Some(sight));
         if found.is_quiet(sight) && self.view != View::Slot(slot) {
             if self.view == View::List {
-                self.pass_over(slot);
+                self.pass_over(out, slot);
             }
             return;
-        }
-        if !found.all().is_empty() {
-            self.tell_quiet(out);
         }
         self.tell_found(out, program, certificate, slot, Some(sight), &found);
     }

@@ -21,12 +21,12 @@ pub enum Outcome {
 
 /// An edge of an instruction that is done.
 #[derive(Clone, Copy)]
-pub struct Edge {
+pub struct Edge<'a> {
     pub to: u32,
     /// Whether a state goes along it.
     pub is_live: bool,
-    /// Whether a label stands at its end.
-    pub is_labelled: bool,
+    /// The label that stands at its end.
+    pub label: Option<&'a Label>,
     /// What is left of the budget at a label; None where that isn't known.
     pub slack: Option<Slack>,
 }
@@ -34,7 +34,7 @@ pub struct Edge {
 /// What the pass sees at an instruction.
 #[derive(Drop)]
 pub struct Sight<'a> {
-    /// Whether the certificate has budgets.
+    /// Whether budgets are told.
     pub has_budgets: bool,
     pub slot: u32,
     pub insn: Insn,
@@ -47,8 +47,8 @@ pub struct Sight<'a> {
     pub cost: Option<i128>,
     /// The least that the last label's budget is, at an EXIT.
     pub least_budget: Option<i128>,
-    pub jump: Option<Edge>,
-    pub next: Option<Edge>,
+    pub jump: Option<Edge<'a>>,
+    pub next: Option<Edge<'a>>,
     /// Whether a state goes on to the next instruction.
     pub goes_on: bool,
     pub flaws: Flaws,

@@ -6,11 +6,12 @@ ghost use Rattle.bpf_state.specs.State.{tightened};
 use crate::flaws::Flaws;
 use bpf_cert::{Function, Label, Term, is_limited_term};
 use bpf_check::{
-    Cause, Index, begins_elsewhere, is_bad_term, is_first_label, is_outside, label_at,
+    Cause, Index, begins_elsewhere, function_at, is_bad_term, is_first_label, is_outside, label_at,
     starts_over_budget,
 };
 use bpf_insn::Code;
 use bpf_state::State;
+use std::slice;
 
 /// What is wrong with a label.
 #[derive(Clone, Copy)]
@@ -18,6 +19,15 @@ pub struct LabelFlaws {
     pub flaws: Flaws,
     /// The first term that counts no number, or one that may be above its limit.
     pub bad: Option<Term>,
+}
+
+/// The functions of which a label or the beginning may stand at a slot: the one that the slot lies in, where each label lies in
+/// its function.
+pub fn functions_about<'a>(certificate: &'a Index, slot: u32) -> &'a [Function] {
+    match function_at(certificate, slot) {
+        Some(function) if certificate.is_in_place() => slice::from_ref(function),
+        _ => certificate.functions(),
+    }
 }
 
 /// Whether a slot lies between the first label and the last.
@@ -111,7 +121,7 @@ pub fn standing_flaws<C: Code>(
     room: &mut State,
 ) -> Flaws {
     let mut flaws = Flaws::NONE;
-    for function in certificate.functions() {
+    for function in functions_about(certificate, slot) {
         flaws.add_if(lacks_first_label(function, slot), Cause::Misshapen);
         if let Some(label) = label_in(function, slot) {
             let found = label_flaws(program, certificate, function, label, room);

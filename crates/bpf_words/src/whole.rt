@@ -1,12 +1,12 @@
 //! One instruction with the whole states before and after it.
 
 use crate::known::{Known, Name, Spelled};
-use crate::page::Tell;
 use crate::places::{PLACES, content, is_unknown, place_at, tag_at};
 use crate::sight::{Edge, Outcome, Sight};
 use bpf_cert::Label;
 use bpf_check::{Here, place_of};
 use bpf_insn::Insn;
+use bpf_page::Tell;
 use bpf_state::{State, Tag};
 
 /// `, which is r6 of slot 1 - 1`
@@ -37,7 +37,13 @@ fn write_state<W: Tell>(out: &mut W, label: Option<&Label>, state: &State) {
 }
 
 /// An edge with the state that goes along it.
-fn write_edge<W: Tell>(out: &mut W, label: &Label, edge: Edge, state: &State, condition: &str) {
+fn write_edge<'a, W: Tell>(
+    out: &mut W,
+    label: &Label,
+    edge: Edge<'a>,
+    state: &State,
+    condition: &str,
+) {
     let to = edge.to;
     if !edge.is_live {
         return write!(out, "to {to}{condition}: no run takes it\n");

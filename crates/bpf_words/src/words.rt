@@ -8,10 +8,10 @@ mod memory;
 mod shape;
 
 use crate::known::Name;
-use crate::page::Tell;
 use crate::sight::Sight;
 use bpf_check::{Cause, Index};
 use bpf_insn::{Code, Reg};
+use bpf_page::Tell;
 use bpf_state::Place;
 pub use labels::{tell_function, tell_label, tell_start};
 pub use shape::{Silence, tell_silence};
@@ -37,7 +37,7 @@ pub fn tell<'a, W: Tell, C: Code>(
         Cause::UnsetByte => memory::tell_unknown_bytes(out, sight),
         Cause::Protected => memory::tell_protected(out, sight),
         Cause::NotEntailed => edges::tell_difference(out, certificate, sight),
-        Cause::OverBudget => budget::tell_unpaid(out, certificate, sight),
+        Cause::OverBudget => budget::tell_unpaid(out, sight),
         Cause::NoDeeper => shape::tell_depth(out, certificate, sight),
         Cause::FallsOff => shape::tell_end(out),
         Cause::LeavesFunction => shape::tell_leaving(out, program, certificate, sight),

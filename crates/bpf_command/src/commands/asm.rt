@@ -2,7 +2,7 @@
 
 ghost use Rattle.std.specs.Prelude.{◌≡◌, IfOk, IfErr, IfSome, MatchResult};
 ghost use Rattle.std.specs.String.{string_bytes};
-ghost use Rattle.bpf_command.specs.Answer.{Answer, Says, text_of};
+ghost use Rattle.bpf_command.specs.Answer.{Answered, Says, text_of};
 ghost use Rattle.bpf_command.specs.Answer.Answer.{NoText};
 ghost use Rattle.bpf_command.specs.Opened.{opening};
 ghost use Rattle.bpf_command.specs.Loaded.{TextAt, TextFails, ReadsText, TextTooLong};
@@ -106,7 +106,7 @@ pub fn assembled<'a, P: Streams, W: Write>(
     output: &'a str,
     order: Order,
 ) -> Result<u8, Failure<'a>>
-    ensures ok { IfOk result (λ status. (answer : Answer) × Says answer status (W.contents out.old) (W.contents out.new) × AsmSays (opening P.opens P.Reader.remaining) (making P.creates P.ends P.Writer.contents) order streams.old input.entry.now output.entry.now streams.new answer) }
+    ensures ok { IfOk result (Answered (AsmSays (opening P.opens P.Reader.remaining) (making P.creates P.ends P.Writer.contents) order streams.old input.entry.now output.entry.now streams.new) (W.contents out.old) (W.contents out.new)) }
     ensures err { IfErr result (AsmFails (opening P.opens P.Reader.remaining) (making P.creates P.ends P.Writer.contents) order streams.old input.entry.now output.entry.now streams.new) }
 {
     let text = match text_at(alloc, streams, input)? {

@@ -2,7 +2,7 @@
 
 ghost use Rattle.std.specs.Prelude.{IfOk, IfErr};
 ghost use Rattle.bpf_command.specs.Opened.{opening};
-ghost use Rattle.bpf_command.specs.Answer.{Answer, Says};
+ghost use Rattle.bpf_command.specs.Answer.{Answered};
 ghost use Rattle.bpf_command.specs.Printed.{CheckSays, LoadedFails};
 
 use crate::commands::image::{image_at, refuse};
@@ -25,7 +25,7 @@ pub fn checked<'a, P: Streams, W: Write>(
     order: Order,
     counted: bool,
 ) -> Result<u8, Failure<'a>>
-    ensures ok { IfOk result (λ status. (answer : Answer) × Says answer status (W.contents out.old) (W.contents out.new) × CheckSays (opening P.opens P.Reader.remaining) order streams.old input.entry.now certificate.entry.now streams.new counted answer) }
+    ensures ok { IfOk result (Answered (CheckSays (opening P.opens P.Reader.remaining) order streams.old input.entry.now certificate.entry.now streams.new counted) (W.contents out.old) (W.contents out.new)) }
     ensures err { IfErr result (LoadedFails (opening P.opens P.Reader.remaining) order streams.old input.entry.now certificate.entry.now streams.new) }
 {
     image_is_injective();

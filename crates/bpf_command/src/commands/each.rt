@@ -17,7 +17,7 @@ use std::io::{Read, Write};
 /// What answers contexts.
 pub trait Runner {
     ghost use Rattle.std.specs.Prelude.{◌≤◌, ℕ, List, IfOk, IfErr, length};
-    ghost use Rattle.bpf_command.specs.Answer.{Answer, Says};
+    ghost use Rattle.bpf_command.specs.Answer.{Answer, Answered};
     ghost use Rattle.bpf_command.specs.Told.{OutputFails};
 
     /// What is answered to a context.
@@ -31,7 +31,7 @@ pub trait Runner {
         context: &[u8],
     ) -> Result<u8, Failure<'a>>
         requires { length context.now ≤ 4096 }
-        ensures ok { IfOk result (λ status. (answer : Answer) × Says answer status (W.contents out.old) (W.contents out.new) × says self.now context.now answer) }
+        ensures ok { IfOk result (Answered (says self.now context.now) (W.contents out.old) (W.contents out.new)) }
         ensures err { IfErr result OutputFails };
 }
 

@@ -1,6 +1,9 @@
 //! `bpf explain IN`, and the same with a certificate, over the inferrer's work, and of a text.
 
-ghost use Rattle.std.specs.Prelude.{◌≡◌, ◌⊎◌, IfOk, IfErr, None, MatchResult, false};
+ghost use Rattle.std.specs.Prelude.{◌≡◌, ◌⊎◌, IfOk, IfErr, IfNone, IfSome, None, MatchResult, false};
+ghost use Rattle.bpf_safety.specs.Certified.{IsLeastFlaw};
+ghost use Rattle.bpf_check.specs.CheckedProgram.{IsCertifiedBy};
+ghost use Rattle.bpf_check.specs.RefusalNumbers.{refusal_number, refusal_slot};
 ghost use Rattle.bpf_command.specs.Opened.{opening};
 ghost use Rattle.bpf_command.specs.Loaded.{CertificateAt, CertificateFails, CertificateRefused, ImageFails, TextFails};
 ghost use Rattle.bpf_command.specs.Explained.{Answers, ExplainFails, ExplainSays, JudgesOf, SoughtSays, TextSays};
@@ -14,7 +17,7 @@ use crate::failure::{DONE, Failure, REFUSED};
 use crate::keeping::Keeping;
 use crate::streams::Streams;
 use bpf_cert::{CertError, Certificate, read};
-use bpf_check::check;
+use bpf_check::{Refusal, check};
 use bpf_explain::{
     dot, dot_plain, explain, explain_certificate, explain_image, explain_inferred,
     explain_searched, explain_slot, explain_text,
@@ -24,7 +27,7 @@ use bpf_insn::{Code, DecodeError, MAX_CONTEXT, Order, Program, ProgramView, deco
 use bpf_request::Subject;
 use bpf_text::{TextError, assemble};
 use std::alloc::Global;
-use std::io::Write;
+use std::io::{self, Write};
 
 // ---- images and texts
 
@@ -148,7 +151,24 @@ enum Shown {
     Graph,
 }
 
-/// Shows a program with its certificate.
+/// Shows a program with its certificate. The checker's answer: None if the certificate certifies the program.
+fn show<C: Code, W: Write>(
+    out: &mut W,
+    program: &C,
+    certificate: &Certificate,
+    shown: Shown,
+) -> io::Result<Option<Refusal>>
+    ensures accepted { IfOk result (λ o. IfNone o (IsCertifiedBy (C.program program.now) certificate.now)) }
+    ensures refused { IfOk result (λ o. IfSome o (λ r. IsLeastFlaw (C.program program.now) certificate.now (refusal_slot r) (refusal_number r))) }
+{
+    match shown {
+        Shown::Listing => explain(program, certificate, out),
+        Shown::Slot(slot) => explain_slot(program, certificate, slot, out),
+        Shown::Graph => dot(program, certificate, out),
+    }
+}
+
+/// Shows a program with its certificate, and answers the status.
 fn say_program<'a, C: Code, W: Write>(
     out: &mut W,
     program: &C,
@@ -158,16 +178,10 @@ fn say_program<'a, C: Code, W: Write>(
     ensures ok { IfOk result (JudgesOf (C.program program.now) certificate.now) }
     ensures err { IfErr result OutputFails }
 {
-    let status = verdict(program, certificate);
-    let is_written = match shown {
-        Shown::Listing => explain(program, certificate, out).is_ok(),
-        Shown::Slot(slot) => explain_slot(program, certificate, slot, out).is_ok(),
-        Shown::Graph => dot(program, certificate, out).is_ok(),
-    };
-    if is_written {
-        Ok(status)
-    } else {
-        Err(Failure::CannotWrite("standard output"))
+    match show(out, program, certificate, shown) {
+        Ok(None) => Ok(DONE),
+        Ok(Some(_refusal)) => Ok(REFUSED),
+        Err(_) => Err(Failure::CannotWrite("standard output")),
     }
 }
 

@@ -2,7 +2,7 @@
 
 ghost use Rattle.std.specs.Prelude.{◌≡◌, IfOk, IfErr};
 ghost use Rattle.bpf_command.specs.Opened.{opening};
-ghost use Rattle.bpf_command.specs.Answer.{Answer, Says, groups_line};
+ghost use Rattle.bpf_command.specs.Answer.{Answered, Says, groups_line};
 ghost use Rattle.bpf_command.specs.Answer.Answer.{Occur};
 ghost use Rattle.bpf_command.specs.Loaded.{ImageFails};
 ghost use Rattle.bpf_command.specs.Printed.{GroupsSay, ImageSays};
@@ -48,7 +48,7 @@ pub fn grouped<'a, P: Streams, W: Write>(
     input: &'a str,
     order: Order,
 ) -> Result<u8, Failure<'a>>
-    ensures ok { IfOk result (λ status. (answer : Answer) × Says answer status (W.contents out.old) (W.contents out.new) × ImageSays (opening P.opens P.Reader.remaining) order streams.old input.entry.now streams.new GroupsSay answer) }
+    ensures ok { IfOk result (Answered (ImageSays (opening P.opens P.Reader.remaining) order streams.old input.entry.now streams.new GroupsSay) (W.contents out.old) (W.contents out.new)) }
     ensures err { IfErr result (ImageFails (opening P.opens P.Reader.remaining) streams.old input.entry.now streams.new) }
 {
     let bytes = match image_at(alloc, streams, input)? {

@@ -5,7 +5,7 @@ ghost use Rattle.std.specs.String.{string_bytes};
 ghost use Rattle.bpf_insn.specs.Instruction.{slots};
 ghost use Rattle.bpf_cert.specs.Limits.{IsCertificate};
 ghost use Rattle.bpf_proposal.specs.RefusalNumbers.{infer_slot};
-ghost use Rattle.bpf_command.specs.Answer.{Answer, Says, text_of};
+ghost use Rattle.bpf_command.specs.Answer.{Answered, Says, text_of};
 ghost use Rattle.bpf_command.specs.Answer.Answer.{NotProposed};
 ghost use Rattle.bpf_command.specs.Made.{making};
 ghost use Rattle.bpf_command.specs.Opened.{opening};
@@ -89,7 +89,7 @@ pub fn inferred<'a, P: Streams, W: Write, H: Watch>(
     output: &'a str,
     order: Order,
 ) -> Result<u8, Failure<'a>>
-    ensures ok { IfOk result (λ status. (answer : Answer) × Says answer status (W.contents out.old) (W.contents out.new) × InferSays (opening P.opens P.Reader.remaining) (making P.creates P.ends P.Writer.contents) order streams.old input.entry.now least most output.entry.now streams.new answer) }
+    ensures ok { IfOk result (Answered (InferSays (opening P.opens P.Reader.remaining) (making P.creates P.ends P.Writer.contents) order streams.old input.entry.now least most output.entry.now streams.new) (W.contents out.old) (W.contents out.new)) }
     ensures err { IfErr result (InferFails (opening P.opens P.Reader.remaining) (making P.creates P.ends P.Writer.contents) order streams.old input.entry.now least most output.entry.now streams.new) }
 {
     let program = match program_at(alloc, streams, input, order)? {

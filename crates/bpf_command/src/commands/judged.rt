@@ -4,7 +4,7 @@ ghost use Rattle.std.specs.Prelude.{◌≡◌, IfOk, IfErr, Some, None};
 ghost use Rattle.std.specs.String.{string_bytes};
 ghost use Rattle.bpf_check.specs.CheckedProgram.{work_of};
 ghost use Rattle.bpf_command.specs.Opened.{opening};
-ghost use Rattle.bpf_command.specs.Answer.{Answer, Says, work_line, yes_line, no_context_line};
+ghost use Rattle.bpf_command.specs.Answer.{Answered, Says, no_context_line, work_line, yes_line};
 ghost use Rattle.bpf_command.specs.Answer.Answer.{Yes, NoContext, Ends};
 ghost use Rattle.bpf_command.specs.Loaded.{CertificateFails};
 ghost use Rattle.bpf_command.specs.Printed.{JudgedSays, ResultSays, WishSays};
@@ -130,7 +130,7 @@ fn run_on<'a, C: Code, W: Write>(
     checked: &Checked<'_, C>,
     context: &[u8],
 ) -> Result<u8, Failure<'a>>
-    ensures ok { IfOk result (λ status. (answer : Answer) × Says answer status (W.contents out.old) (W.contents out.new) × ResultSays context.now checked.now answer) }
+    ensures ok { IfOk result (Answered (ResultSays context.now checked.now) (W.contents out.old) (W.contents out.new)) }
     ensures err { IfErr result OutputFails }
 {
     let least = checked.least();
@@ -149,7 +149,7 @@ fn grant<'a, C: Code, W: Write>(
     checked: &Checked<'_, C>,
     wish: Wish<'_>,
 ) -> Result<u8, Failure<'a>>
-    ensures ok { IfOk result (λ status. (answer : Answer) × Says answer status (W.contents out.old) (W.contents out.new) × WishSays wish.entry checked.now answer) }
+    ensures ok { IfOk result (Answered (WishSays wish.entry checked.now) (W.contents out.old) (W.contents out.new)) }
     ensures err { IfErr result OutputFails }
 {
     match wish {
@@ -206,7 +206,7 @@ pub fn judged<'a, P: Streams, C: Code, W: Write>(
     certificate: &'a str,
     wish: Wish<'_>,
 ) -> Result<u8, Failure<'a>>
-    ensures ok { IfOk result (λ status. (answer : Answer) × Says answer status (W.contents out.old) (W.contents out.new) × JudgedSays (opening P.opens P.Reader.remaining) streams.old certificate.entry.now streams.new (C.program program.now) (WishSays wish.entry) answer) }
+    ensures ok { IfOk result (Answered (JudgedSays (opening P.opens P.Reader.remaining) streams.old certificate.entry.now streams.new (C.program program.now) (WishSays wish.entry)) (W.contents out.old) (W.contents out.new)) }
     ensures err { IfErr result (CertificateFails (opening P.opens P.Reader.remaining) streams.old certificate.entry.now streams.new) }
 {
     let certificate = match certificate_at(alloc, streams, certificate)? {

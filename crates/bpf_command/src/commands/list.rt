@@ -3,7 +3,7 @@
 ghost use Rattle.std.specs.Prelude.{◌≡◌, IfOk, IfErr, None, Some};
 ghost use Rattle.bpf_insn.specs.Image.{image};
 ghost use Rattle.bpf_command.specs.Opened.{opening};
-ghost use Rattle.bpf_command.specs.Answer.{Answer, Says};
+ghost use Rattle.bpf_command.specs.Answer.{Answered, Says};
 ghost use Rattle.bpf_command.specs.Answer.Answer.{Annotates, Lists};
 ghost use Rattle.bpf_command.specs.Loaded.{ImageFails};
 ghost use Rattle.bpf_command.specs.Printed.{ImageSays, ListSays, notes_of};
@@ -53,7 +53,7 @@ fn listed_plainly<'a, P: Streams, W: Write>(
     input: &'a str,
     order: Order,
 ) -> Result<u8, Failure<'a>>
-    ensures ok { IfOk result (λ status. (answer : Answer) × Says answer status (W.contents out.old) (W.contents out.new) × ImageSays (opening P.opens P.Reader.remaining) order streams.old input.entry.now streams.new (ListSays None) answer) }
+    ensures ok { IfOk result (Answered (ImageSays (opening P.opens P.Reader.remaining) order streams.old input.entry.now streams.new (ListSays None)) (W.contents out.old) (W.contents out.new)) }
     ensures err { IfErr result (ImageFails (opening P.opens P.Reader.remaining) streams.old input.entry.now streams.new) }
 {
     match program_at(alloc, streams, input, order)? {
@@ -71,7 +71,7 @@ fn listed_with<'a, P: Streams, W: Write>(
     notes: Notes,
     order: Order,
 ) -> Result<u8, Failure<'a>>
-    ensures ok { IfOk result (λ status. (answer : Answer) × Says answer status (W.contents out.old) (W.contents out.new) × ImageSays (opening P.opens P.Reader.remaining) order streams.old input.entry.now streams.new (ListSays (Some notes)) answer) }
+    ensures ok { IfOk result (Answered (ImageSays (opening P.opens P.Reader.remaining) order streams.old input.entry.now streams.new (ListSays (Some notes))) (W.contents out.old) (W.contents out.new)) }
     ensures err { IfErr result (ImageFails (opening P.opens P.Reader.remaining) streams.old input.entry.now streams.new) }
 {
     let bytes = match image_at(alloc, streams, input)? {
@@ -106,7 +106,7 @@ pub fn listed<'a, P: Streams, W: Write>(
     bytes: bool,
     order: Order,
 ) -> Result<u8, Failure<'a>>
-    ensures ok { IfOk result (λ status. (answer : Answer) × Says answer status (W.contents out.old) (W.contents out.new) × ImageSays (opening P.opens P.Reader.remaining) order streams.old input.entry.now streams.new (ListSays (notes_of slots bytes)) answer) }
+    ensures ok { IfOk result (Answered (ImageSays (opening P.opens P.Reader.remaining) order streams.old input.entry.now streams.new (ListSays (notes_of slots bytes))) (W.contents out.old) (W.contents out.new)) }
     ensures err { IfErr result (ImageFails (opening P.opens P.Reader.remaining) streams.old input.entry.now streams.new) }
 {
     match notes_of(slots, bytes) {

@@ -3,7 +3,7 @@
 ghost use Rattle.std.specs.Prelude.{IfOk, IfErr};
 ghost use Rattle.bpf_command.specs.Opened.{opening};
 ghost use Rattle.bpf_command.specs.Made.{making};
-ghost use Rattle.bpf_command.specs.Answer.{Answer, Says};
+ghost use Rattle.bpf_command.specs.Answer.{Answered};
 ghost use Rattle.bpf_command.specs.Printed.{MigrateSays, MigrateFails};
 
 use crate::commands::certificate::{certificate_at, refuse_text};
@@ -22,7 +22,7 @@ pub fn migrated<'a, P: Streams, W: Write>(
     certificate: &'a str,
     output: &'a str,
 ) -> Result<u8, Failure<'a>>
-    ensures ok { IfOk result (λ status. (answer : Answer) × Says answer status (W.contents out.old) (W.contents out.new) × MigrateSays (opening P.opens P.Reader.remaining) (making P.creates P.ends P.Writer.contents) streams.old certificate.entry.now output.entry.now streams.new answer) }
+    ensures ok { IfOk result (Answered (MigrateSays (opening P.opens P.Reader.remaining) (making P.creates P.ends P.Writer.contents) streams.old certificate.entry.now output.entry.now streams.new) (W.contents out.old) (W.contents out.new)) }
     ensures err { IfErr result (MigrateFails (opening P.opens P.Reader.remaining) (making P.creates P.ends P.Writer.contents) streams.old certificate.entry.now output.entry.now streams.new) }
 {
     let certificate = match certificate_at(alloc, streams, certificate)? {

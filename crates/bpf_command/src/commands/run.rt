@@ -4,7 +4,7 @@ ghost use Rattle.std.specs.Prelude.{◌≡◌, ◌≤◌, ℕ, List, Ok, IfOk, I
 ghost use Rattle.std.specs.String.{string_bytes};
 ghost use Rattle.bpf_command.specs.Context.{context_in};
 ghost use Rattle.bpf_command.specs.Opened.{opening};
-ghost use Rattle.bpf_command.specs.Answer.{Answer, Says, status_of, text_of};
+ghost use Rattle.bpf_command.specs.Answer.{Answer, Answered, Says, status_of, text_of};
 ghost use Rattle.bpf_command.specs.Answer.Answer.{Ran};
 ghost use Rattle.bpf_command.specs.Loaded.{ImageFails};
 ghost use Rattle.bpf_command.specs.Printed.{FailsWith, ImageSays, OutcomeSays};
@@ -72,7 +72,7 @@ fn run_image<'a, P: Streams, W: Write>(
     order: Order,
 ) -> Result<u8, Failure<'a>>
     requires { length context.now ≤ 4096 }
-    ensures ok { IfOk result (λ status. (answer : Answer) × Says answer status (W.contents out.old) (W.contents out.new) × ImageSays (opening P.opens P.Reader.remaining) order streams.old input.entry.now streams.new (OutcomeSays context.now steps) answer) }
+    ensures ok { IfOk result (Answered (ImageSays (opening P.opens P.Reader.remaining) order streams.old input.entry.now streams.new (OutcomeSays context.now steps)) (W.contents out.old) (W.contents out.new)) }
     ensures err { IfErr result (ImageFails (opening P.opens P.Reader.remaining) streams.old input.entry.now streams.new) }
 {
     match program_at(alloc, streams, input, order)? {

@@ -3,7 +3,7 @@
 ghost use Rattle.std.specs.Prelude.{◌≡◌, ℕ, List, Ok, IfOk, IfErr};
 ghost use Rattle.bpf_command.specs.Context.{context_in};
 ghost use Rattle.bpf_command.specs.Opened.{opening};
-ghost use Rattle.bpf_command.specs.Answer.{Answer, Says};
+ghost use Rattle.bpf_command.specs.Answer.{Answer, Answered, Says};
 ghost use Rattle.bpf_command.specs.Given.{CheckedAtSays, CheckedEachFails, CheckedEachSays, CheckedFails, CheckedSays, FailsBehind};
 ghost use Rattle.bpf_command.specs.Printed.{RunCheckedSays, LoadedFails, FailsWith};
 
@@ -28,7 +28,7 @@ fn run_certified<'a, P: Streams, W: Write>(
     context: &[u8],
     order: Order,
 ) -> Result<u8, Failure<'a>>
-    ensures ok { IfOk result (λ status. (answer : Answer) × Says answer status (W.contents out.old) (W.contents out.new) × RunCheckedSays (opening P.opens P.Reader.remaining) order streams.old input.entry.now certificate.entry.now streams.new context.now answer) }
+    ensures ok { IfOk result (Answered (RunCheckedSays (opening P.opens P.Reader.remaining) order streams.old input.entry.now certificate.entry.now streams.new context.now) (W.contents out.old) (W.contents out.new)) }
     ensures err { IfErr result (LoadedFails (opening P.opens P.Reader.remaining) order streams.old input.entry.now certificate.entry.now streams.new) }
 {
     match program_at(alloc, streams, input, order)? {

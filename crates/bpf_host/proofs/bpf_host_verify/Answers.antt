@@ -1,11 +1,8 @@
 use Rattle.std.proofs.Common.{◌≡◌, refl, sym, ap, subst, ◌∙◌, inl}
 use Rattle.bpf_check.specs.Verdicts.{Certifies}
 use Rattle.bpf_host.specs.Told.{order_named}
-use Rattle.bpf_host.proofs.VerdictLemmas.{limits}
+use Rattle.bpf_host.proofs.VerdictLemmas.{image_of_unread}
 use Rattle.bpf_host.proofs.bpf_host_verify.Goals as goal
-
-pub returns-in-Ok-clause-limits : goal.returns-in-Ok-clause-limits
-returns-in-Ok-clause-limits c = λ yes. limits _ _ _ _ _ _ c.in-Ok.ensures.promised
 
 pub returns-in-Ok-clause-accepts : goal.returns-in-Ok-clause-accepts
 returns-in-Ok-clause-accepts c = λ d few certifies.

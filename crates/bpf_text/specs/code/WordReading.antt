@@ -57,7 +57,6 @@ behind_front (c ∷ cs) text = behind_word (c ∷ cs) text
 unfoldable pub behind : List ℕ → List ℕ → Option (List ℕ)
 behind spelling text = behind_front (word_front spelling) text >>= behind_marks (word_rest spelling)
 
--- the first of these things whose spelling stands in front
 abbrev pub or_else : {A : Type 0} → Option A → Option A → Option A
 or_else None y = y
 or_else (Some x) y = Some x
@@ -66,6 +65,7 @@ abbrev pub found_here : {A : Type 0} → A → Option (List ℕ) → Read A
 found_here x None = None
 found_here x (Some rest) = Some (x, rest)
 
+-- the first of these things whose spelling stands in front
 abbrev pub first_spelled : {A : Type 0} → (A → List ℕ) → List A → List ℕ → Read A
 first_spelled spelling [] text = None
 first_spelled spelling (x ∷ xs) text = or_else (found_here x (behind (spelling x) text)) (first_spelled spelling xs text)

@@ -3,9 +3,9 @@
 use crate::graph::Scene;
 use crate::known::Spelled;
 use crate::listing::{write_budget, write_function};
-use crate::page::Tell;
 use bpf_check::{Index, Refusal, function_at, label_at};
 use bpf_insn::{Code, Insn, MAX_SLOTS};
+use bpf_page::Tell;
 
 /// How a block looks.
 #[derive(Clone, Copy)]

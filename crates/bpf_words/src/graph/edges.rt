@@ -4,9 +4,9 @@ ghost use Rattle.std.specs.Prelude.{◌≤◌};
 
 use crate::graph::Scene;
 use crate::graph::plan::call_target;
-use crate::page::Tell;
 use bpf_check::jump_target;
 use bpf_insn::{Code, Insn, MAX_SLOTS};
+use bpf_page::Tell;
 
 /// What an edge stands for.
 #[derive(Clone, Copy)]

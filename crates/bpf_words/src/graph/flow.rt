@@ -19,7 +19,7 @@ pub struct Flow {
 }
 
 /// Whether there is an edge, and a state goes along it.
-fn is_live(edge: Option<Edge>) -> bool {
+fn is_live<'a>(edge: Option<Edge<'a>>) -> bool {
     match edge {
         Some(edge) => edge.is_live,
         None => false,

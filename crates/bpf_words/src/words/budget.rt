@@ -1,12 +1,12 @@
 //! Budgets that don't cover a cost.
 
 use crate::known::{Known, Name};
-use crate::page::Tell;
 use crate::places::{content, tag_at};
 use crate::sight::{Edge, Sight, total_of};
 use bpf_cert::{Label, Measure, Term};
-use bpf_check::{Index, label_at, place_of};
+use bpf_check::place_of;
 use bpf_insn::Insn;
+use bpf_page::Tell;
 use bpf_state::{Place, SlotState, State, Tag};
 
 /// What a place that holds a counter did on the way: `r6 falls by 1 at weight 5`.
@@ -87,23 +87,17 @@ fn tell_way<W: Tell>(out: &mut W, way: &str, cost: i128, old: &Label, new: &Labe
 }
 
 /// What is missing on an edge that isn't paid.
-fn lack_of(edge: Edge) -> Option<i128> {
+fn lack_of<'a>(edge: Edge<'a>) -> Option<i128> {
     let total = total_of(edge.slack?);
     if total < 0 { Some(total) } else { None }
 }
 
 /// Tells of an edge that isn't paid. Whether there was something to tell.
-fn tell_edge<'a, W: Tell>(
-    out: &mut W,
-    certificate: &Index,
-    sight: &Sight<'a>,
-    edge: Edge,
-    state: &State,
-) -> bool {
+fn tell_edge<'a, W: Tell>(out: &mut W, sight: &Sight<'a>, edge: Edge<'a>, state: &State) -> bool {
     let (Some(here), Some(cost), Some(lack)) = (sight.here, sight.cost, lack_of(edge)) else {
         return false;
     };
-    let Some(new) = label_at(certificate, edge.to) else {
+    let Some(new) = edge.label else {
         return false;
     };
     let way = if edge.to <= sight.slot {
@@ -131,16 +125,16 @@ fn tell_exit<'a, W: Tell>(out: &mut W, sight: &Sight<'a>) {
 }
 
 /// C9: the budget at the last label doesn't cover the cost on an edge or at EXIT.
-pub fn tell_unpaid<'a, W: Tell>(out: &mut W, certificate: &Index, sight: &Sight<'a>) {
+pub fn tell_unpaid<'a, W: Tell>(out: &mut W, sight: &Sight<'a>) {
     if let Insn::Exit = sight.insn {
         return tell_exit(out, sight);
     }
     if let Some(edge) = sight.jump {
-        if tell_edge(out, certificate, sight, edge, sight.jump_state()) {
+        if tell_edge(out, sight, edge, sight.jump_state()) {
             return;
         }
     }
     if let Some(edge) = sight.next {
-        let _ = tell_edge(out, certificate, sight, edge, sight.next_state());
+        let _ = tell_edge(out, sight, edge, sight.next_state());
     }
 }

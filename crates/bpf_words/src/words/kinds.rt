@@ -2,11 +2,11 @@
 
 use crate::effects::{slots_touched, unknown_register};
 use crate::known::{Known, Name, Offset, known_register};
-use crate::page::Tell;
 use crate::places::content;
 use crate::sight::Sight;
 use crate::words::register;
 use bpf_insn::{Access, AluOp, AtomicOp, Insn, Operand, Reg, Width};
+use bpf_page::Tell;
 use bpf_state::{Place, RegState, SlotState, State};
 
 /// C3: a register that is read may be uninitialised.
@@ -32,7 +32,7 @@ fn tell_register<W: Tell>(out: &mut W, rule: &str, state: &State, reg: Reg) {
 }
 
 /// A rule, and what the operands hold, as far as they are registers.
-fn tell_operands<W: Tell>(out: &mut W, rule: &str, state: &State, dst: Reg, src: Operand) {
+pub fn tell_operands<W: Tell>(out: &mut W, rule: &str, state: &State, dst: Reg, src: Operand) {
     match src {
         Operand::Reg(src) => {
             let (name, held) = (register(dst), known_register(state.reg(dst)));
@@ -93,15 +93,20 @@ fn pointer_slot(state: &State, access: Access) -> Option<u8> {
     None
 }
 
-/// The part of a spilled pointer that is read.
+/// The spilled pointer that is read in part, or changed.
 fn tell_part<W: Tell>(out: &mut W, state: &State, access: Access) {
     match pointer_slot(state, access) {
         Some(slot) => {
             let place = Place::Slot(slot);
             let (name, held) = (Name(place), Known(content(state, place)));
+            let (deed, rule) = if access.writes {
+                ("change", "an atomic operation takes numbers alone")
+            } else {
+                ("read a part of", "a pointer is read as 8 bytes at its slot")
+            };
             write!(
                 out,
-                "may read a part of {name}, which holds the pointer {held}: a pointer is read as 8 bytes at its slot"
+                "may {deed} {name}, which holds the pointer {held}: {rule}"
             );
         }
         None => write!(out, "takes operands of other kinds"),

@@ -1,18 +1,20 @@
 //! Why conditions fail at a label, at a function, or at the start.
 
 use crate::known::{Known, Name, Written};
-use crate::page::Tell;
+use crate::listing::steps_of;
 use crate::places::{PLACES, content, place_at, state_at};
-use crate::words::edges::first_difference;
+use crate::words::edges::{Difference, first_difference};
 use bpf_cert::{Function, Label, Measure, Term};
 use bpf_check::{Cause, Index, begins_elsewhere, function_at, greatest_budget, label_at, place_of};
 use bpf_insn::Code;
+use bpf_num::Num;
+use bpf_page::{Count, Tell};
 use bpf_state::{Place, SlotState, State};
 
 /// C2: a label is at no instruction's first slot.
 fn tell_place<W: Tell, C: Code>(out: &mut W, program: &C, slot: u32) {
-    let slots = program.slots();
-    if slot < slots {
+    let slots = Count(program.slots(), "slot");
+    if slot < program.slots() {
         write!(
             out,
             "the label stands at the second slot of a wide instruction"
@@ -20,7 +22,7 @@ fn tell_place<W: Tell, C: Code>(out: &mut W, program: &C, slot: u32) {
     } else {
         write!(
             out,
-            "the label stands behind the program's end: it has {slots} slots"
+            "the label stands behind the program's end: it has {slots}"
         );
     }
 }
@@ -48,14 +50,14 @@ fn tell_term<W: Tell>(out: &mut W, label: &Label, term: &Term) {
     }
 }
 
-/// The first place of a label whose number has no member.
-fn empty_place(label: &Label) -> Option<Place> {
+/// The first place of a label whose number has no member, and the number.
+fn empty_number(label: &Label) -> Option<(Place, Num)> {
     let state = state_at(label);
     for index in 0..PLACES {
         let place = place_at(index);
         if let SlotState::Word(number) = content(&state, place) {
             if number.tighten().is_none() {
-                return Some(place);
+                return Some((place, number));
             }
         }
     }
@@ -81,10 +83,9 @@ fn tell_shape<W: Tell>(out: &mut W, certificate: &Index, function: &Function, la
             );
         }
     }
-    match empty_place(label) {
-        Some(place) => {
-            let name = Name(place);
-            let said = Written(place, content(&state_at(label), place));
+    match empty_number(label) {
+        Some((place, number)) => {
+            let (name, said) = (Name(place), Written(SlotState::Word(number)));
             write!(out, "no number is {said}, as the label says of {name}");
         }
         None => write!(out, "the label's state has no member"),
@@ -120,9 +121,7 @@ pub fn tell_function<W: Tell>(out: &mut W, function: &Function) {
 
 /// C13: the start doesn't lie in the label at slot 0.
 fn tell_outside<W: Tell>(out: &mut W, start: &State, label: &Label) {
-    if let Some(place) = first_difference(start, &state_at(label)) {
-        let (name, held) = (Name(place), Known(content(start, place)));
-        let said = Written(place, content(&state_at(label), place));
+    if let Some(Difference { name, held, said }) = first_difference(start, label) {
         write!(
             out,
             "{name} at the start is {held}; the label at slot 0 says {said}"
@@ -143,12 +142,11 @@ pub fn tell_start<W: Tell>(out: &mut W, certificate: &Index, cause: Cause) {
         return;
     };
     if let Cause::OverBudget = cause {
-        let steps = certificate.steps();
-        let unit = if steps == 1 { "step" } else { "steps" };
+        let steps = steps_of(certificate);
         if let Some(most) = greatest_budget(label, &start) {
             write!(
                 out,
-                "the budget at slot 0 is up to {most} at the start, and the certificate promises {steps} {unit}"
+                "the budget at slot 0 is up to {most} at the start, and the certificate promises {steps}"
             );
         }
         return;

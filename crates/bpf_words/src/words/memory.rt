@@ -2,12 +2,14 @@
 
 use crate::effects::Reach;
 use crate::known::{Name, Offset, known_register};
-use crate::page::Tell;
+use crate::listing::Lengths;
 use crate::places::content;
 use crate::sight::Sight;
+use crate::words::kinds::tell_operands;
 use crate::words::register;
 use bpf_check::Index;
-use bpf_insn::{Access, Insn, Operand};
+use bpf_insn::{Access, Insn};
+use bpf_page::{Count, Tell};
 use bpf_state::{FRAME_START, Place, SlotState, State};
 use std::fmt;
 
@@ -26,26 +28,25 @@ struct Touch(Access);
 
 impl fmt::Display for Touch {
     fn fmt<W: fmt::Write>(&self, f: &mut fmt::Formatter<W>) -> fmt::Result {
-        let (verb, bytes) = (verb(self.0), self.0.size.bytes());
-        let unit = if bytes == 1 { "byte" } else { "bytes" };
+        let bytes = Count(u32::from(self.0.size.bytes()), "byte");
+        let verb = verb(self.0);
         let (name, off) = (register(self.0.base), Offset(self.0.off));
-        write!(f, "{verb} {bytes} {unit} at {name} {off}")
+        write!(f, "{verb} {bytes} at {name} {off}")
     }
 }
 
 /// `: `, and the byte that lies outside of the context or the frame.
 fn tell_outside<W: Tell>(out: &mut W, certificate: &Index, reach: Reach) {
     let (first, last) = (reach.first, reach.last);
-    let least = certificate.least();
     if reach.in_frame {
         if first < FRAME_START {
             write!(out, ": byte {first} of a frame from -512 to -1");
         } else {
             write!(out, ": byte {last} of a frame from -512 to -1");
         }
-    } else if last >= i64::from(least) {
-        let unit = if least == 1 { "byte" } else { "bytes" };
-        write!(out, ": byte {last} of a context of {least} {unit}");
+    } else if last >= i64::from(certificate.least()) {
+        let lengths = Lengths::of(certificate);
+        write!(out, ": byte {last} of a context of {lengths}");
     } else {
         write!(out, ": byte {first}, in front of the context");
     }
@@ -53,20 +54,10 @@ fn tell_outside<W: Tell>(out: &mut W, certificate: &Index, reach: Reach) {
 
 /// The registers of an operation that moves a pointer too far.
 fn tell_far<W: Tell>(out: &mut W, state: &State, insn: &Insn) {
-    write!(
-        out,
-        "the pointer may leave its bounds, -2147483648 to 2147483648"
-    );
-    let Insn::Alu { dst, src, .. } = *insn else {
-        return;
-    };
-    let (name, held) = (register(dst), known_register(state.reg(dst)));
-    match src {
-        Operand::Reg(src) => {
-            let (other, more) = (register(src), known_register(state.reg(src)));
-            write!(out, ": {name} is {held} and {other} is {more}");
-        }
-        Operand::Imm(_) => write!(out, ": {name} is {held}"),
+    let rule = "the pointer may leave its bounds, -2147483648 to 2147483648";
+    match *insn {
+        Insn::Alu { dst, src, .. } => tell_operands(out, rule, state, dst, src),
+        _ => write!(out, "{rule}"),
     }
 }
 

@@ -2,11 +2,11 @@
 
 ghost use Rattle.std.specs.Prelude.{◌≤◌};
 
-use crate::page::Tell;
 use crate::sight::Sight;
 use bpf_cert::LAST_SLOT;
 use bpf_check::{Index, callee, function_at, jump_target};
 use bpf_insn::{Code, Insn};
+use bpf_page::Tell;
 
 /// Why no state goes on to an instruction without a label.
 #[derive(Clone, Copy, PartialEq, Eq)]
@@ -37,7 +37,7 @@ pub fn tell_silence<W: Tell>(out: &mut W, silence: Silence) {
 pub fn tell_end<W: Tell>(out: &mut W) {
     write!(
         out,
-        "goes on past the program's end: the last instruction must be an exit or a jump"
+        "goes on past the program's end: the last instruction must be exit, goto or gotol"
     );
 }
 

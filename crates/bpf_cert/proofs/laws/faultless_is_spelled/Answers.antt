@@ -1,4 +1,4 @@
-use Rattle.bpf_cert.proofs.FaultlessLines.{spelled}
+use Rattle.bpf_cert.proofs.lines.FaultlessLines.{spelled}
 use Rattle.bpf_cert.proofs.laws.faultless_is_spelled.Goals as goal
 
 pub returns : goal.returns

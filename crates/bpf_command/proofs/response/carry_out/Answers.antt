@@ -1,12 +1,10 @@
-use Rattle.std.proofs.lemmas.Result.{IfErr-weaker}
 use Rattle.bpf_command.proofs.response.carry_out.Goals as goal
 
 pub returns-in-Run-clause-ok : goal.returns-in-Run-clause-ok
 returns-in-Run-clause-ok g c = rw c.in-Run.is c.ran_on.ensures.ok
 
 pub returns-in-Run-clause-err : goal.returns-in-Run-clause-err
-returns-in-Run-clause-err g c =
-    rw c.in-Run.is (IfErr-weaker c.ran_on.result _ _ (λ f h. (g.W.Write.contents c.args.out.now, g.W.Write.contents c.ran_on.new.out, h)) c.ran_on.ensures.err)
+returns-in-Run-clause-err g c = rw c.in-Run.is c.ran_on.ensures.err
 
 pub returns-in-Check-clause-ok : goal.returns-in-Check-clause-ok
 returns-in-Check-clause-ok g c = rw c.in-Check.is c.checked.ensures.ok
@@ -15,5 +13,4 @@ pub returns-in-RunChecked-clause-ok : goal.returns-in-RunChecked-clause-ok
 returns-in-RunChecked-clause-ok g c = rw c.in-RunChecked.is c.ran_checked_on.ensures.ok
 
 pub returns-in-RunChecked-clause-err : goal.returns-in-RunChecked-clause-err
-returns-in-RunChecked-clause-err g c =
-    rw c.in-RunChecked.is (IfErr-weaker c.ran_checked_on.result _ _ (λ f h. (g.W.Write.contents c.args.out.now, g.W.Write.contents c.ran_checked_on.new.out, h)) c.ran_checked_on.ensures.err)
+returns-in-RunChecked-clause-err g c = rw c.in-RunChecked.is c.ran_checked_on.ensures.err

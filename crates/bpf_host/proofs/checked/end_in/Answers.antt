@@ -7,7 +7,7 @@ use Rattle.bpf_host.proofs.checked.end_in.Goals as goal
 pub run-requires-clause-short : goal.run-requires-clause-short
 run-requires-clause-short g c =
     let high = c.requires.length_within.1 in
-    let few = c.requires.short in
+    let few = c.requires.verified.short in
     omega (arith, high, few)
 
 pub run-requires-clause-ends : goal.run-requires-clause-ends

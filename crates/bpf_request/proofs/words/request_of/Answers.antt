@@ -1,6 +1,6 @@
-use Rattle.std.proofs.Common.{ap, refl, sym, ◌≡◌, ◌∙◌, map, Some, None}
+use Rattle.std.proofs.Common.{ap, refl, subst, sym, ◌≡◌, ◌∙◌, map, Some, None}
 use Rattle.std.specs.String.{string_bytes}
-use Rattle.clap.specs.Words.{App, app_of, found_of, is_simple, rows_of, subcommand_of, subcommand_rows_of, takes}
+use Rattle.clap.specs.Words.{App, HasKind, app_of, fault_of, found_of, is_simple, is_simple_and_free, rows_of, subcommand_of, subcommand_rows_of, takes}
 use Rattle.bpf_request.specs.CommandLine.{bpf}
 use Rattle.bpf_request.proofs.RowLemmas.{found_sub, no_sub}
 use Rattle.bpf_request.proofs.words.request_of.Goals.{in-Some, in-None}
@@ -20,6 +20,16 @@ returns-clause-ok c =
           (let s : subcommand_of bpf (map (λ s. string_bytes s) c.args.words.now) ≡ None = sym sub ∙ no_sub _ _ refl w.in-None.ensures.name in
           rw (s, w.result-is) (refl, refl))
     ]
+
+pub returns-clause-judged : goal.returns-clause-judged
+returns-clause-judged c =
+    let app_is : app_of c.in_ok-command.field-0 ≡ bpf = c.in_ok-command.ensures.0 in
+    ap (λ (a : App). fault_of a (map (λ s. string_bytes s) c.args.words.now)) (sym app_is) ∙ c.in-Ok.ensures.kinds (ap is_simple_and_free app_is)
+
+pub returns-in-Err-clause-judged : goal.returns-in-Err-clause-judged
+returns-in-Err-clause-judged c =
+    let app_is : app_of c.in_ok-command.field-0 ≡ bpf = c.in_ok-command.ensures.0 in
+    subst (λ (a : App). HasKind (fault_of a (map (λ s. string_bytes s) c.args.words.now)) c.in-Err.error) app_is (c.in-Err.ensures.kinds (ap is_simple_and_free app_is))
 
 pub returns-in-Err-clause-accepts : goal.returns-in-Err-clause-accepts
 returns-in-Err-clause-accepts c = λ h. c.in-Err.ensures.passes (ap (λ (a : App). takes a (map (λ s. string_bytes s) c.args.words.now)) c.in_ok-command.ensures.0 ∙ h)

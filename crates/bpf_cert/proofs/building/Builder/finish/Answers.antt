@@ -1,4 +1,4 @@
-use Rattle.bpf_cert.proofs.SoundBuilder.{ended_sound}
+use Rattle.bpf_cert.proofs.sound.SoundBuilder.{ended_sound}
 use Rattle.bpf_cert.proofs.building.Builder.finish.Goals as goal
 
 pub of_parts-requires : goal.of_parts-requires

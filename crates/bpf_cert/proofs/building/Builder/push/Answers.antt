@@ -7,9 +7,9 @@ use Rattle.bpf_cert.specs.View.{label_view, function_view}
 use Rattle.bpf_cert.specs.code.Building.{closed_lines, open_lines}
 use Rattle.bpf_cert.specs.code.Sound.{IsLabelState, closed}
 use Rattle.bpf_cert.proofs.BuiltLemmas.{built_header, built_function, built_label, built_entry, built_end, unsaid_place}
-use Rattle.bpf_cert.proofs.SoundStates.{blank_state}
-use Rattle.bpf_cert.proofs.SoundSteps.{limited_number}
-use Rattle.bpf_cert.proofs.SoundBuilder.{header_sound, function_sound, label_sound, entry_sound, end_sound}
+use Rattle.bpf_cert.proofs.sound.SoundStates.{blank_state}
+use Rattle.bpf_cert.proofs.sound.SoundSteps.{limited_number}
+use Rattle.bpf_cert.proofs.sound.SoundBuilder.{header_sound, function_sound, label_sound, entry_sound, end_sound}
 use Rattle.bpf_cert.proofs.building.Builder.push.Goals as goal
 use Rattle.bpf_cert.proofs.building.Builder.push.Goals.{in-Header, in-Function+in_ok-close-in-Function, in-Label+in_ok-close_label-in-Label, in-Entry+in_ok-put-in-Entry, in-End+in_ok-close-in-End}
 

@@ -1,6 +1,6 @@
 use Rattle.std.proofs.Common.{arith, length, ◌<◌, ◌+◌, ◌∙◌, ap, refl}
 use Rattle.bpf_machine.specs.Running.{running}
-use Rattle.bpf_machine.specs.Frames.{state_of}
+use Rattle.bpf_machine.specs.code.Frames.{state_of}
 use Rattle.bpf_machine.specs.declared.machine.Caller.{Caller}
 use Rattle.bpf_machine.proofs.FrameLemmas.{live_is, entering}
 use Rattle.bpf_machine.proofs.machine.Machine.enter.Goals as goal

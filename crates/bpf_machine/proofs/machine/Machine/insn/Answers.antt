@@ -2,7 +2,7 @@ use Rattle.std.proofs.Common.{subst}
 use Rattle.std.specs.Prelude.{IfSome}
 use Rattle.bpf_insn.specs.Instruction.{distance}
 use Rattle.bpf_semantics.specs.Targets.{LeadsToSlot}
-use Rattle.bpf_machine.specs.Frames.{state_of}
+use Rattle.bpf_machine.specs.code.Frames.{state_of}
 use Rattle.bpf_machine.proofs.RunLemmas.{insn_leads}
 use Rattle.bpf_machine.proofs.machine.Machine.insn.Goals as goal
 

@@ -1,5 +1,5 @@
 use Rattle.std.proofs.Common.{ap, sym, ◌∙◌, Some}
-use Rattle.bpf_machine.specs.Frames.{state_of}
+use Rattle.bpf_machine.specs.code.Frames.{state_of}
 use Rattle.bpf_machine.proofs.FrameLemmas.{left_is}
 use Rattle.bpf_machine.proofs.machine.Machine.leave.Goals as goal
 

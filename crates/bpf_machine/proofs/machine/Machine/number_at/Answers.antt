@@ -1,6 +1,6 @@
 use Rattle.std.proofs.Common.{arith, subst, ◌≡◌, Some, IfOk, IfErr}
 use Rattle.bpf_insn.specs.Instruction.{byte_count}
-use Rattle.bpf_machine.specs.Locations.{IsInside}
+use Rattle.bpf_machine.specs.code.Locations.{IsInside}
 use Rattle.bpf_machine.proofs.FrameLemmas.{live_is, number_there, unreadable_there}
 use Rattle.bpf_machine.proofs.machine.Machine.number_at.Goals as goal
 

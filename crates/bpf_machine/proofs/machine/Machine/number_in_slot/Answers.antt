@@ -1,7 +1,7 @@
 use Rattle.std.proofs.Common.{arith, subst, ◌≡◌, Some}
 use Rattle.std.specs.Prelude.{IfSome}
 use Rattle.bpf_insn.specs.Instruction.{byte_count}
-use Rattle.bpf_machine.specs.Locations.{IsInside}
+use Rattle.bpf_machine.specs.code.Locations.{IsInside}
 use Rattle.bpf_machine.proofs.FrameLemmas.{live_is, number_there}
 use Rattle.bpf_machine.proofs.machine.Machine.number_in_slot.Goals as goal
 

@@ -1,5 +1,5 @@
 use Rattle.std.proofs.Common.{arith, ◌∙◌, subst}
-use Rattle.bpf_machine.specs.Locations.{IsInside}
+use Rattle.bpf_machine.specs.code.Locations.{IsInside}
 use Rattle.bpf_machine.proofs.FrameLemmas.{live_is, pointer_there}
 use Rattle.bpf_machine.proofs.machine.Machine.pointer_at.Goals as goal
 

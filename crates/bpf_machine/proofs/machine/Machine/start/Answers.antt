@@ -1,5 +1,5 @@
 use Rattle.std.proofs.Common.{rules}
-use Rattle.bpf_machine.specs.Frames.{state_of}
+use Rattle.bpf_machine.specs.code.Frames.{state_of}
 use Rattle.bpf_machine.proofs.machine.Machine.start.Goals as goal
 
 pub returns : goal.returns

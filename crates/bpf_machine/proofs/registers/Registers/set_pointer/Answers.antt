@@ -1,7 +1,7 @@
 use Rattle.std.proofs.Common.{◌∙◌, ap, ap₂, slice_set}
 use Rattle.std.specs.Int.{w64, cast_unsigned}
 use Rattle.std.proofs.lemmas.Int.{to_z-of_z}
-use Rattle.bpf_machine.specs.PackedRegisters.{value_of}
+use Rattle.bpf_machine.specs.code.PackedRegisters.{value_of}
 use Rattle.bpf_machine.proofs.RegisterLemmas.{written}
 use Rattle.bpf_machine.proofs.registers.Registers.set_pointer.Goals as goal
 

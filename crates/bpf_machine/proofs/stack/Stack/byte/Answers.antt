@@ -1,6 +1,6 @@
 use Rattle.std.proofs.Common.{◌∙◌, ap, ◌%◌, ◌/◌, [], ◌∷◌}
 use Rattle.bpf_semantics.specs.Stuck.{first_unreadable}
-use Rattle.bpf_machine.specs.PackedStack.{pointer_cell, slot_number}
+use Rattle.bpf_machine.specs.code.PackedStack.{pointer_cell, slot_number}
 use Rattle.bpf_machine.proofs.StackLemmas.{byte_held, byte_not_held}
 use Rattle.bpf_machine.proofs.stack.Stack.byte.Goals as goal
 

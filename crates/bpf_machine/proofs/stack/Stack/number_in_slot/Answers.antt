@@ -1,6 +1,6 @@
 use Rattle.std.proofs.Common.{◌∙◌, ◌≡◌, ◌%◌, ◌-◌, ℕ, subst, arith}
 use Rattle.bpf_insn.specs.Instruction.{byte_count}
-use Rattle.bpf_machine.specs.PackedStack.{IsMask}
+use Rattle.bpf_machine.specs.code.PackedStack.{IsMask}
 use Rattle.bpf_machine.proofs.StackLemmas.{number_found}
 use Rattle.bpf_machine.proofs.stack.Stack.number_in_slot.Goals as goal
 

@@ -3,7 +3,7 @@ use Rattle.std.specs.Int.{w64, cast_signed}
 use Rattle.std.proofs.lemmas.Int.{to_z-of_z}
 use Rattle.bpf_semantics.specs.Memory.{pointer_in}
 use Rattle.bpf_semantics.specs.declared.value.Value.TheVariants.{Pointer}
-use Rattle.bpf_machine.specs.PackedStack.{pointer_cell, slot_number}
+use Rattle.bpf_machine.specs.code.PackedStack.{pointer_cell, slot_number}
 use Rattle.bpf_machine.proofs.stack.Stack.pointer.Goals.{then-at-ne0-via-then-at-ne0, then-at-ne0-via-else-at-ne0+then-self-at-eq1}
 use Rattle.bpf_machine.proofs.StackLemmas.{no_pointer, number_read, slot_pointer}
 use Rattle.bpf_machine.proofs.stack.Stack.pointer.Goals as goal

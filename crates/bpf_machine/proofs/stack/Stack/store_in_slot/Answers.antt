@@ -2,7 +2,7 @@ use Rattle.std.proofs.Common.{◌∙◌, ap, sym, subst, ◌≡◌, ◌%◌, ℕ
 use Rattle.bpf_insn.specs.Order.{bytes_of}
 use Rattle.bpf_insn.specs.Instruction.{byte_count}
 use Rattle.bpf_semantics.specs.Memory.{with_bytes}
-use Rattle.bpf_machine.specs.PackedStack.{IsMask}
+use Rattle.bpf_machine.specs.code.PackedStack.{IsMask}
 use Rattle.bpf_insn.proofs.ByteLemmas.{bytes_long}
 use Rattle.bpf_machine.proofs.ByteLemmas.{front_written, some_bytes}
 use Rattle.bpf_machine.proofs.StackLemmas.{bytes_stored}

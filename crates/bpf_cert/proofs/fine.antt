@@ -1,0 +1,5 @@
+pub mod FineLines
+pub mod FineParts
+pub mod FineValues
+pub mod FineOrder
+pub mod CertificateFine

@@ -1,0 +1,10 @@
+pub mod LineLaws
+pub mod LineAgain
+pub mod LineForms
+pub mod LineValues
+pub mod LineStates
+pub mod LinesOnce
+pub mod WrittenTexts
+pub mod WrittenLines
+pub mod Faultless
+pub mod FaultlessLines

@@ -1,0 +1,4 @@
+pub mod SoundLemmas
+pub mod SoundStates
+pub mod SoundSteps
+pub mod SoundBuilder

@@ -1,0 +1,18 @@
+//! The states of the deep search, a fixpoint: loops are settled from the inside out, what they lose is taken back, dead code
+//! gets labels of its own. It makes no claim but to be safe and to end: who proposes what it finds puts it to the test.
+#![tactic(auto)]
+
+mod dead;
+mod judge;
+mod least;
+mod nest;
+mod region;
+mod repair;
+mod settle;
+mod states;
+mod sums;
+mod task;
+mod thresholds;
+mod tolerant;
+
+pub use states::draft;

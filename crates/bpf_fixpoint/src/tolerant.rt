@@ -1,0 +1,176 @@
+//! What is known after an instruction that may be at fault.
+
+ghost use Rattle.bpf_state.specs.State.{IsRegister};
+
+use bpf_insn::{Access, AluOp, Insn, Size, Width};
+use bpf_num::{KnownBits, Num, Signed, Unsigned, WordDomain};
+use bpf_state::{FARTHEST, FRAME_START, Pointer, RegState, SlotState, State};
+
+/// Any number that a load of a size may give.
+fn any_number(size: Size) -> Num {
+    let unsigned = match size {
+        Size::B => Unsigned::new(0, u8::MAX as u64),
+        Size::H => Unsigned::new(0, u16::MAX as u64),
+        Size::W => Unsigned::new(0, u32::MAX as u64),
+        Size::DW => Unsigned::new(0, u64::MAX),
+    };
+    let number = Num::of(KnownBits::top(), unsigned, Signed::top());
+    number.tighten().unwrap_or(number)
+}
+
+/// Any number that a sign-extending load of a size may give.
+fn any_signed(size: Size) -> Num {
+    let signed = match size {
+        Size::B => Signed::new(i8::MIN as i64, i8::MAX as i64),
+        Size::H => Signed::new(i16::MIN as i64, i16::MAX as i64),
+        Size::W => Signed::new(i32::MIN as i64, i32::MAX as i64),
+        Size::DW => Signed::new(i64::MIN, i64::MAX),
+    };
+    let number = Num::of(KnownBits::top(), Unsigned::top(), signed);
+    number.tighten().unwrap_or(number)
+}
+
+/// A pointer whose offset moved by a distance between two bounds, cut to the farthest offsets.
+fn moved(pointer: RegState, least: i64, greatest: i64) -> RegState
+    requires { IsRegister pointer }
+    ensures { IsRegister result }
+{
+    match pointer {
+        RegState::Ptr(p) => {
+            let lo = p.lo.saturating_add(least).max(-FARTHEST).min(FARTHEST);
+            let hi = p.hi.saturating_add(greatest).min(FARTHEST).max(lo);
+            RegState::Ptr(Pointer {
+                area: p.area,
+                lo,
+                hi,
+            })
+        }
+        RegState::Any | RegState::Num(_) => RegState::Num(Num::top()),
+    }
+}
+
+/// A pointer with a number added.
+fn plus(pointer: RegState, by: Num) -> RegState
+    requires { IsRegister pointer }
+    ensures { IsRegister result }
+{
+    moved(pointer, by.signed().lo(), by.signed().hi())
+}
+
+/// A pointer with a number taken off.
+fn minus(pointer: RegState, by: Num) -> RegState
+    requires { IsRegister pointer }
+    ensures { IsRegister result }
+{
+    let least = 0i64.saturating_sub(by.signed().hi());
+    let greatest = 0i64.saturating_sub(by.signed().lo());
+    moved(pointer, least, greatest)
+}
+
+/// Any number, or a pointer where one was moved too far.
+fn result_of(op: AluOp, width: Width, a: RegState, b: RegState) -> RegState
+    requires left { IsRegister a }
+    requires right { IsRegister b }
+    ensures { IsRegister result }
+{
+    match (op, width) {
+        (AluOp::Add, Width::W64) => match (a, b) {
+            (_, RegState::Num(by)) => plus(a, by),
+            (RegState::Num(by), _) => plus(b, by),
+            _ => RegState::Num(Num::top()),
+        },
+        (AluOp::Sub, Width::W64) => match b {
+            RegState::Num(by) => minus(a, by),
+            RegState::Any | RegState::Ptr(_) => RegState::Num(Num::top()),
+        },
+        _ => RegState::Num(Num::top()),
+    }
+}
+
+/// What an instruction puts into the register that it writes, if it does no wrong.
+fn value_after(insn: &Insn, state: &State) -> RegState
+    ensures { IsRegister result }
+{
+    match *insn {
+        Insn::Alu {
+            op,
+            width,
+            dst,
+            src,
+        } => result_of(op, width, state.reg(dst), state.operand(src)),
+        Insn::Load {
+            size,
+            off: _off,
+            ..
+        } => RegState::Num(any_number(size)),
+        Insn::LoadSx {
+            size,
+            off: _off,
+            ..
+        } => RegState::Num(any_signed(size)),
+        Insn::Atomic {
+            wide,
+            off: _off,
+            ..
+        } => RegState::Num(any_number(Size::of_word(wide))),
+        _ => RegState::Num(Num::top()),
+    }
+}
+
+/// The number of the slot that a byte of the frame lies in, by its offset, cut to the frame.
+fn slot_of(offset: i64) -> u8 {
+    let below = 0i64.saturating_sub(offset.max(FRAME_START).min(-1));
+    u8::try_from(below.saturating_add(7) >> 3).unwrap_or(64)
+}
+
+/// The slots of the frame that an access may touch: the first, and the one after the last. None elsewhere.
+pub fn touched(state: &State, access: Access) -> Option<(u8, u8)> {
+    let RegState::Ptr(p) = state.reg(access.base) else {
+        return None;
+    };
+    let lowest = p.lo.saturating_add(access.off as i64);
+    let highest = p
+        .hi
+        .saturating_add(access.off as i64)
+        .saturating_add(i64::from(access.size.bytes()))
+        .saturating_sub(1);
+    if !p.area.is_frame() || highest < FRAME_START || lowest >= 0 {
+        return None;
+    }
+    Some((slot_of(highest), slot_of(lowest).saturating_add(1)))
+}
+
+/// Forgets what the slots held that an access may write.
+fn spoil(state: &mut State, access: Access) {
+    if let Some((first, end)) = touched(state, access) {
+        for k in first..end {
+            spoil_slot(state, k);
+        }
+    }
+}
+
+/// Forgets what a slot holds; a number is any number then.
+fn spoil_slot(state: &mut State, k: u8) {
+    if 1 <= k && k <= 64 {
+        match state.slot(k) {
+            SlotState::Bytes(_) => {}
+            SlotState::Word(_) => state.set_slot(k, SlotState::Word(Num::top())),
+            SlotState::Spilled(_) => state.set_slot(k, SlotState::Bytes(0)),
+        }
+    }
+}
+
+/// Makes the state at an instruction that may be at fault one after it, as if it did no wrong.
+pub fn go_on(insn: &Insn, state: &mut State) {
+    let value = value_after(insn, state);
+    if let Some(access) = insn.access() {
+        if access.writes {
+            spoil(state, access);
+        }
+    }
+    if let Some(r) = insn.register_written() {
+        if !r.is_frame_pointer() {
+            state.set_reg(r, value);
+        }
+    }
+}

@@ -1,0 +1,420 @@
+//! The inferrer's own work, explained.
+
+ghost use Rattle.std.specs.Prelude.{◌≤◌};
+
+use bpf_cert::Certificate;
+use bpf_check::check;
+use bpf_infer::{
+    FALLS_OFF, InferError, LEAVES_FUNCTION, Loss, Move, Obstacle, Sketch, Tangle, Trial, Watch,
+    infer, search, sketch_of,
+};
+use bpf_insn::{Code, Insn, Program};
+use bpf_page::{Page, Tell};
+use bpf_words::{Name, Spelled, explain_on, register, tell_reason, tell_sketch};
+use std::alloc::Global;
+use std::io::{self, Write};
+
+/// Which search is explained.
+#[derive(Clone, Copy, PartialEq, Eq)]
+enum Effort {
+    Plain,
+    Deep,
+}
+
+/// `no certificate: I2 at slot 3`
+fn write_refusal<W: Tell>(out: &mut W, error: InferError) {
+    let (number, slot) = (error.number(), error.slot());
+    match error {
+        InferError::Fault { condition, .. } => {
+            write!(
+                out,
+                "no certificate: I{number} (C{condition}) at slot {slot}\n"
+            );
+        }
+        InferError::Memory => write!(out, "no certificate: I5, memory ran out\n"),
+        _ => write!(out, "no certificate: I{number} at slot {slot}\n"),
+    }
+}
+
+/// Why a place isn't followed through a loop.
+fn write_loss<W: Tell>(out: &mut W, name: Name, loss: Loss) {
+    match loss {
+        Loss::Given => write!(
+            out,
+            "  {name} isn't followed: on some way it is given another value\n"
+        ),
+        Loss::Short { slot } => write!(
+            out,
+            "  {name} isn't followed: slot {slot} computes it in 32 bits, and only 64-bit sums are followed\n"
+        ),
+        Loss::Varying { slot } => write!(
+            out,
+            "  {name} isn't followed: what slot {slot} adds or takes isn't a constant\n"
+        ),
+        Loss::Far { slot } => write!(
+            out,
+            "  {name} isn't followed: slot {slot} moves it by more than 1099511627776 in all\n"
+        ),
+        Loss::Above { slot, least, most } => write!(
+            out,
+            "  {name} may pass 2^64: it is u{least}..{most} at slot {slot}; test it against a constant before\n"
+        ),
+        Loss::Below { slot, least, most } => write!(
+            out,
+            "  {name} may fall below 0: it is u{least}..{most} at slot {slot}; test it against a constant before\n"
+        ),
+    }
+}
+
+/// A place that was tried as a counter, and why it isn't one.
+fn write_trial<W: Tell>(out: &mut W, trial: &Trial) {
+    let name = Name(trial.place);
+    match trial.moves {
+        Move::By {
+            least: 0,
+            greatest: 0,
+        } => write!(out, "  {name} stays as it is\n"),
+        Move::By { least, greatest } => write!(
+            out,
+            "  {name} moves by {least} to {greatest} in a round, and a counter must fall in each or rise in each\n"
+        ),
+        Move::Lost(loss) => write_loss(out, name, loss),
+        Move::Pointer => write!(
+            out,
+            "  {name} is a pointer, and only numbers count: count the rounds in a register\n"
+        ),
+    }
+}
+
+/// The places that were tried as counters of a loop.
+fn write_trials<W: Tell>(out: &mut W, slot: u32, trials: &[Trial]) {
+    write!(
+        out,
+        "nothing counts the rounds of the loop at slot {slot}:\n"
+    );
+    if trials.is_empty() {
+        write!(out, "  no place holds a number there\n");
+    }
+    for trial in trials {
+        write_trial(out, trial);
+    }
+}
+
+/// What begins between a slot and the last way back to it.
+fn write_tangle<W: Tell>(out: &mut W, slot: u32, tangle: Tangle) {
+    match tangle {
+        Tangle::Nested { inner } => write!(
+            out,
+            "another loop begins at slot {inner}, in the loop at slot {slot}: put the inner one into a function\n"
+        ),
+        Tangle::Middle { from, to, back } => write!(
+            out,
+            "slot {from} leads back to slot {to}, in the middle of the loop from slot {slot} to slot {back}: lead it back to slot {slot}, or keep the loops apart\n"
+        ),
+        Tangle::Backward { from } => write!(
+            out,
+            "slot {from} leads back to slot {slot} and makes no loop, but what leads back is taken for one: let the code run on downwards\n"
+        ),
+    }
+}
+
+/// I2: a loop has no counter, or a limit is passed.
+fn write_obstacle<W: Tell>(out: &mut W, slot: u32, obstacle: &Obstacle) {
+    match obstacle {
+        Obstacle::Tangled(tangle) => write_tangle(out, slot, *tangle),
+        Obstacle::NoCounter(trials) => write_trials(out, slot, trials),
+        Obstacle::Limit => write!(
+            out,
+            "the budget at slot {slot} passes a limit: a weight of 1048576, a base of 1099511627776 or 4294967295 steps; a counter's bound isn't known, mostly: test it against a constant before the loop\n"
+        ),
+        Obstacle::Walking { reg, head } => {
+            let name = register(*reg);
+            write!(
+                out,
+                "{name} is a pointer that the loop at slot {head} moves, and only numbers count and have bounds: count the rounds in a register, and add it to a pointer that stays\n"
+            );
+        }
+    }
+}
+
+/// The same where the search went deeper: what was in the way of the plain one alone isn't told.
+fn write_deep_obstacle<W: Tell>(out: &mut W, slot: u32, obstacle: &Obstacle) {
+    match obstacle {
+        Obstacle::NoCounter(_) | Obstacle::Walking { .. } => write_obstacle(out, slot, obstacle),
+        Obstacle::Tangled(_) | Obstacle::Limit => write!(
+            out,
+            "no budget was found for slot {slot}: let a number fall or rise by a constant in each round of each loop, and test it against a constant before\n"
+        ),
+    }
+}
+
+/// I3: a call is part of a recursion.
+fn write_recursion<W: Tell>(out: &mut W, program: &Program, slot: u32) {
+    match program.insn(slot) {
+        Some(Insn::CallLocal { off: -1 }) => write!(
+            out,
+            "`call -1` calls itself: mostly a call of another object's function that was never linked\n"
+        ),
+        Some(insn) => {
+            let text = Spelled(insn);
+            write!(
+                out,
+                "`{text}` leads back to the function it stands in: recursion can't be certified\n"
+            );
+        }
+        None => {}
+    }
+}
+
+/// Tells the reason of a refusal, as far as the program alone tells it.
+fn write_reason<W: Tell>(out: &mut W, program: &Program, error: InferError, effort: Effort) {
+    match (error, effort) {
+        (InferError::Unstable { slot }, Effort::Plain) => write!(
+            out,
+            "what is known in the function at slot {slot} still changes after 64 rounds\n"
+        ),
+        (InferError::Unstable { slot }, Effort::Deep) => write!(
+            out,
+            "what is known in the function at slot {slot} doesn't settle\n"
+        ),
+        (InferError::Recursion { slot }, _) => write_recursion(out, program, slot),
+        (
+            InferError::Fault {
+                slot,
+                condition: LEAVES_FUNCTION,
+            },
+            _,
+        ) => write!(
+            out,
+            "slot {slot} jumps out of its function, or goes on into the next one\n"
+        ),
+        _ => {}
+    }
+}
+
+/// Whether an instruction leads back, or calls a function.
+fn leads_back(insn: &Insn) -> bool {
+    match *insn {
+        Insn::CallLocal { off: _off } => true,
+        _ => insn.distance().is_some_and(|off| off < 0),
+    }
+}
+
+/// Whether a program has a loop or calls a function: elsewhere both searches know the same.
+fn goes_round(program: &Program) -> bool {
+    for slot in 0..program.slots() {
+        if let Some(insn) = program.at(slot) {
+            if leads_back(insn) {
+                return true;
+            }
+        }
+    }
+    false
+}
+
+/// Whether the deep search may find what the plain one refuses, as far as the refusal and the program tell.
+fn may_be_found(program: &Program, error: InferError) -> bool {
+    match error {
+        InferError::Recursion { .. } | InferError::Memory => false,
+        InferError::Fault {
+            condition: LEAVES_FUNCTION,
+            ..
+        } => false,
+        InferError::Fault {
+            condition: FALLS_OFF,
+            ..
+        } => true,
+        InferError::Fault { .. } => goes_round(program),
+        InferError::Unstable { .. } | InferError::NoBudget { .. } => true,
+    }
+}
+
+/// Tells to search deeper, where that may help.
+fn write_hint<W: Tell>(out: &mut W, program: &Program, error: InferError, effort: Effort) {
+    if effort == Effort::Plain && may_be_found(program, error) {
+        write!(out, "or try --deep: it searches longer, and finds more\n");
+    }
+}
+
+/// The condition of the checker that fails at the slot of a refusal.
+fn condition_of(error: InferError) -> u8 {
+    match error {
+        InferError::Fault { condition, .. } => condition,
+        _ => 0,
+    }
+}
+
+/// Tells the states that the plain inferrer has, and what is in the way of a refusal.
+fn write_sketch<W: Tell>(
+    out: &mut W,
+    program: &Program,
+    sketch: &Sketch,
+    error: InferError,
+    effort: Effort,
+) {
+    let (slot, number) = (error.slot(), condition_of(error));
+    if let Some(certificate) = &sketch.certificate {
+        if effort == Effort::Deep {
+            write!(out, "as far as the plain search sees:\n");
+        }
+        tell_sketch(program, certificate, slot, number, out);
+    }
+    write_refusal(out, error);
+    if let Some(certificate) = &sketch.certificate {
+        tell_reason(program, certificate, slot, number, out);
+    }
+    match (&sketch.obstacle, effort) {
+        (Some(obstacle), Effort::Plain) => write_obstacle(out, slot, obstacle),
+        (Some(obstacle), Effort::Deep) => write_deep_obstacle(out, slot, obstacle),
+        (None, _) => {}
+    }
+}
+
+/// A refusal before there are states: of calls, or of jumps out of a function.
+fn write_unseen<W: Tell>(out: &mut W, program: &Program, error: InferError, effort: Effort) {
+    write_refusal(out, error);
+    match error {
+        InferError::NoBudget { .. } => write!(
+            out,
+            "functions call one another more than 8 deep, or there are more than 256\n"
+        ),
+        _ => write_reason(out, program, error, effort),
+    }
+}
+
+/// Tells what the inferrer has of a program that it refuses. The refusal: I5 where memory runs out meanwhile.
+fn write_refused<W: Tell>(
+    alloc: Global,
+    program: &Program,
+    least: u32,
+    most: u32,
+    error: InferError,
+    effort: Effort,
+    out: &mut W,
+) -> InferError
+    requires order { least ≤ most }
+    requires short { most ≤ 4096 }
+{
+    let sketch = match error {
+        InferError::Memory => Err(error),
+        _ => sketch_of(alloc, program, least, most, error),
+    };
+    match sketch {
+        Ok(sketch) => {
+            write_sketch(out, program, &sketch, error, effort);
+            write_reason(out, program, error, effort);
+            write_hint(out, program, error, effort);
+            error
+        }
+        Err(InferError::Memory) => {
+            write_refusal(out, InferError::Memory);
+            InferError::Memory
+        }
+        Err(_) => {
+            write_unseen(out, program, error, effort);
+            error
+        }
+    }
+}
+
+/// Explains a certificate that was found, with the checker's answer.
+fn explain_certified<W: Tell>(program: &Program, certificate: &Certificate, out: &mut W) {
+    let refusal = match check(program, certificate) {
+        Ok(_checked) => None,
+        Err(refusal) => Some(refusal),
+    };
+    explain_on(program, certificate, refusal, out);
+}
+
+/// Explains what a search found. The refusal as it is told, if there is no certificate.
+fn explain_found<W: Tell>(
+    alloc: Global,
+    program: &Program,
+    least: u32,
+    most: u32,
+    found: &Result<Certificate, InferError>,
+    effort: Effort,
+    out: &mut W,
+) -> Option<InferError>
+    requires order { least ≤ most }
+    requires short { most ≤ 4096 }
+{
+    match found {
+        Ok(certificate) => {
+            explain_certified(program, certificate, out);
+            None
+        }
+        Err(error) => {
+            let told = write_refused(alloc, program, least, most, *error, effort, out);
+            Some(told)
+        }
+    }
+}
+
+/// Explains what a search found in pieces of up to 4,096 bytes. The refusal as it is told, if there is no certificate.
+fn explain_in_pieces<W: Write>(
+    alloc: Global,
+    program: &Program,
+    least: u32,
+    most: u32,
+    found: &Result<Certificate, InferError>,
+    effort: Effort,
+    out: &mut W,
+) -> io::Result<Option<InferError>>
+    requires order { least ≤ most }
+    requires short { most ≤ 4096 }
+{
+    let mut page = Page::new(out);
+    let told = explain_found(alloc, program, least, most, found, effort, &mut page);
+    page.finish()?;
+    Ok(told)
+}
+
+/// What was found, or the refusal as it is told.
+fn answer(
+    found: Result<Certificate, InferError>,
+    told: Option<InferError>,
+) -> Result<Certificate, InferError> {
+    match told {
+        Some(error) => Err(error),
+        None => found,
+    }
+}
+
+/// Explains the certificate that the inferrer proposes for a program on contexts of `least` to `most` bytes, at most 4,096, with
+/// the checker's answer; where it proposes none, writes the states at its labels as far as it came, and in words why (I1 to I5).
+/// The certificate or the refusal is given back. A fault of the writer, or a write of no bytes, ends it.
+pub fn explain_inferred<W: Write>(
+    alloc: Global,
+    program: &Program,
+    least: u32,
+    most: u32,
+    out: &mut W,
+) -> io::Result<Result<Certificate, InferError>>
+    requires order { least ≤ most }
+    requires short { most ≤ 4096 }
+{
+    let found = infer(alloc, program, least, most);
+    let effort = Effort::Plain;
+    let told = explain_in_pieces(alloc, program, least, most, &found, effort, out)?;
+    Ok(answer(found, told))
+}
+
+/// Explains the same of the deep search, with the plain inferrer's states where it proposes none. Who watches is told how far
+/// it is.
+pub fn explain_searched<W: Write, H: Watch>(
+    alloc: Global,
+    program: &Program,
+    least: u32,
+    most: u32,
+    watch: &mut H,
+    out: &mut W,
+) -> io::Result<Result<Certificate, InferError>>
+    requires order { least ≤ most }
+    requires short { most ≤ 4096 }
+{
+    let found = search(alloc, program, least, most, watch);
+    let effort = Effort::Deep;
+    let told = explain_in_pieces(alloc, program, least, most, &found, effort, out)?;
+    Ok(answer(found, told))
+}

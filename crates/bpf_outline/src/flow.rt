@@ -1,0 +1,60 @@
+//! Where instructions lead.
+
+use bpf_insn::{Insn, MAX_SLOTS, Operand, Reg};
+
+/// Where an instruction leads. Targets are slots.
+#[derive(Clone, Copy)]
+pub enum Flow {
+    /// To the next instruction.
+    Next,
+    /// To the target.
+    Jump(u32),
+    /// To the target or to the next instruction.
+    Branch(u32),
+    /// Into the function at the target, and then to the next instruction.
+    Call(u32),
+    /// Out of the function.
+    Exit,
+}
+
+/// The slot at a distance from the next one; in a program none lies past the last, and none is negative.
+fn target(slot: u32, distance: i32) -> u32 {
+    bpf_insn::target(slot.min(MAX_SLOTS as u32), distance).unwrap_or(0)
+}
+
+impl Flow {
+    /// Where the instruction at a slot leads.
+    pub fn of(slot: u32, insn: &Insn) -> Flow {
+        match *insn {
+            Insn::Ja { off } => Flow::Jump(target(slot, off as i32)),
+            Insn::JaLong { off } => Flow::Jump(target(slot, off)),
+            Insn::JumpIf { off, .. } => Flow::Branch(target(slot, off as i32)),
+            Insn::CallLocal { off } => Flow::Call(target(slot, off)),
+            Insn::Exit => Flow::Exit,
+            _ => Flow::Next,
+        }
+    }
+
+    /// The target of a jump.
+    pub fn jump(self) -> Option<u32> {
+        match self {
+            Flow::Jump(target) | Flow::Branch(target) => Some(target),
+            Flow::Next | Flow::Call(_) | Flow::Exit => None,
+        }
+    }
+}
+
+/// The registers that a conditional jump compares; where there is but one, that one twice. On its edges nothing else of a
+/// state differs.
+pub fn compared(insn: &Insn) -> (Reg, Reg) {
+    match *insn {
+        Insn::JumpIf {
+            dst,
+            src: Operand::Reg(src),
+            off: _off,
+            ..
+        } => (dst, src),
+        Insn::JumpIf { dst, off: _off, .. } => (dst, dst),
+        _ => (Reg::R0, Reg::R0),
+    }
+}

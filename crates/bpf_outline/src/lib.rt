@@ -1,0 +1,30 @@
+//! What both searches for certificates, the plain and the deep one, go by: where instructions lead, the labels, blocks,
+//! functions and graphs of a program, the places that count, and what states have in common. It makes no claim but to be
+//! safe and to end.
+#![tactic(auto)]
+
+mod counter;
+mod flow;
+mod functions;
+mod graph;
+mod joins;
+mod lines;
+mod lists;
+mod outline;
+mod places;
+mod proposal;
+mod watch;
+mod widen;
+
+pub use counter::Counter;
+pub use flow::{Flow, compared};
+pub use functions::{Depths, check_bounds, depths_of};
+pub use graph::{Arc, Components, Graph, longest_ways, nodes_on_cycles, number_in};
+pub use joins::{join, join_register, join_slots};
+pub use lines::{Line, Span};
+pub use lists::{get_or, put, vacant};
+pub use outline::Outline;
+pub use places::{PLACES, REGISTERS, number_at, number_said, place, pointer_said, tag_own};
+pub use proposal::Proposal;
+pub use watch::{Unwatched, Watch};
+pub use widen::Stops;

@@ -1,0 +1,98 @@
+//! Terms of budgets as lines over what their places hold.
+
+use crate::counter::Counter;
+use crate::places::number_at;
+use bpf_num::Num;
+use bpf_state::State;
+
+/// Numbers from `lo` to `hi`.
+#[derive(Clone, Copy)]
+pub struct Span {
+    pub lo: u64,
+    pub hi: u64,
+}
+
+impl Span {
+    /// Any number.
+    pub const ALL: Span = Span {
+        lo: 0,
+        hi: u64::MAX,
+    };
+
+    /// What a place may hold.
+    pub fn of(state: &State, number: usize) -> Span {
+        Span::of_number(number_at(state, number))
+    }
+
+    /// What is known of a number, if something is.
+    pub fn of_number(number: Option<Num>) -> Span {
+        match number {
+            Some(held) => Span {
+                lo: held.unsigned().lo(),
+                hi: held.unsigned().hi(),
+            },
+            None => Span::ALL,
+        }
+    }
+}
+
+/// A term of a budget: a constant and a slope times what its place holds.
+#[derive(Clone, Copy)]
+pub struct Line {
+    constant: i128,
+    slope: i128,
+}
+
+impl Line {
+    /// Nothing.
+    pub const ZERO: Line = Line {
+        constant: 0,
+        slope: 0,
+    };
+
+    /// What a counter still allows, so many times.
+    pub fn of(counter: Counter, weight: i128) -> Line {
+        match counter {
+            Counter::Falling(_) => Line {
+                constant: 0,
+                slope: weight,
+            },
+            Counter::Rising(_, limit) => Line {
+                constant: weight.saturating_mul(limit as i128),
+                slope: 0i128.saturating_sub(weight),
+            },
+        }
+    }
+
+    /// The line at a place that holds an offset more.
+    pub fn moved(self, offset: i64) -> Line {
+        let more = self.slope.saturating_mul(offset as i128);
+        Line {
+            constant: self.constant.saturating_add(more),
+            slope: self.slope,
+        }
+    }
+
+    /// Both together.
+    pub fn plus(self, other: Line) -> Line {
+        Line {
+            constant: self.constant.saturating_add(other.constant),
+            slope: self.slope.saturating_add(other.slope),
+        }
+    }
+
+    /// What is left of it beside another.
+    pub fn minus(self, other: Line) -> Line {
+        Line {
+            constant: self.constant.saturating_sub(other.constant),
+            slope: self.slope.saturating_sub(other.slope),
+        }
+    }
+
+    /// The greatest that it gives.
+    pub fn greatest(self, span: Span) -> i128 {
+        let at_lo = self.slope.saturating_mul(span.lo as i128);
+        let at_hi = self.slope.saturating_mul(span.hi as i128);
+        self.constant.saturating_add(at_lo.max(at_hi))
+    }
+}

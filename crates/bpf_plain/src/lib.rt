@@ -1,0 +1,18 @@
+//! The plain search for certificates: rounds over states that are widened, and one counter for each loop; and where it finds
+//! none, what was in the way. It makes no claim but to be safe and to end: who proposes what it finds puts it to the test.
+#![tactic(auto)]
+
+mod budgets;
+mod loops;
+mod losses;
+mod plain;
+mod rounds;
+mod sketch;
+mod tangles;
+mod walk;
+mod walkers;
+
+pub use losses::Loss;
+pub use plain::plain_proposal;
+pub use sketch::{Move, Obstacle, Sketch, Trial, sketch_of};
+pub use tangles::Tangle;

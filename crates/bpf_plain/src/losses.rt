@@ -1,0 +1,251 @@
+//! Where a loop loses track of what its places held.
+
+use crate::loops::Loop;
+use crate::rounds::Rounds;
+use crate::walk::Walked;
+use bpf_insn::{AluOp, Insn, Operand, Reg, Width};
+use bpf_num::Num;
+use bpf_outline::{Flow, PLACES, get_or, place, tag_own};
+use bpf_state::{Place, RegState, SlotState, State, Tag, branch, leave, transfer};
+
+/// Why a place doesn't hold, on each way, what it held before and a constant more.
+#[derive(Clone, Copy)]
+pub enum Loss {
+    /// On some way it is given another value.
+    Given,
+    /// The instruction at the slot computes it in 32 bits.
+    Short { slot: u32 },
+    /// The instruction at the slot adds or takes what isn't a constant.
+    Varying { slot: u32 },
+    /// The sum at the slot may pass 2^64. In front it is from `least` to `most`.
+    Above { slot: u32, least: u64, most: u64 },
+    /// The difference at the slot may pass 0. In front it is from `least` to `most`.
+    Below { slot: u32, least: u64, most: u64 },
+    /// The instruction at the slot moves it farther than is followed.
+    Far { slot: u32 },
+}
+
+/// By places, why each isn't followed; None of one that is.
+pub type Losses = [Option<Loss>; PLACES];
+
+/// How many numbers tags have: each place's own, that of its number lost in its own register, and lost elsewhere.
+const TERMS: usize = 3 * PLACES;
+
+/// An instruction that may lose what the tag in a register stands for.
+#[derive(Clone, Copy)]
+struct Doubt {
+    dst: Reg,
+    term: usize,
+    loss: Loss,
+}
+
+/// Why the sum or difference of two numbers isn't followed, where it isn't.
+fn loss_of_sum(slot: u32, op: AluOp, a: Num, b: Num) -> Loss {
+    if !b.is_constant() {
+        return Loss::Varying { slot };
+    }
+    let constant = b.bits().value().cast_signed() as i128;
+    let by = match op {
+        AluOp::Sub => 0i128.saturating_sub(constant),
+        _ => constant,
+    };
+    let (least, most) = (a.unsigned().lo(), a.unsigned().hi());
+    if (most as i128).saturating_add(by) > u64::MAX as i128 {
+        Loss::Above { slot, least, most }
+    } else if (least as i128).saturating_add(by) < 0 {
+        Loss::Below { slot, least, most }
+    } else {
+        Loss::Far { slot }
+    }
+}
+
+/// Why the number in a register isn't followed through an instruction, where it isn't; None if it is given another value.
+fn loss_at(slot: u32, op: AluOp, width: Width, a: RegState, b: RegState) -> Option<Loss> {
+    match (op, width) {
+        (AluOp::Add | AluOp::Sub | AluOp::Mov, Width::W32) => Some(Loss::Short { slot }),
+        (AluOp::Add | AluOp::Sub, Width::W64) => {
+            Some(loss_of_sum(slot, op, a.number()?, b.number()?))
+        }
+        _ => None,
+    }
+}
+
+/// What an instruction may lose, if its result is a number that is followed, moved by another one.
+fn doubt_at(slot: u32, insn: &Insn, state: &State) -> Option<Doubt> {
+    let Insn::Alu {
+        op,
+        width,
+        dst,
+        src,
+    } = *insn
+    else {
+        return None;
+    };
+    let followed = match (op, src) {
+        (AluOp::Mov, Operand::Reg(src)) => src,
+        (AluOp::Mov, Operand::Imm(_imm)) => return None,
+        _ => dst,
+    };
+    let tag = state.tag(Place::Register(followed))?;
+    let loss = loss_at(slot, op, width, state.reg(dst), state.operand(src))?;
+    Some(Doubt {
+        dst,
+        term: tag.term as usize,
+        loss,
+    })
+}
+
+/// Whether a place holds a number or a pointer.
+fn is_followed(state: &State, number: usize) -> bool {
+    match place(number) {
+        Place::Register(r) => !matches!(state.reg(r), RegState::Any),
+        Place::Slot(k) => !matches!(state.slot(k), SlotState::Bytes(_)),
+    }
+}
+
+/// A walk over the blocks of a loop that looks where the numbers of its places are lost.
+#[derive(Drop)]
+struct Tracker<'a> {
+    walk: &'a Walked<'a>,
+    head: usize,
+    last: usize,
+    losses: Losses,
+    /// By the numbers of tags, why what they stand for was lost in this block.
+    lost: [Option<Loss>; TERMS],
+}
+
+impl<'a> Tracker<'a> {
+    /// Takes note that a place is lost. That it is given another value is told first.
+    fn lose(&mut self, number: usize, loss: Loss) {
+        if let Some(held) = self.losses.get_mut(number) {
+            if held.is_none() || matches!(loss, Loss::Given) {
+                *held = Some(loss);
+            }
+        }
+    }
+
+    /// Tags each place that holds something with its own number; others are given up.
+    fn begin(&mut self, state: &mut State) {
+        self.lost = [None; TERMS];
+        for number in 0..PLACES {
+            if is_followed(state, number) {
+                tag_own(state, number);
+            } else {
+                self.lose(number, Loss::Given);
+            }
+        }
+    }
+
+    /// Tags a register anew of which a number was lost, so that what becomes of it is still seen.
+    fn note(&mut self, doubt: Doubt, state: &mut State) {
+        if state.tag(Place::Register(doubt.dst)).is_some() {
+            return;
+        }
+        let origin = doubt.term % PLACES;
+        let term = if doubt.term >= PLACES {
+            doubt.term
+        } else if doubt.dst as usize == origin {
+            origin.saturating_add(PLACES)
+        } else {
+            origin.saturating_add(2 * PLACES)
+        };
+        if let Some(held) = self.lost.get_mut(term) {
+            *held = held.or(Some(doubt.loss));
+        }
+        if let Ok(term) = u8::try_from(term) {
+            let tag = Tag { term, offset: 0 };
+            state.set_tag(Place::Register(doubt.dst), Some(tag));
+        }
+    }
+
+    /// Why a place isn't followed up to here; None if it is.
+    fn loss(&self, state: &State, number: usize) -> Option<Loss> {
+        match state.tag(place(number)) {
+            Some(tag) if tag.term as usize == number => None,
+            Some(tag) if tag.term as usize % PLACES == number => {
+                get_or(&self.lost, tag.term as usize, None).or(Some(Loss::Given))
+            }
+            _ => Some(Loss::Given),
+        }
+    }
+
+    /// Looks what is lost on an edge to a slot.
+    fn arrive(&mut self, to: u32, state: &State) {
+        let block = self.walk.outline.block_of(to);
+        if block < self.head || block > self.last {
+            return;
+        }
+        for number in 0..PLACES {
+            if let Some(loss) = self.loss(state, number) {
+                self.lose(number, loss);
+            }
+        }
+    }
+
+    /// Follows the edges of an instruction. Whether the next one is reached.
+    fn follow(&mut self, slot: u32, insn: &Insn, state: &mut State) -> bool {
+        match Flow::of(slot, insn) {
+            Flow::Next => true,
+            Flow::Jump(target) => {
+                self.arrive(target, state);
+                false
+            }
+            Flow::Branch(target) => {
+                let mut taken = state.copy();
+                if branch(insn, true, &mut taken) {
+                    self.arrive(target, &taken);
+                }
+                branch(insn, false, state)
+            }
+            Flow::Call(_) => leave(state, Num::top()),
+            Flow::Exit => false,
+        }
+    }
+
+    /// Does an instruction. Whether the next one is reached.
+    fn step(&mut self, slot: u32, insn: &Insn, state: &mut State) -> bool {
+        let doubt = doubt_at(slot, insn, state);
+        let order = self.walk.program.order();
+        if !matches!(transfer(insn, self.walk.least, order, state), Ok(true)) {
+            return false;
+        }
+        if let Some(doubt) = doubt {
+            self.note(doubt, state);
+        }
+        self.follow(slot, insn, state)
+    }
+
+    /// Goes over a block from the state at its label.
+    fn over(&mut self, block: usize, state: &mut State) {
+        self.begin(state);
+        let end = self.walk.outline.end(block);
+        for slot in self.walk.outline.label(block)..end {
+            if let Some(insn) = self.walk.program.at(slot) {
+                if !self.step(slot, insn, state) {
+                    return;
+                }
+            }
+        }
+        if end < self.walk.program.slots() {
+            self.arrive(end, state);
+        }
+    }
+}
+
+/// By places, why each isn't followed through a loop.
+pub fn losses_in(walk: &Walked, rounds: &Rounds, found: Loop) -> Losses {
+    let mut tracker = Tracker {
+        walk,
+        head: found.head,
+        last: found.last,
+        losses: [None; PLACES],
+        lost: [None; TERMS],
+    };
+    let mut room = State::blank();
+    for block in found.head..found.last.saturating_add(1) {
+        if rounds.load(block, &mut room) {
+            tracker.over(block, &mut room);
+        }
+    }
+    tracker.losses
+}

@@ -1,0 +1,78 @@
+//! The plain search: one counter for each loop.
+
+ghost use Rattle.std.specs.Prelude.{◌≤◌};
+
+use crate::budgets::{Budgets, budgets_of};
+use crate::loops::loops_of;
+use crate::rounds::{functions_of, states_of};
+use crate::walk::Walked;
+use arrayvec::ArrayVec;
+use bpf_cert::{Budget, Function};
+use bpf_insn::Program;
+use bpf_outline::{Outline, Proposal, Watch, check_bounds, depths_of};
+use bpf_proposal::InferError;
+use bpf_state::State;
+use std::alloc::Global;
+
+/// The budget at the label of a block.
+fn budget_of(budgets: &Budgets, block: usize) -> Budget {
+    let (base, counter) = budgets.at(block);
+    let mut terms = ArrayVec::new();
+    if let Some((counter, weight)) = counter {
+        terms.push(counter.term(weight));
+    }
+    Budget {
+        base: u64::try_from(base).unwrap_or(u64::MAX),
+        terms,
+    }
+}
+
+/// Gives a function's labels their budgets.
+fn put_budgets(outline: &Outline, budgets: &Budgets, function: &mut Function) {
+    for label in function.labels.iter_mut() {
+        label.budget = budget_of(budgets, outline.block_of(label.slot));
+    }
+}
+
+/// Gives the labels of all functions their budgets.
+fn put_all(outline: &Outline, budgets: &Budgets, functions: &mut Vec<Function>) {
+    for function in functions.iter_mut() {
+        put_budgets(outline, budgets, function);
+    }
+}
+
+/// What the table of one counter for a loop gives a program on contexts of `least` to `most` bytes. I1 if a function's states
+/// aren't stable after 64 rounds, at its first slot; I2 if a loop has no counter, at its label; I3 at the lowest call of a
+/// recursion; I4 at an instruction that the checker would refuse, with the number of its condition, 3 to 12; I5 if memory
+/// runs out.
+pub fn plain_proposal<W: Watch>(
+    alloc: Global,
+    program: &Program,
+    least: u32,
+    most: u32,
+    watch: &mut W,
+) -> Result<Proposal, InferError>
+    requires order { least ≤ most }
+    requires short { most ≤ 4096 }
+{
+    let outline = Outline::of(alloc, program)?;
+    let depths = depths_of(alloc, program, &outline)?;
+    check_bounds(program, &outline)?;
+    let walk = Walked {
+        program,
+        outline: &outline,
+        least,
+        most,
+    };
+    let start = State::start(least, most);
+    let mut rounds = states_of(alloc, &walk, &depths, &start, watch)?;
+    let loops = loops_of(alloc, &walk, &rounds)?;
+    let budgets = budgets_of(alloc, &walk, &rounds, loops, &depths)?;
+    let steps = u32::try_from(budgets.greatest(0, &start));
+    let Ok(steps) = steps else {
+        return Err(InferError::NoBudget { slot: 0 });
+    };
+    let mut functions = functions_of(alloc, &outline, &mut rounds, &depths)?;
+    put_all(&outline, &budgets, &mut functions);
+    Ok(Proposal { steps, functions })
+}

@@ -1,0 +1,241 @@
+//! What the inferrer has when it stops, for who explains it.
+
+ghost use Rattle.std.specs.Prelude.{◌≤◌};
+
+use crate::loops::{Loop, Moves, Search, first_crossing, loop_from, searched};
+use crate::losses::{Loss, Losses, losses_in};
+use crate::rounds::{Rounds, functions_of};
+use crate::tangles::{Tangle, tangle_of};
+use crate::walk::Walked;
+use crate::walkers::walker_at;
+use bpf_cert::Certificate;
+use bpf_insn::{Program, Reg};
+use bpf_outline::{Depths, Outline, PLACES, Unwatched, check_bounds, depths_of, get_or, place};
+use bpf_proposal::{InferError, OUT_OF_BOUNDS};
+use bpf_state::{Place, State};
+use std::alloc::{AllocError, Global};
+
+/// What a place does in a round of a loop.
+#[derive(Clone, Copy)]
+pub enum Move {
+    /// It moves by a number from the least to the greatest.
+    By { least: i64, greatest: i64 },
+    /// It holds a number, and doesn't hold on each way the number from before and a constant more.
+    Lost(Loss),
+    /// It holds a pointer, and isn't left as it is.
+    Pointer,
+}
+
+impl Move {
+    /// Whether it counts rounds: it falls in each, or rises in each.
+    fn counts(self) -> bool {
+        match self {
+            Move::By { least, greatest } => greatest < 0 || least > 0,
+            Move::Lost(_) | Move::Pointer => false,
+        }
+    }
+}
+
+/// A place that was tried as the counter of a loop.
+#[derive(Clone, Copy)]
+pub struct Trial {
+    pub place: Place,
+    pub moves: Move,
+}
+
+/// What stands in the way of a certificate.
+#[derive(Drop)]
+pub enum Obstacle {
+    /// A limit of certificates is passed.
+    Limit,
+    /// Something begins between the slot and the last way back to it.
+    Tangled(Tangle),
+    /// None of the places that hold numbers falls or rises in each round.
+    NoCounter(Vec<Trial>),
+    /// The loop at the slot moves the pointer in the register, and that one is refused.
+    Walking { reg: Reg, head: u32 },
+}
+
+/// What the inferrer has when it stops.
+#[derive(Drop)]
+pub struct Sketch {
+    /// The functions that were reached, with the states at their labels and budgets of 0.
+    pub certificate: Option<Certificate>,
+    /// What is in the way, where that isn't told by the states alone.
+    pub obstacle: Option<Obstacle>,
+}
+
+/// The rounds, as far as they go; I5 if memory runs out.
+fn rounds_so_far(
+    alloc: Global,
+    walk: &Walked,
+    depths: &Depths,
+    start: &State,
+) -> Result<Rounds, InferError> {
+    let mut rounds = Rounds::new(alloc, walk)?;
+    rounds.reach(0, start, false)?;
+    for depth in (1..9).rev() {
+        match rounds.settle_depth(walk, depths, depth, &mut Unwatched) {
+            Ok(()) => {}
+            Err(InferError::Memory) => return Err(InferError::Memory),
+            Err(_) => break,
+        }
+    }
+    Ok(rounds)
+}
+
+/// What the place with a number does in a round, if it holds a number at the head, or a pointer that is changed.
+fn move_of(
+    rounds: &Rounds,
+    found: Loop,
+    search: &Search,
+    around: &Moves,
+    losses: &Losses,
+    number: usize,
+) -> Option<Move> {
+    let loss = get_or(losses, number, None);
+    if rounds.number(found.head, number).is_none() {
+        return match loss {
+            Some(_) if rounds.has_pointer(found.head, number) => Some(Move::Pointer),
+            _ => None,
+        };
+    }
+    if number < PLACES && search.is_tagged[number] {
+        return Some(Move::By {
+            least: around.least[number],
+            greatest: around.greatest[number],
+        });
+    }
+    Some(Move::Lost(loss.unwrap_or(Loss::Given)))
+}
+
+/// What is known of a loop's way around; None if no round leads back to the head, or something is refused before.
+fn search_of(
+    alloc: Global,
+    walk: &Walked,
+    rounds: &Rounds,
+    found: Loop,
+) -> Result<Option<(Search, Moves)>, InferError> {
+    match searched(alloc, walk, rounds, found) {
+        Ok(search) => match search.around {
+            Some(around) => Ok(Some((search, around))),
+            None => Ok(None),
+        },
+        Err(InferError::Memory) => Err(InferError::Memory),
+        Err(_) => Ok(None),
+    }
+}
+
+/// The places of a loop's head that hold numbers, or pointers that are changed, with what they do in a round.
+fn trials_of(
+    alloc: Global,
+    walk: &Walked,
+    rounds: &Rounds,
+    found: Loop,
+    search: &Search,
+    around: &Moves,
+) -> Result<Vec<Trial>, AllocError> {
+    let losses = losses_in(walk, rounds, found);
+    let mut trials = Vec::new(alloc);
+    for number in 0..PLACES {
+        if let Some(moves) = move_of(rounds, found, search, around, &losses, number) {
+            trials.push(Trial {
+                place: place(number),
+                moves,
+            })?;
+        }
+    }
+    Ok(trials)
+}
+
+/// Why a loop has no budget.
+fn obstacle_in(
+    alloc: Global,
+    walk: &Walked,
+    rounds: &Rounds,
+    found: Loop,
+) -> Result<Obstacle, InferError> {
+    let Some((search, around)) = search_of(alloc, walk, rounds, found)? else {
+        return Ok(Obstacle::Limit);
+    };
+    let trials = trials_of(alloc, walk, rounds, found, &search, &around)?;
+    if trials.iter().any(|trial| trial.moves.counts()) {
+        Ok(Obstacle::Limit)
+    } else {
+        Ok(Obstacle::NoCounter(trials))
+    }
+}
+
+/// Why there is no budget at a slot.
+fn obstacle_at(
+    alloc: Global,
+    walk: &Walked,
+    rounds: &Rounds,
+    slot: u32,
+) -> Result<Obstacle, InferError> {
+    if let Some((outer, inner)) = first_crossing(rounds) {
+        let tangle = tangle_of(alloc, walk, rounds, outer, inner)?;
+        return Ok(Obstacle::Tangled(tangle));
+    }
+    let block = walk.outline.block_of(slot);
+    match loop_from(rounds, block) {
+        Some(found) if walk.outline.label(block) == slot => {
+            obstacle_in(alloc, walk, rounds, found)
+        }
+        _ => Ok(Obstacle::Limit),
+    }
+}
+
+/// What is in the way where a refusal says so.
+fn obstacle_of(
+    alloc: Global,
+    walk: &Walked,
+    rounds: &Rounds,
+    error: InferError,
+) -> Result<Option<Obstacle>, InferError> {
+    match error {
+        InferError::NoBudget { slot } => {
+            let obstacle = obstacle_at(alloc, walk, rounds, slot)?;
+            Ok(Some(obstacle))
+        }
+        InferError::Fault {
+            slot,
+            condition: OUT_OF_BOUNDS,
+        } => Ok(match walker_at(walk, rounds, slot) {
+            Some((reg, head)) => Some(Obstacle::Walking { reg, head }),
+            None => None,
+        }),
+        _ => Ok(None),
+    }
+}
+
+/// What the inferrer has of a program on contexts of `least` to `most` bytes when it stops, and what is in the way of a
+/// refusal. It is refused as by `plain_proposal` where that stops before it has states, and I5 if memory runs out.
+pub fn sketch_of(
+    alloc: Global,
+    program: &Program,
+    least: u32,
+    most: u32,
+    error: InferError,
+) -> Result<Sketch, InferError>
+    requires order { least ≤ most }
+    requires short { most ≤ 4096 }
+{
+    let outline = Outline::of(alloc, program)?;
+    let depths = depths_of(alloc, program, &outline)?;
+    check_bounds(program, &outline)?;
+    let walk = Walked {
+        program,
+        outline: &outline,
+        least,
+        most,
+    };
+    let start = State::start(least, most);
+    let mut rounds = rounds_so_far(alloc, &walk, &depths, &start)?;
+    let obstacle = obstacle_of(alloc, &walk, &rounds, error)?;
+    let functions = functions_of(alloc, &outline, &mut rounds, &depths)?;
+    Ok(Sketch {
+        certificate: Certificate::new(2, least, most, 1, functions).ok(),
+        obstacle,
+    })
+}

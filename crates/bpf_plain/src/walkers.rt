@@ -1,0 +1,93 @@
+//! Pointers that a loop moves.
+
+use crate::loops::{Loop, loop_from};
+use crate::rounds::Rounds;
+use crate::walk::Walked;
+use bpf_insn::{AluOp, Insn, Operand, Reg, Width};
+use bpf_state::RegState;
+
+/// The register whose pointer an instruction moves or reads and writes through.
+fn pointer_in(insn: &Insn) -> Option<Reg> {
+    match *insn {
+        Insn::Alu {
+            op: AluOp::Add | AluOp::Sub,
+            dst,
+            ..
+        } => Some(dst),
+        _ => Some(insn.access()?.base),
+    }
+}
+
+/// What an instruction does to a register.
+#[derive(Clone, Copy)]
+enum Deed {
+    Keeps,
+    /// It adds or takes a constant.
+    Moves,
+    Sets,
+}
+
+/// What an instruction does to a register. A call leaves nothing in r0 to r5 that was there.
+fn deed_of(insn: &Insn, reg: Reg) -> Deed {
+    match *insn {
+        Insn::Alu {
+            op: AluOp::Add | AluOp::Sub,
+            width: Width::W64,
+            dst,
+            src: Operand::Imm(_imm),
+        } if dst == reg => Deed::Moves,
+        Insn::CallLocal { off: _off } if reg as u8 <= 5 => Deed::Sets,
+        _ if insn.register_written() == Some(reg) => Deed::Sets,
+        _ => Deed::Keeps,
+    }
+}
+
+/// Whether instructions of a loop move a register by constants, and none sets it.
+fn moves(walk: &Walked, found: Loop, reg: Reg) -> bool {
+    let mut is_moved = false;
+    for slot in walk.outline.label(found.head)..walk.outline.end(found.last) {
+        if let Some(insn) = walk.program.at(slot) {
+            match deed_of(insn, reg) {
+                Deed::Keeps => {}
+                Deed::Moves => is_moved = true,
+                Deed::Sets => return false,
+            }
+        }
+    }
+    is_moved
+}
+
+/// Whether a register holds a pointer of more than one offset at a label.
+fn is_wide(rounds: &Rounds, block: usize, reg: Reg) -> bool {
+    match rounds.states.get(block) {
+        Some(Some(held)) => match held.reg(reg) {
+            RegState::Ptr(p) => p.lo < p.hi,
+            RegState::Any | RegState::Num(_) => false,
+        },
+        _ => false,
+    }
+}
+
+/// The last loop that begins at a block or before it, and has it between its ends.
+fn loop_around(rounds: &Rounds, block: usize) -> Option<Loop> {
+    for head in (0..block.saturating_add(1)).rev() {
+        if let Some(found) = loop_from(rounds, head) {
+            if block <= found.last {
+                return Some(found);
+            }
+        }
+    }
+    None
+}
+
+/// The register whose pointer the instruction at a slot takes, if the loop around it moves that pointer by constants and does
+/// nothing else to it; and the slot of the loop.
+pub fn walker_at(walk: &Walked, rounds: &Rounds, slot: u32) -> Option<(Reg, u32)> {
+    let reg = pointer_in(walk.program.at(slot)?)?;
+    let found = loop_around(rounds, walk.outline.block_of(slot))?;
+    if is_wide(rounds, found.head, reg) && moves(walk, found, reg) {
+        Some((reg, walk.outline.label(found.head)))
+    } else {
+        None
+    }
+}
