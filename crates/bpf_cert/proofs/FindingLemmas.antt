@@ -5,6 +5,7 @@ use Rattle.std.specs.List.{list_all}
 use Rattle.bpf_cert.specs.code.Findings.{tested, joined, valued}
 use Rattle.bpf_cert.specs.declared.finding.PartFault.{PartFault}
 use Rattle.bpf_cert.specs.declared.finding.PartFault.TheVariants.{NotCanonical, Limit}
+use Rattle.bpf_cert.proofs.Bools.{exchange}
 
 -- what is found in a form is what its tests say
 pub found_tested : {A : Type 0} (a b : Bool) (x : A) → cond (not a) (Err NotCanonical) (cond (not b) (Err Limit) (Ok x)) ≡ valued (λ (u : Unit {0}). x) (tested a b)
@@ -51,12 +52,6 @@ tested_true false b u e = cc
 pub list_all_both : {A : Type 0} (p q : A → Bool) (xs : List A) → list_all (λ x. p x && q x) xs ≡ (list_all p xs && list_all q xs)
 list_all_both p q [] = refl
 list_all_both p q (x ∷ xs) = ap (λ b. (p x && q x) && b) (list_all_both p q xs) ∙ exchange (p x) (q x) (list_all p xs) (list_all q xs)
-  where
-    exchange : (a b c d : Bool) → ((a && b) && (c && d)) ≡ ((a && c) && (b && d))
-    exchange true true c d = refl
-    exchange true false true d = refl
-    exchange true false false d = refl
-    exchange false b c d = refl
 
 pub list_all_end : {A : Type 0} (p : A → Bool) (xs : List A) (x : A) → list_all p (xs ++ x ∷ []) ≡ (list_all p xs && p x)
 list_all_end p [] x = one (p x)

@@ -24,7 +24,7 @@ use Rattle.bpf_cert.specs.declared.certificate.Term.{Term as TermValue}
 use Rattle.bpf_cert.specs.declared.certificate.Measure.TheVariants.{Down, Up}
 use Rattle.bpf_state.specs.declared.known.Place.{Place as PlaceValue}
 use Rattle.bpf_cert.proofs.FindingLemmas.{found_tested, joined_tested, joined_ok, tested_true, list_all_end}
-use Rattle.bpf_cert.proofs.Bools.{both_true}
+use Rattle.bpf_cert.proofs.Bools.{both_true, exchange}
 use Rattle.bpf_cert.proofs.NumberLemmas.{plain_value}
 use Rattle.bpf_cert.proofs.lines.LineForms.{term_is}
 
@@ -115,16 +115,11 @@ canonical_end : (ts : List Term) (t : Term) (l : Option PlaceText) (next : Bool)
 canonical_end ts t l next form e f = by_plain (list_all is_plain_term ts) refl
     ∙ sym (ap (λ b. b && is_rising term_before (ts ++ t ∷ [])) (list_all_end is_plain_term ts t) ∙ ap (λ b. (list_all is_plain_term ts && is_plain_term t) && b) (rising_end ts t))
   where
-    exchange : (r p o : Bool) → ((true && r) && (p && o)) ≡ ((true && p) && (r && o))
-    exchange true p o = refl
-    exchange false true o = refl
-    exchange false false o = refl
-
     by_plain : (b : Bool) → list_all is_plain_term ts ≡ b → ((list_all is_plain_term ts && is_rising term_before ts) && next)
         ≡ ((list_all is_plain_term ts && is_plain_term t) && (is_rising term_before ts && comes_after place_before (option_map line_place (last ts)) (line_place t)))
     by_plain true g = let known : next ≡ (is_plain_term t && comes_after place_before (option_map line_place (last ts)) (line_place t)) =
         f (subst (λ o. IfSome o IsPlainPlace) (sym e) (last_plain ts form g)) ∙ ap (λ o. is_plain_term t && comes_after place_before o (line_place t)) e in
-        rw (g, known) (exchange (is_rising term_before ts) (is_plain_term t) (comes_after place_before (option_map line_place (last ts)) (line_place t)))
+        rw (g, known) (exchange true (is_rising term_before ts) (is_plain_term t) (comes_after place_before (option_map line_place (last ts)) (line_place t)))
     by_plain false g = rw g refl
 
 room_left : (n : ℕ) → (leb n 4 && ltb 0 (4 - n)) ≡ leb (n + 1) 4
@@ -149,12 +144,6 @@ limited_end : (ts : List Term) (t : Term) (room : ℕ) → room ≡ 4 - length t
 limited_end ts t room e = ap (λ r. are_limited_terms ts && (ltb 0 r && is_limited_term t)) e ∙ exchange (leb (length ts) 4) (list_all is_limited_term ts) (ltb 0 (4 - length ts)) (is_limited_term t)
     ∙ ap (λ b. b && (list_all is_limited_term ts && is_limited_term t)) (room_left (length ts)) ∙ ap (λ n. leb n 4 && (list_all is_limited_term ts && is_limited_term t)) (sym (length_end ts t))
     ∙ ap (λ b. leb (length (ts ++ t ∷ [])) 4 && b) (sym (list_all_end is_limited_term ts t))
-  where
-    exchange : (a b c d : Bool) → ((a && b) && (c && d)) ≡ ((a && c) && (b && d))
-    exchange true true c d = refl
-    exchange true false true d = refl
-    exchange true false false d = refl
-    exchange false b c d = refl
 
 pub sum_more : (done : List Term) (t : Term) (old new : Terms) (canonical limited : Bool) (next : Result (Unit {0}) PartFault) → IsTermSum done old → is_term t ≡ true
     → (IfSome (option_map place_seen old.last) IsPlainPlace → canonical ≡ (is_plain_term t && comes_after place_before (option_map place_seen old.last) (line_place t)))

@@ -10,8 +10,8 @@ ghost use Rattle.bpf_cert.specs.Spelling.{content_of};
 ghost use Rattle.bpf_cert.specs.code.Seen.{signed_seen, place_seen, pointer_seen};
 ghost use Rattle.bpf_cert.specs.code.Contents.{IsContent, digits_of_bounds, are_plain_bounds, are_limited_bounds};
 
-use crate::cut::behind;
 use crate::decimal::{SignedForm, is_numeral, is_plain, number};
+use crate::fields::behind;
 use crate::finding::{PartFault, tested};
 use crate::num::{are_plain_signed, is_int_range, narrow, number_in, says_some, signed_value};
 use crate::part::signed_range;

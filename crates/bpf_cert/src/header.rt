@@ -12,8 +12,8 @@ ghost use Rattle.bpf_cert.specs.code.Seen.{header_seen};
 ghost use Rattle.bpf_cert.specs.Spelling.{header_line};
 ghost use Rattle.bpf_cert.specs.code.Standing.{HeaderIs, fields_in};
 
-use crate::cut::{next_field, three_fields, two_fields};
 use crate::decimal::{between, is_numeral, is_plain, number};
+use crate::fields::{next_field, three_fields, two_fields};
 use crate::finding::{PartFault, both, tested};
 use crate::num::are_plain;
 use bpf_insn::MAX_CONTEXT;

@@ -4,9 +4,9 @@
 mod building;
 mod certificate;
 mod content;
-mod cut;
 mod decimal;
 pub mod error;
+mod fields;
 mod finding;
 mod header;
 mod laws;
@@ -24,6 +24,7 @@ mod writing;
 pub use bpf_state::Place;
 pub use certificate::{Budget, Certificate, Function, Label, Measure, Term};
 pub use error::CertError;
+pub use fields::cut;
 pub use laws::{
     each_form_has_one_line, fault_stays, faultless_is_spelled, spelled_is_faultless, spelled_once,
 };

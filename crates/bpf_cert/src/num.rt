@@ -11,8 +11,8 @@ ghost use Rattle.bpf_cert.specs.code.Seen.{signed_seen, part_seen, is_canonical_
 ghost use Rattle.bpf_cert.specs.code.Sums.{single, is_whole, is_whole_signed, least, greatest};
 ghost use Rattle.bpf_cert.specs.code.PartSums.{IsSum, IsKept};
 
-use crate::cut::cut;
 use crate::decimal::{HUGE, SignedForm, is_plain, number};
+use crate::fields::cut;
 use crate::finding::{PartFault, joined, tested};
 use crate::part::{PartForm, part};
 use bpf_num::{KnownBits, Num, Signed, Unsigned};

@@ -5,8 +5,8 @@ ghost use Rattle.bpf_cert.specs.Numeral.{is_numeral};
 ghost use Rattle.bpf_cert.specs.Reading.{range_in, signed_in, unsigned_part_in, signed_part_in, bits_part_in, part_in};
 ghost use Rattle.bpf_cert.specs.code.Seen.{ends_in, signed_seen, part_seen};
 
-use crate::cut::{behind, cut};
 use crate::decimal::{SignedForm, is_numeral, signed};
+use crate::fields::{behind, cut};
 
 /// A part of what is known of a number.
 #[derive(Clone, Copy)]

@@ -8,8 +8,8 @@ ghost use Rattle.bpf_cert.specs.Limits as limits;
 ghost use Rattle.bpf_cert.specs.Spelling.{spelled_place};
 ghost use Rattle.bpf_cert.specs.code.Seen.{place_seen};
 
-use crate::cut::behind;
 use crate::decimal::{is_less, is_numeral, is_plain, number};
+use crate::fields::behind;
 use bpf_insn::Reg;
 use bpf_state::Place;
 

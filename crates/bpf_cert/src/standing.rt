@@ -13,8 +13,8 @@ ghost use Rattle.bpf_cert.specs.code.Standing.{Stands, IsValue, FunctionIs, Labe
 
 use crate::certificate::Term;
 use crate::content::content;
-use crate::cut::{next_field, three_fields};
 use crate::decimal::{between, is_numeral, number};
+use crate::fields::{next_field, three_fields};
 use crate::finding::{PartFault, both, joined, tested};
 use crate::header::{Header, header_form, header_value};
 use crate::limits::{LAST_SLOT, MAX_BASE, MAX_DEPTH, MAX_FUNCTIONS, MAX_LABELS};

@@ -12,8 +12,8 @@ ghost use Rattle.bpf_cert.specs.code.Seen.{place_seen, measure_seen, term_seen};
 ghost use Rattle.bpf_cert.specs.code.TermSums.{IsTermSum, is_plain_term, IsPlainPlace, are_canonical_terms, are_limited_terms, terms_in};
 
 use crate::certificate::{Measure, Term};
-use crate::cut::{behind, cut};
 use crate::decimal::{HUGE, is_numeral, is_plain, number};
+use crate::fields::{behind, cut};
 use crate::finding::{PartFault, joined, tested};
 use crate::limits::MAX_WEIGHT;
 use crate::place::{PlaceForm, is_before, is_limited_place, is_plain_place, place, place_value};

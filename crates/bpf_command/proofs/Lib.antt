@@ -1,5 +1,4 @@
 pub mod ToldLemmas
-pub mod PrintedLemmas
 pub mod LoadedLemmas
 pub mod TextLemmas
 pub mod MadeLemmas

@@ -18,6 +18,7 @@ use Rattle.bpf_cert.specs.RefusalNumbers.{refusal_number as cert_number, refusal
 use Rattle.bpf_cert.specs.declared.error.CertError.{CertError}
 use Rattle.bpf_check.specs.RefusalNumbers.{refusal_number as check_number, refusal_slot as check_slot}
 use Rattle.bpf_check.specs.declared.refusal.Refusal.{Refusal}
+use Rattle.bpf_proposal.specs.RefusalNumbers.{condition_number}
 use Rattle.bpf_proposal.specs.declared.error.InferError.{InferError}
 use Rattle.bpf_proposal.specs.declared.error.InferError.TheVariants.{Unstable, NoBudget, Recursion, Fault as NoState, Memory as InferMemory}
 use Rattle.bpf_machine.specs.declared.outcome.Outcome.{Outcome}
@@ -98,7 +99,7 @@ abbrev pub infer_refusal_line : InferError → List ℕ
 infer_refusal_line (Unstable slot) = concat (codes "no I1 at slot " ∷ decimal slot ∷ codes "\n" ∷ [])
 infer_refusal_line (NoBudget slot) = concat (codes "no I2 at slot " ∷ decimal slot ∷ codes "\n" ∷ [])
 infer_refusal_line (Recursion slot) = concat (codes "no I3 at slot " ∷ decimal slot ∷ codes "\n" ∷ [])
-infer_refusal_line (NoState slot condition) = concat (codes "no I4 (C" ∷ decimal condition ∷ codes ") at slot " ∷ decimal slot ∷ codes "\n" ∷ [])
+infer_refusal_line (NoState slot condition) = concat (codes "no I4 (C" ∷ decimal (condition_number condition) ∷ codes ") at slot " ∷ decimal slot ∷ codes "\n" ∷ [])
 infer_refusal_line InferMemory = codes "no I5 at slot 0\n"
 
 -- `done 0 steps 23`, `fault F1 at slot 2 steps 4`, `out of fuel`

@@ -12,6 +12,7 @@ mod judged;
 mod list;
 mod migrate;
 mod output;
+mod refusal;
 mod run;
 mod run_checked;
 mod whole;

@@ -9,4 +9,4 @@ pub use bpf_inferred::{explain_inferred, explain_searched};
 pub use bpf_refusals::explain_text;
 pub use bpf_words::dot_plain;
 pub use inputs::{explain_certificate, explain_image};
-pub use program::{dot, explain, explain_slot};
+pub use program::{Shown, explain};

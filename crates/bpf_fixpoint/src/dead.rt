@@ -1,11 +1,12 @@
 //! Labels for instructions that nothing reaches.
 
-use crate::judge::{Fault, Report, Wrong, walk_all};
+use crate::judge::{Fault, Report, walk_all};
 use crate::repair::{fill_registers, fill_slots, lead, make_numbers};
 use crate::sums::{Held, held, take_in_at};
 use crate::task::{Task, Watcher};
 use bpf_insn::Insn;
 use bpf_outline::{Flow, put, vacant};
+use bpf_proposal::Condition;
 use bpf_state::{State, StateFault};
 use std::alloc::{AllocError, Global};
 
@@ -96,14 +97,15 @@ impl Seeds {
 
     /// Changes the states so that a fault may go away. Whether something was changed.
     pub fn repair(&mut self, task: Task, fault: Fault) -> bool {
-        let Wrong::Fault(kind) = fault.wrong else {
-            return false;
-        };
-        match kind {
-            StateFault::UnsetRegister => self.fill(false),
-            StateFault::UnsetByte => self.fill(true),
-            StateFault::WrongKinds | StateFault::OutOfBounds => self.change_kinds(task, fault.slot),
-            StateFault::Protected => false,
+        match fault.condition {
+            Condition::State(StateFault::UnsetRegister) => self.fill(false),
+            Condition::State(StateFault::UnsetByte) => self.fill(true),
+            Condition::State(StateFault::WrongKinds | StateFault::OutOfBounds) => {
+                self.change_kinds(task, fault.slot)
+            }
+            Condition::State(StateFault::Protected)
+            | Condition::FallsOff
+            | Condition::LeavesFunction => false,
         }
     }
 

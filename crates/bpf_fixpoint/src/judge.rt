@@ -5,34 +5,15 @@ use crate::task::{Task, Watcher};
 use bpf_insn::{Insn, Reg};
 use bpf_num::Num;
 use bpf_outline::{get_or, join, put};
-use bpf_proposal::FALLS_OFF;
-use bpf_state::{State, StateFault, enter};
+use bpf_proposal::Condition;
+use bpf_state::{State, enter};
 use std::alloc::{AllocError, Global};
 
-/// What is wrong with an instruction.
-#[derive(Clone, Copy)]
-pub enum Wrong {
-    /// What it does may be refused.
-    Fault(StateFault),
-    /// It isn't reached, or falls past the end of the program.
-    Dead,
-}
-
-impl Wrong {
-    /// The number of the condition that the checker would name.
-    pub fn condition(self) -> u8 {
-        match self {
-            Wrong::Fault(fault) => fault.number(),
-            Wrong::Dead => FALLS_OFF,
-        }
-    }
-}
-
-/// An instruction with which something is wrong, by its slot.
+/// An instruction that fails a condition of the checker, by its slot.
 #[derive(Clone, Copy)]
 pub struct Fault {
     pub slot: u32,
-    pub wrong: Wrong,
+    pub condition: Condition,
 }
 
 impl Fault {
@@ -40,7 +21,7 @@ impl Fault {
     pub fn dead(slot: u32) -> Fault {
         Fault {
             slot,
-            wrong: Wrong::Dead,
+            condition: Condition::FallsOff,
         }
     }
 }
@@ -100,10 +81,10 @@ impl Watcher for Report {
         };
     }
 
-    fn fault(&mut self, slot: u32, wrong: Wrong) {
+    fn fault(&mut self, slot: u32, condition: Condition) {
         match self.fault {
             Some(lowest) if lowest.slot <= slot => {}
-            _ => self.fault = Some(Fault { slot, wrong }),
+            _ => self.fault = Some(Fault { slot, condition }),
         }
     }
 }

@@ -14,7 +14,7 @@ use arrayvec::ArrayVec;
 use bpf_cert::{Budget, Function, Label};
 use bpf_insn::Program;
 use bpf_num::Num;
-use bpf_outline::{Depths, Outline, Watch, check_bounds, depths_of, get_or, put, vacant};
+use bpf_outline::{Depths, Outline, Quest, Watch, depths_of, get_or, put, vacant};
 use bpf_proposal::InferError;
 use bpf_state::{Entries, State};
 use std::alloc::{AllocError, Global};
@@ -23,10 +23,10 @@ use std::alloc::{AllocError, Global};
 const DEAD_ROUNDS: u32 = 24;
 
 /// The passes in which what functions return may be found to be less.
-const PASSES: u32 = 4;
+const PASSES: u32 = 3;
 
 /// The most passes with those that take back what a function returns.
-const MOST_PASSES: u32 = 12;
+const MOST_PASSES: u32 = 11;
 
 /// What was found of a function that begins in a state.
 #[derive(Drop)]
@@ -63,10 +63,8 @@ impl Judged {
 #[derive(Drop)]
 struct Analysis<'a> {
     alloc: Global,
-    program: &'a Program,
+    quest: Quest<'a>,
     outline: &'a Outline,
-    least: u32,
-    most: u32,
     /// The first slots, and at the end how many slots there are.
     firsts: Vec<u32>,
     /// What each returns.
@@ -97,19 +95,15 @@ impl<'a> Analysis<'a> {
     /// Nothing is known of any function.
     fn new(
         alloc: Global,
-        program: &'a Program,
+        quest: Quest<'a>,
         outline: &'a Outline,
-        least: u32,
-        most: u32,
     ) -> Result<Analysis<'a>, AllocError> {
-        let firsts = firsts_of(alloc, program, outline)?;
+        let firsts = firsts_of(alloc, quest.program, outline)?;
         let count = outline.function_count();
         Ok(Analysis {
             alloc,
-            program,
+            quest,
             outline,
-            least,
-            most,
             firsts,
             rets: vec![in alloc; Num::top(); count]?,
             is_changed: vec![in alloc; false; count]?,
@@ -126,11 +120,11 @@ impl<'a> Analysis<'a> {
     /// What a walk over a function is given.
     fn task<'b>(&'b self, region: &'b Region) -> Task<'b> {
         Task {
-            program: self.program,
+            program: self.quest.program,
             outline: self.outline,
             region,
-            least: self.least,
-            most: self.most,
+            least: self.quest.least,
+            most: self.quest.most,
             rets: &self.rets,
         }
     }
@@ -182,7 +176,7 @@ impl<'a> Analysis<'a> {
         watch: &mut W,
     ) -> Result<Judged, InferError> {
         let extra = seeds.slots()?;
-        let region = Region::of(self.alloc, self.program, first, end, &extra)?;
+        let region = Region::of(self.alloc, self.quest.program, first, end, &extra)?;
         let states = self.states_of(&region, entry, seeds, watch)?;
         let task = self.task(&region);
         let report = Report::of(self.alloc, task, &states)?;
@@ -207,7 +201,7 @@ impl<'a> Analysis<'a> {
         let unstable = InferError::Unstable {
             slot: region.first(),
         };
-        let graph = Graph::of(self.alloc, self.program, region)?;
+        let graph = Graph::of(self.alloc, self.quest.program, region)?;
         let Some(nest) = Nest::of(self.alloc, &graph, region.labels())? else {
             return Err(unstable);
         };
@@ -331,7 +325,7 @@ impl<'a> Analysis<'a> {
         start: &State,
         watch: &mut W,
     ) -> Result<(), InferError> {
-        for pass in 1..MOST_PASSES {
+        for pass in 0..MOST_PASSES {
             self.pass(depths, start, watch)?;
             if !self.update_rets(pass < PASSES) {
                 return Ok(());
@@ -440,28 +434,25 @@ fn lower(a: Option<Fault>, b: Option<Fault>) -> Option<Fault> {
     }
 }
 
-/// The functions of a program on contexts of `least` to `most` bytes, with their depths, what they return, and their labels
+/// The functions of a program with their depths, what they return, and their labels
 /// with their states; each budget is 0. I1 at a function whose states don't settle; I4 at the lowest instruction that is
 /// refused.
 pub fn draft<W: Watch>(
     alloc: Global,
-    program: &Program,
-    least: u32,
-    most: u32,
+    quest: Quest<'_>,
     watch: &mut W,
 ) -> Result<Vec<Function>, InferError>
-    requires { least ≤ most }
+    requires { quest.least ≤ quest.most }
 {
-    let outline = Outline::of(alloc, program)?;
-    let depths = depths_of(alloc, program, &outline)?;
-    check_bounds(program, &outline)?;
-    let start = State::start(least, most);
-    let mut analysis = Analysis::new(alloc, program, &outline, least, most)?;
+    let outline = Outline::of(alloc, quest.program)?;
+    let depths = depths_of(alloc, quest.program, &outline)?;
+    let start = quest.start();
+    let mut analysis = Analysis::new(alloc, quest, &outline)?;
     analysis.settle(&depths, &start, watch)?;
     if let Some(fault) = analysis.fault() {
         return Err(InferError::Fault {
             slot: fault.slot,
-            condition: fault.wrong.condition(),
+            condition: fault.condition,
         });
     }
     analysis.spare_all(&depths)?;

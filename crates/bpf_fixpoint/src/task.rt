@@ -1,11 +1,11 @@
 //! Walks over segments that don't stop at faults.
 
-use crate::judge::Wrong;
 use crate::region::Region;
 use crate::tolerant::go_on;
 use bpf_insn::{Insn, Program};
 use bpf_num::Num;
 use bpf_outline::{Flow, Outline, compared, get_or};
+use bpf_proposal::Condition;
 use bpf_state::{State, branch, leave, transfer};
 use std::alloc::AllocError;
 
@@ -27,8 +27,8 @@ pub trait Watcher {
     /// An EXIT is reached in a state.
     fn exit(&mut self, _state: &State) {}
 
-    /// Something is wrong with the instruction at a slot.
-    fn fault(&mut self, _slot: u32, _wrong: Wrong) {}
+    /// The instruction at a slot fails a condition of the checker.
+    fn fault(&mut self, _slot: u32, _condition: Condition) {}
 }
 
 /// A function to be judged on contexts of `least` to `most` bytes.
@@ -64,7 +64,7 @@ impl<'a> Task<'a> {
         if end < self.region.end() {
             watcher.edge(label, label.saturating_add(1), state)?;
         } else {
-            watcher.fault(last, Wrong::Dead);
+            watcher.fault(last, Condition::FallsOff);
         }
         Ok(())
     }
@@ -83,7 +83,7 @@ impl<'a> Task<'a> {
             Ok(true) => {}
             Ok(false) => return Ok(false),
             Err(fault) => {
-                watcher.fault(slot, Wrong::Fault(fault));
+                watcher.fault(slot, Condition::State(fault));
                 go_on(insn, state);
             }
         }

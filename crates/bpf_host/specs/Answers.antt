@@ -10,7 +10,7 @@ use Rattle.bpf_semantics.specs.Run.{IsDone}
 use Rattle.bpf_sound.specs.Describes.{LengthWithin}
 use Rattle.bpf_cert.specs.View.{CertificateView}
 use Rattle.bpf_cert.specs.Certificates.{Spells}
-use Rattle.bpf_proposal.specs.RefusalNumbers.{IsRefusalIn}
+use Rattle.bpf_proposal.specs.RefusalNumbers.{infer_slot}
 use Rattle.bpf_proposal.specs.declared.error.InferError.{InferError}
 use Rattle.bpf_proposal.specs.declared.error.InferError.TheVariants.{Memory as OutOfMemory}
 use Rattle.bpf_check.specs.Verdicts.{Verified, IsRefusedBy, IsUnread, program_in}
@@ -107,7 +107,7 @@ pub record IsUnproposed (order : Order) (image : List ℕ) (told : BpfRefusal) :
   pub program : List Insn
   pub is_image : IsImageOfProgram order image program
   pub error : InferError
-  pub refusal : IsRefusalIn (slots program) error
+  pub inside : infer_slot error < slots program
   pub other : error ≢ OutOfMemory
   pub tells : TellsInference error told
 

@@ -7,7 +7,7 @@ use Rattle.bpf_insn.specs.declared.refusal.DecodeError.{DecodeError}
 use Rattle.bpf_semantics.specs.ReasonNumbers.{reason_number}
 use Rattle.bpf_cert.specs.RefusalNumbers.{refusal_number as cert_number, refusal_line}
 use Rattle.bpf_cert.specs.declared.error.CertError.{CertError}
-use Rattle.bpf_proposal.specs.RefusalNumbers.{infer_number, infer_slot}
+use Rattle.bpf_proposal.specs.RefusalNumbers.{condition_number, infer_number, infer_slot}
 use Rattle.bpf_proposal.specs.declared.error.InferError.{InferError}
 use Rattle.bpf_proposal.specs.declared.error.InferError.TheVariants.{Unstable, NoBudget, Recursion, Fault as Refused, Memory}
 use Rattle.bpf_check.specs.RefusalNumbers.{refusal_number as check_number, refusal_slot}
@@ -36,12 +36,12 @@ TellsCertificate e r = r ≡ record { kind = 75; number = cert_number e; place =
 abbrev pub TellsCheck : Refusal → BpfRefusal → Type 0
 TellsCheck e r = r ≡ record { kind = 67; number = check_number e; place = refusal_slot e; condition = 0 }
 
--- the checker's condition that an instruction would fail
+-- the number of the checker's condition that an instruction would fail, from 3 to 12
 abbrev pub condition_of : InferError → ℕ
 condition_of (Unstable slot) = 0
 condition_of (NoBudget slot) = 0
 condition_of (Recursion slot) = 0
-condition_of (Refused slot condition) = condition
+condition_of (Refused slot condition) = condition_number condition
 condition_of Memory = 0
 
 -- of an inference: I (73), its number, its slot and the condition

@@ -138,7 +138,7 @@ fn condition_of(error: &InferError) -> u64
     ensures { result ≡ condition_of error.now }
 {
     match *error {
-        InferError::Fault { condition, .. } => u64::from(condition),
+        InferError::Fault { condition, .. } => u64::from(condition.number()),
         InferError::Unstable { .. } => 0,
         InferError::NoBudget { .. } => 0,
         InferError::Recursion { .. } => 0,

@@ -2,13 +2,13 @@
 
 ghost use Rattle.std.specs.Prelude.{◌≡◌, ◌<◌, ◌≤◌, IfOk, IfErr};
 ghost use Rattle.bpf_insn.specs.Instruction.{slots};
-ghost use Rattle.bpf_proposal.specs.RefusalNumbers.{infer_slot, IsCondition};
+ghost use Rattle.bpf_proposal.specs.RefusalNumbers.{infer_slot};
 ghost use Rattle.bpf_cert.specs.Limits.{IsCertificate};
 
 use crate::deep::deep_proposal;
 use bpf_cert::Certificate;
 use bpf_insn::{Code, Program};
-use bpf_outline::{Proposal, Unwatched, Watch};
+use bpf_outline::{Proposal, Quest, Unwatched, Watch};
 use bpf_plain::plain_proposal;
 use bpf_proposal::InferError;
 use std::alloc::Global;
@@ -34,7 +34,7 @@ fn certificate_of(
 /// Proposes a certificate of version 2 for a program on contexts of `least` to `most` bytes, at most 4,096. I1 if a
 /// function's states aren't stable after 64 rounds, at its first slot; I2 if a loop has no counter or a label is over a
 /// limit, at the label; I3 at the lowest call of a recursion; I4 at an instruction that the checker would refuse, with
-/// the number of its condition, 3 to 12; I5 if memory runs out.
+/// the condition that fails, C3 to C12; I5 if memory runs out.
 pub fn infer(
     alloc: Global,
     program: &Program,
@@ -48,9 +48,13 @@ pub fn infer(
     ensures most { IfOk result (λ c. c.most ≡ most) }
     ensures certificate { IfOk result (λ c. IsCertificate c) }
     ensures slot { IfErr result (λ e. infer_slot e < slots program.now.list) }
-    ensures condition { IfErr result (λ e. IsCondition e) }
 {
-    let found = plain_proposal(alloc, program, least, most, &mut Unwatched);
+    let quest = Quest {
+        program,
+        least,
+        most,
+    };
+    let found = plain_proposal(alloc, quest, &mut Unwatched);
     match certificate_of(least, most, found) {
         Ok(certificate) => Ok(certificate),
         Err(error) => Err(error.within(Code::slots(program))),
@@ -61,7 +65,7 @@ pub fn infer(
 /// code that nothing reaches and counters that change their places may have one. Where `infer` has a lower bound, it is
 /// that one. I1 if states that were found aren't stable, at the first slot of their function; I2 at the lowest label of
 /// the loops that nothing counts, or at a label over a limit; I3 at the lowest call of a recursion; I4 at an instruction
-/// that the checker would refuse, with the number of its condition, 3 to 12; I5 if memory runs out. Who watches is told how
+/// that the checker would refuse, with the condition that fails, C3 to C12; I5 if memory runs out. Who watches is told how
 /// far it is.
 pub fn search<W: Watch>(
     alloc: Global,
@@ -77,10 +81,14 @@ pub fn search<W: Watch>(
     ensures most { IfOk result (λ c. c.most ≡ most) }
     ensures certificate { IfOk result (λ c. IsCertificate c) }
     ensures slot { IfErr result (λ e. infer_slot e < slots program.now.list) }
-    ensures condition { IfErr result (λ e. IsCondition e) }
 {
-    let plain = plain_proposal(alloc, program, least, most, watch);
-    let deep = deep_proposal(alloc, program, least, most, watch);
+    let quest = Quest {
+        program,
+        least,
+        most,
+    };
+    let plain = plain_proposal(alloc, quest, watch);
+    let deep = deep_proposal(alloc, quest, watch);
     watch.end();
     let plain = certificate_of(least, most, plain);
     match certificate_of(least, most, deep) {

@@ -4,7 +4,7 @@
 mod deep;
 mod inferrer;
 
-pub use bpf_outline::{Unwatched, Watch};
+pub use bpf_outline::{Quest, Unwatched, Watch};
 pub use bpf_plain::{Loss, Move, Obstacle, Sketch, Tangle, Trial, sketch_of};
-pub use bpf_proposal::{FALLS_OFF, InferError, LEAVES_FUNCTION};
+pub use bpf_proposal::{Condition, InferError};
 pub use inferrer::{infer, search};

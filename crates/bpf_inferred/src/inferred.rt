@@ -3,10 +3,10 @@
 ghost use Rattle.std.specs.Prelude.{◌≤◌};
 
 use bpf_cert::Certificate;
-use bpf_check::check;
+use bpf_check::{Cause, Refusal, cause_of, check};
 use bpf_infer::{
-    FALLS_OFF, InferError, LEAVES_FUNCTION, Loss, Move, Obstacle, Sketch, Tangle, Trial, Watch,
-    infer, search, sketch_of,
+    Condition, InferError, Loss, Move, Obstacle, Quest, Sketch, Tangle, Trial, Watch, infer,
+    search, sketch_of,
 };
 use bpf_insn::{Code, Insn, Program};
 use bpf_page::{Page, Tell};
@@ -26,9 +26,10 @@ fn write_refusal<W: Tell>(out: &mut W, error: InferError) {
     let (number, slot) = (error.number(), error.slot());
     match error {
         InferError::Fault { condition, .. } => {
+            let failed = condition.number();
             write!(
                 out,
-                "no certificate: I{number} (C{condition}) at slot {slot}\n"
+                "no certificate: I{number} (C{failed}) at slot {slot}\n"
             );
         }
         InferError::Memory => write!(out, "no certificate: I5, memory ran out\n"),
@@ -181,7 +182,7 @@ fn write_reason<W: Tell>(out: &mut W, program: &Program, error: InferError, effo
         (
             InferError::Fault {
                 slot,
-                condition: LEAVES_FUNCTION,
+                condition: Condition::LeavesFunction,
             },
             _,
         ) => write!(
@@ -217,11 +218,11 @@ fn may_be_found(program: &Program, error: InferError) -> bool {
     match error {
         InferError::Recursion { .. } | InferError::Memory => false,
         InferError::Fault {
-            condition: LEAVES_FUNCTION,
+            condition: Condition::LeavesFunction,
             ..
         } => false,
         InferError::Fault {
-            condition: FALLS_OFF,
+            condition: Condition::FallsOff,
             ..
         } => true,
         InferError::Fault { .. } => goes_round(program),
@@ -236,12 +237,17 @@ fn write_hint<W: Tell>(out: &mut W, program: &Program, error: InferError, effort
     }
 }
 
-/// The condition of the checker that fails at the slot of a refusal.
-fn condition_of(error: InferError) -> u8 {
-    match error {
-        InferError::Fault { condition, .. } => condition,
-        _ => 0,
-    }
+/// The flaw that the checker would name, where a refusal says so.
+fn flaw_of(error: InferError) -> Option<Refusal> {
+    let InferError::Fault { slot, condition } = error else {
+        return None;
+    };
+    let cause = match condition {
+        Condition::State(fault) => cause_of(fault),
+        Condition::FallsOff => Cause::FallsOff,
+        Condition::LeavesFunction => Cause::LeavesFunction,
+    };
+    Some(Refusal { slot, cause })
 }
 
 /// Tells the states that the plain inferrer has, and what is in the way of a refusal.
@@ -252,16 +258,16 @@ fn write_sketch<W: Tell>(
     error: InferError,
     effort: Effort,
 ) {
-    let (slot, number) = (error.slot(), condition_of(error));
+    let (slot, flaw) = (error.slot(), flaw_of(error));
     if let Some(certificate) = &sketch.certificate {
         if effort == Effort::Deep {
             write!(out, "as far as the plain search sees:\n");
         }
-        tell_sketch(program, certificate, slot, number, out);
+        tell_sketch(program, certificate, flaw, out);
     }
     write_refusal(out, error);
-    if let Some(certificate) = &sketch.certificate {
-        tell_reason(program, certificate, slot, number, out);
+    if let (Some(certificate), Some(flaw)) = (&sketch.certificate, flaw) {
+        tell_reason(program, certificate, flaw, out);
     }
     match (&sketch.obstacle, effort) {
         (Some(obstacle), Effort::Plain) => write_obstacle(out, slot, obstacle),
@@ -282,41 +288,6 @@ fn write_unseen<W: Tell>(out: &mut W, program: &Program, error: InferError, effo
     }
 }
 
-/// Tells what the inferrer has of a program that it refuses. The refusal: I5 where memory runs out meanwhile.
-fn write_refused<W: Tell>(
-    alloc: Global,
-    program: &Program,
-    least: u32,
-    most: u32,
-    error: InferError,
-    effort: Effort,
-    out: &mut W,
-) -> InferError
-    requires order { least ≤ most }
-    requires short { most ≤ 4096 }
-{
-    let sketch = match error {
-        InferError::Memory => Err(error),
-        _ => sketch_of(alloc, program, least, most, error),
-    };
-    match sketch {
-        Ok(sketch) => {
-            write_sketch(out, program, &sketch, error, effort);
-            write_reason(out, program, error, effort);
-            write_hint(out, program, error, effort);
-            error
-        }
-        Err(InferError::Memory) => {
-            write_refusal(out, InferError::Memory);
-            InferError::Memory
-        }
-        Err(_) => {
-            write_unseen(out, program, error, effort);
-            error
-        }
-    }
-}
-
 /// Explains a certificate that was found, with the checker's answer.
 fn explain_certified<W: Tell>(program: &Program, certificate: &Certificate, out: &mut W) {
     let refusal = match check(program, certificate) {
@@ -326,58 +297,62 @@ fn explain_certified<W: Tell>(program: &Program, certificate: &Certificate, out:
     explain_on(program, certificate, refusal, out);
 }
 
-/// Explains what a search found. The refusal as it is told, if there is no certificate.
-fn explain_found<W: Tell>(
+/// What a certificate is sought for, and how.
+#[derive(Clone, Copy)]
+struct Sought<'a> {
     alloc: Global,
-    program: &Program,
-    least: u32,
-    most: u32,
-    found: &Result<Certificate, InferError>,
+    quest: Quest<'a>,
     effort: Effort,
-    out: &mut W,
-) -> Option<InferError>
-    requires order { least ≤ most }
-    requires short { most ≤ 4096 }
-{
-    match found {
-        Ok(certificate) => {
-            explain_certified(program, certificate, out);
-            None
-        }
-        Err(error) => {
-            let told = write_refused(alloc, program, least, most, *error, effort, out);
-            Some(told)
+}
+
+impl<'a> Sought<'a> {
+    /// Tells what the inferrer has of a program that it refuses. The refusal: I5 where memory runs out meanwhile.
+    fn write_refused<W: Tell>(&self, error: InferError, out: &mut W) -> InferError
+        requires order { self.now.quest.least ≤ self.now.quest.most }
+        requires short { self.now.quest.most ≤ 4096 }
+    {
+        let (program, effort) = (self.quest.program, self.effort);
+        let sketch = match error {
+            InferError::Memory => Err(error),
+            _ => sketch_of(self.alloc, self.quest, error),
+        };
+        match sketch {
+            Ok(sketch) => {
+                write_sketch(out, program, &sketch, error, effort);
+                write_reason(out, program, error, effort);
+                write_hint(out, program, error, effort);
+                error
+            }
+            Err(InferError::Memory) => {
+                write_refusal(out, InferError::Memory);
+                InferError::Memory
+            }
+            Err(_) => {
+                write_unseen(out, program, error, effort);
+                error
+            }
         }
     }
-}
 
-/// Explains what a search found in pieces of up to 4,096 bytes. The refusal as it is told, if there is no certificate.
-fn explain_in_pieces<W: Write>(
-    alloc: Global,
-    program: &Program,
-    least: u32,
-    most: u32,
-    found: &Result<Certificate, InferError>,
-    effort: Effort,
-    out: &mut W,
-) -> io::Result<Option<InferError>>
-    requires order { least ≤ most }
-    requires short { most ≤ 4096 }
-{
-    let mut page = Page::new(out);
-    let told = explain_found(alloc, program, least, most, found, effort, &mut page);
-    page.finish()?;
-    Ok(told)
-}
-
-/// What was found, or the refusal as it is told.
-fn answer(
-    found: Result<Certificate, InferError>,
-    told: Option<InferError>,
-) -> Result<Certificate, InferError> {
-    match told {
-        Some(error) => Err(error),
-        None => found,
+    /// Explains what a search found, in pieces of up to 4,096 bytes. What was found, or the refusal as it is told.
+    fn explain<W: Write>(
+        &self,
+        found: Result<Certificate, InferError>,
+        out: &mut W,
+    ) -> io::Result<Result<Certificate, InferError>>
+        requires order { self.now.quest.least ≤ self.now.quest.most }
+        requires short { self.now.quest.most ≤ 4096 }
+    {
+        let mut page = Page::new(out);
+        let told = match found {
+            Ok(certificate) => {
+                explain_certified(self.quest.program, &certificate, &mut page);
+                Ok(certificate)
+            }
+            Err(error) => Err(self.write_refused(error, &mut page)),
+        };
+        page.finish()?;
+        Ok(told)
     }
 }
 
@@ -394,10 +369,17 @@ pub fn explain_inferred<W: Write>(
     requires order { least ≤ most }
     requires short { most ≤ 4096 }
 {
-    let found = infer(alloc, program, least, most);
-    let effort = Effort::Plain;
-    let told = explain_in_pieces(alloc, program, least, most, &found, effort, out)?;
-    Ok(answer(found, told))
+    let quest = Quest {
+        program,
+        least,
+        most,
+    };
+    let sought = Sought {
+        alloc,
+        quest,
+        effort: Effort::Plain,
+    };
+    sought.explain(infer(alloc, program, least, most), out)
 }
 
 /// Explains the same of the deep search, with the plain inferrer's states where it proposes none. Who watches is told how far
@@ -413,8 +395,15 @@ pub fn explain_searched<W: Write, H: Watch>(
     requires order { least ≤ most }
     requires short { most ≤ 4096 }
 {
-    let found = search(alloc, program, least, most, watch);
-    let effort = Effort::Deep;
-    let told = explain_in_pieces(alloc, program, least, most, &found, effort, out)?;
-    Ok(answer(found, told))
+    let quest = Quest {
+        program,
+        least,
+        most,
+    };
+    let sought = Sought {
+        alloc,
+        quest,
+        effort: Effort::Deep,
+    };
+    sought.explain(search(alloc, program, least, most, watch), out)
 }

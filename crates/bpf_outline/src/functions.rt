@@ -6,7 +6,7 @@ use crate::lists::get_or;
 use crate::outline::Outline;
 use bpf_cert::{MAX_DEPTH, MAX_FUNCTIONS};
 use bpf_insn::{Insn, Program};
-use bpf_proposal::{InferError, LEAVES_FUNCTION};
+use bpf_proposal::{Condition, InferError};
 use std::alloc::{AllocError, Global};
 
 /// A call at a slot, by the numbers of the function that it stands in and of the one that it calls.
@@ -96,8 +96,8 @@ fn first_too_deep(depths: &Depths, outline: &Outline) -> Option<u32> {
 }
 
 /// The depth of each function: 1 plus the greatest depth of those that it calls. I3 at the lowest call of a recursion;
-/// I2 at the first of the lowest function with a depth above 8.
-pub fn depths_of(
+/// I2 at the first slot of the lowest function with a depth above 8.
+fn depths_by_calls(
     alloc: Global,
     program: &Program,
     outline: &Outline,
@@ -126,16 +126,28 @@ fn leaves_function(program: &Program, outline: &Outline, slot: u32, insn: &Insn)
 }
 
 /// I4 (C12) at the lowest instruction that jumps out of its function, or goes on into the next one.
-pub fn check_bounds(program: &Program, outline: &Outline) -> Result<(), InferError> {
+fn check_bounds(program: &Program, outline: &Outline) -> Result<(), InferError> {
     for slot in 0..program.slots() {
         if let Some(insn) = program.at(slot) {
             if leaves_function(program, outline, slot, insn) {
                 return Err(InferError::Fault {
                     slot,
-                    condition: LEAVES_FUNCTION,
+                    condition: Condition::LeavesFunction,
                 });
             }
         }
     }
     Ok(())
+}
+
+/// The depth of each function of a program whose jumps stay in their functions. I3 at the lowest call of a recursion; I2 at
+/// the first slot of the lowest function with a depth above 8; I4 (C12) at the lowest instruction that leaves its function.
+pub fn depths_of(
+    alloc: Global,
+    program: &Program,
+    outline: &Outline,
+) -> Result<Depths, InferError> {
+    let depths = depths_by_calls(alloc, program, outline)?;
+    check_bounds(program, outline)?;
+    Ok(depths)
 }

@@ -8,10 +8,8 @@ use crate::rounds::{functions_of, states_of};
 use crate::walk::Walked;
 use arrayvec::ArrayVec;
 use bpf_cert::{Budget, Function};
-use bpf_insn::Program;
-use bpf_outline::{Outline, Proposal, Watch, check_bounds, depths_of};
+use bpf_outline::{Outline, Proposal, Quest, Watch, depths_of};
 use bpf_proposal::InferError;
-use bpf_state::State;
 use std::alloc::Global;
 
 /// The budget at the label of a block.
@@ -41,30 +39,22 @@ fn put_all(outline: &Outline, budgets: &Budgets, functions: &mut Vec<Function>) 
     }
 }
 
-/// What the table of one counter for a loop gives a program on contexts of `least` to `most` bytes. I1 if a function's states
+/// What the table of one counter for a loop gives a program. I1 if a function's states
 /// aren't stable after 64 rounds, at its first slot; I2 if a loop has no counter, at its label; I3 at the lowest call of a
-/// recursion; I4 at an instruction that the checker would refuse, with the number of its condition, 3 to 12; I5 if memory
+/// recursion; I4 at an instruction that the checker would refuse, with the condition that fails, C3 to C12; I5 if memory
 /// runs out.
 pub fn plain_proposal<W: Watch>(
     alloc: Global,
-    program: &Program,
-    least: u32,
-    most: u32,
+    quest: Quest<'_>,
     watch: &mut W,
 ) -> Result<Proposal, InferError>
-    requires order { least ≤ most }
-    requires short { most ≤ 4096 }
+    requires order { quest.least ≤ quest.most }
+    requires short { quest.most ≤ 4096 }
 {
-    let outline = Outline::of(alloc, program)?;
-    let depths = depths_of(alloc, program, &outline)?;
-    check_bounds(program, &outline)?;
-    let walk = Walked {
-        program,
-        outline: &outline,
-        least,
-        most,
-    };
-    let start = State::start(least, most);
+    let outline = Outline::of(alloc, quest.program)?;
+    let depths = depths_of(alloc, quest.program, &outline)?;
+    let walk = Walked::new(quest, &outline);
+    let start = quest.start();
     let mut rounds = states_of(alloc, &walk, &depths, &start, watch)?;
     let loops = loops_of(alloc, &walk, &rounds)?;
     let budgets = budgets_of(alloc, &walk, &rounds, loops, &depths)?;

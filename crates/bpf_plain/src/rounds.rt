@@ -7,7 +7,7 @@ use bpf_num::Num;
 use bpf_outline::{
     Depths, Outline, Stops, Watch, get_or, join, number_said, pointer_said, put, vacant,
 };
-use bpf_proposal::{FALLS_OFF, InferError};
+use bpf_proposal::{Condition, InferError};
 use bpf_state::{Entries, State, enter};
 use std::alloc::{AllocError, Global};
 
@@ -236,7 +236,7 @@ impl Rounds {
             if reached < walk.outline.end(block) {
                 return Err(InferError::Fault {
                     slot: reached.max(walk.outline.label(block)),
-                    condition: FALLS_OFF,
+                    condition: Condition::FallsOff,
                 });
             }
         }

@@ -9,10 +9,10 @@ use crate::tangles::{Tangle, tangle_of};
 use crate::walk::Walked;
 use crate::walkers::walker_at;
 use bpf_cert::Certificate;
-use bpf_insn::{Program, Reg};
-use bpf_outline::{Depths, Outline, PLACES, Unwatched, check_bounds, depths_of, get_or, place};
-use bpf_proposal::{InferError, OUT_OF_BOUNDS};
-use bpf_state::{Place, State};
+use bpf_insn::Reg;
+use bpf_outline::{Depths, Outline, PLACES, Quest, Unwatched, depths_of, get_or, place};
+use bpf_proposal::{Condition, InferError};
+use bpf_state::{Place, State, StateFault};
 use std::alloc::{AllocError, Global};
 
 /// What a place does in a round of a loop.
@@ -200,7 +200,7 @@ fn obstacle_of(
         }
         InferError::Fault {
             slot,
-            condition: OUT_OF_BOUNDS,
+            condition: Condition::State(StateFault::OutOfBounds),
         } => Ok(match walker_at(walk, rounds, slot) {
             Some((reg, head)) => Some(Obstacle::Walking { reg, head }),
             None => None,
@@ -209,33 +209,21 @@ fn obstacle_of(
     }
 }
 
-/// What the inferrer has of a program on contexts of `least` to `most` bytes when it stops, and what is in the way of a
+/// What the inferrer has of a program when it stops, and what is in the way of a
 /// refusal. It is refused as by `plain_proposal` where that stops before it has states, and I5 if memory runs out.
-pub fn sketch_of(
-    alloc: Global,
-    program: &Program,
-    least: u32,
-    most: u32,
-    error: InferError,
-) -> Result<Sketch, InferError>
-    requires order { least ≤ most }
-    requires short { most ≤ 4096 }
+pub fn sketch_of(alloc: Global, quest: Quest<'_>, error: InferError) -> Result<Sketch, InferError>
+    requires order { quest.least ≤ quest.most }
+    requires short { quest.most ≤ 4096 }
 {
-    let outline = Outline::of(alloc, program)?;
-    let depths = depths_of(alloc, program, &outline)?;
-    check_bounds(program, &outline)?;
-    let walk = Walked {
-        program,
-        outline: &outline,
-        least,
-        most,
-    };
-    let start = State::start(least, most);
+    let outline = Outline::of(alloc, quest.program)?;
+    let depths = depths_of(alloc, quest.program, &outline)?;
+    let walk = Walked::new(quest, &outline);
+    let start = quest.start();
     let mut rounds = rounds_so_far(alloc, &walk, &depths, &start)?;
     let obstacle = obstacle_of(alloc, &walk, &rounds, error)?;
     let functions = functions_of(alloc, &outline, &mut rounds, &depths)?;
     Ok(Sketch {
-        certificate: Certificate::new(2, least, most, 1, functions).ok(),
+        certificate: Certificate::new(2, quest.least, quest.most, 1, functions).ok(),
         obstacle,
     })
 }

@@ -2,8 +2,8 @@
 
 use bpf_insn::{Insn, Program};
 use bpf_num::Num;
-use bpf_outline::{Flow, Outline, compared};
-use bpf_proposal::{FALLS_OFF, InferError};
+use bpf_outline::{Flow, Outline, Quest, compared};
+use bpf_proposal::{Condition, InferError};
 use bpf_state::{State, branch, leave, transfer};
 use std::alloc::AllocError;
 
@@ -37,6 +37,18 @@ pub struct Walked<'a> {
     pub outline: &'a Outline,
     pub least: u32,
     pub most: u32,
+}
+
+impl<'a> Walked<'a> {
+    /// The program of a quest, by its outline.
+    pub fn new(quest: Quest<'a>, outline: &'a Outline) -> Self {
+        Walked {
+            program: quest.program,
+            outline,
+            least: quest.least,
+            most: quest.most,
+        }
+    }
 }
 
 /// Where a walk is: its block, the slot, and how many instructions were done, this one counted.
@@ -82,7 +94,7 @@ impl<'a> Walked<'a> {
         if end >= self.program.slots() {
             return Err(InferError::Fault {
                 slot: spot.slot,
-                condition: FALLS_OFF,
+                condition: Condition::FallsOff,
             });
         }
         visitor.edge(self.edge_to(spot, end), spot.done, state)?;
@@ -102,7 +114,7 @@ impl<'a> Walked<'a> {
             Ok(false) => Ok(false),
             Err(fault) => Err(InferError::Fault {
                 slot: spot.slot,
-                condition: fault.number(),
+                condition: Condition::State(fault),
             }),
         }
     }

@@ -1,7 +1,16 @@
 -- The numbers of refusals, and the slots that they name.
-use Rattle.std.specs.Prelude.{ℕ, ◌<◌, ◌≤◌, ◌-◌, min, max}
+use Rattle.std.specs.Prelude.{ℕ, ◌-◌, min}
+use Rattle.bpf_state.specs.Answer.{fault_number}
+use Rattle.bpf_proposal.specs.declared.condition.Condition.{Condition}
+use Rattle.bpf_proposal.specs.declared.condition.Condition.TheVariants.{State, FallsOff, LeavesFunction}
 use Rattle.bpf_proposal.specs.declared.error.InferError.{InferError}
 use Rattle.bpf_proposal.specs.declared.error.InferError.TheVariants.{Unstable, NoBudget, Recursion, Fault, Memory}
+
+-- the checker's number of a condition
+abbrev pub condition_number : Condition → ℕ
+condition_number (State fault) = fault_number fault
+condition_number FallsOff = 11
+condition_number LeavesFunction = 12
 
 abbrev pub infer_number : InferError → ℕ
 infer_number (Unstable slot) = 1
@@ -17,22 +26,10 @@ infer_slot (Recursion slot) = slot
 infer_slot (Fault slot condition) = slot
 infer_slot Memory = 0
 
--- the same refusal with a slot of a program of so many, its last one in the place of one behind it, and a condition from 3 to 12
+-- the same refusal with a slot of a program of so many, its last one in the place of one behind it
 abbrev pub within : ℕ → InferError → InferError
 within slots (Unstable slot) = Unstable (min slot (slots - 1))
 within slots (NoBudget slot) = NoBudget (min slot (slots - 1))
 within slots (Recursion slot) = Recursion (min slot (slots - 1))
-within slots (Fault slot condition) = Fault (min slot (slots - 1)) (max 3 (min 12 condition))
+within slots (Fault slot condition) = Fault (min slot (slots - 1)) condition
 within slots Memory = Memory
-
--- the checker's conditions for an instruction are 3 to 12
-abbrev pub IsCondition : InferError → Type 0
-IsCondition (Unstable slot) = Unit {0}
-IsCondition (NoBudget slot) = Unit {0}
-IsCondition (Recursion slot) = Unit {0}
-IsCondition (Fault slot condition) = (3 ≤ condition) × (condition ≤ 12)
-IsCondition Memory = Unit {0}
-
--- a refusal of a program with so many slots names one of them
-abbrev pub IsRefusalIn : ℕ → InferError → Type 0
-IsRefusalIn slots e = (infer_slot e < slots) × IsCondition e

@@ -1,19 +1,11 @@
 //! Why no certificate is proposed.
 
 ghost use Rattle.std.specs.Prelude.{◌≡◌, ◌<◌};
-ghost use Rattle.bpf_proposal.specs.RefusalNumbers.{infer_number, infer_slot, within, IsRefusalIn};
+ghost use Rattle.bpf_proposal.specs.RefusalNumbers.{infer_number, infer_slot, within};
 
+use crate::condition::Condition;
 use std::alloc::{AllocError, AllocFailed};
 use thiserror::Error;
-
-/// The number of the checker's condition that an access may leave its bounds, or a pointer its own.
-pub const OUT_OF_BOUNDS: u8 = 5;
-
-/// The number of the checker's condition that nothing leads to an instruction, or that the program's end can be passed behind it.
-pub const FALLS_OFF: u8 = 11;
-
-/// The number of the checker's condition that an instruction leaves its function otherwise than by an EXIT.
-pub const LEAVES_FUNCTION: u8 = 12;
 
 /// Why no certificate is proposed for a program, with a slot of it.
 #[derive(Clone, Copy, Debug, PartialEq, Eq, Error)]
@@ -27,9 +19,9 @@ pub enum InferError {
     /// I3: the call at the slot is part of a recursion.
     #[error("recursion by the call at slot {slot}")]
     Recursion { slot: u32 },
-    /// I4: the checker would refuse the instruction at the slot, for the reason with this number, from 3 to 12.
-    #[error("instruction at slot {slot} is refused by C{condition}")]
-    Fault { slot: u32, condition: u8 },
+    /// I4: the checker would refuse the instruction at the slot, since it fails a condition.
+    #[error("instruction at slot {slot}: {condition}")]
+    Fault { slot: u32, condition: Condition },
     /// I5: memory ran out.
     #[error("out of memory")]
     Memory,
@@ -62,12 +54,11 @@ impl InferError {
         }
     }
 
-    /// The same refusal with a slot of a program of so many slots, its last one in the place of one behind it, and a
-    /// condition from 3 to 12.
+    /// The same refusal with a slot of a program of so many slots, its last one in the place of one behind it.
     pub fn within(self, slots: u32) -> InferError
         requires { 0 < slots }
         ensures same { result ≡ within slots self }
-        ensures inside { IsRefusalIn slots result }
+        ensures inside { infer_slot result < slots }
     {
         let last = slots - 1;
         match self {
@@ -82,7 +73,7 @@ impl InferError {
             },
             InferError::Fault { slot, condition } => InferError::Fault {
                 slot: slot.min(last),
-                condition: condition.clamp(3, 12),
+                condition,
             },
             InferError::Memory => InferError::Memory,
         }

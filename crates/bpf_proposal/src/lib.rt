@@ -1,6 +1,8 @@
 //! What is answered where no certificate is proposed.
 #![tactic(auto)]
 
+mod condition;
 mod error;
 
-pub use error::{FALLS_OFF, InferError, LEAVES_FUNCTION, OUT_OF_BOUNDS};
+pub use condition::Condition;
+pub use error::InferError;

@@ -10,8 +10,7 @@ use crate::ways::ways_of;
 use crate::weights::weigh;
 use arrayvec::ArrayVec;
 use bpf_cert::{Budget, Function};
-use bpf_insn::Program;
-use bpf_outline::{PLACES, Proposal, Watch, put};
+use bpf_outline::{PLACES, Proposal, Quest, Watch, put};
 use bpf_proposal::InferError;
 use bpf_state::State;
 use std::alloc::{AllocError, Global};
@@ -157,23 +156,21 @@ fn put_all(functions: &mut Vec<Function>, budgets: Vec<Vec<Budget>>) {
 /// label of the loops that nothing counts; I4 at an instruction that is refused or not reached.
 pub fn ranked<W: Watch>(
     alloc: Global,
-    program: &Program,
-    least: u32,
-    most: u32,
+    quest: Quest<'_>,
     mut functions: Vec<Function>,
     watch: &mut W,
 ) -> Result<Proposal, InferError>
-    requires { least ≤ most }
+    requires { quest.least ≤ quest.most }
 {
-    let labels = labels_by_slots(alloc, program, &functions)?;
+    let labels = labels_by_slots(alloc, quest.program, &functions)?;
     let draft = Draft {
-        program,
-        least,
+        program: quest.program,
+        least: quest.least,
         functions: &functions,
         labels: &labels,
     };
     let ranking = ranking_of(alloc, draft, watch)?;
-    let Some(steps) = steps_from(&ranking, &State::start(least, most)) else {
+    let Some(steps) = steps_from(&ranking, &quest.start()) else {
         return Err(InferError::NoBudget { slot: 0 });
     };
     put_all(&mut functions, ranking.budgets);

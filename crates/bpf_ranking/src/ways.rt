@@ -4,7 +4,7 @@ use crate::draft::{Draft, Price};
 use bpf_cert::{Function, Label};
 use bpf_insn::{Insn, Reg};
 use bpf_outline::{Flow, PLACES, Span, compared, get_or, number_at, number_said, place, tag_own};
-use bpf_proposal::{FALLS_OFF, InferError};
+use bpf_proposal::{Condition, InferError};
 use bpf_state::{RegState, State, Tag, branch, enter, leave, transfer};
 use std::alloc::{AllocError, Global};
 
@@ -243,7 +243,7 @@ impl<'a> Walker<'a> {
             Ok(false) => Ok(false),
             Err(fault) => Err(InferError::Fault {
                 slot: spot.slot,
-                condition: fault.number(),
+                condition: Condition::State(fault),
             }),
         }
     }
@@ -253,7 +253,7 @@ impl<'a> Walker<'a> {
         if end >= self.draft.program.slots() {
             return Err(InferError::Fault {
                 slot: spot.slot,
-                condition: FALLS_OFF,
+                condition: Condition::FallsOff,
             });
         }
         self.arrive(spot, end, state)
@@ -278,7 +278,7 @@ impl<'a> Walker<'a> {
                 if !goes_on {
                     return Err(InferError::Fault {
                         slot,
-                        condition: FALLS_OFF,
+                        condition: Condition::FallsOff,
                     });
                 }
                 spot.slot = slot;

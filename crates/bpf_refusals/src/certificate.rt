@@ -1,7 +1,8 @@
 //! Why a text is no certificate, in words.
 
+use crate::texts::parted;
 use bpf_cert::{CertError, Certificate};
-use bpf_page::{Page, Tell, cut};
+use bpf_page::{Page, Tell};
 use std::fmt;
 use std::io::{self, Write};
 use std::str::from_utf8;
@@ -20,7 +21,7 @@ enum Kind {
 
 /// What a line begins with.
 fn kind_of(line: &[u8]) -> Kind {
-    match cut(line, b' ').0 {
+    match parted(line, b' ').0 {
         b"bpfcert" => Kind::Header,
         b"fn" => Kind::Function,
         b"at" => Kind::Label,
@@ -115,11 +116,11 @@ fn line_at(bytes: &[u8], number: usize) -> LineAt<'_> {
     let mut before: &[u8] = &[];
     let mut rest = bytes;
     for _ in 1..number {
-        let (line, more) = cut(rest, b'\n');
+        let (line, more) = parted(rest, b'\n');
         before = line;
         rest = more.unwrap_or(&[]);
     }
-    let (line, more) = cut(rest, b'\n');
+    let (line, more) = parted(rest, b'\n');
     LineAt {
         before,
         line,

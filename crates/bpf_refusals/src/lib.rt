@@ -5,6 +5,7 @@ mod certificate;
 mod form;
 mod image;
 mod text;
+mod texts;
 
 pub use certificate::{write_counts, write_fault};
 pub use image::{write_refusal, write_size};

@@ -1,8 +1,9 @@
 //! Why a text is no program, in words.
 
 use crate::form::{Excess, FORMS, Form, Reading, is_name, skip_blanks, word_in};
+use crate::texts::parted;
 use bpf_insn::{BuildError, Order};
-use bpf_page::{Count, Page, Tell, cut};
+use bpf_page::{Count, Page, Tell};
 use bpf_text::{TextError, assemble};
 use std::alloc::{AllocError, Global};
 use std::collections::BTreeMap;
@@ -14,17 +15,17 @@ use std::str::from_utf8;
 fn line_at(text: &[u8], number: usize) -> &[u8] {
     let mut rest = text;
     for _ in 1..number {
-        match cut(rest, b'\n') {
+        match parted(rest, b'\n') {
             (_, Some(more)) => rest = more,
             (_, None) => return &[],
         }
     }
-    cut(rest, b'\n').0
+    parted(rest, b'\n').0
 }
 
 /// A line without its comment.
 fn code_of(line: &[u8]) -> &[u8] {
-    cut(line, b';').0
+    parted(line, b';').0
 }
 
 /// Whether a text is a label's name, with nothing but blanks about it.
@@ -37,7 +38,7 @@ fn is_label(text: &[u8]) -> bool {
 fn behind_labels(code: &[u8]) -> &[u8] {
     let mut rest = code;
     for _ in 0..code.len() {
-        match cut(rest, b':') {
+        match parted(rest, b':') {
             (label, Some(more)) if is_label(label) => rest = more,
             _ => break,
         }
@@ -136,7 +137,7 @@ fn tell_place<W: Tell>(out: &mut W, line: &[u8], code: &[u8]) {
 
 /// What stands in front of a colon behind the labels of a line, where it begins no instruction.
 fn no_label(code: &[u8]) -> Option<&[u8]> {
-    let (front, behind) = cut(code, b':');
+    let (front, behind) = parted(code, b':');
     let (reading, _) = farthest(code);
     let is_begun = skip_blanks(reading.rest).len() < skip_blanks(code).len();
     if behind.is_none() || is_begun || is_comment(front) {
@@ -205,7 +206,7 @@ fn note_labels<'a>(
 ) -> Result<(), AllocError> {
     let mut rest = code_of(line);
     for _ in 0..line.len() {
-        let (front, Some(more)) = cut(rest, b':') else {
+        let (front, Some(more)) = parted(rest, b':') else {
             break;
         };
         labels.entry(word_in(front).0)?.or_insert(number);
@@ -223,7 +224,7 @@ fn labels_above(
     let mut labels = BTreeMap::new(alloc);
     let mut rest = text;
     for above in 1..number {
-        let (line, more) = cut(rest, b'\n');
+        let (line, more) = parted(rest, b'\n');
         note_labels(&mut labels, line, above)?;
         rest = more.unwrap_or(&[]);
     }
@@ -239,7 +240,7 @@ fn second_label(
     let labels = labels_above(alloc, text, number)?;
     let mut rest = code_of(line_at(text, number));
     for _ in 0..rest.len() {
-        let (front, Some(more)) = cut(rest, b':') else {
+        let (front, Some(more)) = parted(rest, b':') else {
             break;
         };
         let name = word_in(front).0;

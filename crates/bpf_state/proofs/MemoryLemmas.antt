@@ -84,6 +84,10 @@ pointer_base off size Any p e = absurd (none-some p e)
 
 -- ---- loads
 
+or_no : (b c : Bool) → (b || (false && c)) ≡ b
+or_no true c = refl
+or_no false c = refl
+
 pub load_fault : (size : Size) (dst src : Reg) (off : ℤ) (len : ℕ) (s : AbstractState) (p : Span) → span_at off size (register s src) ≡ Some p → fault_of len s (Load size dst src off) ≡ or_protected (read_fault (is_slot p) len s p) (is_frame_pointer dst)
 load_fault size dst src off len s p e =
     tested len s (Load size dst src off) _ _ _ _ (record {
@@ -91,12 +95,8 @@ load_fault size dst src off len s p e =
       kinds_are = ap₂ (λ b o. not b || (true && some_passes (λ q. not (is_slot q) && any_slot (λ k held. touches q k && is_pointer_slot held) 1 s.slots) o)) (pointer_base off size (register s src) p e) e;
       bounds_are = ap (λ o. false || some_passes (λ q. not (is_inside len q)) o) e;
       bytes_are = ap (λ o. true && some_passes (λ q. any_slot (λ k held. touches q k && not (are_known_bytes (touched_bytes q k) held)) 1 s.slots) o) e;
-      writes_are = or_no (is_frame_pointer dst);
+      writes_are = or_no (is_frame_pointer dst) (some_passes (λ q. not q.in_frame) (span_at off size (register s src)));
     })
-  where
-    or_no : (b : Bool) → (b || (false && some_passes (λ q. not q.in_frame) (span_at off size (register s src)))) ≡ b
-    or_no true = refl
-    or_no false = refl
 
 pub load_is : (order : Order) (size : Size) (dst src : Reg) (off : ℤ) (len : ℕ) (s : AbstractState) (p : Span) → span_at off size (register s src) ≡ Some p → transfer order (Load size dst src off) len s ≡ load_outcome dst size len p s
 load_is order size dst src off len s p e =
@@ -109,12 +109,8 @@ load_sx_fault size dst src off len s p e =
       kinds_are = ap₂ (λ b o. not b || (true && some_passes (λ q. true && any_slot (λ k held. touches q k && is_pointer_slot held) 1 s.slots) o)) (pointer_base off size (register s src) p e) e;
       bounds_are = ap (λ o. false || some_passes (λ q. not (is_inside len q)) o) e;
       bytes_are = ap (λ o. true && some_passes (λ q. any_slot (λ k held. touches q k && not (are_known_bytes (touched_bytes q k) held)) 1 s.slots) o) e;
-      writes_are = or_no (is_frame_pointer dst);
+      writes_are = or_no (is_frame_pointer dst) (some_passes (λ q. not q.in_frame) (span_at off size (register s src)));
     })
-  where
-    or_no : (b : Bool) → (b || (false && some_passes (λ q. not q.in_frame) (span_at off size (register s src)))) ≡ b
-    or_no true = refl
-    or_no false = refl
 
 pub load_sx_is : (order : Order) (size : Size) (dst src : Reg) (off : ℤ) (len : ℕ) (s : AbstractState) (p : Span) → span_at off size (register s src) ≡ Some p → transfer order (LoadSx size dst src off) len s ≡ load_sx_outcome dst size len p s
 load_sx_is order size dst src off len s p e = ap (λ f. unless f (live (set_number dst (any_signed (byte_count size)) s))) (load_sx_fault size dst src off len s p e)

@@ -1,9 +1,9 @@
 //! What is known, as text.
 
 use arrayvec::ArrayVec;
+use bpf_cert::cut;
 use bpf_insn::{Insn, Reg};
 use bpf_num::Num;
-use bpf_page::cut;
 use bpf_state::{Area, Place, Pointer, RegState, SlotState};
 use std::fmt;
 use std::str::from_utf8;
@@ -175,8 +175,10 @@ pub struct Written(pub SlotState);
 
 /// What stands behind the first blank of a line, without the line's end.
 fn behind_blank(line: &[u8]) -> &[u8] {
-    let rest = cut(line, b' ').1.unwrap_or(&[]);
-    rest.get(..rest.len().saturating_sub(1)).unwrap_or(&[])
+    match cut(line, b' ') {
+        Some((_name, rest)) => rest.get(..rest.len().saturating_sub(1)).unwrap_or(&[]),
+        None => &[],
+    }
 }
 
 impl fmt::Display for Written {

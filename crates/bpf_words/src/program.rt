@@ -85,28 +85,27 @@ pub fn explain_on<C: Code, W: Tell>(
     write_answer(program, &index, refusal, page)
 }
 
-/// Writes the listing of a program with the states of a certificate without budgets, and the flaw with a number at a slot.
+/// Writes the listing of a program with the states of a certificate without budgets, and the flaw of one instruction, if it
+/// has it.
 pub fn tell_sketch<C: Code, W: Tell>(
     program: &C,
     certificate: &Certificate,
-    slot: u32,
-    number: u8,
+    flaw: Option<Refusal>,
     page: &mut W,
 ) {
     let index = Index::of(certificate);
-    tell_all(program, &index, View::Sketch(slot, number), page)
+    tell_all(program, &index, View::Sketch(flaw), page)
 }
 
-/// Writes the flaw with a number at a slot, judged without budgets.
+/// Writes the flaw of one instruction, if it has it, judged without budgets.
 pub fn tell_reason<C: Code, W: Tell>(
     program: &C,
     certificate: &Certificate,
-    slot: u32,
-    number: u8,
+    flaw: Refusal,
     page: &mut W,
 ) {
     let index = Index::of(certificate);
-    tell_all(program, &index, View::Reason(slot, number), page)
+    tell_all(program, &index, View::Reason(flaw), page)
 }
 
 /// Writes the listing of a program with what the certificate and the checker's pass know at each instruction, and the

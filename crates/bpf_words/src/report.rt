@@ -10,7 +10,7 @@ use crate::standing::{
 use crate::whole::write_whole;
 use crate::words::{Silence, tell, tell_function, tell_label, tell_silence, tell_start};
 use bpf_cert::{Function, Label};
-use bpf_check::{Cause, Index};
+use bpf_check::{Cause, Index, Refusal};
 use bpf_insn::Code;
 use bpf_page::Tell;
 use bpf_state::State;
@@ -24,10 +24,10 @@ pub enum View {
     List,
     /// One instruction, with its flaws.
     Slot(u32),
-    /// The listing of states without budgets, with one flaw by its slot and number.
-    Sketch(u32, u8),
-    /// One flaw alone, by its slot and number.
-    Reason(u32, u8),
+    /// The listing of states without budgets, with the flaw of one instruction.
+    Sketch(Option<Refusal>),
+    /// The flaw of one instruction alone.
+    Reason(Refusal),
 }
 
 /// Slots at which no state is known, for one reason and without another flaw.
@@ -350,19 +350,17 @@ impl Report {
         self.tell_found(out, program, certificate, slot, Some(sight), &found);
     }
 
-    /// Tells the flaw with a number of an instruction, if it has it.
+    /// Tells one flaw of an instruction, if it has it.
     fn tell_one<'a, W: Tell, C: Code>(
         &mut self,
         out: &mut W,
         program: &C,
         certificate: &Index,
         sight: &Sight<'a>,
-        number: u8,
+        cause: Cause,
     ) {
-        for cause in CAUSES {
-            if cause.number() == number && sight.flaws.has(cause) {
-                self.tell_visit(out, program, certificate, sight, cause);
-            }
+        if sight.flaws.has(cause) {
+            self.tell_visit(out, program, certificate, sight, cause);
         }
     }
 
@@ -384,13 +382,13 @@ impl Report {
                 write_whole(out, sight);
                 self.tell_flaws(out, program, certificate, sight);
             }
-            View::Sketch(slot, number) if slot == sight.slot => {
+            View::Sketch(Some(flaw)) if flaw.slot == sight.slot => {
                 self.write_lines(out, certificate, sight);
-                self.tell_one(out, program, certificate, sight, number);
+                self.tell_one(out, program, certificate, sight, flaw.cause);
             }
             View::Sketch(..) => self.write_lines(out, certificate, sight),
-            View::Reason(slot, number) if slot == sight.slot => {
-                self.tell_one(out, program, certificate, sight, number);
+            View::Reason(flaw) if flaw.slot == sight.slot => {
+                self.tell_one(out, program, certificate, sight, flaw.cause);
             }
             View::Slot(_) | View::Reason(..) => {}
         }

@@ -7,7 +7,8 @@ ghost use Rattle.bpf_command.specs.Opened.{opening};
 ghost use Rattle.bpf_command.specs.Loaded.{CertificateAt, CertificateRefused, CertificateFails};
 ghost use Rattle.bpf_command.specs.Told.{OutputFails};
 
-use crate::failure::{Failure, REFUSED, say};
+use crate::commands::refusal::refuse_at;
+use crate::failure::Failure;
 use crate::streams::Streams;
 use bpf_cert::{CertError, Certificate, read};
 use bpf_check::Refusal;
@@ -41,11 +42,8 @@ pub fn refuse_text<'a, W: Write>(
     ensures ok { IfOk result (λ status. Says (NoCertificate error) status (W.contents out.old) (W.contents out.new)) }
     ensures err { IfErr result OutputFails }
 {
-    let number = error.number();
-    let at = error.line();
-    let line = format!(in alloc; "no K{number} at line {at}\n")?;
-    say(out, line.as_str())?;
-    Ok(REFUSED)
+    let line = error.line() as u64;
+    refuse_at(alloc, out, "K", error.number(), " at line ", line)
 }
 
 /// Prints why a certificate doesn't certify a program.
@@ -57,9 +55,6 @@ pub fn refuse_program<'a, W: Write>(
     ensures ok { IfOk result (λ status. Says (NotCertified refusal) status (W.contents out.old) (W.contents out.new)) }
     ensures err { IfErr result OutputFails }
 {
-    let number = refusal.number();
-    let slot = refusal.slot();
-    let line = format!(in alloc; "no C{number} at slot {slot}\n")?;
-    say(out, line.as_str())?;
-    Ok(REFUSED)
+    let slot = u64::from(refusal.slot());
+    refuse_at(alloc, out, "C", refusal.number(), " at slot ", slot)
 }

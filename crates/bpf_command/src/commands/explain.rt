@@ -1,9 +1,6 @@
 //! `bpf explain IN`, and the same with a certificate, over the inferrer's work, and of a text.
 
-ghost use Rattle.std.specs.Prelude.{◌≡◌, ◌⊎◌, IfOk, IfErr, IfNone, IfSome, None, MatchResult, false};
-ghost use Rattle.bpf_safety.specs.Certified.{IsLeastFlaw};
-ghost use Rattle.bpf_check.specs.CheckedProgram.{IsCertifiedBy};
-ghost use Rattle.bpf_check.specs.RefusalNumbers.{refusal_number, refusal_slot};
+ghost use Rattle.std.specs.Prelude.{◌≡◌, ◌⊎◌, IfOk, IfErr, None, MatchResult, false};
 ghost use Rattle.bpf_command.specs.Opened.{opening};
 ghost use Rattle.bpf_command.specs.Loaded.{CertificateAt, CertificateFails, CertificateRefused, ImageFails, TextFails};
 ghost use Rattle.bpf_command.specs.Explained.{Answers, ExplainFails, ExplainSays, JudgesOf, SoughtSays, TextSays};
@@ -17,17 +14,17 @@ use crate::failure::{DONE, Failure, REFUSED};
 use crate::keeping::Keeping;
 use crate::streams::Streams;
 use bpf_cert::{CertError, Certificate, read};
-use bpf_check::{Refusal, check};
+use bpf_check::check;
 use bpf_explain::{
-    dot, dot_plain, explain, explain_certificate, explain_image, explain_inferred,
-    explain_searched, explain_slot, explain_text,
+    Shown, dot_plain, explain, explain_certificate, explain_image, explain_inferred,
+    explain_searched, explain_text,
 };
 use bpf_infer::Watch;
 use bpf_insn::{Code, DecodeError, MAX_CONTEXT, Order, Program, ProgramView, decode};
 use bpf_request::Subject;
 use bpf_text::{TextError, assemble};
 use std::alloc::Global;
-use std::io::{self, Write};
+use std::io::Write;
 
 // ---- images and texts
 
@@ -140,34 +137,6 @@ fn verdict<C: Code>(program: &C, certificate: &Certificate) -> u8
     }
 }
 
-/// What is shown of a program with its certificate.
-#[derive(Clone, Copy)]
-enum Shown {
-    /// All instructions.
-    Listing,
-    /// One slot.
-    Slot(u32),
-    /// The control-flow graph.
-    Graph,
-}
-
-/// Shows a program with its certificate. The checker's answer: None if the certificate certifies the program.
-fn show<C: Code, W: Write>(
-    out: &mut W,
-    program: &C,
-    certificate: &Certificate,
-    shown: Shown,
-) -> io::Result<Option<Refusal>>
-    ensures accepted { IfOk result (λ o. IfNone o (IsCertifiedBy (C.program program.now) certificate.now)) }
-    ensures refused { IfOk result (λ o. IfSome o (λ r. IsLeastFlaw (C.program program.now) certificate.now (refusal_slot r) (refusal_number r))) }
-{
-    match shown {
-        Shown::Listing => explain(program, certificate, out),
-        Shown::Slot(slot) => explain_slot(program, certificate, slot, out),
-        Shown::Graph => dot(program, certificate, out),
-    }
-}
-
 /// Shows a program with its certificate, and answers the status.
 fn say_program<'a, C: Code, W: Write>(
     out: &mut W,
@@ -178,7 +147,7 @@ fn say_program<'a, C: Code, W: Write>(
     ensures ok { IfOk result (JudgesOf (C.program program.now) certificate.now) }
     ensures err { IfErr result OutputFails }
 {
-    match show(out, program, certificate, shown) {
+    match explain(program, certificate, shown, out) {
         Ok(None) => Ok(DONE),
         Ok(Some(_refusal)) => Ok(REFUSED),
         Err(_) => Err(Failure::CannotWrite("standard output")),
@@ -281,7 +250,7 @@ fn say_inferred<'a, W: Write, H: Watch>(
     ensures ok { IfOk result (Answers (SoughtSays program.now)) }
     ensures err { IfErr result OutputFails }
 {
-    // The words' parser has seen that the lengths are in order, and at most the greatest.
+    // `respond` has seen that the lengths are in order, and the words' parser that they are at most the greatest.
     let most = most.min(MAX_CONTEXT as u32);
     let least = least.min(most);
     let answer = if deep {

@@ -7,7 +7,8 @@ ghost use Rattle.bpf_command.specs.Answer.{Says};
 ghost use Rattle.bpf_command.specs.Answer.Answer.{NoImage};
 ghost use Rattle.bpf_command.specs.Told.{OutputFails};
 
-use crate::failure::{Failure, REFUSED, say};
+use crate::commands::refusal::refuse_at;
+use crate::failure::Failure;
 use crate::streams::Streams;
 use bpf_insn::{DecodeError, Order, Program, decode, read_image};
 use std::alloc::Global;
@@ -58,9 +59,6 @@ pub fn refuse<'a, W: Write>(
     ensures ok { IfOk result (λ status. Says (NoImage error) status (W.contents out.old) (W.contents out.new)) }
     ensures err { IfErr result OutputFails }
 {
-    let number = error.number();
-    let slot = error.slot();
-    let line = format!(in alloc; "no E{number} at slot {slot}\n")?;
-    say(out, line.as_str())?;
-    Ok(REFUSED)
+    let slot = u64::from(error.slot());
+    refuse_at(alloc, out, "E", error.number(), " at slot ", slot)
 }

@@ -31,7 +31,8 @@ fn line_of(alloc: Global, error: InferError) -> Result<String, AllocError>
         InferError::NoBudget { slot } => format!(in alloc; "no I2 at slot {slot}\n"),
         InferError::Recursion { slot } => format!(in alloc; "no I3 at slot {slot}\n"),
         InferError::Fault { slot, condition } => {
-            format!(in alloc; "no I4 (C{condition}) at slot {slot}\n")
+            let number = condition.number();
+            format!(in alloc; "no I4 (C{number}) at slot {slot}\n")
         }
         InferError::Memory => String::from_str(alloc, "no I5 at slot 0\n"),
     }
@@ -96,7 +97,7 @@ pub fn inferred<'a, P: Streams, W: Write, H: Watch>(
         Ok(program) => program,
         Err(error) => return refuse(alloc, out, error),
     };
-    // The words' parser has seen that the lengths are in order, and at most the greatest.
+    // `respond` has seen that the lengths are in order, and the words' parser that they are at most the greatest.
     let most = most.min(MAX_CONTEXT as u32);
     match proposed(alloc, &program, least.min(most), most, deep, watch) {
         Ok(certificate) => put(streams, output, &certificate),

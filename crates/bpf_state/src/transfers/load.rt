@@ -1,13 +1,14 @@
 //! Constants of 64 bits and loads.
 
 ghost use Rattle.std.specs.Prelude.{◌≡◌, ℕ, IsTrue, IfSome, true, Some, option_map};
+ghost use Rattle.bpf_insn.specs.Effects.{is_frame_pointer};
 ghost use Rattle.bpf_insn.specs.Instruction.{byte_count};
 ghost use Rattle.bpf_insn.specs.declared.order.Order.{Order};
 ghost use Rattle.bpf_insn.specs.declared.instruction.Insn.TheVariants.{Load, LoadSx, LoadImm64};
 ghost use Rattle.bpf_state.specs.State.{IsRegister};
 ghost use Rattle.bpf_state.specs.Access.{is_inside};
 ghost use Rattle.bpf_state.specs.Transfer.{transfer, any_number, any_signed, loaded, loaded_tag};
-ghost use Rattle.bpf_state.specs.code.Parts.{byte_fault, read_fault, load_outcome, load_sx_outcome};
+ghost use Rattle.bpf_state.specs.code.Parts.{byte_fault, read_fault, or_protected, load_outcome, load_sx_outcome};
 ghost use Rattle.bpf_state.specs.Answer.{fault_number, outcome_told, KeepsUnlessDone};
 
 use crate::access::Reach;
@@ -109,6 +110,23 @@ fn byte_fault(state: &State, reach: Reach, least: u32) -> Option<StateFault>
     None
 }
 
+/// Why the bytes of an access may not be loaded to a register. Only a load of a whole slot may read a pointer.
+fn load_fault(
+    state: &State,
+    dst: Reg,
+    reach: Reach,
+    is_whole: bool,
+    least: u32,
+) -> Option<StateFault>
+    ensures { option_map fault_number result ≡ or_protected (read_fault is_whole least state.now reach) (is_frame_pointer dst) }
+{
+    match read_fault(state, reach, is_whole, least) {
+        Some(fault) => Some(fault),
+        None if dst.is_frame_pointer() => Some(StateFault::Protected),
+        None => None,
+    }
+}
+
 /// A load of bytes that lie so, zero-extended.
 fn load_at(
     dst: Reg,
@@ -120,11 +138,8 @@ fn load_at(
     ensures outcome { outcome_told result state.new ≡ load_outcome dst size least reach state.old }
     ensures kept { KeepsUnlessDone result state.old state.new }
 {
-    if let Some(fault) = read_fault(state, reach, reach.is_slot(), least) {
+    if let Some(fault) = load_fault(state, dst, reach, reach.is_slot(), least) {
         return Err(fault);
-    }
-    if dst.is_frame_pointer() {
-        return Err(StateFault::Protected);
     }
     let Some(value) = loaded(state, reach, size) else {
         return Ok(false);
@@ -164,11 +179,8 @@ fn load_sx_at(
     ensures outcome { outcome_told result state.new ≡ load_sx_outcome dst size least reach state.old }
     ensures kept { KeepsUnlessDone result state.old state.new }
 {
-    if let Some(fault) = read_fault(state, reach, false, least) {
+    if let Some(fault) = load_fault(state, dst, reach, false, least) {
         return Err(fault);
-    }
-    if dst.is_frame_pointer() {
-        return Err(StateFault::Protected);
     }
     let Some(number) = any_signed(size) else {
         return Ok(false);

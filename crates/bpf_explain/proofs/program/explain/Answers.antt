@@ -1,5 +1,5 @@
 use Rattle.std.proofs.Common.{rules}
-use Rattle.bpf_explain.proofs.program.dot.Goals as goal
+use Rattle.bpf_explain.proofs.program.explain.Goals as goal
 
 pub returns-clause-accepted : goal.returns-clause-accepted
 returns-clause-accepted g c = search rules
