@@ -29,6 +29,7 @@ use Rattle.bpf_state.specs.declared.known.Place.{Place}
 use Rattle.bpf_state.specs.declared.known.Place.TheVariants as place
 use Rattle.bpf_state.specs.declared.known.SlotState.{SlotState}
 use Rattle.bpf_state.specs.declared.known.SlotState.TheVariants as slot
+use Rattle.bpf_cert.proofs.LastLine.{by_last}
 use Rattle.bpf_cert.proofs.Bools.{both_true}
 use Rattle.bpf_cert.proofs.NumeralLaws.{numeral-decimal}
 use Rattle.bpf_cert.proofs.lines.LineLaws.{line_spelled}
@@ -36,53 +37,29 @@ use Rattle.bpf_cert.proofs.StandingLemmas.{stand_header, stand_function, stand_l
 use Rattle.bpf_cert.proofs.AfterLemmas.{ruled_fine}
 
 pub start_empty : (ls : List Line) → is_start (stage_of ls) ≡ true → ls ≡ []
-start_empty [] e = refl
-start_empty (Line.header _ _ ∷ ls) e = cc
-start_empty (Line.function _ _ _ ∷ ls) e = cc
-start_empty (Line.label _ _ _ ∷ ls) e = cc
-start_empty (Line.entry _ _ ∷ ls) e = cc
-start_empty (Line.end ∷ ls) e = cc
+start_empty ls = by_last (λ xs. is_start (stage_of xs) ≡ true → xs ≡ []) (λ e. refl) (λ ls a b e. cc) (λ ls a b c e. cc) (λ ls a b c e. cc) (λ ls a b e. cc) (λ ls e. cc) ls
 
 last_end : (l : Line) (ls : List Line) → reverse (l ∷ ls) ≡ reverse ls ++ l ∷ []
 last_end l ls = reverse-append (l ∷ []) ls
 
 abbrev IsGoing : Stage → Type 0
 IsGoing stage.Start = ⊥
-IsGoing stage.Header = Unit {0}
-IsGoing stage.Function = Unit {0}
-IsGoing stage.Label = Unit {0}
 IsGoing stage.Ended = ⊥
+IsGoing _ = Unit {0}
 
 going : (ls : List Line) → not (is_start (stage_of ls)) ≡ true → is_ended ls ≡ false → IsGoing (stage_of ls)
-going [] e f = cc
-going (Line.header _ _ ∷ ls) e f = tt
-going (Line.function _ _ _ ∷ ls) e f = tt
-going (Line.label _ _ _ ∷ ls) e f = tt
-going (Line.entry _ _ ∷ ls) e f = tt
-going (Line.end ∷ ls) e f = cc
+going ls = by_last (λ xs. not (is_start (stage_of xs)) ≡ true → is_ended xs ≡ false → IsGoing (stage_of xs)) (λ e f. cc) (λ ls a b e f. tt) (λ ls a b c e f. tt) (λ ls a b c e f. tt) (λ ls a b e f. tt) (λ ls e f. cc) ls
 
 abbrev pub IsInFunction : Stage → Type 0
-IsInFunction stage.Start = ⊥
-IsInFunction stage.Header = ⊥
 IsInFunction stage.Function = Unit {0}
 IsInFunction stage.Label = Unit {0}
-IsInFunction stage.Ended = ⊥
+IsInFunction _ = ⊥
 
 pub in_function : (ls : List Line) → may_have_label (stage_of ls) ≡ true → is_ended ls ≡ false → IsInFunction (stage_of ls)
-in_function [] e f = cc
-in_function (Line.header _ _ ∷ ls) e f = cc
-in_function (Line.function _ _ _ ∷ ls) e f = tt
-in_function (Line.label _ _ _ ∷ ls) e f = tt
-in_function (Line.entry _ _ ∷ ls) e f = tt
-in_function (Line.end ∷ ls) e f = cc
+in_function ls = by_last (λ xs. may_have_label (stage_of xs) ≡ true → is_ended xs ≡ false → IsInFunction (stage_of xs)) (λ e f. cc) (λ ls a b e f. cc) (λ ls a b c e f. tt) (λ ls a b c e f. tt) (λ ls a b e f. tt) (λ ls e f. cc) ls
 
 pub in_label : (ls : List Line) → may_have_entry (stage_of ls) ≡ true → stage_of ls ≡ stage.Label
-in_label [] e = cc
-in_label (Line.header _ _ ∷ ls) e = cc
-in_label (Line.function _ _ _ ∷ ls) e = cc
-in_label (Line.label _ _ _ ∷ ls) e = refl
-in_label (Line.entry _ _ ∷ ls) e = refl
-in_label (Line.end ∷ ls) e = cc
+in_label ls = by_last (λ xs. may_have_entry (stage_of xs) ≡ true → stage_of xs ≡ stage.Label) (λ e. cc) (λ ls a b e. cc) (λ ls a b c e. cc) (λ ls a b c e. refl) (λ ls a b e. refl) (λ ls e. cc) ls
 
 pub built_header : (lines : List Line) (old new : Builder) (l : Line) (head : Header) → IsBuilt lines old → ruled lines (Some l) ≡ Ok l → l ≡ header_line head → Stands (l ∷ lines) new.standing
     → new.header ≡ head → closed_lines new ≡ closed_lines old → IsSound new → IsBuilt (l ∷ lines) new
@@ -106,32 +83,32 @@ closes_rest stage.Function old mid g e c = rw c.keeps.header (ap (λ r. header_l
 closes_rest stage.Label old mid g e c = rw c.keeps.header (ap (λ r. header_line old.header ∷ r) (c.label e))
 closes_rest stage.Ended old mid g e c = absurd g
 
+-- a line behind which no function is open
+built_closed : (lines : List Line) (old mid new : Builder) (l : Line) → IsBuilt lines old → is_ended lines ≡ false → not (is_start (stage_of lines)) ≡ true → Stands (l ∷ lines) new.standing → Closes old mid → IsSound new
+    → lines_at (stage_of (l ∷ lines)) new ≡ header_line mid.header ∷ (closed_lines mid ++ l ∷ []) → IsOpen (stage_of (l ∷ lines)) new.standing.place new.label.state → IsBuilt (l ∷ lines) new
+built_closed lines old mid new l built more may stands closes sound spelled at_open =
+    let before : reverse lines ≡ header_line mid.header ∷ closed_lines mid = built.spelled ∙ ap (λ s. lines_at s old) built.stands.stage ∙ closes_rest (stage_of lines) old mid (going lines may more) built.stands.stage closes in
+    record {
+      stands = stands;
+      sound = sound;
+      spelled = subst (λ s. reverse (l ∷ lines) ≡ lines_at s new) (sym stands.stage) (last_end l lines ∙ ap (λ ls. ls ++ l ∷ []) before ∙ sym spelled);
+      open_places = subst (λ s. IsOpen s new.standing.place new.label.state) (sym stands.stage) at_open;
+    }
+
 pub built_function : (lines : List Line) (old mid new : Builder) (l : Line) (f d : List ℕ) (r : _) → IsBuilt lines old → is_ended lines ≡ false → ruled lines (Some l) ≡ Ok l → l ≡ Line.function f d r → Stands (l ∷ lines) new.standing
     → Closes old mid → new.header ≡ mid.header → closed_lines new ≡ closed_lines mid → (labels : List Label) → open_lines new ≡ Line.function f d r ∷ flat_map label_lines (map label_view labels) → labels ≡ [] → IsSound new → IsBuilt (l ∷ lines) new
 built_function lines old mid new l f d r built more fine e stands closes a same labels alone bare sound =
     let opened : open_lines new ≡ l ∷ [] = alone ∙ ap (λ ls. Line.function f d r ∷ flat_map label_lines (map label_view ls)) bare ∙ ap (λ x. x ∷ []) (sym e) in
     let may : not (is_start (stage_of lines)) ≡ true = sym (stand_function lines f d r) ∙ ap (may_stand lines) (sym e) ∙ (ruled_fine lines l l fine).stands in
-    let now : new.standing.stage ≡ stage.Function = stands.stage ∙ ap (λ x. stage_of (x ∷ lines)) e in
-    let before : reverse lines ≡ header_line mid.header ∷ closed_lines mid = built.spelled ∙ ap (λ s. lines_at s old) built.stands.stage ∙ closes_rest (stage_of lines) old mid (going lines may more) built.stands.stage closes in
-    record {
-      stands = stands;
-      sound = sound;
-      spelled = subst (λ s. reverse (l ∷ lines) ≡ lines_at s new) (sym now) (last_end l lines ∙ ap (λ ls. ls ++ l ∷ []) before ∙ rw (a, same, opened) refl);
-      open_places = subst (λ s. IsOpen s new.standing.place new.label.state) (sym now) tt;
-    }
+    let now : stage_of (l ∷ lines) ≡ stage.Function = ap (λ x. stage_of (x ∷ lines)) e in
+    built_closed lines old mid new l built more may stands closes sound (ap (λ s. lines_at s new) now ∙ rw (a, same, opened) refl) (subst (λ s. IsOpen s new.standing.place new.label.state) (sym now) tt)
 
 pub built_end : (lines : List Line) (old mid new : Builder) (l : Line) → IsBuilt lines old → is_ended lines ≡ false → ruled lines (Some l) ≡ Ok l → l ≡ Line.end → Stands (l ∷ lines) new.standing
     → Closes old mid → new.header ≡ mid.header → closed_lines new ≡ closed_lines mid → IsSound new → IsBuilt (l ∷ lines) new
 built_end lines old mid new l built more fine e stands closes a same sound =
     let may : not (is_start (stage_of lines)) ≡ true = sym (stand_end lines) ∙ ap (may_stand lines) (sym e) ∙ (ruled_fine lines l l fine).stands in
-    let now : new.standing.stage ≡ stage.Ended = stands.stage ∙ ap (λ x. stage_of (x ∷ lines)) e in
-    let before : reverse lines ≡ header_line mid.header ∷ closed_lines mid = built.spelled ∙ ap (λ s. lines_at s old) built.stands.stage ∙ closes_rest (stage_of lines) old mid (going lines may more) built.stands.stage closes in
-    record {
-      stands = stands;
-      sound = sound;
-      spelled = subst (λ s. reverse (l ∷ lines) ≡ lines_at s new) (sym now) (last_end l lines ∙ ap (λ ls. ls ++ l ∷ []) before ∙ rw (a, same, e) refl);
-      open_places = subst (λ s. IsOpen s new.standing.place new.label.state) (sym now) tt;
-    }
+    let now : stage_of (l ∷ lines) ≡ stage.Ended = ap (λ x. stage_of (x ∷ lines)) e in
+    built_closed lines old mid new l built more may stands closes sound (ap (λ s. lines_at s new) now ∙ rw (a, same, e) refl) (subst (λ s. IsOpen s new.standing.place new.label.state) (sym now) tt)
 
 closes_label_rest : (s : Stage) (old mid : Builder) → IsInFunction s → old.standing.stage ≡ s → ClosesLabel old mid → lines_at s old ≡ header_line mid.header ∷ (closed_lines mid ++ open_lines mid)
 closes_label_rest stage.Start old mid g e c = absurd g

@@ -8,6 +8,7 @@ pub mod NumberLemmas
 pub mod NumLemmas
 pub mod FindingLemmas
 pub mod Bools
+pub mod LastLine
 pub mod HeaderForms
 pub mod HeaderValues
 pub mod PieceLemmas

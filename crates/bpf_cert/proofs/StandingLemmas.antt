@@ -12,6 +12,7 @@ use Rattle.bpf_cert.specs.code.Standing.{FunctionIs, LabelIs, EntryIs, stage_of,
 use Rattle.bpf_cert.specs.declared.finding.PartFault.{PartFault}
 use Rattle.bpf_cert.specs.declared.finding.PartFault.TheVariants.{Syntax}
 use Rattle.bpf_cert.proofs.Bools.{both_true}
+use Rattle.bpf_cert.proofs.LastLine.{by_last}
 use Rattle.bpf_cert.proofs.NumeralLaws.{numeral-decimal}
 use Rattle.bpf_cert.proofs.FindingLemmas.{found_tested, joined_valued}
 use Rattle.bpf_cert.proofs.lines.LineForms.{place_is}
@@ -121,47 +122,19 @@ entry_yes name a fs p e f = ((place_is name).holds p f, rw (e, f) (content_then 
 -- where each kind of line may stand
 
 pub stand_header : (before : List Line) (l : Lengths) (s : List ℕ) → may_stand before (Line.header l s) ≡ is_start (stage_of before)
-stand_header [] l s = refl
-stand_header (Line.header _ _ ∷ ls) l s = refl
-stand_header (Line.function _ _ _ ∷ ls) l s = refl
-stand_header (Line.label _ _ _ ∷ ls) l s = refl
-stand_header (Line.entry _ _ ∷ ls) l s = refl
-stand_header (Line.end ∷ ls) l s = refl
+stand_header before l s = by_last (λ ls. may_stand ls (Line.header l s) ≡ is_start (stage_of ls)) refl (λ ls a b. refl) (λ ls a b c. refl) (λ ls a b c. refl) (λ ls a b. refl) (λ ls. refl) before
 
 pub stand_function : (before : List Line) (f d : List ℕ) (r : Number) → may_stand before (Line.function f d r) ≡ not (is_start (stage_of before))
-stand_function [] f d r = refl
-stand_function (Line.header _ _ ∷ ls) f d r = refl
-stand_function (Line.function _ _ _ ∷ ls) f d r = refl
-stand_function (Line.label _ _ _ ∷ ls) f d r = refl
-stand_function (Line.entry _ _ ∷ ls) f d r = refl
-stand_function (Line.end ∷ ls) f d r = refl
+stand_function before f d r = by_last (λ ls. may_stand ls (Line.function f d r) ≡ not (is_start (stage_of ls))) refl (λ ls a b. refl) (λ ls a b c. refl) (λ ls a b c. refl) (λ ls a b. refl) (λ ls. refl) before
 
 pub stand_label : (before : List Line) (s b : List ℕ) (ts : List Term) → may_stand before (Line.label s b ts) ≡ may_have_label (stage_of before)
-stand_label [] s b ts = refl
-stand_label (Line.header _ _ ∷ ls) s b ts = refl
-stand_label (Line.function _ _ _ ∷ ls) s b ts = refl
-stand_label (Line.label _ _ _ ∷ ls) s b ts = refl
-stand_label (Line.entry _ _ ∷ ls) s b ts = refl
-stand_label (Line.end ∷ ls) s b ts = refl
+stand_label before s b ts = by_last (λ ls. may_stand ls (Line.label s b ts) ≡ may_have_label (stage_of ls)) refl (λ ls a b. refl) (λ ls a b c. refl) (λ ls a b c. refl) (λ ls a b. refl) (λ ls. refl) before
 
 pub stand_entry : (before : List Line) (p : PlaceText) (c : Content) → may_stand before (Line.entry p c) ≡ may_have_entry (stage_of before)
-stand_entry [] p c = refl
-stand_entry (Line.header _ _ ∷ ls) p c = refl
-stand_entry (Line.function _ _ _ ∷ ls) p c = refl
-stand_entry (Line.label _ _ _ ∷ ls) p c = refl
-stand_entry (Line.entry _ _ ∷ ls) p c = refl
-stand_entry (Line.end ∷ ls) p c = refl
+stand_entry before p c = by_last (λ ls. may_stand ls (Line.entry p c) ≡ may_have_entry (stage_of ls)) refl (λ ls a b. refl) (λ ls a b c. refl) (λ ls a b c. refl) (λ ls a b. refl) (λ ls. refl) before
 
 pub stand_end : (before : List Line) → may_stand before Line.end ≡ not (is_start (stage_of before))
-stand_end [] = refl
-stand_end (l ∷ ls) = by_kind l
-  where
-    by_kind : (l : Line) → true ≡ not (is_start (stage_of (l ∷ ls)))
-    by_kind (Line.header _ _) = refl
-    by_kind (Line.function _ _ _) = refl
-    by_kind (Line.label _ _ _) = refl
-    by_kind (Line.entry _ _) = refl
-    by_kind Line.end = refl
+stand_end before = by_last (λ ls. may_stand ls Line.end ≡ not (is_start (stage_of ls))) refl (λ ls a b. refl) (λ ls a b c. refl) (λ ls a b c. refl) (λ ls a b. refl) (λ ls. refl) before
 
 -- a form that may not stand there
 pub ruled_never : {A : Type 0} (before : List Line) (mk : A → Line) (o : Option A) → ((x : A) → may_stand before (mk x) ≡ false) → Err Syntax ≡ ruled before (option_map mk o)

@@ -1,6 +1,6 @@
 -- One write after another.
-use Rattle.std.proofs.Common.{◌≡◌, ℕ, ◌+◌, ◌<◌, List, [], ◌∷◌, ◌++◌, length, get_or, map, take, drop, Option, Result, Ok, Err, ◌≤◌, arith, length-append, length-take, refl, sym, ap, ◌∙◌, subst, append_assoc, append-nil}
-use Rattle.std.specs.Prelude.{flat_map, codes, OnOk, OnErr}
+use Rattle.std.proofs.Common.{◌≡◌, ℕ, ◌+◌, ◌<◌, List, [], ◌++◌, length, get_or, map, take, drop, Option, Result, Ok, Err, ◌≤◌, arith, length-append, length-take, refl, sym, ap, ◌∙◌, subst, append_assoc, append-nil}
+use Rattle.std.specs.Prelude.{flat_map, OnOk, OnErr}
 use Rattle.std.specs.Io.KnownBytes.{Appends}
 use Rattle.std.proofs.lemmas.List.{at_drop_more, at_drop_all, length-map}
 use Rattle.std.proofs.lemmas.Grind.{flat_map-append}
@@ -10,9 +10,9 @@ use Rattle.bpf_state.specs.declared.known.SlotState.{SlotState}
 use Rattle.bpf_state.specs.State.{AbstractState, IsAbstractState, value_slot}
 use Rattle.bpf_cert.specs.Written.{Puts, Writes}
 use Rattle.bpf_cert.specs.declared.header.Header.{Header}
-use Rattle.bpf_cert.specs.View.{CertificateView, header_of}
+use Rattle.bpf_cert.specs.View.{FunctionView, CertificateView, header_of}
 use Rattle.bpf_cert.specs.Line.{Line, PlaceText}
-use Rattle.bpf_cert.specs.Spelling.{line_with_end, lines_text, lines_from, entry_lines, place_at, contents, function_lines, header_line, certificate_text}
+use Rattle.bpf_cert.specs.Spelling.{line_with_end, lines_text, lines_from, entry_lines, place_at, contents, header_line, body_lines, certificate_text}
 
 -- nothing was put
 pub puts_nothing : (a : Option (List ℕ)) (p : List ℕ) → Gathers a a p p []
@@ -27,10 +27,6 @@ pub record Left (old now : Option (List ℕ)) (first waiting whole rest : List �
 pub left_start : (a : Option (List ℕ)) (p whole : List ℕ) → Left a a p p whole whole
 left_start a p whole = record { begun = []; is_whole = refl; gathers = gathers_nothing a p }
 
--- at the beginning nothing waits
-pub left_new : (a : Option (List ℕ)) (p whole : List ℕ) → p ≡ [] → Left a a [] p whole whole
-left_new a p whole none = record { begun = []; is_whole = refl; gathers = subst (λ q. Gathers a a [] q []) (sym none) (gathers_nothing a []) }
-
 pub left_step : {a b c : Option (List ℕ)} {p q r whole rest : List ℕ} (t more : List ℕ) → rest ≡ t ++ more → Left a b p q whole rest → Gathers b c q r t → Left a c p r whole more
 left_step {a} {b} {c} {p} {q} {r} t more e l h = record { begun = l.begun ++ t; is_whole = l.is_whole ∙ ap (λ z. l.begun ++ z) e ∙ sym (append_assoc l.begun t more); gathers = gathers_more a b c p q r l.begun t l.gathers h }
 
@@ -44,6 +40,20 @@ left_done {a} {b} {p} {q} e l = subst (Gathers a b p q) (sym (l.is_whole ∙ ap 
 pub left_put : {E : Type 0} {a b : Option (List ℕ)} (c : Option (List ℕ)) {p q : List ℕ} (r : List ℕ) {whole : List ℕ} (rest : List ℕ) (result : Result (Unit {0}) E) → Left a b p q whole rest → Puts b c q r rest result → Puts a c p r whole result
 left_put c r rest (Ok u) l h = left_done refl (left_step rest [] (sym (append-nil rest)) l h)
 left_put c r rest (Err e) l h = left_stop rest [] (sym (append-nil rest)) l h
+
+-- a text that is one and then another: the first wasn't put whole, or it was and the other comes
+pub stops_first : {a c : Option (List ℕ)} (p : List ℕ) {whole : List ℕ} (t more : List ℕ) → whole ≡ t ++ more → AppendsBeginning a c (p ++ t) → AppendsBeginning a c (p ++ whole)
+stops_first {a} {c} p {whole} t more e h = left_stop t more e (left_start a p whole) h
+
+pub then_puts : {E : Type 0} {a b : Option (List ℕ)} (c : Option (List ℕ)) {p q : List ℕ} (r : List ℕ) (result : Result (Unit {0}) E) (t more : List ℕ) {whole : List ℕ} → whole ≡ t ++ more → Gathers a b p q t → Puts b c q r more result → Puts a c p r whole result
+then_puts {E} {a} {b} c {p} {q} r result t more {whole} e first next = left_put c r more result (left_step t more e (left_start a p whole) first) next
+
+-- behind nothing
+pub begins_behind : {a c : Option (List ℕ)} {waiting : List ℕ} (text : List ℕ) → waiting ≡ [] → AppendsBeginning a c (waiting ++ text) → AppendsBeginning a c text
+begins_behind {a} {c} text none h = subst (λ q. AppendsBeginning a c (q ++ text)) none h
+
+pub gathers_behind : {a b : Option (List ℕ)} {waiting q : List ℕ} (text : List ℕ) → waiting ≡ [] → Gathers a b waiting q text → Gathers a b [] q text
+gathers_behind {a} {b} {waiting} {q} text none h = subst (λ w. Gathers a b w q text) none h
 
 -- all was put behind nothing, and what waits is written
 pub left_written : {E : Type 0} {a b : Option (List ℕ)} (c : Option (List ℕ)) {q whole : List ℕ} (result : Result (Unit {0}) E) → Gathers a b [] q whole → OnOk result (Appends b c q) → OnErr result (AppendsBeginning b c q) → Writes a c whole result
@@ -76,9 +86,9 @@ length-contents s h =
     ∙ ap (λ n. n + length s.slots) (length-map (take 10 s.registers) value_slot)
     ∙ omega (arith, length-take 10 s.registers, h.register_count, h.slot_count)
 
--- the lines of a certificate: its header, its functions, its end
-pub header_first : (h : Header) (c : CertificateView) (t : List ℕ) → t ≡ line_with_end (header_line h) → h ≡ header_of c
-    → certificate_text c ≡ t ++ (lines_text (flat_map function_lines c.functions) ++ (codes "end" ++ 10 ∷ []))
-header_first h c t e l =
-    ap (λ z. line_with_end (header_line (header_of c)) ++ z) (flat_map-append line_with_end (flat_map function_lines c.functions) (Line.end ∷ []))
-    ∙ ap (λ z. z ++ (lines_text (flat_map function_lines c.functions) ++ (codes "end" ++ 10 ∷ []))) (ap (λ x. line_with_end (header_line x)) (sym l) ∙ sym e)
+-- the lines of a certificate: its header, and those behind it
+pub header_first : (h : Header) (c : CertificateView) (functions : List FunctionView) (t : List ℕ) → t ≡ line_with_end (header_line h) → h ≡ header_of c → functions ≡ c.functions
+    → certificate_text c ≡ t ++ lines_text (body_lines functions)
+header_first h c functions t e l f =
+    ap (λ z. z ++ lines_text (body_lines c.functions)) (ap (λ x. line_with_end (header_line x)) (sym l) ∙ sym e)
+    ∙ ap (λ fs. t ++ lines_text (body_lines fs)) (sym f)

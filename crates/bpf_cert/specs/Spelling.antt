@@ -100,8 +100,12 @@ lengths_of version least most = if version == 1 then Lengths.one (decimal least)
 abbrev pub header_line : Header → Line
 header_line h = Line.header (lengths_of h.version h.least h.most) (decimal h.steps)
 
+-- the lines behind the header
+abbrev pub body_lines : List FunctionView → List Line
+body_lines functions = flat_map function_lines functions ++ Line.end ∷ []
+
 abbrev pub certificate_lines : CertificateView → List Line
-certificate_lines c = header_line (header_of c) ∷ (flat_map function_lines c.functions ++ Line.end ∷ [])
+certificate_lines c = header_line (header_of c) ∷ body_lines c.functions
 
 -- 10 is LF
 abbrev pub line_with_end : Line → List ℕ

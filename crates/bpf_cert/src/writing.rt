@@ -5,7 +5,7 @@ ghost use Rattle.bpf_cert.specs.Written.{Puts, Writes};
 ghost use Rattle.bpf_cert.specs.View.{function_view, label_view};
 ghost use Rattle.bpf_state.specs.State.{value_slot};
 ghost use Rattle.bpf_state.specs.declared.known.SlotState.TheVariants.{Bytes};
-ghost use Rattle.bpf_cert.specs.Spelling.{spelled_place, place_at, contents, entry_lines, lines_from, lines_text, label_lines, function_lines, certificate_text};
+ghost use Rattle.bpf_cert.specs.Spelling.{spelled_place, place_at, contents, entry_lines, lines_from, lines_text, label_lines, function_lines, body_lines, certificate_text};
 
 use crate::certificate::{Certificate, Function, Label};
 use crate::spelling::{entry_text, function_text, header_text, label_text};
@@ -118,15 +118,30 @@ fn put_functions<W: Write>(
     Ok(())
 }
 
+fn put_body<W: Write>(pending: &mut Pending, out: &mut W, functions: &[Function]) -> io::Result<()>
+    ensures { Puts (W.contents out.old) (W.contents out.new) pending.old pending.new (lines_text (body_lines (map function_view functions.now))) result }
+{
+    put_functions(pending, out, functions)?;
+    put_bytes(pending, out, b"end\n")
+}
+
+fn put_certificate<W: Write>(
+    pending: &mut Pending,
+    out: &mut W,
+    certificate: &Certificate,
+) -> io::Result<()>
+    ensures { Puts (W.contents out.old) (W.contents out.new) pending.old pending.new (certificate_text certificate.now) result }
+{
+    put_bytes(pending, out, header_text(certificate.header()).as_slice())?;
+    put_body(pending, out, certificate.functions())
+}
+
 /// Writes the certificate's text, in pieces of 4,096 bytes. A fault of the writer, or a write of no bytes, ends it and
 /// isn't tried again: what went out is then a beginning of the text. It takes no memory.
 pub fn write<W: Write>(certificate: &Certificate, out: &mut W) -> io::Result<()>
     ensures { Writes (W.contents out.old) (W.contents out.new) (certificate_text certificate.now) result }
 {
     let mut pending = Pending::new();
-    let header = header_text(certificate.header());
-    put_bytes(&mut pending, out, header.as_slice())?;
-    put_functions(&mut pending, out, certificate.functions())?;
-    put_bytes(&mut pending, out, b"end\n")?;
+    put_certificate(&mut pending, out, certificate)?;
     pending.flush(out)
 }

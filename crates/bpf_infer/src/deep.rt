@@ -8,10 +8,10 @@ use bpf_proposal::InferError;
 use bpf_ranking::ranked;
 use std::alloc::Global;
 
-/// What the search gives a program: nested loops, code that nothing reaches and
-/// counters that change their places may have budgets. I1 if states that were found aren't stable, at the first slot of
-/// their function; I2 at the lowest label of the loops that nothing counts; I3 at the lowest call of a recursion; I4 at an
-/// instruction that the checker would refuse, with the condition that fails, C3 to C12; I5 if memory runs out.
+/// What the search gives a program: nested loops, code that nothing reaches and counters that change their places may
+/// have budgets. I1 if states that were found aren't stable, at the first slot of their function; I2 at the lowest
+/// label of the loops that nothing counts; I3 at the lowest call of a recursion; I4 at an instruction that the checker
+/// would refuse, with the condition that fails, C3 to C12; I5 if memory runs out.
 pub fn deep_proposal<W: Watch>(
     alloc: Global,
     quest: Quest<'_>,

@@ -39,10 +39,9 @@ fn put_all(outline: &Outline, budgets: &Budgets, functions: &mut Vec<Function>) 
     }
 }
 
-/// What the table of one counter for a loop gives a program. I1 if a function's states
-/// aren't stable after 64 rounds, at its first slot; I2 if a loop has no counter, at its label; I3 at the lowest call of a
-/// recursion; I4 at an instruction that the checker would refuse, with the condition that fails, C3 to C12; I5 if memory
-/// runs out.
+/// What the table of one counter for a loop gives a program. I1 if a function's states aren't stable after 64 rounds,
+/// at its first slot; I2 if a loop has no counter, at its label; I3 at the lowest call of a recursion; I4 at an
+/// instruction that the checker would refuse, with the condition that fails, C3 to C12; I5 if memory runs out.
 pub fn plain_proposal<W: Watch>(
     alloc: Global,
     quest: Quest<'_>,

@@ -209,8 +209,8 @@ fn obstacle_of(
     }
 }
 
-/// What the inferrer has of a program when it stops, and what is in the way of a
-/// refusal. It is refused as by `plain_proposal` where that stops before it has states, and I5 if memory runs out.
+/// What the inferrer has of a program when it stops, and what is in the way of a refusal. It is refused as by
+/// `plain_proposal` where that stops before it has states, and I5 if memory runs out.
 pub fn sketch_of(alloc: Global, quest: Quest<'_>, error: InferError) -> Result<Sketch, InferError>
     requires order { quest.least ≤ quest.most }
     requires short { quest.most ≤ 4096 }

@@ -1,11 +1,14 @@
 -- Why instructions that access memory are refused, and what they leave.
 use Rattle.std.proofs.Common.{◌≡◌, ℕ, ℤ, refl, sym, ◌∙◌, ap, ap₂, Bool, true, false, cond, Option, Some, None}
 use Rattle.std.specs.Prelude.{◌-◌, ◌*◌, ◌^◌, not, ◌&&◌, ◌||◌, option_map, option_and_then}
+use Rattle.std.proofs.lemmas.Bool.{false≢true}
 use Rattle.std.proofs.lemmas.Option.{none-some}
 use Rattle.bpf_insn.specs.Instruction.{byte_count, word_size}
 use Rattle.bpf_insn.specs.Effects.{fetch_register}
 use Rattle.std.specs.Option.{option_map_or}
 use Rattle.bpf_insn.specs.declared.instruction.Reg.TheVariants.{R0}
+use Rattle.bpf_insn.specs.declared.instruction.Operand.{Operand}
+use Rattle.bpf_insn.specs.declared.instruction.Operand.TheVariants.{Imm, Reg as FromReg}
 use Rattle.bpf_insn.specs.declared.instruction.AtomicOp.{AtomicOp}
 use Rattle.bpf_insn.specs.declared.instruction.AtomicOp.TheVariants.{CmpXchg, Xchg, Modify}
 use Rattle.bpf_insn.specs.Effects.{is_frame_pointer}
@@ -19,14 +22,16 @@ use Rattle.bpf_num.specs.Interval.{Interval, interval, unsigned_top}
 use Rattle.bpf_num.specs.SignedInterval.{SignedInterval, signed_top, signed_of_width}
 use Rattle.bpf_num.specs.Number.{Number, number, constant, tighten}
 use Rattle.bpf_insn.specs.Arithmetic.{extended}
+use Rattle.bpf_state.specs.declared.transfers.load.Extension.{Extension}
+use Rattle.bpf_state.specs.declared.transfers.load.Extension.TheVariants.{Zero, Sign}
 use Rattle.bpf_state.specs.declared.known.RegState.{RegState}
 use Rattle.bpf_state.specs.declared.known.RegState.TheVariants.{Any, Num, Ptr}
 use Rattle.bpf_state.specs.State.{AbstractState, register, register_tag, put_register}
 use Rattle.bpf_state.specs.Access.{Span, span_at, is_slot, is_inside, touches, touched_bytes, is_pointer_slot, are_known_bytes, any_slot}
-use Rattle.bpf_state.specs.Fault.{is_any, is_number, is_pointer, have_right_kinds, reads_part, some_passes, fault_of, reads_any, has_wrong_kinds, is_out_of_bounds, reads_unknown_byte, writes_protected}
-use Rattle.bpf_state.specs.Transfer.{transfer, unless, live, after, loaded, loaded_tag, any_number, any_signed, set_number, stored, fetched, modified_by}
+use Rattle.bpf_state.specs.Fault.{operand, is_any, is_number, is_pointer, have_right_kinds, reads_part, some_passes, fault_of, reads_any, has_wrong_kinds, is_out_of_bounds, reads_unknown_byte, writes_protected}
+use Rattle.bpf_state.specs.Transfer.{transfer, unless, live, after, operand_tag, loaded, loaded_tag, any_number, any_signed, stored, fetched, modified_by}
 use Rattle.bpf_state.specs.Transfer.Outcome.{Faulty}
-use Rattle.bpf_state.specs.code.Parts.{read_fault, or_protected, load_outcome, load_sx_outcome, store_fault, store_outcome, compares, atomic_operands, atomic_outcome}
+use Rattle.bpf_state.specs.code.Parts.{base_fault, read_fault, or_protected, load_insn, load_outcome, store_fault, store_insn, store_outcome, compares, atomic_operands, atomic_outcome}
 
 -- ---- from a fault to an outcome
 
@@ -70,6 +75,12 @@ tested len s i kinds bounds bytes writes t =
     ∙ ap₂ (λ b c. first kinds bounds b c) t.bytes_are t.writes_are
     ∙ first_is kinds bounds bytes writes
 
+-- refused for what the registers hold
+refused : (len n : ℕ) (s : AbstractState) (i : Insn) (unset wrong : Bool) → reads_any s i ≡ unset → not (have_right_kinds s i) ≡ wrong → cond {A = Option ℕ} unset (Some 3) (cond {A = Option ℕ} wrong (Some 4) None) ≡ Some n → fault_of len s i ≡ Some n
+refused len n s i true wrong' e f h = unset len s i e ∙ h
+refused len n s i false true e f h = wrong len s i e (ap (λ b. b || reads_part s i) f) ∙ h
+refused len n s i false false e f h = absurd (none-some n h)
+
 -- ---- what is known of a base
 
 pub set_base : (off : ℤ) (size : Size) (v : RegState) (p : Span) → span_at off size v ≡ Some p → is_any v ≡ false
@@ -83,6 +94,10 @@ pointer_base off size (Num n) p e = absurd (none-some p e)
 pointer_base off size Any p e = absurd (none-some p e)
 
 -- ---- loads
+
+or_false : (b : Bool) → (b || false) ≡ b
+or_false true = refl
+or_false false = refl
 
 or_no : (b c : Bool) → (b || (false && c)) ≡ b
 or_no true c = refl
@@ -98,10 +113,6 @@ load_fault size dst src off len s p e =
       writes_are = or_no (is_frame_pointer dst) (some_passes (λ q. not q.in_frame) (span_at off size (register s src)));
     })
 
-pub load_is : (order : Order) (size : Size) (dst src : Reg) (off : ℤ) (len : ℕ) (s : AbstractState) (p : Span) → span_at off size (register s src) ≡ Some p → transfer order (Load size dst src off) len s ≡ load_outcome dst size len p s
-load_is order size dst src off len s p e =
-    ap₂ (λ f o. unless f (live (option_map (λ v. put_register dst v (loaded_tag s o) s) (loaded s o size)))) (load_fault size dst src off len s p e) e
-
 load_sx_fault : (size : Size) (dst src : Reg) (off : ℤ) (len : ℕ) (s : AbstractState) (p : Span) → span_at off size (register s src) ≡ Some p → fault_of len s (LoadSx size dst src off) ≡ or_protected (read_fault false len s p) (is_frame_pointer dst)
 load_sx_fault size dst src off len s p e =
     tested len s (LoadSx size dst src off) _ _ _ _ (record {
@@ -112,8 +123,19 @@ load_sx_fault size dst src off len s p e =
       writes_are = or_no (is_frame_pointer dst) (some_passes (λ q. not q.in_frame) (span_at off size (register s src)));
     })
 
-pub load_sx_is : (order : Order) (size : Size) (dst src : Reg) (off : ℤ) (len : ℕ) (s : AbstractState) (p : Span) → span_at off size (register s src) ≡ Some p → transfer order (LoadSx size dst src off) len s ≡ load_sx_outcome dst size len p s
-load_sx_is order size dst src off len s p e = ap (λ f. unless f (live (set_number dst (any_signed (byte_count size)) s))) (load_sx_fault size dst src off len s p e)
+of_number : (put : RegState → AbstractState) (o : Option Number) → option_map (λ n. put (Num n)) o ≡ option_map put (option_map Num o)
+of_number put (Some n) = refl
+of_number put None = refl
+
+pub load_is : (order : Order) (e : Extension) (size : Size) (dst src : Reg) (off : ℤ) (len : ℕ) (s : AbstractState) (p : Span) → span_at off size (register s src) ≡ Some p → transfer order (load_insn e size dst src off) len s ≡ load_outcome e dst size len p s
+load_is order Zero size dst src off len s p e =
+    ap₂ (λ f o. unless f (live (option_map (λ v. put_register dst v (loaded_tag s o) s) (loaded s o size)))) (load_fault size dst src off len s p e) e
+load_is order Sign size dst src off len s p e =
+    ap₂ (λ f o. unless f (live o)) (load_sx_fault size dst src off len s p e) (of_number (λ v. put_register dst v None s) (any_signed (byte_count size)))
+
+pub load_refused : (order : Order) (e : Extension) (size : Size) (dst src : Reg) (off : ℤ) (len n : ℕ) (s : AbstractState) → base_fault (register s src) ≡ Some n → transfer order (load_insn e size dst src off) len s ≡ Faulty n
+load_refused order Zero size dst src off len n s e = faulty order (Load size dst src off) len n s (refused len n s (Load size dst src off) _ _ (or_false _) refl e)
+load_refused order Sign size dst src off len n s e = faulty order (LoadSx size dst src off) len n s (refused len n s (LoadSx size dst src off) _ _ (or_false _) refl e)
 
 -- ---- numbers of a size
 
@@ -158,10 +180,6 @@ store_faults size dst src off len s p u e =
     or_end false true = refl
     or_end false false = refl
 
-pub store_is : (order : Order) (size : Size) (dst src : Reg) (off : ℤ) (len : ℕ) (s : AbstractState) (p : Span) → (is_any (register s dst) || is_any (register s src)) ≡ false → span_at off size (register s dst) ≡ Some p → transfer order (Store size dst off src) len s ≡ store_outcome (is_pointer (register s src)) (register s src) (register_tag s src) len p s
-store_is order size dst src off len s p u e =
-    ap₂ (λ f o. unless f (live (stored o (register s src) (register_tag s src) s))) (store_faults size dst src off len s p u e) e
-
 store_imm_faults : (size : Size) (dst : Reg) (off imm : ℤ) (len : ℕ) (s : AbstractState) (p : Span) → span_at off size (register s dst) ≡ Some p → fault_of len s (StoreImm size dst off imm) ≡ store_fault false len p
 store_imm_faults size dst off imm len s p e =
     tested len s (StoreImm size dst off imm) _ _ _ _ (record {
@@ -173,15 +191,32 @@ store_imm_faults size dst off imm len s p e =
     })
     ∙ no_bytes false (not (is_inside len p)) (not p.in_frame)
 
-pub store_imm_is : (order : Order) (size : Size) (dst : Reg) (off imm : ℤ) (len : ℕ) (s : AbstractState) (p : Span) → span_at off size (register s dst) ≡ Some p → transfer order (StoreImm size dst off imm) len s ≡ store_outcome false (Num (constant (extended imm))) None len p s
-store_imm_is order size dst off imm len s p e =
+pub store_is : (order : Order) (size : Size) (dst : Reg) (off : ℤ) (src : Operand) (len : ℕ) (s : AbstractState) (p : Span) → is_any (operand s src) ≡ false → span_at off size (register s dst) ≡ Some p → transfer order (store_insn size dst off src) len s ≡ store_outcome (is_pointer (operand s src)) (operand s src) (operand_tag s src) len p s
+store_is order size dst off (FromReg src) len s p u e =
+    ap₂ (λ f o. unless f (live (stored o (register s src) (register_tag s src) s)))
+    (store_faults size dst src off len s p (ap₂ (λ a b. a || b) (set_base off size (register s dst) p e) u) e)
+    e
+store_is order size dst off (Imm imm) len s p u e =
     ap₂ (λ f o. unless f (live (stored o (Num (constant (extended imm))) None s))) (store_imm_faults size dst off imm len s p e) e
 
--- ---- atomic operations
+pub store_unset : (order : Order) (size : Size) (dst : Reg) (off : ℤ) (src : Operand) (len : ℕ) (s : AbstractState) → is_any (operand s src) ≡ true → transfer order (store_insn size dst off src) len s ≡ Faulty 3
+store_unset order size dst off (FromReg src) len s u = faulty order (Store size dst off src) len 3 s (unset len s (Store size dst off src) (ap (λ b. is_any (register s dst) || (b || false)) u ∙ or_true (is_any (register s dst))))
+  where
+    or_true : (a : Bool) → (a || (true || false)) ≡ true
+    or_true true = refl
+    or_true false = refl
+store_unset order size dst off (Imm imm) len s u = absurd (false≢true u)
 
-or_false : (b : Bool) → (b || false) ≡ b
-or_false true = refl
-or_false false = refl
+pub store_refused : (order : Order) (size : Size) (dst : Reg) (off : ℤ) (src : Operand) (len n : ℕ) (s : AbstractState) → is_any (operand s src) ≡ false → base_fault (register s dst) ≡ Some n → transfer order (store_insn size dst off src) len s ≡ Faulty n
+store_refused order size dst off (FromReg src) len n s u e = faulty order (Store size dst off src) len n s (refused len n s (Store size dst off src) _ _ (ap (λ b. is_any (register s dst) || (b || false)) u ∙ or_false _) (kinds (register s dst) _ e) e)
+  where
+    kinds : (v : RegState) (more : Bool) → base_fault v ≡ Some n → not (is_pointer v && more) ≡ not (is_pointer v)
+    kinds (Ptr q) more f = absurd (none-some n f)
+    kinds (Num m) more f = refl
+    kinds Any more f = refl
+store_refused order size dst off (Imm imm) len n s u e = faulty order (StoreImm size dst off imm) len n s (refused len n s (StoreImm size dst off imm) _ _ (or_false _) refl e)
+
+-- ---- atomic operations
 
 any_read : (op : AtomicOp) (wide : Bool) (dst src : Reg) (off : ℤ) (s : AbstractState) → reads_any s (Atomic wide op dst off src) ≡ (is_any (register s dst) || (is_any (register s src) || (compares op && is_any (register s R0))))
 any_read CmpXchg wide dst src off s = ap (λ b. is_any (register s dst) || (is_any (register s src) || b)) (or_false (is_any (register s R0)))
@@ -197,11 +232,6 @@ wrong_kinds : (op : AtomicOp) (wide : Bool) (dst src : Reg) (off : ℤ) (s : Abs
 wrong_kinds CmpXchg wide dst src off s = no_kinds (is_pointer (register s dst)) (is_number (register s src)) (is_number (register s R0))
 wrong_kinds Xchg wide dst src off s = no_kinds (is_pointer (register s dst)) (is_number (register s src)) true
 wrong_kinds (Modify by fetch) wide dst src off s = no_kinds (is_pointer (register s dst)) (is_number (register s src)) true
-
-refused : (len n : ℕ) (s : AbstractState) (i : Insn) (unset wrong : Bool) → reads_any s i ≡ unset → not (have_right_kinds s i) ≡ wrong → cond {A = Option ℕ} unset (Some 3) (cond {A = Option ℕ} wrong (Some 4) None) ≡ Some n → fault_of len s i ≡ Some n
-refused len n s i true wrong' e f h = unset len s i e ∙ h
-refused len n s i false true e f h = wrong len s i e (ap (λ b. b || reads_part s i) f) ∙ h
-refused len n s i false false e f h = absurd (none-some n h)
 
 pub atomic_refused : (order : Order) (wide : Bool) (op : AtomicOp) (dst src : Reg) (off : ℤ) (len n : ℕ) (s : AbstractState) → atomic_operands op dst src s ≡ Some n → transfer order (Atomic wide op dst off src) len s ≡ Faulty n
 atomic_refused order wide op dst src off len n s e =

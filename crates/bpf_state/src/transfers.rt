@@ -15,6 +15,7 @@ ghost use Rattle.bpf_state.specs.Answer.{outcome_told, KeepsUnlessDone};
 use crate::fault::StateFault;
 use crate::known::RegState;
 use crate::state::State;
+use crate::transfers::load::Extension;
 use bpf_insn::{Cond, Insn, Operand, Order, Reg, Width};
 
 /// Makes the state at an instruction the one after it, in every context of at least `least` bytes. False if that state
@@ -50,25 +51,25 @@ pub fn transfer(
             dst,
             src,
             off,
-        } => load::load(size, dst, src, off, least, state),
+        } => load::load(Extension::Zero, size, dst, src, off, least, state),
         Insn::LoadSx {
             size,
             dst,
             src,
             off,
-        } => load::load_sx(size, dst, src, off, least, state),
+        } => load::load(Extension::Sign, size, dst, src, off, least, state),
         Insn::Store {
             size,
             dst,
             off,
             src,
-        } => store::store(size, dst, off, src, least, state),
+        } => store::store(size, dst, off, Operand::Reg(src), least, state),
         Insn::StoreImm {
             size,
             dst,
             off,
             imm,
-        } => store::store_imm(size, dst, off, imm, least, state),
+        } => store::store(size, dst, off, Operand::Imm(imm), least, state),
         Insn::Atomic {
             wide,
             op,

@@ -4,7 +4,7 @@ ghost use Rattle.std.specs.Prelude.{◌≡◌, ◌++◌, OnOk, OnErr, codes};
 ghost use Rattle.std.specs.Io.KnownBytes.{Appends};
 ghost use Rattle.bpf_insn.specs.Written.{AppendsBeginning, Gathers};
 ghost use Rattle.bpf_text.specs.Listing.{line_text, listing, atomic_word, atomic_sign, distance_text};
-ghost use Rattle.bpf_text.specs.code.Puts.{Puts, memory_operand_text};
+ghost use Rattle.bpf_text.specs.code.Puts.{Puts, memory_operand_text, load_text, store_text};
 
 use crate::listed_line::ListedLine;
 use crate::spelling::{Memory, Swap};
@@ -128,42 +128,22 @@ fn put_memory_operand(line: &mut ListedLine, memory: Memory, base: Reg, off: i16
 }
 
 /// `r0 = *(u8 *)(r1 + 0)`
-fn put_load(line: &mut ListedLine, size: Size, dst: Reg, src: Reg, off: i16)
-    ensures { Puts line.old (line_text (Insn.Load size dst src off)) line.new }
+fn put_load(line: &mut ListedLine, memory: Memory, dst: Reg, src: Reg, off: i16)
+    ensures { Puts line.old (load_text memory dst src off) line.new }
 {
     line.register(Width::W64, dst);
     line.put_text(" = ");
-    put_memory_operand(line, Memory::Unsigned(size), src, off);
-    line.put_text(")\n");
-}
-
-/// `r0 = *(s8 *)(r1 + 0)`
-fn put_signed_load(line: &mut ListedLine, size: Size, dst: Reg, src: Reg, off: i16)
-    ensures { Puts line.old (line_text (Insn.LoadSx size dst src off)) line.new }
-{
-    line.register(Width::W64, dst);
-    line.put_text(" = ");
-    put_memory_operand(line, Memory::Signed(size), src, off);
+    put_memory_operand(line, memory, src, off);
     line.put_text(")\n");
 }
 
 /// `*(u8 *)(r1 + 0) = r2`
-fn put_store(line: &mut ListedLine, size: Size, dst: Reg, off: i16, src: Reg)
-    ensures { Puts line.old (line_text (Insn.Store size dst off src)) line.new }
+fn put_store(line: &mut ListedLine, size: Size, dst: Reg, off: i16, src: Operand)
+    ensures { Puts line.old (store_text size dst off src) line.new }
 {
     put_memory_operand(line, Memory::Unsigned(size), dst, off);
     line.put_text(") = ");
-    line.register(Width::W64, src);
-    line.put_text("\n");
-}
-
-/// `*(u8 *)(r1 + 0) = 5`
-fn put_constant_store(line: &mut ListedLine, size: Size, dst: Reg, off: i16, imm: i32)
-    ensures { Puts line.old (line_text (Insn.StoreImm size dst off imm)) line.new }
-{
-    put_memory_operand(line, Memory::Unsigned(size), dst, off);
-    line.put_text(") = ");
-    line.number(imm);
+    line.operand(Width::W64, src);
     line.put_text("\n");
 }
 
@@ -228,25 +208,25 @@ fn put_insn(line: &mut ListedLine, insn: &Insn)
             dst,
             src,
             off,
-        } => put_load(line, size, dst, src, off),
+        } => put_load(line, Memory::Unsigned(size), dst, src, off),
         Insn::LoadSx {
             size,
             dst,
             src,
             off,
-        } => put_signed_load(line, size, dst, src, off),
+        } => put_load(line, Memory::Signed(size), dst, src, off),
         Insn::Store {
             size,
             dst,
             off,
             src,
-        } => put_store(line, size, dst, off, src),
+        } => put_store(line, size, dst, off, Operand::Reg(src)),
         Insn::StoreImm {
             size,
             dst,
             off,
             imm,
-        } => put_constant_store(line, size, dst, off, imm),
+        } => put_store(line, size, dst, off, Operand::Imm(imm)),
         Insn::Atomic {
             wide,
             op,

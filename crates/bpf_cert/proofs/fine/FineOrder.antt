@@ -18,6 +18,7 @@ use Rattle.bpf_state.specs.State.{AbstractState, value_slot}
 use Rattle.bpf_state.specs.declared.known.RegState.{RegState}
 use Rattle.bpf_state.specs.declared.known.RegState.TheVariants as reg
 use Rattle.bpf_state.specs.declared.known.SlotState.{SlotState}
+use Rattle.bpf_cert.proofs.LastLine.{by_last}
 use Rattle.bpf_cert.proofs.Bools.{both_true}
 use Rattle.bpf_cert.proofs.AfterLemmas.{IsFine}
 use Rattle.bpf_cert.proofs.fine.FineLines.{AreFine}
@@ -64,34 +65,18 @@ runs_append before xs ys s first at functions labels f r = record {
 }
 
 abbrev pub is_end_stage : Stage → Bool
-is_end_stage stage.Start = false
-is_end_stage stage.Header = false
-is_end_stage stage.Function = false
-is_end_stage stage.Label = false
 is_end_stage stage.Ended = true
+is_end_stage _ = false
 
 pub ended_is : (ls : List Line) → is_ended ls ≡ is_end_stage (stage_of ls)
-ended_is [] = refl
-ended_is (Line.header _ _ ∷ ls) = refl
-ended_is (Line.function _ _ _ ∷ ls) = refl
-ended_is (Line.label _ _ _ ∷ ls) = refl
-ended_is (Line.entry _ _ ∷ ls) = refl
-ended_is (Line.end ∷ ls) = refl
+ended_is ls = by_last (λ xs. is_ended xs ≡ is_end_stage (stage_of xs)) refl (λ ls a b. refl) (λ ls a b c. refl) (λ ls a b c. refl) (λ ls a b. refl) (λ ls. refl) ls
 
 abbrev pub is_bare_stage : Stage → Bool
-is_bare_stage stage.Start = false
-is_bare_stage stage.Header = false
 is_bare_stage stage.Function = true
-is_bare_stage stage.Label = false
-is_bare_stage stage.Ended = false
+is_bare_stage _ = false
 
 pub bare_is : (ls : List Line) → ends_bare ls ≡ is_bare_stage (stage_of ls)
-bare_is [] = refl
-bare_is (Line.header _ _ ∷ ls) = refl
-bare_is (Line.function _ _ _ ∷ ls) = refl
-bare_is (Line.label _ _ _ ∷ ls) = refl
-bare_is (Line.entry _ _ ∷ ls) = refl
-bare_is (Line.end ∷ ls) = refl
+bare_is ls = by_last (λ xs. ends_bare xs ≡ is_bare_stage (stage_of xs)) refl (λ ls a b. refl) (λ ls a b c. refl) (λ ls a b c. refl) (λ ls a b. refl) (λ ls. refl) ls
 
 -- an entry may stand behind the lines at each place from the j-th on
 abbrev HasPlaces : ℕ → List Line → Type 0

@@ -15,6 +15,7 @@ use Rattle.bpf_cert.specs.code.Building.{IsBuilt, Closes, ClosesLabel, Puts}
 use Rattle.bpf_cert.specs.declared.building.Builder.{Builder}
 use Rattle.bpf_cert.specs.declared.standing.Stage.{Stage}
 use Rattle.bpf_cert.specs.declared.standing.Stage.TheVariants as stage
+use Rattle.bpf_cert.proofs.LastLine.{by_last}
 use Rattle.bpf_cert.proofs.Bools.{both_true}
 use Rattle.bpf_cert.proofs.StandingLemmas.{stand_header, stand_function, stand_label, stand_entry, stand_end}
 use Rattle.bpf_cert.proofs.AfterLemmas.{IsFine, ruled_fine}
@@ -23,19 +24,12 @@ use Rattle.bpf_cert.proofs.sound.SoundSteps.{sound_header, sound_function, whole
 
 -- where a function or `end` may follow
 abbrev IsWholeStage : Stage → Type 0
-IsWholeStage stage.Start = ⊥
 IsWholeStage stage.Header = Unit {0}
-IsWholeStage stage.Function = ⊥
 IsWholeStage stage.Label = Unit {0}
-IsWholeStage stage.Ended = ⊥
+IsWholeStage _ = ⊥
 
 whole_stage : (ls : List Line) → not (is_start (stage_of ls)) ≡ true → is_ended ls ≡ false → not (ends_bare ls) ≡ true → IsWholeStage (stage_of ls)
-whole_stage [] e f g = cc
-whole_stage (Line.header _ _ ∷ ls) e f g = tt
-whole_stage (Line.function _ _ _ ∷ ls) e f g = cc
-whole_stage (Line.label _ _ _ ∷ ls) e f g = tt
-whole_stage (Line.entry _ _ ∷ ls) e f g = tt
-whole_stage (Line.end ∷ ls) e f g = cc
+whole_stage ls = by_last (λ xs. not (is_start (stage_of xs)) ≡ true → is_ended xs ≡ false → not (ends_bare xs) ≡ true → IsWholeStage (stage_of xs)) (λ e f g. cc) (λ ls a b e f g. tt) (λ ls a b c e f g. cc) (λ ls a b c e f g. tt) (λ ls a b e f g. tt) (λ ls e f g. cc) ls
 
 closes_whole : (s : Stage) (old mid new : Builder) → IsWholeStage s → old.standing.stage ≡ s → IsSoundAt s old → Closes old mid → new.header ≡ mid.header → closed new ≡ closed mid → AreWhole old.standing new.header (closed new)
 closes_whole stage.Start old mid new g e sound c a same = absurd g
@@ -114,12 +108,7 @@ entry_sound lines old mid new l p v built fine e stands puts a same last labels 
     (sound_entry lines old.standing new.standing old.header (closed old) (function_view old.function) (label_view old.label) (label_view mid.label) (spelled_place p) (content_of v) puts.slot (ap (λ x. x.base) puts.budget) (ap (λ x. x.terms.items) puts.budget) state has built.stands stands_too)))
 
 ended_stage : (ls : List Line) → is_ended ls ≡ true → stage_of ls ≡ stage.Ended
-ended_stage [] e = cc
-ended_stage (Line.header _ _ ∷ ls) e = cc
-ended_stage (Line.function _ _ _ ∷ ls) e = cc
-ended_stage (Line.label _ _ _ ∷ ls) e = cc
-ended_stage (Line.entry _ _ ∷ ls) e = cc
-ended_stage (Line.end ∷ ls) e = refl
+ended_stage ls = by_last (λ xs. is_ended xs ≡ true → stage_of xs ≡ stage.Ended) (λ e. cc) (λ ls a b e. cc) (λ ls a b c e. cc) (λ ls a b c e. cc) (λ ls a b e. cc) (λ ls e. refl) ls
 
 -- behind `end` the parts are a certificate's
 pub ended_sound : (lines : List Line) (b : Builder) → IsBuilt lines b → is_ended lines ≡ true → IsCertificate (certificate_of b.header (map function_view b.functions.items))

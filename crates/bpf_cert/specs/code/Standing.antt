@@ -97,25 +97,17 @@ three_of _ = None
 
 abbrev pub is_start : Stage → Bool
 is_start stage.Start = true
-is_start stage.Header = false
-is_start stage.Function = false
-is_start stage.Label = false
-is_start stage.Ended = false
+is_start _ = false
 
 -- Nothing is asked behind `end`: whatever stands there is refused first.
 abbrev pub may_have_label : Stage → Bool
 may_have_label stage.Start = false
 may_have_label stage.Header = false
-may_have_label stage.Function = true
-may_have_label stage.Label = true
-may_have_label stage.Ended = true
+may_have_label _ = true
 
 abbrev pub may_have_entry : Stage → Bool
-may_have_entry stage.Start = false
-may_have_entry stage.Header = false
-may_have_entry stage.Function = false
 may_have_entry stage.Label = true
-may_have_entry stage.Ended = false
+may_have_entry _ = false
 
 -- the form of each kind of line, as far as its own fields tell
 

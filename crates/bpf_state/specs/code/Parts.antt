@@ -7,12 +7,19 @@ use Rattle.bpf_insn.specs.Effects.{is_frame_pointer}
 use Rattle.bpf_insn.specs.declared.instruction.Reg.{Reg}
 use Rattle.bpf_insn.specs.declared.instruction.Size.{Size}
 use Rattle.bpf_insn.specs.declared.instruction.Reg.TheVariants.{R0}
+use Rattle.bpf_insn.specs.declared.instruction.Operand.{Operand}
+use Rattle.bpf_insn.specs.declared.instruction.Operand.TheVariants.{Imm, Reg as FromReg}
 use Rattle.bpf_insn.specs.declared.instruction.AtomicOp.{AtomicOp}
 use Rattle.bpf_insn.specs.declared.instruction.AtomicOp.TheVariants.{CmpXchg}
+use Rattle.bpf_insn.specs.declared.instruction.Insn.{Insn}
+use Rattle.bpf_insn.specs.declared.instruction.Insn.TheVariants.{Load, LoadSx, Store, StoreImm}
+use Rattle.bpf_state.specs.declared.transfers.load.Extension.{Extension}
+use Rattle.bpf_state.specs.declared.transfers.load.Extension.TheVariants.{Zero, Sign}
 use Rattle.bpf_state.specs.declared.known.RegState.{RegState}
+use Rattle.bpf_state.specs.declared.known.RegState.TheVariants.{Num}
 use Rattle.bpf_state.specs.declared.known.Tag.{Tag}
 use Rattle.bpf_state.specs.State.{AbstractState, register, put_register}
-use Rattle.bpf_state.specs.Transfer.{Outcome, unless, live, loaded, loaded_tag, any_signed, set_number, stored, fetched, modified_by}
+use Rattle.bpf_state.specs.Transfer.{Outcome, unless, live, loaded, loaded_tag, any_signed, stored, fetched, modified_by}
 use Rattle.bpf_state.specs.Fault.{is_any, is_number, is_pointer}
 use Rattle.bpf_state.specs.Access.{Span, is_slot, touches, touched_bytes, is_inside, is_pointer_slot, are_known_bytes, any_slot}
 
@@ -59,15 +66,33 @@ abbrev pub or_protected : Option ℕ → Bool → Option ℕ
 or_protected (Some n) writes = Some n
 or_protected None writes = if writes then Some 7 else None
 
--- what a load of bytes that lie so makes of a state
-abbrev pub load_outcome : Reg → Size → ℕ → Span → AbstractState → Outcome
-load_outcome dst size len p s =
-    unless (or_protected (read_fault (is_slot p) len s p) (is_frame_pointer dst))
-    (live (option_map (λ v. put_register dst v (loaded_tag s (Some p)) s) (loaded s (Some p) size)))
+-- the load that extends so; whether it takes a whole slot, and the value and the tag that it reads
+abbrev pub load_insn : Extension → Size → Reg → Reg → ℤ → Insn
+load_insn Zero size dst src off = Load size dst src off
+load_insn Sign size dst src off = LoadSx size dst src off
 
-abbrev pub load_sx_outcome : Reg → Size → ℕ → Span → AbstractState → Outcome
-load_sx_outcome dst size len p s =
-    unless (or_protected (read_fault false len s p) (is_frame_pointer dst)) (live (set_number dst (any_signed (byte_count size)) s))
+abbrev pub takes_whole : Extension → Span → Bool
+takes_whole Zero p = is_slot p
+takes_whole Sign p = false
+
+abbrev pub value_by : Extension → Size → Span → AbstractState → Option RegState
+value_by Zero size p s = loaded s (Some p) size
+value_by Sign size p s = option_map Num (any_signed (byte_count size))
+
+abbrev pub tag_by : Extension → Span → AbstractState → Option Tag
+tag_by Zero p s = loaded_tag s (Some p)
+tag_by Sign p s = None
+
+-- what a load of bytes that lie so makes of a state
+abbrev pub load_outcome : Extension → Reg → Size → ℕ → Span → AbstractState → Outcome
+load_outcome e dst size len p s =
+    unless (or_protected (read_fault (takes_whole e p) len s p) (is_frame_pointer dst))
+    (live (option_map (λ v. put_register dst v (tag_by e p s) s) (value_by e size p s)))
+
+-- the store of an operand
+abbrev pub store_insn : Size → Reg → ℤ → Operand → Insn
+store_insn size dst off (FromReg src) = Store size dst off src
+store_insn size dst off (Imm imm) = StoreImm size dst off imm
 
 -- why a value, which is a pointer or isn't, may not be stored to bytes that lie so, and what its store makes of a state
 abbrev pub store_fault : Bool → ℕ → Span → Option ℕ

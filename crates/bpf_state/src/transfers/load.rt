@@ -4,11 +4,11 @@ ghost use Rattle.std.specs.Prelude.{◌≡◌, ℕ, IsTrue, IfSome, true, Some, 
 ghost use Rattle.bpf_insn.specs.Effects.{is_frame_pointer};
 ghost use Rattle.bpf_insn.specs.Instruction.{byte_count};
 ghost use Rattle.bpf_insn.specs.declared.order.Order.{Order};
-ghost use Rattle.bpf_insn.specs.declared.instruction.Insn.TheVariants.{Load, LoadSx, LoadImm64};
+ghost use Rattle.bpf_insn.specs.declared.instruction.Insn.TheVariants.{LoadImm64};
 ghost use Rattle.bpf_state.specs.State.{IsRegister};
 ghost use Rattle.bpf_state.specs.Access.{is_inside};
 ghost use Rattle.bpf_state.specs.Transfer.{transfer, any_number, any_signed, loaded, loaded_tag};
-ghost use Rattle.bpf_state.specs.code.Parts.{byte_fault, read_fault, or_protected, load_outcome, load_sx_outcome};
+ghost use Rattle.bpf_state.specs.code.Parts.{byte_fault, read_fault, or_protected, takes_whole, value_by, tag_by, load_insn, load_outcome};
 ghost use Rattle.bpf_state.specs.Answer.{fault_number, outcome_told, KeepsUnlessDone};
 
 use crate::access::Reach;
@@ -82,6 +82,48 @@ fn loaded_tag(state: &State, reach: Reach) -> Option<Tag>
     }
 }
 
+/// What a load does with the bytes that it reads.
+#[derive(Clone, Copy)]
+pub(crate) enum Extension {
+    Zero,
+    Sign,
+}
+
+impl Extension {
+    /// Whether an access takes a whole slot, and with it a pointer or a counter.
+    fn takes_whole(self, reach: Reach) -> bool
+        ensures { result ≡ takes_whole self reach }
+    {
+        match self {
+            Extension::Zero => reach.is_slot(),
+            Extension::Sign => false,
+        }
+    }
+
+    /// What is known of the value that the register gets.
+    fn value(self, state: &State, reach: Reach, size: Size) -> Option<RegState>
+        requires { IsTrue reach.in_frame → is_inside 0 reach ≡ true }
+        ensures value { result ≡ value_by self size reach state.now }
+        ensures ordered { IfSome result (λ v. IsRegister v) }
+    {
+        match self {
+            Extension::Zero => loaded(state, reach, size),
+            Extension::Sign => any_signed(size).map(RegState::Num),
+        }
+    }
+
+    /// The counter that the register gets.
+    fn tag(self, state: &State, reach: Reach) -> Option<Tag>
+        requires { IsTrue reach.in_frame → is_inside 0 reach ≡ true }
+        ensures { result ≡ tag_by self reach state.now }
+    {
+        match self {
+            Extension::Zero => loaded_tag(state, reach),
+            Extension::Sign => None,
+        }
+    }
+}
+
 /// Why the bytes of an access may not be read. Only a load of a whole slot may read a pointer.
 pub(crate) fn read_fault(
     state: &State,
@@ -127,30 +169,32 @@ fn load_fault(
     }
 }
 
-/// A load of bytes that lie so, zero-extended.
+/// A load of bytes that lie so.
 fn load_at(
+    extension: Extension,
     dst: Reg,
     size: Size,
     reach: Reach,
     least: u32,
     state: &mut State,
 ) -> Result<bool, StateFault>
-    ensures outcome { outcome_told result state.new ≡ load_outcome dst size least reach state.old }
+    ensures outcome { outcome_told result state.new ≡ load_outcome extension dst size least reach state.old }
     ensures kept { KeepsUnlessDone result state.old state.new }
 {
-    if let Some(fault) = load_fault(state, dst, reach, reach.is_slot(), least) {
+    if let Some(fault) = load_fault(state, dst, reach, extension.takes_whole(reach), least) {
         return Err(fault);
     }
-    let Some(value) = loaded(state, reach, size) else {
+    let Some(value) = extension.value(state, reach, size) else {
         return Ok(false);
     };
-    let tag = loaded_tag(state, reach);
+    let tag = extension.tag(state, reach);
     state.put_register(dst, value, tag);
     Ok(true)
 }
 
-/// A load, zero-extended.
+/// A load.
 pub(crate) fn load(
+    extension: Extension,
     size: Size,
     dst: Reg,
     src: Reg,
@@ -159,51 +203,11 @@ pub(crate) fn load(
     state: &mut State,
 ) -> Result<bool, StateFault>
     ensures outcome { (order : Order) → outcome_told result state.new
-        ≡ transfer order (Load size dst src off) least state.old }
+        ≡ transfer order (load_insn extension size dst src off) least state.old }
     ensures kept { KeepsUnlessDone result state.old state.new }
 {
     match Reach::from_base(state.reg(src), off, size) {
-        Ok(reach) => load_at(dst, size, reach, least, state),
-        Err(fault) => Err(fault),
-    }
-}
-
-/// A load of bytes that lie so, sign-extended.
-fn load_sx_at(
-    dst: Reg,
-    size: Size,
-    reach: Reach,
-    least: u32,
-    state: &mut State,
-) -> Result<bool, StateFault>
-    ensures outcome { outcome_told result state.new ≡ load_sx_outcome dst size least reach state.old }
-    ensures kept { KeepsUnlessDone result state.old state.new }
-{
-    if let Some(fault) = load_fault(state, dst, reach, false, least) {
-        return Err(fault);
-    }
-    let Some(number) = any_signed(size) else {
-        return Ok(false);
-    };
-    state.put_register(dst, RegState::Num(number), None);
-    Ok(true)
-}
-
-/// A load, sign-extended.
-pub(crate) fn load_sx(
-    size: Size,
-    dst: Reg,
-    src: Reg,
-    off: i16,
-    least: u32,
-    state: &mut State,
-) -> Result<bool, StateFault>
-    ensures outcome { (order : Order) → outcome_told result state.new
-        ≡ transfer order (LoadSx size dst src off) least state.old }
-    ensures kept { KeepsUnlessDone result state.old state.new }
-{
-    match Reach::from_base(state.reg(src), off, size) {
-        Ok(reach) => load_sx_at(dst, size, reach, least, state),
+        Ok(reach) => load_at(extension, dst, size, reach, least, state),
         Err(fault) => Err(fault),
     }
 }

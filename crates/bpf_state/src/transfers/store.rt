@@ -2,11 +2,10 @@
 
 ghost use Rattle.std.specs.Prelude.{◌≡◌, IsTrue, true, Some, option_map};
 ghost use Rattle.bpf_insn.specs.declared.order.Order.{Order};
-ghost use Rattle.bpf_insn.specs.declared.instruction.Insn.TheVariants.{Store, StoreImm};
 ghost use Rattle.bpf_state.specs.State.{IsRegister, IsSlot, value_slot};
 ghost use Rattle.bpf_state.specs.Access.{is_inside};
 ghost use Rattle.bpf_state.specs.Transfer.{transfer, stored};
-ghost use Rattle.bpf_state.specs.code.Parts.{store_fault, store_outcome};
+ghost use Rattle.bpf_state.specs.code.Parts.{store_fault, store_insn, store_outcome};
 ghost use Rattle.bpf_state.specs.Answer.{fault_number, outcome_told, KeepsUnlessDone};
 
 use crate::access::Reach;
@@ -61,7 +60,7 @@ fn store_fault(pointer: bool, reach: Reach, least: u32) -> Option<StateFault>
     None
 }
 
-/// Writes a value, which is a pointer or isn't, to bytes that lie so.
+/// Writes a value, which is a pointer or isn't, and its counter to bytes that lie so.
 fn store_at(
     reach: Reach,
     pointer: bool,
@@ -81,46 +80,26 @@ fn store_at(
     Ok(true)
 }
 
-/// A store of a register.
+/// A store of a register or of a constant.
 pub(crate) fn store(
     size: Size,
     dst: Reg,
     off: i16,
-    src: Reg,
+    src: Operand,
     least: u32,
     state: &mut State,
 ) -> Result<bool, StateFault>
     ensures outcome { (order : Order) → outcome_told result state.new
-        ≡ transfer order (Store size dst off src) least state.old }
+        ≡ transfer order (store_insn size dst off src) least state.old }
     ensures kept { KeepsUnlessDone result state.old state.new }
 {
-    if state.reg(src).is_any() {
+    if state.operand(src).is_any() {
         return Err(StateFault::UnsetRegister);
     }
-    let tag = state.register_tag(src);
-    let pointer = state.reg(src).is_pointer();
+    let tag = state.operand_tag(src);
+    let pointer = state.operand(src).is_pointer();
     match Reach::from_base(state.reg(dst), off, size) {
-        Ok(reach) => store_at(reach, pointer, state.reg(src), tag, least, state),
-        Err(fault) => Err(fault),
-    }
-}
-
-/// A store of a constant.
-pub(crate) fn store_imm(
-    size: Size,
-    dst: Reg,
-    off: i16,
-    imm: i32,
-    least: u32,
-    state: &mut State,
-) -> Result<bool, StateFault>
-    ensures outcome { (order : Order) → outcome_told result state.new
-        ≡ transfer order (StoreImm size dst off imm) least state.old }
-    ensures kept { KeepsUnlessDone result state.old state.new }
-{
-    let constant = state.operand(Operand::Imm(imm));
-    match Reach::from_base(state.reg(dst), off, size) {
-        Ok(reach) => store_at(reach, false, constant, None, least, state),
+        Ok(reach) => store_at(reach, pointer, state.operand(src), tag, least, state),
         Err(fault) => Err(fault),
     }
 }

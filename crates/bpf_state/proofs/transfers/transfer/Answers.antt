@@ -39,7 +39,7 @@ returns-in-Load-clause-outcome c =
 pub returns-in-LoadSx-clause-outcome : goal.returns-in-LoadSx-clause-outcome
 returns-in-LoadSx-clause-outcome c =
     let x = c.in-LoadSx in
-    offset_arm c.args.order c.args.least c.args.state.now _ (λ off. LoadSx x.size x.dst x.src off) x.off c.args.insn.now (search rules) x.is (c.load_sx.ensures.outcome c.args.order)
+    offset_arm c.args.order c.args.least c.args.state.now _ (λ off. LoadSx x.size x.dst x.src off) x.off c.args.insn.now (search rules) x.is (c.load-in-LoadSx.ensures.outcome c.args.order)
 
 pub returns-in-Store-clause-outcome : goal.returns-in-Store-clause-outcome
 returns-in-Store-clause-outcome c =
@@ -51,7 +51,7 @@ returns-in-StoreImm-clause-outcome c =
     let x = c.in-StoreImm in
     let fits : FitsSigned w32 x.imm = search rules in
     offset_arm c.args.order c.args.least c.args.state.now _ (λ off. StoreImm x.size x.dst off x.imm) x.off c.args.insn.now (search rules) x.is
-    (c.store_imm.ensures.outcome c.args.order ∙ ap (λ imm. transfer c.args.order (StoreImm x.size x.dst (to_z w16 (of_z w16 x.off)) imm) c.args.least c.args.state.now) (to_z-of_z w32 x.imm fits))
+    (c.store-in-StoreImm.ensures.outcome c.args.order ∙ ap (λ imm. transfer c.args.order (StoreImm x.size x.dst (to_z w16 (of_z w16 x.off)) imm) c.args.least c.args.state.now) (to_z-of_z w32 x.imm fits))
 
 pub returns-in-Atomic-clause-outcome : goal.returns-in-Atomic-clause-outcome
 returns-in-Atomic-clause-outcome c =
