@@ -3,16 +3,42 @@
 # `covers`, which count nothing. And what takes no memory names no allocator. Contracts (`requires`, `ensures`, `ghost`) and comments aren't looked at.
 cd "$(dirname "$0")/../crates/bpf_check/src" || exit 1
 
-# The code of the files without contracts and comments.
+# The code of the files without contracts, comments and what stands in quotes. Strings go before comments, since `//` may stand in one.
 code() {
     awk '
-        { line = $0; sub(/\/\/.*/, "", line) }
-        open_braces > 0 || line ~ /^[[:space:]]*(requires|ensures|ghost)[[:space:]]/ {
-            open_braces += gsub(/\{/, "", line) - gsub(/\}/, "", line)
-            next
+        # A line without its strings, characters and comment, whichever begins first.
+        function bare(line,   kept) {
+            kept = ""
+            while (match(line, /\047(\\.|[^\\\047])\047|"(\\.|[^\\"])*"|\/\/.*/)) {
+                kept = kept substr(line, 1, RSTART - 1)
+                line = substr(line, RSTART + RLENGTH)
+            }
+            return kept line
         }
-        { print FILENAME ": " line }
+        # What stands behind the last brace of a contract, and whether that brace is in this line.
+        function behind(line,   i, c) {
+            for (i = 1; i <= length(line); i++) {
+                c = substr(line, i, 1)
+                if (c == "{") open_braces++
+                if (c == "}" && --open_braces == 0) return substr(line, i + 1)
+            }
+            return ""
+        }
+        {
+            line = bare($0)
+            if (open_braces > 0 || line ~ /^[[:space:]]*(requires|ensures|ghost)[[:space:]]/) line = behind(line)
+            print FILENAME ": " line
+        }
+        END { if (open_braces > 0) print FILENAME ": \"" }
     ' "$@"
+}
+
+# What `code` can't take apart: raw strings, strings over several lines, comments between `/*` and `*/`.
+is_plain() {
+    if grep -nE '(^|[^[:alnum:]_])b?r#*"' "$@" || code "$@" | grep -nE '"|/\*'; then
+        echo "these lines aren't what this test reads"
+        failed=1
+    fi
 }
 
 # How often a whole word stands there.
@@ -35,7 +61,16 @@ if [ "$(echo "$files" | wc -l)" -lt 10 ] || code $files | grep -q 'cfg(test)'; t
     echo "bpf_check's sources aren't what this test reads"
     exit 1
 fi
+is_plain $files
 wants 'Work::new' 1
+# Beside that call the word stands where it is brought in under its own name, and as the type of what is handed on.
+others=$(code $files | sed -e 's/\<Work::new\>//' -e 's/&\(mut \)\{0,1\}Work\>//g' -e 's/\<work: Work,$//' \
+    -e '/: use bpf_state::/{/\<as\>/!s/\<Work\>//;}' | grep -w 'Work')
+if [ -n "$others" ]; then
+    echo "Work stands in another place than where the one is made and handed on:"
+    echo "$others"
+    failed=1
+fi
 wants 'transfer_counted' 1
 wants 'returns_counted' 1
 wants 'transfer' 0
