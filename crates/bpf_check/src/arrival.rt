@@ -46,7 +46,8 @@ impl<'a> Walk<'a> {
     }
 }
 
-/// Makes a state the one at a label: each number tightened, and a tag for each term. False if a number has no member.
+/// Makes a state the one at a label: each number tightened, and a tag for each term. False only if a number
+/// has no member.
 fn set_label_state(label: &Label, state: &mut State) -> bool
     requires { IsTrue (is_limited_label (label_view label.now)) }
     ensures { edge_told result state.new ≡ label_state (label_view label.now) }

@@ -12,12 +12,12 @@ pub fn flat_finishes()
     ensures { FlatFinishes }
 {}
 
-/// An instruction changes no byte but those that it writes.
+/// An instruction changes no byte but those that it writes, calls and exits aside.
 pub fn flat_writes_only()
     ensures { FlatWritesOnly }
 {}
 
-/// An instruction depends on no byte but those that it reads.
+/// An instruction depends on no byte but those that it reads, calls and exits aside.
 pub fn flat_reads_only()
     ensures { FlatReadsOnly }
 {}

@@ -56,7 +56,7 @@ pub fn branch_keeps()
     refine_keeps();
 }
 
-/// A step that is neither a CALL nor an EXIT leaves the waiting frames as they are.
+/// From a described machine without fault, a step that is neither a CALL nor an EXIT leaves the waiting frames as they are.
 pub fn waiting_frames_stay()
     ensures { WaitingFramesStay }
 {}

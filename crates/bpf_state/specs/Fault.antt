@@ -50,7 +50,7 @@ is_pointer (Ptr p) = true
 is_pointer _ = false
 
 -- ---- arithmetic on what is known of two values
--- None where it isn't allowed on their kinds; else what is known of the result, None if there is no member
+-- None where it isn't allowed on their kinds; else what is known of the result, None only if there is no member
 
 -- the difference of offsets in two intervals, modulo 2 ^ 64
 abbrev pub difference : ℤ → ℤ → ℤ → ℤ → Option RegState

@@ -186,7 +186,7 @@ abbrev pub tightened_slot : SlotState → Option SlotState
 tightened_slot (Word n) = option_map Word (tighten n)
 tightened_slot value = Some value
 
--- None if a number has no member
+-- None only if a number has no member
 abbrev pub tightened : AbstractState → Option AbstractState
 tightened s =
     option_and_then (λ registers.

@@ -150,7 +150,7 @@ fetched (Some r) value s = option_map (λ v. put_register r v None s) value
 
 -- ---- instructions
 
--- the state at the next instruction of a state without fault: None if it has no member
+-- the state at the next instruction of a state without fault: None only if it has no member
 abbrev pub after : Order → Insn → AbstractState → Option AbstractState
 after order (Alu op width dst src) s =
     option_map (λ v. put_register dst v (alu_tag s width op dst src) s)
@@ -208,7 +208,7 @@ refined (JumpIf cond width dst src off) taken (Num a) (Num b) s =
     else option_map (λ p. refine_operand src p.1 (refine_register dst p.0 s)) (refine cond width taken a b)
 refined i taken _ _ s = Some s
 
--- the state on the edge on which the test holds (`taken`) or fails: None if it has no member
+-- the state on the edge on which the test holds (`taken`) or fails: None only if it has no member
 abbrev pub branch : Insn → Bool → AbstractState → Option AbstractState
 branch (JumpIf cond width dst src off) taken s =
     refined (JumpIf cond width dst src off) taken (register s dst) (operand s src) s

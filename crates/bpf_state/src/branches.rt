@@ -9,8 +9,8 @@ use crate::state::State;
 use bpf_insn::{Insn, Operand, Reg};
 use bpf_num::Num;
 
-/// Makes the state at a conditional jump the one on the edge on which its test holds (`taken`) or fails. False if it has
-/// no member; then the state is as it was. After other instructions the state stays.
+/// Makes the state at a conditional jump the one on the edge on which its test holds (`taken`) or fails. False only if
+/// it has no member; then the state is as it was. After other instructions the state stays.
 pub fn branch(insn: &Insn, taken: bool, state: &mut State) -> bool
     ensures edge { edge_told result state.new ≡ branch insn.now taken state.old }
     ensures kept { result ≡ false → state.new ≡ state.old }

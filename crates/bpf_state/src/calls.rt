@@ -76,7 +76,7 @@ fn forget_counters(tags: &mut [Option<Tag>; 11])
 }
 
 /// Makes the state at a call the one after it: r0 is what the callee returns, nothing is known of r1 to r5, and the rest
-/// is kept. False if the returned number has no member; then the state is as it was.
+/// is kept. False only if the returned number has no member; then the state is as it was.
 pub fn leave(state: &mut State, ret: Num) -> bool
     ensures edge { edge_told result state.new ≡ caller_state ret state.old }
     ensures kept { result ≡ false → state.new ≡ state.old }

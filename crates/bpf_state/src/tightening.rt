@@ -71,14 +71,14 @@ impl State {
     ghost use Rattle.bpf_state.specs.State.{tightened};
     ghost use Rattle.bpf_state.specs.Answer.{edge_told};
 
-    /// Tightens each number. False if one has no member; then some are tightened and some are not.
+    /// Tightens each number. False only if one has no member; then some are tightened and some are not.
     pub fn tighten(&mut self) -> bool
         ensures { edge_told result self.new ≡ tightened self.old }
     {
         tighten_registers(&mut self.registers) && tighten_slots(&mut self.slots)
     }
 
-    /// The state with each number tightened. None if one has no member.
+    /// The state with each number tightened. None only if one has no member.
     pub fn tightened(&self) -> Option<State>
         ensures { result ≡ tightened self.now }
     {

@@ -18,8 +18,8 @@ use crate::state::State;
 use crate::transfers::load::Extension;
 use bpf_insn::{Cond, Insn, Operand, Order, Reg, Width};
 
-/// Makes the state at an instruction the one after it, in every context of at least `least` bytes. False if that state
-/// has no member. C3 to C7, the lowest that applies, if the instruction isn't allowed. After a fault and after false the
+/// Makes the state at an instruction the one after it, in every context of at least `least` bytes. False only if that
+/// state has no member. C3 to C7, the lowest that applies, if the instruction isn't allowed. After a fault and after false the
 /// state is as it was, and so it is after jumps, calls and exits.
 pub fn transfer(
     insn: &Insn,

@@ -16,7 +16,7 @@ use Rattle.bpf_state.specs.State.{AbstractState, IsRegister, put_register}
 use Rattle.bpf_state.specs.Fault.{alu_of_kinds, leaves_bounds}
 use Rattle.bpf_state.specs.Transfer.{Outcome, Faulty, live}
 
--- what is known of the result, None if it has no member, or a fault
+-- what is known of the result, None only if it has no member, or a fault
 abbrev pub Known : Type 0
 Known = Result (Option RegState) StateFault
 

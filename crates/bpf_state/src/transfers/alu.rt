@@ -180,7 +180,7 @@ fn difference_result(a: RegState, b: RegState) -> Result<Option<RegState>, State
     }
 }
 
-/// What is known of the result of an operation; None if it has no member. C4 if it isn't allowed on the kinds of its
+/// What is known of the result of an operation; None only if it has no member. C4 if it isn't allowed on the kinds of its
 /// operands, C5 if it gives a pointer too far off.
 fn result_of(
     width: Width,
