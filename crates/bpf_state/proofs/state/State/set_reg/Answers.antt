@@ -13,3 +13,6 @@ invariant_of-self c =
       registers = All-set IsRegister c.self.inside.registers _ c.args.value c.requires c.self.invariant.registers;
       slots = c.self.invariant.slots;
     }
+
+pub returns : goal.returns
+returns c = search rules
