@@ -6,7 +6,7 @@ ghost use Rattle.bpf_insn.specs.Instruction.{register_number, byte_count, insn_a
 ghost use Rattle.bpf_semantics.specs.declared.value.Value.TheVariants.{Number};
 ghost use Rattle.bpf_semantics.specs.State.{frame_bytes, max_frames, depth, start, register, with_register, at_slot, number_of_register};
 ghost use Rattle.bpf_semantics.specs.Memory.{inside, location_of, number_at, pointer_at, stack_of, with_stack, with_bytes, with_parts};
-ghost use Rattle.bpf_semantics.specs.Step.{operand, entered, left};
+ghost use Rattle.bpf_semantics.specs.Step.{alu_result, operand, entered, left};
 ghost use Rattle.bpf_semantics.specs.Stuck.{unreadable_at};
 ghost use Rattle.bpf_machine.specs.code.Locations.{location_is, IsInside};
 ghost use Rattle.bpf_semantics.specs.Targets.{LeadsToSlot};
@@ -15,7 +15,9 @@ ghost use Rattle.bpf_machine.specs.Running.{running, moved_to};
 use crate::registers::{Kept, Registers};
 use crate::stack::Stacks;
 use arrayvec::ArrayVec;
-use bpf_insn::{Code, FRAME_BYTES, Insn, Operand, Order, Reg, Size, extended, number_in};
+use bpf_insn::{
+    AluOp, Code, FRAME_BYTES, Insn, Operand, Order, Reg, Size, Width, extended, number_in,
+};
 use bpf_semantics::{Reason, Region, Value};
 use std::marker::Model;
 
@@ -181,6 +183,14 @@ impl<'a, C: Code> Machine<'a, C> {
         ensures { self.new ≡ moved_to self.old (with_register self.old.state (register_number r) (Some (Number x))) }
     {
         self.registers.update(r, x);
+    }
+
+    /// Adds to what a register holds, a number or the offset of a pointer.
+    #[inline(always)]
+    pub(crate) fn add_to_register(&mut self, r: Reg, x: u64)
+        ensures { self.new ≡ moved_to self.old (with_register self.old.state (register_number r) (alu_result Width.W64 AluOp.Add (register self.old.state r) (Number x))) }
+    {
+        self.registers.add(r, x);
     }
 
     /// Whether a register holds a value.

@@ -3,12 +3,13 @@
 ghost use Rattle.std.specs.Prelude.{◌≡◌, ◌<◌, get_or, slice_set, replicate, [], ◌∷◌, Some, None, pos, is_some, option_and_then, IsSome};
 ghost use Rattle.bpf_insn.specs.Instruction.{register_number};
 ghost use Rattle.bpf_semantics.specs.State.{number_in};
+ghost use Rattle.bpf_semantics.specs.Step.{alu_result};
 ghost use Rattle.bpf_semantics.specs.declared.value.Value.TheVariants.{Number, Pointer};
 ghost use Rattle.bpf_semantics.specs.declared.value.Region.TheVariants.{Frame as FrameAt};
 ghost use Rattle.std.specs.Int.{w64, cast_unsigned};
 ghost use Rattle.bpf_machine.specs.code.PackedRegisters.{value_of, word_value, kept_values};
 
-use bpf_insn::Reg;
+use bpf_insn::{AluOp, Reg, Width};
 use bpf_semantics::{Region, Value};
 use std::marker::Model;
 
@@ -174,6 +175,15 @@ impl Registers {
     {
         let at = index_of(r);
         self.numbers[at] = x;
+    }
+
+    /// Adds to what a register holds, a number or the offset of a pointer: what it is stays, also where it holds nothing.
+    #[inline(always)]
+    pub(crate) fn add(&mut self, r: Reg, x: u64)
+        ensures { self.new ≡ slice_set self.old (register_number r) (alu_result Width.W64 AluOp.Add (get_or self.old (register_number r) None) (Number x)) }
+    {
+        let at = index_of(r);
+        self.numbers[at] = AluOp::Add.compute(Width::W64, self.numbers[at], x);
     }
 
     /// Writes a value to a register.
