@@ -1,8 +1,8 @@
 #!/usr/bin/env python3
-"""Runs the filters of examples/c on packets and compares: filters.py BPF
+"""Runs the filters of examples/c on packets and compares: filters.py BPF [FOLDER]
 
-What each filter ought to answer is worked out here, from what its source says it does, on packets made here. Each image and
-certificate gets a yes first, and each run ends within its bound.
+FOLDER has the images and certificates; where it isn't said, examples/c has. What each filter ought to answer is worked out here, from
+what its source says it does, on packets made here. Each image and certificate gets a yes first, and each run ends within its bound.
 """
 import os
 import random
@@ -16,8 +16,8 @@ SIZE = 128
 
 
 def context(packet):
-    """A context: the packet's length, little-endian, then its first 126 bytes."""
-    return (len(packet).to_bytes(2, 'little') + packet[:SIZE - 2]).ljust(SIZE, b'\0')
+    """A context: the packet's length, little-endian, then its first 120 bytes."""
+    return (len(packet).to_bytes(8, 'little') + packet[:SIZE - 8]).ljust(SIZE, b'\0')
 
 
 def ipv4(rng, protocol, payload, words=5):
@@ -84,9 +84,9 @@ def checksum(rng):
 
 def histogram(rng):
     for kinds in (1, 2, 5, 16):
-        block = bytes(16 * rng.randrange(kinds) + rng.randrange(16) for _ in range(SIZE))
-        counts = [sum(1 for byte in block if byte >> 4 == kind) for kind in range(16)]
-        yield block, max(counts) % 256 << 8 | sum(1 for count in counts if count)
+        packet = bytes(16 * rng.randrange(kinds) + rng.randrange(16) for _ in range(SIZE - 8))
+        counts = [sum(1 for byte in packet if byte >> 4 == kind) for kind in range(16)]
+        yield context(packet), max(counts) % 256 << 8 | sum(1 for count in counts if count)
 
 
 def rate(rng):
@@ -107,10 +107,11 @@ def http(rng):
 
 def main():
     bpf = os.path.abspath(sys.argv[1])
+    folder = sys.argv[2] if len(sys.argv) > 2 else HERE
     rng = random.Random(1)
     runs = 0
     for filter_of in (port, dns, checksum, histogram, rate, http):
-        name = os.path.join(HERE, filter_of.__name__)
+        name = os.path.join(folder, filter_of.__name__)
         image, certificate = name + '.img', name + '.cert'
         said = subprocess.run([bpf, 'check', image, certificate], capture_output=True, text=True).stdout
         bound = re.fullmatch(r'yes length 128 bound (\d+)\n', said)

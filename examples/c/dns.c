@@ -14,7 +14,7 @@ u64 filter(const struct context *context, u64 size)
 		u64 count;
 
 		HIDE(at);
-		if (at > 120)
+		if (at > sizeof context->packet - 5)
 			return 0;
 		count = message[at];
 		if (count == 0)

@@ -1,6 +1,4 @@
-/* What the filters of this folder share: numbers by size, the context, and loops and accesses in the style
- * that can be certified. See docs/GUIDE.md.
- */
+/* What filters in C share: numbers by size, the context, and loops and accesses in a form that can be certified. See docs/GUIDE.md. */
 #ifndef FILTER_H
 #define FILTER_H
 
@@ -9,26 +7,65 @@ typedef unsigned short u16;
 typedef unsigned int u32;
 typedef unsigned long long u64;
 
-/* A context of 128 bytes: the packet's own length (little-endian), then its first 126 bytes, the rest zero. */
+/* The context's bytes: another number may be defined before this file is included, or by -DCONTEXT_SIZE=1520. */
+#ifndef CONTEXT_SIZE
+#define CONTEXT_SIZE 128
+#endif
+
+/* The context: the packet's own length in the program's byte order, then as much of the packet as there is room for, the rest zero.
+ * Of a packet that is longer than its room, `length` is the whole length.
+ */
 struct context {
-	u16 length;
-	u8 packet[126];
+	u64 length;
+	u8 packet[CONTEXT_SIZE - 8];
 };
 
 /* Keeps the compiler from reasoning about a number, so that a test or a mask before an access stays. */
 #define HIDE(x) asm volatile("" : "+r"(x))
 
+/* Loops that stay loops, and functions whose code stands in the caller's lines. */
+#ifdef __clang__
+#define FILTER_LOOP _Pragma("clang loop unroll(disable)")
+#define FILTER_INLINE static inline __attribute__((always_inline, nodebug))
+#else
+#define FILTER_LOOP
+#define FILTER_INLINE static inline __attribute__((always_inline, artificial))
+#endif
+
 /* A loop of at most n turns over i, from 0 on; the counter itself is tested. */
-#define TIMES(i, n) _Pragma("clang loop unroll(disable)") for (u64 i = 0; ({ HIDE(i); i < (n); }); i++)
+#define TIMES(i, n) FILTER_LOOP for (u64 i = 0; ({ HIDE(i); i < (n); }); i++)
+
+/* At most n turns for any loop: `TURNS(t, 32);` stands in front of it, and `TURN(t);` first in it. Behind the last turn the function
+ * answers 0.
+ */
+#define TURNS(t, n) u64 t = (n)
+#define TURN(t) do { HIDE(t); if (t == 0) return 0; t--; HIDE(t); } while (0)
+
+/* The number of a type at an offset into `size` bytes, in the program's byte order; 0 where it doesn't lie in them. */
+#define GET(type, bytes, at, size) ({ \
+	u64 at_ = (at); \
+	type it_ = 0; \
+	HIDE(at_); \
+	if ((size) >= sizeof(type) && at_ <= (size) - sizeof(type)) \
+		it_ = *(const type *)((const u8 *)(bytes) + at_); \
+	it_; })
 
 /* The byte at an offset into `size` bytes, a power of two: the offset is masked right before the access. */
 #define BYTE(bytes, at, size) ({ u64 at_ = (at); HIDE(at_); at_ &= (size) - 1; (bytes)[at_]; })
 
-/* A cell of an array of the frame, `size` cells, a power of two. */
-#define CELL(array, at, size) (*({ u64 at_ = (at); HIDE(at_); at_ &= (size) - 1; (array) + at_; }))
+/* A cell of an array of the frame; the first one where there is no such cell. */
+#define CELL(array, at) (*({ \
+	u64 at_ = (at); \
+	HIDE(at_); \
+	if (at_ >= sizeof(array) / sizeof *(array)) \
+		at_ = 0; \
+	(array) + at_; }))
+
+/* The length of an IPv4 header by its first byte, or of a TCP header by `byte >> 4`. */
+#define HEADER_LENGTH(byte) ({ u64 words_ = (byte); HIDE(words_); (words_ & 15) * 4; })
 
 /* Two bytes in the network's order. */
-static inline __attribute__((always_inline)) u64 word_at(const u8 *bytes, u64 at)
+FILTER_INLINE u64 word_at(const u8 *bytes, u64 at)
 {
 	return (u64)bytes[at] << 8 | bytes[at + 1];
 }

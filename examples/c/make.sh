@@ -1,8 +1,9 @@
 #!/usr/bin/env bash
-# Makes the images and certificates of this folder again, from the C sources, with clang and llvm-objcopy:
+# Makes the images and certificates of this folder again, from the C sources, by build.sh (BPF_CC names the compiler):
 #   make.sh [BPF]            compares them with those that are kept here
 #   make.sh [BPF] --keep     puts them in their place
-# Another version of clang than the one that VERSION names may make other images, which is told and is no failure.
+# Another version of the compiler than the one that VERSION names may make other images, which is told and is no failure. A filter that isn't
+# built or not certified is.
 set -eu
 here=$(cd "$(dirname "$0")" && pwd)
 bpf=$(realpath "${1:-$here/../../bpf}")
@@ -10,24 +11,30 @@ keep=${2:-}
 made=$(mktemp -d)
 trap 'rm -rf "$made"' EXIT
 cd "$here"
-clang=${CLANG:-clang}
-objcopy=${OBJCOPY:-llvm-objcopy}
-different=0
+version=$("${BPF_CC:-clang}" --version | head -n 1)
+different=()
+failed=0
 for source in *.c; do
     name=${source%.c}
-    "$clang" -target bpf -mcpu=v3 -O2 -Wall -Werror -c "$source" -o "$made/$name.o"
-    "$objcopy" -O binary -j .text "$made/$name.o" "$made/$name.img"
-    "$bpf" infer --deep "$made/$name.img" 128 "$made/$name.cert"
-    echo "$name: $("$bpf" check "$made/$name.img" "$made/$name.cert")"
+    image=$made/$name.img
+    certificate=$made/$name.cert
+    if ! ./build.sh "$source" "$image" -Werror || ! said=$("$bpf" infer --deep "$image" 128 "$certificate") ||
+        ! said=$("$bpf" check "$image" "$certificate"); then
+        echo "$source: ${said:-not built}" >&2
+        failed=1
+        continue
+    fi
+    echo "$source: $said"
     if [ "$keep" = --keep ]; then
-        cp "$made/$name.img" "$made/$name.cert" .
+        cp "$image" "$certificate" .
     else
-        cmp "$name.img" "$made/$name.img" && cmp "$name.cert" "$made/$name.cert" || different=1
+        cmp -s "$name.img" "$image" && cmp -s "$name.cert" "$certificate" || different+=("$name")
     fi
 done
 if [ "$keep" = --keep ]; then
-    "$clang" --version | head -1 > VERSION
-elif [ "$different" = 1 ]; then
-    echo "made by $("$clang" --version | head -1), kept by $(cat VERSION)"
-    [ "$("$clang" --version | head -1)" != "$(cat VERSION)" ]
+    echo "$version" >VERSION
+elif [ ${#different[@]} -gt 0 ]; then
+    echo "${different[*]}: other bytes by $version than those kept here, by $(cat VERSION)"
+    [ "$version" != "$(cat VERSION)" ] || failed=1
 fi
+exit "$failed"

@@ -12,7 +12,7 @@ u64 filter(const struct context *context, u64 size)
 		return 0;
 	if (word_at(packet, 20) & 0x1fff)
 		return 0; /* not the first fragment */
-	header = (packet[14] & 15) * 4;
+	header = HEADER_LENGTH(packet[14]);
 	if (header < 20 || 14 + header + 4 > context->length)
 		return 0;
 	port = word_at(packet + 14 + header, 2);
