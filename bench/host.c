@@ -6,7 +6,7 @@
 #include <string.h>
 #include <time.h>
 
-/* examples/hosts/port.asm in C. Not inlined, so that each run is a call with a frame that the compiler doesn't know. */
+/* bench/port.asm in C. Not inlined, so that each run is a call with a frame that the compiler doesn't know. */
 __attribute__((noinline)) static uint64_t native(const uint8_t *frame, size_t len) {
     (void)len;
     if ((frame[12] << 8 | frame[13]) != 0x800 || frame[14] != 0x45) return 0;

@@ -1,5 +1,5 @@
 #!/usr/bin/env bash
-# Times a small filter (examples/hosts/port.asm) through the library for hosts beside the same filter in C: runs a second, by medians
+# Times a small filter (bench/port.asm) through the library for hosts beside the same filter in C: runs a second, by medians
 # of processor time over rounds in turn. Usage: bench/host.sh [RUNS [ROUNDS]], 300000 and 5 if not said.
 set -eu
 runs=${1:-300000} rounds=${2:-5}
@@ -9,7 +9,7 @@ trap 'rm -rf "$dir"' EXIT
 "$root/install" "$dir" >/dev/null
 "${CC:-cc}" -O2 -I"$dir/include" "$root/bench/host.c" -o "$dir/host" -L"$dir/lib" -lbpf_host
 for ((round = 0; round < rounds; round++)); do
-    "$dir/host" "$root/examples/hosts/port.img" "$root/examples/hosts/port.cert" "$runs"
+    "$dir/host" "$root/bench/port.img" "$root/bench/port.cert" "$runs"
 done >"$dir/times"
 python3 - "$dir/times" <<'END'
 import collections, pathlib, statistics, sys

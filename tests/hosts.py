@@ -187,20 +187,47 @@ def frames_of(data):
     return frames
 
 
-def filters():
-    frames, image, certificate = FOLDER / 'frames.pcap', EXAMPLES / 'hosts/port.img', EXAMPLES / 'hosts/port.cert'
-    subprocess.run([FOLDER / 'filter_c', '--make', frames], check=True)
+def block_of(frame, order, size):
+    """The context that a host makes of a frame: its length in eight bytes, its beginning, zeros."""
+    return (len(frame).to_bytes(8, order) + frame[:size - 8]).ljust(size, b'\0')
+
+
+def answers(order, image, certificate, frames, size):
+    """What the command says of the frames' blocks, in the words of the hosts."""
     want = ''
     for frame in frames_of(frames.read_bytes()):
-        status, out = bpf('run-checked', image, certificate, frame.hex())
-        want += 'accept\n' if status == 0 and out != 'done 0\n' else 'drop\n'
-    assert want.split() == ['accept', 'drop', 'drop', 'drop', 'accept', 'drop', 'drop', 'accept'], want
+        status, out = bpf('run-checked', *big(order), image, certificate, block_of(frame, order, size).hex())
+        assert status == 0, out
+        want += 'drop\n' if out == 'done 0\n' else 'accept\n'
+    return want
+
+
+def filters():
+    frames, port, certificate = FOLDER / 'frames.pcap', EXAMPLES / 'c/port.img', EXAMPLES / 'c/port.cert'
+    subprocess.run([FOLDER / 'filter_c', '--make', frames], check=True)
+    want = answers('little', port, certificate, frames, 128)
+    assert want.split() == ['accept', 'drop', 'drop', 'drop', 'accept', 'drop', 'accept', 'accept'], want
+    # Frames of 64 bytes, in both orders, and in a block that most don't fit.
+    length = assembled('length', 'r2 = *(u64 *)(r1 + 0)\nr0 = 0\nif r2 != 64 goto +1\nr0 = 1\nexit\n')
+    for order in ['little', 'big']:
+        assert bpf('infer', *big(order), length[order], 40, FOLDER / f'length.{order}.cert')[0] == 0
+    slow = assembled('slow', 'r6 = 1000000\nr6 += -1\nif r6 != 0 goto -2\nr0 = 0\nexit\n')['little']
+    assert bpf('infer', slow, 128, FOLDER / 'slow.cert')[0] == 0
     for name in ['filter_c', 'filter_rs']:
-        done = subprocess.run([FOLDER / name, image, certificate, frames, '1000'], capture_output=True, text=True, timeout=60)
-        assert done.returncode == 0 and done.stdout == want, (name, done)
-        assert done.stderr.startswith('3000 of 8000 frames accepted'), (name, done.stderr)
-        refused = subprocess.run([FOLDER / name, image, EXAMPLES / 'countdown.cert', frames], capture_output=True, text=True, timeout=60)
-        assert refused.returncode == 1 and 'refused by C8 at slot 0: a state' in refused.stderr, (name, refused)
+        def filtered(*words):
+            done = subprocess.run([FOLDER / name, *words], capture_output=True, text=True, timeout=60)
+            return done.returncode, done.stdout, done.stderr
+        status, out, error = filtered(port, certificate, frames, '1000')
+        assert (status, out) == (0, want) and error.startswith('4000 of 8000 frames accepted'), (name, out, error)
+        for order in ['little', 'big']:
+            proof = FOLDER / f'length.{order}.cert'
+            status, out, error = filtered(*big(order), length[order], proof, frames)
+            assert (status, out) == (0, answers(order, length[order], proof, frames, 40)) and out.count('accept') == 1, (name, order, out, error)
+        for image, proof, words in [(port, EXAMPLES / 'countdown.cert', 'refused by C8 at slot 0: a state'),
+                                    (slow, FOLDER / 'slow.cert', 'a run may take 2000003 instructions, and this host pays for 1000000 at most'),
+                                    (EXAMPLES / 'countdown.img', EXAMPLES / 'countdown.cert', 'a context of 0 bytes has no room')]:
+            status, out, error = filtered(image, proof, frames)
+            assert status == 1 and out == '' and words in error, (name, out, error)
 
 
 table = Table()

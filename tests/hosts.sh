@@ -7,9 +7,15 @@ root=$(cd "$(dirname "${BASH_SOURCE[0]}")/.." && pwd)
 dir=$(mktemp -d)
 trap 'rm -rf "$dir"' EXIT
 "$root/install" "$dir" >/dev/null
-build=("${CC:-cc}" -std=gnu11 -g -O1 -Wall -Wextra -Wpedantic -Werror -fsanitize=address,undefined -fno-sanitize-recover=all -I"$dir/include")
-"${build[@]}" "$root/tests/hosts.c" -o "$dir/hosts" -Wl,--wrap=malloc,--wrap=realloc -L"$dir/lib" -lbpf_host -lpthread
-"${build[@]}" "$root/examples/hosts/filter.c" -o "$dir/filter_c" -L"$dir/lib" -lbpf_host
+# What an installed host is built with.
+if command -v pkg-config >/dev/null; then
+    flags=$(PKG_CONFIG_PATH="$dir/lib/pkgconfig" pkg-config --cflags --libs bpf_host)
+else
+    flags="-I$dir/include -L$dir/lib -lbpf_host"
+fi
+build=("${CC:-cc}" -g -O1 -Wall -Wextra -Wpedantic -Werror -fsanitize=address,undefined -fno-sanitize-recover=all)
+"${build[@]}" -std=gnu11 "$root/tests/hosts.c" -o "$dir/hosts" -Wl,--wrap=malloc,--wrap=realloc $flags -lpthread
+"${build[@]}" -std=c11 "$root/examples/hosts/filter.c" -o "$dir/filter_c" $flags
 "${CXX:-c++}" -x c++ -std=c++11 -Wall -Wextra -Werror -fsyntax-only "$dir/include/bpf.h"
 rustc --edition 2024 -O -D warnings -L "$dir/lib" "$root/examples/hosts/filter.rs" -o "$dir/filter_rs"
 python3 "$root/tests/hosts.py" "$dir/bin/bpf" "$root/examples" "$dir"

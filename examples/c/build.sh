@@ -32,8 +32,8 @@ command -v "$compiler" >/dev/null || fail "no $compiler is there; BPF_CC names a
 flags=(-O2 -Wall -g -mcpu=v3 -fno-jump-tables)
 if "$compiler" --version | grep -q clang; then
     [ "$order" = little ] && target=bpfel || target=bpfeb
-    # Without the reduction of strength an index stays an index, and no pointer walks.
-    flags+=(-target "$target" -mllvm -disable-lsr)
+    # Without the reduction of strength an index stays an index, and no pointer walks. Without idioms no loop becomes a table or a call.
+    flags+=(-target "$target" -mllvm -disable-lsr -mllvm -disable-loop-idiom-all)
     tool() { "$compiler" -print-prog-name="llvm-$1"; }
 else
     # Functions stay in the order in which they are written, and a switch becomes no table.

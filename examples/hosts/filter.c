@@ -4,9 +4,13 @@
  *   filter --make FRAMES
  *
  * The certificate is checked once; from then on the filter runs without a test that could fail. For each frame a line comes,
- * accept or drop, and at the end on standard error how many frames there were a second, in ROUNDS rounds, 1 if not said. A
- * frame that is shorter than what the certificate speaks of is dropped unread, a longer one is cut. `--make` writes a pcap
- * file of eight frames to try it on.
+ * accept or drop, and at the end on standard error how many frames there were a second, in ROUNDS rounds, 1 if not said.
+ *
+ * A filter gets each frame in a block, the context of examples/c/filter.h and of `bpf harden --padded`: the frame's length as a number of
+ * eight bytes in the image's order, then the frame, then zeros, in as many bytes as the certificate speaks of at most. Of a frame that
+ * doesn't fit, the block has the beginning, and its length is the whole one.
+ *
+ * `--make` writes a pcap file of eight frames to try it on.
  */
 #include <bpf.h>
 #include <errno.h>
@@ -20,11 +24,19 @@ struct bytes {
     size_t len;
 };
 
-/* A filter that was judged: what is promised of it, and its program, ready to run. */
+/* A run of so many instructions takes a few milliseconds: what this host pays for a frame at most. */
+enum { GREATEST_BOUND = 1000000 };
+
+/* The bytes in front of a block that hold the frame's length. */
+enum { LENGTH_BYTES = 8 };
+
+/* A filter that was judged: what is promised of it, its program, ready to run, and the block that it gets its frames in. */
 struct filter {
     struct bpf_verdict verdict;
+    uint32_t order;
     uint64_t *words;
     size_t words_len;
+    uint8_t block[4096];
 };
 
 static void fail(const char *what, const char *name) {
@@ -60,30 +72,53 @@ static void say_refusal(const struct bpf_refusal *why) {
             why->kind == BPF_CERTIFICATE ? "line" : "slot", (unsigned long long)why->place, text);
 }
 
-/* Judges the image, and prepares its program. */
-static struct filter load(const struct bytes *image, const struct bytes *certificate, uint32_t order) {
-    struct filter filter;
-    struct bpf_refusal why;
-    switch (bpf_verify(image->at, image->len, order, certificate->at, certificate->len, &filter.verdict, &why)) {
-    case BPF_YES: break;
-    case BPF_NO: say_refusal(&why); exit(1);
-    default: fprintf(stderr, "filter: no memory\n"); exit(3);
+/* Whether this host takes what was promised: a run isn't too long, and a block has room for a length. */
+static void take(const struct bpf_verdict *verdict) {
+    if (verdict->bound > GREATEST_BOUND) {
+        fprintf(stderr, "filter: a run may take %u instructions, and this host pays for %d at most\n", (unsigned)verdict->bound, GREATEST_BOUND);
+        exit(1);
     }
-    filter.words_len = bpf_prepared_size(image->len);
-    filter.words = calloc(filter.words_len, sizeof *filter.words);
-    if (!filter.words || bpf_prepare(image->at, image->len, order, filter.words, filter.words_len) != BPF_YES) {
-        fprintf(stderr, "filter: no memory\n");
-        exit(3);
+    if (verdict->most < LENGTH_BYTES) {
+        fprintf(stderr, "filter: a context of %u bytes has no room for the frame's length, %d bytes\n", (unsigned)verdict->most, LENGTH_BYTES);
+        exit(1);
     }
-    return filter;
 }
 
-/* What the filter says of a frame: other than 0 accepts it. The duty of bpf_run_checked is kept here. */
-static int accepts(const struct filter *filter, const uint8_t *frame, size_t len) {
+/* Judges the image, and prepares its program. */
+static void load(struct filter *filter, const struct bytes *image, const struct bytes *certificate, uint32_t order) {
+    struct bpf_refusal why;
+    switch (bpf_verify(image->at, image->len, order, certificate->at, certificate->len, &filter->verdict, &why)) {
+    case BPF_YES: take(&filter->verdict); break;
+    case BPF_NO: say_refusal(&why); exit(1);
+    case BPF_NO_MEMORY: fprintf(stderr, "filter: no memory\n"); exit(3);
+    default: fprintf(stderr, "filter: a bad call of bpf_verify\n"); exit(3);
+    }
+    filter->order = order;
+    filter->words_len = bpf_prepared_size(image->len);
+    filter->words = calloc(filter->words_len, sizeof *filter->words);
+    if (!filter->words) fail("no memory for", "the program");
+    if (bpf_prepare(image->at, image->len, order, filter->words, filter->words_len) != BPF_YES) {
+        fprintf(stderr, "filter: a bad call of bpf_prepare\n");
+        exit(3);
+    }
+}
+
+/* Puts a frame into the filter's block, and tells the block's length. */
+static size_t fill(struct filter *filter, const uint8_t *frame, size_t len) {
+    size_t most = filter->verdict.most, room = most - LENGTH_BYTES, taken = len < room ? len : room, i;
+    for (i = 0; i < LENGTH_BYTES; i++) {
+        size_t from_end = filter->order == BPF_BIG ? LENGTH_BYTES - 1 - i : i;
+        filter->block[i] = (uint8_t)((uint64_t)len >> 8 * from_end);
+    }
+    memcpy(filter->block + LENGTH_BYTES, frame, taken);
+    memset(filter->block + LENGTH_BYTES + taken, 0, room - taken);
+    return most;
+}
+
+/* What the filter says of a frame: other than 0 accepts it. The duties of bpf_run_checked are kept here. */
+static int accepts(struct filter *filter, const uint8_t *frame, size_t len) {
     uint64_t result = 0;
-    if (len < filter->verdict.least) return 0;
-    if (len > filter->verdict.most) len = filter->verdict.most;
-    bpf_run_checked(filter->words, filter->words_len, frame, len, &result);
+    bpf_run_checked(filter->words, filter->words_len, filter->block, fill(filter, frame, len), &result);
     return result != 0;
 }
 
@@ -130,12 +165,13 @@ static void put_number(FILE *file, uint32_t number) {
     for (i = 0; i < 4; i++) fputc((int)(number >> 8 * i & 255), file);
 }
 
-static void put_frame(FILE *file, uint32_t type, uint32_t protocol, uint32_t port, uint32_t len) {
-    uint8_t frame[64] = {0};
+/* A frame of IPv4, or of another type, to a port behind a header of so many words. */
+static void put_frame(FILE *file, uint32_t type, uint32_t words, uint32_t protocol, uint32_t port, uint32_t len) {
+    uint8_t frame[1514] = {0};
     frame[12] = (uint8_t)(type >> 8), frame[13] = (uint8_t)type;
-    frame[14] = 0x45;
+    frame[14] = (uint8_t)(0x40 | words);
     frame[23] = (uint8_t)protocol;
-    frame[36] = (uint8_t)(port >> 8), frame[37] = (uint8_t)port;
+    frame[14 + 4 * words + 2] = (uint8_t)(port >> 8), frame[14 + 4 * words + 3] = (uint8_t)port;
     put_number(file, 0), put_number(file, 0), put_number(file, len), put_number(file, len);
     fwrite(frame, 1, len, file);
 }
@@ -145,14 +181,14 @@ static int make(const char *name) {
     if (!file) fail("cannot write", name);
     put_number(file, 0xa1b2c3d4), put_number(file, 4 << 16 | 2), put_number(file, 0), put_number(file, 0);
     put_number(file, 65535), put_number(file, 1);
-    put_frame(file, 0x0800, 6, 80, 60);   /* TCP to 80 */
-    put_frame(file, 0x0800, 6, 443, 60);  /* TCP to another port */
-    put_frame(file, 0x0800, 17, 80, 60);  /* UDP */
-    put_frame(file, 0x86dd, 6, 80, 60);   /* IPv6 */
-    put_frame(file, 0x0800, 6, 80, 38);   /* as short as can be */
-    put_frame(file, 0x0800, 6, 80, 37);   /* shorter */
-    put_frame(file, 0x0806, 0, 0, 42);    /* ARP */
-    put_frame(file, 0x0800, 6, 80, 64);   /* TCP to 80 */
+    put_frame(file, 0x0800, 5, 6, 443, 60);   /* TCP to 443 */
+    put_frame(file, 0x0800, 5, 6, 80, 60);    /* TCP to another port */
+    put_frame(file, 0x0800, 5, 17, 443, 60);  /* UDP */
+    put_frame(file, 0x86dd, 5, 6, 443, 60);   /* IPv6 */
+    put_frame(file, 0x0800, 5, 6, 443, 38);   /* as short as can be */
+    put_frame(file, 0x0800, 5, 6, 443, 37);   /* shorter */
+    put_frame(file, 0x0800, 6, 6, 443, 64);   /* TCP to 443, behind an option */
+    put_frame(file, 0x0800, 5, 6, 443, 1514); /* longer than a block */
     if (fclose(file)) fail("cannot write", name);
     return 0;
 }
@@ -161,19 +197,19 @@ static int make(const char *name) {
 
 static double now(void) {
     struct timespec t;
-    clock_gettime(CLOCK_MONOTONIC, &t);
+    timespec_get(&t, TIME_UTC);
     return (double)t.tv_sec + 1e-9 * (double)t.tv_nsec;
 }
 
 /* Tells the answer on each frame. */
-static void tell(const struct filter *filter, struct walk walk) {
+static void tell(struct filter *filter, struct walk walk) {
     const uint8_t *frame;
     size_t len;
     while (next_frame(&walk, &frame, &len)) puts(accepts(filter, frame, len) ? "accept" : "drop");
 }
 
 /* One round over the frames: how many there are, and how many more are accepted. */
-static size_t round_over(const struct filter *filter, struct walk walk, size_t *accepted) {
+static size_t round_over(struct filter *filter, struct walk walk, size_t *accepted) {
     const uint8_t *frame;
     size_t len, count = 0;
     while (next_frame(&walk, &frame, &len)) {
@@ -196,7 +232,8 @@ int main(int argc, char **argv) {
     if (words < 3 || words > 4) return usage();
 
     struct bytes image = read_file(word[0]), certificate = read_file(word[1]), frames = read_file(word[2]);
-    struct filter filter = load(&image, &certificate, big ? BPF_BIG : BPF_LITTLE);
+    struct filter filter;
+    load(&filter, &image, &certificate, big ? BPF_BIG : BPF_LITTLE);
     long rounds = words == 4 ? atol(word[3]) : 1, i;
     struct walk walk = first_frame(&frames, word[2]);
     size_t count = 0, accepted = 0;

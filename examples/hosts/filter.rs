@@ -2,6 +2,10 @@
 //!
 //!     filter [--big] IMAGE CERTIFICATE FRAMES [ROUNDS]
 //!
+//! A filter gets each frame in a block, the context of examples/c/filter.h and of `bpf harden --padded`: the frame's length as a
+//! number of eight bytes in the image's order, then the frame, then zeros, in as many bytes as the certificate speaks of at most.
+//! Of a frame that doesn't fit, the block has the beginning, and its length is the whole one.
+//!
 //! The module `bpf` has the library's calls as safe functions: what a call asks of its caller is kept by types.
 
 use std::io::{self, Write};
@@ -80,6 +84,8 @@ mod bpf {
     /// Why a filter isn't loaded.
     pub enum LoadError {
         Refused(Refusal),
+        /// A run may take so many instructions, which is above what the host pays for.
+        TooLong(u32),
         NoMemory,
     }
 
@@ -90,8 +96,13 @@ mod bpf {
     }
 
     impl Filter {
-        /// Judges an image by a certificate, and prepares its program.
-        pub fn load(image: &[u8], certificate: &[u8], order: Order) -> Result<Filter, LoadError> {
+        /// Judges an image by a certificate, and prepares its program, if no run takes more than `greatest` instructions.
+        pub fn load(
+            image: &[u8],
+            certificate: &[u8],
+            order: Order,
+            greatest: u32,
+        ) -> Result<Filter, LoadError> {
             let (mut verdict, mut refusal) = (Verdict::default(), Refusal::default());
             // SAFETY: the pointers and lengths are those of slices.
             let answer = unsafe {
@@ -106,6 +117,7 @@ mod bpf {
                 )
             };
             match answer {
+                1 if verdict.bound > greatest => Err(LoadError::TooLong(verdict.bound)),
                 1 => Filter::prepared(image, order, verdict).ok_or(LoadError::NoMemory),
                 0 => Err(LoadError::Refused(refusal)),
                 _ => Err(LoadError::NoMemory),
@@ -193,20 +205,56 @@ impl<'a> Iterator for Frames<'a> {
     }
 }
 
-/// Whether the filter accepts a frame. A short one is dropped unread, a long one is cut.
-fn accepts(filter: &bpf::Filter, frame: &[u8]) -> bool {
-    let most = filter.verdict().most as usize;
-    filter
-        .run(&frame[..frame.len().min(most)])
-        .is_some_and(|value| value != 0)
+/// A run of so many instructions takes a few milliseconds: what this host pays for a frame at most.
+const GREATEST_BOUND: u32 = 1_000_000;
+
+/// The bytes in front of a block that hold the frame's length.
+const LENGTH_BYTES: usize = 8;
+
+/// A filter, and the block that it gets its frames in.
+struct Gate {
+    filter: bpf::Filter,
+    order: bpf::Order,
+    block: Vec<u8>,
+}
+
+impl Gate {
+    /// None if a context has no room for a frame's length.
+    fn of(filter: bpf::Filter, order: bpf::Order) -> Option<Gate> {
+        let block = vec![0; filter.verdict().most as usize];
+        (block.len() >= LENGTH_BYTES).then_some(Gate {
+            filter,
+            order,
+            block,
+        })
+    }
+
+    /// Puts a frame into the block.
+    fn fill(&mut self, frame: &[u8]) {
+        let length = frame.len() as u64;
+        let (head, room) = self.block.split_at_mut(LENGTH_BYTES);
+        head.copy_from_slice(&match self.order {
+            bpf::Order::Little => length.to_le_bytes(),
+            bpf::Order::Big => length.to_be_bytes(),
+        });
+        let (taken, rest) = room.split_at_mut(frame.len().min(room.len()));
+        taken.copy_from_slice(&frame[..taken.len()]);
+        rest.fill(0);
+    }
+
+    /// Whether the filter accepts a frame.
+    fn accepts(&mut self, frame: &[u8]) -> bool {
+        self.fill(frame);
+        self.filter.run(&self.block).is_some_and(|value| value != 0)
+    }
 }
 
 /// Tells the answer on each frame, and then how many frames there were a second.
-fn filter_all(filter: &bpf::Filter, file: &[u8], rounds: usize) -> Result<(), String> {
+fn filter_all(gate: &mut Gate, file: &[u8], rounds: usize) -> Result<(), String> {
     let broken = "no pcap file";
     let mut out = io::BufWriter::new(io::stdout());
     for frame in Frames::of(file).ok_or(broken)? {
-        let line = if accepts(filter, frame) {
+        let line = if gate.accepts(frame) {
             "accept"
         } else {
             "drop"
@@ -219,7 +267,7 @@ fn filter_all(filter: &bpf::Filter, file: &[u8], rounds: usize) -> Result<(), St
     for _ in 0..rounds {
         for frame in Frames::of(file).ok_or(broken)? {
             count += 1;
-            accepted += usize::from(accepts(filter, frame));
+            accepted += usize::from(gate.accepts(frame));
         }
     }
     let rate = count as f64 / start.elapsed().as_secs_f64();
@@ -241,18 +289,31 @@ fn run(words: &[String]) -> Result<(), String> {
         .first()
         .map_or(Ok(1), |word| word.parse())
         .map_err(|_| "bad ROUNDS".to_owned())?;
-    match bpf::Filter::load(&read(image)?, &read(certificate)?, order) {
-        Ok(filter) => filter_all(&filter, &read(frames)?, rounds),
-        Err(bpf::LoadError::NoMemory) => Err("no memory".to_owned()),
-        Err(bpf::LoadError::Refused(why)) => {
+    let filter = bpf::Filter::load(&read(image)?, &read(certificate)?, order, GREATEST_BOUND)
+        .map_err(words_of)?;
+    let most = filter.verdict().most;
+    let mut gate = Gate::of(filter, order).ok_or(format!(
+        "a context of {most} bytes has no room for the frame's length, {LENGTH_BYTES} bytes"
+    ))?;
+    filter_all(&mut gate, &read(frames)?, rounds)
+}
+
+/// Why a filter isn't loaded, in words.
+fn words_of(error: bpf::LoadError) -> String {
+    match error {
+        bpf::LoadError::NoMemory => "no memory".to_owned(),
+        bpf::LoadError::TooLong(bound) => format!(
+            "a run may take {bound} instructions, and this host pays for {GREATEST_BOUND} at most"
+        ),
+        bpf::LoadError::Refused(why) => {
             let kind = char::from_u32(why.kind).unwrap_or('?');
             let place = if kind == 'K' { "line" } else { "slot" };
-            Err(format!(
+            format!(
                 "refused by {kind}{} at {place} {}: {}",
                 why.number,
                 why.place,
                 why.text()
-            ))
+            )
         }
     }
 }
