@@ -64,7 +64,7 @@ pub fn read_image<R: Read>(alloc: Global, reader: &mut R) -> Result<Vec<u8>, Dec
 }
 
 /// The program whose image in a byte order a reader gives, in whatever pieces. It reads to the end or to 524,289 bytes,
-/// and answers as [`decode`] on those, or E10 at the first fault of the reader, with the slot in which that came.
+/// and answers as [`decode`] on those, or E10 where the reader fails, as [`read_image`] does.
 pub fn decode_from<R: Read + Drop>(
     alloc: Global,
     reader: R,

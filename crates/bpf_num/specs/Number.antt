@@ -70,7 +70,7 @@ bits_from_unsigned n =
     then Some (record n { bits = tristate (bit_or b.value (bit_and u.lo (complement differing))) (bit_and b.mask differing) })
     else None
 
--- the parts narrowed by each other: None if they contradict each other
+-- the parts narrowed by each other, step by step; None where a step finds two that contradict each other
 abbrev pub tighten : Number → Option Number
 tighten n =
     option_and_then signed_from_unsigned

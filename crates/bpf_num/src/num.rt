@@ -83,7 +83,7 @@ impl Num {
         self.signed.valid();
     }
 
-    /// The least parts that each have the members of both numbers.
+    /// Of each part the least one that has the members of both.
     pub fn join(self, other: Num) -> Self
         ensures exact { result ≡ join self other }
         ensures left { (x : ℕ) → Has self x → Has result x }
@@ -177,7 +177,7 @@ impl Num {
         }
     }
 
-    /// The parts narrowed by each other: None if there is no member.
+    /// The parts narrowed by each other. None only where there is no member.
     pub fn tighten(self) -> Option<Self>
         ensures exact { result ≡ tighten self }
         ensures keeps { (x : ℕ) → Has self x → Holds result x }

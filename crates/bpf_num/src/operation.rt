@@ -16,7 +16,7 @@ impl Num {
 
     /// An operation on 64 bits, or on the low 32 with zero above (RFC 9669, section 4.1): a set of its results on members.
     ///
-    /// None where that set would be empty; then an operand has no member.
+    /// None only where that set is empty: an operand has no member.
     pub fn alu(self, op: AluOp, width: Width, other: Num) -> Option<Num>
         ensures exact { result ≡ num_alu width op self other }
         ensures keeps { (x y : ℕ) → Has self x → Has other y → Holds result (alu width op x y) }

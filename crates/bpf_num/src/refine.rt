@@ -14,7 +14,7 @@ impl Num {
 
     /// The operands of a test of 64 bits or of the low 32, where it holds (`taken`) or where it fails (RFC 9669, section 4.3).
     ///
-    /// None where no members of the two are left.
+    /// None only where no members of the two are left.
     pub fn refine(cond: Cond, width: Width, taken: bool, a: Num, b: Num) -> Option<(Num, Num)>
         ensures exact { result ≡ refine cond width taken a b }
         ensures keeps { (x y : ℕ) → Has a x → Has b y → jumps width cond x y ≡ taken → HoldsBoth result x y }
