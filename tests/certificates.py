@@ -3,7 +3,7 @@
 generated:
 
 - texts about the limits of lines, functions and labels, a text cut at each byte, and long ones that are written again as they were;
-- the longest program, its work and its run, and a longer one; as many functions as a certificate may have, and one more;
+- the longest program, its work, its run, also on the plain machine of flat.py, and a longer one; as many functions as a certificate may have, and one more;
 - generated programs with jumps to and fro, and loops in one another: what is proposed is certified, a run ends within its bound,
   and the deep search is as good as the plain one.
 
@@ -15,6 +15,8 @@ import subprocess
 import sys
 import tempfile
 from concurrent.futures import ThreadPoolExecutor
+
+import flat
 
 BPF = os.path.abspath(sys.argv[1])
 SECONDS = 60
@@ -140,6 +142,9 @@ def hold_longest():
     folder.says("its work", ["check", "--work", "long.img", "long.cert"], yes + "transfers 65536 comparisons 2\n")
     folder.says("its run", ["run", "long.img", "none", "--steps", "65536"], "done 0 steps 65536\n")
     folder.says("its checked run", ["run-checked", "long.img", "long.cert", "none"], "done 0\n")
+    for placement in flat.PLACEMENTS:
+        if (found := flat.run(MOVE * 65535 + EXIT, False, b"", placement, 65536)) != 0:
+            wrong(f"its run on the plain machine with {placement}", found, 0)
     folder.says("a longer program", ["check", "longer.img", "long.cert"], "no E1 at slot 0\n")
     return folder.commands
 

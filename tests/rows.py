@@ -23,7 +23,8 @@ gives it a file as standard input, and `=> N` behind all is its status, which el
 where `<=N` stands for a number up to N and a line `...` for any lines. `+++ NAME` or `+++ NAME hex` is a file as the commands so far
 must have left it, and `+++ NAME none` one that isn't there.
 
-What is checked is checked again with its certificate as version 2, and a checked run that ends, with a bound of up to
+What is checked is checked again with its certificate as version 2, and judged again as a program where the command took a view of
+the image: `list` refuses what `groups` does, and `run-checked` what `check` does. A checked run that ends, with a bound of up to
 LONGEST, is made on the plain machine of flat.py too, wherever all lies and whatever is free there."""
 
 import os
@@ -147,6 +148,20 @@ def migrated(bpf, room, words, said):
     return "" if again == said else f"of the certificate as version 2 it said:\n{again}"
 
 
+def judged_as_program(bpf, room, words, said):
+    """What is said otherwise of the program than of the view of its image: by `list` behind `groups`, by `run-checked` behind `check`."""
+    if "-" in words:
+        return ""
+    promise = re.match(r"yes length (\d+)(?:\.\.\d+)? bound (\d+)", said)
+    if promise and int(promise[2]) > LONGEST:
+        return ""
+    length = int(promise[1]) if promise else 0
+    behind = {"groups": ["list", *words[1:]], "check": ["run-checked", *(it for it in words[1:] if it != "--work"), "00" * length or "none"]}
+    again = call(bpf, room, behind[words[0]])[1]
+    agreed = again == said if said.startswith("no ") else not again.startswith("no ")
+    return "" if agreed else f"of the program it said:\n{again}"
+
+
 def is_wanted(said, wanted):
     """Whether it is what was wanted, with numbers up to those behind `<=`, and any lines where one is `...`."""
     form = re.sub(r"<=\d+", r"(\\d+)", re.escape(wanted))
@@ -154,6 +169,9 @@ def is_wanted(said, wanted):
     found = re.fullmatch(form, said)
     limits = re.findall(r"<=(\d+)", wanted)
     return bool(found) and all(int(it) <= int(most) for it, most in zip(found.groups(), limits))
+
+
+AGAIN = {"check": [migrated, judged_as_program], "groups": [judged_as_program], "run-checked": [plain_runs]}
 
 
 def failure_at(bpf, room, files, step):
@@ -171,8 +189,8 @@ def failure_at(bpf, room, files, step):
     ended, said = call(bpf, room, words, files[given] if given else b"")
     if ended != status or not is_wanted(said, wanted):
         failed = failed or f"status {ended}, and it said:\n{said}in place of status {status} and:\n{wanted}"
-    if not failed and words[0] in ("check", "run-checked"):
-        failed = (migrated if words[0] == "check" else plain_runs)(bpf, room, words, said)
+    for more in AGAIN.get(words[0], []) if not failed else []:
+        failed = failed or more(bpf, room, words, said)
     return failed and f"$ bpf {' '.join(words)}\n{failed}"
 
 
