@@ -1,7 +1,7 @@
 #!/usr/bin/env bash
 # hosts.sh: installs into a folder of its own, builds hosts against what stands there, the C ones with the sanitizers of cc, and holds
 # their answers to the command's: a table with every kind of refusal, calls that no caller should make, memory
-# that is refused, two threads, and a million runs.
+# that is refused, two threads, and a million runs. Then the commands that the documents show are run with what was installed.
 set -eu
 root=$(cd "$(dirname "${BASH_SOURCE[0]}")/.." && pwd)
 dir=$(mktemp -d)
@@ -19,3 +19,5 @@ build=("${CC:-cc}" -g -O1 -Wall -Wextra -Wpedantic -Werror -fsanitize=address,un
 "${CXX:-c++}" -x c++ -std=c++11 -Wall -Wextra -Werror -fsyntax-only "$dir/include/bpf.h"
 rustc --edition 2024 -O -D warnings -L "$dir/lib" "$root/examples/hosts/filter.rs" -o "$dir/filter_rs"
 python3 "$root/tests/hosts.py" "$dir/bin/bpf" "$root/examples" "$dir"
+cp "$dir/filter_c" "$dir/filter"
+"$root/tests/documents.py" "$dir"
