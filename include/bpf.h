@@ -1,6 +1,6 @@
 /* bpf.h: the proved checker, machine and inferrer of eBPF (RFC 9669, integer profile), for C and C++.
  *
- * Link libbpf_host.a. docs/HOSTS.md has each call's duty, answers, memory and threads.
+ * Link libbpf_host.a. docs/HOSTS.md has each call's duty, answers, memory and threads. It wants C99 or C++11.
  *
  * The functions of this header look at what can be wrong with pointers and lengths, and hand the rest to the library, whose
  * own functions (bpf_host_..) take no pointer that is null. None keeps what it was given, or changes anything but what the

@@ -6,9 +6,9 @@
  * The certificate is checked once; from then on the filter runs without a test that could fail. For each frame a line comes,
  * accept or drop, and at the end on standard error how many frames there were a second, in ROUNDS rounds, 1 if not said.
  *
- * A filter gets each frame in a block, the context of examples/c/filter.h and of `bpf harden --padded`: the frame's length as a number of
- * eight bytes in the image's order, then the frame, then zeros, in as many bytes as the certificate speaks of at most. Of a frame that
- * doesn't fit, the block has the beginning, and its length is the whole one.
+ * A filter gets each frame in a block, the context of examples/c/filter.h: the frame's length as a number of eight bytes in the image's
+ * order, then the frame, then zeros, in as many bytes as the certificate speaks of at most. Of a frame that doesn't fit, the block has the
+ * beginning, and its length is the whole one.
  *
  * `--make` writes a pcap file of eight frames to try it on.
  */

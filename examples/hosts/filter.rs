@@ -2,9 +2,9 @@
 //!
 //!     filter [--big] IMAGE CERTIFICATE FRAMES [ROUNDS]
 //!
-//! A filter gets each frame in a block, the context of examples/c/filter.h and of `bpf harden --padded`: the frame's length as a
-//! number of eight bytes in the image's order, then the frame, then zeros, in as many bytes as the certificate speaks of at most.
-//! Of a frame that doesn't fit, the block has the beginning, and its length is the whole one.
+//! A filter gets each frame in a block, the context of examples/c/filter.h: the frame's length as a number of eight bytes in the
+//! image's order, then the frame, then zeros, in as many bytes as the certificate speaks of at most. Of a frame that doesn't fit,
+//! the block has the beginning, and its length is the whole one.
 //!
 //! The module `bpf` has the library's calls as safe functions: what a call asks of its caller is kept by types.
 
