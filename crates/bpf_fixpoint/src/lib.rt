@@ -15,4 +15,4 @@ mod task;
 mod thresholds;
 mod tolerant;
 
-pub use states::draft;
+pub use states::{Survey, draft, surveyed};

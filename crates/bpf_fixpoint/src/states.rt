@@ -1,5 +1,7 @@
 //! The states of labels: loops from the inside out, labels for dead code, and returned numbers.
 
+mod surveys;
+
 ghost use Rattle.std.specs.Prelude.{◌≤◌};
 
 use crate::dead::{Seeds, add_seeds};
@@ -18,6 +20,7 @@ use bpf_outline::{Depths, Outline, Quest, Watch, depths_of, get_or, put, vacant}
 use bpf_proposal::InferError;
 use bpf_state::{Entries, State};
 use std::alloc::{AllocError, Global};
+pub use surveys::{Survey, surveyed};
 
 /// The most times that labels are added for dead code of a function, or their states are changed.
 const DEAD_ROUNDS: u32 = 24;
