@@ -1,0 +1,156 @@
+//! Why a program isn't hardened.
+
+ghost use Rattle.std.specs.Prelude.{◌≡◌, ◌<◌};
+ghost use Rattle.bpf_harden_notes.specs.RefusalNumbers.{harden_number, harden_slot, within};
+
+use bpf_proposal::Condition;
+use std::alloc::{AllocError, AllocFailed};
+use thiserror::Error;
+
+/// Why a program isn't hardened, with a slot of it.
+#[derive(Clone, Copy, Debug, PartialEq, Eq, Error)]
+pub enum HardenError {
+    /// H1: the access at the slot goes by a pointer into a caller's frame.
+    #[error("access at slot {slot} by an argument that may be a frame pointer")]
+    FramePointer { slot: u32 },
+    /// H2: the access at the slot goes by what is a pointer on one way and a number, another pointer or nothing on another.
+    #[error("access at slot {slot} by what isn't always the same kind of pointer")]
+    MixedKinds { slot: u32 },
+    /// H3: neither a register nor the frame of the function at the slot has room for what hardening has to keep.
+    #[error("no room in the registers and the frame of the function at slot {slot}")]
+    FullFrame { slot: u32 },
+    /// H4: the program would have more than 65,536 slots; the slot is its last one.
+    #[error("the hardened program would have more than 65,536 slots")]
+    TooLong { slot: u32 },
+    /// H5: the call at the slot is part of a recursion.
+    #[error("recursion by the call at slot {slot}")]
+    Recursion { slot: u32 },
+    /// H6: the function at the slot reads all five arguments, so the context can't be handed to it.
+    #[error("no argument left for the context in the function at slot {slot}")]
+    FiveArguments { slot: u32 },
+    /// H7: the checker would refuse the instruction at the slot, and no change makes it take it.
+    #[error("instruction at slot {slot} can't be hardened: {condition}")]
+    Fault { slot: u32, condition: Condition },
+    /// H8: the budget of the loop at the slot is over a limit, or of the whole program where it is slot 0.
+    #[error("no budget for the label at slot {slot}")]
+    NoBudget { slot: u32 },
+    /// H9: the jump at the slot would lead further than 32,767 slots.
+    #[error("the jump at slot {slot} would lead too far")]
+    FarJump { slot: u32 },
+    /// H10: no states are found for the function at the slot.
+    #[error("states of the function at slot {slot} aren't stable")]
+    Unstable { slot: u32 },
+    /// H11: a block has less than eight bytes.
+    #[error("a block has at least the eight bytes of its length")]
+    ShortBlock,
+    /// H12: memory ran out.
+    #[error("out of memory")]
+    Memory,
+}
+
+impl HardenError {
+    /// The number of the refusal, from 1 to 12.
+    pub fn number(&self) -> u8
+        ensures { result ≡ harden_number self.now }
+    {
+        match self {
+            HardenError::FramePointer { .. } => 1,
+            HardenError::MixedKinds { .. } => 2,
+            HardenError::FullFrame { .. } => 3,
+            HardenError::TooLong { .. } => 4,
+            HardenError::Recursion { .. } => 5,
+            HardenError::FiveArguments { .. } => 6,
+            HardenError::Fault { .. } => 7,
+            HardenError::NoBudget { .. } => 8,
+            HardenError::FarJump { .. } => 9,
+            HardenError::Unstable { .. } => 10,
+            HardenError::ShortBlock => 11,
+            HardenError::Memory => 12,
+        }
+    }
+
+    /// The slot that is named, 0 where none is.
+    pub fn slot(&self) -> u32
+        ensures { result ≡ harden_slot self.now }
+    {
+        match *self {
+            HardenError::FramePointer { slot }
+            | HardenError::MixedKinds { slot }
+            | HardenError::FullFrame { slot }
+            | HardenError::TooLong { slot }
+            | HardenError::Recursion { slot }
+            | HardenError::FiveArguments { slot }
+            | HardenError::Fault { slot, .. }
+            | HardenError::NoBudget { slot }
+            | HardenError::FarJump { slot }
+            | HardenError::Unstable { slot } => slot,
+            HardenError::ShortBlock | HardenError::Memory => 0,
+        }
+    }
+
+    /// The same refusal with a slot of a program of so many slots, its last one in the place of one behind it.
+    pub fn within(self, slots: u32) -> HardenError
+        requires { 0 < slots }
+        ensures same { result ≡ within slots self }
+        ensures inside { harden_slot result < slots }
+    {
+        let last = slots - 1;
+        match self {
+            HardenError::FramePointer { slot } => HardenError::FramePointer {
+                slot: slot.min(last),
+            },
+            HardenError::MixedKinds { slot } => HardenError::MixedKinds {
+                slot: slot.min(last),
+            },
+            HardenError::FullFrame { slot } => HardenError::FullFrame {
+                slot: slot.min(last),
+            },
+            HardenError::TooLong { slot } => HardenError::TooLong {
+                slot: slot.min(last),
+            },
+            HardenError::Recursion { slot } => HardenError::Recursion {
+                slot: slot.min(last),
+            },
+            HardenError::FiveArguments { slot } => HardenError::FiveArguments {
+                slot: slot.min(last),
+            },
+            HardenError::Fault { slot, condition } => HardenError::Fault {
+                slot: slot.min(last),
+                condition,
+            },
+            HardenError::NoBudget { slot } => HardenError::NoBudget {
+                slot: slot.min(last),
+            },
+            HardenError::FarJump { slot } => HardenError::FarJump {
+                slot: slot.min(last),
+            },
+            HardenError::Unstable { slot } => HardenError::Unstable {
+                slot: slot.min(last),
+            },
+            HardenError::ShortBlock => HardenError::ShortBlock,
+            HardenError::Memory => HardenError::Memory,
+        }
+    }
+}
+
+impl From<AllocError> for HardenError {
+    ghost use Rattle.std.specs.Prelude.{◌≡◌};
+    ghost use Rattle.bpf_harden_notes.specs.declared.error.HardenError.TheVariants.{Memory};
+
+    ghost from_gives = { λ _ e. e ≡ Memory };
+
+    fn from(_error: AllocError) -> HardenError {
+        HardenError::Memory
+    }
+}
+
+impl<T: Drop> From<AllocFailed<T>> for HardenError {
+    ghost use Rattle.std.specs.Prelude.{◌≡◌};
+    ghost use Rattle.bpf_harden_notes.specs.declared.error.HardenError.TheVariants.{Memory};
+
+    ghost from_gives = { λ _ e. e ≡ Memory };
+
+    fn from(_error: AllocFailed<T>) -> HardenError {
+        HardenError::Memory
+    }
+}

@@ -1,0 +1,17 @@
+//! Hardened programs.
+
+use crate::notes::{FunctionNote, Note};
+use bpf_insn::Program;
+
+/// A hardened program, and what was done.
+#[derive(Drop)]
+pub struct Hardened {
+    pub program: Program,
+    /// By slots of the old program, where its instruction is in the new one, with what was put in front of it. None where it
+    /// was left out, and at second slots.
+    pub slots: Vec<Option<u32>>,
+    /// By the functions' first slots.
+    pub functions: Vec<FunctionNote>,
+    /// By their slots in the new program. None where the program came out unchanged.
+    pub notes: Vec<Note>,
+}
