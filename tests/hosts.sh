@@ -1,7 +1,8 @@
 #!/usr/bin/env bash
 # hosts.sh: installs into a folder of its own, builds hosts against what stands there, the C ones with the sanitizers of cc, and holds
 # their answers to the command's: a table with every kind of refusal, calls that no caller should make, memory
-# that is refused, two threads, and a million runs. Then the commands that the documents show are run with what was installed.
+# that is refused, two threads, and a million runs. So are the wrappers for C++ and, where cargo is there, for Rust; threads have the stacks that
+# docs/HOSTS.md says are enough. Then the commands that the documents show are run with what was installed.
 set -eu
 root=$(cd "$(dirname "${BASH_SOURCE[0]}")/.." && pwd)
 dir=$(mktemp -d)
@@ -17,6 +18,21 @@ build=("${CC:-cc}" -g -O1 -Wall -Wextra -Wpedantic -Werror -fsanitize=address,un
 "${build[@]}" -std=gnu11 "$root/tests/hosts.c" -o "$dir/hosts" -Wl,--wrap=malloc,--wrap=realloc $flags -lpthread
 "${build[@]}" -std=c11 "$root/examples/hosts/filter.c" -o "$dir/filter_c" $flags
 "${CXX:-c++}" -x c++ -std=c++11 -Wall -Wextra -Werror -fsyntax-only "$dir/include/bpf.h"
+"${CXX:-c++}" -std=c++11 -g -O1 -Wall -Wextra -Wpedantic -Werror -fsanitize=address,undefined "$root/tests/wrapper.cc" -o "$dir/wrapper" $flags
+"$dir/wrapper" "$root/examples/c/port.img" "$root/examples/c/port.cert"
+# Stacks are those of a host without sanitizers.
+"${CC:-cc}" -std=gnu11 -O2 -Wall -Wextra -Wpedantic -Werror "$root/tests/stack.c" -o "$dir/stack" $flags -lpthread
+pairs=()
+for image in "$root"/examples/c/*.img; do
+    pairs+=("$image" "${image%.img}.cert")
+done
+"$dir/stack" "${pairs[@]}"
+if command -v cargo >/dev/null; then
+    mkdir "$dir/crate"
+    cp -r "$root/examples" "$dir/crate"
+    (cd "$dir/crate/examples/hosts/bpf-host" && BPF_HOST_LIB=$dir/lib CARGO_TARGET_DIR=$dir/crate/target cargo test --offline --quiet >"$dir/cargo" 2>&1) ||
+        { cat "$dir/cargo" >&2; exit 1; }
+fi
 rustc --edition 2024 -O -D warnings -L "$dir/lib" "$root/examples/hosts/filter.rs" -o "$dir/filter_rs"
 python3 "$root/tests/hosts.py" "$dir/bin/bpf" "$root/examples" "$dir"
 cp "$dir/filter_c" "$dir/filter"

@@ -6,167 +6,16 @@
 //! image's order, then the frame, then zeros, in as many bytes as the certificate speaks of at most. Of a frame that doesn't fit,
 //! the block has the beginning, and its length is the whole one.
 //!
-//! The module `bpf` has the library's calls as safe functions: what a call asks of its caller is kept by types.
+//! The module `bpf` is the crate bpf-host, whose file may be taken as it is.
 
 use std::io::{self, Write};
 use std::process::ExitCode;
 use std::time::Instant;
 use std::{env, fs};
 
-mod bpf {
-    use std::ffi::c_void;
-
-    /// The byte order of an image and of the memory that it runs on.
-    #[derive(Clone, Copy)]
-    pub enum Order {
-        Little = 0,
-        Big = 1,
-    }
-
-    #[repr(C)]
-    #[derive(Clone, Copy, Default)]
-    pub struct Verdict {
-        pub least: u32,
-        pub most: u32,
-        pub bound: u32,
-    }
-
-    #[repr(C)]
-    #[derive(Clone, Copy, Default)]
-    pub struct Refusal {
-        pub kind: u32,
-        pub number: u32,
-        pub place: u64,
-        pub condition: u64,
-    }
-
-    #[link(name = "bpf_host", kind = "static")]
-    unsafe extern "C" {
-        fn bpf_host_verify(
-            image: *const u8,
-            image_len: usize,
-            order: u32,
-            certificate: *const u8,
-            certificate_len: usize,
-            verdict: &mut Verdict,
-            refusal: &mut Refusal,
-        ) -> i32;
-        fn bpf_host_prepared_size(image_len: usize) -> usize;
-        fn bpf_host_prepare(
-            image: *const u8,
-            image_len: usize,
-            order: u32,
-            memory: *mut c_void,
-            memory_len: usize,
-        ) -> i32;
-        fn bpf_host_run_checked(
-            memory: *const c_void,
-            memory_len: usize,
-            context: *const u8,
-            context_len: usize,
-            value: &mut u64,
-        ) -> i32;
-        fn bpf_host_refusal_text(kind: u32, number: u32, text: *mut u8, text_len: usize) -> usize;
-    }
-
-    impl Refusal {
-        /// What the refusal says.
-        pub fn text(&self) -> String {
-            let mut text = [0; 128];
-            // SAFETY: the pointer and the length are the array's.
-            let len = unsafe {
-                bpf_host_refusal_text(self.kind, self.number, text.as_mut_ptr(), text.len())
-            };
-            String::from_utf8_lossy(&text[..len.min(text.len())]).into_owned()
-        }
-    }
-
-    /// Why a filter isn't loaded.
-    pub enum LoadError {
-        Refused(Refusal),
-        /// A run may take so many instructions, which is above what the host pays for.
-        TooLong(u32),
-        NoMemory,
-    }
-
-    /// A filter that was judged: what is promised of it, and its program, ready to run. Nothing changes its words.
-    pub struct Filter {
-        verdict: Verdict,
-        words: Vec<u64>,
-    }
-
-    impl Filter {
-        /// Judges an image by a certificate, and prepares its program, if no run takes more than `greatest` instructions.
-        pub fn load(
-            image: &[u8],
-            certificate: &[u8],
-            order: Order,
-            greatest: u32,
-        ) -> Result<Filter, LoadError> {
-            let (mut verdict, mut refusal) = (Verdict::default(), Refusal::default());
-            // SAFETY: the pointers and lengths are those of slices.
-            let answer = unsafe {
-                bpf_host_verify(
-                    image.as_ptr(),
-                    image.len(),
-                    order as u32,
-                    certificate.as_ptr(),
-                    certificate.len(),
-                    &mut verdict,
-                    &mut refusal,
-                )
-            };
-            match answer {
-                1 if verdict.bound > greatest => Err(LoadError::TooLong(verdict.bound)),
-                1 => Filter::prepared(image, order, verdict).ok_or(LoadError::NoMemory),
-                0 => Err(LoadError::Refused(refusal)),
-                _ => Err(LoadError::NoMemory),
-            }
-        }
-
-        fn prepared(image: &[u8], order: Order, verdict: Verdict) -> Option<Filter> {
-            // SAFETY: a number goes in and a number comes back.
-            let mut words = vec![0u64; unsafe { bpf_host_prepared_size(image.len()) }];
-            // SAFETY: the pointers and lengths are those of a slice and of a vector's words.
-            let answer = unsafe {
-                bpf_host_prepare(
-                    image.as_ptr(),
-                    image.len(),
-                    order as u32,
-                    words.as_mut_ptr().cast(),
-                    8 * words.len(),
-                )
-            };
-            (answer == 1).then_some(Filter { verdict, words })
-        }
-
-        /// What is promised of the filter.
-        pub fn verdict(&self) -> Verdict {
-            self.verdict
-        }
-
-        /// What the filter says of a context; None if its length isn't one of the verdict's.
-        pub fn run(&self, context: &[u8]) -> Option<u64> {
-            if !(self.verdict.least as usize..=self.verdict.most as usize).contains(&context.len())
-            {
-                return None;
-            }
-            let mut value = 0;
-            // SAFETY: the words are those that were prepared of the image that was judged, and the context's length is one
-            // of the verdict's.
-            let answer = unsafe {
-                bpf_host_run_checked(
-                    self.words.as_ptr().cast(),
-                    8 * self.words.len(),
-                    context.as_ptr(),
-                    context.len(),
-                    &mut value,
-                )
-            };
-            (answer == 1).then_some(value)
-        }
-    }
-}
+#[allow(dead_code)]
+#[path = "bpf-host/src/lib.rs"]
+mod bpf;
 
 /// The frames of a pcap file: a head of 24 bytes, then for each frame one of 16 and its bytes.
 struct Frames<'a> {
@@ -290,32 +139,12 @@ fn run(words: &[String]) -> Result<(), String> {
         .map_or(Ok(1), |word| word.parse())
         .map_err(|_| "bad ROUNDS".to_owned())?;
     let filter = bpf::Filter::load(&read(image)?, &read(certificate)?, order, GREATEST_BOUND)
-        .map_err(words_of)?;
+        .map_err(|error| error.to_string())?;
     let most = filter.verdict().most;
     let mut gate = Gate::of(filter, order).ok_or(format!(
         "a context of {most} bytes has no room for the frame's length, {LENGTH_BYTES} bytes"
     ))?;
     filter_all(&mut gate, &read(frames)?, rounds)
-}
-
-/// Why a filter isn't loaded, in words.
-fn words_of(error: bpf::LoadError) -> String {
-    match error {
-        bpf::LoadError::NoMemory => "no memory".to_owned(),
-        bpf::LoadError::TooLong(bound) => format!(
-            "a run may take {bound} instructions, and this host pays for {GREATEST_BOUND} at most"
-        ),
-        bpf::LoadError::Refused(why) => {
-            let kind = char::from_u32(why.kind).unwrap_or('?');
-            let place = if kind == 'K' { "line" } else { "slot" };
-            format!(
-                "refused by {kind}{} at {place} {}: {}",
-                why.number,
-                why.place,
-                why.text()
-            )
-        }
-    }
 }
 
 fn main() -> ExitCode {

@@ -1,0 +1,184 @@
+//! The library's calls for hosts as safe functions: what a call asks of its caller is kept by types.
+
+use std::ffi::c_void;
+use std::fmt;
+
+/// The byte order of an image and of the memory that it runs on.
+#[derive(Clone, Copy, Debug)]
+pub enum Order {
+    Little = 0,
+    Big = 1,
+}
+
+/// On every context of `least` to `most` bytes the program ends within `bound` instructions.
+#[repr(C)]
+#[derive(Clone, Copy, Debug, Default)]
+pub struct Verdict {
+    pub least: u32,
+    pub most: u32,
+    pub bound: u32,
+}
+
+/// Why an image or a certificate is refused: a letter, a number, and a slot, or of a certificate a line.
+#[repr(C)]
+#[derive(Clone, Copy, Debug, Default)]
+pub struct Refusal {
+    pub kind: u32,
+    pub number: u32,
+    pub place: u64,
+    pub condition: u64,
+}
+
+#[link(name = "bpf_host", kind = "static")]
+unsafe extern "C" {
+    fn bpf_host_verify(
+        image: *const u8,
+        image_len: usize,
+        order: u32,
+        certificate: *const u8,
+        certificate_len: usize,
+        verdict: &mut Verdict,
+        refusal: &mut Refusal,
+    ) -> i32;
+    fn bpf_host_prepared_size(image_len: usize) -> usize;
+    fn bpf_host_prepare(
+        image: *const u8,
+        image_len: usize,
+        order: u32,
+        memory: *mut c_void,
+        memory_len: usize,
+    ) -> i32;
+    fn bpf_host_run_checked(
+        memory: *const c_void,
+        memory_len: usize,
+        context: *const u8,
+        context_len: usize,
+        value: &mut u64,
+    ) -> i32;
+    fn bpf_host_refusal_text(kind: u32, number: u32, text: *mut u8, text_len: usize) -> usize;
+}
+
+impl fmt::Display for Refusal {
+    fn fmt(&self, f: &mut fmt::Formatter) -> fmt::Result {
+        let mut text = [0; 128];
+        // SAFETY: the pointer and the length are the array's.
+        let len =
+            unsafe { bpf_host_refusal_text(self.kind, self.number, text.as_mut_ptr(), text.len()) };
+        let kind = char::from_u32(self.kind).unwrap_or('?');
+        let place = if kind == 'K' { "line" } else { "slot" };
+        let words = String::from_utf8_lossy(&text[..len.min(text.len())]);
+        write!(
+            f,
+            "{kind}{} at {place} {}: {words}",
+            self.number, self.place
+        )
+    }
+}
+
+/// Why a filter isn't loaded.
+#[derive(Clone, Copy, Debug)]
+pub enum LoadError {
+    Refused(Refusal),
+    /// A run may take more instructions than the host pays for.
+    TooLong {
+        bound: u32,
+        greatest: u32,
+    },
+    NoMemory,
+}
+
+impl fmt::Display for LoadError {
+    fn fmt(&self, f: &mut fmt::Formatter) -> fmt::Result {
+        match self {
+            LoadError::Refused(why) => write!(f, "refused by {why}"),
+            LoadError::TooLong { bound, greatest } => write!(
+                f,
+                "a run may take {bound} instructions, and this host pays for {greatest} at most"
+            ),
+            LoadError::NoMemory => f.write_str("no memory"),
+        }
+    }
+}
+
+impl std::error::Error for LoadError {}
+
+/// A filter that was judged: what is promised of it, and its program, ready to run. Nothing changes its words, so that threads may
+/// share it.
+pub struct Filter {
+    verdict: Verdict,
+    words: Vec<u64>,
+}
+
+impl Filter {
+    /// Judges an image by a certificate, and prepares its program, if no run takes more than `greatest` instructions.
+    pub fn load(
+        image: &[u8],
+        certificate: &[u8],
+        order: Order,
+        greatest: u32,
+    ) -> Result<Filter, LoadError> {
+        let (mut verdict, mut refusal) = (Verdict::default(), Refusal::default());
+        // SAFETY: the pointers and lengths are those of slices.
+        let answer = unsafe {
+            bpf_host_verify(
+                image.as_ptr(),
+                image.len(),
+                order as u32,
+                certificate.as_ptr(),
+                certificate.len(),
+                &mut verdict,
+                &mut refusal,
+            )
+        };
+        match answer {
+            1 if verdict.bound > greatest => Err(LoadError::TooLong {
+                bound: verdict.bound,
+                greatest,
+            }),
+            1 => Filter::prepared(image, order, verdict).ok_or(LoadError::NoMemory),
+            0 => Err(LoadError::Refused(refusal)),
+            _ => Err(LoadError::NoMemory),
+        }
+    }
+
+    fn prepared(image: &[u8], order: Order, verdict: Verdict) -> Option<Filter> {
+        // SAFETY: a number goes in and a number comes back.
+        let mut words = vec![0u64; unsafe { bpf_host_prepared_size(image.len()) }];
+        // SAFETY: the pointers and lengths are those of a slice and of a vector's words.
+        let answer = unsafe {
+            bpf_host_prepare(
+                image.as_ptr(),
+                image.len(),
+                order as u32,
+                words.as_mut_ptr().cast(),
+                8 * words.len(),
+            )
+        };
+        (answer == 1).then_some(Filter { verdict, words })
+    }
+
+    /// What is promised of the filter.
+    pub fn verdict(&self) -> Verdict {
+        self.verdict
+    }
+
+    /// What the filter says of a context; None if its length isn't one of the verdict's.
+    pub fn run(&self, context: &[u8]) -> Option<u64> {
+        if !(self.verdict.least as usize..=self.verdict.most as usize).contains(&context.len()) {
+            return None;
+        }
+        let mut value = 0;
+        // SAFETY: the words are those that were prepared of the image that was judged, and the context's length is one of the
+        // verdict's.
+        let answer = unsafe {
+            bpf_host_run_checked(
+                self.words.as_ptr().cast(),
+                8 * self.words.len(),
+                context.as_ptr(),
+                context.len(),
+                &mut value,
+            )
+        };
+        (answer == 1).then_some(value)
+    }
+}

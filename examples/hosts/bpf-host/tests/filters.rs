@@ -1,0 +1,74 @@
+//! The filters of examples/c, loaded and run.
+
+use bpf::{Filter, LoadError, Order};
+
+const PORT: (&[u8], &[u8]) = (
+    include_bytes!("../../../c/port.img"),
+    include_bytes!("../../../c/port.cert"),
+);
+
+/// A block of 128 bytes: a frame's length, the frame, zeros.
+fn block_of(frame: &[u8]) -> Vec<u8> {
+    let mut block = (frame.len() as u64).to_le_bytes().to_vec();
+    block.extend(frame);
+    block.resize(128, 0);
+    block
+}
+
+/// An Ethernet frame of IPv4 and TCP to a port.
+fn frame_to(port: u16) -> Vec<u8> {
+    let mut frame = vec![0; 60];
+    frame[12..15].copy_from_slice(&[8, 0, 0x45]);
+    frame[23] = 6;
+    frame[36..38].copy_from_slice(&port.to_be_bytes());
+    frame
+}
+
+fn port() -> Filter {
+    Filter::load(PORT.0, PORT.1, Order::Little, 1000).unwrap()
+}
+
+#[test]
+fn runs_in_threads() {
+    let filter = port();
+    std::thread::scope(|scope| {
+        for number in [80, 443, 444] {
+            let filter = &filter;
+            scope.spawn(move || {
+                let want = u64::from(number == 443);
+                assert_eq!(filter.run(&block_of(&frame_to(number))), Some(want));
+            });
+        }
+    });
+}
+
+#[test]
+fn takes_contexts_of_its_lengths_alone() {
+    let filter = port();
+    assert_eq!((filter.verdict().least, filter.verdict().most), (128, 128));
+    assert_eq!(filter.run(&[0; 127]), None);
+    assert_eq!(filter.run(&[0; 128]), Some(0));
+    assert_eq!(filter.run(&[0; 129]), None);
+}
+
+#[test]
+fn tells_why_it_is_not_loaded() {
+    let error = |image, certificate, greatest| {
+        let loaded = Filter::load(image, certificate, Order::Little, greatest);
+        loaded.err().map(|error| error.to_string()).unwrap()
+    };
+    let bound = port().verdict().bound;
+    assert_eq!(
+        error(PORT.0, PORT.1, bound - 1),
+        format!(
+            "a run may take {bound} instructions, and this host pays for {} at most",
+            bound - 1
+        )
+    );
+    assert!(error(PORT.0, &[], bound).starts_with("refused by K1 at line 1: "));
+    assert!(error(&[0; 8], PORT.1, bound).starts_with("refused by E2 at slot 0: "));
+    assert!(matches!(
+        Filter::load(PORT.0, PORT.1, Order::Big, bound),
+        Err(LoadError::Refused(_))
+    ));
+}

@@ -1,0 +1,66 @@
+/* bpf.hpp: bpf.h for C++11 and later. A filter that was judged is a value, and what a call asks of its caller is kept by it. */
+#ifndef BPF_HPP
+#define BPF_HPP
+
+#include <bpf.h>
+#include <cstddef>
+#include <cstdint>
+#include <new>
+#include <stdexcept>
+#include <string>
+#include <vector>
+
+namespace bpf {
+
+/* Why an image isn't loaded: refused, or a bound above what the host pays for. */
+class Refused : public std::runtime_error {
+public:
+    explicit Refused(const std::string &why) : std::runtime_error(why) {}
+};
+
+/* A filter that was judged: what is promised of it, and its program, ready to run. Nothing changes its words, so threads may share it. */
+class Filter {
+public:
+    /* Judges an image by a certificate, and prepares its program. Throws Refused, also where a run may take more than `greatest` instructions,
+     * and std::bad_alloc.
+     */
+    Filter(const std::vector<std::uint8_t> &image, const std::vector<std::uint8_t> &certificate, bpf_order order, std::uint32_t greatest) {
+        bpf_refusal why;
+        switch (bpf_verify(image.data(), image.size(), order, certificate.data(), certificate.size(), &verdict_, &why)) {
+        case BPF_YES: break;
+        case BPF_NO: throw Refused(words_of(why));
+        default: throw std::bad_alloc();
+        }
+        if (verdict_.bound > greatest)
+            throw Refused("a run may take " + std::to_string(verdict_.bound) + " instructions, and this host pays for " +
+                          std::to_string(greatest) + " at most");
+        words_.resize(bpf_prepared_size(image.size()));
+        bpf_prepare(image.data(), image.size(), order, words_.data(), words_.size());
+    }
+
+    /* What is promised of the filter. */
+    const bpf_verdict &verdict() const { return verdict_; }
+
+    /* What the filter says of a context. Throws std::length_error if its length isn't one of the verdict's. */
+    std::uint64_t run(const std::uint8_t *context, std::size_t len) const {
+        if (len < verdict_.least || len > verdict_.most) throw std::length_error("a context of another length than was judged");
+        std::uint64_t result = 0;
+        bpf_run_checked(words_.data(), words_.size(), context, len, &result);
+        return result;
+    }
+
+private:
+    static std::string words_of(const bpf_refusal &why) {
+        char text[128];
+        bpf_refusal_text(why.kind, why.number, text, sizeof text);
+        return std::string("refused by ") + static_cast<char>(why.kind) + std::to_string(why.number) +
+               (why.kind == BPF_CERTIFICATE ? " at line " : " at slot ") + std::to_string(why.place) + ": " + text;
+    }
+
+    bpf_verdict verdict_;
+    std::vector<std::uint64_t> words_;
+};
+
+} // namespace bpf
+
+#endif

@@ -1,0 +1,95 @@
+/* stack.c IMAGE CERTIFICATE..: each call in a thread with the stack that docs/HOSTS.md says is enough: 16 KB for preparing and running, 64 KB for
+ * judging, 128 KB for inferring. Beside the images that are named one of the greatest length is tried. */
+#include <bpf.h>
+#include <pthread.h>
+#include <stdio.h>
+#include <stdlib.h>
+#include <string.h>
+
+enum { LITTLE_STACK = 16 << 10, JUDGING_STACK = 64 << 10, INFERRING_STACK = 128 << 10 };
+enum { SLOTS = 65536 };
+
+struct job {
+    uint8_t *image, *certificate;
+    size_t image_len, certificate_len;
+    uint64_t *words;
+    struct bpf_verdict verdict;
+    int wrong;
+};
+
+static void *judge(void *at) {
+    struct job *job = at;
+    struct bpf_refusal why;
+    job->wrong |= bpf_verify(job->image, job->image_len, BPF_LITTLE, job->certificate, job->certificate_len, &job->verdict, &why) != BPF_YES;
+    return NULL;
+}
+
+static void *infer(void *at) {
+    struct job *job = at;
+    struct bpf_refusal why;
+    size_t wanted;
+    job->wrong |= bpf_infer(job->image, job->image_len, BPF_LITTLE, job->verdict.least, job->verdict.most, NULL, 0, &wanted, &why) == BPF_BAD_CALL;
+    return NULL;
+}
+
+static void *run(void *at) {
+    static const uint8_t context[4096];
+    struct job *job = at;
+    struct bpf_outcome outcome = {0, 0, 0, 0, 0};
+    uint64_t result = 0;
+    size_t len = bpf_prepared_size(job->image_len);
+    job->wrong |= bpf_prepare(job->image, job->image_len, BPF_LITTLE, job->words, len) != BPF_YES;
+    job->wrong |= bpf_run_checked(job->words, len, context, job->verdict.least, &result) != BPF_YES;
+    job->wrong |= bpf_run(job->image, job->image_len, BPF_LITTLE, context, job->verdict.least, 1000000, &outcome) != BPF_YES;
+    job->wrong |= outcome.kind != BPF_DONE || outcome.value != result;
+    return NULL;
+}
+
+static void in_thread(void *(*call)(void *), struct job *job, size_t stack) {
+    pthread_attr_t attributes;
+    pthread_t thread;
+    if (pthread_attr_init(&attributes) || pthread_attr_setstacksize(&attributes, stack) || pthread_create(&thread, &attributes, call, job)) abort();
+    if (pthread_join(thread, NULL) || pthread_attr_destroy(&attributes)) abort();
+}
+
+static void try_all(struct job *job, const char *name) {
+    job->words = malloc(8 * bpf_prepared_size(job->image_len));
+    if (!job->words) abort();
+    in_thread(judge, job, JUDGING_STACK);
+    in_thread(infer, job, INFERRING_STACK);
+    in_thread(run, job, LITTLE_STACK);
+    free(job->words);
+    if (!job->wrong) return;
+    fprintf(stderr, "stack: %s: a wrong answer\n", name);
+    exit(1);
+}
+
+static uint8_t *read_file(const char *name, size_t *len) {
+    FILE *file = fopen(name, "rb");
+    uint8_t *all = malloc(SLOTS * 8);
+    if (!file || !all) abort();
+    *len = fread(all, 1, SLOTS * 8, file);
+    fclose(file);
+    return all;
+}
+
+/* 65,535 times r0 = 0, and exit. */
+static void try_longest(void) {
+    static uint8_t image[SLOTS * 8];
+    static char certificate[] = "bpfcert 1 0 65536\nfn 0 1 *\nat 0 65536\nend\n";
+    struct job job = {image, (uint8_t *)certificate, sizeof image, sizeof certificate - 1, NULL, {0, 0, 0}, 0};
+    for (size_t slot = 0; slot < SLOTS; slot++) image[8 * slot] = slot + 1 < SLOTS ? 0xb7 : 0x95;
+    try_all(&job, "the longest image");
+}
+
+int main(int argc, char **argv) {
+    for (int i = 1; i + 1 < argc; i += 2) {
+        struct job job = {0};
+        job.image = read_file(argv[i], &job.image_len);
+        job.certificate = read_file(argv[i + 1], &job.certificate_len);
+        try_all(&job, argv[i]);
+        free(job.image), free(job.certificate);
+    }
+    try_longest();
+    return 0;
+}

@@ -1,0 +1,49 @@
+/* wrapper.cc IMAGE CERTIFICATE: the filter of examples/c/port.c by bpf.hpp, on blocks and in calls that it refuses. */
+#include "../examples/hosts/bpf.hpp"
+#include <cstdlib>
+#include <fstream>
+#include <iostream>
+#include <iterator>
+
+static std::vector<std::uint8_t> read_file(const char *name) {
+    std::ifstream file(name, std::ios::binary);
+    return std::vector<std::uint8_t>(std::istreambuf_iterator<char>(file), std::istreambuf_iterator<char>());
+}
+
+static void want(bool holds, const char *what) {
+    if (holds) return;
+    std::cerr << "wrapper: " << what << '\n';
+    std::exit(1);
+}
+
+/* Whether loading is refused with these words at its front. */
+static bool refuses(const std::vector<std::uint8_t> &image, const std::vector<std::uint8_t> &certificate, std::uint32_t greatest, const std::string &words) {
+    try {
+        bpf::Filter filter(image, certificate, BPF_LITTLE, greatest);
+    } catch (const bpf::Refused &why) {
+        return std::string(why.what()).compare(0, words.size(), words) == 0;
+    }
+    return false;
+}
+
+int main(int, char **argv) {
+    const std::vector<std::uint8_t> image = read_file(argv[1]), certificate = read_file(argv[2]);
+    const bpf::Filter filter(image, certificate, BPF_LITTLE, 1000);
+    std::vector<std::uint8_t> block(128);
+    block[0] = 60, block[8 + 12] = 8, block[8 + 14] = 0x45, block[8 + 23] = 6, block[8 + 36] = 1, block[8 + 37] = 187;
+    want(filter.verdict().least == 128 && filter.verdict().most == 128, "the lengths");
+    want(filter.run(block.data(), block.size()) == 1, "a frame to port 443");
+    block[8 + 37] = 188;
+    want(filter.run(block.data(), block.size()) == 0, "a frame to port 444");
+    bool thrown = false;
+    try {
+        filter.run(block.data(), 127);
+    } catch (const std::length_error &) {
+        thrown = true;
+    }
+    want(thrown, "a context of another length");
+    want(refuses(image, certificate, 10, "a run may take "), "a bound above the host's");
+    want(refuses(image, {}, 1000, "refused by K1 at line 1: "), "no certificate");
+    want(refuses({0, 0, 0, 0, 0, 0, 0, 0}, certificate, 1000, "refused by E2 at slot 0: "), "no image");
+    return 0;
+}
