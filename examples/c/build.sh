@@ -14,16 +14,22 @@ fail() {
     exit "${2:-1}"
 }
 
+usage() {
+    echo "usage: $name [--big] [--section NAME] FILE.c OUT [FLAG..]" >&2
+    exit 2
+}
+
 order=little
 section=
 while [[ ${1:-} == --* ]]; do
     case $1 in
-    --big) order=big && shift ;;
-    --section) section=${2:-} && shift 2 ;;
-    *) fail "unknown word $1" 2 ;;
+    --big) order=big ;;
+    --section) section=${2:-} && shift ;;
+    *) usage ;;
     esac
+    shift || usage
 done
-[ $# -ge 2 ] || fail "usage: $name [--big] [--section NAME] FILE.c OUT [FLAG..]" 2
+[ $# -ge 2 ] || usage
 file=$1 out=$2
 shift 2
 
@@ -85,7 +91,7 @@ esac
 
 # ---- the source lines
 
-"$objdump" -d -r -l --no-show-raw-insn -j "$section" "$object" >"$made/listing" 2>/dev/null
+"$objdump" -d -r -l --no-show-raw-insn -j "$section" "$object" >"$made/listing" 2>/dev/null || fail "$objdump doesn't list $section of $file"
 awk '
     function line_of(path, number,    count, line) {
         if (!(path in known)) {
@@ -119,7 +125,7 @@ awk '
 while read -r slot symbol insn; do
     place=$(awk -v slot="$slot" '$1 == slot { print $2 }' "$made/lines")
     place=${place:-$file, slot $slot}
-    number=$(grep -oE -- '-?(0x[0-9a-f]+|[0-9]+)( ll)?$' <<<"$insn" | cut -d ' ' -f 1)
+    number=$(sed -nE 's/.* (-?(0x[0-9a-f]+|[0-9]+))( ll)?$/\1/p' <<<"$insn")
     case $insn in
     call*)
         called=$(name_of "$symbol" $((8 * (${number:-0} + 1))))
