@@ -47,6 +47,20 @@ newer crates.txt
 wants 'bpf run,bpf_host lib,'
 newer crates/bpf_host/out/other.rt
 wants ''
+
+# Without the kit, both say so.
+without() {
+    PATH=$dir/bin "$@" >"$dir/out" 2>"$dir/error" && failed=1
+    grep -q 'the Rattle kit is wanted' "$dir/error" || { echo "install: without rt, $1 says $(cat "$dir/error")" >&2; failed=1; }
+}
+mkdir "$dir/bin"
+for tool in env bash dirname; do
+    ln -s "$(command -v "$tool")" "$dir/bin"
+done
+without "$dir/tree/install" "$dir/none"
+rm "$dir/tree/crates/bpf/out/bpf"
+without "$dir/tree/bpf" groups
+
 while read -r path; do
     [ -s "$path" ] || { echo "install: $path isn't there" >&2; failed=1; }
 done <"$dir/said"
