@@ -129,13 +129,13 @@ static inline size_t bpf_prepared_size(size_t image_len) {
 
 /* Prepares the program of an image for bpf_run_checked, in words of the caller; what they hold is the library's, and may be
  * other in another version. It may be copied and moved. BPF_YES. BPF_NO: the image is refused (bpf_verify says why).
- * BPF_TOO_SMALL: there are fewer words than bpf_prepared_size(image_len). BPF_BAD_CALL: an order that isn't one, no bytes, no
- * words, or words that lie in the image. Only BPF_YES changes the words. Nothing is allocated. */
+ * BPF_TOO_SMALL: there are fewer words than bpf_prepared_size(image_len), whatever the image holds. BPF_BAD_CALL, before both: an
+ * order that isn't one, no bytes, no words, or words that lie in the image. Only BPF_YES changes the words. Nothing is allocated. */
 static inline int32_t bpf_prepare(const void *image, size_t image_len, uint32_t order, uint64_t *words, size_t words_len) {
-    size_t size = bpf_host_prepared_size(image_len);
-    if (!bpf_are_bytes(image, image_len) || !bpf_are_words(words, words_len)) return BPF_BAD_CALL;
+    size_t size = bpf_host_prepared_size(image_len), used = words_len < size ? words_len : size;
+    if (order > BPF_BIG || !bpf_are_bytes(image, image_len) || !bpf_are_words(words, words_len)) return BPF_BAD_CALL;
+    if (bpf_overlap(words, 8 * used, image, image_len)) return BPF_BAD_CALL;
     if (words_len < size) return BPF_TOO_SMALL;
-    if (bpf_overlap(words, 8 * size, image, image_len)) return BPF_BAD_CALL;
     return bpf_host_prepare(bpf_bytes(image), image_len, order, (uint8_t *)words, 8 * size);
 }
 

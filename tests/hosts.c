@@ -175,6 +175,15 @@ static int table(void) {
     return 0;
 }
 
+/* ---- what refusals say */
+
+static int texts(void) {
+    char text[128];
+    for (const char *kind = "CEFIK"; *kind; kind++)
+        for (uint32_t n = 1; bpf_refusal_text((uint32_t)*kind, n, text, sizeof text); n++) printf("%c%u %s\n", *kind, n, text);
+    return 0;
+}
+
 /* ---- calls that no caller should make */
 
 static int wrong;
@@ -242,6 +251,9 @@ static void bad_preparing(void) {
     WANTS(bpf_prepare(IMAGE, BPF_LITTLE, words, SIZE_MAX), BPF_BAD_CALL);
     WANTS(bpf_prepare(IMAGE, BPF_LITTLE, (uint64_t *)(void *)((char *)words + 1), 7), BPF_BAD_CALL);
     WANTS(bpf_prepare(IMAGE, 2, words, 8), BPF_BAD_CALL);
+    WANTS(bpf_prepare(IMAGE, 7, words, 1), BPF_BAD_CALL);
+    WANTS(bpf_prepare(words, 16, BPF_LITTLE, words, 1), BPF_BAD_CALL);
+    WANTS(bpf_prepare(words + 1, 16, BPF_LITTLE, words, 1), BPF_TOO_SMALL);
     WANTS(bpf_prepare(IMAGE, BPF_LITTLE, words, size - 1), BPF_TOO_SMALL);
     WANTS(bpf_prepare(image, 12, BPF_LITTLE, words, 8), BPF_NO);
     WANTS(bpf_prepare(words, 16, BPF_LITTLE, words, 8), BPF_BAD_CALL);
@@ -417,6 +429,7 @@ static int many(char **word) {
 
 int main(int argc, char **argv) {
     if (argc == 2 && !strcmp(argv[1], "table")) return table();
+    if (argc == 2 && !strcmp(argv[1], "texts")) return texts();
     if (argc == 2 && !strcmp(argv[1], "bad")) return bad();
     if (argc == 4 && !strcmp(argv[1], "memory")) return memory(argv + 2);
     if (argc == 4 && !strcmp(argv[1], "threads")) return threads(argv + 2);
