@@ -6,10 +6,12 @@ mod bases;
 mod candidates;
 mod draft;
 mod groups;
+mod loops;
 mod plan;
 mod ranking;
 mod regions;
 mod ways;
 mod weights;
 
+pub use loops::uncounted;
 pub use ranking::ranked;
