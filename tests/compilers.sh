@@ -1,7 +1,7 @@
 #!/usr/bin/env bash
 # compilers.sh [BPF]: builds each filter of examples/c by each compiler for BPF that is there, clang of any version and bpf-gcc, has it
-# certified, and runs it on packets (filters.py); and holds build.sh to its words about sources that make no image. It installs nothing: where
-# no compiler is there, that is all it says.
+# certified, and runs it on packets (filters.py). By the compiler that VERSION names it must be the image that is kept. And build.sh is held
+# to its words about sources that make no image. Nothing is installed: where no compiler is there, that is all it says.
 set -u
 root=$(cd "$(dirname "${BASH_SOURCE[0]}")/.." && pwd)
 bpf=$(realpath "${1:-$root/crates/bpf/out/bpf}")
@@ -23,12 +23,17 @@ certifies() {
 
 # tries COMPILER: each filter of examples/c.
 tries() {
-    local source image before=$failed
+    local source image version before=$failed
+    version=$("$1" --version | head -n 1)
     mkdir "$dir/$1"
     for source in "$root"/examples/c/*.c; do
         image=$dir/$1/$(basename "$source" .c)
-        certifies "$source" "$image" && continue
-        fails "$(basename "$source") by $("$1" --version | head -n 1): $(cat "$dir/said")"
+        if certifies "$source" "$image"; then
+            [ "$version" != "$(cat "$root/examples/c/VERSION")" ] || cmp -s "$image.img" "${source%.c}.img" ||
+                fails "$(basename "$image").img isn't what $version makes of its source: examples/c/make.sh BPF --keep makes it anew"
+            continue
+        fi
+        fails "$(basename "$source") by $version: $(cat "$dir/said")"
         [ ! -f "$image.img" ] || "$bpf" explain "$image.img" --infer 128 --deep >&2
     done
     [ "$failed" != "$before" ] || "$root/tests/filters.py" "$bpf" "$dir/$1" >"$dir/said" || fails "the filters by $1: $(cat "$dir/said")"
