@@ -8,6 +8,11 @@ root=$(cd "$(dirname "${BASH_SOURCE[0]}")/.." && pwd)
 dir=$(mktemp -d)
 trap 'rm -rf "$dir"' EXIT
 "$root/install" "$dir" >/dev/null
+# The installed bpf-cc finds the installed filter.h.
+if command -v clang >/dev/null; then
+    cp "$root/examples/c/rate.c" "$dir"
+    "$dir/bin/bpf-cc" "$dir/rate.c" "$dir/rate.img"
+fi
 # What an installed host is built with.
 if command -v pkg-config >/dev/null; then
     flags=$(PKG_CONFIG_PATH="$dir/lib/pkgconfig" pkg-config --cflags --libs bpf_host)
