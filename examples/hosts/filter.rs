@@ -13,7 +13,7 @@ use std::process::ExitCode;
 use std::time::Instant;
 use std::{env, fs};
 
-#[allow(dead_code)]
+#[allow(dead_code)] // a whole crate, of which a host uses what it wants
 #[path = "bpf-host/src/lib.rs"]
 mod bpf;
 
