@@ -13,8 +13,8 @@ pub enum HardenError {
     /// H1: the access at the slot goes by a pointer into a caller's frame.
     #[error("access at slot {slot} by an argument that may be a frame pointer")]
     FramePointer { slot: u32 },
-    /// H2: the access at the slot goes by what is a pointer on one way and a number, another pointer or nothing on another.
-    #[error("access at slot {slot} by what isn't always the same kind of pointer")]
+    /// H2: the instruction at the slot reads what is a pointer on one way and a number, another pointer or nothing on another.
+    #[error("instruction at slot {slot} reads what isn't of the same kind on each way")]
     MixedKinds { slot: u32 },
     /// H3: neither a register nor the frame of the function at the slot has room for what hardening has to keep.
     #[error("no room in the registers and the frame of the function at slot {slot}")]

@@ -1,0 +1,202 @@
+//! What is known of a program as it came.
+
+ghost use Rattle.std.specs.Prelude.{◌≤◌};
+
+use crate::kinds::Kind;
+use crate::live::Liveness;
+use crate::registers::Registers;
+use crate::uses::Uses;
+use bpf_fixpoint::{Survey, surveyed};
+use bpf_harden_notes::HardenError;
+use bpf_insn::{Insn, Program, Reg};
+use bpf_outline::{Flow, Outline, Quest, Unwatched, get_or};
+use bpf_proposal::InferError;
+use std::alloc::{AllocError, Global};
+
+/// A program as it came, and what is known of it.
+#[derive(Drop)]
+pub struct Old<'a> {
+    pub program: &'a Program,
+    pub outline: Outline,
+    pub survey: Survey,
+    pub live: Liveness,
+    /// By the functions' numbers.
+    pub uses: Vec<Uses>,
+}
+
+/// What the search holds against a program as a whole.
+pub fn refusal(error: InferError) -> HardenError {
+    match error {
+        InferError::Unstable { slot } => HardenError::Unstable { slot },
+        InferError::NoBudget { slot } => HardenError::NoBudget { slot },
+        InferError::Recursion { slot } => HardenError::Recursion { slot },
+        InferError::Fault { slot, condition } => HardenError::Fault { slot, condition },
+        InferError::Memory => HardenError::Memory,
+    }
+}
+
+impl<'a> Old<'a> {
+    /// What is known of a program on the lengths of a quest.
+    pub fn of(alloc: Global, quest: Quest<'a>) -> Result<Old<'a>, HardenError>
+        requires { quest.least ≤ quest.most }
+    {
+        let survey = match surveyed(alloc, quest, &mut Unwatched) {
+            Ok(survey) => survey,
+            Err(error) => return Err(refusal(error)),
+        };
+        let outline = match Outline::of(alloc, quest.program) {
+            Ok(outline) => outline,
+            Err(error) => return Err(refusal(error)),
+        };
+        let mut old = Old {
+            program: quest.program,
+            outline,
+            survey,
+            live: Liveness::of(alloc, quest.program)?,
+            uses: Vec::new(alloc),
+        };
+        old.note_uses()?;
+        old.hand_on();
+        Ok(old)
+    }
+
+    // ---- functions
+
+    /// How many functions there are.
+    pub fn count(&self) -> usize {
+        self.outline.function_count()
+    }
+
+    /// The number of the function that a slot is in.
+    pub fn function(&self, slot: u32) -> usize {
+        self.outline.function_of(slot) as usize
+    }
+
+    /// The first slot of a function; of the one after the last, how many slots there are.
+    pub fn first(&self, function: usize) -> u32 {
+        if function < self.count() {
+            self.outline.label(self.outline.first_block(function))
+        } else {
+            self.program.slots()
+        }
+    }
+
+    /// What a function uses.
+    pub fn uses(&self, function: usize) -> Uses {
+        get_or(&self.uses, function, Uses::new(0, 0, Registers::NONE))
+    }
+
+    /// Takes note of what each function uses.
+    fn note_uses(&mut self) -> Result<(), AllocError> {
+        for function in 0..self.count() {
+            let uses = self.uses_of(function);
+            self.uses.push(uses)?;
+        }
+        Ok(())
+    }
+
+    /// What a function uses by itself.
+    fn uses_of(&self, function: usize) -> Uses {
+        let first = self.first(function);
+        let end = self.first(function.saturating_add(1));
+        let mut uses = Uses::new(first, end, self.live.arguments(first));
+        for slot in first..end {
+            if let Some(insn) = self.kept(slot) {
+                uses.add_registers(insn);
+                uses.calls = uses.calls || matches!(insn, Insn::CallLocal { .. });
+                if let Some(access) = insn.access() {
+                    uses.add_access(access, self.survey.register(slot, access.base));
+                }
+            }
+        }
+        uses
+    }
+
+    /// Makes each function need the context that calls one which does. A call more deepens what is known, and there are at most
+    /// eight functions on a way.
+    fn hand_on(&mut self) {
+        for _ in 0..8 {
+            for slot in 0..self.program.slots() {
+                self.hand_on_at(slot);
+            }
+        }
+    }
+
+    /// As `hand_on` for the call at a slot.
+    fn hand_on_at(&mut self, slot: u32) {
+        if let Some(callee) = self.callee(slot) {
+            if self.uses(callee).needs_context {
+                let caller = self.function(slot);
+                if let Some(uses) = self.uses.get_mut(caller) {
+                    uses.needs_context = true;
+                }
+            }
+        }
+    }
+
+    /// The number of the function that the instruction at a slot calls.
+    pub fn callee(&self, slot: u32) -> Option<usize> {
+        match Flow::of(slot, self.kept(slot)?) {
+            Flow::Call(target) => Some(self.function(target)),
+            _ => None,
+        }
+    }
+
+    // ---- slots
+
+    /// The instruction at a slot, if it is reached.
+    pub fn kept(&self, slot: u32) -> Option<&'a Insn> {
+        if self.survey.is_reached(slot) {
+            self.program.at(slot)
+        } else {
+            None
+        }
+    }
+
+    /// The kind of what a register holds before the instruction at a slot.
+    pub fn kind(&self, slot: u32, r: Reg) -> Kind {
+        Kind::of(self.survey.register(slot, r))
+    }
+
+    /// Whether the instruction at a slot reads a register of a kind.
+    pub fn reads_kind(&self, slot: u32, insn: &Insn, kind: Kind) -> bool {
+        for register in insn.registers_read() {
+            if let Some(r) = register {
+                if self.kind(slot, r) == kind {
+                    return true;
+                }
+            }
+        }
+        false
+    }
+
+    /// Why an access by a register isn't hardened of which nothing is known.
+    pub fn unknown_base(&self, slot: u32) -> HardenError {
+        if self.is_handed_frame(self.function(slot)) {
+            HardenError::FramePointer { slot }
+        } else {
+            HardenError::MixedKinds { slot }
+        }
+    }
+
+    /// Whether a call hands a function a frame pointer.
+    fn is_handed_frame(&self, function: usize) -> bool {
+        for slot in 0..self.program.slots() {
+            if self.callee(slot) == Some(function) && self.hands_frame(slot, function) {
+                return true;
+            }
+        }
+        false
+    }
+
+    /// Whether the call at a slot hands a frame pointer to a function that reads it.
+    fn hands_frame(&self, slot: u32, function: usize) -> bool {
+        let arguments = self.uses(function).arguments;
+        for r in [Reg::R1, Reg::R2, Reg::R3, Reg::R4, Reg::R5] {
+            if arguments.has(r) && self.kind(slot, r) == Kind::Frame {
+                return true;
+            }
+        }
+        false
+    }
+}

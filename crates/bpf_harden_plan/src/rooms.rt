@@ -1,0 +1,312 @@
+//! Where functions keep what hardening adds: registers that they don't use, and bytes of the frame below their own.
+
+use crate::old::Old;
+use crate::plan::Plan;
+use crate::registers::Registers;
+use crate::uses::Uses;
+use bpf_harden_notes::HardenError;
+use bpf_insn::Reg;
+use bpf_num::Num;
+use bpf_outline::{Flow, get_or, put};
+use bpf_state::Place;
+use std::alloc::{AllocError, Global};
+
+/// How many bytes a frame has, and how many slots of eight.
+const FRAME_BYTES: u32 = 512;
+
+const FRAME_SLOTS: u32 = 64;
+
+/// What a function keeps, and what it is given and gives.
+#[derive(Clone, Copy)]
+pub struct Room {
+    /// The pointer to the context's start.
+    pub base: Option<Place>,
+    /// The end of a block's packet, as an offset.
+    pub end: Option<Place>,
+    /// How many bytes of its frame its own accesses may reach.
+    pub frame: u32,
+    /// The number of the frame's slot in which a register is saved for a while.
+    pub scratch: Option<u8>,
+    /// The register in which it is given the pointer to the context's start.
+    pub handed: Option<Reg>,
+    /// What its trap answers its caller, who tests it.
+    pub spare: Option<i32>,
+    /// Whether it may come to a trap.
+    pub traps: bool,
+    /// The registers that hold what it keeps.
+    pub taken: Registers,
+}
+
+impl Room {
+    /// Nothing is kept.
+    const EMPTY: Room = Room {
+        base: None,
+        end: None,
+        frame: 0,
+        scratch: None,
+        handed: None,
+        spare: None,
+        traps: false,
+        taken: Registers::NONE,
+    };
+}
+
+/// What the functions of a program keep.
+#[derive(Drop)]
+pub struct Rooms {
+    /// By the functions' numbers.
+    rooms: Vec<Room>,
+    /// By old slots, where the turns of the loop are counted.
+    counters: Vec<Option<Place>>,
+}
+
+/// What is still free in a function.
+#[derive(Clone, Copy)]
+struct Space {
+    uses: Uses,
+    taken: Registers,
+    /// How many slots of the frame are taken: below those that the function uses, or from the frame's start on where nothing
+    /// bounds these.
+    slots: u32,
+}
+
+impl Space {
+    /// What a function leaves.
+    fn of(uses: Uses) -> Space {
+        Space {
+            uses,
+            taken: Registers::NONE,
+            slots: 0,
+        }
+    }
+
+    /// How many bytes of the frame are the function's own.
+    fn frame(&self) -> u32 {
+        if self.uses.is_wild {
+            FRAME_BYTES.saturating_sub(self.slots.saturating_mul(8))
+        } else {
+            self.uses.depth
+        }
+    }
+
+    /// Whether a register is free: one that calls keep, or one that they don't where there is none.
+    fn is_free(&self, r: Reg) -> bool {
+        let is_kept = matches!(r, Reg::R6 | Reg::R7 | Reg::R8 | Reg::R9);
+        (is_kept || !self.uses.calls) && !self.uses.registers.has(r) && !self.taken.has(r)
+    }
+
+    /// A slot of the frame, by its number.
+    fn slot(&mut self) -> Option<u8> {
+        let used = self.uses.depth / 8;
+        if used.saturating_add(self.slots) >= FRAME_SLOTS {
+            return None;
+        }
+        let number = if self.uses.is_wild {
+            FRAME_SLOTS.saturating_sub(self.slots)
+        } else {
+            used.saturating_add(self.slots).saturating_add(1)
+        };
+        self.slots = self.slots.saturating_add(1);
+        u8::try_from(number).ok()
+    }
+
+    /// A slot for registers that are saved for a while. Where nothing bounds what the function writes, the frame isn't begun
+    /// for it.
+    fn scratch(&mut self) -> Option<u8> {
+        if self.uses.is_wild && self.slots == 0 {
+            return None;
+        }
+        self.slot()
+    }
+
+    /// A register or else a slot.
+    fn place(&mut self) -> Option<Place> {
+        for r in [
+            Reg::R9,
+            Reg::R8,
+            Reg::R7,
+            Reg::R6,
+            Reg::R5,
+            Reg::R4,
+            Reg::R3,
+        ] {
+            if self.is_free(r) {
+                self.taken.add(r);
+                return Some(Place::Register(r));
+            }
+        }
+        Some(Place::Slot(self.slot()?))
+    }
+}
+
+/// A number that a function doesn't return, next to those that it may, if it fits a comparison.
+fn spare_of(ret: Num) -> Option<i32> {
+    let returned = ret.signed();
+    let above = returned.hi().saturating_add(1);
+    let below = returned.lo().saturating_sub(1);
+    if above > returned.hi() {
+        if let Ok(spare) = i32::try_from(above) {
+            return Some(spare);
+        }
+    }
+    if below < returned.lo() {
+        return i32::try_from(below).ok();
+    }
+    None
+}
+
+/// The register in which a function is given the base: the one that keeps it where that is an argument, else one that isn't
+/// read.
+fn handed_to(uses: Uses, base: Option<Place>) -> Option<Reg> {
+    for r in [Reg::R5, Reg::R4, Reg::R3, Reg::R2, Reg::R1] {
+        if base == Some(Place::Register(r)) {
+            return Some(r);
+        }
+    }
+    for r in [Reg::R5, Reg::R4, Reg::R3, Reg::R2, Reg::R1] {
+        if !uses.arguments.has(r) {
+            return Some(r);
+        }
+    }
+    None
+}
+
+impl Rooms {
+    /// What the functions of a program keep under a plan. H3 at a function that has no room, H6 at one that reads five
+    /// arguments and needs the context.
+    pub fn of(alloc: Global, old: &Old, plan: &Plan) -> Result<Rooms, HardenError> {
+        let mut rooms = Rooms {
+            rooms: vec![in alloc; Room::EMPTY; old.count()]?,
+            counters: vec![in alloc; None; old.program.slots() as usize]?,
+        };
+        for function in 0..old.count() {
+            rooms.furnish(old, plan, function)?;
+        }
+        for function in 0..old.count() {
+            rooms.note_traps(old, plan, function);
+        }
+        // A call deepens what is known, and there are at most eight functions on a way.
+        for _ in 0..8 {
+            rooms.pass_traps_on(old);
+        }
+        Ok(rooms)
+    }
+
+    /// What a function keeps.
+    pub fn room(&self, function: usize) -> Room {
+        get_or(&self.rooms, function, Room::EMPTY)
+    }
+
+    /// Where the turns of the loop are counted that has its counter at a slot.
+    pub fn counter(&self, slot: u32) -> Option<Place> {
+        get_or(&self.counters, slot as usize, None)
+    }
+
+    // ---- places
+
+    /// Finds the places of a function.
+    fn furnish(&mut self, old: &Old, plan: &Plan, function: usize) -> Result<(), HardenError> {
+        let uses = old.uses(function);
+        let mut space = Space::of(uses);
+        let mut room = Room::EMPTY;
+        if plan.offsets && uses.needs_context {
+            room.base = Some(taken(space.place(), uses)?);
+            if plan.options.padded {
+                room.end = Some(taken(space.place(), uses)?);
+            }
+            room.handed = handed_to(uses, room.base);
+            if function > 0 && room.handed.is_none() {
+                return Err(HardenError::FiveArguments { slot: uses.first });
+            }
+        }
+        self.place_counters(plan, function, &mut space)?;
+        room.scratch = space.scratch();
+        room.frame = space.frame();
+        room.taken = space.taken;
+        room.spare = self.spare(old, function);
+        put(&mut self.rooms, function, room);
+        Ok(())
+    }
+
+    /// Finds a place for each counter of a function, or one for all.
+    fn place_counters(
+        &mut self,
+        plan: &Plan,
+        function: usize,
+        space: &mut Space,
+    ) -> Result<(), HardenError> {
+        let uses = space.uses;
+        let mut shared = None;
+        for slot in uses.first..uses.end {
+            if plan.counts(slot) {
+                let place = match shared {
+                    Some(place) => place,
+                    None => taken(space.place(), uses)?,
+                };
+                put(&mut self.counters, slot as usize, Some(place));
+                if plan.shares(function) {
+                    shared = Some(place);
+                }
+            }
+        }
+        Ok(())
+    }
+
+    // ---- traps
+
+    /// What the trap of a function answers its caller, who tests it.
+    fn spare(&self, old: &Old, function: usize) -> Option<i32> {
+        if function == 0 {
+            return None;
+        }
+        spare_of(get_or(&old.survey.rets, function, Num::top()))
+    }
+
+    /// Takes note whether a function may come to a trap of its own.
+    fn note_traps(&mut self, old: &Old, plan: &Plan, function: usize) {
+        let uses = old.uses(function);
+        let mut traps = plan.options.padded && (function == 0 || uses.needs_context);
+        for slot in uses.first..uses.end {
+            let is_tested = plan.guard(slot).is_some() || plan.counts(slot);
+            traps = traps || is_tested || leads_out(old, plan, slot);
+        }
+        self.set_traps(function, traps);
+    }
+
+    /// Takes note whether a function may come to a trap.
+    fn set_traps(&mut self, function: usize, traps: bool) {
+        if let Some(room) = self.rooms.get_mut(function) {
+            room.traps = traps;
+        }
+    }
+
+    /// Makes each function come to a trap that calls one which comes to a trap that is told from what it returns.
+    fn pass_traps_on(&mut self, old: &Old) {
+        for slot in 0..old.program.slots() {
+            if let Some(callee) = old.callee(slot) {
+                let room = self.room(callee);
+                if room.traps && room.spare.is_some() {
+                    self.set_traps(old.function(slot), true);
+                }
+            }
+        }
+    }
+}
+
+/// A place that was found. H3 if there is none.
+fn taken(found: Option<Place>, uses: Uses) -> Result<Place, HardenError> {
+    match found {
+        Some(place) => Ok(place),
+        None => Err(HardenError::FullFrame { slot: uses.first }),
+    }
+}
+
+/// Whether an instruction that is reached leads to one that isn't.
+fn leads_out(old: &Old, plan: &Plan, slot: u32) -> bool {
+    let Some(insn) = plan.kept(old, slot) else {
+        return false;
+    };
+    let next = slot.saturating_add(insn.slots());
+    let target = Flow::of(slot, insn).jump().unwrap_or(slot);
+    plan.kept(old, target).is_none() || insn.goes_on() && plan.kept(old, next).is_none()
+}

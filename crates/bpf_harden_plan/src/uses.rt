@@ -1,0 +1,73 @@
+//! What the functions of a program use.
+
+use crate::registers::Registers;
+use bpf_insn::{Access, Insn};
+use bpf_state::{FRAME_START, RegState};
+
+/// What a function uses by itself.
+#[derive(Clone, Copy)]
+pub struct Uses {
+    /// Its first slot, and the one after it.
+    pub first: u32,
+    pub end: u32,
+    /// The registers that it reads or writes, or is given.
+    pub registers: Registers,
+    /// The arguments that it reads.
+    pub arguments: Registers,
+    /// Whether it calls another one.
+    pub calls: bool,
+    /// How many bytes of its frame it uses, a multiple of 8.
+    pub depth: u32,
+    /// Whether something is written to its frame that nothing bounds.
+    pub is_wild: bool,
+    /// Whether it, or one that it calls, accesses the context.
+    pub needs_context: bool,
+}
+
+impl Uses {
+    /// A function of which nothing is known but its slots and arguments.
+    pub fn new(first: u32, end: u32, arguments: Registers) -> Uses {
+        Uses {
+            first,
+            end,
+            registers: arguments,
+            arguments,
+            calls: false,
+            depth: 0,
+            is_wild: false,
+            needs_context: false,
+        }
+    }
+
+    /// Takes note of the registers of an instruction.
+    pub fn add_registers(&mut self, insn: &Insn) {
+        self.registers.add_some(insn.registers_read());
+        if let Some(r) = insn.register_written() {
+            self.registers.add(r);
+        }
+    }
+
+    /// Takes note of an access by what is known of its base. Where nothing bounds it, reads touch no byte that wasn't written,
+    /// and writes may touch any.
+    pub fn add_access(&mut self, access: Access, base: RegState) {
+        match base {
+            RegState::Ptr(pointer) if pointer.area.is_frame() => {
+                let lowest = pointer.lo.saturating_add(access.off as i64);
+                if lowest >= FRAME_START {
+                    self.deepen(lowest);
+                } else if access.writes {
+                    self.is_wild = true;
+                }
+            }
+            RegState::Ptr(_) => self.needs_context = true,
+            RegState::Any | RegState::Num(_) => {}
+        }
+    }
+
+    /// The byte of the frame at an offset is used.
+    fn deepen(&mut self, offset: i64) {
+        let below = 0i64.saturating_sub(offset).max(0).min(512);
+        let slots = u32::try_from(below.saturating_add(7) >> 3).unwrap_or(64);
+        self.depth = self.depth.max(slots.min(64) * 8);
+    }
+}
