@@ -6,6 +6,7 @@ pub mod LeastLemmas
 pub mod CountLemmas
 pub mod EdgeLemmas
 pub mod VisitLemmas
+pub mod StraightLemmas
 pub mod ArrivalLemmas
 pub mod PassLemmas
 pub mod LoopLimits

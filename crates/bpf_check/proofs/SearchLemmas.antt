@@ -164,6 +164,25 @@ among_below key view n [] y r e lt = refl
 among_below key view n (x ∷ xs) y r e lt =
     sym (first_with-map (λ z. key z == n) view (x ∷ xs) ∙ ap (option_map view) (none_below (λ z. key (view z)) n (x ∷ xs) (length (x ∷ xs) - 1) y r (omega arith) e (subst (λ z. key (view z) < n) (sym e) lt)))
 
+-- ---- behind a number up to which the same is the last
+
+last_is_low : {A : Type 0} (key : A → ℕ) (found : Option A) (n : ℕ) (xs : List A) (x : A) → (found ≡ Some x → key x ≤ n) → last_up_to key found n xs ≡ Some x → key x ≤ n
+last_is_low key found n [] x before e = before e
+last_is_low key found n (y ∷ ys) x before e = here (nat_le (key y) n) refl e (last_is_low key (Some y) n ys x)
+  where
+    here : (b : Bool) → nat_le (key y) n ≡ b → cond b (last_up_to key (Some y) n ys) found ≡ Some x → ((Some y ≡ Some x → key x ≤ n) → last_up_to key (Some y) n ys ≡ Some x → key x ≤ n) → key x ≤ n
+    here true t q later = later (λ r. subst (λ z. key z ≤ n) (same_Some y x r) (leb-true (key y) n t)) q
+    here false t q later = before q
+
+none_later : {A B : Type 0} (key : A → ℕ) (view : A → B) (slot n : ℕ) (xs : List A) (o : Option A) → o ≡ last_up_to key None slot xs → slot < n → option_map view (with_key key n o) ≡ None
+none_later key view slot n xs None e h = refl
+none_later key view slot n xs (Some x) e h =
+    let low = last_is_low key None slot xs x (λ q. absurd (none-some x q)) (sym e) in
+    ap (option_map view) (cond-false _ _ _ (ne_eqb (key x) n (λ same. absurd (omega (arith, low, same, h)))))
+
+pub among_later : {A B : Type 0} (key : B → ℕ) (view : A → B) (slot n : ℕ) (xs : List A) (o : Option A) → rises (λ x. key (view x)) xs ≡ true → o ≡ last_up_to (λ x. key (view x)) None slot xs → last_up_to (λ x. key (view x)) None n xs ≡ last_up_to (λ x. key (view x)) None slot xs → slot < n → first_with (λ y. key y == n) (map view xs) ≡ None
+among_later key view slot n xs o r e same h = among key view n xs o r (e ∙ sym same) ∙ none_later (λ x. key (view x)) view slot n xs o e h
+
 -- ---- in lists joined
 
 pub first_with-append : {A : Type 0} (test : A → Bool) (xs ys : List A) → first_with test xs ≡ None → first_with test (xs ++ ys) ≡ first_with test ys

@@ -6,4 +6,5 @@ pub mod Edges
 pub mod Sites
 pub mod Arrivals
 pub mod Visits
+pub mod Straight
 pub mod Counting

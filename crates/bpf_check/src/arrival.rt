@@ -1,6 +1,6 @@
 //! What reaches an instruction.
 
-ghost use Rattle.std.specs.Prelude.{◌≡◌, ℕ, ◌+◌, ◌*◌, ◌^◌, ◌≤◌, None, IfSome, IsTrue, pos, ◌+ℤ◌};
+ghost use Rattle.std.specs.Prelude.{◌≡◌, ℕ, ◌+◌, ◌*◌, ◌^◌, ◌≤◌, None, option_map, IfSome, IsTrue, pos, ◌+ℤ◌};
 ghost use Rattle.bpf_cert.specs.View.{label_view};
 ghost use Rattle.bpf_cert.specs.Limits.{is_limited_label};
 ghost use Rattle.bpf_state.specs.Answer.{edge_told};
@@ -110,6 +110,29 @@ fn with_more(slot: u32, spent: i128, more: i128) -> i128
     ensures small { IsWithin ((slot + 1) * 2 ^ 94) result }
 {
     spent + 1 + more
+}
+
+/// One more than a cost at a slot.
+fn with_one(slot: u32, spent: i128) -> i128
+    requires here { slot ≤ 65535 }
+    requires spent { IsWithin (slot * 2 ^ 94) spent }
+    ensures value { result ≡ spent +ℤ pos 1 }
+    ensures small { IsWithin ((slot + 1) * 2 ^ 94) result }
+{
+    spent + 1
+}
+
+/// One more than a cost at a slot, if it is known.
+pub(crate) fn one_more(slot: u32, cost: Option<i128>) -> Option<i128>
+    requires here { slot ≤ 65535 }
+    requires cost { IfSome cost (λ z. IsWithin (slot * 2 ^ 94) z) }
+    ensures value { result ≡ option_map (λ z. z +ℤ pos 1) cost }
+    ensures small { IfSome result (λ z. IsWithin ((slot + 1) * 2 ^ 94) z) }
+{
+    match cost {
+        Some(spent) => Some(with_one(slot, spent)),
+        None => None,
+    }
 }
 
 /// The cost after an instruction since the last label, if it is known.

@@ -1,6 +1,6 @@
-//! Which function and which label of a certificate stand at a slot.
+//! Which function and which label of a certificate stand at a slot, and up to where no other begins behind it.
 
-ghost use Rattle.std.specs.Prelude.{◌≡◌, ◌==◌, ℕ, map, option_map, option_copied, IfSome, IsTrue, None};
+ghost use Rattle.std.specs.Prelude.{◌≡◌, ◌==◌, ◌≤◌, ◌<◌, ℕ, map, option_map, option_copied, IfSome, IsTrue, None};
 ghost use Rattle.bpf_cert.specs.Faults.{is_rising};
 ghost use Rattle.bpf_cert.specs.View.{label_view, function_view};
 ghost use Rattle.bpf_cert.specs.Limits.{slot_before, first_before, is_limited_label, is_limited_function};
@@ -36,42 +36,59 @@ impl Begins for Label {
     }
 }
 
-/// The last that begins at a slot or before it.
-fn last_from<T: Begins>(items: &[T], slot: u32) -> Option<&T>
+/// The last that begins at a slot or before it, and up to where it stays the last.
+fn last_from<T: Begins>(items: &[T], slot: u32) -> (Option<&T>, u32)
     requires { IsTrue (rises T.slot items.now) }
-    ensures { option_copied result ≡ last_up_to T.slot None slot items.now }
+    ensures last { option_copied result.0 ≡ last_up_to T.slot None slot items.now }
+    ensures until { (n : ℕ) → slot ≤ n → n < result.1 → last_up_to T.slot None n items.now ≡ last_up_to T.slot None slot items.now }
 {
     let mut rest = items;
+    let mut until = u32::MAX;
     'rest: while rest.len() > 1 {
         let (front, back) = rest.split_at(rest.len() / 2);
-        rest = if back[0].begins_at() <= slot {
-            back
+        let middle = back[0].begins_at();
+        if middle <= slot {
+            rest = back;
         } else {
-            front
-        };
+            rest = front;
+            until = until.min(middle);
+        }
     }
     match rest.first() {
-        Some(item) if item.begins_at() <= slot => Some(item),
-        _ => None,
+        Some(item) => {
+            let first = item.begins_at();
+            if first <= slot {
+                (Some(item), until)
+            } else {
+                (None, until.min(first))
+            }
+        }
+        None => (None, until),
     }
 }
 
-/// The label at a slot among a function's labels.
-fn label_among(labels: &[Label], slot: u32) -> Option<&Label>
+/// The label at a slot among a function's labels, and up to where none stands behind it.
+fn label_among(labels: &[Label], slot: u32) -> (Option<&Label>, u32)
     requires { IsTrue (is_rising slot_before (map label_view labels.now)) }
-    ensures { option_map label_view (option_copied result) ≡ first_with (λ l. l.slot == slot) (map label_view labels.now) }
+    ensures label { option_map label_view (option_copied result.0) ≡ first_with (λ l. l.slot == slot) (map label_view labels.now) }
+    ensures until { (n : ℕ) → slot < n → n < result.1 → first_with (λ l. l.slot == n) (map label_view labels.now) ≡ None }
 {
     // Most functions' labels lie all below the slot or all above it.
-    if labels.is_empty() || slot < labels[0].slot || labels[labels.len() - 1].slot < slot {
-        return None;
+    if labels.is_empty() || labels[labels.len() - 1].slot < slot {
+        return (None, u32::MAX);
     }
-    let Some(label) = last_from(labels, slot) else {
-        return None;
+    let first = labels[0].slot;
+    if slot < first {
+        return (None, first);
+    }
+    let (last, until) = last_from(labels, slot);
+    let Some(label) = last else {
+        return (None, until);
     };
     if label.slot == slot {
-        Some(label)
+        (Some(label), until)
     } else {
-        None
+        (None, until)
     }
 }
 
@@ -82,45 +99,48 @@ fn first_label<'a>(certificate: &'a Index, slot: u32) -> Option<&'a Label>
     certificate.valid();
     let functions = certificate.functions();
     for function in functions {
-        if let Some(label) = label_among(&function.labels, slot) {
+        if let Some(label) = label_among(&function.labels, slot).0 {
             return Some(label);
         }
     }
     None
 }
 
-/// The label at a slot among the labels of the function there.
+/// The label at a slot among the labels of the function there, and up to where none stands behind it in that function.
 fn label_in_place<'a>(
     certificate: &'a Index,
     function: Option<&'a Function>,
     slot: u32,
-) -> Option<&'a Label>
+) -> (Option<&'a Label>, u32)
     requires place { IsTrue (are_in_place certificate.now) }
     requires function { option_map function_view (option_copied function) ≡ function_at certificate.now slot }
-    ensures { option_map label_view (option_copied result) ≡ label_at certificate.now slot }
+    ensures label { option_map label_view (option_copied result.0) ≡ label_at certificate.now slot }
+    ensures until { (n : ℕ) → slot < n → n < result.1 → function_at certificate.now n ≡ function_at certificate.now slot → label_at certificate.now n ≡ None }
 {
     certificate.valid();
     let Some(function) = function else {
-        return None;
+        return (None, u32::MAX);
     };
     label_among(&function.labels, slot)
 }
 
-/// The label at a slot that lies in a function, of two the earlier.
+/// The label at a slot that lies in a function, of two the earlier, and up to where it is known that none stands behind it
+/// in that function.
 pub fn label_given<'a>(
     certificate: &'a Index,
     function: Option<&'a Function>,
     slot: u32,
-) -> Option<&'a Label>
+) -> (Option<&'a Label>, u32)
     requires { option_map function_view (option_copied function) ≡ function_at certificate.now slot }
-    ensures value { option_map label_view (option_copied result) ≡ label_at certificate.now slot }
-    ensures limited { IfSome result (λ l. IsTrue (is_limited_label (label_view l.now))) }
+    ensures value { option_map label_view (option_copied result.0) ≡ label_at certificate.now slot }
+    ensures limited { IfSome result.0 (λ l. IsTrue (is_limited_label (label_view l.now))) }
+    ensures until { (n : ℕ) → slot < n → n < result.1 → function_at certificate.now n ≡ function_at certificate.now slot → label_at certificate.now n ≡ None }
 {
     certificate.valid();
     if certificate.is_in_place() {
         label_in_place(certificate, function, slot)
     } else {
-        first_label(certificate, slot)
+        (first_label(certificate, slot), slot)
     }
 }
 
@@ -129,7 +149,17 @@ pub fn label_at<'a>(certificate: &'a Index, slot: u32) -> Option<&'a Label>
     ensures value { option_map label_view (option_copied result) ≡ label_at certificate.now slot }
     ensures limited { IfSome result (λ l. IsTrue (is_limited_label (label_view l.now))) }
 {
-    label_given(certificate, function_at(certificate, slot), slot)
+    label_given(certificate, function_at(certificate, slot), slot).0
+}
+
+/// The function that a slot lies in, and up to where the slots behind it lie in the same.
+pub fn function_near<'a>(certificate: &'a Index, slot: u32) -> (Option<&'a Function>, u32)
+    ensures value { option_map function_view (option_copied result.0) ≡ function_at certificate.now slot }
+    ensures limited { IfSome result.0 (λ f. IsTrue (is_limited_function (function_view f.now))) }
+    ensures until { (n : ℕ) → slot ≤ n → n < result.1 → function_at certificate.now n ≡ function_at certificate.now slot }
+{
+    certificate.valid();
+    last_from(certificate.functions(), slot)
 }
 
 /// The function that a slot lies in.
@@ -137,8 +167,7 @@ pub fn function_at<'a>(certificate: &'a Index, slot: u32) -> Option<&'a Function
     ensures value { option_map function_view (option_copied result) ≡ function_at certificate.now slot }
     ensures limited { IfSome result (λ f. IsTrue (is_limited_function (function_view f.now))) }
 {
-    certificate.valid();
-    last_from(certificate.functions(), slot)
+    function_near(certificate, slot).0
 }
 
 /// The function that begins at a slot.

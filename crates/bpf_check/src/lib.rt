@@ -16,6 +16,7 @@ mod shape;
 mod site;
 mod spending;
 mod start;
+mod straight;
 mod verifier;
 mod visit;
 

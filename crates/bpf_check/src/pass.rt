@@ -1,20 +1,61 @@
 //! One pass over a program's instructions.
 
-ghost use Rattle.std.specs.Prelude.{◌≡◌, option_map};
+ghost use Rattle.std.specs.Prelude.{◌≡◌, ◌+◌, ◌≤◌, option_map, IfSome};
+ghost use Rattle.bpf_insn.specs.Instruction.{slot_count};
 ghost use Rattle.std.specs.List.{flat_map};
-ghost use Rattle.bpf_safety.specs.Flow.{visits};
+ghost use Rattle.bpf_safety.specs.Flow.{arrives, visits};
 ghost use Rattle.bpf_safety.specs.Flaw.{at, numbers_of_visit};
 ghost use Rattle.bpf_check.specs.code.Least.{IsLeastIn};
 ghost use Rattle.bpf_check.specs.RefusalNumbers.{flaw_of};
-ghost use Rattle.bpf_check.specs.code.Counting.{worked_through};
+ghost use Rattle.bpf_check.specs.code.Arrivals.{walk_of, IsReaching};
+ghost use Rattle.bpf_check.specs.code.Counting.{worked_at, worked_through};
+ghost use Rattle.bpf_check.specs.code.Sites.{IsSpot};
+ghost use Rattle.bpf_check.specs.code.Visits.{passed_with, visit_of};
 
 use crate::arrival::Walk;
 use crate::index::Index;
 use crate::refusal::Refusal;
 use crate::site::{Site, Spot};
+use crate::straight::{Step, visit_straight};
 use crate::visit::visit;
-use bpf_insn::Code;
+use bpf_insn::{Code, Insn};
 use bpf_state::Work;
+
+/// Visits an instruction at a spot, and tells the next spot: as a step of straight code where it is one.
+#[inline(always)]
+fn pass_over<'a, P: Code>(
+    program: &P,
+    certificate: &'a Index<'a>,
+    here: Spot<'a>,
+    insn: Insn,
+    walk: &mut Walk<'a>,
+    work: &mut Work,
+) -> (Option<Refusal>, Spot<'a>)
+    requires few { here.slot ≤ 65535 }
+    requires here { IsSpot certificate.now here }
+    requires valid { IfSome walk.old.here (λ h. IsReaching here.slot h) }
+    ensures refusal { IsLeastIn (at here.entry.slot (numbers_of_visit (P.program program.now) certificate.now (visit_of certificate.now here.entry.slot insn (walk_of walk.old)))) (option_map flaw_of result.0) }
+    ensures passed { walk_of walk.new ≡ passed_with (P.program program.now) certificate.now here.entry.slot insn (arrives certificate.now here.entry.slot (walk_of walk.old)) }
+    ensures work { work.new ≡ worked_at (P.program program.now) certificate.now (visit_of certificate.now here.entry.slot insn (walk_of walk.old)) work.old }
+    ensures valid { IfSome walk.new.here (λ h. IsReaching (here.entry.slot + slot_count insn) h) }
+    ensures slot { result.1.slot ≡ here.entry.slot + slot_count insn }
+    ensures spot { IsSpot certificate.now result.1 }
+{
+    let end = program.slots();
+    if let Some(step) = Step::of(certificate, end, &here, insn, walk.here) {
+        let refusal = visit_straight(program, &step, walk, work);
+        let next = Spot {
+            slot: step.next,
+            function: here.function,
+            label: here.label,
+            until: here.until,
+        };
+        return (refusal, next);
+    }
+    let site = Site::of(certificate, here, insn);
+    let refusal = visit(program, &site, walk, work);
+    (refusal, site.next)
+}
 
 /// The least refusal of a program's instructions: the slots are visited in their order, so the first is the least.
 pub fn visit_flaw<P: Code>(program: &P, certificate: &Index, work: &mut Work) -> Option<Refusal>
@@ -25,12 +66,11 @@ pub fn visit_flaw<P: Code>(program: &P, certificate: &Index, work: &mut Work) ->
     let mut here = Spot::of(&*certificate, 0);
     let mut walk = Walk::new();
     'visits: while let Some(insn) = program.insn(here.slot) {
-        let site = Site::of(&*certificate, here, insn);
-        let refusal = visit(program, &site, &mut walk, work);
+        let (refusal, next) = pass_over(program, &*certificate, here, insn, &mut walk, work);
         if refusal.is_some() {
             return refusal;
         }
-        here = site.next;
+        here = next;
     }
     None
 }

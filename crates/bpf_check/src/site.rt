@@ -8,7 +8,7 @@ ghost use Rattle.bpf_check.specs.code.Sites.{IsSpot, IsEntry, IsSite};
 
 use crate::edge::{callee, jump_target};
 use crate::index::Index;
-use crate::labels::{function_at, label_at, label_given};
+use crate::labels::{function_near, label_at, label_given};
 use bpf_cert::{Function, Label};
 use bpf_insn::Insn;
 
@@ -18,6 +18,8 @@ pub struct Spot<'a> {
     pub slot: u32,
     pub function: Option<&'a Function>,
     pub label: Option<&'a Label>,
+    /// No label stands and no function begins behind the slot and below this one.
+    pub until: u32,
 }
 
 impl<'a> Spot<'a> {
@@ -26,11 +28,13 @@ impl<'a> Spot<'a> {
         ensures slot { result.slot ≡ slot }
         ensures value { IsSpot certificate.now result }
     {
-        let function = function_at(certificate, slot);
+        let (function, within) = function_near(certificate, slot);
+        let (label, unlabelled) = label_given(certificate, function, slot);
         Spot {
             slot,
             function,
-            label: label_given(certificate, function, slot),
+            label,
+            until: within.min(unlabelled),
         }
     }
 }

@@ -1,5 +1,5 @@
 -- An instruction in its place, with what is looked up there.
-use Rattle.std.specs.Prelude.{◌≡◌, ◌+◌, ◌≤◌, List, option_map, option_copied, IfSome, IsTrue}
+use Rattle.std.specs.Prelude.{◌≡◌, ℕ, ◌+◌, ◌<◌, ◌≤◌, List, None, option_map, option_copied, IfSome, IsTrue}
 use Rattle.bpf_insn.specs.Instruction.{slot_count}
 use Rattle.bpf_cert.specs.View.{CertificateView, label_view, function_view}
 use Rattle.bpf_cert.specs.Limits.{is_limited_label}
@@ -12,11 +12,16 @@ use Rattle.bpf_check.specs.declared.site.Spot.{Spot}
 use Rattle.bpf_check.specs.declared.site.Callee.{Callee}
 use Rattle.bpf_check.specs.declared.site.Site.{Site}
 
+-- behind a slot and below another no label stands, and the function is the same
+abbrev pub IsQuiet : CertificateView → ℕ → ℕ → Type 0
+IsQuiet c slot until = (n : ℕ) → slot < n → n < until → (label_at c n ≡ None) × (function_at c n ≡ function_at c slot)
+
 -- the function that a slot lies in, and the label there
 pub record IsSpot (c : CertificateView) (s : Spot) : Type 0 where
   pub function : option_map function_view (option_copied s.function) ≡ function_at c s.slot
   pub label : option_map label_view (option_copied s.label) ≡ label_at c s.slot
   pub limited : IfSome s.label (λ l. IsTrue (is_limited_label (label_view l.now)))
+  pub quiet : IsQuiet c s.slot s.until
 
 -- the label at a function's first slot
 pub record IsEntry (c : CertificateView) (f : Callee) : Type 0 where

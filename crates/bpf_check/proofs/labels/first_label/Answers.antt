@@ -1,4 +1,6 @@
-use Rattle.std.proofs.Common.{sym, ◌∙◌}
+use Rattle.std.proofs.Common.{sym, ap, ◌∙◌}
+use Rattle.std.specs.Prelude.{option_map, option_copied}
+use Rattle.bpf_cert.specs.View.{label_view}
 use Rattle.bpf_check.proofs.CertificateFacts.{labels_rise_at, label_here, label_later}
 use Rattle.bpf_check.proofs.labels.first_label.Goals as goal
 
@@ -7,10 +9,10 @@ label_among-requires c = labels_rise_at c.args.certificate.now c.functions-funct
 
 pub returns-in-Some : goal.returns-in-Some
 returns-in-Some c =
-    sym (label_here c.args.slot c.functions-functions.result.now c.loop-function.function-index _ _ _ c.loop-function-test.true c.function-item.is c.deref.ensures.value c.in-Some.ensures)
+    sym (label_here c.args.slot c.functions-functions.result.now c.loop-function.function-index _ _ _ c.loop-function-test.true c.function-item.is c.deref.ensures.value (sym (ap (λ o. option_map label_view (option_copied o)) c.in-Some.is) ∙ c.label_among.ensures.label))
     ∙ c.loop-function.invariant
 
 pub loop-function-preserved : goal.loop-function-preserved
 loop-function-preserved c =
-    sym (label_later c.args.slot c.functions-functions.result.now c.loop-function.function-index _ _ c.loop-function-test.true c.function-item.is c.deref.ensures.value c.in_default.ensures)
+    sym (label_later c.args.slot c.functions-functions.result.now c.loop-function.function-index _ _ c.loop-function-test.true c.function-item.is c.deref.ensures.value (sym (ap (λ o. option_map label_view (option_copied o)) c.in_default.is) ∙ c.label_among.ensures.label))
     ∙ c.loop-function.invariant

@@ -11,7 +11,7 @@ limited c slot None valid e = tt
 limited c slot (Some l) valid e = label_at_limited c slot (label_view l.now) valid (sym e)
 
 pub returns-then-is_in_place-clause-limited : goal.returns-then-is_in_place-clause-limited
-returns-then-is_in_place-clause-limited c = limited c.args.certificate.now c.args.slot c.label_in_place.result c.valid.ensures c.label_in_place.ensures
+returns-then-is_in_place-clause-limited c = limited c.args.certificate.now c.args.slot c.label_in_place.result.0 c.valid.ensures c.label_in_place.ensures.label
 
 pub returns-else-is_in_place-clause-limited : goal.returns-else-is_in_place-clause-limited
 returns-else-is_in_place-clause-limited c = limited c.args.certificate.now c.args.slot c.first_label.result c.valid.ensures c.first_label.ensures
