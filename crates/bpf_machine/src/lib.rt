@@ -9,6 +9,7 @@ mod runs;
 mod stack;
 mod step;
 
+pub use bpf_semantics::{Reason, Region, Value};
 pub use machine::Machine;
 pub use outcome::{Outcome, Step};
 pub use runs::run;
