@@ -44,7 +44,9 @@ fn write_shown<C: Code, W: Write>(
     shown: Shown,
     refusal: Option<Refusal>,
     out: &mut W,
-) -> io::Result<()> {
+) -> io::Result<()>
+    requires { IfNone refusal (IsCertifiedBy (C.program program.now) certificate.now) }
+{
     match shown {
         Shown::Listing => write_explanation(program, certificate, refusal, out),
         Shown::Slot(slot) => write_slot(program, certificate, slot, out),

@@ -1,6 +1,10 @@
 //! The inferrer's own work, explained.
 
-ghost use Rattle.std.specs.Prelude.{◌≤◌};
+ghost use Rattle.std.specs.Prelude.{◌≡◌, ◌⊎◌, ◌≤◌, ◌<◌, IfOk, IfErr, IsErrAnd, Ok};
+ghost use Rattle.bpf_insn.specs.Instruction.{slots};
+ghost use Rattle.bpf_cert.specs.Limits.{IsCertificate};
+ghost use Rattle.bpf_proposal.specs.RefusalNumbers.{infer_slot};
+ghost use Rattle.bpf_proposal.specs.declared.error.InferError.TheVariants.{Memory};
 
 use bpf_cert::Certificate;
 use bpf_check::{Cause, Refusal, cause_of, check};
@@ -310,6 +314,7 @@ impl<'a> Sought<'a> {
     fn write_refused<W: Tell>(&self, error: InferError, out: &mut W) -> InferError
         requires order { self.now.quest.least ≤ self.now.quest.most }
         requires short { self.now.quest.most ≤ 4096 }
+        ensures { (result ≡ error) ⊎ (result ≡ Memory) }
     {
         let (program, effort) = (self.quest.program, self.effort);
         let sketch = match error {
@@ -342,6 +347,8 @@ impl<'a> Sought<'a> {
     ) -> io::Result<Result<Certificate, InferError>>
         requires order { self.now.quest.least ≤ self.now.quest.most }
         requires short { self.now.quest.most ≤ 4096 }
+        ensures found { IfOk result (λ told. IfOk told (λ c. found ≡ Ok c)) }
+        ensures refused { IfOk result (λ told. IfErr told (λ e. IsErrAnd found (λ f. (e ≡ f) ⊎ (e ≡ Memory)))) }
     {
         let mut page = Page::new(out);
         let told = match found {
@@ -368,6 +375,11 @@ pub fn explain_inferred<W: Write>(
 ) -> io::Result<Result<Certificate, InferError>>
     requires order { least ≤ most }
     requires short { most ≤ 4096 }
+    ensures version { IfOk result (λ told. IfOk told (λ c. c.version ≡ 2)) }
+    ensures least { IfOk result (λ told. IfOk told (λ c. c.least ≡ least)) }
+    ensures most { IfOk result (λ told. IfOk told (λ c. c.most ≡ most)) }
+    ensures certificate { IfOk result (λ told. IfOk told (λ c. IsCertificate c)) }
+    ensures slot { IfOk result (λ told. IfErr told (λ e. infer_slot e < slots program.now.list)) }
 {
     let quest = Quest {
         program,
@@ -394,6 +406,11 @@ pub fn explain_searched<W: Write, H: Watch>(
 ) -> io::Result<Result<Certificate, InferError>>
     requires order { least ≤ most }
     requires short { most ≤ 4096 }
+    ensures version { IfOk result (λ told. IfOk told (λ c. c.version ≡ 2)) }
+    ensures least { IfOk result (λ told. IfOk told (λ c. c.least ≡ least)) }
+    ensures most { IfOk result (λ told. IfOk told (λ c. c.most ≡ most)) }
+    ensures certificate { IfOk result (λ told. IfOk told (λ c. IsCertificate c)) }
+    ensures slot { IfOk result (λ told. IfErr told (λ e. infer_slot e < slots program.now.list)) }
 {
     let quest = Quest {
         program,

@@ -1,4 +1,5 @@
-//! What the inferrer finds of a program, or why it finds nothing, in words. It makes no claim but to be safe and to end.
+//! What the inferrer finds of a program, or why it finds nothing, in words. Of these it makes no claim; what it hands back is what
+//! the inferrer found, or why it found nothing.
 #![tactic(auto)]
 
 mod inferred;

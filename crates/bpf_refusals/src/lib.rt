@@ -1,4 +1,5 @@
-//! Why images, texts and certificates are refused, in words. It makes no claim but to be safe and to end; what is refused is told to it.
+//! Why images, texts and certificates are refused, in words. Of these it makes no claim; what is refused is told to it, but for texts:
+//! one that it says is a program's is.
 #![tactic(auto)]
 
 mod certificate;

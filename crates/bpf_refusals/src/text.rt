@@ -1,5 +1,9 @@
 //! Why a text is no program, in words.
 
+ghost use Rattle.std.specs.Prelude.{List, IfOk, IsTrue};
+ghost use Rattle.bpf_insn.specs.declared.instruction.Insn.{Insn};
+ghost use Rattle.bpf_text.specs.Assembly.{Assembles};
+
 use crate::form::{Excess, FORMS, Form, Reading, is_name, skip_blanks, word_in};
 use crate::texts::parted;
 use bpf_insn::{BuildError, Order};
@@ -331,7 +335,9 @@ fn tell_error<W: Tell>(alloc: Global, out: &mut W, text: &[u8], error: TextError
 }
 
 /// How many slots the program of a text has.
-fn slots_of(alloc: Global, text: &str) -> Result<u32, TextError> {
+fn slots_of(alloc: Global, text: &str) -> Result<u32, TextError>
+    ensures { IfOk result (λ n. (is : List Insn) × Assembles text.now is) }
+{
     match assemble(alloc, text, Order::Little) {
         Ok(program) => Ok(program.slots()),
         Err(error) => Err(error),
@@ -339,7 +345,9 @@ fn slots_of(alloc: Global, text: &str) -> Result<u32, TextError> {
 }
 
 /// Tells what bytes are as a text. Whether they are a program's.
-fn tell_text<W: Tell>(alloc: Global, out: &mut W, bytes: &[u8]) -> bool {
+fn tell_text<W: Tell>(alloc: Global, out: &mut W, bytes: &[u8]) -> bool
+    ensures { IsTrue result → ((is : List Insn) × Assembles bytes.now is) }
+{
     let Ok(text) = from_utf8(bytes) else {
         write!(out, "the bytes are no text: they aren't UTF-8\n");
         return false;
@@ -360,7 +368,9 @@ fn tell_text<W: Tell>(alloc: Global, out: &mut W, bytes: &[u8]) -> bool {
 /// Tells in words why bytes are refused as a program's text (A1 to A8): the column, the word at fault, and the forms that begin
 /// so; of a program, how many slots it has. True if it is a program's text; false also of bytes that aren't UTF-8. A fault of
 /// the writer, or a write of no bytes, ends it.
-pub fn explain_text<W: Write>(alloc: Global, bytes: &[u8], out: &mut W) -> io::Result<bool> {
+pub fn explain_text<W: Write>(alloc: Global, bytes: &[u8], out: &mut W) -> io::Result<bool>
+    ensures { IfOk result (λ told. IsTrue told → ((is : List Insn) × Assembles bytes.now is)) }
+{
     let mut page = Page::new(out);
     let is_program = tell_text(alloc, &mut page, bytes);
     page.finish()?;

@@ -1,5 +1,8 @@
 //! The control-flow graph of a program, as DOT text.
 
+ghost use Rattle.std.specs.Prelude.{IfNone};
+ghost use Rattle.bpf_check.specs.CheckedProgram.{IsCertifiedBy};
+
 mod blocks;
 mod edges;
 mod flow;
@@ -86,7 +89,9 @@ pub fn write_dot<C: Code, W: Write>(
     certificate: &Certificate,
     refusal: Option<Refusal>,
     out: &mut W,
-) -> io::Result<()> {
+) -> io::Result<()>
+    requires { IfNone refusal (IsCertifiedBy (C.program program.now) certificate.now) }
+{
     let index = Index::of(certificate);
     let scene = Scene {
         certificate: Some(&index),

@@ -1,5 +1,5 @@
 //! The words of explanations of programs with certificates. It makes no claim but to be safe and to end; what is accepted and what is
-//! refused is told to it.
+//! refused is told to it, and accepted only what is certified.
 #![tactic(auto)]
 
 mod effects;

@@ -1,5 +1,8 @@
 //! A program with a certificate, explained.
 
+ghost use Rattle.std.specs.Prelude.{IfNone};
+ghost use Rattle.bpf_check.specs.CheckedProgram.{IsCertifiedBy};
+
 use crate::listing::{Lengths, steps_of, write_header};
 use crate::pass::see;
 use crate::report::{Report, View};
@@ -72,13 +75,15 @@ fn write_answer<C: Code, W: Tell>(
     }
 }
 
-/// Explains a program with a certificate, and with the checker's answer, on a page.
+/// Explains a program with a certificate, and with the checker's answer, on a page. Without a refusal it is said to be accepted.
 pub fn explain_on<C: Code, W: Tell>(
     program: &C,
     certificate: &Certificate,
     refusal: Option<Refusal>,
     page: &mut W,
-) {
+)
+    requires { IfNone refusal (IsCertifiedBy (C.program program.now) certificate.now) }
+{
     let index = Index::of(certificate);
     write_header(page, &index);
     tell_all(program, &index, View::Listing, page);
@@ -116,7 +121,9 @@ pub fn write_explanation<C: Code, W: Write>(
     certificate: &Certificate,
     refusal: Option<Refusal>,
     out: &mut W,
-) -> io::Result<()> {
+) -> io::Result<()>
+    requires { IfNone refusal (IsCertifiedBy (C.program program.now) certificate.now) }
+{
     let mut page = Page::new(out);
     explain_on(program, certificate, refusal, &mut page);
     page.finish()
