@@ -178,6 +178,36 @@ def fill(table):
     return proposals
 
 
+def errors_of(crate, file):
+    """The texts of a crate's errors, as its sources have them, without the slot or the line that they are of."""
+    source = (EXAMPLES.parent / 'crates' / crate / 'src' / file).read_text()
+    texts = re.findall(r'#\[error\("([^"]*)"\)\]', source)
+    return [re.sub('^line {line}', 'the line', re.sub(' at (slot {slot}|line {line})', '', text)) for text in texts]
+
+
+def texts():
+    """What hosts are told of a refusal is what the crates' errors say. I4 is told apart from the condition that it names, and faults
+    where the crate has texts for them."""
+    done = subprocess.run([HOSTS, 'texts'], capture_output=True, text=True, timeout=60, check=True)
+    told = {'C': [], 'E': [], 'F': [], 'I': [], 'K': []}
+    for line in done.stdout.splitlines():
+        number, _, text = line.partition(' ')
+        told[number[0]].append(text)
+        assert number[1:] == str(len(told[number[0]])), line
+    image, inference = errors_of('bpf_insn', 'refusal.rt'), errors_of('bpf_proposal', 'error.rt')
+    of_slot, of_image = image[:6], image[10:]
+    inference[3] = told['I'][3]
+    want = {
+        'C': errors_of('bpf_check', 'refusal.rt')[:13],
+        'E': [of_image[0], *of_slot, *of_image[2:]],
+        'F': errors_of('bpf_semantics', 'reason.rt') or told['F'],
+        'I': inference,
+        'K': errors_of('bpf_cert', 'error.rt'),
+    }
+    assert told == want, (told, want)
+    assert [len(it) for it in told.values()] == [13, 10, 9, 5, 5], told
+
+
 def frames_of(data):
     at, frames = 24, []
     while at < len(data):
@@ -241,6 +271,8 @@ assert bpf('infer', checksum, 16, FOLDER / 'sum.cert')[0] == 0
 for words in [['bad'], ['memory', checksum, FOLDER / 'sum.cert'], ['threads', checksum, FOLDER / 'sum.cert'], ['many', EXAMPLES / 'first-byte.img', EXAMPLES / 'first-byte.cert']]:
     done = subprocess.run([HOSTS, *words], capture_output=True, text=True, timeout=100)
     assert done.returncode == 0 and not done.stderr, (words, done)
+texts()
+print('each refusal says to hosts what the crates say of it')
 print('bad calls, refused memory, two threads and a million runs: as they should be')
 filters()
 print('the filters in C and Rust answer as the command on each frame')

@@ -1,3 +1,4 @@
+pub mod Texts
 pub mod Told
 pub mod Answers
 pub mod Prepared

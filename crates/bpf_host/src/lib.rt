@@ -7,6 +7,7 @@ ghost use Rattle.bpf_insn.specs.Laws.{IsImageOfProgram};
 ghost use Rattle.bpf_insn.specs.declared.instruction.Insn.{Insn as Instruction};
 ghost use Rattle.bpf_cert.specs.View.{CertificateView};
 ghost use Rattle.bpf_check.specs.Verdicts.{Verified, Promises, Certifies};
+ghost use Rattle.bpf_host.specs.Texts.{refusal_text};
 ghost use Rattle.bpf_host.specs.Told.{order_named, IsNumbered};
 ghost use Rattle.bpf_host.specs.Prepared.{IsPrepared};
 ghost use Rattle.bpf_host.specs.Answers.{IsRefusedAsTold, IsNoImage, RanImage, IsUnrun, MayRun, EndsAsPrepared, GivesProposal, WantsRoom, IsNotProposed};
@@ -207,7 +208,8 @@ pub extern "C" fn bpf_host_infer(
 #[unsafe(no_mangle)]
 pub extern "C" fn bpf_host_refusal_text(kind: u32, number: u32, text: &mut [u8]) -> usize
     ensures numbered { (0 < result) ↔ IsNumbered kind number }
-    ensures given { (words : List ℕ) × (length words ≡ result) × (text.new ≡ take (length text.old) words ++ drop result text.old) }
+    ensures length { result ≡ length (refusal_text kind number) }
+    ensures given { text.new ≡ take (length text.old) (refusal_text kind number) ++ drop result text.old }
 {
     match text_of(kind, number) {
         Some(words) => {

@@ -1,24 +1,26 @@
 //! What the refusals and faults say, in words.
 
-ghost use Rattle.std.specs.Prelude.{◌≡◌, ◌<◌, ◌≤◌, ◌↔◌, ◌++◌, ◌⊎◌, ℕ, List, IsSome, IfSome, length, take, drop};
+ghost use Rattle.std.specs.Prelude.{◌≡◌, ◌<◌, ◌≤◌, ◌↔◌, ◌++◌, [], IsSome, IfSome, MatchOption, length, take, drop};
+ghost use Rattle.bpf_host.specs.Texts.{text_in, image_texts, certificate_texts, check_texts, inference_texts, fault_texts, refusal_text};
 ghost use Rattle.bpf_host.specs.Told.{IsNumbered};
 
 /// E: an image.
 fn of_image(number: u32) -> Option<&'static [u8]>
     ensures numbered { IsSome result ↔ ((1 ≤ number) × (number ≤ 10)) }
     ensures said { IfSome result (λ words. 0 < length words.now) }
+    ensures words { MatchOption result (text_in image_texts number ≡ []) (λ words. words.now ≡ text_in image_texts number) }
 {
     match number {
-        1 => Some(b"the image's length is zero, no multiple of 8, or above 524,288 bytes"),
-        2 => Some(b"no instruction has this opcode"),
-        3 => Some(b"a register field is above 10"),
-        4 => Some(b"a field that the instruction doesn't use is not zero"),
-        5 => Some(b"a field that selects the operation has an undefined value"),
-        6 => Some(b"the second slot of a wide instruction is missing"),
-        7 => Some(b"the instruction is left out of this profile"),
-        8 => Some(b"the jump or call leads to no instruction"),
+        1 => Some(b"length is zero, no multiple of 8, or above 524,288 bytes"),
+        2 => Some(b"unknown opcode"),
+        3 => Some(b"register above r10"),
+        4 => Some(b"unused field is not zero"),
+        5 => Some(b"undefined value of a selecting field"),
+        6 => Some(b"second slot of a wide instruction is missing"),
+        7 => Some(b"instruction is left out of this profile"),
+        8 => Some(b"target of the jump is no instruction"),
         9 => Some(b"out of memory"),
-        10 => Some(b"reading the image failed"),
+        10 => Some(b"reading failed"),
         _ => None,
     }
 }
@@ -27,13 +29,14 @@ fn of_image(number: u32) -> Option<&'static [u8]>
 fn of_certificate(number: u32) -> Option<&'static [u8]>
     ensures numbered { IsSome result ↔ ((1 ≤ number) × (number ≤ 5)) }
     ensures said { IfSome result (λ words. 0 < length words.now) }
+    ensures words { MatchOption result (text_in certificate_texts number ≡ []) (λ words. words.now ≡ text_in certificate_texts number) }
 {
     match number {
         1 => Some(b"the line has no form of a certificate's lines"),
-        2 => Some(b"the line says what another spelling or another order says"),
+        2 => Some(b"the line is not canonical"),
         3 => Some(b"the line goes past a limit"),
         4 => Some(b"out of memory"),
-        5 => Some(b"reading the certificate failed"),
+        5 => Some(b"reading failed"),
         _ => None,
     }
 }
@@ -42,6 +45,7 @@ fn of_certificate(number: u32) -> Option<&'static [u8]>
 fn of_check(number: u32) -> Option<&'static [u8]>
     ensures numbered { IsSome result ↔ ((1 ≤ number) × (number ≤ 13)) }
     ensures said { IfSome result (λ words. 0 < length words.now) }
+    ensures words { MatchOption result (text_in check_texts number ≡ []) (λ words. words.now ≡ text_in check_texts number) }
 {
     match number {
         1 => Some(b"no label stands at the jump's target"),
@@ -65,11 +69,12 @@ fn of_check(number: u32) -> Option<&'static [u8]>
 fn of_inference(number: u32) -> Option<&'static [u8]>
     ensures numbered { IsSome result ↔ ((1 ≤ number) × (number ≤ 5)) }
     ensures said { IfSome result (λ words. 0 < length words.now) }
+    ensures words { MatchOption result (text_in inference_texts number ≡ []) (λ words. words.now ≡ text_in inference_texts number) }
 {
     match number {
-        1 => Some(b"the function's states aren't stable"),
-        2 => Some(b"the loop has no counter, or the label is over a limit"),
-        3 => Some(b"the call is part of a recursion"),
+        1 => Some(b"states of the function aren't stable"),
+        2 => Some(b"no budget for the label"),
+        3 => Some(b"recursion by the call"),
         4 => Some(b"the checker would refuse the instruction"),
         5 => Some(b"out of memory"),
         _ => None,
@@ -80,6 +85,7 @@ fn of_inference(number: u32) -> Option<&'static [u8]>
 fn of_fault(number: u32) -> Option<&'static [u8]>
     ensures numbered { IsSome result ↔ ((1 ≤ number) × (number ≤ 9)) }
     ensures said { IfSome result (λ words. 0 < length words.now) }
+    ensures words { MatchOption result (text_in fault_texts number ≡ []) (λ words. words.now ≡ text_in fault_texts number) }
 {
     match number {
         1 => Some(b"a register is read that holds nothing"),
@@ -99,6 +105,7 @@ fn of_fault(number: u32) -> Option<&'static [u8]>
 pub(crate) fn text_of(kind: u32, number: u32) -> Option<&'static [u8]>
     ensures numbered { IsSome result ↔ IsNumbered kind number }
     ensures said { IfSome result (λ words. 0 < length words.now) }
+    ensures words { MatchOption result (refusal_text kind number ≡ []) (λ words. words.now ≡ refusal_text kind number) }
 {
     match kind {
         67 => of_check(number),

@@ -1,0 +1,85 @@
+-- What the refusals and faults say, by their numbers: the texts of the crates' own errors, without the slot or the line, which stand apart.
+use Rattle.std.specs.Prelude.{◌==◌, if◌then◌else◌, ℕ, zero, suc, List, [], ◌∷◌, codes}
+
+-- E1 to E10: an image
+abbrev pub image_texts : List (List ℕ)
+image_texts =
+    codes "length is zero, no multiple of 8, or above 524,288 bytes" ∷
+    codes "unknown opcode" ∷
+    codes "register above r10" ∷
+    codes "unused field is not zero" ∷
+    codes "undefined value of a selecting field" ∷
+    codes "second slot of a wide instruction is missing" ∷
+    codes "instruction is left out of this profile" ∷
+    codes "target of the jump is no instruction" ∷
+    codes "out of memory" ∷
+    codes "reading failed" ∷
+    []
+
+-- K1 to K5: a certificate
+abbrev pub certificate_texts : List (List ℕ)
+certificate_texts =
+    codes "the line has no form of a certificate's lines" ∷
+    codes "the line is not canonical" ∷
+    codes "the line goes past a limit" ∷
+    codes "out of memory" ∷
+    codes "reading failed" ∷
+    []
+
+-- C1 to C13: a program by its certificate
+abbrev pub check_texts : List (List ℕ)
+check_texts =
+    codes "no label stands at the jump's target" ∷
+    codes "the label is at no instruction's first slot" ∷
+    codes "a register is read that may be uninitialised" ∷
+    codes "the kinds of operands or slots are wrong" ∷
+    codes "an access or a pointer may leave its bounds" ∷
+    codes "a stack byte is read that may be uninitialised" ∷
+    codes "the context or r10 is written" ∷
+    codes "a state doesn't entail what is claimed where it leads to" ∷
+    codes "the budget doesn't cover the cost" ∷
+    codes "the callee's depth isn't below its caller's" ∷
+    codes "the program's end can be passed, or nothing leads here" ∷
+    codes "the function is left otherwise than by an exit" ∷
+    codes "the functions and labels don't fit, or the start doesn't" ∷
+    []
+
+-- I1 to I5: an inference
+abbrev pub inference_texts : List (List ℕ)
+inference_texts =
+    codes "states of the function aren't stable" ∷
+    codes "no budget for the label" ∷
+    codes "recursion by the call" ∷
+    codes "the checker would refuse the instruction" ∷
+    codes "out of memory" ∷
+    []
+
+-- F1 to F9: a run
+abbrev pub fault_texts : List (List ℕ)
+fault_texts =
+    codes "a register is read that holds nothing" ∷
+    codes "a stack byte is read that holds nothing" ∷
+    codes "an access isn't wholly inside the context or a live frame" ∷
+    codes "the context is written" ∷
+    codes "r10 is written" ∷
+    codes "an operand is of the wrong kind" ∷
+    codes "a call with eight live frames" ∷
+    codes "the slot is past the last instruction" ∷
+    codes "r0 is a pointer at an exit" ∷
+    []
+
+-- the text with a number, the first being 1; none is empty
+abbrev pub text_in : List (List ℕ) → ℕ → List ℕ
+text_in [] number = []
+text_in (text ∷ texts) zero = []
+text_in (text ∷ texts) (suc zero) = text
+text_in (text ∷ texts) (suc (suc n)) = text_in texts (suc n)
+
+-- the kind is the letter C, E, F, I or K; nothing where there is no such refusal
+abbrev pub texts_of : ℕ → List (List ℕ)
+texts_of kind =
+    if kind == 67 then check_texts else if kind == 69 then image_texts else if kind == 70 then fault_texts
+    else if kind == 73 then inference_texts else if kind == 75 then certificate_texts else []
+
+abbrev pub refusal_text : (kind number : ℕ) → List ℕ
+refusal_text kind number = text_in (texts_of kind) number
