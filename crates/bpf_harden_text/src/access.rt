@@ -1,0 +1,429 @@
+//! Accesses by offsets: guards, and pointers that are made for one access.
+
+use crate::edits::{loaded, with_base};
+use crate::parts::{add, add_constant, alu, constant, copy, displacement, fetch, is_near, keep};
+use crate::region::Region;
+use crate::writer::Writer;
+use bpf_harden_notes::{Change, HardenError};
+use bpf_harden_plan::{BY_CHOICE, Guard, Kind, Registers};
+use bpf_insn::{Access, AluOp, Cond, Insn, Operand, Reg};
+use bpf_state::Place;
+
+/// An access by an offset.
+#[derive(Clone, Copy)]
+pub struct Site {
+    pub slot: u32,
+    pub insn: Insn,
+    pub access: Access,
+    pub region: Region,
+    pub guard: Option<Guard>,
+}
+
+/// How the register that holds the pointer is come by.
+#[derive(Clone, Copy, PartialEq, Eq)]
+enum Way {
+    /// It holds nothing that is read later, or is loaded.
+    Free,
+    /// It is the base itself, and gets its offset back.
+    InPlace,
+    /// It is saved in the frame, and restored.
+    Saved,
+}
+
+/// The register in which a pointer is made.
+#[derive(Clone, Copy)]
+struct Temp {
+    register: Reg,
+    way: Way,
+}
+
+impl Site {
+    /// How many bytes it accesses.
+    fn bytes(&self) -> i64 {
+        i64::from(self.access.size.bytes())
+    }
+
+    /// The displacement from its base.
+    fn off(&self) -> i64 {
+        i64::from(self.access.off)
+    }
+
+    /// The registers that it reads or fills.
+    fn registers(&self) -> Registers {
+        let mut registers = Registers::NONE;
+        registers.add_some(self.insn.registers_read());
+        if let Some(r) = self.insn.register_written() {
+            registers.add(r);
+        }
+        registers
+    }
+
+    /// Whether it reads its base as a value too.
+    fn reads_base_twice(&self) -> bool {
+        let base = self.access.base;
+        match self.insn {
+            Insn::Store { src, .. } => src == base,
+            Insn::Atomic { src, .. } => src == base || base == Reg::R0,
+            _ => false,
+        }
+    }
+
+    /// The least offset in the base with which it lies in the region.
+    fn least(&self) -> i64 {
+        self.region.start.saturating_sub(self.off())
+    }
+
+    /// The greatest.
+    fn most(&self) -> i64 {
+        let end = self.least().saturating_add(self.region.bytes);
+        end.saturating_sub(self.bytes())
+    }
+
+    /// Whether it lies in the region with no offset from 0 on.
+    fn never_lies(&self) -> bool {
+        let is_exact = self.guard.is_some_and(|guard| guard.exact);
+        self.region.bytes < self.bytes() || !is_exact && self.most() < 0
+    }
+
+    /// What its base is moved by before it is tested. A guard that is exact tests where the access begins, from the region's
+    /// start on; one against an end that is known as the program runs tests where it ends.
+    fn moved_by(&self) -> i64 {
+        match self.guard {
+            Some(_) if self.region.end.is_some() => self.off().saturating_add(self.bytes()),
+            Some(guard) if guard.exact => self.off().saturating_sub(self.region.start),
+            _ => 0,
+        }
+    }
+
+    /// The displacement from the pointer that is made of the moved base.
+    fn displacement(&self) -> i16 {
+        let left = self.off().saturating_sub(self.moved_by());
+        displacement(left.saturating_sub(self.region.origin))
+    }
+}
+
+impl<'a> Writer<'a> {
+    /// Puts an access by an offset. Whether the next instruction may follow.
+    pub fn access(&mut self, site: &Site) -> Result<bool, HardenError> {
+        let constant = self.plan.constant(site.slot);
+        if self.always_leaves(site, constant) {
+            self.trap(site.slot)?;
+            return Ok(false);
+        }
+        if let Some(offset) = constant {
+            if self.access_at(site, offset.saturating_add(site.off()))? {
+                return Ok(true);
+            }
+        }
+        self.access_moved(site)?;
+        Ok(true)
+    }
+
+    /// Whether a guard leads to the trap whenever it is reached.
+    fn always_leaves(&self, site: &Site, constant: Option<i64>) -> bool {
+        if site.guard.is_none() {
+            return false;
+        }
+        let is_out = match constant {
+            Some(offset) => {
+                let at = offset.saturating_add(site.off());
+                !site.region.holds(at, site.bytes())
+            }
+            None => site.never_lies(),
+        };
+        is_out || self.plan.is_hopeless(site.slot)
+    }
+
+    /// Puts an access at an offset that is always the same, if it can be put so.
+    fn access_at(&mut self, site: &Site, at: i64) -> Result<bool, HardenError> {
+        let from_origin = at.saturating_sub(site.region.origin);
+        if !is_near(from_origin) {
+            return Ok(false);
+        }
+        let found = match site.region.base {
+            Place::Register(r) => Some(r),
+            Place::Slot(_) => loaded(&site.insn),
+        };
+        let Some(pointer) = found else {
+            return Ok(false);
+        };
+        let least_end = constant(at.saturating_add(site.bytes()));
+        match (site.guard, site.region.end) {
+            (Some(_), Some(Place::Register(end))) => {
+                self.trap_if(
+                    site.slot,
+                    Cond::Lt,
+                    end,
+                    Operand::Imm(least_end),
+                    Change::Guard,
+                )?;
+            }
+            (Some(_), Some(end)) => {
+                let Some(room) = loaded(&site.insn) else {
+                    return Ok(false);
+                };
+                self.add(site.slot, fetch(room, end), Change::Guard)?;
+                self.trap_if(
+                    site.slot,
+                    Cond::Lt,
+                    room,
+                    Operand::Imm(least_end),
+                    Change::Guard,
+                )?;
+            }
+            (_, _) => {}
+        }
+        if let Place::Slot(_) = site.region.base {
+            self.add(site.slot, fetch(pointer, site.region.base), Change::Address)?;
+        }
+        let insn = with_base(&site.insn, pointer, displacement(from_origin));
+        self.add(site.slot, insn, Change::Access)?;
+        Ok(true)
+    }
+
+    /// Puts an access at an offset that a register holds.
+    fn access_moved(&mut self, site: &Site) -> Result<(), HardenError> {
+        let temp = self.temp(site)?;
+        let pointer = temp.register;
+        if temp.way == Way::Saved {
+            self.save(site, pointer)?;
+        }
+        self.test_base(site)?;
+        let is_direct = self.begin_pointer(site, pointer)?;
+        self.test_moved(site, pointer)?;
+        if !is_direct {
+            self.add_base(site, pointer)?;
+        }
+        let insn = with_base(&site.insn, pointer, site.displacement());
+        self.add(site.slot, insn, Change::Access)?;
+        match temp.way {
+            Way::Free => {}
+            Way::InPlace => self.take_back(site)?,
+            Way::Saved => self.restore(site, pointer)?,
+        }
+        Ok(())
+    }
+
+    // ---- tests
+
+    /// Tests the base itself, where the guard does that.
+    fn test_base(&mut self, site: &Site) -> Result<(), HardenError> {
+        let Some(guard) = site.guard else {
+            return Ok(());
+        };
+        if guard.exact || site.region.end.is_some() {
+            return Ok(());
+        }
+        let least = site.least();
+        let most = site.most();
+        if guard.high {
+            let src = Operand::Imm(constant(most));
+            self.trap_if(site.slot, Cond::Gt, site.access.base, src, Change::Guard)?;
+        }
+        if guard.low && least > 0 {
+            let src = Operand::Imm(constant(least));
+            self.trap_if(site.slot, Cond::Lt, site.access.base, src, Change::Guard)?;
+        }
+        Ok(())
+    }
+
+    /// Begins to make a pointer of the base: copies and moves it. Whether it is one already.
+    fn begin_pointer(&mut self, site: &Site, pointer: Reg) -> Result<bool, HardenError> {
+        let base = site.access.base;
+        let moved = site.moved_by();
+        if pointer == base {
+            if moved != 0 {
+                self.add(
+                    site.slot,
+                    add_constant(base, constant(moved)),
+                    Change::Guard,
+                )?;
+            }
+            return Ok(false);
+        }
+        let is_tested = site.guard.is_some_and(|guard| guard.exact) || site.region.end.is_some();
+        if let (Place::Slot(_), false) = (site.region.base, is_tested) {
+            self.add(site.slot, fetch(pointer, site.region.base), Change::Address)?;
+            self.add(site.slot, add(pointer, base), Change::Address)?;
+            return Ok(true);
+        }
+        self.add(site.slot, copy(pointer, base), Change::Address)?;
+        if moved != 0 {
+            self.add(
+                site.slot,
+                add_constant(pointer, constant(moved)),
+                Change::Guard,
+            )?;
+        }
+        Ok(false)
+    }
+
+    /// Tests the moved base, where the guard does that.
+    fn test_moved(&mut self, site: &Site, moved: Reg) -> Result<(), HardenError> {
+        let Some(guard) = site.guard else {
+            return Ok(());
+        };
+        if let Some(end) = site.region.end {
+            if guard.high {
+                self.test_end(site, moved, end)?;
+            }
+            if guard.low {
+                let least = site.region.start.saturating_add(site.bytes());
+                let src = Operand::Imm(constant(least));
+                self.trap_if(site.slot, Cond::Lt, moved, src, Change::Guard)?;
+            }
+        } else if guard.exact && guard.high {
+            let most = site.region.bytes.saturating_sub(site.bytes());
+            let src = Operand::Imm(constant(most));
+            self.trap_if(site.slot, Cond::Gt, moved, src, Change::Guard)?;
+        }
+        Ok(())
+    }
+
+    /// Leads to the trap if an access ends behind a place's offset.
+    fn test_end(&mut self, site: &Site, moved: Reg, end: Place) -> Result<(), HardenError> {
+        if let Place::Register(r) = end {
+            return Ok(self.trap_if(site.slot, Cond::Gt, moved, Operand::Reg(r), Change::Guard)?);
+        }
+        let other = self.other_temp(site, moved)?;
+        self.begin_other(site, other)?;
+        self.add(site.slot, fetch(other.register, end), Change::Guard)?;
+        let src = Operand::Reg(other.register);
+        self.trap_if(site.slot, Cond::Gt, moved, src, Change::Guard)?;
+        self.end_other(site, other)
+    }
+
+    /// Adds the region's base to an offset.
+    fn add_base(&mut self, site: &Site, pointer: Reg) -> Result<(), HardenError> {
+        if let Place::Register(r) = site.region.base {
+            return Ok(self.add(site.slot, add(pointer, r), Change::Address)?);
+        }
+        let other = self.other_temp(site, pointer)?;
+        self.begin_other(site, other)?;
+        self.add(
+            site.slot,
+            fetch(other.register, site.region.base),
+            Change::Address,
+        )?;
+        self.add(site.slot, add(pointer, other.register), Change::Address)?;
+        self.end_other(site, other)
+    }
+
+    /// Gives the base its offset back.
+    fn take_back(&mut self, site: &Site) -> Result<(), HardenError> {
+        let base = site.access.base;
+        if let Place::Register(r) = site.region.base {
+            let insn = alu(AluOp::Sub, base, Operand::Reg(r));
+            self.add(site.slot, insn, Change::Address)?;
+        }
+        let moved = site.moved_by();
+        if moved != 0 {
+            let back = constant(0i64.saturating_sub(moved));
+            self.add(site.slot, add_constant(base, back), Change::Address)?;
+        }
+        Ok(())
+    }
+
+    // ---- registers
+
+    /// The register in which the pointer of an access is made.
+    fn temp(&self, site: &Site) -> Result<Temp, HardenError> {
+        if let Some(register) = loaded(&site.insn) {
+            return Ok(Temp {
+                register,
+                way: Way::Free,
+            });
+        }
+        if let Some(register) = self.dead(site, site.access.base) {
+            return Ok(Temp {
+                register,
+                way: Way::Free,
+            });
+        }
+        if let (Place::Register(_), false) = (site.region.base, site.reads_base_twice()) {
+            return Ok(Temp {
+                register: site.access.base,
+                way: Way::InPlace,
+            });
+        }
+        self.borrowed(site, site.access.base)
+    }
+
+    /// A register for what is kept in the frame, another one than that of the pointer.
+    fn other_temp(&self, site: &Site, pointer: Reg) -> Result<Temp, HardenError> {
+        match self.dead(site, pointer) {
+            Some(register) => Ok(Temp {
+                register,
+                way: Way::Free,
+            }),
+            None => self.borrowed(site, pointer),
+        }
+    }
+
+    /// A register but this one that holds nothing which is read at an access or later.
+    fn dead(&self, site: &Site, but: Reg) -> Option<Reg> {
+        let live = self.old.live.after(site.slot, &site.insn);
+        for r in BY_CHOICE {
+            if self.is_spare(site, r, but) && !live.has(r) {
+                return Some(r);
+            }
+        }
+        None
+    }
+
+    /// A register but this one that is to be saved meanwhile. H3 if the frame has no room for it.
+    fn borrowed(&self, site: &Site, but: Reg) -> Result<Temp, HardenError> {
+        let function = self.old.function(site.slot);
+        if self.rooms.room(function).scratch.is_some() {
+            for r in BY_CHOICE {
+                if self.is_spare(site, r, but) && self.old.kind(site.slot, r) != Kind::Unknown {
+                    return Ok(Temp {
+                        register: r,
+                        way: Way::Saved,
+                    });
+                }
+            }
+        }
+        Err(HardenError::FullFrame {
+            slot: self.old.uses(function).first,
+        })
+    }
+
+    /// Whether neither an access nor its function needs a register meanwhile.
+    fn is_spare(&self, site: &Site, r: Reg, but: Reg) -> bool {
+        let taken = self.rooms.room(self.old.function(site.slot)).taken;
+        r != but && !site.registers().has(r) && !taken.has(r)
+    }
+
+    /// Saves a register, if it is to be.
+    fn begin_other(&mut self, site: &Site, temp: Temp) -> Result<(), HardenError> {
+        match temp.way {
+            Way::Saved => self.save(site, temp.register),
+            Way::Free | Way::InPlace => Ok(()),
+        }
+    }
+
+    /// Restores a register, if it was saved.
+    fn end_other(&mut self, site: &Site, temp: Temp) -> Result<(), HardenError> {
+        match temp.way {
+            Way::Saved => self.restore(site, temp.register),
+            Way::Free | Way::InPlace => Ok(()),
+        }
+    }
+
+    /// Saves a register in the frame.
+    fn save(&mut self, site: &Site, r: Reg) -> Result<(), HardenError> {
+        if let Some(slot) = self.rooms.room(self.old.function(site.slot)).scratch {
+            self.add(site.slot, keep(Place::Slot(slot), r), Change::Save)?;
+        }
+        Ok(())
+    }
+
+    /// Restores a register that was saved.
+    fn restore(&mut self, site: &Site, r: Reg) -> Result<(), HardenError> {
+        if let Some(slot) = self.rooms.room(self.old.function(site.slot)).scratch {
+            self.add(site.slot, fetch(r, Place::Slot(slot)), Change::Save)?;
+        }
+        Ok(())
+    }
+}

@@ -1,0 +1,124 @@
+//! Old instructions with a field changed.
+
+use bpf_insn::{Insn, Operand, Reg, Size, Width};
+
+/// The offset that stands for the frame pointer: offsets into a frame go from 0 to this.
+pub const FRAME_END: i32 = 512;
+
+/// An access by another base.
+pub fn with_base(insn: &Insn, base: Reg, off: i16) -> Insn {
+    match *insn {
+        Insn::Load { size, dst, .. } => Insn::Load {
+            size,
+            dst,
+            src: base,
+            off,
+        },
+        Insn::LoadSx { size, dst, .. } => Insn::LoadSx {
+            size,
+            dst,
+            src: base,
+            off,
+        },
+        Insn::Store { size, src, .. } => Insn::Store {
+            size,
+            dst: base,
+            off,
+            src,
+        },
+        Insn::StoreImm { size, imm, .. } => Insn::StoreImm {
+            size,
+            dst: base,
+            off,
+            imm,
+        },
+        Insn::Atomic { wide, op, src, .. } => Insn::Atomic {
+            wide,
+            op,
+            dst: base,
+            off,
+            src,
+        },
+        _ => *insn,
+    }
+}
+
+/// The register that a load fills; none of another access.
+pub fn loaded(insn: &Insn) -> Option<Reg> {
+    match *insn {
+        Insn::Load { dst, .. } | Insn::LoadSx { dst, .. } => Some(dst),
+        _ => None,
+    }
+}
+
+/// The operation on 64 bits.
+pub fn widened(insn: &Insn) -> Insn {
+    match *insn {
+        Insn::Alu { op, dst, src, .. } => Insn::Alu {
+            op,
+            width: Width::W64,
+            dst,
+            src,
+        },
+        _ => *insn,
+    }
+}
+
+/// The second operand, with an offset in the place of the frame pointer.
+fn operand(src: Operand) -> Operand {
+    match src {
+        Operand::Reg(Reg::R10) => Operand::Imm(FRAME_END),
+        other => other,
+    }
+}
+
+/// Whether an instruction takes the frame pointer as a value.
+pub fn takes_frame_pointer(insn: &Insn) -> bool {
+    match *insn {
+        Insn::Alu { src, .. } | Insn::JumpIf { src, .. } => src == Operand::Reg(Reg::R10),
+        Insn::Store { src, .. } => src == Reg::R10,
+        _ => false,
+    }
+}
+
+/// The instruction with an offset in the place of the frame pointer where it is a value.
+pub fn with_offset(insn: &Insn) -> Insn {
+    match *insn {
+        Insn::Alu {
+            op,
+            width,
+            dst,
+            src,
+        } => Insn::Alu {
+            op,
+            width,
+            dst,
+            src: operand(src),
+        },
+        Insn::JumpIf {
+            cond,
+            width,
+            dst,
+            src,
+            off,
+        } => Insn::JumpIf {
+            cond,
+            width,
+            dst,
+            src: operand(src),
+            off,
+        },
+        Insn::Store {
+            size: Size::DW,
+            dst,
+            off,
+            src: Reg::R10,
+        } => Insn::StoreImm {
+            size: Size::DW,
+            dst,
+            off,
+            imm: FRAME_END,
+        },
+        _ => *insn,
+    }
+}

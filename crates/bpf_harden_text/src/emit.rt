@@ -1,0 +1,196 @@
+//! The text of a program under a plan.
+
+use crate::access::Site;
+use crate::draft::Draft;
+use crate::edits::{takes_frame_pointer, widened, with_offset};
+use crate::parts::{JUMP, add_constant, fetch, keep};
+use crate::piece::Goal;
+use crate::region::Region;
+use crate::writer::Writer;
+use bpf_harden_notes::{Change, HardenError};
+use bpf_harden_plan::{BY_CHOICE, Kind, Old, Plan, Rooms};
+use bpf_insn::{Access, Cond, Insn, Operand, Reg};
+use bpf_outline::{Flow, put};
+use bpf_state::Place;
+use std::alloc::Global;
+
+impl<'a> Writer<'a> {
+    /// The old instruction at a slot, if it is kept.
+    fn kept(&self, slot: u32) -> Option<&'a Insn> {
+        self.plan.kept(self.old, slot)
+    }
+
+    /// Puts the functions, one after the other.
+    fn put_all(&mut self) -> Result<(), HardenError> {
+        for function in 0..self.old.count() {
+            if self.kept(self.old.first(function)).is_some() {
+                self.put_function(function)?;
+            }
+        }
+        Ok(())
+    }
+
+    /// Puts a function.
+    fn put_function(&mut self, function: usize) -> Result<(), HardenError> {
+        self.enter(function)?;
+        for slot in self.old.first(function)..self.old.first(function.saturating_add(1)) {
+            if let Some(insn) = self.kept(slot) {
+                put(&mut self.starts, slot as usize, Some(self.at));
+                self.put_slot(slot, insn)?;
+            }
+        }
+        self.end_with_trap(function)?;
+        Ok(())
+    }
+
+    /// Puts what stands in the place of an old instruction.
+    fn put_slot(&mut self, slot: u32, insn: &Insn) -> Result<(), HardenError> {
+        if let Some(counter) = self.rooms.counter(slot) {
+            self.take_turn(slot, counter)?;
+        }
+        let goes_on = match insn.access() {
+            Some(access) => self.put_access(slot, insn, access)?,
+            None => {
+                self.put_other(slot, insn)?;
+                true
+            }
+        };
+        let next = slot.saturating_add(insn.slots());
+        if goes_on && insn.goes_on() && self.kept(next).is_none() {
+            self.trap(slot)?;
+        }
+        Ok(())
+    }
+
+    // ---- turns
+
+    /// Takes a turn from a counter, or leads to the trap where none is left.
+    fn take_turn(&mut self, slot: u32, counter: Place) -> Result<(), HardenError> {
+        if let Place::Register(r) = counter {
+            return self.take_turn_in(slot, r);
+        }
+        let (r, saved) = self.turn_register(slot)?;
+        if let Some(place) = saved {
+            self.add(slot, keep(place, r), Change::Save)?;
+        }
+        self.add(slot, fetch(r, counter), Change::Turn)?;
+        self.take_turn_in(slot, r)?;
+        self.add(slot, keep(counter, r), Change::Turn)?;
+        if let Some(place) = saved {
+            self.add(slot, fetch(r, place), Change::Save)?;
+        }
+        Ok(())
+    }
+
+    /// As `take_turn` for a counter in a register.
+    fn take_turn_in(&mut self, slot: u32, r: Reg) -> Result<(), HardenError> {
+        self.trap_if(slot, Cond::Eq, r, Operand::Imm(0), Change::Turn)?;
+        Ok(self.add(slot, add_constant(r, -1), Change::Turn)?)
+    }
+
+    /// A register for a counter that is kept in the frame, and where it is saved meanwhile, if it is. H3 if there is none.
+    fn turn_register(&self, slot: u32) -> Result<(Reg, Option<Place>), HardenError> {
+        let function = self.old.function(slot);
+        let room = self.rooms.room(function);
+        let live = self.old.live.before(slot);
+        for r in BY_CHOICE {
+            if !live.has(r) && !room.taken.has(r) {
+                return Ok((r, None));
+            }
+        }
+        if let Some(scratch) = room.scratch {
+            for r in BY_CHOICE {
+                if !room.taken.has(r) && self.old.kind(slot, r) != Kind::Unknown {
+                    return Ok((r, Some(Place::Slot(scratch))));
+                }
+            }
+        }
+        Err(HardenError::FullFrame {
+            slot: self.old.uses(function).first,
+        })
+    }
+
+    // ---- instructions
+
+    /// Puts an access. Whether the next instruction may follow.
+    fn put_access(&mut self, slot: u32, insn: &Insn, access: Access) -> Result<bool, HardenError> {
+        let edited = self.edited(insn);
+        let kind = self.old.kind(slot, access.base);
+        let room = self.rooms.room(self.old.function(slot));
+        match Region::of(self.plan, &room, kind) {
+            Some(region) if access.base != Reg::R10 => {
+                let site = Site {
+                    slot,
+                    insn: edited,
+                    access,
+                    region,
+                    guard: self.plan.guard(slot),
+                };
+                self.access(&site)
+            }
+            _ => {
+                self.put_edited(slot, insn, Goal::Next)?;
+                Ok(true)
+            }
+        }
+    }
+
+    /// Puts an instruction that accesses no memory.
+    fn put_other(&mut self, slot: u32, insn: &Insn) -> Result<(), HardenError> {
+        match Flow::of(slot, insn) {
+            Flow::Next | Flow::Exit => self.put_edited(slot, insn, Goal::Next),
+            Flow::Jump(target) => {
+                let goal = self.goal(slot, target);
+                Ok(self.put(slot, JUMP, goal, None)?)
+            }
+            Flow::Branch(target) => {
+                let goal = self.goal(slot, target);
+                self.put_edited(slot, insn, goal)
+            }
+            Flow::Call(target) => self.call(slot, *insn, self.old.function(target)),
+        }
+    }
+
+    /// Where a jump leads to an old slot: to the trap where that was left out.
+    fn goal(&self, slot: u32, target: u32) -> Goal {
+        if self.kept(target).is_some() {
+            Goal::Old(target)
+        } else {
+            Goal::Trap(self.old.function(slot))
+        }
+    }
+
+    /// The instruction with an offset in the place of the frame pointer, where frame pointers are offsets.
+    fn edited(&self, insn: &Insn) -> Insn {
+        if self.plan.frames {
+            with_offset(insn)
+        } else {
+            *insn
+        }
+    }
+
+    /// Puts an instruction as it was, or with offsets or 64 bits.
+    fn put_edited(&mut self, slot: u32, insn: &Insn, goal: Goal) -> Result<(), HardenError> {
+        let change = if self.plan.widens(slot) {
+            Some(Change::Widened)
+        } else if self.plan.frames && takes_frame_pointer(insn) {
+            Some(Change::Offset)
+        } else {
+            None
+        };
+        let edited = self.edited(insn);
+        let whole = if self.plan.widens(slot) {
+            widened(&edited)
+        } else {
+            edited
+        };
+        Ok(self.put(slot, whole, goal, change)?)
+    }
+}
+
+/// The text of a program under a plan. H3 where the frame has no room, H4 and H9 where it would be too long.
+pub fn emitted(alloc: Global, old: &Old, plan: &Plan, rooms: &Rooms) -> Result<Draft, HardenError> {
+    let mut writer = Writer::new(alloc, old, plan, rooms)?;
+    writer.put_all()?;
+    Draft::of(alloc, writer)
+}

@@ -1,0 +1,162 @@
+//! What stands at the entries of functions, and at their ends.
+
+use crate::parts::{add_constant, constant, copy, fetch, keep, keep_constant, load, set};
+use crate::piece::Goal;
+use crate::writer::Writer;
+use bpf_harden_notes::{Change, HardenError};
+use bpf_harden_plan::{Room, Uses};
+use bpf_insn::{Cond, Insn, Operand, Reg};
+use bpf_outline::{get_or, put};
+use bpf_state::Place;
+use std::alloc::AllocError;
+
+/// How many bytes say how long a block's packet is.
+const LENGTH_BYTES: u32 = 8;
+
+impl<'a> Writer<'a> {
+    /// Puts what stands at the entry of a function.
+    pub fn enter(&mut self, function: usize) -> Result<(), AllocError> {
+        let uses = self.old.uses(function);
+        put(&mut self.entries, function, Some(self.at));
+        if function == 0 {
+            self.enter_first(uses)?;
+        } else {
+            self.enter_called(function, uses)?;
+        }
+        self.set_turns(function, uses)?;
+        if self.plan.zeroes(function) {
+            self.set_zeros(uses, self.rooms.room(function))?;
+        }
+        if self.plan.clears(function) {
+            self.add(uses.first, set(Reg::R0, 0), Change::Result)?;
+        }
+        Ok(())
+    }
+
+    /// Keeps the context's start, and makes r1 an offset and r2 the length of a block's packet.
+    fn enter_first(&mut self, uses: Uses) -> Result<(), AllocError> {
+        if !self.plan.offsets {
+            return Ok(());
+        }
+        let room = self.rooms.room(0);
+        if let Some(base) = room.base {
+            self.add(uses.first, keep(base, Reg::R1), Change::Base)?;
+        }
+        if self.plan.options.padded {
+            self.read_length(uses.first, Reg::R1, Reg::R2)?;
+            self.keep_end(uses.first, Reg::R2, room)?;
+        }
+        let start = constant(self.plan.start());
+        self.add(
+            uses.first,
+            keep_constant(Place::Register(Reg::R1), start),
+            Change::Base,
+        )
+    }
+
+    /// Keeps the context's start that a function is handed.
+    fn enter_called(&mut self, function: usize, uses: Uses) -> Result<(), AllocError> {
+        let room = self.rooms.room(function);
+        let (Some(base), Some(handed)) = (room.base, room.handed) else {
+            return Ok(());
+        };
+        if base != Place::Register(handed) {
+            self.add(uses.first, keep(base, handed), Change::Base)?;
+        }
+        if self.plan.options.padded {
+            // Nothing that a function is called with stands in r0.
+            self.read_length(uses.first, handed, Reg::R0)?;
+            self.keep_end(uses.first, Reg::R0, room)?;
+        }
+        Ok(())
+    }
+
+    /// Puts the length of a block's packet into a register, or leads to the trap if it is more than a block has.
+    fn read_length(&mut self, slot: u32, context: Reg, length: Reg) -> Result<(), AllocError> {
+        let most = self.plan.length.saturating_sub(LENGTH_BYTES);
+        self.add(slot, load(length, context, 0), Change::Length)?;
+        let src = Operand::Imm(constant(i64::from(most)));
+        self.trap_if(slot, Cond::Gt, length, src, Change::Length)
+    }
+
+    /// Keeps the offset at which a block's packet ends.
+    fn keep_end(&mut self, slot: u32, length: Reg, room: Room) -> Result<(), AllocError> {
+        let more = constant(i64::from(LENGTH_BYTES));
+        match room.end {
+            Some(Place::Register(end)) => {
+                self.add(slot, copy(end, length), Change::Length)?;
+                self.add(slot, add_constant(end, more), Change::Length)
+            }
+            Some(end) => {
+                self.add(slot, copy(Reg::R0, length), Change::Length)?;
+                self.add(slot, add_constant(Reg::R0, more), Change::Length)?;
+                self.add(slot, keep(end, Reg::R0), Change::Length)
+            }
+            None => Ok(()),
+        }
+    }
+
+    /// Sets the counters of a function's loops.
+    fn set_turns(&mut self, function: usize, uses: Uses) -> Result<(), AllocError> {
+        let turns = constant(i64::from(self.plan.options.turns));
+        for slot in uses.first..uses.end {
+            if let Some(counter) = self.rooms.counter(slot) {
+                self.add(uses.first, keep_constant(counter, turns), Change::Turns)?;
+                if self.plan.shares(function) {
+                    break;
+                }
+            }
+        }
+        Ok(())
+    }
+
+    /// Sets the bytes of the frame to zero that a function uses.
+    fn set_zeros(&mut self, uses: Uses, room: Room) -> Result<(), AllocError> {
+        for number in 1..65u8 {
+            if u32::from(number) <= room.frame / 8 {
+                let insn = keep_constant(Place::Slot(number), 0);
+                self.add(uses.first, insn, Change::Zero)?;
+            }
+        }
+        Ok(())
+    }
+
+    /// Puts the trap of a function, if something leads to it.
+    pub fn end_with_trap(&mut self, function: usize) -> Result<(), AllocError> {
+        if !get_or(&self.is_trapped, function, false) {
+            return Ok(());
+        }
+        let uses = self.old.uses(function);
+        put(&mut self.traps, function, Some(self.at));
+        let answer = match self.rooms.room(function).spare {
+            Some(spare) => set(Reg::R0, i64::from(spare).cast_unsigned()),
+            None => set(Reg::R0, self.plan.options.otherwise),
+        };
+        self.add(uses.first, answer, Change::Trap)?;
+        self.add(uses.first, Insn::Exit, Change::Trap)
+    }
+
+    /// Puts a call: hands on the context's start, and tests whether the function came back from its trap.
+    pub fn call(&mut self, slot: u32, insn: Insn, callee: usize) -> Result<(), HardenError> {
+        let caller = self.rooms.room(self.old.function(slot));
+        let called = self.rooms.room(callee);
+        if let (Some(base), true, Some(handed)) = (
+            caller.base,
+            called.base.is_some(),
+            called.handed,
+        ) {
+            self.add(slot, fetch(handed, base), Change::Handed)?;
+        }
+        self.put(slot, insn, Goal::Entry(callee), None)?;
+        if let (true, Some(spare)) = (called.traps, called.spare) {
+            self.trap_if(
+                slot,
+                Cond::Eq,
+                Reg::R0,
+                Operand::Imm(spare),
+                Change::Returned,
+            )?;
+        }
+        Ok(())
+    }
+}

@@ -1,0 +1,17 @@
+//! The text of a hardened program: templates in the place of old instructions, and where they come to stand. It makes no claim
+//! but to be safe and to end.
+#![tactic(auto)]
+
+mod access;
+mod draft;
+mod edits;
+mod emit;
+mod entry;
+mod parts;
+mod piece;
+mod region;
+mod writer;
+
+pub use draft::{Draft, Owner};
+pub use emit::emitted;
+pub use piece::{Goal, Piece};

@@ -1,0 +1,55 @@
+//! The regions of memory that accesses by offsets go to.
+
+use bpf_harden_plan::{Kind, Plan, Room};
+use bpf_insn::Reg;
+use bpf_state::Place;
+
+/// The offset that stands for a frame's end.
+const FRAME_END: i64 = 512;
+
+/// What an access by an offset goes to.
+#[derive(Clone, Copy)]
+pub struct Region {
+    /// The first offset that may be accessed, and how many bytes there are from there on.
+    pub start: i64,
+    pub bytes: i64,
+    /// Where a pointer into it is kept, and the offset that this pointer stands for.
+    pub base: Place,
+    pub origin: i64,
+    /// Where the offset is kept at which it ends, if that is known as the program runs.
+    pub end: Option<Place>,
+}
+
+impl Region {
+    /// The region that a function reaches by registers of a kind, if these hold offsets.
+    pub fn of(plan: &Plan, room: &Room, kind: Kind) -> Option<Region> {
+        match kind {
+            Kind::Context if plan.offsets => {
+                Some(Region {
+                    start: plan.start(),
+                    bytes: i64::from(plan.length).saturating_sub(plan.start()),
+                    base: room.base?,
+                    origin: 0,
+                    end: room.end,
+                })
+            }
+            Kind::Frame if plan.frames => {
+                let depth = i64::from(room.frame.min(512));
+                Some(Region {
+                    start: FRAME_END.saturating_sub(depth),
+                    bytes: depth,
+                    base: Place::Register(Reg::R10),
+                    origin: FRAME_END,
+                    end: None,
+                })
+            }
+            _ => None,
+        }
+    }
+
+    /// Whether an access of so many bytes at an offset lies in it.
+    pub fn holds(&self, offset: i64, bytes: i64) -> bool {
+        let end = self.start.saturating_add(self.bytes);
+        self.start <= offset && offset.saturating_add(bytes) <= end
+    }
+}
