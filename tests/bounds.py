@@ -4,13 +4,15 @@
 - each form of an instruction has its image in both byte orders, and is listed again; opcodes and fields are those of RFC 9669, by a
   table of this script;
 - each of the 256 opcodes is known, left out, or unknown, and known ones are in their conformance group;
-- texts and programs end where ASSEMBLY.md says: 65,536 slots, 16 bits of distance, 16,777,216 bytes;
+- texts and programs end where ASSEMBLY.md says: 65,536 slots, 16 bits of distance;
+- the longest text that is read has 16,777,216 bytes, and one without end is left in bounded memory;
 - listings and images that end about a piece of 4,096 bytes, or have an instruction over two, go out whole: each write but the last
   is a piece. Standard output is a socket that keeps the ends of writes.
 
 Nothing that is wanted comes from the command."""
 
 import os
+import resource
 import socket
 import struct
 import subprocess
@@ -22,8 +24,8 @@ from concurrent.futures import ThreadPoolExecutor
 PIECE = 4096
 SECONDS = 60
 
-# What is asked, how it is shown, standard input, and what must be written; a refusal begins with `no ` and has status 1.
-Ask = namedtuple("Ask", "shows words given wanted")
+# What is asked, how it is shown, standard input, what must be written, and the status: a refusal begins with `no ` and has status 1.
+Ask = namedtuple("Ask", "shows words given wanted status", defaults=(None,))
 
 # An instruction: its text, and the fields of its slot; `upper` are the upper 32 bits of a 64-bit constant, or None.
 Form = namedtuple("Form", "text opcode dst src off imm upper", defaults=(0, 0, 0, 0, None))
@@ -140,6 +142,11 @@ def refused(shows, text, wanted):
     return Ask(shows, ["asm", "-", "-"], text, wanted)
 
 
+def unread(shows, given, *words):
+    """A text that is too long to be read."""
+    return Ask(shows, list(words), given, f"cannot read {words[-1]}\n".encode(), 3)
+
+
 def limits():
     """Distances, slots and bytes, as far as they go and one further."""
     for sums in (32767, 32768):
@@ -153,7 +160,8 @@ def limits():
     longest = b"exit\n;" + b"a comment of 16 " * 1048575 + b"and of ten"
     assert len(longest) == 16777216
     yield Ask("a text of the greatest length", ["asm", "-", "-"], longest, EXIT_IMAGE)
-    yield refused("a longer text", longest + b"\nno form", b"no A8 at line 0\n")
+    yield unread("a text of a byte more", longest + b"\n", "asm", "-", "-")
+    yield unread("the same in words", longest + b"\n", "explain", "--text", "-")
 
 
 MOVE, MOVE_IMAGE = b"r1 = 5\n", slot(False, 0xB7, 1, imm=5)
@@ -195,6 +203,17 @@ def answer_to(bpf, ask):
             child.wait()
 
 
+def endless(bpf):
+    """What is wrong with the answers to a text without end, where the command may have 256 MiB of memory, or nothing."""
+    for words in (["asm", "/dev/zero", "-"], ["explain", "--text", "/dev/zero"]):
+        room = lambda: resource.setrlimit(resource.RLIMIT_AS, (1 << 28, 1 << 28))
+        done = subprocess.run([bpf, *words], preexec_fn=room, capture_output=True, timeout=SECONDS, check=False)
+        got = done.returncode, done.stdout, done.stderr
+        if got != (3, b"", b"cannot read /dev/zero\n"):
+            return f"{words}: {got}"
+    return ""
+
+
 def difference(got, wanted):
     at = next((i for i, (one, other) in enumerate(zip(got, wanted)) if one != other), min(len(got), len(wanted)))
     start = max(at - 16, 0)
@@ -210,7 +229,7 @@ def wrong(bpf, ask):
     got = b"".join(writes)
     if got != ask.wanted:
         return f"{ask.shows}: {difference(got, ask.wanted)}"
-    if status != ask.wanted.startswith(b"no "):
+    if status != (ask.wanted.startswith(b"no ") if ask.status is None else ask.status):
         return f"{ask.shows}: status {status}"
     lengths = [len(it) for it in writes]
     if ask.words[0] != "groups" and status == 0 and any(it != PIECE for it in lengths[:-1]):
@@ -226,7 +245,10 @@ def main(bpf):
                 pool.shutdown(cancel_futures=True)
                 print(f"bounds: {failed}")
                 return 1
-    print(f"bounds: {len(asks)} commands, no wrong answer")
+    if failed := endless(bpf):
+        print(f"bounds: {failed}")
+        return 1
+    print(f"bounds: {len(asks) + 2} commands, no wrong answer")
     return 0
 
 

@@ -4,6 +4,6 @@ pub mod TextLemmas
 pub mod MadeLemmas
 pub mod JudgedLemmas
 pub mod LinesLemmas
-pub mod WholeLemmas
+pub mod ReadingLemmas
 pub mod EachLemmas
 pub mod ExplainedLemmas

@@ -13,7 +13,7 @@ use Rattle.bpf_text.specs.Listing.{listing}
 use Rattle.bpf_text.specs.Annotated.{annotated}
 use Rattle.bpf_text.specs.declared.annotated.Notes.{Notes}
 use Rattle.bpf_text.specs.declared.error.TextError.{TextError}
-use Rattle.bpf_text.specs.declared.error.TextError.TheVariants.{Form, Range, DefinedAgain, Undefined, TooFar, Program, Memory as TextMemory, TooLong}
+use Rattle.bpf_text.specs.declared.error.TextError.TheVariants.{Form, Range, DefinedAgain, Undefined, TooFar, Program, Memory as TextMemory}
 use Rattle.bpf_cert.specs.RefusalNumbers.{refusal_number as cert_number, refusal_line as cert_line}
 use Rattle.bpf_cert.specs.declared.error.CertError.{CertError}
 use Rattle.bpf_check.specs.RefusalNumbers.{refusal_number as check_number, refusal_slot as check_slot}
@@ -92,7 +92,6 @@ text_refusal_line (TooFar line) = concat (codes "no A5 at line " ∷ decimal lin
 text_refusal_line (Program line error) =
     concat (codes "no A6 at line " ∷ decimal line ∷ codes " (E" ∷ decimal (build_number error) ∷ codes " at slot " ∷ decimal (build_slot error) ∷ codes ")\n" ∷ [])
 text_refusal_line TextMemory = codes "no A7 at line 0\n"
-text_refusal_line TooLong = codes "no A8 at line 0\n"
 
 -- `no I2 at slot 1`, `no I4 (C5) at slot 0`
 abbrev pub infer_refusal_line : InferError → List ℕ

@@ -11,7 +11,7 @@ use Rattle.bpf_check.specs.CheckedProgram.{IsCertifiedBy}
 use Rattle.bpf_check.specs.declared.refusal.Refusal.{Refusal}
 use Rattle.bpf_check.specs.RefusalNumbers.{refusal_slot, refusal_number}
 use Rattle.bpf_command.specs.Opened.{Opening}
-use Rattle.bpf_command.specs.Loaded.{ImageFails, TextAt, TextFails}
+use Rattle.bpf_command.specs.Loaded.{ImageFails, ShortTextAt, TextFails}
 use Rattle.bpf_command.specs.Answer.{Answer, status_of}
 use Rattle.bpf_command.specs.Answer.Answer.{NoText, NotCertified, NotProposed, Lists, Written}
 use Rattle.bpf_command.specs.Printed.{ImageSays, ListSays, LoadedSays, LoadedFails, YesSays}
@@ -26,8 +26,8 @@ Answers says status = (answer : Answer) × (status ≡ status_of answer) × says
 
 -- what is said of the text at a name: its program, or why it is none
 abbrev pub TextSays : {S : Type 0} → Opening S → S → List ℕ → S → Answer → Type 0
-TextSays opening old input new (NoText e) = TextAt opening old input new (λ text. (e ≡ NoRoom) ⊎ IsRefused text e)
-TextSays opening old input new (Lists is) = TextAt opening old input new (λ text. Assembles text is)
+TextSays opening old input new (NoText e) = ShortTextAt opening old input new (λ text. (e ≡ NoRoom) ⊎ IsRefused text e)
+TextSays opening old input new (Lists is) = ShortTextAt opening old input new (λ text. Assembles text is)
 TextSays opening old input new answer = ⊥
 
 -- the status of the checker's answer: 0 where it certifies, else 1

@@ -1,14 +1,11 @@
 -- What stands at names: the image of a program, and a certificate.
-use Rattle.std.specs.Prelude.{◌≡◌, ◌⊎◌, ◌<◌, length, ℕ, Bool, true, false, List, Option, Some, None, IfSome}
+use Rattle.std.specs.Prelude.{◌≡◌, ◌⊎◌, ◌<◌, ◌≤◌, length, ℕ, Bool, true, false, List, Option, Some, None, IfSome}
 use Rattle.bpf_insn.specs.Instruction.{Instructions}
 use Rattle.bpf_insn.specs.Laws.{IsImageOfProgram}
 use Rattle.bpf_insn.specs.Refusal.{IsRefused}
 use Rattle.bpf_insn.specs.declared.order.Order.{Order}
 use Rattle.bpf_insn.specs.declared.refusal.DecodeError.{DecodeError}
 use Rattle.bpf_insn.specs.declared.refusal.DecodeError.TheVariants.{Memory}
-use Rattle.bpf_text.specs.Assembly.{max_text}
-use Rattle.bpf_text.specs.declared.error.TextError.{TextError}
-use Rattle.bpf_text.specs.declared.error.TextError.TheVariants.{TooLong}
 use Rattle.bpf_cert.specs.View.{CertificateView}
 use Rattle.bpf_cert.specs.Certificates.{Spells}
 use Rattle.bpf_cert.specs.ReadAnswers.{IsFaultOf}
@@ -49,17 +46,17 @@ ImageFails opening old input new failure = OutputFails failure
 abbrev pub TextAt : {S : Type 0} → Opening S → S → List ℕ → S → (List ℕ → Type 0) → Type 0
 TextAt opening old name new says = (text : Option (List ℕ)) × opening old name (Some text) new × IfSome text says
 
--- all bytes of a text were read, or it has more than a text may have and so have those that were read
-abbrev pub ReadsText : List ℕ → List ℕ → Type 0
-ReadsText read bytes = (read ≡ bytes) ⊎ ((max_text < length read) × (max_text < length bytes))
+-- the greatest length of a text that is read, in bytes
+abbrev pub max_text : ℕ
+max_text = 16777216
 
--- the text at the name is too long
-abbrev pub TextTooLong : {S : Type 0} → Opening S → S → List ℕ → S → TextError → Type 0
-TextTooLong opening old name new e = (e ≡ TooLong) × TextAt opening old name new (λ text. max_text < length text)
+-- the same of a text that is no longer than that
+abbrev pub ShortTextAt : {S : Type 0} → Opening S → S → List ℕ → S → (List ℕ → Type 0) → Type 0
+ShortTextAt opening old name new says = TextAt opening old name new (λ text. (length text ≤ max_text) × says text)
 
--- the name can't be opened, its reader fails, or its text isn't UTF-8
+-- the name can't be opened, its reader fails, or its text isn't UTF-8 or is longer
 abbrev pub TextFails : {S : Type 0} → Opening S → S → List ℕ → S → Failure → Type 0
-TextFails opening old input new (CannotRead name) = (name.now ≡ input) × (Unreadable opening old input new ⊎ TextAt opening old input new (λ text. ¬ (IsUtf8 text)))
+TextFails opening old input new (CannotRead name) = (name.now ≡ input) × (Unreadable opening old input new ⊎ TextAt opening old input new (λ text. (¬ (IsUtf8 text)) ⊎ (max_text < length text)))
 TextFails opening old input new failure = OutputFails failure
 
 -- ---- certificates

@@ -23,7 +23,7 @@ use Rattle.bpf_command.specs.Context.{context_in, max_context}
 use Rattle.bpf_command.specs.declared.context.ContextError.{ContextError}
 use Rattle.bpf_command.specs.declared.context.ContextError.TheVariants.{Memory as NoSpace}
 use Rattle.bpf_command.specs.Opened.{Opening}
-use Rattle.bpf_command.specs.Loaded.{ImageRefused, LoadsImage, ImageFails, TextAt, TextFails, CertificateAt, CertificateRefused, CertificateUnread, CertificateFails}
+use Rattle.bpf_command.specs.Loaded.{ImageRefused, LoadsImage, ImageFails, ShortTextAt, TextFails, CertificateAt, CertificateRefused, CertificateUnread, CertificateFails}
 use Rattle.bpf_command.specs.Made.{Making}
 use Rattle.bpf_command.specs.Answer.{Answer}
 use Rattle.bpf_command.specs.Answer.Answer.{Yes, NoImage, NoText, NoCertificate, NotCertified, NotProposed, NoContext, Ends, Ran, Occur, Lists, Annotates, Written}
@@ -133,12 +133,12 @@ RunCheckedSays opening order old input certificate new context answer = LoadedSa
 
 -- the text at the name says the program, which is taken in this order
 pub record LoadsText {S : Type 0} (opening : Opening S) (order : Order) (old : S) (name : List ℕ) (new : S) (p : Instructions) : Type 0 where
-  pub assembles : TextAt opening old name new (λ text. Assembles text p.list)
+  pub assembles : ShortTextAt opening old name new (λ text. Assembles text p.list)
   pub order_is : p.order ≡ order
 
 -- OUT holds the program's image, or isn't opened
 abbrev pub AsmSays : {S : Type 0} → Opening S → Making S → Order → S → List ℕ → List ℕ → S → Answer → Type 0
-AsmSays opening making order old input output new (NoText e) = TextAt opening old input new (λ text. (e ≡ NoRoom) ⊎ IsRefused text e)
+AsmSays opening making order old input output new (NoText e) = ShortTextAt opening old input new (λ text. (e ≡ NoRoom) ⊎ IsRefused text e)
 AsmSays {S} opening making order old input output new Written =
     (between : S) × (p : Instructions) × LoadsText opening order old input between p × making between output (image p.order p.list) true new
 AsmSays opening making order old input output new answer = ⊥

@@ -7,6 +7,7 @@ mod failure;
 mod files;
 mod keeping;
 mod progress;
+mod reading;
 mod response;
 mod streams;
 

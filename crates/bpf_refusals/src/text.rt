@@ -365,7 +365,7 @@ fn tell_text<W: Tell>(alloc: Global, out: &mut W, bytes: &[u8]) -> bool
     }
 }
 
-/// Tells in words why bytes are refused as a program's text (A1 to A8): the column, the word at fault, and the forms that begin
+/// Tells in words why bytes are refused as a program's text (A1 to A7): the column, the word at fault, and the forms that begin
 /// so; of a program, how many slots it has. True if it is a program's text; false also of bytes that aren't UTF-8. A fault of
 /// the writer, or a write of no bytes, ends it.
 pub fn explain_text<W: Write>(alloc: Global, bytes: &[u8], out: &mut W) -> io::Result<bool>

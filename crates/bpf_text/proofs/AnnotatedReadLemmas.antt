@@ -220,7 +220,7 @@ line_length notes order slot i =
     let g = count_some i in
     omega (arith, a, b, c, d, e, f, g)
 
-lines_length : (notes : Notes) (order : Order) (slot : ℕ) (is : List Insn) → length (annotated_from notes order slot is) ≤ 256 * slots is
+pub lines_length : (notes : Notes) (order : Order) (slot : ℕ) (is : List Insn) → length (annotated_from notes order slot is) ≤ 256 * slots is
 lines_length notes order slot [] = omega arith
 lines_length notes order slot (i ∷ is) =
     let a = length-append (annotated_line notes order slot i) (annotated_from notes order (slot + slot_count i) is) in
@@ -233,7 +233,6 @@ lines_length notes order slot (i ∷ is) =
 
 pub annotated_back : AnnotatedAssembles
 annotated_back notes order is program = record {
-  short = let h = lines_length notes order 0 is in omega (arith, h, program.few_slots);
   source = source_with (said_from 1 0 is);
   says = source_lines notes order 1 0 is program.encoding;
   instructions = linked_back is 1 0;

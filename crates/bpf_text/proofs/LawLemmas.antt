@@ -7,7 +7,7 @@ use Rattle.bpf_insn.proofs.ListLaws.{list_never_both, list_refused_once}
 use Rattle.bpf_text.specs.declared.error.TextError.{TextError}
 use Rattle.bpf_text.specs.Sources.{Source, TextSays}
 use Rattle.bpf_text.specs.Assembly.{instructions_of, program_error}
-use Rattle.bpf_text.specs.Assembly.IsRefused.{too_long, no_instructions, no_program}
+use Rattle.bpf_text.specs.Assembly.IsRefused.{no_instructions, no_program}
 use Rattle.bpf_text.specs.Laws.{AssemblesToOne, NeverBoth, RefusedOnce}
 use Rattle.bpf_text.proofs.TextsRead.{only_source}
 
@@ -28,24 +28,18 @@ abbrev IsNone : BuildError → List Insn → Type 0
 IsNone e is = IsNoProgram is e
 
 pub text_never_both : NeverBoth
-text_never_both text is e a (too_long long) = absurd (omega (arith, long, a.short))
-text_never_both text is e a (no_instructions {source = source} short there h) = let both : Ok is ≡ Err e = one_result text a.source source (Ok is) (Err e) a.says there a.instructions h in cc
-text_never_both text is e a (no_program {source = source} {is = js} {e = f} short there h none) =
+text_never_both text is e a (no_instructions {source = source} there h) = let both : Ok is ≡ Err e = one_result text a.source source (Ok is) (Err e) a.says there a.instructions h in cc
+text_never_both text is e a (no_program {source = source} {is = js} {e = f} there h none) =
     let same : is ≡ js = same_ok is js (one_result text a.source source (Ok is) (Ok js) a.says there a.instructions h) in
     list_never_both is f a.program (subst (IsNone f) (sym same) none)
 
 pub text_refused_once : RefusedOnce
-text_refused_once text e other (too_long long) (too_long long') = refl
-text_refused_once text e other (too_long long) (no_instructions short there h) = absurd (omega (arith, long, short))
-text_refused_once text e other (too_long long) (no_program short there h none) = absurd (omega (arith, long, short))
-text_refused_once text e other (no_instructions short there h) (too_long long) = absurd (omega (arith, long, short))
-text_refused_once text e other (no_program short there h none) (too_long long) = absurd (omega (arith, long, short))
-text_refused_once text e other (no_instructions {source = source} short there h) (no_instructions {source = source'} short' there' h') =
+text_refused_once text e other (no_instructions {source = source} there h) (no_instructions {source = source'} there' h') =
     let both : (let r : Result (List Insn) TextError = Err e in r) ≡ Err other = one_result text source source' (Err e) (Err other) there there' h h' in cc
-text_refused_once text e other (no_instructions {source = source} short there h) (no_program {source = source'} {is = is} short' there' h' none) =
+text_refused_once text e other (no_instructions {source = source} there h) (no_program {source = source'} {is = is} there' h' none) =
     let both : Err e ≡ Ok is = one_result text source source' (Err e) (Ok is) there there' h h' in cc
-text_refused_once text e other (no_program {source = source} {is = is} short there h none) (no_instructions {source = source'} short' there' h') =
+text_refused_once text e other (no_program {source = source} {is = is} there h none) (no_instructions {source = source'} there' h') =
     let both : Ok is ≡ Err other = one_result text source source' (Ok is) (Err other) there there' h h' in cc
-text_refused_once text e other (no_program {source = source} {is = is} {e = f} short there h none) (no_program {source = source'} {is = js} {e = g} short' there' h' none') =
+text_refused_once text e other (no_program {source = source} {is = is} {e = f} there h none) (no_program {source = source'} {is = js} {e = g} there' h' none') =
     let same : is ≡ js = same_ok is js (one_result text source source' (Ok is) (Ok js) there there' h h') in
     ap (λ z. program_error z.said f) (one_source text source source' there there') ∙ ap (program_error source'.said) (list_refused_once js f g (subst (IsNone f) same none) none')

@@ -1,10 +1,9 @@
--- No line of a listing is long, and so no listing is too long for a text.
+-- No line of a listing is long, and so no listing.
 use Rattle.std.proofs.Common.{ℕ, zero, suc, ◌+◌, ◌*◌, ◌/◌, ◌%◌, ◌≤◌, Bool, true, false, cond, eqb, List, [], ◌∷◌, length, length-append, arith}
 use Rattle.std.specs.Prelude.{ℤ, pos, negsuc, codes, decimal}
 use Rattle.std.specs.List.{concat}
 use Rattle.std.specs.Fmt.{digits, digits_onto, digit_glyph}
 use Rattle.bpf_insn.specs.Instruction.{layout, slots, slots_of}
-use Rattle.bpf_insn.specs.Image.{IsProgram}
 use Rattle.bpf_insn.specs.Instruction.{word_size}
 use Rattle.bpf_insn.specs.declared.instruction.Reg.{Reg}
 use Rattle.bpf_insn.specs.declared.instruction.Reg.TheVariants.{R0, R1, R2, R3, R4, R5, R6, R7, R8, R9, R10}
@@ -31,7 +30,6 @@ use Rattle.bpf_insn.specs.declared.instruction.Insn.{Insn}
 use Rattle.bpf_insn.specs.declared.instruction.Insn.TheVariants.{Alu, Neg, MovSx, End, LoadImm64, Load, LoadSx, Store, StoreImm, Atomic, Ja, JaLong, JumpIf, CallLocal, Exit}
 use Rattle.bpf_text.specs.Spelling.{register_text, operation_text, cond_text, sign_bits_text, swap_text, unsigned_text, signed_text}
 use Rattle.bpf_text.specs.Listing.{with_sign, offset_text, distance_text, number_text, hex_text, operand_text, atomic_word, atomic_sign, pieces, line_text, listing}
-use Rattle.bpf_text.specs.Assembly.{max_text}
 
 -- ---- parts
 
@@ -207,9 +205,6 @@ slot_short : (i : Insn) → 1 ≤ length (slots_of i)
 slot_short (LoadImm64 dst value) = omega arith
 slot_short i = omega arith
 
-lines_short : (is : List Insn) → length (listing is) ≤ 256 * slots is
+pub lines_short : (is : List Insn) → length (listing is) ≤ 256 * slots is
 lines_short [] = omega arith
 lines_short (i ∷ is) = omega (arith, line_short i, slot_short i, lines_short is, length-append (line_text i) (listing is), length-append (slots_of i) (layout is))
-
-pub listing_short : (is : List Insn) → IsProgram is → length (listing is) ≤ max_text
-listing_short is program = omega (arith, lines_short is, program.few_slots)

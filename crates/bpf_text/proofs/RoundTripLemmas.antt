@@ -26,7 +26,6 @@ use Rattle.bpf_text.specs.Sources.{Said, Source, lines_of}
 use Rattle.bpf_text.specs.code.LineReading.{parts_of, last_part, part_said, said_in, checked, line_in, source_from, source_of}
 use Rattle.bpf_text.specs.Assembly.{linked, slot_of, instructions_of}
 use Rattle.bpf_text.specs.Laws.{ListingAssembles}
-use Rattle.bpf_text.proofs.LengthLemmas.{listing_short}
 use Rattle.bpf_text.proofs.TextsRead.{text_says}
 use Rattle.bpf_text.proofs.PartLemmas.{register_word, register_found}
 use Rattle.bpf_text.proofs.StatementLemmas.{at_blank, calculated, assigned_by, negated, extended, IsExtension, swapped, long_moved, in_16, in_32}
@@ -164,7 +163,6 @@ source_listed is fits = source_lines is 1 0 fits
 
 pub listing_back : ListingAssembles
 listing_back is program = record {
-  short = listing_short is program;
   source = source_of (listing is);
   says = text_says (listing is);
   instructions = ap instructions_of (source_listed is program.encoding) ∙ linked_back is 1 0;

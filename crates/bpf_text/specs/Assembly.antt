@@ -1,5 +1,5 @@
 -- Which program a text assembles to, or why it is none.
-use Rattle.std.specs.Prelude.{ℕ, ◌+◌, ◌<◌, ◌≤◌, length, List, [], ◌∷◌, Option, Some, None, ℤ, pos, ◌==◌, if◌then◌else◌, option_map, ◌≡◌, ◌++◌, is_some, unwrap_or, Result, Ok, Err, ◌-ℤ◌}
+use Rattle.std.specs.Prelude.{ℕ, ◌+◌, List, [], ◌∷◌, Option, Some, None, ℤ, pos, ◌==◌, if◌then◌else◌, option_map, ◌≡◌, ◌++◌, is_some, unwrap_or, Result, Ok, Err, ◌-ℤ◌}
 use Rattle.std.specs.Str.{bytes_eq}
 use Rattle.bpf_insn.specs.declared.instruction.Insn.{Insn}
 use Rattle.bpf_insn.specs.declared.instruction.Insn.TheVariants.{JaLong, CallLocal}
@@ -10,7 +10,7 @@ use Rattle.bpf_insn.specs.Refusal.{IsNoProgram}
 use Rattle.bpf_insn.specs.declared.refusal.BuildError.{BuildError}
 use Rattle.bpf_insn.specs.declared.refusal.BuildError.TheVariants.{Length, NoEncoding, Target, Memory as NoMemory}
 use Rattle.bpf_text.specs.declared.error.TextError.{TextError}
-use Rattle.bpf_text.specs.declared.error.TextError.TheVariants.{DefinedAgain, Undefined, TooFar, Program, Memory, TooLong}
+use Rattle.bpf_text.specs.declared.error.TextError.TheVariants.{DefinedAgain, Undefined, TooFar, Program, Memory}
 use Rattle.bpf_text.specs.Numerals.{fits_32}
 use Rattle.bpf_text.specs.Statements.{Statement, jump_by, plain, to_label}
 use Rattle.bpf_text.specs.Sources.{Label, Said, Source, TextSays}
@@ -84,22 +84,16 @@ program_error said (NoEncoding slot) = Program (line_at slot said) (NoEncoding s
 program_error said (Target slot) = Program (line_at slot said) (Target slot)
 program_error said NoMemory = Memory
 
--- the greatest length of a text, in bytes
-abbrev pub max_text : ℕ
-max_text = 16777216
-
--- The text is no longer than that, it says these instructions, and they are a program.
+-- The text says these instructions, and they are a program.
 pub record Assembles (text : List ℕ) (is : List Insn) : Type 0 where
-  pub short : length text ≤ max_text
   pub source : Source
   pub says : TextSays text source
   pub instructions : instructions_of source ≡ Ok is
   pub program : IsProgram is
 
--- The text is too long; or what it says is no instructions for this fault, or instructions that are no program.
+-- What the text says is no instructions for this fault, or instructions that are no program.
 pub data IsRefused (text : List ℕ) : TextError → Type 0 where
-  too_long : max_text < length text → IsRefused text TooLong
-  no_instructions : {source : Source} {e : TextError} → length text ≤ max_text → TextSays text source → instructions_of source ≡ Err e → IsRefused text e
+  no_instructions : {source : Source} {e : TextError} → TextSays text source → instructions_of source ≡ Err e → IsRefused text e
   no_program :
-      {source : Source} {is : List Insn} {e : BuildError} → length text ≤ max_text → TextSays text source
+      {source : Source} {is : List Insn} {e : BuildError} → TextSays text source
       → instructions_of source ≡ Ok is → IsNoProgram is e → IsRefused text (program_error source.said e)

@@ -1,8 +1,9 @@
 -- The laws above the definitions. Each is proved as the contract of a function of its own.
-use Rattle.std.specs.Prelude.{◌≡◌, ◌↔◌, ◌⊎◌, ℕ, List, Option, Some}
+use Rattle.std.specs.Prelude.{◌≡◌, ◌≤◌, ◌*◌, ◌↔◌, ◌⊎◌, ℕ, List, length, Option, Some}
 use Rattle.bpf_insn.specs.declared.instruction.Insn.{Insn}
 use Rattle.bpf_text.specs.declared.error.TextError.{TextError}
 use Rattle.bpf_insn.specs.Image.{IsProgram}
+use Rattle.bpf_insn.specs.Instruction.{slots}
 use Rattle.bpf_text.specs.Sources.{Source, TextSays}
 use Rattle.bpf_text.specs.Assembly.{Assembles, IsRefused}
 use Rattle.bpf_insn.specs.declared.order.Order.{Order}
@@ -49,3 +50,7 @@ ListingAssembles = (is : List Insn) → IsProgram is → Assembles (listing is) 
 -- and so does the listing with comments
 abbrev pub AnnotatedAssembles : Type 0
 AnnotatedAssembles = (notes : Notes) (order : Order) (is : List Insn) → IsProgram is → Assembles (annotated notes order is) is
+
+-- a listing has at most 256 bytes for each slot, also with comments
+abbrev pub ListingsAreShort : Type 0
+ListingsAreShort = (is : List Insn) → (length (listing is) ≤ 256 * slots is) × ((notes : Notes) (order : Order) → length (annotated notes order is) ≤ 256 * slots is)

@@ -123,10 +123,7 @@ fn instructions_of(alloc: Global, source: &Source) -> Result<Vec<Insn>, TextErro
     }
 }
 
-/// The greatest length of a text, in bytes.
-pub const MAX_TEXT: usize = 16_777_216;
-
-/// Assembles a text to a program of a byte order. The refusals come in this order: A8, the lowest line with A1, A2 or A3
+/// Assembles a text to a program of a byte order. The refusals come in this order: the lowest line with A1, A2 or A3
 /// (in this order in one line), the lowest line with A4 or A5, A6; A7 where memory ran out. The time is linear in the
 /// text, or with many labels whose names have one hash in the text times the logarithm of their number.
 pub fn assemble(alloc: Global, text: &str, order: Order) -> Result<Program, TextError>
@@ -134,9 +131,6 @@ pub fn assemble(alloc: Global, text: &str, order: Order) -> Result<Program, Text
     ensures err { IfErr result (λ e. (e ≡ Memory) ⊎ IsRefused text.now e) }
     ensures accepts { (is : List Insn) → Assembles text.now is → MatchResult result (λ p. p.list ≡ is) (λ e. e ≡ Memory) }
 {
-    if text.len() > MAX_TEXT {
-        return Err(TextError::TooLong);
-    }
     let Ok(source) = source_of(alloc, text.as_bytes()) else {
         return Err(TextError::Memory);
     };

@@ -30,13 +30,10 @@ pub enum TextError {
     /// A7: memory ran out.
     #[error("out of memory")]
     Memory,
-    /// A8: the text has more than 16,777,216 bytes.
-    #[error("the text is too long")]
-    TooLong,
 }
 
 impl TextError {
-    /// The number of the refusal, from 1 to 8.
+    /// The number of the refusal, from 1 to 7.
     pub fn number(&self) -> u8
         ensures { result ≡ text_number self.now }
     {
@@ -48,11 +45,10 @@ impl TextError {
             TextError::TooFar { .. } => 5,
             TextError::Program { .. } => 6,
             TextError::Memory => 7,
-            TextError::TooLong => 8,
         }
     }
 
-    /// The line that is refused, counted from 1; 0 where memory ran out or the text is too long.
+    /// The line that is refused, counted from 1; 0 where memory ran out.
     pub fn line(&self) -> usize
         ensures { result ≡ text_line self.now }
     {
@@ -63,7 +59,7 @@ impl TextError {
             | TextError::Undefined { line }
             | TextError::TooFar { line }
             | TextError::Program { line, .. } => line,
-            TextError::Memory | TextError::TooLong => 0,
+            TextError::Memory => 0,
         }
     }
 }

@@ -1,6 +1,6 @@
 //! Laws above the definitions, each the contract of a function that does nothing.
 
-ghost use Rattle.bpf_text.specs.Laws.{AnnotatedAssembles, AssemblesOrIsRefused, AssemblesToOne, ListingAssembles, NeverBoth, ReadsForms, ReadsText, RefusedOnce};
+ghost use Rattle.bpf_text.specs.Laws.{AnnotatedAssembles, AssemblesOrIsRefused, AssemblesToOne, ListingAssembles, ListingsAreShort, NeverBoth, ReadsForms, ReadsText, RefusedOnce};
 
 /// What stands behind the labels of a line is read as an instruction exactly if it is the spelling of a form, and says
 /// what the form says.
@@ -41,4 +41,9 @@ pub fn listing_assembles()
 /// The listing with comments assembles to the program as well, whatever its comments tell and in either byte order.
 pub fn annotated_assembles()
     ensures { AnnotatedAssembles }
+{}
+
+/// A listing has at most 256 bytes for each slot of the program, also with comments.
+pub fn listings_are_short()
+    ensures { ListingsAreShort }
 {}

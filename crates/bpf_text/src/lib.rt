@@ -18,10 +18,10 @@ mod statement;
 mod token;
 
 pub use annotated::{Notes, annotate};
-pub use assembler::{MAX_TEXT, assemble};
+pub use assembler::assemble;
 pub use error::TextError;
 pub use laws::{
-    annotated_assembles, assembles_or_is_refused, assembles_to_one, listing_assembles, never_both,
-    reads_forms, reads_text, refused_once,
+    annotated_assembles, assembles_or_is_refused, assembles_to_one, listing_assembles,
+    listings_are_short, never_both, reads_forms, reads_text, refused_once,
 };
 pub use lister::{list, write_line};

@@ -1,66 +1,49 @@
 //! `bpf asm IN OUT`.
 
-ghost use Rattle.std.specs.Prelude.{◌≡◌, IfOk, IfErr, IfSome, MatchResult};
+ghost use Rattle.std.specs.Prelude.{◌≡◌, IfOk, IfErr};
 ghost use Rattle.std.specs.String.{string_bytes};
 ghost use Rattle.bpf_command.specs.Answer.{Answered, Says, text_of};
 ghost use Rattle.bpf_command.specs.Answer.Answer.{NoText};
 ghost use Rattle.bpf_command.specs.Opened.{opening};
-ghost use Rattle.bpf_command.specs.Loaded.{TextAt, TextFails, ReadsText, TextTooLong};
+ghost use Rattle.bpf_command.specs.Loaded.{ShortTextAt, TextFails};
 ghost use Rattle.bpf_command.specs.Made.{making};
 ghost use Rattle.bpf_command.specs.Printed.{AsmSays, AsmFails};
 ghost use Rattle.bpf_command.specs.Told.{OutputFails};
 
 use crate::commands::output::put;
 use crate::failure::{Failure, REFUSED, say};
+use crate::reading::read_up_to;
 use crate::streams::Streams;
 use bpf_insn::Order;
-use bpf_text::{MAX_TEXT, TextError, assemble};
+use bpf_text::{TextError, assemble};
 use std::alloc::{AllocError, Global};
-use std::io::{Read, Write};
+use std::io::Write;
 
-/// The bytes of a reader to its end, or the first of more than a text may have; None if it fails.
-fn read_all<R: Read>(alloc: Global, reader: &mut R) -> Result<Option<Vec<u8>>, AllocError>
-    ensures { IfOk result (λ read. IfSome read (λ v. IfSome (R.remaining reader.old) (λ bytes. ReadsText v.items bytes))) }
-{
-    let mut bytes = Vec::new(alloc);
-    let mut chunk = [0; 4096];
-    'reads: for _ in 0..u64::MAX {
-        let Ok(count) = reader.read(&mut chunk) else {
-            return Ok(None);
-        };
-        if count == 0 {
-            return Ok(Some(bytes));
-        }
-        bytes.extend_from_slice(&chunk[..count])?;
-        if bytes.len() > MAX_TEXT {
-            return Ok(Some(bytes));
-        }
-    }
-    Ok(None)
-}
+/// The greatest length of a text that is read, in bytes.
+const MAX_TEXT: usize = 16_777_216;
 
-/// The text at a name, or A8. It can't be read where it isn't UTF-8.
+/// The text at a name. It can't be read where it isn't UTF-8, or is longer than that.
 pub fn text_at<'a, P: Streams>(
     alloc: Global,
     streams: &mut P,
     name: &'a str,
-) -> Result<Result<String, TextError>, Failure<'a>>
-    ensures ok { IfOk result (λ read. MatchResult read (λ text. TextAt (opening P.opens P.Reader.remaining) streams.old name.entry.now streams.new (λ bytes. string_bytes text ≡ bytes)) (TextTooLong (opening P.opens P.Reader.remaining) streams.old name.entry.now streams.new)) }
+) -> Result<String, Failure<'a>>
+    ensures ok { IfOk result (λ text. ShortTextAt (opening P.opens P.Reader.remaining) streams.old name.entry.now streams.new (λ bytes. string_bytes text ≡ bytes)) }
     ensures err { IfErr result (TextFails (opening P.opens P.Reader.remaining) streams.old name.entry.now streams.new) }
 {
     let Ok(mut reader) = streams.open(name) else {
         return Err(Failure::CannotRead(name));
     };
-    let Some(bytes) = read_all(alloc, &mut reader)? else {
+    let Some(bytes) = read_up_to(alloc, &mut reader, MAX_TEXT)? else {
         return Err(Failure::CannotRead(name));
     };
     if bytes.len() > MAX_TEXT {
-        return Ok(Err(TextError::TooLong));
+        return Err(Failure::CannotRead(name));
     }
     let Ok(text) = String::from_utf8(bytes) else {
         return Err(Failure::CannotRead(name));
     };
-    Ok(Ok(text))
+    Ok(text)
 }
 
 /// The line of a refusal.
@@ -79,7 +62,6 @@ fn line_of(alloc: Global, error: TextError) -> Result<String, AllocError>
             format!(in alloc; "no A6 at line {line} (E{cause} at slot {slot})\n")
         }
         TextError::Memory => String::from_str(alloc, "no A7 at line 0\n"),
-        TextError::TooLong => String::from_str(alloc, "no A8 at line 0\n"),
     }
 }
 
@@ -109,10 +91,7 @@ pub fn assembled<'a, P: Streams, W: Write>(
     ensures ok { IfOk result (Answered (AsmSays (opening P.opens P.Reader.remaining) (making P.creates P.ends P.Writer.contents) order streams.old input.entry.now output.entry.now streams.new) (W.contents out.old) (W.contents out.new)) }
     ensures err { IfErr result (AsmFails (opening P.opens P.Reader.remaining) (making P.creates P.ends P.Writer.contents) order streams.old input.entry.now output.entry.now streams.new) }
 {
-    let text = match text_at(alloc, streams, input)? {
-        Ok(text) => text,
-        Err(error) => return refuse_text(alloc, out, error),
-    };
+    let text = text_at(alloc, streams, input)?;
     match assemble(alloc, text.as_str(), order) {
         Ok(program) => put(streams, output, &program),
         Err(error) => refuse_text(alloc, out, error),

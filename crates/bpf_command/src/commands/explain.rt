@@ -114,10 +114,7 @@ fn explained_text<'a, P: Streams, W: Write>(
     ensures ok { IfOk result (Answers (TextSays (opening P.opens P.Reader.remaining) streams.old input.entry.now streams.new)) }
     ensures err { IfErr result (TextFails (opening P.opens P.Reader.remaining) streams.old input.entry.now streams.new) }
 {
-    let text = match text_at(alloc, streams, input)? {
-        Ok(text) => text,
-        Err(error) => return refuse_text(alloc, out, error),
-    };
+    let text = text_at(alloc, streams, input)?;
     match assemble(alloc, text.as_str(), order) {
         Ok(_program) => say_text(alloc, out, text.as_str().as_bytes(), DONE),
         Err(TextError::Memory) => refuse_text(alloc, out, TextError::Memory),

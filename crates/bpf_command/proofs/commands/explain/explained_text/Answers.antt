@@ -3,48 +3,41 @@ use Rattle.std.specs.String.{string_bytes}
 use Rattle.bpf_text.specs.Assembly.{Assembles, IsRefused}
 use Rattle.bpf_text.specs.declared.error.TextError.TheVariants.{Memory}
 use Rattle.bpf_command.specs.Opened.{opening}
-use Rattle.bpf_command.specs.Loaded.{TextAt, TextTooLong}
+use Rattle.bpf_command.specs.Loaded.{ShortTextAt}
 use Rattle.bpf_command.specs.Answer.Answer.{NoText, Lists}
 use Rattle.bpf_command.specs.Explained.{TextSays}
-use Rattle.bpf_command.proofs.TextLemmas.{text_says, too_long_says}
+use Rattle.bpf_command.proofs.TextLemmas.{text_says}
 use Rattle.bpf_command.proofs.ExplainedLemmas.{either_so, printed_so}
 use Rattle.bpf_command.proofs.commands.explain.explained_text.Goals as goal
 
-pub returns-in-Err-clause-ok : goal.returns-in-Err-clause-ok
-returns-in-Err-clause-ok g c =
+pub returns-in-Ok-clause-ok : goal.returns-in-Ok-clause-ok
+returns-in-Ok-clause-ok g c =
     let at = opening g.P.Streams.opens g.P.Reader.Read.remaining in
-    let long : TextTooLong at c.args.streams.now c.args.input.now c.text_at.new.streams c.in-Err.error = rw c.in-Err.is at c.in_ok-text.ensures.ok in
-    printed_so c.refuse_text.result (NoText c.in-Err.error) _ _ (TextSays at c.args.streams.now c.args.input.now c.text_at.new.streams)
-    (too_long_says at c.args.streams.now c.args.input.now c.text_at.new.streams c.in-Err.error long) c.refuse_text.ensures.ok
-
-pub returns-in-Ok-assemble-clause-ok : goal.returns-in-Ok-assemble-clause-ok
-returns-in-Ok-assemble-clause-ok g c =
-    let at = opening g.P.Streams.opens g.P.Reader.Read.remaining in
-    let p = c.in-Ok-assemble._program in
-    let read : TextAt at c.args.streams.now c.args.input.now c.text_at.new.streams (λ bytes. string_bytes c.in-Ok.text ≡ bytes) = rw c.in-Ok.is at c.in_ok-text.ensures.ok in
-    let said : Assembles (string_bytes c.in-Ok.text) p.list = search rules in
+    let p = c.in-Ok._program in
+    let read : ShortTextAt at c.args.streams.now c.args.input.now c.text_at.new.streams (λ bytes. string_bytes c.in_ok-text.text ≡ bytes) = c.in_ok-text.ensures.ok in
+    let said : Assembles (string_bytes c.in_ok-text.text) p.list = search rules in
     either_so c.say_text.result 0 1 (Lists p.list) (NoText Memory) (TextSays at c.args.streams.now c.args.input.now c.text_at.new.streams) refl refl
-    (text_says at c.args.streams.now c.args.input.now c.text_at.new.streams (string_bytes c.in-Ok.text) (λ t. Assembles t p.list) read said)
-    (text_says at c.args.streams.now c.args.input.now c.text_at.new.streams (string_bytes c.in-Ok.text) (λ t. (Memory ≡ Memory) ⊎ IsRefused t Memory) read (inl refl))
+    (text_says at c.args.streams.now c.args.input.now c.text_at.new.streams (string_bytes c.in_ok-text.text) (λ t. Assembles t p.list) read said)
+    (text_says at c.args.streams.now c.args.input.now c.text_at.new.streams (string_bytes c.in_ok-text.text) (λ t. (Memory ≡ Memory) ⊎ IsRefused t Memory) read (inl refl))
     c.say_text.ensures.ok
 
 pub returns-in-Err-Memory-clause-ok : goal.returns-in-Err-Memory-clause-ok
 returns-in-Err-Memory-clause-ok g c =
     let at = opening g.P.Streams.opens g.P.Reader.Read.remaining in
-    let read : TextAt at c.args.streams.now c.args.input.now c.text_at.new.streams (λ bytes. string_bytes c.in-Ok.text ≡ bytes) = rw c.in-Ok.is at c.in_ok-text.ensures.ok in
-    printed_so c.refuse_text-in-Err-Memory.result (NoText Memory) _ _ (TextSays at c.args.streams.now c.args.input.now c.text_at.new.streams)
-    (text_says at c.args.streams.now c.args.input.now c.text_at.new.streams (string_bytes c.in-Ok.text) (λ t. (Memory ≡ Memory) ⊎ IsRefused t Memory) read (inl refl)) c.refuse_text-in-Err-Memory.ensures.ok
+    let read : ShortTextAt at c.args.streams.now c.args.input.now c.text_at.new.streams (λ bytes. string_bytes c.in_ok-text.text ≡ bytes) = c.in_ok-text.ensures.ok in
+    printed_so c.refuse_text.result (NoText Memory) _ _ (TextSays at c.args.streams.now c.args.input.now c.text_at.new.streams)
+    (text_says at c.args.streams.now c.args.input.now c.text_at.new.streams (string_bytes c.in_ok-text.text) (λ t. (Memory ≡ Memory) ⊎ IsRefused t Memory) read (inl refl)) c.refuse_text.ensures.ok
 
 pub returns : goal.returns
 returns g c =
     let at = opening g.P.Streams.opens g.P.Reader.Read.remaining in
-    let e = c.in-Err-assemble._error in
-    let read : TextAt at c.args.streams.now c.args.input.now c.text_at.new.streams (λ bytes. string_bytes c.in-Ok.text ≡ bytes) = rw c.in-Ok.is at c.in_ok-text.ensures.ok in
-    let refused : (e ≡ Memory) ⊎ IsRefused (string_bytes c.in-Ok.text) e = search rules in
+    let e = c.in-Err._error in
+    let read : ShortTextAt at c.args.streams.now c.args.input.now c.text_at.new.streams (λ bytes. string_bytes c.in_ok-text.text ≡ bytes) = c.in_ok-text.ensures.ok in
+    let refused : (e ≡ Memory) ⊎ IsRefused (string_bytes c.in_ok-text.text) e = search rules in
     record {
-      ok = either_so c.say_text-in-Err-assemble.result 1 1 (NoText e) (NoText Memory) (TextSays at c.args.streams.now c.args.input.now c.text_at.new.streams) refl refl
-          (text_says at c.args.streams.now c.args.input.now c.text_at.new.streams (string_bytes c.in-Ok.text) (λ t. (e ≡ Memory) ⊎ IsRefused t e) read refused)
-          (text_says at c.args.streams.now c.args.input.now c.text_at.new.streams (string_bytes c.in-Ok.text) (λ t. (Memory ≡ Memory) ⊎ IsRefused t Memory) read (inl refl))
-          c.say_text-in-Err-assemble.ensures.ok;
+      ok = either_so c.say_text-in-Err.result 1 1 (NoText e) (NoText Memory) (TextSays at c.args.streams.now c.args.input.now c.text_at.new.streams) refl refl
+          (text_says at c.args.streams.now c.args.input.now c.text_at.new.streams (string_bytes c.in_ok-text.text) (λ t. (e ≡ Memory) ⊎ IsRefused t e) read refused)
+          (text_says at c.args.streams.now c.args.input.now c.text_at.new.streams (string_bytes c.in_ok-text.text) (λ t. (Memory ≡ Memory) ⊎ IsRefused t Memory) read (inl refl))
+          c.say_text-in-Err.ensures.ok;
       err = search rules;
     }

@@ -1,4 +1,4 @@
--- What was read of a context.
+-- What was read up to a limit.
 use Rattle.std.proofs.Common.{◌≡◌, ◌<◌, ℕ, List, ◌++◌, length, length-append, Option, Some, None, IfSome, ap, sym, ◌∙◌, subst, append-nil, arith}
 use Rattle.std.specs.Io.KnownBytes.{Consumes, IsAtEnd}
 

@@ -1,9 +1,9 @@
-use Rattle.std.proofs.Common.{◌-◌, vec_len}
+use Rattle.std.proofs.Common.{◌-◌, suc, vec_len}
 use Rattle.std.specs.Io.KnownBytes.{Consumes}
-use Rattle.bpf_command.proofs.commands.whole.read_some.Given as goal
+use Rattle.bpf_command.proofs.reading.read_up_to.Given as goal
 
 abbrev pub invariant-reads : goal.invariant-reads
 invariant-reads g l = Consumes (g.R.Read.remaining l.fn.reader) (g.R.Read.remaining l.reader) l.bytes.items
 
 abbrev pub decreases-reads : goal.decreases-reads
-decreases-reads g l = 4097 - vec_len l.bytes
+decreases-reads g l = suc l.limit - vec_len l.bytes
