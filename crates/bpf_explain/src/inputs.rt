@@ -10,12 +10,13 @@ ghost use Rattle.bpf_cert.specs.ReadAnswers.{IsFaultOf};
 
 use bpf_cert::{CertError, read};
 use bpf_insn::{DecodeError, Order, ProgramView};
-use bpf_refusals::{write_counts, write_fault, write_refusal, write_size};
+use bpf_refusals::{write_counts, write_fault, write_refusal};
+use bpf_words::write_alone;
 use std::alloc::Global;
 use std::io::{self, Write};
 
 /// Tells in words why bytes are refused as an image in a byte order (E1 to E8), with the bytes of the slot taken apart and
-/// what would be right; of an image, how many slots it has and what looks like a lost relocation. The refusal is given back,
+/// what would be right; of an image, how many slots it has, what looks like a lost relocation, and what nothing reaches. The refusal is given back,
 /// None of an image. A fault of the writer, or a write of no bytes, ends it. It takes no memory.
 pub fn explain_image<W: Write>(
     bytes: &[u8],
@@ -27,7 +28,7 @@ pub fn explain_image<W: Write>(
 {
     match ProgramView::of(bytes, order) {
         Ok(program) => {
-            write_size(&program, out)?;
+            write_alone(&program, out)?;
             Ok(None)
         }
         Err(error) => {

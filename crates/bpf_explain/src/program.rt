@@ -48,8 +48,8 @@ fn write_shown<C: Code, W: Write>(
     requires { IfNone refusal (IsCertifiedBy (C.program program.now) certificate.now) }
 {
     match shown {
-        Shown::Listing => write_explanation(program, certificate, refusal, out),
-        Shown::Slot(slot) => write_slot(program, certificate, slot, out),
+        Shown::Listing => write_explanation(program, certificate, &[], refusal, out),
+        Shown::Slot(slot) => write_slot(program, certificate, &[], slot, out),
         Shown::Graph => write_dot(program, certificate, refusal, out),
     }
 }

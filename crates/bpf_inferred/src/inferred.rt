@@ -14,7 +14,9 @@ use bpf_infer::{
 };
 use bpf_insn::{Code, Insn, Program};
 use bpf_page::{Page, Tell};
-use bpf_words::{Name, Spelled, explain_on, register, tell_reason, tell_sketch};
+use bpf_words::{
+    Name, Spelled, explain_on, register, source_at, tell_reason, tell_sketch, tell_unreached,
+};
 use std::alloc::Global;
 use std::io::{self, Write};
 
@@ -41,6 +43,17 @@ fn write_refusal<W: Tell>(out: &mut W, error: InferError) {
     }
 }
 
+/// `slot 12 is from filter.c:20 while (left)`, where a loop has no counter and its line is known.
+fn write_source<W: Tell>(out: &mut W, lines: &[u8], error: InferError) {
+    let InferError::NoBudget { slot } = error else {
+        return;
+    };
+    let text = source_at(lines, slot);
+    if !text.is_empty() {
+        write!(out, "slot {slot} is from {text}\n");
+    }
+}
+
 /// Why a place isn't followed through a loop.
 fn write_loss<W: Tell>(out: &mut W, name: Name, loss: Loss) {
     match loss {
@@ -50,7 +63,7 @@ fn write_loss<W: Tell>(out: &mut W, name: Name, loss: Loss) {
         ),
         Loss::Short { slot } => write!(
             out,
-            "  {name} isn't followed: slot {slot} computes it in 32 bits, and only 64-bit sums are followed\n"
+            "  {name} isn't followed: slot {slot} computes it in 32 bits, and only 64-bit sums are followed: in C, count in a `u64`\n"
         ),
         Loss::Varying { slot } => write!(
             out,
@@ -86,7 +99,7 @@ fn write_trial<W: Tell>(out: &mut W, trial: &Trial) {
         Move::Lost(loss) => write_loss(out, name, loss),
         Move::Pointer => write!(
             out,
-            "  {name} is a pointer, and only numbers count: count the rounds in a register\n"
+            "  {name} is a pointer, and only numbers count: count the rounds in a register; where the C source does, compile it with `-mllvm -disable-lsr`\n"
         ),
     }
 }
@@ -136,7 +149,7 @@ fn write_obstacle<W: Tell>(out: &mut W, slot: u32, obstacle: &Obstacle) {
             let name = register(*reg);
             write!(
                 out,
-                "{name} is a pointer that the loop at slot {head} moves, and only numbers count and have bounds: count the rounds in a register, and add it to a pointer that stays\n"
+                "{name} is a pointer that the loop at slot {head} moves, and only numbers count and have bounds: count the rounds in a register, and add it to a pointer that stays; where the C source does, compile it with `-mllvm -disable-lsr`\n"
             );
         }
     }
@@ -193,6 +206,13 @@ fn write_reason<W: Tell>(out: &mut W, program: &Program, error: InferError, effo
             out,
             "slot {slot} jumps out of its function, or goes on into the next one\n"
         ),
+        (
+            InferError::Fault {
+                condition: Condition::FallsOff,
+                ..
+            },
+            _,
+        ) => tell_unreached(program, out),
         _ => {}
     }
 }
@@ -259,6 +279,7 @@ fn write_sketch<W: Tell>(
     out: &mut W,
     program: &Program,
     sketch: &Sketch,
+    lines: &[u8],
     error: InferError,
     effort: Effort,
 ) {
@@ -267,12 +288,13 @@ fn write_sketch<W: Tell>(
         if effort == Effort::Deep {
             write!(out, "as far as the plain search sees:\n");
         }
-        tell_sketch(program, certificate, flaw, out);
+        tell_sketch(program, certificate, lines, flaw, out);
     }
     write_refusal(out, error);
     if let (Some(certificate), Some(flaw)) = (&sketch.certificate, flaw) {
-        tell_reason(program, certificate, flaw, out);
+        tell_reason(program, certificate, lines, flaw, out);
     }
+    write_source(out, lines, error);
     match (&sketch.obstacle, effort) {
         (Some(obstacle), Effort::Plain) => write_obstacle(out, slot, obstacle),
         (Some(obstacle), Effort::Deep) => write_deep_obstacle(out, slot, obstacle),
@@ -293,12 +315,17 @@ fn write_unseen<W: Tell>(out: &mut W, program: &Program, error: InferError, effo
 }
 
 /// Explains a certificate that was found, with the checker's answer.
-fn explain_certified<W: Tell>(program: &Program, certificate: &Certificate, out: &mut W) {
+fn explain_certified<W: Tell>(
+    program: &Program,
+    certificate: &Certificate,
+    lines: &[u8],
+    out: &mut W,
+) {
     let refusal = match check(program, certificate) {
         Ok(_checked) => None,
         Err(refusal) => Some(refusal),
     };
-    explain_on(program, certificate, refusal, out);
+    explain_on(program, certificate, lines, refusal, out);
 }
 
 /// What a certificate is sought for, and how.
@@ -307,6 +334,8 @@ struct Sought<'a> {
     alloc: Global,
     quest: Quest<'a>,
     effort: Effort,
+    /// A table of source lines.
+    lines: &'a [u8],
 }
 
 impl<'a> Sought<'a> {
@@ -323,7 +352,7 @@ impl<'a> Sought<'a> {
         };
         match sketch {
             Ok(sketch) => {
-                write_sketch(out, program, &sketch, error, effort);
+                write_sketch(out, program, &sketch, self.lines, error, effort);
                 write_reason(out, program, error, effort);
                 write_hint(out, program, error, effort);
                 error
@@ -353,7 +382,7 @@ impl<'a> Sought<'a> {
         let mut page = Page::new(out);
         let told = match found {
             Ok(certificate) => {
-                explain_certified(self.quest.program, &certificate, &mut page);
+                explain_certified(self.quest.program, &certificate, self.lines, &mut page);
                 Ok(certificate)
             }
             Err(error) => Err(self.write_refused(error, &mut page)),
@@ -390,6 +419,7 @@ pub fn explain_inferred<W: Write>(
         alloc,
         quest,
         effort: Effort::Plain,
+        lines: &[],
     };
     sought.explain(infer(alloc, program, least, most), out)
 }
@@ -421,6 +451,7 @@ pub fn explain_searched<W: Write, H: Watch>(
         alloc,
         quest,
         effort: Effort::Deep,
+        lines: &[],
     };
     sought.explain(search(alloc, program, least, most, watch), out)
 }

@@ -1,8 +1,9 @@
 //! Why bytes are no image, in words.
 
-use bpf_insn::{Code, DecodeError, Insn, MAX_IMAGE, Order, ProgramView, SlotFault};
-use bpf_page::{Count, Page, Tell};
+use bpf_insn::{DecodeError, MAX_IMAGE, Order, ProgramView, SlotFault};
+use bpf_page::{Page, Tell};
 use std::io::{self, Write};
+use std::str::from_utf8;
 
 /// The fields of a slot, as its bytes say them.
 #[derive(Clone, Copy)]
@@ -235,6 +236,52 @@ fn is_elf(bytes: &[u8]) -> bool {
     bytes.starts_with(b"\x7fELF")
 }
 
+/// Whether bytes begin as a certificate does.
+fn is_certificate(bytes: &[u8]) -> bool {
+    bytes.starts_with(b"bpfcert ")
+}
+
+/// Whether a byte stands in a text: printed, or a blank or an end of line.
+fn is_printed(byte: u8) -> bool {
+    matches!(byte, b'\t' | b'\n' | b'\r') || byte >= 32 && byte != 127
+}
+
+/// Whether bytes are a text.
+fn is_text(bytes: &[u8]) -> bool {
+    !bytes.is_empty() && bytes.iter().all(|byte| is_printed(*byte)) && from_utf8(bytes).is_ok()
+}
+
+/// Tells what bytes are that are no image in a byte order, where they look like something else.
+fn tell_likeness<W: Tell>(out: &mut W, order: Order, bytes: &[u8]) {
+    if is_elf(bytes) {
+        write!(
+            out,
+            "these bytes are an ELF object and no image: take its code, as by llvm-objcopy -O binary -j .text IN OUT\n"
+        );
+    } else if is_certificate(bytes) {
+        write!(
+            out,
+            "these bytes are a certificate and no image: the image comes first, and behind it its certificate\n"
+        );
+    } else if is_text(bytes) {
+        write!(
+            out,
+            "these bytes are a text and no image: assemble it, as by bpf asm IN OUT\n"
+        );
+    }
+    match order {
+        Order::Little if ProgramView::of(bytes, Order::Big).is_ok() => write!(
+            out,
+            "in big-endian order these bytes are an image: try --big\n"
+        ),
+        Order::Big if ProgramView::of(bytes, Order::Little).is_ok() => write!(
+            out,
+            "in little-endian order these bytes are an image: leave --big out\n"
+        ),
+        _ => {}
+    }
+}
+
 /// E1: what is wrong with the number of bytes.
 fn tell_length<W: Tell>(out: &mut W, length: usize) {
     if length == 0 {
@@ -305,12 +352,7 @@ fn tell_target<W: Tell>(out: &mut W, order: Order, bytes: &[u8], slot: u32) {
 
 /// Tells a refusal.
 fn tell_error<W: Tell>(out: &mut W, order: Order, bytes: &[u8], error: DecodeError) {
-    if is_elf(bytes) {
-        write!(
-            out,
-            "these bytes are an ELF object and no image: take its code, as by llvm-objcopy -O binary -j .text IN OUT\n"
-        );
-    }
+    tell_likeness(out, order, bytes);
     match error {
         DecodeError::Length => tell_length(out, bytes.len()),
         DecodeError::Slot { slot, fault } => tell_slot(out, order, bytes, slot, fault),
@@ -320,32 +362,6 @@ fn tell_error<W: Tell>(out: &mut W, order: Order, bytes: &[u8], error: DecodeErr
         }
         DecodeError::Memory => write!(out, "E9: memory ran out\n"),
         DecodeError::Read { slot } => write!(out, "E10 at slot {slot}: the reader failed\n"),
-    }
-}
-
-/// What a lost relocation leaves most often: a call to itself, or a 64-bit constant that is 0.
-fn tell_suspect<W: Tell>(out: &mut W, slot: u32, insn: &Insn) {
-    match *insn {
-        Insn::CallLocal { off: -1 } => write!(
-            out,
-            "slot {slot} calls itself: mostly a call of another object's function that was never linked\n"
-        ),
-        Insn::LoadImm64 { value: 0, .. } => write!(
-            out,
-            "slot {slot} loads a 64-bit 0: mostly an address that a lost relocation left out\n"
-        ),
-        _ => {}
-    }
-}
-
-/// Tells how many slots an image has, and what is suspicious.
-fn tell_program<'a, W: Tell>(out: &mut W, program: &ProgramView<'a>) {
-    let slots = Count(program.slots(), "slot");
-    write!(out, "an image of {slots}\n");
-    for slot in 0..program.slots() {
-        if let Some(insn) = program.insn(slot) {
-            tell_suspect(out, slot, &insn);
-        }
     }
 }
 
@@ -359,13 +375,5 @@ pub fn write_refusal<W: Write>(
 ) -> io::Result<()> {
     let mut page = Page::new(out);
     tell_error(&mut page, order, bytes, error);
-    page.finish()
-}
-
-/// Tells how many slots an image has, and what looks like a lost relocation. A fault of the writer, or a write of no bytes,
-/// ends it. It takes no memory.
-pub fn write_size<'a, W: Write>(program: &ProgramView<'a>, out: &mut W) -> io::Result<()> {
-    let mut page = Page::new(out);
-    tell_program(&mut page, program);
     page.finish()
 }

@@ -9,5 +9,5 @@ mod text;
 mod texts;
 
 pub use certificate::{write_counts, write_fault};
-pub use image::{write_refusal, write_size};
+pub use image::write_refusal;
 pub use text::explain_text;

@@ -7,13 +7,16 @@ mod blocks;
 mod edges;
 mod flow;
 mod plan;
-mod slots;
 
 use crate::graph::blocks::write_blocks;
 use crate::graph::edges::write_edges;
-use crate::graph::flow::{Flow, flow_of};
+pub use crate::graph::flow::Flow;
+use crate::graph::flow::flow_of;
 use crate::graph::plan::Plan;
+pub use crate::graph::plan::call_target;
 use crate::listing::write_header;
+use crate::reach::reached_from_start;
+use crate::slots::Slots;
 use bpf_cert::Certificate;
 use bpf_check::{Index, Refusal};
 use bpf_insn::Code;
@@ -26,6 +29,8 @@ pub struct Scene<'a, 'b> {
     pub certificate: Option<&'a Index<'b>>,
     pub plan: Plan,
     pub flow: Flow,
+    /// The instructions that slot 0 leads to.
+    pub reached: Slots,
     pub refusal: Option<Refusal>,
 }
 
@@ -93,10 +98,13 @@ pub fn write_dot<C: Code, W: Write>(
     requires { IfNone refusal (IsCertifiedBy (C.program program.now) certificate.now) }
 {
     let index = Index::of(certificate);
+    let flow = flow_of(program, &index);
+    let reached = reached_from_start(program, &flow);
     let scene = Scene {
         certificate: Some(&index),
         plan: Plan::with(program, &index),
-        flow: flow_of(program, &index),
+        flow,
+        reached,
         refusal,
     };
     write_scene(out, program, &scene)
@@ -106,10 +114,13 @@ pub fn write_dot<C: Code, W: Write>(
 /// lead, and all edges. A fault of the writer, or a write of no bytes, ends it. It takes no memory, and writes pieces of up
 /// to 4,096 bytes.
 pub fn dot_plain<C: Code, W: Write>(program: &C, out: &mut W) -> io::Result<()> {
+    let flow = Flow::any();
+    let reached = reached_from_start(program, &flow);
     let scene = Scene {
         certificate: None,
         plan: Plan::of(program),
-        flow: Flow::any(),
+        flow,
+        reached,
         refusal: None,
     };
     write_scene(out, program, &scene)

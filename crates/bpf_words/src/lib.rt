@@ -2,6 +2,7 @@
 //! refused is told to it, and accepted only what is certified.
 #![tactic(auto)]
 
+mod alone;
 mod effects;
 mod flaws;
 mod graph;
@@ -10,13 +11,20 @@ mod listing;
 mod pass;
 mod places;
 mod program;
+mod reach;
 mod report;
 mod sight;
+mod slots;
+mod source;
 mod standing;
+mod trail;
 mod whole;
 mod words;
 
+pub use alone::write_alone;
 pub use graph::{dot_plain, write_dot};
 pub use known::{Name, Spelled};
 pub use program::{explain_on, tell_reason, tell_sketch, write_explanation, write_slot};
+pub use reach::tell_unreached;
+pub use source::source_at;
 pub use words::register;

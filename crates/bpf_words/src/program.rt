@@ -5,8 +5,10 @@ ghost use Rattle.bpf_check.specs.CheckedProgram.{IsCertifiedBy};
 
 use crate::listing::{Lengths, steps_of, write_header};
 use crate::pass::see;
+use crate::reach::tell_unreached;
 use crate::report::{Report, View};
 use crate::sight::Sight;
+use crate::source::SourceLines;
 use crate::standing::last_slot;
 use bpf_cert::{Certificate, LAST_SLOT};
 use bpf_check::{Index, Refusal, Site, Spot, Walk};
@@ -15,8 +17,14 @@ use bpf_page::{Page, Tell};
 use std::io::{self, Write};
 
 /// Goes over the slots of a program, and over those behind it at which labels stand.
-fn tell_all<C: Code, W: Tell>(program: &C, certificate: &Index, view: View, out: &mut W) {
-    let mut report = Report::new(view);
+fn tell_all<C: Code, W: Tell>(
+    program: &C,
+    certificate: &Index,
+    view: View,
+    lines: &[u8],
+    out: &mut W,
+) {
+    let mut report = Report::new(view, SourceLines::of(lines));
     let end = tell_program(program, certificate, &mut report, out);
     for slot in end..last_slot(certificate).saturating_add(1) {
         report.tell_slot(out, program, certificate, slot);
@@ -28,7 +36,7 @@ fn tell_all<C: Code, W: Tell>(program: &C, certificate: &Index, view: View, out:
 fn tell_program<C: Code, W: Tell>(
     program: &C,
     certificate: &Index,
-    report: &mut Report,
+    report: &mut Report<'_>,
     out: &mut W,
 ) -> u32 {
     let mut sight = Sight::new(report.has_budgets());
@@ -59,18 +67,20 @@ fn tell_program<C: Code, W: Tell>(
 fn write_answer<C: Code, W: Tell>(
     program: &C,
     certificate: &Index,
+    lines: &[u8],
     refusal: Option<Refusal>,
     out: &mut W,
 ) {
     match refusal {
         None => {
+            tell_unreached(program, out);
             let (lengths, steps) = (Lengths::of(certificate), steps_of(certificate));
             write!(out, "accepted: at most {steps} on contexts of {lengths}\n");
         }
         Some(refusal) => {
             let (number, slot) = (refusal.number(), refusal.slot());
             write!(out, "refused: C{number} at slot {slot}\n");
-            tell_all(program, certificate, View::List, out);
+            tell_all(program, certificate, View::List, lines, out);
         }
     }
 }
@@ -79,6 +89,7 @@ fn write_answer<C: Code, W: Tell>(
 pub fn explain_on<C: Code, W: Tell>(
     program: &C,
     certificate: &Certificate,
+    lines: &[u8],
     refusal: Option<Refusal>,
     page: &mut W,
 )
@@ -86,8 +97,8 @@ pub fn explain_on<C: Code, W: Tell>(
 {
     let index = Index::of(certificate);
     write_header(page, &index);
-    tell_all(program, &index, View::Listing, page);
-    write_answer(program, &index, refusal, page)
+    tell_all(program, &index, View::Listing, lines, page);
+    write_answer(program, &index, lines, refusal, page)
 }
 
 /// Writes the listing of a program with the states of a certificate without budgets, and the flaw of one instruction, if it
@@ -95,47 +106,56 @@ pub fn explain_on<C: Code, W: Tell>(
 pub fn tell_sketch<C: Code, W: Tell>(
     program: &C,
     certificate: &Certificate,
+    lines: &[u8],
     flaw: Option<Refusal>,
     page: &mut W,
 ) {
     let index = Index::of(certificate);
-    tell_all(program, &index, View::Sketch(flaw), page)
+    tell_all(program, &index, View::Sketch(flaw), lines, page)
 }
 
 /// Writes the flaw of one instruction, if it has it, judged without budgets.
 pub fn tell_reason<C: Code, W: Tell>(
     program: &C,
     certificate: &Certificate,
+    lines: &[u8],
     flaw: Refusal,
     page: &mut W,
 ) {
     let index = Index::of(certificate);
-    tell_all(program, &index, View::Reason(flaw), page)
+    tell_all(program, &index, View::Reason(flaw), lines, page)
 }
 
-/// Writes the listing of a program with what the certificate and the checker's pass know at each instruction, and the
-/// checker's answer, which is given: accepted, or refused with all flaws, the first one first. A fault of the writer, or a
-/// write of no bytes, ends it. It takes no memory, and writes pieces of up to 4,096 bytes.
+/// Writes the listing of a program with the lines of its source, what the certificate and the checker's pass know at each
+/// instruction, and the checker's answer, which is given: accepted, or refused with all flaws, the first one first. A fault of
+/// the writer, or a write of no bytes, ends it. It takes no memory, and writes pieces of up to 4,096 bytes.
 pub fn write_explanation<C: Code, W: Write>(
     program: &C,
     certificate: &Certificate,
+    lines: &[u8],
     refusal: Option<Refusal>,
     out: &mut W,
 ) -> io::Result<()>
     requires { IfNone refusal (IsCertifiedBy (C.program program.now) certificate.now) }
 {
     let mut page = Page::new(out);
-    explain_on(program, certificate, refusal, &mut page);
+    explain_on(program, certificate, lines, refusal, &mut page);
     page.finish()
 }
 
 /// One instruction with the whole state before and after it, and what is wrong there.
-fn tell_at<C: Code, W: Tell>(program: &C, certificate: &Certificate, slot: u32, out: &mut W) {
+fn tell_at<C: Code, W: Tell>(
+    program: &C,
+    certificate: &Certificate,
+    lines: &[u8],
+    slot: u32,
+    out: &mut W,
+) {
     let index = Index::of(certificate);
     if program.insn(slot).is_none() {
         write!(out, "no instruction begins at slot {slot}\n");
     }
-    tell_all(program, &index, View::Slot(slot), out);
+    tell_all(program, &index, View::Slot(slot), lines, out);
 }
 
 /// Writes one instruction of a program with the whole state before and after it, and what is wrong there. A fault of the
@@ -143,10 +163,11 @@ fn tell_at<C: Code, W: Tell>(program: &C, certificate: &Certificate, slot: u32, 
 pub fn write_slot<C: Code, W: Write>(
     program: &C,
     certificate: &Certificate,
+    lines: &[u8],
     slot: u32,
     out: &mut W,
 ) -> io::Result<()> {
     let mut page = Page::new(out);
-    tell_at(program, certificate, slot, &mut page);
+    tell_at(program, certificate, lines, slot, &mut page);
     page.finish()
 }

@@ -1,14 +1,18 @@
 //! The flaws at a slot, told in the order of their numbers.
 
+use crate::effects::unknown_register;
 use crate::flaws::{CAUSES, Flaws};
 use crate::known::Spelled;
 use crate::listing::{write_edges, write_function, write_instruction, write_label};
 use crate::sight::{Outcome, Sight};
+use crate::source::SourceLines;
 use crate::standing::{
     functions_about, label_flaws, label_in, lacks_first_label, standing_flaws, start_flaws,
 };
 use crate::whole::write_whole;
-use crate::words::{Silence, tell, tell_function, tell_label, tell_silence, tell_start};
+use crate::words::{
+    Handings, Silence, tell, tell_function, tell_handed, tell_label, tell_silence, tell_start,
+};
 use bpf_cert::{Function, Label};
 use bpf_check::{Cause, Index, Refusal};
 use bpf_insn::Code;
@@ -40,7 +44,7 @@ struct Quiet {
 
 /// What goes on from slot to slot as a program is told.
 #[derive(Drop)]
-pub struct Report {
+pub struct Report<'t> {
     view: View,
     /// What was told last of each place.
     shown: State,
@@ -49,6 +53,11 @@ pub struct Report {
     /// Why no state goes on.
     silence: Silence,
     quiet: Option<Quiet>,
+    /// The calls that hand frame pointers over, once they are looked for.
+    handings: Option<Handings>,
+    /// Where the instructions came from, and whether that is told at this one.
+    lines: SourceLines<'t>,
+    has_new_line: bool,
 }
 
 /// What is wrong at a slot.
@@ -76,15 +85,18 @@ impl Found {
     }
 }
 
-impl Report {
+impl<'t> Report<'t> {
     /// Nothing is told yet.
-    pub fn new(view: View) -> Self {
+    pub fn new(view: View, lines: SourceLines<'t>) -> Self {
         Report {
             view,
             shown: State::blank(),
             room: State::blank(),
             silence: Silence::Start,
             quiet: None,
+            handings: None,
+            lines,
+            has_new_line: false,
         }
     }
 
@@ -110,7 +122,7 @@ impl Report {
 
     /// Tells a flaw of the instruction at a slot.
     fn tell_visit<'a, W: Tell, C: Code>(
-        &self,
+        &mut self,
         out: &mut W,
         program: &C,
         certificate: &Index,
@@ -122,7 +134,46 @@ impl Report {
             Cause::FallsOff if sight.is_never => tell_silence(out, self.silence),
             _ => tell(out, program, certificate, sight, cause),
         }
-        write!(out, "\n");
+        if cause == Cause::UnsetRegister {
+            self.tell_cause(out, program, certificate, sight);
+        }
+        self.end_visit(out);
+    }
+
+    /// Ends a flaw's line: with the source's line, unless that stands above.
+    fn end_visit<W: Tell>(&self, out: &mut W) {
+        let text = self.lines.text();
+        if text.is_empty() || matches!(self.view, View::Listing | View::Sketch(..)) {
+            return write!(out, "\n");
+        }
+        write!(out, "; from {text}\n");
+    }
+
+    /// The line of the source that an instruction came from, where it is another one than before.
+    fn write_source<W: Tell>(&self, out: &mut W) {
+        let text = self.lines.text();
+        if self.has_new_line && !text.is_empty() {
+            write!(out, "; {text}\n");
+        }
+    }
+
+    /// Tells why nothing is known of a register that a function reads, if it was handed a frame pointer in it.
+    fn tell_cause<'a, W: Tell, C: Code>(
+        &mut self,
+        out: &mut W,
+        program: &C,
+        certificate: &Index,
+        sight: &Sight<'a>,
+    ) {
+        let Some(reg) = unknown_register(&sight.insn, &sight.before) else {
+            return;
+        };
+        let handings = match self.handings.take() {
+            Some(handings) => handings,
+            None => Handings::of(program, certificate),
+        };
+        tell_handed(out, program, certificate, sight, reg, &handings);
+        self.handings = Some(handings);
     }
 
     /// Tells that the first slot of a function, which is at a slot, has no label.
@@ -313,6 +364,7 @@ impl Report {
         if sight.label.is_some() {
             self.shown.copy_from(&sight.before);
         }
+        self.write_source(out);
         write_instruction(out, sight, &mut self.shown);
         write_edges(out, sight, &mut self.shown);
     }
@@ -379,6 +431,8 @@ impl Report {
             }
             View::List => self.tell_flaws(out, program, certificate, sight),
             View::Slot(slot) if slot == sight.slot => {
+                self.has_new_line = true;
+                self.write_source(out);
                 write_whole(out, sight);
                 self.tell_flaws(out, program, certificate, sight);
             }
@@ -402,6 +456,7 @@ impl Report {
         certificate: &Index,
         sight: &Sight<'a>,
     ) {
+        self.has_new_line = self.lines.go_to(sight.slot);
         self.show(out, program, certificate, sight);
         self.note_silence(sight);
     }

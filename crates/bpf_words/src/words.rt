@@ -5,6 +5,7 @@ mod edges;
 mod kinds;
 mod labels;
 mod memory;
+mod origins;
 mod shape;
 
 use crate::known::Name;
@@ -14,6 +15,7 @@ use bpf_insn::{Code, Reg};
 use bpf_page::Tell;
 use bpf_state::Place;
 pub use labels::{tell_function, tell_label, tell_start};
+pub use origins::{Handings, tell_handed};
 pub use shape::{Silence, tell_silence};
 
 /// The name of a register.
@@ -32,8 +34,8 @@ pub fn tell<'a, W: Tell, C: Code>(
     match cause {
         Cause::NoLabel => shape::tell_missing_label(out, sight),
         Cause::UnsetRegister => kinds::tell_unknown(out, sight),
-        Cause::WrongKinds => kinds::tell_kinds(out, sight),
-        Cause::OutOfBounds => memory::tell_bounds(out, certificate, sight),
+        Cause::WrongKinds => kinds::tell_kinds(out, program, sight),
+        Cause::OutOfBounds => memory::tell_bounds(out, program, certificate, sight),
         Cause::UnsetByte => memory::tell_unknown_bytes(out, sight),
         Cause::Protected => memory::tell_protected(out, sight),
         Cause::NotEntailed => edges::tell_difference(out, certificate, sight),

@@ -111,7 +111,7 @@ impl Drawn {
         if scene.plan.functions.has(slot) {
             self.begin_function(out, scene, slot);
         }
-        let is_reached = scene.flow.reached.has(slot);
+        let is_reached = scene.reached.has(slot) && scene.flow.reached.has(slot);
         self.block = Some(if is_reached {
             Look::Plain
         } else {

@@ -1,8 +1,8 @@
 //! Which instructions and edges runs take, as far as the checker's pass knows.
 
-use crate::graph::slots::Slots;
 use crate::pass::see;
-use crate::sight::{Edge, Sight};
+use crate::sight::{Edge, Outcome, Sight};
+use crate::slots::Slots;
 use bpf_cert::LAST_SLOT;
 use bpf_check::{Index, Site, Spot, Walk};
 use bpf_insn::Code;
@@ -16,6 +16,8 @@ pub struct Flow {
     pub jumps: Slots,
     /// Those from which a state goes on to the next.
     pub nexts: Slots,
+    /// Those behind which nothing is known: no state reaches them, or they are refused.
+    unknown: Slots,
 }
 
 /// Whether there is an edge, and a state goes along it.
@@ -33,6 +35,7 @@ impl Flow {
             reached: Slots::none(),
             jumps: Slots::none(),
             nexts: Slots::none(),
+            unknown: Slots::none(),
         }
     }
 
@@ -42,7 +45,18 @@ impl Flow {
             reached: Slots::all(),
             jumps: Slots::all(),
             nexts: Slots::all(),
+            unknown: Slots::all(),
         }
+    }
+
+    /// Whether the jump at a slot may be taken, as far as is known.
+    pub fn may_jump(&self, slot: u32) -> bool {
+        self.jumps.has(slot) || self.unknown.has(slot)
+    }
+
+    /// Whether the next instruction may follow the one at a slot, as far as is known.
+    pub fn may_go_on(&self, slot: u32) -> bool {
+        self.nexts.has(slot) || self.unknown.has(slot)
     }
 
     /// Takes note of what the pass sees at an instruction.
@@ -50,6 +64,9 @@ impl Flow {
         let slot = sight.slot;
         if sight.here.is_some() {
             self.reached.add(slot);
+        }
+        if let Outcome::Unreached | Outcome::Refused(_) = sight.outcome {
+            self.unknown.add(slot);
         }
         if is_live(sight.jump) {
             self.jumps.add(slot);

@@ -2,7 +2,7 @@
 
 ghost use Rattle.std.specs.Prelude.{◌≤◌};
 
-use crate::graph::slots::Slots;
+use crate::slots::Slots;
 use bpf_cert::Function;
 use bpf_check::{Index, jump_target};
 use bpf_insn::{Code, Insn, MAX_SLOTS, target};

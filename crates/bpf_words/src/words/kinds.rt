@@ -4,8 +4,9 @@ use crate::effects::{slots_touched, unknown_register};
 use crate::known::{Known, Name, Offset, known_register};
 use crate::places::content;
 use crate::sight::Sight;
+use crate::words::origins::tell_lost;
 use crate::words::register;
-use bpf_insn::{Access, AluOp, AtomicOp, Insn, Operand, Reg, Width};
+use bpf_insn::{Access, AluOp, AtomicOp, Code, Insn, Operand, Reg, Width};
 use bpf_page::Tell;
 use bpf_state::{Place, RegState, SlotState, State};
 
@@ -125,16 +126,19 @@ fn number_wanted(insn: &Insn, state: &State) -> Option<Reg> {
     }
 }
 
-/// Why an access may not be made with its operands.
+/// An address that isn't in a pointer.
+fn tell_address<'a, W: Tell, C: Code>(out: &mut W, program: &C, sight: &Sight<'a>, access: Access) {
+    let (name, off) = (register(access.base), Offset(access.off));
+    let held = known_register(sight.before.reg(access.base));
+    write!(
+        out,
+        "the address {name} {off} isn't in a pointer: {name} is {held}"
+    );
+    tell_lost(out, program, sight, access.base);
+}
+
+/// Why an access through a pointer may not be made with its operands.
 fn tell_access<W: Tell>(out: &mut W, state: &State, insn: &Insn, access: Access) {
-    if !is_pointer(state, access.base) {
-        let (name, off) = (register(access.base), Offset(access.off));
-        let held = known_register(state.reg(access.base));
-        return write!(
-            out,
-            "the address {name} {off} isn't in a pointer: {name} is {held}"
-        );
-    }
     if let Some(reg) = number_wanted(insn, state) {
         return tell_number_wanted(out, state, reg);
     }
@@ -151,7 +155,7 @@ fn tell_access<W: Tell>(out: &mut W, state: &State, insn: &Insn, access: Access)
 }
 
 /// C4: operands or slots are of the wrong kinds.
-pub fn tell_kinds<'a, W: Tell>(out: &mut W, sight: &Sight<'a>) {
+pub fn tell_kinds<'a, W: Tell, C: Code>(out: &mut W, program: &C, sight: &Sight<'a>) {
     let state = &sight.before;
     match sight.insn {
         Insn::Alu {
@@ -171,6 +175,9 @@ pub fn tell_kinds<'a, W: Tell>(out: &mut W, sight: &Sight<'a>) {
         ),
         Insn::Exit => tell_register(out, "the result must be a number", state, Reg::R0),
         _ => match sight.insn.access() {
+            Some(access) if !is_pointer(state, access.base) => {
+                tell_address(out, program, sight, access);
+            }
             Some(access) => tell_access(out, state, &sight.insn, access),
             None => write!(out, "takes operands of other kinds"),
         },

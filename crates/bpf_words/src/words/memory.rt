@@ -6,9 +6,10 @@ use crate::listing::Lengths;
 use crate::places::content;
 use crate::sight::Sight;
 use crate::words::kinds::tell_operands;
+use crate::words::origins::{tell_operand_tested, tell_sum_tested};
 use crate::words::register;
 use bpf_check::Index;
-use bpf_insn::{Access, Insn};
+use bpf_insn::{Access, Code, Insn};
 use bpf_page::{Count, Tell};
 use bpf_state::{FRAME_START, Place, SlotState, State};
 use std::fmt;
@@ -35,6 +36,20 @@ impl fmt::Display for Touch {
     }
 }
 
+/// `: only the first 38 bytes can be read`, where contexts have several lengths.
+fn tell_readable<W: Tell>(out: &mut W, certificate: &Index) {
+    let least = certificate.least();
+    if least == certificate.most() {
+        return;
+    }
+    match least {
+        0 => write!(out, ": no byte can be read, as a context may have none"),
+        1 => write!(out, ": only the first byte can be read"),
+        _ => write!(out, ": only the first {least} bytes can be read"),
+    }
+    write!(out, "; comparing r2 doesn't change that");
+}
+
 /// `: `, and the byte that lies outside of the context or the frame.
 fn tell_outside<W: Tell>(out: &mut W, certificate: &Index, reach: Reach) {
     let (first, last) = (reach.first, reach.last);
@@ -47,6 +62,7 @@ fn tell_outside<W: Tell>(out: &mut W, certificate: &Index, reach: Reach) {
     } else if last >= i64::from(certificate.least()) {
         let lengths = Lengths::of(certificate);
         write!(out, ": byte {last} of a context of {lengths}");
+        tell_readable(out, certificate);
     } else {
         write!(out, ": byte {first}, in front of the context");
     }
@@ -62,10 +78,16 @@ fn tell_far<W: Tell>(out: &mut W, state: &State, insn: &Insn) {
 }
 
 /// C5: an access may leave the context or the frame, or a pointer its bounds.
-pub fn tell_bounds<'a, W: Tell>(out: &mut W, certificate: &Index, sight: &Sight<'a>) {
+pub fn tell_bounds<'a, W: Tell, C: Code>(
+    out: &mut W,
+    program: &C,
+    certificate: &Index,
+    sight: &Sight<'a>,
+) {
     let state = &sight.before;
     let Some(access) = sight.insn.access() else {
-        return tell_far(out, state, &sight.insn);
+        tell_far(out, state, &sight.insn);
+        return tell_operand_tested(out, program, sight);
     };
     let (name, held) = (
         register(access.base),
@@ -76,6 +98,7 @@ pub fn tell_bounds<'a, W: Tell>(out: &mut W, certificate: &Index, sight: &Sight<
     if let Some(reach) = Reach::of(access, state) {
         tell_outside(out, certificate, reach);
     }
+    tell_sum_tested(out, program, sight, access.base);
 }
 
 /// The bytes of a slot that are touched, by a mask.

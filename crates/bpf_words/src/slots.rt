@@ -26,6 +26,20 @@ impl Slots {
         }
     }
 
+    /// Takes the first slot out.
+    pub fn take_first(&mut self) -> Option<u32> {
+        let mut first = 0u32;
+        for word in self.held.iter_mut() {
+            if *word != 0 {
+                let slot = first.saturating_add(word.trailing_zeros());
+                *word &= *word - 1;
+                return Some(slot);
+            }
+            first = first.saturating_add(64);
+        }
+        None
+    }
+
     /// Whether a slot is in it.
     pub fn has(&self, slot: u32) -> bool {
         match self.held.get(slot as usize / 64) {

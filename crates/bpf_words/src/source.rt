@@ -1,0 +1,71 @@
+//! A table of source lines: which line of the source the instructions came from.
+
+use bpf_cert::cut;
+use std::str::from_utf8;
+
+/// A table of lines `SLOT TEXT`, by rising slots, as far as it is read: the instructions from the slot on, up to the next line's
+/// slot, came from the text. A line of another form is passed over.
+#[derive(Clone, Copy)]
+pub struct SourceLines<'a> {
+    rest: &'a [u8],
+    text: &'a str,
+}
+
+/// The slot and the text of a line.
+fn entry_of(line: &[u8]) -> Option<(u32, &str)> {
+    let (front, text) = cut(line, b' ')?;
+    let number = from_utf8(front).ok()?;
+    let slot = number.parse::<u32>().ok()?;
+    Some((slot, from_utf8(text).ok()?))
+}
+
+impl<'a> SourceLines<'a> {
+    /// A table that is read from its beginning. Nothing came from anywhere in front of its first line.
+    pub fn of(table: &'a [u8]) -> Self {
+        SourceLines {
+            rest: table,
+            text: "",
+        }
+    }
+
+    /// Reads one line, unless it is of a later slot. Whether one was read.
+    fn read_line(&mut self, slot: u32) -> bool {
+        if self.rest.is_empty() {
+            return false;
+        }
+        let (line, rest) = match cut(self.rest, b'\n') {
+            Some(parts) => parts,
+            None => (self.rest, self.rest.get(..0).unwrap_or(&[])),
+        };
+        match entry_of(line) {
+            Some((at, _)) if at > slot => return false,
+            Some((_, text)) => self.text = text,
+            None => {}
+        }
+        self.rest = rest;
+        true
+    }
+
+    /// Reads on to a slot, which isn't below an earlier one. Whether another text stands there than before.
+    pub fn go_to(&mut self, slot: u32) -> bool {
+        let before = self.text;
+        for _ in 0..u32::MAX {
+            if !self.read_line(slot) {
+                break;
+            }
+        }
+        before != self.text
+    }
+
+    /// The text that the instruction came from; empty where none is known.
+    pub fn text(&self) -> &'a str {
+        self.text
+    }
+}
+
+/// The text that the instruction at a slot came from, by a table of source lines.
+pub fn source_at(table: &[u8], slot: u32) -> &str {
+    let mut lines = SourceLines::of(table);
+    let _ = lines.go_to(slot);
+    lines.text()
+}
