@@ -1,25 +1,15 @@
 //! What is told goes out in pieces of 4,096 bytes.
 
 use crate::quoted::Quoted;
-use arrayvec::ArrayVec;
-use bpf_insn::written::write_bytes;
+use bpf_insn::written::Pending;
 use std::fmt::Display;
 use std::io::{self, ErrorKind, Write};
 
-/// A writer that hands on pieces of 4,096 bytes. What it holds at the end is handed on by `flush` alone.
+/// A writer that hands on pieces of 4,096 bytes. What waits at the end is handed on by `flush` alone.
 #[derive(Drop)]
 struct Pieces<'a, W: Write> {
     out: &'a mut W,
-    held: ArrayVec<u8, 4096>,
-}
-
-impl<'a, W: Write> Pieces<'a, W> {
-    /// Hands on what is held.
-    fn hand_on(&mut self) -> io::Result<()> {
-        write_bytes(self.out, self.held.as_slice())?;
-        self.held.clear();
-        Ok(())
-    }
+    pending: Pending,
 }
 
 /// A fault after which nothing is tried again: `write_all` tries again after `Interrupted`, and a piece would go out twice.
@@ -32,14 +22,12 @@ fn final_fault(error: io::Error) -> io::Error {
 
 impl<'a, W: Write> Write for Pieces<'a, W> {
     fn write(&mut self, buf: &[u8]) -> io::Result<usize> {
-        if self.held.is_full() {
-            self.hand_on().map_err(final_fault)?;
-        }
-        self.held.write(buf)
+        self.pending.put(self.out, buf).map_err(final_fault)?;
+        Ok(buf.len())
     }
 
     fn flush(&mut self) -> io::Result<()> {
-        self.hand_on()?;
+        self.pending.flush(self.out)?;
         self.out.flush()
     }
 }
@@ -71,7 +59,7 @@ impl<'a, W: Write> Page<'a, W> {
         Page {
             pieces: Pieces {
                 out,
-                held: ArrayVec::new(),
+                pending: Pending::new(),
             },
             is_quoted: false,
             fault: None,
