@@ -4,5 +4,6 @@ pub mod CallLemmas
 pub mod MoveLemmas
 pub mod FlowLemmas
 pub mod PlaceLemmas
+pub mod ClassLemmas
 pub mod StepLemmas
 pub mod RunLemmas
