@@ -5,7 +5,7 @@ use Rattle.std.proofs.lemmas.Int.{ints}
 use Rattle.bpf_insn.specs.Instruction.{Instructions}
 use Rattle.bpf_semantics.specs.State as machine
 use Rattle.bpf_num.specs.Interval.{Interval}
-use Rattle.bpf_state.specs.State.{IsPlace, AbstractState, tightened}
+use Rattle.bpf_state.specs.State.{IsPlace, AbstractState, tightened, IsAbstract}
 use Rattle.bpf_sound.specs.Describes.{Describes}
 use Rattle.bpf_state.specs.Entails.{state_entails}
 use Rattle.bpf_sound.specs.Laws as abstract
@@ -37,7 +37,7 @@ pub record Arrives (p : Instructions) (least most : ℕ) (m : machine.State) (l 
   pub state_is : label_state l ≡ Some at_label
   pub y : List ℕ
   pub as_many : length y ≡ length l.terms
-  pub valid : abstract.IsAbstract at_label
+  pub valid : IsAbstract at_label
   pub described : Describes p.order least most y at_label m
   pub has_bounds : HasBounds at_label l.terms
   pub inside : InBox at_label l.terms (values y)
@@ -91,7 +91,7 @@ limited s t r y e le h = weighed t.weight (measured t.measure (pos y)) (by_measu
         omega (arith, ints)
 
 module _ (p : Instructions) (c : CertificateView) (laws : Laws) (certificate : IsWellFormed c) where
-  pub arrive : (m : machine.State) (l : LabelView) (s : AbstractState) (x : List ℕ) (slot : ℕ) → label_at c slot ≡ Some l → IsRightLabel p l → abstract.IsAbstract s → Describes p.order c.least c.most x s m → state_entails s l.state ≡ true → Arrives p c.least c.most m l s x
+  pub arrive : (m : machine.State) (l : LabelView) (s : AbstractState) (x : List ℕ) (slot : ℕ) → label_at c slot ≡ Some l → IsRightLabel p l → IsAbstract s → Describes p.order c.least c.most x s m → state_entails s l.state ≡ true → Arrives p c.least c.most m l s x
   arrive m l s x slot l_is right valid described entails =
       record {
         at_label = with_tags 0 l.terms told.state;
@@ -113,7 +113,7 @@ module _ (p : Instructions) (c : CertificateView) (laws : Laws) (certificate : I
       is_place : (j : ℕ) (t : Term) → slice_get l.terms j ≡ Some t → IsPlace (place_of t)
       is_place j t e = certificate.places l slot j t l_is e
 
-      valid_label : abstract.IsAbstract l.state
+      valid_label : IsAbstract l.state
       valid_label = certificate.states l slot l_is
 
       bad : (j : ℕ) (t : Term) → slice_get l.terms j ≡ Some t → (is_none (bounds l.state t) ≡ false) × (is_bad_limit (tightened l.state) t.measure t ≡ false)

@@ -18,7 +18,7 @@ use Rattle.bpf_semantics.specs.State.Cell.{Byte, Part}
 use Rattle.bpf_semantics.specs.Run.{Steps}
 use Rattle.bpf_state.specs.declared.known.RegState.{RegState}
 use Rattle.bpf_state.specs.declared.known.RegState.TheVariants.{Any, Num, Ptr}
-use Rattle.bpf_state.specs.State.{AbstractState, first_state, register, callee_state, caller_state}
+use Rattle.bpf_state.specs.State.{AbstractState, first_state, register, callee_state, caller_state, IsAbstract}
 use Rattle.bpf_num.specs.Number.{Has}
 use Rattle.bpf_state.specs.Fault.{fault_of, some_passes, is_number}
 use Rattle.bpf_sound.specs.Describes.{Describes, DescribesRegister}
@@ -175,7 +175,7 @@ module _ (p : Instructions) (c : CertificateView) (laws : Laws) (program : IsPro
 
   -- an edge into a label, after some instructions whose cost is known
   pub enter : (m m' : machine.State) (budget spent : ℕ) (h : Here p c m budget spent) (s : AbstractState) (l : LabelView) (k spent' : ℕ)
-      → machine.IsState m' → abstract.IsAbstract s → Describes p.order c.least c.most h.x s m'
+      → machine.IsState m' → IsAbstract s → Describes p.order c.least c.most h.x s m'
       → label_at c m'.top.slot ≡ Some l → function_at c m'.top.slot ≡ Some h.function
       → is_refused_by c (record { slot = m'.top.slot; state = s }) ≡ false
       → is_unpaid c (record { slot = m.top.slot; insn = h.insn; arrival = arrives c m.top.slot h.passed }) h.arrival (record { slot = m'.top.slot; state = s }) ≡ false
@@ -201,7 +201,7 @@ module _ (p : Instructions) (c : CertificateView) (laws : Laws) (program : IsPro
 
   -- the next instruction of a block
   on_in_block : (m m' : machine.State) (budget spent : ℕ) (h : Here p c m budget spent) (s : AbstractState) (k spent' : ℕ)
-      → machine.IsState m' → abstract.IsAbstract s → Describes p.order c.least c.most h.x s m'
+      → machine.IsState m' → IsAbstract s → Describes p.order c.least c.most h.x s m'
       → next_state p c m.top.slot h.insn h.arrival.state ≡ Some s → m'.top.slot ≡ m.top.slot + slot_count h.insn
       → label_at c (m.top.slot + slot_count h.insn) ≡ None
       → Steps p k m m' → k + spent ≤ spent' → cost_after c m.top.slot h.insn h.arrival ≡ Some (pos spent')
@@ -353,7 +353,7 @@ module _ (p : Instructions) (c : CertificateView) (laws : Laws) (program : IsPro
           (passes_none (λ g. some_passes (λ l. not (state_entails (callee_state h.arrival.state) l.state)) (label_at c g.first)) (callee c m.top.slot h.insn) g.callee_function wrong callee_here) first.1)
 
       a : Arrives p c.least c.most m1 first.0 (callee_state h.arrival.state) h.x
-      a = arrive p c laws certificate m1 first.0 (callee_state h.arrival.state) h.x m1.top.slot l_is (is_right_label p c certified m1.top.slot first.0 l_is) (subst abstract.IsAbstract same leads.valid) (subst (λ z. Describes p.order c.least c.most h.x z m1) same leads.describes) entails
+      a = arrive p c laws certificate m1 first.0 (callee_state h.arrival.state) h.x m1.top.slot l_is (is_right_label p c certified m1.top.slot first.0 l_is) (subst IsAbstract same leads.valid) (subst (λ z. Describes p.order c.least c.most h.x z m1) same leads.describes) entails
 
       shallow : machine.depth m1 + g.callee_function.depth ≤ 8
       shallow = let d = ap length en.waiting in let less = g.deeper in let deep = h.shallow in omega arith

@@ -12,8 +12,7 @@ use Rattle.bpf_state.specs.declared.known.SlotState.TheVariants.{Bytes, Word, Sp
 use Rattle.bpf_state.specs.declared.known.Place.{Place}
 use Rattle.bpf_state.specs.declared.known.Place.TheVariants.{Register, Slot}
 use Rattle.bpf_state.specs.declared.known.Tag.{Tag}
-use Rattle.bpf_state.specs.State.{AbstractState, register, slot, slot_value}
-use Rattle.bpf_sound.specs.Laws.{IsAbstract, IsAbstractRegister, IsAbstractSlot}
+use Rattle.bpf_state.specs.State.{AbstractState, register, slot, slot_value, IsAbstract, IsAbstractRegister, IsAbstractSlot}
 use Rattle.bpf_cert.specs.declared.certificate.Term.{Term}
 use Rattle.bpf_state.specs.Held.{held}
 use Rattle.bpf_state.specs.State.{tag as tag_of}

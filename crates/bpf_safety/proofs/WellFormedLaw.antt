@@ -13,8 +13,7 @@ use Rattle.bpf_state.specs.declared.known.SlotState.TheVariants.{Bytes, Word, Sp
 use Rattle.bpf_state.specs.declared.known.Pointer.{Pointer}
 use Rattle.bpf_state.specs.declared.known.Place.{Place}
 use Rattle.bpf_state.specs.declared.known.Place.TheVariants.{Register, Slot}
-use Rattle.bpf_state.specs.State.{AbstractState, IsPlace, IsPointer}
-use Rattle.bpf_sound.specs.Laws.{IsAbstract, IsAbstractRegister, IsAbstractSlot}
+use Rattle.bpf_state.specs.State.{AbstractState, IsPlace, IsPointer, IsAbstract, IsAbstractRegister, IsAbstractSlot}
 use Rattle.bpf_cert.specs.declared.certificate.Measure.{Measure}
 use Rattle.bpf_cert.specs.declared.certificate.Measure.TheVariants.{Down, Up}
 use Rattle.bpf_cert.specs.declared.certificate.Term.{Term}

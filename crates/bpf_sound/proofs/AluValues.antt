@@ -19,10 +19,9 @@ use Rattle.bpf_num.specs.Operation.{num_alu}
 use Rattle.bpf_state.specs.declared.known.RegState.{RegState}
 use Rattle.bpf_state.specs.declared.known.RegState.TheVariants.{Num, Ptr}
 use Rattle.bpf_state.specs.declared.known.Pointer.{Pointer}
-use Rattle.bpf_state.specs.State.{same_area}
+use Rattle.bpf_state.specs.State.{same_area, IsAbstractRegister}
 use Rattle.bpf_state.specs.Fault.{alu_of_kinds, difference, leaves_bounds, some_passes}
 use Rattle.bpf_sound.specs.Describes.{DescribesRegister, PointsInto, region_of}
-use Rattle.bpf_sound.specs.Laws.{IsAbstractRegister}
 use Rattle.bpf_sound.proofs.Areas.{same_regions}
 use Rattle.bpf_sound.proofs.Lists.{Given}
 use Rattle.bpf_sound.proofs.Tests.{some_if}

@@ -27,12 +27,12 @@ use Rattle.bpf_semantics.specs.Memory.Location.{InFrame}
 use Rattle.bpf_num.specs.Laws.{TightenKeeps}
 use Rattle.bpf_state.specs.declared.known.RegState.{RegState}
 use Rattle.bpf_state.specs.declared.known.RegState.TheVariants.{Any, Num, Ptr}
-use Rattle.bpf_state.specs.State.{AbstractState, register, slot, put_register}
+use Rattle.bpf_state.specs.State.{AbstractState, register, slot, put_register, IsAbstract, IsAbstractRegister}
 use Rattle.bpf_state.specs.Access.{Span, span_from, any_slot, is_pointer_slot, are_known_bytes, touches, touched_bytes}
 use Rattle.bpf_state.specs.Fault.{have_right_kinds, reads_part, some_passes, is_number, is_pointer, atomic_kinds}
 use Rattle.bpf_state.specs.Transfer.{after, fetched, loaded, modified_by, slot_maybe_written, with_touched}
 use Rattle.bpf_sound.specs.Describes.{Describes, DescribesRegister}
-use Rattle.bpf_sound.specs.Laws.{Leads, IsJudged, IsAbstract, IsAbstractRegister}
+use Rattle.bpf_sound.specs.Laws.{Leads, IsJudged}
 use Rattle.bpf_sound.proofs.Judged.{NoFault, no_fault_is, step_is, leads_at, top_frame}
 use Rattle.bpf_sound.proofs.Registers.{reg_top, put_is, register_put}
 use Rattle.bpf_sound.proofs.ReadCells.{ReadBytes, no_slot}

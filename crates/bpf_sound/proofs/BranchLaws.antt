@@ -21,11 +21,11 @@ use Rattle.bpf_num.specs.Refine.{refine}
 use Rattle.bpf_num.specs.Laws.{ConstantHas, RefineKeeps}
 use Rattle.bpf_state.specs.declared.known.RegState.{RegState}
 use Rattle.bpf_state.specs.declared.known.RegState.TheVariants.{Any, Num}
-use Rattle.bpf_state.specs.State.{AbstractState, register, register_tag}
+use Rattle.bpf_state.specs.State.{AbstractState, register, register_tag, IsAbstract, IsAbstractRegister}
 use Rattle.bpf_state.specs.Fault.{operand}
 use Rattle.bpf_state.specs.Transfer.{refined, is_register, refine_register, refine_operand}
 use Rattle.bpf_sound.specs.Describes.{Describes, DescribesRegister, TaggedRegister}
-use Rattle.bpf_sound.specs.Laws.{IsAbstract, IsAbstractRegister, Leads, Tests, BranchKeeps}
+use Rattle.bpf_sound.specs.Laws.{Leads, Tests, BranchKeeps}
 use Rattle.bpf_sound.proofs.Judged.{step_is, leads_at}
 use Rattle.bpf_sound.proofs.Lists.{Given}
 use Rattle.bpf_sound.proofs.Registers.{below_eleven}

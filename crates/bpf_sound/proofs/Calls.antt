@@ -22,9 +22,9 @@ use Rattle.bpf_state.specs.declared.known.RegState.{RegState}
 use Rattle.bpf_state.specs.declared.known.RegState.TheVariants.{Any, Num, Ptr}
 use Rattle.bpf_state.specs.declared.known.Area.TheVariants.{Frame}
 use Rattle.bpf_state.specs.declared.known.SlotState.TheVariants.{Bytes}
-use Rattle.bpf_state.specs.State.{AbstractState, callee_state, caller_state, without_frame, each_without_frame, no_tags, start_of}
+use Rattle.bpf_state.specs.State.{AbstractState, callee_state, caller_state, without_frame, each_without_frame, no_tags, start_of, IsAbstract, IsAbstractRegister, IsAbstractSlot}
 use Rattle.bpf_sound.specs.Describes.{Describes, DescribesRegister, DescribesSlot, TaggedRegister, TaggedSlot, LengthWithin, slot_cell}
-use Rattle.bpf_sound.specs.Laws.{EnterKeeps, LeaveKeeps, Leads, IsAbstract, IsAbstractRegister, IsAbstractSlot}
+use Rattle.bpf_sound.specs.Laws.{EnterKeeps, LeaveKeeps, Leads}
 use Rattle.bpf_sound.proofs.Areas.{by_area}
 use Rattle.bpf_sound.proofs.Judged.{step_is, leads_at, top_frame}
 use Rattle.bpf_sound.proofs.TouchedCells.{zero_or_one}

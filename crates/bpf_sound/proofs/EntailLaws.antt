@@ -18,10 +18,10 @@ use Rattle.bpf_state.specs.declared.known.RegState.TheVariants.{Any, Num, Ptr}
 use Rattle.bpf_state.specs.declared.known.Pointer.{Pointer}
 use Rattle.bpf_state.specs.declared.known.SlotState.{SlotState}
 use Rattle.bpf_state.specs.declared.known.SlotState.TheVariants.{Bytes, Word, Spilled}
-use Rattle.bpf_state.specs.State.{register, slot, same_area}
+use Rattle.bpf_state.specs.State.{register, slot, same_area, IsAbstractRegister, IsAbstractSlot}
 use Rattle.bpf_state.specs.Entails.{pointer_entails, register_entails, slot_entails, all_pairs}
 use Rattle.bpf_sound.specs.Describes.{DescribesRegister, DescribesSlot, slot_cell, region_of}
-use Rattle.bpf_sound.specs.Laws.{IsAbstractRegister, IsAbstractSlot, EntailsDescribes}
+use Rattle.bpf_sound.specs.Laws.{EntailsDescribes}
 use Rattle.bpf_sound.proofs.Areas.{area_is}
 use Rattle.bpf_sound.proofs.Registers.{below_eleven}
 use Rattle.bpf_sound.proofs.Lists.{pair_passes}

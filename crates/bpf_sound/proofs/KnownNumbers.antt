@@ -24,11 +24,10 @@ use Rattle.bpf_state.specs.declared.known.RegState.TheVariants.{Num}
 use Rattle.bpf_state.specs.declared.known.SlotState.{SlotState}
 use Rattle.bpf_state.specs.declared.known.SlotState.TheVariants.{Bytes, Word, Spilled}
 use Rattle.bpf_state.specs.declared.known.Tag.{Tag}
-use Rattle.bpf_state.specs.State.{slot_value, AbstractState, slot, slot_tag}
+use Rattle.bpf_state.specs.State.{slot_value, AbstractState, slot, slot_tag, IsAbstract, IsAbstractRegister, IsAbstractSlot}
 use Rattle.bpf_state.specs.Access.{Span, is_slot, slot_number, is_pointer_slot, touches}
 use Rattle.bpf_state.specs.Transfer.{loaded, loaded_tag, any_number}
 use Rattle.bpf_sound.specs.Describes.{Describes, DescribesRegister, DescribesSlot, TaggedRegister, TaggedSlot, IsStored, IsTagged}
-use Rattle.bpf_sound.specs.Laws.{IsAbstract, IsAbstractRegister, IsAbstractSlot}
 use Rattle.bpf_sound.proofs.ReadCells.{ReadBytes, is_touched, stored_once}
 use Rattle.bpf_sound.proofs.FrameStores.{InTop}
 use Rattle.bpf_sound.proofs.NumberStores.{WholeSlot, whole_slot_is, is_number_top}

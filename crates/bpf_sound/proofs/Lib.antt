@@ -31,4 +31,3 @@ pub mod Atomics
 pub mod NotStuck
 pub mod Waiting
 pub mod StepLaws
-mod StateLaws

@@ -31,12 +31,12 @@ use Rattle.bpf_state.specs.declared.known.RegState.TheVariants.{Any, Num, Ptr}
 use Rattle.bpf_state.specs.declared.known.SlotState.{SlotState}
 use Rattle.bpf_state.specs.declared.known.SlotState.TheVariants.{Bytes, Word, Spilled}
 use Rattle.bpf_state.specs.declared.known.Tag.{Tag}
-use Rattle.bpf_state.specs.State.{AbstractState, register, slot, slot_tag, slot_value, put_register}
+use Rattle.bpf_state.specs.State.{AbstractState, register, slot, slot_tag, slot_value, put_register, IsAbstractRegister}
 use Rattle.bpf_state.specs.Access.{Span, span_from, span_of, is_inside, is_known, is_slot, slot_number, is_pointer_slot, are_known_bytes, any_slot, touches, touched_bytes}
 use Rattle.bpf_state.specs.Fault.{reads_part, some_passes, is_pointer}
 use Rattle.bpf_state.specs.Transfer.{after, loaded, loaded_tag, any_number}
 use Rattle.bpf_sound.specs.Describes.{DescribesRegister, DescribesSlot, TaggedRegister, TaggedSlot, IsSpilled, region_of}
-use Rattle.bpf_sound.specs.Laws.{Leads, IsJudged, IsAbstractRegister}
+use Rattle.bpf_sound.specs.Laws.{Leads, IsJudged}
 use Rattle.bpf_sound.proofs.Areas.{context_pointer, frame_pointer, by_area}
 use Rattle.bpf_sound.proofs.Judged.{NoFault, no_fault_is, step_is, leads_at, top_frame}
 use Rattle.bpf_sound.proofs.Registers.{reg_top, put_is, register_put}

@@ -28,11 +28,11 @@ use Rattle.bpf_state.specs.declared.known.RegState.TheVariants.{Any, Num, Ptr}
 use Rattle.bpf_state.specs.declared.known.SlotState.{SlotState}
 use Rattle.bpf_state.specs.declared.known.SlotState.TheVariants.{Bytes, Word, Spilled}
 use Rattle.bpf_state.specs.declared.known.Tag.{Tag}
-use Rattle.bpf_state.specs.State.{AbstractState, slot, slot_tag, put_slot, value_slot}
+use Rattle.bpf_state.specs.State.{AbstractState, slot, slot_tag, put_slot, value_slot, IsAbstract, IsAbstractRegister, IsAbstractSlot}
 use Rattle.bpf_state.specs.Access.{Span, span_end, offset_in_slot, is_known, is_slot, slot_number, touches, touched_bytes}
 use Rattle.bpf_state.specs.Transfer.{slot_written, slot_maybe_written, with_touched, stored}
 use Rattle.bpf_sound.specs.Describes.{Describes, DescribesRegister, DescribesSlot, TaggedRegister, TaggedSlot, IsStored, region_of}
-use Rattle.bpf_sound.specs.Laws.{Leads, IsAbstract, IsAbstractRegister, IsAbstractSlot}
+use Rattle.bpf_sound.specs.Laws.{Leads}
 use Rattle.bpf_sound.proofs.StoredCells.{whole_slot, other_slot}
 use Rattle.bpf_sound.proofs.TouchedCells.{place_is, LiesAt, zero_or_one, apart}
 use Rattle.bpf_sound.proofs.ByteStores.{Write, cells_of, same_slot, same_slot_tag, known_slot, unknown_slot, touched_tag, slot_of_each, tag_of_each, length-each_slot, length-each_slot_tag}

@@ -7,10 +7,9 @@ use Rattle.bpf_insn.specs.Arithmetic.{extended}
 use Rattle.bpf_semantics.specs.State as machine
 use Rattle.bpf_semantics.specs.Step.{operand as machine_operand}
 use Rattle.bpf_num.specs.Laws.{ConstantHas}
-use Rattle.bpf_state.specs.State.{AbstractState}
+use Rattle.bpf_state.specs.State.{AbstractState, IsAbstract, IsAbstractRegister}
 use Rattle.bpf_state.specs.Fault.{operand}
 use Rattle.bpf_sound.specs.Describes.{Describes, DescribesRegister}
-use Rattle.bpf_sound.specs.Laws.{IsAbstract, IsAbstractRegister}
 use Rattle.bpf_sound.proofs.Constants.{extended_fits, constant_describes}
 
 pub operand_describes : ConstantHas → (order : Order) (least most : ℕ) (x : List ℕ) (s : AbstractState) (m : machine.State) (src : Operand) → Describes order least most x s m → DescribesRegister (machine.depth m) (operand s src) (machine_operand m src)

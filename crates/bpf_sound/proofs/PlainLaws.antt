@@ -27,11 +27,11 @@ use Rattle.bpf_num.specs.Operation.{num_neg, num_movsx, num_end}
 use Rattle.bpf_num.specs.Laws.{Member, Holds, ConstantHas, ConstantIs, TightenKeeps, AluKeeps, NegKeeps, MovsxKeeps, EndKeeps}
 use Rattle.bpf_state.specs.declared.known.RegState.{RegState}
 use Rattle.bpf_state.specs.declared.known.RegState.TheVariants.{Num}
-use Rattle.bpf_state.specs.State.{AbstractState, register, put_register}
+use Rattle.bpf_state.specs.State.{AbstractState, register, put_register, IsAbstract, IsAbstractRegister}
 use Rattle.bpf_state.specs.Fault.{operand, have_right_kinds, reads_part, makes_far_pointer, is_number}
 use Rattle.bpf_state.specs.Transfer.{after, alu_tag, number_state, set_number}
 use Rattle.bpf_sound.specs.Describes.{Describes, DescribesRegister}
-use Rattle.bpf_sound.specs.Laws.{IsAbstract, IsAbstractRegister, IsJudged, Leads}
+use Rattle.bpf_sound.specs.Laws.{IsJudged, Leads}
 use Rattle.bpf_sound.proofs.Judged.{NoFault, no_fault_is, step_is, leads_at}
 use Rattle.bpf_sound.proofs.Constants.{constant_describes}
 use Rattle.bpf_sound.proofs.Operands.{operand_describes, operand_valid}

@@ -13,9 +13,9 @@ use Rattle.bpf_semantics.specs.Step.{Step, does, next}
 use Rattle.bpf_insn.specs.Effects.{register_written, is_frame_pointer}
 use Rattle.bpf_state.specs.declared.known.RegState.{RegState}
 use Rattle.bpf_state.specs.declared.known.Tag.{Tag}
-use Rattle.bpf_state.specs.State.{AbstractState, put_register}
+use Rattle.bpf_state.specs.State.{AbstractState, put_register, IsAbstractRegister}
 use Rattle.bpf_sound.specs.Describes.{DescribesRegister, TaggedRegister}
-use Rattle.bpf_sound.specs.Laws.{IsJudged, IsAbstractRegister, Leads}
+use Rattle.bpf_sound.specs.Laws.{IsJudged, Leads}
 use Rattle.bpf_sound.proofs.Judged.{not_protected, step_is, leads_at, top_frame}
 use Rattle.bpf_sound.proofs.Registers.{reg_top, put_is, register_put}
 

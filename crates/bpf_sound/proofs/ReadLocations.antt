@@ -20,11 +20,10 @@ use Rattle.bpf_semantics.specs.State.Cell.{Byte}
 use Rattle.bpf_semantics.specs.Memory.{Location, bytes_in, bytes_at, pointer_at, pointer_in, location_of, stack_of}
 use Rattle.bpf_semantics.specs.Memory.Location.{InContext, InFrame}
 use Rattle.bpf_state.specs.declared.known.RegState.{RegState}
-use Rattle.bpf_state.specs.State.{AbstractState, slot}
+use Rattle.bpf_state.specs.State.{AbstractState, slot, IsAbstract}
 use Rattle.bpf_state.specs.Access.{Span, span_from, span_end, is_inside, first_byte, any_slot, is_pointer_slot, are_known_bytes, slot_number, touches, touched_bytes}
 use Rattle.bpf_state.specs.Fault.{some_passes}
 use Rattle.bpf_sound.specs.Describes.{Describes, PointsInto}
-use Rattle.bpf_sound.specs.Laws.{IsAbstract}
 use Rattle.bpf_sound.proofs.Areas.{context_pointer}
 use Rattle.bpf_sound.proofs.TouchedCells.{int_lt_true, LiesAt}
 use Rattle.bpf_sound.proofs.ReadCells.{no_slot, has_bit, is_touched, known_byte, ReadBytes, read_bytes}

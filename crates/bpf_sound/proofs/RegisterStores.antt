@@ -35,9 +35,9 @@ use Rattle.bpf_state.specs.declared.known.Tag.{Tag}
 use Rattle.bpf_state.specs.Access.{span_of, Span, is_known, is_slot, slot_number, touched_bytes}
 use Rattle.bpf_state.specs.Fault.{can_store, have_right_kinds, is_pointer, is_any}
 use Rattle.bpf_state.specs.Transfer.{after, slot_written, slot_maybe_written, with_touched, stored}
-use Rattle.bpf_state.specs.State.{AbstractState, register, register_tag, slot, slot_tag, put_slot, value_slot}
+use Rattle.bpf_state.specs.State.{AbstractState, register, register_tag, slot, slot_tag, put_slot, value_slot, IsAbstract, IsAbstractSlot}
 use Rattle.bpf_sound.specs.Describes.{Describes, DescribesRegister, DescribesSlot, TaggedRegister, TaggedSlot, IsSpilled, region_of}
-use Rattle.bpf_sound.specs.Laws.{Leads, IsJudged, IsAbstract, IsAbstractSlot}
+use Rattle.bpf_sound.specs.Laws.{Leads, IsJudged}
 use Rattle.bpf_sound.proofs.StoredCells.{each_cell_at, outside, within}
 use Rattle.bpf_sound.proofs.TouchedCells.{apart}
 use Rattle.bpf_sound.proofs.FrameStores.{InTop, store_access, in_top, stack_top, with_top_stack, does_store_number, byte_count_few}

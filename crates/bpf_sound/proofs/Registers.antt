@@ -12,9 +12,9 @@ use Rattle.bpf_semantics.specs.State.{put, IsFrame}
 use Rattle.bpf_state.specs.declared.known.RegState.{RegState}
 use Rattle.bpf_state.specs.declared.known.RegState.TheVariants.{Any}
 use Rattle.bpf_state.specs.declared.known.Tag.{Tag}
-use Rattle.bpf_state.specs.State.{AbstractState, put_register}
+use Rattle.bpf_state.specs.State.{AbstractState, put_register, IsAbstract, IsAbstractRegister}
 use Rattle.bpf_sound.specs.Describes.{Describes, DescribesRegister, TaggedRegister}
-use Rattle.bpf_sound.specs.Laws.{Leads, IsAbstract, IsAbstractRegister}
+use Rattle.bpf_sound.specs.Laws.{Leads}
 
 pub below_eleven : (r : Reg) → register_number r < 11
 below_eleven R0 = omega arith

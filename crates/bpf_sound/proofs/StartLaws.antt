@@ -15,9 +15,9 @@ use Rattle.bpf_num.specs.SignedInterval.{signed_top}
 use Rattle.bpf_state.specs.declared.known.RegState.TheVariants.{Any, Num}
 use Rattle.bpf_state.specs.declared.known.SlotState.{SlotState}
 use Rattle.bpf_state.specs.declared.known.SlotState.TheVariants.{Bytes}
-use Rattle.bpf_state.specs.State.{first_state, register, register_tag}
+use Rattle.bpf_state.specs.State.{first_state, register, register_tag, IsAbstractRegister, IsAbstractSlot}
 use Rattle.bpf_sound.specs.Describes.{DescribesRegister, DescribesSlot, TaggedRegister, TaggedSlot, LengthWithin, slot_cell}
-use Rattle.bpf_sound.specs.Laws.{IsAbstractRegister, IsAbstractSlot, StartIsAbstract, StartDescribes}
+use Rattle.bpf_sound.specs.Laws.{StartIsAbstract, StartDescribes}
 use Rattle.bpf_sound.proofs.NumberStores.{is_number_top}
 use Rattle.bpf_sound.proofs.WrittenSlots.{has_top}
 

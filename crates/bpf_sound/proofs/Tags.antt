@@ -24,11 +24,10 @@ use Rattle.bpf_num.specs.Laws.{ConstantHas, ConstantIs}
 use Rattle.bpf_state.specs.declared.known.RegState.{RegState}
 use Rattle.bpf_state.specs.declared.known.RegState.TheVariants.{Any, Num, Ptr}
 use Rattle.bpf_state.specs.declared.known.Tag.{Tag}
-use Rattle.bpf_state.specs.State.{AbstractState, register, register_tag}
+use Rattle.bpf_state.specs.State.{AbstractState, register, register_tag, IsAbstract, IsAbstractRegister}
 use Rattle.bpf_state.specs.Fault.{operand}
 use Rattle.bpf_state.specs.Transfer.{alu_tag, added, constant_of, tag_after, never_wraps, shifted_tag, max_offset}
 use Rattle.bpf_sound.specs.Describes.{Describes, DescribesRegister, IsTagged, TaggedRegister}
-use Rattle.bpf_sound.specs.Laws.{IsAbstract, IsAbstractRegister}
 use Rattle.bpf_sound.proofs.Operands.{operand_describes, operand_valid}
 
 -- ---- sums that don't wrap

@@ -12,9 +12,9 @@ use Rattle.bpf_state.specs.declared.known.RegState.{RegState}
 use Rattle.bpf_state.specs.declared.known.RegState.TheVariants.{Any, Num, Ptr}
 use Rattle.bpf_state.specs.declared.known.SlotState.{SlotState}
 use Rattle.bpf_state.specs.declared.known.SlotState.TheVariants.{Bytes, Word, Spilled}
-use Rattle.bpf_state.specs.State.{register, slot, tightened_register, tightened_slot, each_if}
+use Rattle.bpf_state.specs.State.{register, slot, tightened_register, tightened_slot, each_if, IsAbstractRegister, IsAbstractSlot}
 use Rattle.bpf_sound.specs.Describes.{DescribesRegister, DescribesSlot, slot_cell}
-use Rattle.bpf_sound.specs.Laws.{IsAbstractRegister, IsAbstractSlot, TightenedDescribes}
+use Rattle.bpf_sound.specs.Laws.{TightenedDescribes}
 use Rattle.bpf_sound.proofs.Registers.{below_eleven}
 use Rattle.bpf_sound.proofs.Lists.{each_register, Given, each_given}
 

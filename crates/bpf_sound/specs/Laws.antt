@@ -1,5 +1,5 @@
 -- What the abstract steps promise of the machine's steps.
-use Rattle.std.specs.Prelude.{◌≡◌, ℕ, ◌≤◌, ℤ, Bool, IsTrue, List, length, Option, Some, None, ⊤}
+use Rattle.std.specs.Prelude.{◌≡◌, ℕ, ◌≤◌, ℤ, Bool, IsTrue, List, Option, Some, None, ⊤}
 use Rattle.bpf_insn.specs.declared.order.Order.{Order}
 use Rattle.bpf_insn.specs.declared.instruction.Reg.{Reg}
 use Rattle.bpf_insn.specs.declared.instruction.Reg.TheVariants.{R0}
@@ -13,42 +13,11 @@ use Rattle.bpf_semantics.specs.State as machine
 use Rattle.bpf_semantics.specs.Step.{Step, test_of_values, operand, ◌>>=◌}
 use Rattle.bpf_semantics.specs.Stuck.{reason_of}
 use Rattle.bpf_num.specs.Number.{Number, IsNumber, Has}
-use Rattle.bpf_state.specs.declared.known.RegState.{RegState}
-use Rattle.bpf_state.specs.declared.known.RegState.TheVariants.{Num}
-use Rattle.bpf_state.specs.declared.known.SlotState.{SlotState}
-use Rattle.bpf_state.specs.declared.known.SlotState.TheVariants.{Word}
-use Rattle.bpf_state.specs.State.{AbstractState, IsRegister, IsSlot, IsAbstractState, register, slot, first_state, callee_state, caller_state, tightened}
+use Rattle.bpf_state.specs.State.{AbstractState, IsAbstract, first_state, callee_state, caller_state, tightened}
 use Rattle.bpf_state.specs.Fault.{fault_of}
 use Rattle.bpf_state.specs.Transfer.{after, branch}
 use Rattle.bpf_state.specs.Entails.{state_entails}
 use Rattle.bpf_sound.specs.Describes.{Describes, LengthWithin}
-
--- ---- abstract states: what each value of its types keeps
-
--- a number is one, and a pointer's bounds are in order
-abbrev pub IsAbstractRegister : RegState → Type 0
-IsAbstractRegister (Num n) = IsNumber n
-IsAbstractRegister value = IsRegister value
-
-abbrev pub IsAbstractSlot : SlotState → Type 0
-IsAbstractSlot (Word n) = IsNumber n
-IsAbstractSlot held = IsSlot held
-
-pub record IsAbstract (s : AbstractState) : Type 0 where
-  pub eleven : length s.registers ≡ 11
-  pub slots_are : length s.slots ≡ 64
-  pub eleven_tags : length s.register_tags ≡ 11
-  pub slot_tags_are : length s.slot_tags ≡ 64
-  pub registers : (r : Reg) → IsAbstractRegister (register s r)
-  pub slots : (k : ℕ) → 1 ≤ k → k ≤ 64 → IsAbstractSlot (slot s k)
-
-pub record HasNumbers (s : AbstractState) : Type 0 where
-  pub in_registers : (r : Reg) (n : Number) → register s r ≡ Num n → IsNumber n
-  pub in_slots : (k : ℕ) (n : Number) → 1 ≤ k → k ≤ 64 → slot s k ≡ Word n → IsNumber n
-
--- nothing more is asked than what every state keeps, and that its numbers do
-abbrev pub StatesAreAbstract : Type 0
-StatesAreAbstract = (s : AbstractState) → IsAbstractState s → HasNumbers s → IsAbstract s
 
 -- ---- a machine at an instruction, described by an abstract state without fault
 

@@ -1,16 +1,11 @@
 //! The laws of abstract states: what each promises of the machine's states that it describes.
 
-ghost use Rattle.bpf_sound.specs.Laws.{StatesAreAbstract, StartIsAbstract, StartDescribes, BranchKeeps, TightenedDescribes, EntailsDescribes, EnterKeeps, LeaveKeeps, NotStuckInside, StepKeeps, WaitingFramesStay};
+ghost use Rattle.bpf_sound.specs.Laws.{StartIsAbstract, StartDescribes, BranchKeeps, TightenedDescribes, EntailsDescribes, EnterKeeps, LeaveKeeps, NotStuckInside, StepKeeps, WaitingFramesStay};
 
 use bpf_num::laws::{
     alu_keeps, constant_has, constant_is, end_keeps, entails_includes, movsx_keeps, neg_keeps,
     refine_keeps, tighten_keeps,
 };
-
-/// The laws hold of every state, if its numbers are numbers.
-pub fn states_are_abstract()
-    ensures { StatesAreAbstract }
-{}
 
 /// The state to begin with is one of which the laws hold.
 pub fn start_is_abstract()

@@ -5,5 +5,5 @@ mod laws;
 
 pub use laws::{
     branch_keeps, entails_describes, enter_keeps, leave_keeps, not_stuck_inside, start_describes,
-    start_is_abstract, states_are_abstract, step_keeps, tightened_describes, waiting_frames_stay,
+    start_is_abstract, step_keeps, tightened_describes, waiting_frames_stay,
 };

@@ -7,7 +7,7 @@ use Rattle.std.specs.Option.{option_map_or}
 use Rattle.bpf_num.specs.Tristate.{bits_top}
 use Rattle.bpf_num.specs.Interval.{interval}
 use Rattle.bpf_num.specs.SignedInterval.{signed_top}
-use Rattle.bpf_num.specs.Number.{Number, number, tighten}
+use Rattle.bpf_num.specs.Number.{Number, IsNumber, number, tighten}
 use Rattle.bpf_state.specs.declared.known.RegState.{RegState}
 use Rattle.bpf_state.specs.declared.known.RegState.TheVariants.{Any, Num, Ptr}
 use Rattle.bpf_state.specs.declared.known.Area.{Area}
@@ -70,6 +70,23 @@ slot_tag s k = get_or s.slot_tags (k - 1) None
 abbrev pub tag : AbstractState → Place → Option Tag
 tag s (Register r) = register_tag s r
 tag s (Slot k) = slot_tag s k
+
+-- What the laws of described states ask of a state, and what each has: its numbers are numbers, too.
+abbrev pub IsAbstractRegister : RegState → Type 0
+IsAbstractRegister (Num n) = IsNumber n
+IsAbstractRegister value = IsRegister value
+
+abbrev pub IsAbstractSlot : SlotState → Type 0
+IsAbstractSlot (Word n) = IsNumber n
+IsAbstractSlot held = IsSlot held
+
+pub record IsAbstract (s : AbstractState) : Type 0 where
+  pub eleven : length s.registers ≡ 11
+  pub slots_are : length s.slots ≡ 64
+  pub eleven_tags : length s.register_tags ≡ 11
+  pub slot_tags_are : length s.slot_tags ≡ 64
+  pub registers : (r : Reg) → IsAbstractRegister (register s r)
+  pub slots : (k : ℕ) → 1 ≤ k → k ≤ 64 → IsAbstractSlot (slot s k)
 
 abbrev pub with_register : AbstractState → Reg → RegState → AbstractState
 with_register s r value = record s { registers = slice_set s.registers (register_number r) value }

@@ -138,7 +138,7 @@ fn put_registers(entries: &mut Entries, state: &State) -> Result<(), AllocError>
     requires { entries.old ≡ blank }
     ensures { IfOk result (λ u. entries.new ≡ record blank { registers = take 10 state.now.registers ++ Ptr (start_of Frame) ∷ [] }) }
 {
-    state.valid();
+    state.in_order();
     for i in 0..10u8 {
         let r = Reg::numbered(i);
         entries.put_reg(r, state.reg(r))?;
@@ -151,7 +151,7 @@ fn put_slots(entries: &mut Entries, state: &State) -> Result<(), AllocError>
     requires { entries.old.slots ≡ replicate 64 (Bytes 0) }
     ensures { IfOk result (λ u. entries.new ≡ record entries.old { slots = state.now.slots }) }
 {
-    state.valid();
+    state.in_order();
     if state.slots.is_blank() {
         return Ok(());
     }
@@ -310,7 +310,7 @@ impl State {
         ensures { result ≡ state_entails self.now entries.now }
     {
         let end = RegState::Ptr(Pointer::start_of(Area::Frame));
-        self.valid();
+        self.in_order();
         self.reg(Reg::R10).entails(end) && keeps_all(self, &entries.entries)
     }
 }

@@ -10,6 +10,7 @@ pub mod fault;
 pub mod known;
 mod lanes;
 mod masked;
+mod numbers;
 mod slots;
 mod state;
 mod tags;

@@ -5,6 +5,7 @@ ghost use Rattle.bpf_state.specs.State.{IsRegister, from_to};
 
 use crate::known::{Area, Place, Pointer, RegState, SlotState, Tag};
 use crate::masked::Slots;
+use crate::numbers::{registers_are_abstract, slots_are_abstract};
 use crate::tags::SlotTags;
 use bpf_insn::{Operand, Reg};
 use bpf_num::{KnownBits, Num, Signed, Unsigned, WordDomain};
@@ -44,7 +45,7 @@ fn length_between(least: u32, most: u32) -> RegState
 
 impl State {
     ghost use Rattle.std.specs.Prelude.{◌≡◌, ◌≤◌, ◌<◌, suc};
-    ghost use Rattle.bpf_state.specs.State.{IsAbstractState, IsRegister, IsSlot, IsPlace, blank, first_state, register, register_tag, slot, tag, with_register, with_slot, with_tag, put_register, put_slot};
+    ghost use Rattle.bpf_state.specs.State.{IsAbstractState, IsAbstract, IsRegister, IsSlot, IsPlace, blank, first_state, register, register_tag, slot, tag, with_register, with_slot, with_tag, put_register, put_slot};
     ghost use Rattle.bpf_state.specs.Fault.{operand};
     ghost use Rattle.bpf_state.specs.Held.{held};
     ghost use Rattle.bpf_state.specs.Transfer.{operand_tag};
@@ -65,10 +66,21 @@ impl State {
     }
 
     /// A state has eleven registers and sixty-four slots; bounds of pointers are in order, masks at most 254.
-    pub fn valid(&self)
+    pub(crate) fn in_order(&self)
         ensures { IsAbstractState self.now }
     {
         let _registers = &self.registers;
+    }
+
+    /// A state has eleven registers and sixty-four slots; bounds of pointers are in order, masks at most 254, and its
+    /// numbers are numbers. So the laws of described states hold of it.
+    pub fn valid(&self)
+        ensures state { IsAbstractState self.now }
+        ensures numbers { IsAbstract self.now }
+    {
+        self.in_order();
+        registers_are_abstract(&self.registers);
+        slots_are_abstract(&self.slots);
     }
 
     /// What is known of a register.

@@ -9,7 +9,7 @@ pub loop-i-preserved : goal.loop-i-preserved
 loop-i-preserved c =
     let i = c.loop-i.i in
     let xs = c.args.state.now.registers in
-    let long = c.valid.ensures.register_count in
+    let long = c.in_order.ensures.register_count in
     let few : i < 10 = c.loop-i-test.true in
     let same = c.numbered-r.ensures in
     c.in_ok-put_reg.ensures

@@ -8,7 +8,7 @@ use Rattle.bpf_state.proofs.entries.put_slots.Goals as goal
 pub put_slot-requires-clause-unknown : goal.put_slot-requires-clause-unknown
 put_slot-requires-clause-unknown c =
     let k = c.loop-k.k in
-    let long = c.valid.ensures.slot_count in
+    let long = c.in_order.ensures.slot_count in
     let few : k < 65 = c.loop-k-test.true in
     let low = c.loop-k.auto.k in
     let wide = length-replicate 64 (Bytes 0) in
@@ -20,7 +20,7 @@ pub loop-k-preserved : goal.loop-k-preserved
 loop-k-preserved c =
     let k = c.loop-k.k in
     let xs = c.args.state.now.slots in
-    let long = c.valid.ensures.slot_count in
+    let long = c.in_order.ensures.slot_count in
     let few : k < 65 = c.loop-k-test.true in
     let low = c.loop-k.auto.k in
     let wide = length-replicate 64 (Bytes 0) in

@@ -14,11 +14,11 @@ returns-then-entails c =
     let held = ap (λ v. register_entails v (Ptr (start_of Frame))) (sym c.reg.ensures.value) ∙ ap (λ p. register_entails c.reg.result (Ptr p)) (sym c.start_of.ensures) ∙ sym c.entails.ensures ∙ c.if-entails.true in
     c.keeps_all.ensures ∙ ap (list_all (keeps c.args.self.now)) c.deref.ensures.value
     ∙ sym (ap (λ b. b && list_all (keeps c.args.self.now) c.entries.inside.entries.items) held)
-    ∙ entails_entries c.args.self.now c.entries.inside.entries.items c.valid.ensures c.entries.invariant
+    ∙ entails_entries c.args.self.now c.entries.inside.entries.items c.in_order.ensures c.entries.invariant
     ∙ ap (state_entails c.args.self.now) c.entries.view_is
 
 pub returns-else-entails : goal.returns-else-entails
 returns-else-entails c =
     let failed = ap (λ v. register_entails v (Ptr (start_of Frame))) (sym c.reg.ensures.value) ∙ ap (λ p. register_entails c.reg.result (Ptr p)) (sym c.start_of.ensures) ∙ sym c.entails.ensures ∙ c.if-entails.false in
-    c.if-entails.false ∙ entails_not c.args.self.now c.entries.inside.entries.items c.valid.ensures c.entries.invariant failed
+    c.if-entails.false ∙ entails_not c.args.self.now c.entries.inside.entries.items c.in_order.ensures c.entries.invariant failed
     ∙ ap (state_entails c.args.self.now) c.entries.view_is
