@@ -67,7 +67,7 @@ pub fn judge_edge(
 {
     match to.label {
         Some(label) => EdgeFlaws {
-            refused: !work.entails_counted(state, &label.state),
+            refused: !work.entails_label_counted(state, &label.state),
             unpaid: is_unpaid(old, cost, state, label),
         },
         None => EdgeFlaws {
@@ -90,7 +90,7 @@ pub fn enters_wrongly(site: &Site, state: &State, aside: &mut State, work: &mut 
         Some(label) => {
             aside.copy_from(state);
             enter(aside);
-            !work.entails_counted(aside, &label.state)
+            !work.entails_label_counted(aside, &label.state)
         }
         None => false,
     }

@@ -46,7 +46,7 @@ fn starts_outside(certificate: &Index, work: &mut Work) -> bool
     let Some(label) = label_at(certificate, 0) else {
         return false;
     };
-    !work.entails_counted(&start_state(certificate), &label.state)
+    !work.entails_label_counted(&start_state(certificate), &label.state)
 }
 
 fn begins_wrongly(certificate: &Index, work: &mut Work) -> bool

@@ -81,8 +81,18 @@ impl Work {
         answer
     }
 
-    /// Whether a state lies in that of entries, as `entails_entries` answers it. Counts one comparison.
-    pub fn entails_counted(&mut self, a: &State, b: &Entries) -> bool
+    /// Whether a state lies in another, as `entails` answers it. Counts one comparison.
+    pub fn entails_counted(&mut self, a: &State, b: &State) -> bool
+        ensures answer { result ≡ state_entails a.now b.now }
+        ensures counts { self.new ≡ with_comparison self.old }
+    {
+        let answer = a.entails(b);
+        self.count_comparison();
+        answer
+    }
+
+    /// Whether a state lies in a label's, which stands in entries, as `entails_entries` answers it. Counts one comparison.
+    pub fn entails_label_counted(&mut self, a: &State, b: &Entries) -> bool
         ensures answer { result ≡ state_entails a.now b.now }
         ensures counts { self.new ≡ with_comparison self.old }
     {

@@ -108,14 +108,14 @@ fn assert_entailments_counted(
     state: &State,
 ) -> Result<(), Fail> {
     let entries = Entries::of(rt.alloc(), state)?;
-    assert!(rt; work.entails_counted(state, &Entries::blank(rt.alloc())));
+    assert!(rt; work.entails_label_counted(state, &Entries::blank(rt.alloc())));
     assert_same(
         rt,
         &"blank",
         &(work.transfers(), work.comparisons()),
         &(3, 1),
     );
-    assert!(rt; !work.entails_counted(&State::blank(), &entries));
+    assert!(rt; !work.entails_label_counted(&State::blank(), &entries));
     assert_same(
         rt,
         &"start",
