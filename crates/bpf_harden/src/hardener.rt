@@ -1,0 +1,116 @@
+//! Hardened programs.
+
+ghost use Rattle.std.specs.Prelude.{◌<◌, ◌≤◌, IfOk, IfErr};
+ghost use Rattle.bpf_insn.specs.Instruction.{slots};
+ghost use Rattle.bpf_harden_notes.specs.RefusalNumbers.{harden_slot};
+
+use crate::rounds::{certified, guard_all, guarded_everywhere};
+use bpf_harden_notes::{HardenError, Hardened, Options};
+use bpf_harden_plan::{Old, Plan};
+use bpf_infer::search;
+use bpf_insn::{Code, Program};
+use bpf_outline::{Quest, Unwatched};
+use std::alloc::{AllocError, Global};
+
+/// The same program once more.
+fn copy_of(alloc: Global, program: &Program) -> Result<Program, HardenError> {
+    let mut list = Vec::new(alloc);
+    for slot in 0..Code::slots(program) {
+        if let Some(insn) = program.at(slot) {
+            list.push(*insn)?;
+        }
+    }
+    match Program::new(alloc, list, program.order()) {
+        Ok(copy) => Ok(copy),
+        Err(_) => Err(HardenError::Memory),
+    }
+}
+
+/// By slots, where an instruction begins.
+fn slots_of(alloc: Global, program: &Program) -> Result<Vec<Option<u32>>, AllocError> {
+    let mut slots = Vec::new(alloc);
+    for slot in 0..program.slots() {
+        slots.push(program.at(slot).map(|_| slot))?;
+    }
+    Ok(slots)
+}
+
+/// A program that comes out as it is.
+fn unchanged(alloc: Global, program: &Program) -> Result<Hardened, HardenError> {
+    Ok(Hardened {
+        program: copy_of(alloc, program)?,
+        slots: slots_of(alloc, program)?,
+        functions: Vec::new(alloc),
+        notes: Vec::new(alloc),
+    })
+}
+
+/// Whether a program has a certificate as it stands.
+fn is_certified(alloc: Global, program: &Program, length: u32) -> bool
+    requires { length ≤ 4096 }
+{
+    search(alloc, program, length, length, &mut Unwatched).is_ok()
+}
+
+/// The lengths that the old program is given: of a block the packet's.
+fn lengths(length: u32, options: &Options) -> Result<(u32, u32), HardenError>
+    ensures { IfOk result (λ lengths. lengths.0 ≤ lengths.1) }
+{
+    if !options.padded {
+        return Ok((length, length));
+    }
+    match length.checked_sub(8) {
+        Some(most) => Ok((0, most)),
+        None => Err(HardenError::ShortBlock),
+    }
+}
+
+fn hardened(
+    alloc: Global,
+    program: &Program,
+    length: u32,
+    options: &Options,
+) -> Result<Hardened, HardenError>
+    requires { length ≤ 4096 }
+{
+    let is_asked = options.padded || options.everywhere;
+    if !is_asked && is_certified(alloc, program, length) {
+        return unchanged(alloc, program);
+    }
+    let (least, most) = lengths(length, options)?;
+    let quest = Quest {
+        program,
+        least,
+        most,
+    };
+    let old = Old::of(alloc, quest)?;
+    let mut plan = Plan::new(alloc, *options, length, program.slots(), old.count())?;
+    if options.padded {
+        // Nothing that the checker knows keeps an access below the packet's length.
+        guard_all(&old, &mut plan);
+    }
+    if options.everywhere {
+        guarded_everywhere(alloc, &old, plan)
+    } else {
+        certified(alloc, &old, plan)
+    }
+}
+
+/// A program that does what the old one does and has a certificate for contexts of `length` bytes, at most 4,096: on every
+/// context on which the old one ends with a number, and its loops turn no more often than is allowed, the new one ends with
+/// that number; where an access of the old one would leave its region, the new one goes to a trap. One that has a certificate
+/// as it stands comes out unchanged. H1 to H12 where none is found.
+pub fn harden(
+    alloc: Global,
+    program: &Program,
+    length: u32,
+    options: &Options,
+) -> Result<Hardened, HardenError>
+    requires { length ≤ 4096 }
+    ensures slot { IfErr result (λ e. harden_slot e < slots program.now.list) }
+{
+    match hardened(alloc, program, length, options) {
+        Ok(hardened) => Ok(hardened),
+        Err(error) => Err(error.within(Code::slots(program))),
+    }
+}

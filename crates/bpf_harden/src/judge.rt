@@ -1,0 +1,90 @@
+//! What the deep search says of a new text.
+
+ghost use Rattle.std.specs.Prelude.{◌≤◌};
+
+use bpf_cert::{Certificate, Function};
+use bpf_fixpoint::{Survey, surveyed};
+use bpf_harden_notes::HardenError;
+use bpf_harden_plan::{Old, Plan, Rooms, refusal};
+use bpf_harden_text::{Draft, emitted};
+use bpf_outline::{Quest, Unwatched};
+use bpf_proposal::InferError;
+use bpf_ranking::{ranked, uncounted};
+use std::alloc::Global;
+
+/// What the deep search says of a program's loops.
+#[derive(Drop)]
+pub enum Verdict {
+    /// There is a certificate.
+    Yes,
+    /// Instructions are refused.
+    Faults,
+    /// Nothing counts the loops whose lowest labels these are.
+    Uncounted(Vec<u32>),
+    /// A budget is over a limit.
+    TooGreat,
+}
+
+/// The text of a program under a plan, and what the deep search says of it.
+#[derive(Drop)]
+pub struct Trial {
+    pub draft: Draft,
+    pub rooms: Rooms,
+    pub survey: Survey,
+    pub verdict: Verdict,
+}
+
+/// What the loops of a draft come to.
+fn verdict_of(
+    alloc: Global,
+    quest: Quest,
+    draft: Option<Vec<Function>>,
+) -> Result<Verdict, HardenError>
+    requires { quest.least ≤ quest.most }
+{
+    let Some(functions) = draft else {
+        return Ok(Verdict::Faults);
+    };
+    let loops = match uncounted(alloc, quest, &functions, &mut Unwatched) {
+        Ok(loops) => loops,
+        Err(error) => return Err(refusal(error)),
+    };
+    if !loops.is_empty() {
+        return Ok(Verdict::Uncounted(loops));
+    }
+    match ranked(alloc, quest, functions, &mut Unwatched) {
+        Ok(found) => {
+            match Certificate::new(2, quest.least, quest.most, found.steps, found.functions) {
+                Ok(_) => Ok(Verdict::Yes),
+                Err(_) => Ok(Verdict::TooGreat),
+            }
+        }
+        Err(InferError::NoBudget { .. }) => Ok(Verdict::TooGreat),
+        Err(error) => Err(refusal(error)),
+    }
+}
+
+impl Trial {
+    /// The text of a program under a plan, judged.
+    pub fn of(alloc: Global, old: &Old, plan: &Plan) -> Result<Trial, HardenError> {
+        let rooms = Rooms::of(alloc, old, plan)?;
+        let draft = emitted(alloc, old, plan, &rooms)?;
+        let quest = Quest {
+            program: &draft.program,
+            least: plan.length,
+            most: plan.length,
+        };
+        let mut survey = match surveyed(alloc, quest, &mut Unwatched) {
+            Ok(survey) => survey,
+            Err(error) => return Err(refusal(error)),
+        };
+        let functions = survey.draft.take();
+        let verdict = verdict_of(alloc, quest, functions)?;
+        Ok(Trial {
+            draft,
+            rooms,
+            survey,
+            verdict,
+        })
+    }
+}

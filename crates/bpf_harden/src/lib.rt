@@ -1,0 +1,14 @@
+//! Hardening: a program rewritten so that it has a certificate. Nobody relies on it: of what it answers the check decides. It
+//! makes no claim but to be safe and to end.
+#![tactic(auto)]
+
+mod hardener;
+mod judge;
+mod mend;
+mod record;
+mod rounds;
+mod slim;
+mod wide;
+
+pub use bpf_harden_notes::{Change, FunctionNote, HardenError, Hardened, Note, Options};
+pub use hardener::harden;

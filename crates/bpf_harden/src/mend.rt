@@ -1,0 +1,215 @@
+//! What is changed where the new text is refused: all faults of a round together.
+
+use crate::judge::Trial;
+use bpf_harden_notes::{Change, HardenError};
+use bpf_harden_plan::{Guard, Kind, Old, Plan};
+use bpf_insn::{Insn, Reg};
+use bpf_proposal::Condition;
+use bpf_state::{RegState, StateFault};
+
+/// A fault of the new text, by the old instruction that it belongs to.
+#[derive(Clone, Copy)]
+struct Flaw {
+    slot: u32,
+    insn: Insn,
+    fault: StateFault,
+}
+
+/// The offsets that are folded into accesses are below this.
+const MOST_CONSTANT: u64 = 8192;
+
+/// An old program and what is said of a text of it: what plans are mended by.
+#[derive(Clone, Copy)]
+pub struct Mender<'a> {
+    pub old: &'a Old<'a>,
+    pub trial: &'a Trial,
+}
+
+impl<'a> Mender<'a> {
+    /// The fault at a slot of the new text.
+    fn flaw(&self, new: u32) -> Option<Flaw> {
+        let Condition::State(fault) = self.trial.survey.fault(new)? else {
+            return None;
+        };
+        let slot = self.trial.draft.owner(new).old;
+        Some(Flaw {
+            slot,
+            insn: *self.old.kept(slot)?,
+            fault,
+        })
+    }
+
+    /// Whether a fault asks for pointers of a kind as offsets.
+    fn asks_for(&self, flaw: &Flaw, kind: Kind) -> bool {
+        if !matches!(flaw.fault, StateFault::WrongKinds | StateFault::OutOfBounds) {
+            return false;
+        }
+        match flaw.insn.access() {
+            Some(access) => {
+                access.base != Reg::R10 && self.old.kind(flaw.slot, access.base) == kind
+            }
+            None => self.old.reads_kind(flaw.slot, &flaw.insn, kind),
+        }
+    }
+
+    /// Whether some fault asks for pointers of a kind as offsets.
+    fn is_asked_for(&self, kind: Kind) -> bool {
+        for new in 0..self.trial.draft.program.slots() {
+            if let Some(flaw) = self.flaw(new) {
+                if self.asks_for(&flaw, kind) {
+                    return true;
+                }
+            }
+        }
+        false
+    }
+
+    /// Changes the plan so that faults may go away. Whether something was changed.
+    pub fn mend(&self, plan: &mut Plan) -> bool {
+        if !plan.offsets && self.is_asked_for(Kind::Context) {
+            plan.offsets = true;
+            return true;
+        }
+        let mut is_changed = self.fold(plan);
+        for new in 0..self.trial.draft.program.slots() {
+            if let Some(flaw) = self.flaw(new) {
+                is_changed = self.mend_flaw(plan, &flaw) || is_changed;
+            }
+        }
+        if !is_changed && !plan.frames && self.is_asked_for(Kind::Frame) {
+            plan.frames = true;
+            return true;
+        }
+        is_changed
+    }
+
+    /// Changes the plan so that a fault may go away. Whether something was changed.
+    fn mend_flaw(&self, plan: &mut Plan, flaw: &Flaw) -> bool {
+        let function = self.old.function(flaw.slot);
+        match flaw.fault {
+            StateFault::UnsetRegister => {
+                matches!(&flaw.insn, Insn::Exit) && plan.clear(function)
+            }
+            StateFault::UnsetByte => plan.zero(function) || self.guard(plan, flaw),
+            StateFault::WrongKinds | StateFault::OutOfBounds => self.guard(plan, flaw),
+            StateFault::Protected => false,
+        }
+    }
+
+    /// Puts a guard in front of an access by an offset. Whether there was none.
+    fn guard(&self, plan: &mut Plan, flaw: &Flaw) -> bool {
+        let Some(access) = flaw.insn.access() else {
+            return false;
+        };
+        let is_offset = match self.old.kind(flaw.slot, access.base) {
+            Kind::Context => plan.offsets,
+            Kind::Frame => plan.frames && access.base != Reg::R10,
+            Kind::Number | Kind::Unknown => false,
+        };
+        if !is_offset || plan.guard(flaw.slot).is_some() {
+            return false;
+        }
+        let is_exact = self.may_wrap(flaw.slot, access.base, access.off);
+        plan.set_guard(flaw.slot, Some(Guard::both(is_exact)));
+        true
+    }
+
+    /// Whether a register may hold an offset before its region that a displacement leads back into it.
+    fn may_wrap(&self, slot: u32, base: Reg, off: i16) -> bool {
+        let Ok(more) = u64::try_from(off) else {
+            return false;
+        };
+        match self.held(slot, base) {
+            RegState::Num(number) => number.unsigned().hi() > u64::MAX - more,
+            RegState::Any | RegState::Ptr(_) => more > 0,
+        }
+    }
+
+    /// What is known of a register in front of what stands in the place of an old instruction.
+    fn held(&self, slot: u32, r: Reg) -> RegState {
+        match self.trial.draft.start(slot) {
+            Some(new) => self.trial.survey.register(new, r),
+            None => RegState::Any,
+        }
+    }
+
+    /// Takes note of the offsets that are always the same. Whether one is new.
+    pub fn fold(&self, plan: &mut Plan) -> bool {
+        let mut is_changed = false;
+        for slot in 0..self.old.program.slots() {
+            if let (Some(insn), None) = (self.old.kept(slot), plan.constant(slot)) {
+                is_changed = self.fold_at(plan, slot, insn) || is_changed;
+            }
+        }
+        is_changed
+    }
+
+    /// Takes note of the offset of an access, if it is always the same.
+    fn fold_at(&self, plan: &mut Plan, slot: u32, insn: &Insn) -> bool {
+        let Some(access) = insn.access() else {
+            return false;
+        };
+        let is_offset = match self.old.kind(slot, access.base) {
+            Kind::Context => plan.offsets,
+            Kind::Frame => plan.frames && access.base != Reg::R10,
+            Kind::Number | Kind::Unknown => false,
+        };
+        if !is_offset {
+            return false;
+        }
+        let Some(number) = self.held(slot, access.base).number() else {
+            return false;
+        };
+        let offset = number.unsigned().lo();
+        if offset != number.unsigned().hi() || offset >= MOST_CONSTANT {
+            return false;
+        }
+        plan.set_constant(slot, i64::try_from(offset).ok());
+        true
+    }
+
+    /// Leaves out what the new text doesn't reach. Whether there is something.
+    pub fn leave_out(&self, plan: &mut Plan) -> bool {
+        let mut is_changed = false;
+        for slot in 0..self.old.program.slots() {
+            if let Some(new) = self.trial.draft.start(slot) {
+                if !self.trial.survey.is_reached(new) {
+                    plan.leave_out(slot);
+                    is_changed = true;
+                }
+            }
+        }
+        self.give_up_accesses(plan) || is_changed
+    }
+
+    /// Gives the accesses up that no run comes to behind their guards. Whether there is one.
+    fn give_up_accesses(&self, plan: &mut Plan) -> bool {
+        let mut is_changed = false;
+        for new in 0..self.trial.draft.program.slots() {
+            let owner = self.trial.draft.owner(new);
+            let is_access = owner.change == Some(Change::Access);
+            if is_access && !self.trial.survey.is_reached(new) {
+                is_changed = plan.give_up(owner.old) || is_changed;
+            }
+        }
+        is_changed
+    }
+
+    /// Why a text is refused that nothing mends.
+    pub fn refusal(&self) -> HardenError {
+        let Some(new) = self.trial.survey.lowest_fault() else {
+            return HardenError::Unstable { slot: 0 };
+        };
+        let slot = self.trial.draft.owner(new).old;
+        if let Some(access) = self.old.program.at(slot).and_then(|insn| insn.access()) {
+            if self.old.kind(slot, access.base) == Kind::Unknown {
+                return self.old.unknown_base(slot);
+            }
+        }
+        match self.trial.survey.fault(new) {
+            Some(Condition::State(StateFault::UnsetRegister)) => HardenError::MixedKinds { slot },
+            Some(condition) => HardenError::Fault { slot, condition },
+            None => HardenError::Unstable { slot },
+        }
+    }
+}

@@ -1,0 +1,66 @@
+//! Notes of what was done.
+
+use bpf_harden_notes::{FunctionNote, HardenError, Hardened, Note};
+use bpf_harden_plan::{Old, Rooms};
+use bpf_harden_text::Draft;
+use bpf_outline::get_or;
+use std::alloc::{AllocError, Global};
+
+/// What was done at each slot of a new program.
+fn notes_of(alloc: Global, draft: &Draft) -> Result<Vec<Note>, AllocError> {
+    let mut notes = Vec::new(alloc);
+    for new in 0..draft.program.slots() {
+        let owner = draft.owner(new);
+        if let (Some(change), true) = (owner.change, owner.is_first) {
+            notes.push(Note {
+                old: owner.old,
+                new,
+                change,
+            })?;
+        }
+    }
+    Ok(notes)
+}
+
+/// How a function was hardened, if it was kept.
+fn function_note(old: &Old, rooms: &Rooms, draft: &Draft, function: usize) -> Option<FunctionNote> {
+    let new = get_or(&draft.entries, function, None)?;
+    let uses = old.uses(function);
+    let room = rooms.room(function);
+    Some(FunctionNote {
+        old: uses.first,
+        new,
+        depth: room.frame,
+        base: room.base,
+        end: room.end,
+        handed: if function > 0 { room.handed } else { None },
+        spare: if room.traps { room.spare } else { None },
+    })
+}
+
+/// A hardened program, with notes of what was done.
+pub fn recorded(
+    alloc: Global,
+    old: &Old,
+    rooms: &Rooms,
+    draft: Draft,
+) -> Result<Hardened, HardenError> {
+    let mut functions = Vec::new(alloc);
+    for function in 0..old.count() {
+        if let Some(note) = function_note(old, rooms, &draft, function) {
+            functions.push(note)?;
+        }
+    }
+    let notes = notes_of(alloc, &draft)?;
+    let Draft {
+        program,
+        starts,
+        ..
+    } = draft;
+    Ok(Hardened {
+        program,
+        slots: starts,
+        functions,
+        notes,
+    })
+}

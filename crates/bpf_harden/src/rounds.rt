@@ -1,0 +1,210 @@
+//! Rounds: the new text is written and judged, and the plan mended by what is said of it, until it has a certificate.
+
+use crate::judge::{Trial, Verdict};
+use crate::mend::Mender;
+use crate::record::recorded;
+use crate::slim::slim;
+use crate::wide::widen_all;
+use bpf_harden_notes::{HardenError, Hardened};
+use bpf_harden_plan::{Guard, Kind, Old, Plan, Rooms};
+use bpf_harden_text::emitted;
+use bpf_insn::Reg;
+use bpf_outline::Flow;
+use std::alloc::Global;
+
+/// The most rounds. A round mends all faults or counts all loops of a depth, so few are needed.
+const ROUNDS: u32 = 48;
+
+/// A plan, and whether its operations were made wider.
+#[derive(Drop)]
+struct Rounds<'a> {
+    alloc: Global,
+    old: &'a Old<'a>,
+    plan: Plan,
+    is_widened: bool,
+}
+
+impl<'a> Rounds<'a> {
+    /// Changes the plan by what is said of its text. The refusal where nothing helps.
+    fn change(&mut self, trial: &Trial) -> Result<(), HardenError> {
+        let is_changed = match &trial.verdict {
+            Verdict::Yes => true,
+            Verdict::Faults => self.mend(trial)?,
+            Verdict::Uncounted(loops) => self.count(trial, loops) || self.share(trial, loops),
+            Verdict::TooGreat => count_all(self.old, &mut self.plan),
+        };
+        if is_changed {
+            return Ok(());
+        }
+        match &trial.verdict {
+            Verdict::Uncounted(loops) => Err(self.without_counter(trial, loops)),
+            _ => Err(HardenError::NoBudget { slot: 0 }),
+        }
+    }
+
+    /// Mends all faults.
+    fn mend(&mut self, trial: &Trial) -> Result<bool, HardenError> {
+        let mender = Mender {
+            old: self.old,
+            trial,
+        };
+        let is_dead = trial.survey.lowest_fault().is_none();
+        if mender.mend(&mut self.plan) || is_dead && mender.leave_out(&mut self.plan) {
+            Ok(true)
+        } else {
+            Err(mender.refusal())
+        }
+    }
+
+    /// Makes operations wider, or else counts the turns of loops. Whether something was changed.
+    fn count(&mut self, trial: &Trial, loops: &[u32]) -> bool {
+        if !self.is_widened {
+            self.is_widened = true;
+            if widen_all(self.old, &mut self.plan, &trial.draft, &trial.survey) {
+                return true;
+            }
+        }
+        let mut is_changed = false;
+        for label in loops {
+            is_changed = self.plan.count(trial.draft.owner(*label).old) || is_changed;
+        }
+        is_changed
+    }
+
+    /// Counts the turns of all loops of a function together, where they jump into one another. Whether something was changed.
+    fn share(&mut self, trial: &Trial, loops: &[u32]) -> bool {
+        let mut is_changed = false;
+        for label in loops {
+            let function = self.old.function(trial.draft.owner(*label).old);
+            if self.plan.share(function) {
+                let _ = count_in(self.old, &mut self.plan, function);
+                is_changed = true;
+            }
+        }
+        is_changed
+    }
+
+    /// The refusal of the first loop that isn't counted though it has a counter of turns.
+    fn without_counter(&self, trial: &Trial, loops: &[u32]) -> HardenError {
+        match loops.first() {
+            Some(label) => HardenError::NoBudget {
+                slot: trial.draft.owner(*label).old,
+            },
+            None => HardenError::NoBudget { slot: 0 },
+        }
+    }
+
+    /// The first text that has a certificate.
+    fn run(&mut self) -> Result<Trial, HardenError> {
+        for _ in 0..ROUNDS {
+            let trial = Trial::of(self.alloc, self.old, &self.plan)?;
+            if let Verdict::Yes = trial.verdict {
+                return Ok(trial);
+            }
+            self.change(&trial)?;
+        }
+        Err(HardenError::NoBudget { slot: 0 })
+    }
+
+    /// Takes the tests away that never hold, and folds offsets that are always the same. Whether there was something.
+    fn trim(&mut self, trial: &Trial) -> bool {
+        let mender = Mender {
+            old: self.old,
+            trial,
+        };
+        let is_slimmer = slim(&mut self.plan, trial);
+        mender.fold(&mut self.plan) || is_slimmer
+    }
+
+    /// The trimmed text, if it has a certificate.
+    fn trimmed(&mut self, trial: Trial) -> Result<Trial, HardenError> {
+        if !self.trim(&trial) {
+            return Ok(trial);
+        }
+        let slimmer = Trial::of(self.alloc, self.old, &self.plan)?;
+        match slimmer.verdict {
+            Verdict::Yes => Ok(slimmer),
+            _ => Ok(trial),
+        }
+    }
+}
+
+/// A program rewritten under a plan until it has a certificate.
+pub fn certified(alloc: Global, old: &Old, plan: Plan) -> Result<Hardened, HardenError> {
+    let mut rounds = Rounds {
+        alloc,
+        old,
+        plan,
+        is_widened: false,
+    };
+    let trial = rounds.run()?;
+    let trial = rounds.trimmed(trial)?;
+    let Trial { draft, rooms, .. } = trial;
+    recorded(alloc, old, &rooms, draft)
+}
+
+/// Plans a counter of turns in front of each target of a jump backward in a function. Whether one is new.
+fn count_in(old: &Old, plan: &mut Plan, function: usize) -> bool {
+    let uses = old.uses(function);
+    let mut is_changed = false;
+    for slot in uses.first..uses.end {
+        if let Some(target) = old.kept(slot).and_then(|insn| Flow::of(slot, insn).jump()) {
+            if target <= slot && old.kept(target).is_some() {
+                is_changed = plan.count(target) || is_changed;
+            }
+        }
+    }
+    is_changed
+}
+
+/// As `count_in` for all functions.
+fn count_all(old: &Old, plan: &mut Plan) -> bool {
+    let mut is_changed = false;
+    for function in 0..old.count() {
+        is_changed = count_in(old, plan, function) || is_changed;
+    }
+    is_changed
+}
+
+/// Plans a guard in front of each access by an offset, or of those to the context alone.
+pub fn guard_all(old: &Old, plan: &mut Plan) {
+    for slot in 0..old.program.slots() {
+        if let Some(access) = old.kept(slot).and_then(|insn| insn.access()) {
+            let is_due = match old.kind(slot, access.base) {
+                Kind::Context => true,
+                Kind::Frame => plan.frames && access.base != Reg::R10,
+                Kind::Number | Kind::Unknown => false,
+            };
+            if is_due {
+                plan.set_guard(slot, Some(Guard::both(access.off != 0)));
+            }
+        }
+    }
+}
+
+/// H1 or H2 at the first access by a register of which nothing is known.
+fn first_unknown(old: &Old) -> Result<(), HardenError> {
+    for slot in 0..old.program.slots() {
+        if let Some(access) = old.kept(slot).and_then(|insn| insn.access()) {
+            if old.kind(slot, access.base) == Kind::Unknown {
+                return Err(old.unknown_base(slot));
+            }
+        }
+    }
+    Ok(())
+}
+
+/// A program with guards and counters wherever one can be, whether it has a certificate or not.
+pub fn guarded_everywhere(
+    alloc: Global,
+    old: &Old,
+    mut plan: Plan,
+) -> Result<Hardened, HardenError> {
+    plan.frames = true;
+    first_unknown(old)?;
+    guard_all(old, &mut plan);
+    count_all(old, &mut plan);
+    let rooms = Rooms::of(alloc, old, &plan)?;
+    let draft = emitted(alloc, old, &plan, &rooms)?;
+    recorded(alloc, old, &rooms, draft)
+}

@@ -1,0 +1,65 @@
+//! Tests that never lead to the trap are taken away again: all at once, since what holds behind a test that never fails holds in
+//! front of it.
+
+use crate::judge::Trial;
+use bpf_harden_notes::Change;
+use bpf_harden_plan::{Guard, Plan};
+use bpf_insn::{Cond, Insn, Operand, Reg};
+
+/// The bounds of what is compared with.
+fn bounds(trial: &Trial, new: u32, src: Operand) -> (u64, u64) {
+    match src {
+        Operand::Imm(imm) => {
+            let number = i64::from(imm).cast_unsigned();
+            (number, number)
+        }
+        Operand::Reg(r) => register_bounds(trial, new, r),
+    }
+}
+
+/// The bounds of a register.
+fn register_bounds(trial: &Trial, new: u32, r: Reg) -> (u64, u64) {
+    match trial.survey.register(new, r).number() {
+        Some(number) => (number.unsigned().lo(), number.unsigned().hi()),
+        None => (u64::MIN, u64::MAX),
+    }
+}
+
+/// The guard without a test at a slot of the new text, if that never holds.
+fn without(trial: &Trial, new: u32, guard: Guard) -> Guard {
+    let Some(Insn::JumpIf { cond, dst, src, .. }) = trial.draft.program.at(new) else {
+        return guard;
+    };
+    let (cond, dst, src) = (*cond, *dst, *src);
+    let held = register_bounds(trial, new, dst);
+    let limit = bounds(trial, new, src);
+    match cond {
+        Cond::Gt if held.1 <= limit.0 => Guard {
+            high: false,
+            ..guard
+        },
+        Cond::Lt if held.0 >= limit.1 => Guard {
+            low: false,
+            ..guard
+        },
+        _ => guard,
+    }
+}
+
+/// Takes away the tests of guards that never hold. Whether there was one.
+pub fn slim(plan: &mut Plan, trial: &Trial) -> bool {
+    let mut is_changed = false;
+    for new in 0..trial.draft.program.slots() {
+        let owner = trial.draft.owner(new);
+        if owner.change == Some(Change::Guard) && plan.constant(owner.old).is_none() {
+            if let Some(guard) = plan.guard(owner.old) {
+                let left = without(trial, new, guard);
+                if left.low != guard.low || left.high != guard.high {
+                    plan.set_guard(owner.old, Some(left));
+                    is_changed = true;
+                }
+            }
+        }
+    }
+    is_changed
+}
