@@ -4,8 +4,8 @@
 PREFIX is where ./install has put everything. A command stands in an indented block behind `$ `, and the lines below it are all that it
 prints; `...` on a line of its own stands for any lines, and within a line for any characters. `cat` of a file that isn't there is how a
 document shows a source: the file is made so. The commands of a document run one behind the other in a copy of the examples, /tmp being a
-folder of its own. A section with a line `<!-- needs: WORD -->` is left out where the command's help doesn't know the word. What
-GUIDE.md prints is that of the compiler that examples/c/VERSION names: by another one, or none, it is left out.
+folder of its own. A section with a line `<!-- needs: WORD -->` is left out where the command's help doesn't know the word; the word `clang`
+is known where the compiler is there that examples/c/VERSION names. What GUIDE.md prints is that compiler's: else it is left out whole.
 """
 import os
 import pathlib
@@ -86,8 +86,10 @@ def main():
     known = ''.join(subprocess.run([PREFIX / 'bin/bpf', *words], capture_output=True, text=True).stderr for words in (['--help'], ['explain', '--help']))
     kept = (ROOT / 'examples/c/VERSION').read_text()
     clang = subprocess.run(['clang', '--version'], capture_output=True, text=True).stdout if shutil.which('clang') else ''
+    has_clang = clang.startswith(kept.rstrip('\n'))
+    known += 'clang' * has_clang
     for name in ('README.md', 'docs/GUIDE.md', 'docs/HOSTS.md'):
-        if name == 'docs/GUIDE.md' and not clang.startswith(kept.rstrip('\n')):
+        if name == 'docs/GUIDE.md' and not has_clang:
             print(f'documents: {name} is left out: its images are by {kept}', end='')
             continue
         with tempfile.TemporaryDirectory(prefix='bpf-documents-') as folder:
