@@ -1,4 +1,5 @@
 //! Abstract states.
 
 mod comparisons;
+mod laws;
 mod swaps;

@@ -122,6 +122,14 @@ fn assert_entailments_counted(
         &(work.transfers(), work.comparisons()),
         &(3, 2),
     );
+    assert!(rt; work.entails_counted(state, &State::blank()));
+    assert!(rt; !work.entails_counted(&State::blank(), state));
+    assert_same(
+        rt,
+        &"states",
+        &(work.transfers(), work.comparisons()),
+        &(3, 4),
+    );
     Ok(())
 }
 
@@ -139,7 +147,7 @@ fn assert_returns_counted(rt: &impl Abort, work: &mut Work, state: &State) {
         rt,
         &"returns",
         &(work.transfers(), work.comparisons()),
-        &(3, 5),
+        &(3, 7),
     );
 }
 
