@@ -3,9 +3,9 @@
 use crate::machine::programs::{
     assert_run, assert_steps, assert_view_steps, done, program_of, set,
 };
+use crate::same::assert_same;
 use bpf_insn::{Insn, Reg, Size};
-use bpf_machine::{Outcome, Step};
-use bpf_semantics::Reason;
+use bpf_machine::{Outcome, Reason, Step};
 use std::test::Fail;
 
 /// A store at a number.
@@ -45,5 +45,21 @@ fn a_machine_stays_after_a_fault(rt: HostRuntime) -> Result<(), Fail> {
     let stuck = Step::Fault(Reason::OperandKind);
     let program = program_of(rt.alloc(), &insns)?;
     assert_steps(&rt, &program, &[Step::Moved, stuck, stuck]);
+    Ok(())
+}
+
+/// Reasons, each in words.
+const TOLD: [(Reason, &str); 3] = [
+    (Reason::UnsetRegister, "an uninitialised register is read"),
+    (Reason::FramePointerWrite, "r10 is written"),
+    (Reason::PastEnd, "the run is past the last instruction"),
+];
+
+#[test]
+fn reasons_are_told_in_words(rt: HostRuntime) -> Result<(), Fail> {
+    for (reason, words) in TOLD {
+        let said = format!(in rt.alloc(); "{reason}")?;
+        assert_same(&rt, &words, &said.as_str(), &words);
+    }
     Ok(())
 }
