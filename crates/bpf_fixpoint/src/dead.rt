@@ -1,13 +1,17 @@
-//! Labels for instructions that nothing reaches.
+//! States for dead code: the checker wants a state at each instruction, so code that no run reaches gets states as if edges
+//! that are never taken were. In each round what isn't reached and is led to gets the state over the edge, and what
+//! nothing leads to at all the one of the code in front of it; the search for a fixpoint joins them with what else
+//! arrives. Where an instruction is at fault then, the states that lead to it are changed.
 
 use crate::judge::{Fault, Report, walk_all};
-use crate::repair::{fill_registers, fill_slots, lead, make_numbers};
+use crate::region::graph_of;
+use crate::repair::{change_kinds, fill};
 use crate::sums::{Held, held, take_in_at};
 use crate::task::{Task, Watcher};
 use bpf_insn::Insn;
-use bpf_outline::{Flow, put, vacant};
+use bpf_outline::{Flow, get_or, put, vacant};
 use bpf_proposal::Condition;
-use bpf_state::{State, StateFault};
+use bpf_state::{Entries, State, StateFault};
 use std::alloc::{AllocError, Global};
 
 /// States for slots that nothing reaches, as if dead edges to them were alive.
@@ -17,6 +21,8 @@ pub struct Seeds {
     first: u32,
     /// By slots from the function's first on.
     states: Vec<Held>,
+    /// Where states are changed.
+    room: Box<State>,
 }
 
 impl Seeds {
@@ -26,6 +32,7 @@ impl Seeds {
             alloc,
             first,
             states: vacant(alloc, slots)?,
+            room: Box::new(alloc, State::blank())?,
         })
     }
 
@@ -35,14 +42,23 @@ impl Seeds {
     }
 
     /// The state for a slot.
-    pub fn at(&self, slot: u32) -> Option<&State> {
+    pub fn at(&self, slot: u32) -> Option<&Entries> {
         held(&self.states, self.index(slot))
     }
 
     /// A slot is also led to in a state.
     fn add(&mut self, slot: u32, state: &State) -> Result<(), AllocError> {
         let index = self.index(slot);
-        take_in_at(self.alloc, &mut self.states, index, state)
+        let _is_changed = take_in_at(self.alloc, &mut *self.room, &mut self.states, index, state)?;
+        Ok(())
+    }
+
+    /// Takes the state for a slot over from others.
+    fn take(&mut self, slot: u32, others: &mut Seeds) {
+        let index = self.index(slot);
+        if let Some(state) = others.states.get_mut(index) {
+            put(&mut self.states, index, state.take());
+        }
     }
 
     /// Gives a slot that has no state a copy of another one's.
@@ -50,10 +66,22 @@ impl Seeds {
         let Some(state) = self.at(from) else {
             return Ok(());
         };
-        let copy = Box::new(self.alloc, state.copy())?;
+        let copy = state.copy(self.alloc)?;
         let index = self.index(to);
         put(&mut self.states, index, Some(copy));
         Ok(())
+    }
+
+    /// Takes over the states of others.
+    fn take_over(&mut self, others: Seeds) {
+        let mut states = others.states;
+        for index in 0..states.len() {
+            if let Some(state) = states.get_mut(index) {
+                if state.is_some() {
+                    put(&mut self.states, index, state.take());
+                }
+            }
+        }
     }
 
     /// The slots that have a state, rising.
@@ -69,108 +97,192 @@ impl Seeds {
         Ok(slots)
     }
 
-    /// Gives each register that a state doesn't know a number, and each slot too if that is asked for. Whether there is one.
-    fn fill(&mut self, fills_slots: bool) -> bool {
+    // ---- repairs
+
+    /// Puts the changed state back to its slot.
+    fn change(&mut self, slot: u32) -> Result<(), AllocError> {
+        let index = self.index(slot);
+        let changed = Entries::of(self.alloc, &*self.room)?;
+        put(&mut self.states, index, Some(changed));
+        Ok(())
+    }
+
+    /// Gives each register that a slot's state doesn't know a number, and each slot of the frame too if that is asked for.
+    /// Whether there is one.
+    fn fill(&mut self, slot: u32, fills_slots: bool) -> Result<bool, AllocError> {
+        let index = self.index(slot);
+        let Some(state) = held(&self.states, index) else {
+            return Ok(false);
+        };
+        state.put_into(&mut *self.room);
+        let is_filled = fill(&mut *self.room, fills_slots);
+        if is_filled {
+            self.change(slot)?;
+        }
+        Ok(is_filled)
+    }
+
+    /// The same for the states of all slots that lead to a fault. Whether there is one.
+    fn fill_before(
+        &mut self,
+        task: Task,
+        fault: u32,
+        fills_slots: bool,
+    ) -> Result<bool, AllocError> {
+        let region = task.region;
+        let graph = graph_of(self.alloc, task.program, region)?;
+        let target = region.segment(fault);
+        let before = graph
+            .reversed(self.alloc)?
+            .reached(self.alloc, target, None)?;
         let mut is_filled = false;
-        for index in 0..self.states.len() {
-            if let Some(Some(state)) = self.states.get_mut(index) {
-                let has_register = fill_registers(&mut **state);
-                let has_slot = fills_slots && fill_slots(&mut **state);
-                is_filled = is_filled || has_register || has_slot;
+        for label in 0..region.labels() {
+            if label == target || get_or(&before, label, false) {
+                is_filled = self.fill(region.slot(label), fills_slots)? || is_filled;
             }
         }
-        is_filled
+        Ok(is_filled)
     }
 
     /// Changes the state for the label before a slot so that the instruction there takes its kinds. Whether that is a change.
-    fn change_kinds(&mut self, task: Task, slot: u32) -> bool {
+    fn change_kinds(&mut self, task: Task, slot: u32) -> Result<bool, AllocError> {
         let label = task.region.slot(task.region.segment(slot));
         let index = self.index(label);
-        match self.states.get_mut(index) {
-            Some(Some(state)) => {
-                make_numbers(task, label, slot, &mut **state)
-                    || lead(task, label, slot, &mut **state)
-            }
-            _ => false,
+        let Some(state) = held(&self.states, index) else {
+            return Ok(false);
+        };
+        state.put_into(&mut *self.room);
+        let is_changed = change_kinds(task, label, slot, &mut *self.room);
+        if is_changed {
+            self.change(label)?;
         }
+        Ok(is_changed)
     }
 
     /// Changes the states so that a fault may go away. Whether something was changed.
-    pub fn repair(&mut self, task: Task, fault: Fault) -> bool {
+    pub fn repair(&mut self, task: Task, fault: Fault) -> Result<bool, AllocError> {
         match fault.condition {
-            Condition::State(StateFault::UnsetRegister) => self.fill(false),
-            Condition::State(StateFault::UnsetByte) => self.fill(true),
+            Condition::State(StateFault::UnsetRegister) => {
+                self.fill_before(task, fault.slot, false)
+            }
+            Condition::State(StateFault::UnsetByte) => self.fill_before(task, fault.slot, true),
             Condition::State(StateFault::WrongKinds | StateFault::OutOfBounds) => {
                 self.change_kinds(task, fault.slot)
             }
             Condition::State(StateFault::Protected)
             | Condition::FallsOff
-            | Condition::LeavesFunction => false,
-        }
-    }
-
-    /// Takes over the states of others.
-    fn take_over(&mut self, others: Seeds) {
-        let mut states = others.states;
-        for index in 0..states.len() {
-            if let Some(state) = states.get_mut(index) {
-                if state.is_some() {
-                    put(&mut self.states, index, state.take());
-                }
-            }
+            | Condition::LeavesFunction => Ok(false),
         }
     }
 }
+
+// ---- where dead code begins
 
 /// A walk that looks for what reached instructions lead to and is not reached.
 #[derive(Drop)]
 struct Seeker<'a> {
     task: Task<'a>,
     report: &'a Report,
+    /// States over edges that aren't taken.
     found: Seeds,
+    /// States behind jumps and EXITs.
+    behind: Seeds,
+    /// By slots from the function's first on, what found ones lead to.
+    is_led_to: Vec<bool>,
+    waiting: Vec<u32>,
 }
 
 impl<'a> Watcher for Seeker<'a> {
     fn before(&mut self, slot: u32, insn: &Insn, state: &State) -> Result<(), AllocError> {
-        self.seek(slot.saturating_add(insn.slots()), state)?;
-        if let Some(target) = Flow::of(slot, insn).jump() {
-            self.seek(target, state)?;
+        let next = slot.saturating_add(insn.slots());
+        if self.is_dead(next) {
+            if insn.goes_on() {
+                self.found.add(next, state)?;
+            } else {
+                self.behind.add(next, state)?;
+            }
         }
-        Ok(())
+        match Flow::of(slot, insn).jump() {
+            Some(target) if self.is_dead(target) => self.found.add(target, state),
+            _ => Ok(()),
+        }
     }
 }
 
 impl<'a> Seeker<'a> {
-    /// Takes note of a slot of the function that isn't reached, and would be in a state.
-    fn seek(&mut self, slot: u32, state: &State) -> Result<(), AllocError> {
+    /// Whether an instruction of the function stands at a slot and isn't reached.
+    fn is_dead(&self, slot: u32) -> bool {
         let region = self.task.region;
-        if slot < region.end() && !self.report.is_reached(slot) {
-            self.found.add(slot, state)?;
+        slot < region.end() && self.task.program.at(slot).is_some() && !self.report.is_reached(slot)
+    }
+
+    /// Takes note that a slot is led to, if it is dead, for the first time.
+    fn lead_to(&mut self, slot: u32) -> Result<(), AllocError> {
+        let index = self.task.region.index(slot);
+        if self.is_dead(slot) && !get_or(&self.is_led_to, index, true) {
+            put(&mut self.is_led_to, index, true);
+            self.waiting.push(slot)?;
         }
         Ok(())
     }
 
-    /// What stands behind a jump or an EXIT that isn't reached, and is no jump's target, takes the last state before it.
-    fn seek_behind(&mut self) -> Result<(), AllocError> {
+    /// Takes note of what the instruction at a slot leads to.
+    fn lead_on(&mut self, slot: u32) -> Result<(), AllocError> {
+        let Some(insn) = self.task.program.at(slot) else {
+            return Ok(());
+        };
+        if insn.goes_on() {
+            self.lead_to(slot.saturating_add(insn.slots()))?;
+        }
+        match Flow::of(slot, insn).jump() {
+            Some(target) => self.lead_to(target),
+            None => Ok(()),
+        }
+    }
+
+    /// Takes note of all dead code that a slot leads to.
+    fn lead_from(&mut self, slot: u32) -> Result<(), AllocError> {
+        self.lead_to(slot)?;
+        for _ in 0..self.is_led_to.len() {
+            let Some(slot) = self.waiting.pop() else {
+                break;
+            };
+            self.lead_on(slot)?;
+        }
+        Ok(())
+    }
+
+    /// Takes note of what the slots that were found lead to.
+    fn lead_from_all(&mut self) -> Result<(), AllocError> {
+        for slot in self.task.region.first()..self.task.region.end() {
+            if self.found.at(slot).is_some() {
+                self.lead_from(slot)?;
+            }
+        }
+        Ok(())
+    }
+
+    /// Dead code to which nothing leads takes the state behind the jump or EXIT before it, else the last one that was found.
+    fn seek_roots(&mut self) -> Result<(), AllocError> {
         let region = self.task.region;
         let mut last = region.first();
-        let mut is_cut = false;
         for slot in region.first()..region.end() {
-            let Some(insn) = self.task.program.at(slot) else {
-                continue;
-            };
+            if self.is_dead(slot) && !get_or(&self.is_led_to, region.index(slot), true) {
+                self.found.take(slot, &mut self.behind);
+                if self.found.at(slot).is_none() {
+                    self.found.repeat(last, slot)?;
+                }
+                self.lead_from(slot)?;
+            }
             if self.found.at(slot).is_some() {
                 last = slot;
-            } else if is_cut && !self.report.is_reached(slot) && !region.has_label(slot) {
-                self.found.repeat(last, slot)?;
             }
-            is_cut = !insn.goes_on();
         }
         Ok(())
     }
 }
 
-/// Adds states for slots that aren't reached, so that at least the lowest one is.
+/// Adds states for slots that aren't reached, so that dead code may be reached from there.
 pub fn add_seeds(
     alloc: Global,
     task: Task,
@@ -178,13 +290,18 @@ pub fn add_seeds(
     report: &Report,
     seeds: &mut Seeds,
 ) -> Result<(), AllocError> {
+    let (first, slots) = (task.region.first(), task.region.slots());
     let mut seeker = Seeker {
         task,
         report,
-        found: Seeds::new(alloc, task.region.first(), task.region.slots())?,
+        found: Seeds::new(alloc, first, slots)?,
+        behind: Seeds::new(alloc, first, slots)?,
+        is_led_to: vec![in alloc; false; slots]?,
+        waiting: Vec::new(alloc),
     };
     walk_all(task, states, &mut seeker)?;
-    seeker.seek_behind()?;
+    seeker.lead_from_all()?;
+    seeker.seek_roots()?;
     seeds.take_over(seeker.found);
     Ok(())
 }

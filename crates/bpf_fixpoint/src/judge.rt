@@ -5,7 +5,7 @@ use crate::task::{Task, Watcher};
 use bpf_insn::{Insn, Reg};
 use bpf_num::Num;
 use bpf_outline::{get_or, join, put};
-use bpf_proposal::Condition;
+use bpf_proposal::{Condition, InferError};
 use bpf_state::{State, enter};
 use std::alloc::{AllocError, Global};
 
@@ -22,6 +22,14 @@ impl Fault {
         Fault {
             slot,
             condition: Condition::FallsOff,
+        }
+    }
+
+    /// I4 for it.
+    pub fn refusal(self) -> InferError {
+        InferError::Fault {
+            slot: self.slot,
+            condition: self.condition,
         }
     }
 }

@@ -1,4 +1,4 @@
-//! States that say no more than what is read.
+//! Liveness, backwards over a function's labels, callees first; and states that say no more than what is read.
 
 use crate::judge::walk_all;
 use crate::sums::Held;
@@ -7,7 +7,7 @@ use crate::tolerant::touched;
 use bpf_insn::{Access, Insn, Reg, Size};
 use bpf_num::{KnownBits, Num, Signed, Unsigned, WordDomain};
 use bpf_outline::{Flow, REGISTERS, get_or, put};
-use bpf_state::{RegState, SlotState, State};
+use bpf_state::{Entries, RegState, SlotState, State};
 use std::alloc::{AllocError, Global};
 
 /// The most rounds over a function. Where they don't do, all places stay.
@@ -312,12 +312,16 @@ fn spare_slots(state: &mut State, live: Places) {
 }
 
 /// Makes labels' states say nothing of places that aren't read behind them, and no more of numbers than is needed.
-pub fn spare(states: &mut Vec<Held>, live: &[Places]) {
+pub fn spare(alloc: Global, states: &mut Vec<Held>, live: &[Places]) -> Result<(), AllocError> {
+    let mut room = State::blank();
     for label in 0..states.len() {
         let read = get_or(live, label, Places::ALL);
         if let Some(Some(state)) = states.get_mut(label) {
-            spare_registers(&mut **state, read);
-            spare_slots(&mut **state, read);
+            state.put_into(&mut room);
+            spare_registers(&mut room, read);
+            spare_slots(&mut room, read);
+            *state = Entries::of(alloc, &room)?;
         }
     }
+    Ok(())
 }

@@ -1,7 +1,7 @@
-//! A function cut into segments at its labels.
+//! A function cut into segments at its labels, and its control-flow graph.
 
 use bpf_insn::{Insn, Program};
-use bpf_outline::{Flow, get_or};
+use bpf_outline::{Arc, Flow, Graph, get_or};
 use std::alloc::{AllocError, Global};
 
 /// The slots of a function, cut at its first, at the targets of its jumps and at further slots that are asked for. From a
@@ -121,30 +121,27 @@ impl Region {
 
 // ---- where segments lead
 
-/// The labels that each label's segment leads to, as far as its instructions say.
-#[derive(Drop)]
-pub struct Graph {
-    /// By labels, the index of the first of its edges; at the end how many there are.
-    starts: Vec<usize>,
-    targets: Vec<usize>,
-}
-
 /// Adds the edges of an instruction. Whether the next one may follow.
 fn add_edges(
-    targets: &mut Vec<usize>,
+    arcs: &mut Vec<Arc>,
     region: &Region,
+    label: usize,
     slot: u32,
     insn: &Insn,
 ) -> Result<bool, AllocError> {
     if let Some(target) = Flow::of(slot, insn).jump() {
-        targets.push(region.segment(target))?;
+        arcs.push(Arc {
+            from: label,
+            to: region.segment(target),
+            way: 0,
+        })?;
     }
     Ok(insn.goes_on())
 }
 
 /// Adds the edges of a label's segment.
 fn add_segment(
-    targets: &mut Vec<usize>,
+    arcs: &mut Vec<Arc>,
     program: &Program,
     region: &Region,
     label: usize,
@@ -152,57 +149,26 @@ fn add_segment(
     let end = region.segment_end(label);
     for slot in region.slot(label)..end {
         if let Some(insn) = program.at(slot) {
-            if !add_edges(targets, region, slot, insn)? {
+            if !add_edges(arcs, region, label, slot, insn)? {
                 return Ok(());
             }
         }
     }
     if end < region.end() {
-        targets.push(label.saturating_add(1))?;
+        arcs.push(Arc {
+            from: label,
+            to: label.saturating_add(1),
+            way: 0,
+        })?;
     }
     Ok(())
 }
 
-impl Graph {
-    /// The edges of a function's segments.
-    pub fn of(alloc: Global, program: &Program, region: &Region) -> Result<Graph, AllocError> {
-        let mut starts = Vec::with_capacity(alloc, region.labels().saturating_add(1))?;
-        let mut targets = Vec::new(alloc);
-        for label in 0..region.labels() {
-            starts.push(targets.len())?;
-            add_segment(&mut targets, program, region, label)?;
-        }
-        starts.push(targets.len())?;
-        Ok(Graph { starts, targets })
+/// The labels of a function, and where their segments lead as far as instructions say: its control-flow graph.
+pub fn graph_of(alloc: Global, program: &Program, region: &Region) -> Result<Graph, AllocError> {
+    let mut arcs = Vec::new(alloc);
+    for label in 0..region.labels() {
+        add_segment(&mut arcs, program, region, label)?;
     }
-
-    /// The index of a label's first edge.
-    pub fn start(&self, label: usize) -> usize {
-        get_or(&self.starts, label, 0)
-    }
-
-    /// The index after a label's last edge.
-    pub fn end(&self, label: usize) -> usize {
-        get_or(&self.starts, label.saturating_add(1), 0)
-    }
-
-    /// The label that the edge at an index leads to.
-    pub fn target(&self, edge: usize) -> usize {
-        get_or(&self.targets, edge, 0)
-    }
-
-    /// How many labels and edges there are.
-    pub fn size(&self) -> usize {
-        self.starts.len().saturating_add(self.targets.len())
-    }
-
-    /// Whether an edge leads from a label to itself.
-    pub fn has_own_edge(&self, label: usize) -> bool {
-        for edge in self.start(label)..self.end(label) {
-            if self.target(edge) == label {
-                return true;
-            }
-        }
-        false
-    }
+    Graph::of(alloc, region.labels(), arcs)
 }

@@ -10,7 +10,7 @@ use bpf_state::{Area, Pointer, RegState, SlotState, State};
 const MIDDLE: i64 = -256;
 
 /// Gives each register that isn't known a number. Whether there is one.
-pub fn fill_registers(state: &mut State) -> bool {
+fn fill_registers(state: &mut State) -> bool {
     let mut is_filled = false;
     for i in 0..REGISTERS {
         let r = Reg::numbered(i as u8);
@@ -23,13 +23,23 @@ pub fn fill_registers(state: &mut State) -> bool {
 }
 
 /// Gives each slot of which not all bytes are known a number. Whether there is one.
-pub fn fill_slots(state: &mut State) -> bool {
+fn fill_slots(state: &mut State) -> bool {
     let mut is_filled = false;
     for k in 1..65u8 {
         if matches!(state.slot(k), SlotState::Bytes(_)) {
             state.set_slot(k, SlotState::Word(Num::top()));
             is_filled = true;
         }
+    }
+    is_filled
+}
+
+/// Gives what isn't known a number: each register, and each slot too if that is asked for. Whether there is one.
+pub fn fill(state: &mut State, fills_slots: bool) -> bool {
+    let mut is_filled = fill_registers(state);
+    if fills_slots {
+        let has_slot = fill_slots(state);
+        is_filled = is_filled || has_slot;
     }
     is_filled
 }
@@ -81,7 +91,7 @@ fn point(state: &mut State, base: Reg, off: i16) -> bool {
 
 /// Makes the base of the access at a slot point into the frame by a change of the state at the label before it. Whether that
 /// is a change.
-pub fn lead(task: Task, label: u32, slot: u32, state: &mut State) -> bool {
+fn lead(task: Task, label: u32, slot: u32, state: &mut State) -> bool {
     let found = match task.program.at(slot) {
         Some(insn) => insn.access(),
         None => None,
@@ -122,7 +132,7 @@ fn register_in(operand: Operand) -> Option<Reg> {
 
 /// Makes what the instruction at a slot takes numbers from numbers, where they are pointers, by a change of the state at the
 /// label before it. Whether that is a change.
-pub fn make_numbers(task: Task, label: u32, slot: u32, state: &mut State) -> bool {
+fn make_numbers(task: Task, label: u32, slot: u32, state: &mut State) -> bool {
     let Some(insn) = task.program.at(slot) else {
         return false;
     };
@@ -146,4 +156,14 @@ fn make_number(state: &mut State, r: Reg) -> bool {
             !r.is_frame_pointer()
         }
     }
+}
+
+/// Makes the operands and the base of the instruction at a slot what it takes, by a change of the state at the label before it.
+/// Whether that is a change.
+pub fn change_kinds(task: Task, label: u32, slot: u32, state: &mut State) -> bool {
+    let has_number = make_numbers(task, label, slot, state);
+    if has_number {
+        return true;
+    }
+    lead(task, label, slot, state)
 }

@@ -1,12 +1,13 @@
-//! The states of a function's labels: loops from the inside out, widened and then narrowed.
+//! The states of a function's labels: the recursive iteration strategy over a weak topological order (Bourdoncle 1993). The head
+//! of a loop is widened with thresholds until it stands, and then narrowed; loops inside are settled anew in each turn.
 
 use crate::nest::{Loop, Nest};
 use crate::sums::{Held, Sums, held, load};
 use crate::task::{Task, Watcher};
 use crate::thresholds::{Reach, Thresholds};
 use bpf_insn::Insn;
-use bpf_outline::{Watch, get_or, put, vacant};
-use bpf_state::State;
+use bpf_outline::{LABEL_WORK, Limit, MOST_ENTRIES, Meter, Watch, get_or, put, vacant};
+use bpf_state::{Entries, State};
 use std::alloc::{AllocError, Global};
 
 /// How often a head's state is joined before bounds are moved on.
@@ -83,9 +84,16 @@ pub struct Settler<'a> {
     changes: Vec<u32>,
     active: Vec<Active>,
     /// Where segments are gone over.
-    room: Held,
+    room: Option<Box<State>>,
+    /// Where states of heads are compared and joined.
+    old: Box<State>,
+    new: Box<State>,
     /// How many segments may be gone over before bounds are moved to extremes at once.
     patience: usize,
+    /// The work since it was last told, in slots.
+    work: usize,
+    /// Whether half of the work that the search may do is done.
+    is_late: bool,
 }
 
 impl<'a> Watcher for Settler<'a> {
@@ -103,7 +111,9 @@ impl<'a> Watcher for Settler<'a> {
 
     fn edge(&mut self, from: usize, to: usize, state: &State) -> Result<(), AllocError> {
         let depth = self.nest.common_depth(from, to);
-        self.sums.add(to, depth, state)
+        let work = self.sums.add(to, depth, state)?;
+        self.work = self.work.saturating_add(work);
+        Ok(())
     }
 }
 
@@ -119,27 +129,44 @@ impl<'a> Settler<'a> {
             changes: vec![in alloc; 0; nest.loops()]?,
             active: Vec::new(alloc),
             room: None,
+            old: Box::new(alloc, State::blank())?,
+            new: Box::new(alloc, State::blank())?,
             patience: patience_for(nest.labels()),
+            work: 0,
+            is_late: false,
         })
     }
 
     /// A label is also reached in a state.
     pub fn seed(&mut self, label: usize, state: &State) -> Result<(), AllocError> {
-        self.sums.add(label, 0, state)
+        let _work = self.sums.add(label, 0, state)?;
+        Ok(())
     }
 
-    /// Finds the states. None if that takes too long.
-    pub fn settle<W: Watch>(mut self, watch: &mut W) -> Result<Option<Vec<Held>>, AllocError> {
-        let most = self.patience.saturating_mul(4);
+    /// Finds the states, or the limit that is passed before.
+    pub fn settle<W: Watch>(
+        mut self,
+        meter: &mut Meter<'_, W>,
+    ) -> Result<Result<Vec<Held>, Limit>, AllocError> {
         let mut place = 0;
-        for _ in 0..most {
-            watch.tell(1);
+        for _ in 0..meter.most() {
             match self.step(place)? {
                 Some(next) => place = next,
-                None => return Ok(Some(self.states)),
+                None => return Ok(Ok(self.states)),
+            }
+            meter.tell(1, self.work);
+            self.work = 0;
+            self.is_late = meter.is_low();
+            if meter.is_spent() {
+                break;
+            }
+            if self.sums.kept() > MOST_ENTRIES {
+                return Ok(Err(Limit::Entries {
+                    most: MOST_ENTRIES as u64,
+                }));
             }
         }
-        Ok(None)
+        Ok(Err(Limit::Work { most: meter.most() }))
     }
 
     /// Goes over the label at a place, or ends the turn of a loop there. The place to go on from; None at the end.
@@ -174,12 +201,18 @@ impl<'a> Settler<'a> {
     /// Goes over a label's segment, if the label has a state.
     fn walk(&mut self, label: usize) -> Result<(), AllocError> {
         self.patience = self.patience.saturating_sub(1);
+        self.work = self.work.saturating_add(LABEL_WORK);
         let mut room = match self.room.take() {
             Some(room) => room,
             None => Box::new(self.alloc, State::blank())?,
         };
         if load(&self.states, label, &mut *room) {
             let task = self.task;
+            let slots = task
+                .region
+                .segment_end(label)
+                .saturating_sub(task.region.slot(label));
+            self.work = self.work.saturating_add(slots as usize);
             task.walk(label, &mut *room, self)?;
         }
         self.room = Some(room);
@@ -188,9 +221,9 @@ impl<'a> Settler<'a> {
 
     // ---- the turns of a loop
 
-    /// Whether as many segments were gone over as may be.
+    /// Whether as much was gone over as is before bounds are moved to extremes at once.
     fn is_tired(&self) -> bool {
-        self.patience == 0
+        self.is_late || self.patience == 0
     }
 
     /// Begins to go around a loop.
@@ -271,18 +304,42 @@ impl<'a> Settler<'a> {
     }
 
     /// Makes the state of a loop's head one that a sum lies in.
-    fn rise(&mut self, head: usize, sum: Box<State>, reach: Reach) -> Result<(), AllocError> {
-        let Some(Some(state)) = self.states.get_mut(head) else {
+    fn rise(&mut self, head: usize, sum: Entries, reach: Reach) -> Result<(), AllocError> {
+        let Some(state) = held(&self.states, head) else {
             put(&mut self.states, head, Some(sum));
             return Ok(());
         };
-        if sum.entails(&**state) {
+        sum.put_into(&mut *self.new);
+        if self.new.entails_entries(state) {
             return Ok(());
         }
+        state.put_into(&mut *self.old);
         if let Some(active) = self.active.last_mut() {
-            active.thresholds.widen(&mut **state, &*sum, reach)?;
+            active.thresholds.widen(&mut *self.old, &*self.new, reach)?;
         }
+        let risen = Entries::of(self.alloc, &*self.old)?;
+        put(&mut self.states, head, Some(risen));
         Ok(())
+    }
+
+    /// Whether a state lies in that of a loop's head. False if the head isn't reached.
+    fn lies_in(&mut self, sum: &Entries, head: usize) -> bool {
+        sum.put_into(&mut *self.new);
+        match held(&self.states, head) {
+            Some(state) => self.new.entails_entries(state),
+            None => false,
+        }
+    }
+
+    /// Whether a state says more than that of a loop's head, which it lies in.
+    fn says_more(&mut self, sum: &Entries, head: usize) -> bool {
+        match held(&self.states, head) {
+            Some(state) => {
+                state.put_into(&mut *self.old);
+                !self.old.entails_entries(sum)
+            }
+            None => false,
+        }
     }
 
     /// Goes over the head of a loop; what led back to labels of the loop in the turn before is forgotten.
@@ -303,10 +360,7 @@ impl<'a> Settler<'a> {
         let Some(sum) = self.sums.total(head)? else {
             return Ok(self.close(found));
         };
-        let is_closed = match held(&self.states, head) {
-            Some(state) => sum.entails(state),
-            None => false,
-        };
+        let is_closed = self.lies_in(&sum, head);
         match (phase, is_closed) {
             (Phase::Rising, true) => self.end_rising(found, head, sum),
             (Phase::Again | Phase::Narrowing, true) => self.narrow(found, head, sum),
@@ -340,12 +394,7 @@ impl<'a> Settler<'a> {
     }
 
     /// The head's state doesn't rise any more.
-    fn end_rising(
-        &mut self,
-        found: Loop,
-        head: usize,
-        sum: Box<State>,
-    ) -> Result<usize, AllocError> {
+    fn end_rising(&mut self, found: Loop, head: usize, sum: Entries) -> Result<usize, AllocError> {
         let may_narrow = match self.active.last() {
             Some(active) => active.may_narrow,
             None => false,
@@ -360,11 +409,8 @@ impl<'a> Settler<'a> {
     }
 
     /// Takes what arrives at the head as its state, if that says more.
-    fn narrow(&mut self, found: Loop, head: usize, sum: Box<State>) -> Result<usize, AllocError> {
-        let says_more = match held(&self.states, head) {
-            Some(state) => !state.entails(&*sum),
-            None => false,
-        };
+    fn narrow(&mut self, found: Loop, head: usize, sum: Entries) -> Result<usize, AllocError> {
+        let says_more = self.says_more(&sum, head);
         let is_tired = self.is_tired();
         let Some(active) = self.active.last_mut() else {
             return Ok(found.end);

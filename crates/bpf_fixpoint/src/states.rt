@@ -1,24 +1,22 @@
-//! The states of labels: loops from the inside out, labels for dead code, and returned numbers.
+//! The states of a program's labels: function by function, with labels for dead code, until what functions return stands.
 
+mod outcome;
 mod surveys;
 
-ghost use Rattle.std.specs.Prelude.{◌≤◌};
-
 use crate::dead::{Seeds, add_seeds};
-use crate::judge::{Fault, Report};
-use crate::least::{Places, least_number, places_read, spare};
+use crate::judge::Report;
 use crate::nest::Nest;
-use crate::region::{Graph, Region};
+use crate::region::{Region, graph_of};
 use crate::settle::Settler;
 use crate::sums::{Held, held, take_in_at};
 use crate::task::Task;
 use arrayvec::ArrayVec;
-use bpf_cert::{Budget, Function, Label};
+use bpf_cert::{Budget, Label};
 use bpf_insn::Program;
 use bpf_num::Num;
-use bpf_outline::{Depths, Outline, Quest, Watch, depths_of, get_or, put, vacant};
-use bpf_proposal::InferError;
+use bpf_outline::{Depths, Limit, Meter, Outline, Quest, Stop, Watch, get_or, put, vacant};
 use bpf_state::{Entries, State};
+pub use outcome::draft;
 use std::alloc::{AllocError, Global};
 pub use surveys::{Survey, surveyed};
 
@@ -34,7 +32,7 @@ const MOST_PASSES: u32 = 11;
 /// What was found of a function that begins in a state.
 #[derive(Drop)]
 struct Judged {
-    entry: Box<State>,
+    entry: Entries,
     region: Region,
     states: Vec<Held>,
     report: Report,
@@ -43,14 +41,14 @@ struct Judged {
 }
 
 impl Judged {
-    /// The labels with their states, each with a budget of 0.
-    fn labels(&self, alloc: Global) -> Result<Vec<Label>, AllocError> {
+    /// The labels with their states, which are taken, each with a budget of 0.
+    fn labels(&mut self, alloc: Global) -> Result<Vec<Label>, AllocError> {
         let mut labels = Vec::with_capacity(alloc, self.states.len())?;
         for label in 0..self.states.len() {
-            if let Some(state) = held(&self.states, label) {
+            if let Some(Some(state)) = self.states.get_mut(label).map(|held| held.take()) {
                 labels.push(Label {
                     slot: self.region.slot(label),
-                    state: Entries::of(alloc, state)?,
+                    state,
                     budget: Budget {
                         base: 0,
                         terms: ArrayVec::new(),
@@ -68,6 +66,8 @@ struct Analysis<'a> {
     alloc: Global,
     quest: Quest<'a>,
     outline: &'a Outline,
+    /// Whether walks end at faults, and dead code stays dead.
+    stops: bool,
     /// The first slots, and at the end how many slots there are.
     firsts: Vec<u32>,
     /// What each returns.
@@ -100,6 +100,7 @@ impl<'a> Analysis<'a> {
         alloc: Global,
         quest: Quest<'a>,
         outline: &'a Outline,
+        stops: bool,
     ) -> Result<Analysis<'a>, AllocError> {
         let firsts = firsts_of(alloc, quest.program, outline)?;
         let count = outline.function_count();
@@ -107,6 +108,7 @@ impl<'a> Analysis<'a> {
             alloc,
             quest,
             outline,
+            stops,
             firsts,
             rets: vec![in alloc; Num::top(); count]?,
             is_changed: vec![in alloc; false; count]?,
@@ -129,6 +131,7 @@ impl<'a> Analysis<'a> {
             least: self.quest.least,
             most: self.quest.most,
             rets: &self.rets,
+            stops: self.stops,
         }
     }
 
@@ -139,18 +142,21 @@ impl<'a> Analysis<'a> {
         &self,
         function: usize,
         entry: &State,
-        watch: &mut W,
-    ) -> Result<Judged, InferError> {
+        meter: &mut Meter<'_, W>,
+    ) -> Result<Judged, Stop> {
         let first = self.first(function);
         let end = self.first(function.saturating_add(1));
         let slots = end.saturating_sub(first) as usize;
         let mut seeds = Seeds::new(self.alloc, first, slots)?;
-        let mut judged = self.judge_once(first, end, entry, &seeds, watch)?;
+        let mut judged = self.judge_once(first, end, entry, &seeds, meter)?;
+        if self.stops {
+            return Ok(judged);
+        }
         for _ in 0..DEAD_ROUNDS {
             if !self.improve(&judged, &mut seeds)? {
                 break;
             }
-            judged = self.judge_once(first, end, entry, &seeds, watch)?;
+            judged = self.judge_once(first, end, entry, &seeds, meter)?;
         }
         Ok(judged)
     }
@@ -164,7 +170,7 @@ impl<'a> Analysis<'a> {
             return Ok(true);
         }
         match judged.report.fault {
-            Some(fault) => Ok(seeds.repair(task, fault)),
+            Some(fault) => seeds.repair(task, fault),
             None => Ok(false),
         }
     }
@@ -176,16 +182,16 @@ impl<'a> Analysis<'a> {
         end: u32,
         entry: &State,
         seeds: &Seeds,
-        watch: &mut W,
-    ) -> Result<Judged, InferError> {
+        meter: &mut Meter<'_, W>,
+    ) -> Result<Judged, Stop> {
         let extra = seeds.slots()?;
         let region = Region::of(self.alloc, self.quest.program, first, end, &extra)?;
-        let states = self.states_of(&region, entry, seeds, watch)?;
+        let states = self.states_of(&region, entry, seeds, meter)?;
         let task = self.task(&region);
         let report = Report::of(self.alloc, task, &states)?;
         let unreached = report.unreached(task);
         Ok(Judged {
-            entry: Box::new(self.alloc, entry.copy())?,
+            entry: Entries::of(self.alloc, entry)?,
             region,
             states,
             report,
@@ -199,25 +205,24 @@ impl<'a> Analysis<'a> {
         region: &Region,
         entry: &State,
         seeds: &Seeds,
-        watch: &mut W,
-    ) -> Result<Vec<Held>, InferError> {
-        let unstable = InferError::Unstable {
-            slot: region.first(),
-        };
-        let graph = Graph::of(self.alloc, self.quest.program, region)?;
+        meter: &mut Meter<'_, W>,
+    ) -> Result<Vec<Held>, Stop> {
+        let graph = graph_of(self.alloc, self.quest.program, region)?;
         let Some(nest) = Nest::of(self.alloc, &graph, region.labels())? else {
-            return Err(unstable);
+            return Err(Stop::unstable(region.first(), Limit::Depth));
         };
         let mut settler = Settler::new(self.alloc, self.task(region), &nest)?;
         settler.seed(0, entry)?;
+        let mut room = State::blank();
         for label in 0..region.labels() {
             if let Some(state) = seeds.at(region.slot(label)) {
-                settler.seed(label, state)?;
+                state.put_into(&mut room);
+                settler.seed(label, &room)?;
             }
         }
-        match settler.settle(watch)? {
-            Some(states) => Ok(states),
-            None => Err(unstable),
+        match settler.settle(meter)? {
+            Ok(states) => Ok(states),
+            Err(limit) => Err(Stop::unstable(region.first(), limit)),
         }
     }
 
@@ -233,16 +238,16 @@ impl<'a> Analysis<'a> {
                 return false;
             }
         }
-        entry.entails(&*judged.entry) && judged.entry.entails(entry)
+        entry.entails_entries(&judged.entry) && judged.entry.state().entails(entry)
     }
 
     /// Judges a function that is reached. I1 at its first slot if its states don't settle.
-    fn visit<W: Watch>(&mut self, function: usize, watch: &mut W) -> Result<(), InferError> {
-        let Some(entry) = held(&self.entries, function) else {
+    fn visit<W: Watch>(&mut self, function: usize, meter: &mut Meter<'_, W>) -> Result<(), Stop> {
+        let Some(entry) = held(&self.entries, function).map(|entry| entry.state()) else {
             return Ok(());
         };
-        if !self.is_current(function, entry) {
-            let judged = self.judge(function, entry, watch)?;
+        if !self.is_current(function, &entry) {
+            let judged = self.judge(function, &entry, meter)?;
             put(&mut self.judged, function, Some(judged));
         }
         self.enter_callees(function)?;
@@ -251,9 +256,16 @@ impl<'a> Analysis<'a> {
 
     /// Takes note of the states in which a function calls others.
     fn enter_callees(&mut self, function: usize) -> Result<(), AllocError> {
+        let mut room = State::blank();
         if let Some(Some(judged)) = self.judged.get(function) {
             for called in judged.report.entries.as_slice() {
-                take_in_at(self.alloc, &mut self.entries, called.callee, &*called.state)?;
+                let _is_changed = take_in_at(
+                    self.alloc,
+                    &mut room,
+                    &mut self.entries,
+                    called.callee,
+                    &*called.state,
+                )?;
             }
         }
         Ok(())
@@ -264,13 +276,13 @@ impl<'a> Analysis<'a> {
         &mut self,
         depths: &Depths,
         start: &State,
-        watch: &mut W,
-    ) -> Result<(), InferError> {
+        meter: &mut Meter<'_, W>,
+    ) -> Result<(), Stop> {
         let count = self.judged.len();
         self.entries = vacant(self.alloc, count)?;
-        take_in_at(self.alloc, &mut self.entries, 0, start)?;
+        put(&mut self.entries, 0, Some(Entries::of(self.alloc, start)?));
         for depth in (1..9).rev() {
-            self.pass_depth(depths, depth, watch)?;
+            self.pass_depth(depths, depth, meter)?;
         }
         Ok(())
     }
@@ -280,11 +292,11 @@ impl<'a> Analysis<'a> {
         &mut self,
         depths: &Depths,
         depth: u32,
-        watch: &mut W,
-    ) -> Result<(), InferError> {
+        meter: &mut Meter<'_, W>,
+    ) -> Result<(), Stop> {
         for function in 0..self.judged.len() {
             if get_or(depths, function, 0) == depth {
-                self.visit(function, watch)?;
+                self.visit(function, meter)?;
             }
         }
         Ok(())
@@ -326,138 +338,19 @@ impl<'a> Analysis<'a> {
         &mut self,
         depths: &Depths,
         start: &State,
-        watch: &mut W,
-    ) -> Result<(), InferError> {
+        meter: &mut Meter<'_, W>,
+    ) -> Result<(), Stop> {
         for pass in 0..MOST_PASSES {
-            self.pass(depths, start, watch)?;
+            self.pass(depths, start, meter)?;
             if !self.update_rets(pass < PASSES) {
                 return Ok(());
             }
         }
-        Err(InferError::Unstable { slot: 0 })
+        Err(Stop::unstable(
+            0,
+            Limit::Returns {
+                passes: MOST_PASSES,
+            },
+        ))
     }
-
-    // ---- what comes of it
-
-    /// The lowest fault, or slot that isn't reached.
-    fn fault(&self) -> Option<Fault> {
-        let mut lowest = None;
-        for function in 0..self.judged.len() {
-            let found = match self.judged.get(function) {
-                Some(Some(judged)) => lower(judged.report.fault, judged.unreached.map(Fault::dead)),
-                _ => Some(Fault::dead(self.first(function))),
-            };
-            lowest = lower(lowest, found);
-        }
-        lowest
-    }
-
-    /// By labels of a function, the places that are read behind each.
-    fn places_read(&self, function: usize, read: &[Places]) -> Result<Vec<Places>, AllocError> {
-        match self.judged.get(function) {
-            Some(Some(judged)) => {
-                let task = self.task(&judged.region);
-                places_read(self.alloc, task, &judged.states, read)
-            }
-            _ => Ok(Vec::new(self.alloc)),
-        }
-    }
-
-    /// What a function reads of what it begins with; its labels' states say no more than is read. Its callees come before it.
-    fn spare(&mut self, function: usize, read: &[Places]) -> Result<Places, AllocError> {
-        let live = self.places_read(function, read)?;
-        if let Some(Some(judged)) = self.judged.get_mut(function) {
-            spare(&mut judged.states, &live);
-        }
-        Ok(live.first().copied().unwrap_or(Places::ALL))
-    }
-
-    /// Makes the states of the functions of a depth say no more than is read, and takes note of what they read.
-    fn spare_depth(
-        &mut self,
-        depths: &Depths,
-        depth: u32,
-        read: &mut Vec<Places>,
-    ) -> Result<(), AllocError> {
-        for function in 0..self.judged.len() {
-            if get_or(depths, function, 0) == depth {
-                let places = self.spare(function, read)?;
-                put(read, function, places);
-            }
-        }
-        Ok(())
-    }
-
-    /// Makes all labels' states say no more than is read.
-    fn spare_all(&mut self, depths: &Depths) -> Result<(), AllocError> {
-        let mut read = vec![in self.alloc; Places::ALL; self.judged.len()]?;
-        for depth in 1..9 {
-            self.spare_depth(depths, depth, &mut read)?;
-        }
-        Ok(())
-    }
-
-    /// The labels of a function.
-    fn labels(&self, function: usize) -> Result<Vec<Label>, AllocError> {
-        match self.judged.get(function) {
-            Some(Some(judged)) => judged.labels(self.alloc),
-            _ => Ok(Vec::new(self.alloc)),
-        }
-    }
-
-    /// What the certificate says that a function returns; nobody asks for the first one's.
-    fn ret(&self, function: usize) -> Num {
-        match self.rets.get(function) {
-            Some(ret) if function > 0 => least_number(*ret),
-            _ => Num::top(),
-        }
-    }
-
-    /// The functions with their labels.
-    fn functions(&self, depths: &Depths) -> Result<Vec<Function>, AllocError> {
-        let mut functions = Vec::new(self.alloc);
-        for number in 0..self.judged.len() {
-            functions.push(Function {
-                first: self.first(number),
-                depth: get_or(depths, number, 0),
-                ret: self.ret(number),
-                labels: self.labels(number)?,
-            })?;
-        }
-        Ok(functions)
-    }
-}
-
-/// The lower of two faults.
-fn lower(a: Option<Fault>, b: Option<Fault>) -> Option<Fault> {
-    match (a, b) {
-        (Some(first), Some(second)) if second.slot < first.slot => Some(second),
-        (Some(first), _) => Some(first),
-        (None, second) => second,
-    }
-}
-
-/// The functions of a program with their depths, what they return, and their labels
-/// with their states; each budget is 0. I1 at a function whose states don't settle; I4 at the lowest instruction that is
-/// refused.
-pub fn draft<W: Watch>(
-    alloc: Global,
-    quest: Quest<'_>,
-    watch: &mut W,
-) -> Result<Vec<Function>, InferError>
-    requires { quest.least ≤ quest.most }
-{
-    let outline = Outline::of(alloc, quest.program)?;
-    let depths = depths_of(alloc, quest.program, &outline)?;
-    let start = quest.start();
-    let mut analysis = Analysis::new(alloc, quest, &outline)?;
-    analysis.settle(&depths, &start, watch)?;
-    if let Some(fault) = analysis.fault() {
-        return Err(InferError::Fault {
-            slot: fault.slot,
-            condition: fault.condition,
-        });
-    }
-    analysis.spare_all(&depths)?;
-    Ok(analysis.functions(&depths)?)
 }

@@ -1,4 +1,4 @@
-//! Walks over segments that don't stop at faults.
+//! Walks over segments, which go on behind faults or stop there.
 
 use crate::region::Region;
 use crate::tolerant::go_on;
@@ -41,6 +41,8 @@ pub struct Task<'a> {
     pub most: u32,
     /// By the functions' numbers, what each returns.
     pub rets: &'a [Num],
+    /// Whether a walk ends where an instruction is at fault; else it goes on as if it did no wrong.
+    pub stops: bool,
 }
 
 impl<'a> Task<'a> {
@@ -84,6 +86,9 @@ impl<'a> Task<'a> {
             Ok(false) => return Ok(false),
             Err(fault) => {
                 watcher.fault(slot, Condition::State(fault));
+                if self.stops {
+                    return Ok(false);
+                }
                 go_on(insn, state);
             }
         }

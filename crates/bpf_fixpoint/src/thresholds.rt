@@ -1,4 +1,4 @@
-//! Numbers at which the bounds of a loop's states may stop.
+//! Thresholds of the widening: the numbers at which the bounds of a loop's states may stop.
 
 use bpf_insn::{Insn, Operand, Reg};
 use bpf_outline::{REGISTERS, Stops, get_or, join, join_register, join_slots};

@@ -7,7 +7,7 @@ use bpf_fixpoint::{Survey, surveyed};
 use bpf_harden_notes::HardenError;
 use bpf_harden_plan::{Old, Plan, Rooms, refusal};
 use bpf_harden_text::{Draft, emitted};
-use bpf_outline::{Quest, Unwatched};
+use bpf_outline::{DEEP_WORK, Meter, Quest, Unwatched, Watch};
 use bpf_proposal::InferError;
 use bpf_ranking::{ranked, uncounted};
 use std::alloc::Global;
@@ -35,32 +35,35 @@ pub struct Trial {
 }
 
 /// What the loops of a draft come to.
-fn verdict_of(
+fn verdict_of<W: Watch>(
     alloc: Global,
-    quest: Quest,
+    quest: Quest<'_>,
     draft: Option<Vec<Function>>,
+    meter: &mut Meter<'_, W>,
 ) -> Result<Verdict, HardenError>
     requires { quest.least ≤ quest.most }
 {
     let Some(functions) = draft else {
         return Ok(Verdict::Faults);
     };
-    let loops = match uncounted(alloc, quest, &functions, &mut Unwatched) {
+    let loops = match uncounted(alloc, quest, &functions, meter) {
         Ok(loops) => loops,
         Err(error) => return Err(refusal(error)),
     };
     if !loops.is_empty() {
         return Ok(Verdict::Uncounted(loops));
     }
-    match ranked(alloc, quest, functions, &mut Unwatched) {
+    match ranked(alloc, quest, functions, meter) {
         Ok(found) => {
             match Certificate::new(2, quest.least, quest.most, found.steps, found.functions) {
                 Ok(_) => Ok(Verdict::Yes),
                 Err(_) => Ok(Verdict::TooGreat),
             }
         }
-        Err(InferError::NoBudget { .. }) => Ok(Verdict::TooGreat),
-        Err(error) => Err(refusal(error)),
+        Err(stop) => match stop.error {
+            InferError::NoBudget { .. } => Ok(Verdict::TooGreat),
+            error => Err(refusal(error)),
+        },
     }
 }
 
@@ -74,12 +77,14 @@ impl Trial {
             least: plan.length,
             most: plan.length,
         };
-        let mut survey = match surveyed(alloc, quest, &mut Unwatched) {
+        let mut unwatched = Unwatched;
+        let mut meter = Meter::new(&mut unwatched, DEEP_WORK);
+        let mut survey = match surveyed(alloc, quest, &mut meter) {
             Ok(survey) => survey,
             Err(error) => return Err(refusal(error)),
         };
         let functions = survey.draft.take();
-        let verdict = verdict_of(alloc, quest, functions)?;
+        let verdict = verdict_of(alloc, quest, functions, &mut meter)?;
         Ok(Trial {
             draft,
             rooms,

@@ -9,7 +9,7 @@ use crate::uses::Uses;
 use bpf_fixpoint::{Survey, surveyed};
 use bpf_harden_notes::HardenError;
 use bpf_insn::{Insn, Program, Reg};
-use bpf_outline::{Flow, Outline, Quest, Unwatched, get_or};
+use bpf_outline::{DEEP_WORK, Flow, Meter, Outline, Quest, Unwatched, get_or};
 use bpf_proposal::InferError;
 use std::alloc::{AllocError, Global};
 
@@ -40,7 +40,9 @@ impl<'a> Old<'a> {
     pub fn of(alloc: Global, quest: Quest<'a>) -> Result<Old<'a>, HardenError>
         requires { quest.least ≤ quest.most }
     {
-        let survey = match surveyed(alloc, quest, &mut Unwatched) {
+        let mut unwatched = Unwatched;
+        let mut meter = Meter::new(&mut unwatched, DEEP_WORK);
+        let survey = match surveyed(alloc, quest, &mut meter) {
             Ok(survey) => survey,
             Err(error) => return Err(refusal(error)),
         };

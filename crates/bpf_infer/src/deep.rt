@@ -3,22 +3,23 @@
 ghost use Rattle.std.specs.Prelude.{◌≤◌};
 
 use bpf_fixpoint::draft;
-use bpf_outline::{Proposal, Quest, Watch};
-use bpf_proposal::InferError;
+use bpf_outline::{DEEP_WORK, Meter, Proposal, Quest, Stop, Watch};
 use bpf_ranking::ranked;
 use std::alloc::Global;
 
 /// What the search gives a program: nested loops, code that nothing reaches and counters that change their places may
 /// have budgets. I1 if states that were found aren't stable, at the first slot of their function; I2 at the lowest
 /// label of the loops that nothing counts; I3 at the lowest call of a recursion; I4 at an instruction that the checker
-/// would refuse, with the condition that fails, C3 to C12; I5 if memory runs out.
+/// would refuse, with the condition that fails, C3 to C12; I5 if memory runs out. A refusal has the states that it is
+/// seen in.
 pub fn deep_proposal<W: Watch>(
     alloc: Global,
     quest: Quest<'_>,
     watch: &mut W,
-) -> Result<Proposal, InferError>
+) -> Result<Proposal, Stop>
     requires { quest.least ≤ quest.most }
 {
-    let functions = draft(alloc, quest, watch)?;
-    ranked(alloc, quest, functions, watch)
+    let mut meter = Meter::new(watch, DEEP_WORK);
+    let functions = draft(alloc, quest, &mut meter)?;
+    ranked(alloc, quest, functions, &mut meter)
 }

@@ -8,7 +8,7 @@ ghost use Rattle.bpf_cert.specs.Limits.{IsCertificate};
 use crate::deep::deep_proposal;
 use bpf_cert::Certificate;
 use bpf_insn::{Code, Program};
-use bpf_outline::{Proposal, Quest, Unwatched, Watch};
+use bpf_outline::{Proposal, Quest, Stop, Unwatched, Watch};
 use bpf_plain::plain_proposal;
 use bpf_proposal::InferError;
 use std::alloc::Global;
@@ -61,6 +61,67 @@ pub fn infer(
     }
 }
 
+/// The certificate of what the deep search found, or where it stopped. I2 at slot 0 if it is over a limit.
+fn certificate_or_stop(
+    least: u32,
+    most: u32,
+    found: Result<Proposal, Stop>,
+) -> Result<Certificate, Stop>
+    ensures version { IfOk result (λ c. c.version ≡ 2) }
+    ensures least { IfOk result (λ c. c.least ≡ least) }
+    ensures most { IfOk result (λ c. c.most ≡ most) }
+    ensures certificate { IfOk result (λ c. IsCertificate c) }
+{
+    match found {
+        Ok(found) => match certificate_of(least, most, Ok(found)) {
+            Ok(certificate) => Ok(certificate),
+            Err(error) => Err(Stop::from(error)),
+        },
+        Err(stop) => Err(stop),
+    }
+}
+
+/// As `search`; where it finds no certificate, with what the deep search had when it stopped: the states at its labels, and
+/// what was in the way.
+pub fn search_or_stop<W: Watch>(
+    alloc: Global,
+    program: &Program,
+    least: u32,
+    most: u32,
+    watch: &mut W,
+) -> Result<Certificate, Stop>
+    requires order { least ≤ most }
+    requires short { most ≤ 4096 }
+    ensures version { IfOk result (λ c. c.version ≡ 2) }
+    ensures least { IfOk result (λ c. c.least ≡ least) }
+    ensures most { IfOk result (λ c. c.most ≡ most) }
+    ensures certificate { IfOk result (λ c. IsCertificate c) }
+    ensures slot { IfErr result (λ s. infer_slot s.error < slots program.now.list) }
+{
+    let quest = Quest {
+        program,
+        least,
+        most,
+    };
+    let plain = plain_proposal(alloc, quest, watch);
+    let deep = deep_proposal(alloc, quest, watch);
+    watch.end();
+    let plain = certificate_of(least, most, plain);
+    match certificate_or_stop(least, most, deep) {
+        Ok(deep) => match plain {
+            Ok(plain) if plain.steps() < deep.steps() => Ok(plain),
+            _ => Ok(deep),
+        },
+        Err(stop) => match plain {
+            Ok(plain) => Ok(plain),
+            Err(_) => Err(Stop {
+                error: stop.error.within(Code::slots(program)),
+                sketch: stop.sketch,
+            }),
+        },
+    }
+}
+
 /// Proposes a certificate of version 2 for a program on contexts of `least` to `most` bytes, at most 4,096: nested loops,
 /// code that nothing reaches and counters that change their places may have one. Where `infer` has a lower bound, it is
 /// that one. I1 if states that were found aren't stable, at the first slot of their function; I2 at the lowest label of
@@ -82,23 +143,8 @@ pub fn search<W: Watch>(
     ensures certificate { IfOk result (λ c. IsCertificate c) }
     ensures slot { IfErr result (λ e. infer_slot e < slots program.now.list) }
 {
-    let quest = Quest {
-        program,
-        least,
-        most,
-    };
-    let plain = plain_proposal(alloc, quest, watch);
-    let deep = deep_proposal(alloc, quest, watch);
-    watch.end();
-    let plain = certificate_of(least, most, plain);
-    match certificate_of(least, most, deep) {
-        Ok(deep) => match plain {
-            Ok(plain) if plain.steps() < deep.steps() => Ok(plain),
-            _ => Ok(deep),
-        },
-        Err(error) => match plain {
-            Ok(plain) => Ok(plain),
-            Err(_) => Err(error.within(Code::slots(program))),
-        },
+    match search_or_stop(alloc, program, least, most, watch) {
+        Ok(certificate) => Ok(certificate),
+        Err(stop) => Err(stop.error),
     }
 }

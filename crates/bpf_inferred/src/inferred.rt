@@ -6,17 +6,13 @@ ghost use Rattle.bpf_cert.specs.Limits.{IsCertificate};
 ghost use Rattle.bpf_proposal.specs.RefusalNumbers.{infer_slot};
 ghost use Rattle.bpf_proposal.specs.declared.error.InferError.TheVariants.{Memory};
 
+use crate::obstacles::{write_deep_obstacle, write_obstacle};
 use bpf_cert::Certificate;
 use bpf_check::{Cause, Refusal, cause_of, check};
-use bpf_infer::{
-    Condition, InferError, Loss, Move, Obstacle, Quest, Sketch, Tangle, Trial, Watch, infer,
-    search, sketch_of,
-};
+use bpf_infer::{Condition, InferError, Quest, Sketch, Watch, infer, search, sketch_of};
 use bpf_insn::{Code, Insn, Program};
 use bpf_page::{Page, Tell};
-use bpf_words::{
-    Name, Spelled, explain_on, register, source_at, tell_reason, tell_sketch, tell_unreached,
-};
+use bpf_words::{Spelled, explain_on, source_at, tell_reason, tell_sketch, tell_unreached};
 use std::alloc::Global;
 use std::io::{self, Write};
 
@@ -51,118 +47,6 @@ fn write_source<W: Tell>(out: &mut W, lines: &[u8], error: InferError) {
     let text = source_at(lines, slot);
     if !text.is_empty() {
         write!(out, "slot {slot} is from {text}\n");
-    }
-}
-
-/// Why a place isn't followed through a loop.
-fn write_loss<W: Tell>(out: &mut W, name: Name, loss: Loss) {
-    match loss {
-        Loss::Given => write!(
-            out,
-            "  {name} isn't followed: on some way it is given another value\n"
-        ),
-        Loss::Short { slot } => write!(
-            out,
-            "  {name} isn't followed: slot {slot} computes it in 32 bits, and only 64-bit sums are followed: in C, count in a `u64`\n"
-        ),
-        Loss::Varying { slot } => write!(
-            out,
-            "  {name} isn't followed: what slot {slot} adds or takes isn't a constant\n"
-        ),
-        Loss::Far { slot } => write!(
-            out,
-            "  {name} isn't followed: slot {slot} moves it by more than 1099511627776 in all\n"
-        ),
-        Loss::Above { slot, least, most } => write!(
-            out,
-            "  {name} may pass 2^64: it is u{least}..{most} at slot {slot}; test it against a constant before\n"
-        ),
-        Loss::Below { slot, least, most } => write!(
-            out,
-            "  {name} may fall below 0: it is u{least}..{most} at slot {slot}; test it against a constant before\n"
-        ),
-    }
-}
-
-/// A place that was tried as a counter, and why it isn't one.
-fn write_trial<W: Tell>(out: &mut W, trial: &Trial) {
-    let name = Name(trial.place);
-    match trial.moves {
-        Move::By {
-            least: 0,
-            greatest: 0,
-        } => write!(out, "  {name} stays as it is\n"),
-        Move::By { least, greatest } => write!(
-            out,
-            "  {name} moves by {least} to {greatest} in a round, and a counter must fall in each or rise in each\n"
-        ),
-        Move::Lost(loss) => write_loss(out, name, loss),
-        Move::Pointer => write!(
-            out,
-            "  {name} is a pointer, and only numbers count: count the rounds in a register; where the C source does, compile it with `-mllvm -disable-lsr`\n"
-        ),
-    }
-}
-
-/// The places that were tried as counters of a loop.
-fn write_trials<W: Tell>(out: &mut W, slot: u32, trials: &[Trial]) {
-    write!(
-        out,
-        "nothing counts the rounds of the loop at slot {slot}:\n"
-    );
-    if trials.is_empty() {
-        write!(out, "  no place holds a number there\n");
-    }
-    for trial in trials {
-        write_trial(out, trial);
-    }
-}
-
-/// What begins between a slot and the last way back to it.
-fn write_tangle<W: Tell>(out: &mut W, slot: u32, tangle: Tangle) {
-    match tangle {
-        Tangle::Nested { inner } => write!(
-            out,
-            "another loop begins at slot {inner}, in the loop at slot {slot}: put the inner one into a function\n"
-        ),
-        Tangle::Middle { from, to, back } => write!(
-            out,
-            "slot {from} leads back to slot {to}, in the middle of the loop from slot {slot} to slot {back}: lead it back to slot {slot}, or keep the loops apart\n"
-        ),
-        Tangle::Backward { from } => write!(
-            out,
-            "slot {from} leads back to slot {slot} and makes no loop, but what leads back is taken for one: let the code run on downwards\n"
-        ),
-    }
-}
-
-/// I2: a loop has no counter, or a limit is passed.
-fn write_obstacle<W: Tell>(out: &mut W, slot: u32, obstacle: &Obstacle) {
-    match obstacle {
-        Obstacle::Tangled(tangle) => write_tangle(out, slot, *tangle),
-        Obstacle::NoCounter(trials) => write_trials(out, slot, trials),
-        Obstacle::Limit => write!(
-            out,
-            "the budget at slot {slot} passes a limit: a weight of 1048576, a base of 1099511627776 or 4294967295 steps; a counter's bound isn't known, mostly: test it against a constant before the loop\n"
-        ),
-        Obstacle::Walking { reg, head } => {
-            let name = register(*reg);
-            write!(
-                out,
-                "{name} is a pointer that the loop at slot {head} moves, and only numbers count and have bounds: count the rounds in a register, and add it to a pointer that stays; where the C source does, compile it with `-mllvm -disable-lsr`\n"
-            );
-        }
-    }
-}
-
-/// The same where the search went deeper: what was in the way of the plain one alone isn't told.
-fn write_deep_obstacle<W: Tell>(out: &mut W, slot: u32, obstacle: &Obstacle) {
-    match obstacle {
-        Obstacle::NoCounter(_) | Obstacle::Walking { .. } => write_obstacle(out, slot, obstacle),
-        Obstacle::Tangled(_) | Obstacle::Limit => write!(
-            out,
-            "no budget was found for slot {slot}: let a number fall or rise by a constant in each round of each loop, and test it against a constant before\n"
-        ),
     }
 }
 

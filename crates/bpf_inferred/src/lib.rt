@@ -3,5 +3,6 @@
 #![tactic(auto)]
 
 mod inferred;
+mod obstacles;
 
 pub use inferred::{explain_inferred, explain_searched};

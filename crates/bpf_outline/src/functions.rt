@@ -1,4 +1,4 @@
-//! How deep the calls of a program go.
+//! The call graph of a program: how deep its calls go, and whether one leads back.
 
 use crate::flow::Flow;
 use crate::graph::{Arc, Components, Graph};

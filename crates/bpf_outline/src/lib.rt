@@ -10,10 +10,13 @@ mod graph;
 mod joins;
 mod lines;
 mod lists;
+mod losses;
+mod meter;
 mod outline;
 mod places;
 mod proposal;
 mod quest;
+mod sketch;
 mod watch;
 mod widen;
 
@@ -24,9 +27,14 @@ pub use graph::{Arc, Components, Graph, longest_ways, nodes_on_cycles, number_in
 pub use joins::{join, join_register, join_slots};
 pub use lines::{Line, Span};
 pub use lists::{get_or, put, vacant};
+pub use losses::{Losses, Tracker};
+pub use meter::{DEEP_WORK, LABEL_WORK, MOST_ENTRIES, Meter, PLAIN_WORK, edge_work};
 pub use outline::Outline;
-pub use places::{PLACES, REGISTERS, number_at, number_said, place, pointer_said, tag_own};
+pub use places::{
+    PLACES, REGISTERS, number_at, number_said, place, places_known, pointer_said, tag_own,
+};
 pub use proposal::Proposal;
 pub use quest::Quest;
+pub use sketch::{Limit, Loss, Move, Obstacle, Sketch, Stop, Tangle, Trial};
 pub use watch::{Unwatched, Watch};
 pub use widen::Stops;

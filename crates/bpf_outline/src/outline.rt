@@ -1,4 +1,4 @@
-//! The labels of a program, and the blocks of slots from one to the next.
+//! The labels of a program, and the basic blocks from one to the next.
 
 use crate::flow::Flow;
 use crate::lists::get_or;

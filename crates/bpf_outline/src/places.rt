@@ -4,7 +4,7 @@ ghost use Rattle.bpf_state.specs.State.{IsPlace};
 
 use bpf_insn::Reg;
 use bpf_num::Num;
-use bpf_state::{Entries, Place, RegState, State, Tag};
+use bpf_state::{Entries, Place, RegState, SlotState, State, Tag};
 
 /// How many registers a program may write: r0 to r9.
 pub const REGISTERS: usize = 10;
@@ -45,4 +45,20 @@ pub fn tag_own(state: &mut State, number: usize) {
 /// Whether a label says that a place holds a pointer.
 pub fn pointer_said(label: &Entries, number: usize) -> bool {
     matches!(label.held(place(number)), RegState::Ptr(_))
+}
+
+/// How many places of a state something is known of.
+pub fn places_known(state: &State) -> usize {
+    let mut count = 0usize;
+    for i in 0..REGISTERS {
+        if !matches!(state.reg(Reg::numbered(i as u8)), RegState::Any) {
+            count = count.saturating_add(1);
+        }
+    }
+    for k in 1..65u8 {
+        if !matches!(state.slot(k), SlotState::Bytes(0)) {
+            count = count.saturating_add(1);
+        }
+    }
+    count
 }

@@ -1,4 +1,5 @@
-//! Bounds moved outward, so that states grow but a few times.
+//! Widening with thresholds (Blanchet and others, PLDI 2003): bounds that move are moved on to the next constant of the program,
+//! so that states grow but a few times.
 
 ghost use Rattle.std.specs.Prelude.{◌≤ℤ◌};
 

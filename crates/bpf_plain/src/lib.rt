@@ -4,7 +4,6 @@
 
 mod budgets;
 mod loops;
-mod losses;
 mod plain;
 mod rounds;
 mod sketch;
@@ -12,7 +11,5 @@ mod tangles;
 mod walk;
 mod walkers;
 
-pub use losses::Loss;
 pub use plain::plain_proposal;
-pub use sketch::{Move, Obstacle, Sketch, Trial, sketch_of};
-pub use tangles::Tangle;
+pub use sketch::sketch_of;

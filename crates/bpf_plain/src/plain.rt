@@ -8,7 +8,7 @@ use crate::rounds::{functions_of, states_of};
 use crate::walk::Walked;
 use arrayvec::ArrayVec;
 use bpf_cert::{Budget, Function};
-use bpf_outline::{Outline, Proposal, Quest, Watch, depths_of};
+use bpf_outline::{Meter, Outline, PLAIN_WORK, Proposal, Quest, Watch, depths_of};
 use bpf_proposal::InferError;
 use std::alloc::Global;
 
@@ -54,7 +54,13 @@ pub fn plain_proposal<W: Watch>(
     let depths = depths_of(alloc, quest.program, &outline)?;
     let walk = Walked::new(quest, &outline);
     let start = quest.start();
-    let mut rounds = states_of(alloc, &walk, &depths, &start, watch)?;
+    let mut rounds = states_of(
+        alloc,
+        &walk,
+        &depths,
+        &start,
+        &mut Meter::new(watch, PLAIN_WORK),
+    )?;
     let loops = loops_of(alloc, &walk, &rounds)?;
     let budgets = budgets_of(alloc, &walk, &rounds, loops, &depths)?;
     let steps = u32::try_from(budgets.greatest(0, &start));

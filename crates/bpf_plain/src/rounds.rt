@@ -5,7 +5,8 @@ use arrayvec::ArrayVec;
 use bpf_cert::{Budget, Function, Label};
 use bpf_num::Num;
 use bpf_outline::{
-    Depths, Outline, Stops, Watch, get_or, join, number_said, pointer_said, put, vacant,
+    Depths, LABEL_WORK, Limit, MOST_ENTRIES, Meter, Outline, Stops, Watch, edge_work, get_or, join,
+    number_said, places_known, pointer_said, put, vacant,
 };
 use bpf_proposal::{Condition, InferError};
 use bpf_state::{Entries, State, enter};
@@ -36,12 +37,26 @@ pub struct Rounds {
     stops: Stops,
     /// Where the state at a label is joined with another one.
     room: State,
+    /// The work since it was last told, in slots.
+    work: usize,
+    /// By labels, how many entries each had when it was first reached, and all of them together.
+    counts: Vec<u8>,
+    kept: usize,
+    /// The limit of the search that was passed.
+    pub limit: Option<Limit>,
 }
 
 /// Takes note of an edge that leads back.
 fn add_back(backs: &mut Vec<Option<usize>>, edge: Edge) {
     if let Some(last) = backs.get_mut(edge.to) {
         *last = Some(last.unwrap_or(0).max(edge.from));
+    }
+}
+
+/// I1 at a function's first slot.
+fn unstable(walk: &Walked, function: usize) -> InferError {
+    InferError::Unstable {
+        slot: walk.outline.label(walk.outline.first_block(function)),
     }
 }
 
@@ -74,6 +89,10 @@ impl Rounds {
             alloc,
             stops: Stops::new(alloc),
             room: State::blank(),
+            work: 0,
+            counts: vec![in alloc; 0; count]?,
+            kept: 0,
+            limit: None,
         })
     }
 
@@ -108,13 +127,30 @@ impl Rounds {
 
     /// Takes note that a label is reached in a state.
     pub fn reach(&mut self, block: usize, state: &State, is_wide: bool) -> Result<(), AllocError> {
-        if !self.lies_in(block, state) {
+        let is_changed = !self.lies_in(block, state);
+        self.count(block, state, is_changed);
+        if is_changed {
             let joined = self.joined(block, state, is_wide)?;
             put(&mut self.states, block, Some(joined));
             put(&mut self.changed, block, true);
             self.has_changed = true;
         }
         Ok(())
+    }
+
+    /// Counts the work for an edge into a label, and the label's entries if it is reached for the first time.
+    fn count(&mut self, block: usize, state: &State, is_changed: bool) {
+        if let Some(None) = self.states.get(block) {
+            let entries = places_known(state);
+            self.kept = self.kept.saturating_add(entries);
+            put(
+                &mut self.counts,
+                block,
+                u8::try_from(entries).unwrap_or(u8::MAX),
+            );
+        }
+        let entries = get_or(&self.counts, block, 0) as usize;
+        self.work = self.work.saturating_add(edge_work(entries, is_changed));
     }
 
     /// Makes a state the one at a label, with its numbers tightened. False if it isn't reached.
@@ -152,6 +188,14 @@ impl Rounds {
         room: &mut State,
     ) -> Result<(), InferError> {
         put(&mut self.changed, block, false);
+        let slots = walk
+            .outline
+            .end(block)
+            .saturating_sub(walk.outline.label(block));
+        self.work = self
+            .work
+            .saturating_add(slots as usize)
+            .saturating_add(LABEL_WORK);
         let reached = if self.load(block, room) {
             walk.over(block, room, self)?
         } else {
@@ -161,24 +205,45 @@ impl Rounds {
         Ok(())
     }
 
-    /// Goes over a function's blocks. Those whose states are as they were lead to the same states again. How many were gone
-    /// over.
-    fn round(
+    /// Tells the work for a label that was gone over. I1 at the function's first slot if that passes a limit.
+    fn tell<W: Watch>(
+        &mut self,
+        walk: &Walked,
+        function: usize,
+        meter: &mut Meter<'_, W>,
+    ) -> Result<(), InferError> {
+        meter.tell(1, self.work);
+        self.work = 0;
+        if meter.is_spent() {
+            self.limit = Some(Limit::Work { most: meter.most() });
+        } else if self.kept > MOST_ENTRIES {
+            self.limit = Some(Limit::Entries {
+                most: MOST_ENTRIES as u64,
+            });
+        }
+        match self.limit {
+            Some(_) => Err(unstable(walk, function)),
+            None => Ok(()),
+        }
+    }
+
+    /// Goes over a function's blocks. Those whose states are as they were lead to the same states again.
+    fn round<W: Watch>(
         &mut self,
         walk: &Walked,
         function: usize,
         room: &mut State,
-    ) -> Result<usize, InferError> {
+        meter: &mut Meter<'_, W>,
+    ) -> Result<(), InferError> {
         self.has_changed = false;
-        let mut count = 0usize;
         let end = walk.outline.first_block(function.saturating_add(1));
         for block in walk.outline.first_block(function)..end {
             if get_or(&self.changed, block, false) {
                 self.walk_over(walk, block, room)?;
-                count = count.saturating_add(1);
+                self.tell(walk, function, meter)?;
             }
         }
-        Ok(count)
+        Ok(())
     }
 
     /// Makes the stops, if they aren't made.
@@ -194,7 +259,7 @@ impl Rounds {
         &mut self,
         walk: &Walked,
         function: usize,
-        watch: &mut W,
+        meter: &mut Meter<'_, W>,
     ) -> Result<(), InferError> {
         let mut room = State::blank();
         for round in 1..=ROUNDS {
@@ -202,15 +267,12 @@ impl Rounds {
             if self.is_wide {
                 self.make_stops(walk)?;
             }
-            watch.tell(self.round(walk, function, &mut room)?);
+            self.round(walk, function, &mut room, meter)?;
             if !self.has_changed {
                 return Ok(());
             }
         }
-        let block = walk.outline.first_block(function);
-        Err(InferError::Unstable {
-            slot: walk.outline.label(block),
-        })
+        Err(unstable(walk, function))
     }
 
     /// Goes over the functions of a depth until nothing changes.
@@ -219,11 +281,11 @@ impl Rounds {
         walk: &Walked,
         depths: &Depths,
         depth: u32,
-        watch: &mut W,
+        meter: &mut Meter<'_, W>,
     ) -> Result<(), InferError> {
         for function in 0..walk.outline.function_count() {
             if get_or(depths, function, 0) == depth {
-                self.settle(walk, function, watch)?;
+                self.settle(walk, function, meter)?;
             }
         }
         Ok(())
@@ -251,12 +313,12 @@ pub fn states_of<W: Watch>(
     walk: &Walked,
     depths: &Depths,
     start: &State,
-    watch: &mut W,
+    meter: &mut Meter<'_, W>,
 ) -> Result<Rounds, InferError> {
     let mut rounds = Rounds::new(alloc, walk)?;
     rounds.reach(0, start, false)?;
     for depth in (1..9).rev() {
-        rounds.settle_depth(walk, depths, depth, watch)?;
+        rounds.settle_depth(walk, depths, depth, meter)?;
     }
     rounds.check_reached(walk)?;
     Ok(rounds)

@@ -3,67 +3,17 @@
 ghost use Rattle.std.specs.Prelude.{◌≤◌};
 
 use crate::loops::{Loop, Moves, Search, first_crossing, loop_from, searched};
-use crate::losses::{Loss, Losses, losses_in};
 use crate::rounds::{Rounds, functions_of};
-use crate::tangles::{Tangle, tangle_of};
+use crate::tangles::tangle_of;
 use crate::walk::Walked;
 use crate::walkers::walker_at;
-use bpf_cert::Certificate;
-use bpf_insn::Reg;
-use bpf_outline::{Depths, Outline, PLACES, Quest, Unwatched, depths_of, get_or, place};
+use bpf_outline::{
+    Depths, Loss, Losses, Meter, Move, Obstacle, Outline, PLACES, PLAIN_WORK, Quest, Sketch,
+    Tracker, Trial, Unwatched, depths_of, get_or, place,
+};
 use bpf_proposal::{Condition, InferError};
-use bpf_state::{Place, State, StateFault};
+use bpf_state::{State, StateFault};
 use std::alloc::{AllocError, Global};
-
-/// What a place does in a round of a loop.
-#[derive(Clone, Copy)]
-pub enum Move {
-    /// It moves by a number from the least to the greatest.
-    By { least: i64, greatest: i64 },
-    /// It holds a number, and doesn't hold on each way the number from before and a constant more.
-    Lost(Loss),
-    /// It holds a pointer, and isn't left as it is.
-    Pointer,
-}
-
-impl Move {
-    /// Whether it counts rounds: it falls in each, or rises in each.
-    fn counts(self) -> bool {
-        match self {
-            Move::By { least, greatest } => greatest < 0 || least > 0,
-            Move::Lost(_) | Move::Pointer => false,
-        }
-    }
-}
-
-/// A place that was tried as the counter of a loop.
-#[derive(Clone, Copy)]
-pub struct Trial {
-    pub place: Place,
-    pub moves: Move,
-}
-
-/// What stands in the way of a certificate.
-#[derive(Drop)]
-pub enum Obstacle {
-    /// A limit of certificates is passed.
-    Limit,
-    /// Something begins between the slot and the last way back to it.
-    Tangled(Tangle),
-    /// None of the places that hold numbers falls or rises in each round.
-    NoCounter(Vec<Trial>),
-    /// The loop at the slot moves the pointer in the register, and that one is refused.
-    Walking { reg: Reg, head: u32 },
-}
-
-/// What the inferrer has when it stops.
-#[derive(Drop)]
-pub struct Sketch {
-    /// The functions that were reached, with the states at their labels and budgets of 0.
-    pub certificate: Option<Certificate>,
-    /// What is in the way, where that isn't told by the states alone.
-    pub obstacle: Option<Obstacle>,
-}
 
 /// The rounds, as far as they go; I5 if memory runs out.
 fn rounds_so_far(
@@ -74,8 +24,10 @@ fn rounds_so_far(
 ) -> Result<Rounds, InferError> {
     let mut rounds = Rounds::new(alloc, walk)?;
     rounds.reach(0, start, false)?;
+    let mut nobody = Unwatched;
+    let mut meter = Meter::new(&mut nobody, PLAIN_WORK);
     for depth in (1..9).rev() {
-        match rounds.settle_depth(walk, depths, depth, &mut Unwatched) {
+        match rounds.settle_depth(walk, depths, depth, &mut meter) {
             Ok(()) => {}
             Err(InferError::Memory) => return Err(InferError::Memory),
             Err(_) => break,
@@ -126,6 +78,28 @@ fn search_of(
     }
 }
 
+/// By places, why each isn't followed through a loop.
+fn losses_in(
+    alloc: Global,
+    walk: &Walked,
+    rounds: &Rounds,
+    found: Loop,
+) -> Result<Losses, AllocError> {
+    let mut labels = Vec::new(alloc);
+    for block in found.head..found.last.saturating_add(1) {
+        labels.push(walk.outline.label(block))?;
+    }
+    let mut tracker = Tracker::new(walk.program, walk.least, &labels);
+    let mut room = State::blank();
+    for block in found.head..found.last.saturating_add(1) {
+        if rounds.load(block, &mut room) {
+            let (label, end) = (walk.outline.label(block), walk.outline.end(block));
+            tracker.over(label, end, &mut room);
+        }
+    }
+    Ok(tracker.losses)
+}
+
 /// The places of a loop's head that hold numbers, or pointers that are changed, with what they do in a round.
 fn trials_of(
     alloc: Global,
@@ -135,7 +109,7 @@ fn trials_of(
     search: &Search,
     around: &Moves,
 ) -> Result<Vec<Trial>, AllocError> {
-    let losses = losses_in(walk, rounds, found);
+    let losses = losses_in(alloc, walk, rounds, found)?;
     let mut trials = Vec::new(alloc);
     for number in 0..PLACES {
         if let Some(moves) = move_of(rounds, found, search, around, &losses, number) {
@@ -205,6 +179,7 @@ fn obstacle_of(
             Some((reg, head)) => Some(Obstacle::Walking { reg, head }),
             None => None,
         }),
+        InferError::Unstable { .. } => Ok(rounds.limit.map(Obstacle::Over)),
         _ => Ok(None),
     }
 }
@@ -222,8 +197,5 @@ pub fn sketch_of(alloc: Global, quest: Quest<'_>, error: InferError) -> Result<S
     let mut rounds = rounds_so_far(alloc, &walk, &depths, &start)?;
     let obstacle = obstacle_of(alloc, &walk, &rounds, error)?;
     let functions = functions_of(alloc, &outline, &mut rounds, &depths)?;
-    Ok(Sketch {
-        certificate: Certificate::new(2, quest.least, quest.most, 1, functions).ok(),
-        obstacle,
-    })
+    Ok(Sketch::of(quest.least, quest.most, functions, obstacle))
 }

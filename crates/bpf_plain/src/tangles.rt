@@ -3,21 +3,10 @@
 use crate::loops::Loop;
 use crate::rounds::Rounds;
 use crate::walk::{Edge, Visitor, Walked};
-use bpf_outline::{Arc, Flow, Graph, get_or};
+use bpf_outline::{Arc, Flow, Graph, Tangle, get_or};
 use bpf_proposal::InferError;
 use bpf_state::State;
 use std::alloc::{AllocError, Global};
-
-/// What begins between a slot and the last way back to it. All are slots.
-#[derive(Clone, Copy)]
-pub enum Tangle {
-    /// A loop in the loop.
-    Nested { inner: u32 },
-    /// The jump at `from` leads back to `to`, which lies in front of the way back at `back`.
-    Middle { from: u32, to: u32, back: u32 },
-    /// Nothing leads from the slot to the way back to it, which is the jump at `from`: there is no loop.
-    Backward { from: u32 },
-}
 
 /// The edges from block to block.
 #[derive(Drop)]

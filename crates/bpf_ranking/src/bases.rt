@@ -1,10 +1,9 @@
-//! The bases of budgets, from the last components of a function to the first.
+//! The bases of budgets: longest paths over the components of a function, from the last to the first.
 
 use crate::plan::{Part, Parts, Plan};
 use crate::weights::MOST_PASSES;
 use bpf_cert::{MAX_BASE, MAX_TERMS};
-use bpf_outline::{Components, Counter, Graph, get_or, number_in, put};
-use bpf_proposal::InferError;
+use bpf_outline::{Components, Counter, Graph, Limit, Obstacle, Stop, get_or, number_in, put};
 use bpf_state::Tag;
 use std::alloc::Global;
 
@@ -73,7 +72,7 @@ impl Settling {
     }
 
     /// Finds the bases of a component. I2 at its first label if they aren't found in few passes.
-    fn settle(&mut self, plan: &mut Plan, start: usize, end: usize) -> Result<(), InferError> {
+    fn settle(&mut self, plan: &mut Plan, start: usize, end: usize) -> Result<(), Stop> {
         self.measure_all(plan, start, end);
         let passes = end.saturating_sub(start).saturating_add(2).min(MOST_PASSES);
         for _ in 0..passes {
@@ -81,20 +80,16 @@ impl Settling {
                 return Ok(());
             }
         }
-        Err(InferError::NoBudget {
-            slot: plan.slot(self.node(end.saturating_sub(1))),
-        })
+        Err(Stop::no_budget(
+            plan.slot(self.node(end.saturating_sub(1))),
+            Obstacle::Over(Limit::Passes),
+        ))
     }
 
     // ---- terms of labels behind
 
     /// Puts terms into the place of a label's, and finds its base with them.
-    fn settle_with(
-        &mut self,
-        plan: &mut Plan,
-        index: usize,
-        parts: Parts,
-    ) -> Result<(), InferError> {
+    fn settle_with(&mut self, plan: &mut Plan, index: usize, parts: Parts) -> Result<(), Stop> {
         let label = self.node(index);
         plan.set_parts(label, parts);
         put(&mut plan.bases, label, 0);
@@ -102,7 +97,7 @@ impl Settling {
     }
 
     /// Gives a label outside loops the terms of those behind it, if that doesn't raise its budget.
-    fn lift(&mut self, plan: &mut Plan, index: usize) -> Result<(), InferError> {
+    fn lift(&mut self, plan: &mut Plan, index: usize) -> Result<(), Stop> {
         let label = self.node(index);
         let lifted = lifted_to(plan, label);
         if lifted[0].is_none() || plan.parts(label)[0].is_some() {
@@ -117,28 +112,23 @@ impl Settling {
     }
 
     /// Finds the bases of a component, with lifted terms if that is asked for. I2 at a label with a base above 2^40.
-    fn settle_component(
-        &mut self,
-        plan: &mut Plan,
-        start: usize,
-        end: usize,
-    ) -> Result<(), InferError> {
+    fn settle_component(&mut self, plan: &mut Plan, start: usize, end: usize) -> Result<(), Stop> {
         self.settle(plan, start, end)?;
         if self.lifts && end.saturating_sub(start) == 1 {
             self.lift(plan, start)?;
         }
         for index in start..end {
-            if plan.base(self.node(index)) > MAX_BASE as i128 {
-                return Err(InferError::NoBudget {
-                    slot: plan.slot(self.node(index)),
-                });
+            let (slot, base) = (plan.slot(self.node(index)), plan.base(self.node(index)));
+            if base > MAX_BASE as i128 {
+                let wanted = u64::try_from(base).unwrap_or(u64::MAX);
+                return Err(Stop::no_budget(slot, Obstacle::Over(Limit::Base { wanted })));
             }
         }
         Ok(())
     }
 
     /// Finds the bases of all components, those that the others lead to first.
-    fn settle_all(&mut self, plan: &mut Plan) -> Result<(), InferError> {
+    fn settle_all(&mut self, plan: &mut Plan) -> Result<(), Stop> {
         let mut start = 0usize;
         for index in 0..self.nodes.len() {
             let end = index.saturating_add(1);
@@ -227,7 +217,7 @@ pub fn settle_bases(
     plan: &mut Plan,
     graph: &Graph,
     lifts: bool,
-) -> Result<(), InferError> {
+) -> Result<(), Stop> {
     let components = Components::of(alloc, graph)?;
     let mut settling = Settling {
         nodes: components.nodes(alloc)?,

@@ -10,6 +10,7 @@ mod loops;
 mod plan;
 mod ranking;
 mod regions;
+mod trials;
 mod ways;
 mod weights;
 

@@ -5,7 +5,7 @@ use crate::groups::{Groups, arcs_of};
 use crate::plan::Plan;
 use crate::ways::ways_of;
 use bpf_cert::Function;
-use bpf_outline::{Quest, Watch};
+use bpf_outline::{Meter, Quest, Watch};
 use bpf_proposal::InferError;
 use std::alloc::Global;
 
@@ -15,7 +15,7 @@ fn add_uncounted<W: Watch>(
     draft: Draft,
     number: usize,
     slots: &mut Vec<u32>,
-    watch: &mut W,
+    meter: &mut Meter<'_, W>,
 ) -> Result<(), InferError> {
     let Some(function) = draft.functions.get(number) else {
         return Ok(());
@@ -25,7 +25,7 @@ fn add_uncounted<W: Watch>(
     let ways = ways_of(alloc, draft, number, function, &prices)?;
     let mut plan = Plan::new(alloc, function, &ways)?;
     let graph = arcs_of(alloc, &plan)?;
-    let groups = Groups::of(alloc, &mut plan, &graph, watch)?;
+    let groups = Groups::of(alloc, &mut plan, &graph, meter)?;
     for label in &groups.all_uncounted {
         slots.push(plan.slot(*label))?;
     }
@@ -38,7 +38,7 @@ pub fn uncounted<W: Watch>(
     alloc: Global,
     quest: Quest<'_>,
     functions: &[Function],
-    watch: &mut W,
+    meter: &mut Meter<'_, W>,
 ) -> Result<Vec<u32>, InferError> {
     let labels = labels_by_slots(alloc, quest.program, functions)?;
     let draft = Draft {
@@ -49,7 +49,7 @@ pub fn uncounted<W: Watch>(
     };
     let mut slots = Vec::new(alloc);
     for number in 0..functions.len() {
-        add_uncounted(alloc, draft, number, &mut slots, watch)?;
+        add_uncounted(alloc, draft, number, &mut slots, meter)?;
     }
     Ok(slots)
 }

@@ -3,8 +3,8 @@
 use crate::draft::{Price, span_at};
 use crate::ways::{Way, Ways};
 use bpf_cert::{Function, MAX_TERMS};
-use bpf_outline::{Counter, Line, Span, get_or, number_said, put};
-use bpf_state::Tag;
+use bpf_outline::{Counter, Line, Span, get_or, number_said, pointer_said, put};
+use bpf_state::{State, Tag};
 use std::alloc::{AllocError, Global};
 
 /// A term of the budget at a label: what its place counts there, and the number of its weight.
@@ -79,6 +79,25 @@ impl<'a> Plan<'a> {
     pub fn is_number(&self, label: usize, number: usize) -> bool {
         match self.function.labels.get(label) {
             Some(label) => number_said(&label.state, number).is_some(),
+            None => false,
+        }
+    }
+
+    /// Whether a place holds a pointer at a label.
+    pub fn is_pointer(&self, label: usize, number: usize) -> bool {
+        match self.function.labels.get(label) {
+            Some(label) => pointer_said(&label.state, number),
+            None => false,
+        }
+    }
+
+    /// Makes a state the one at a label, with its numbers tightened. False if there is none.
+    pub fn load(&self, label: usize, room: &mut State) -> bool {
+        match self.function.labels.get(label) {
+            Some(label) => {
+                label.state.put_into(room);
+                room.tighten()
+            }
             None => false,
         }
     }

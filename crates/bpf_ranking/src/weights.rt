@@ -1,11 +1,10 @@
-//! How often the counters of a group are counted.
+//! How often the counters of a group are counted: longest paths to their steps, and halving for the least weights.
 
 use crate::candidates::graph_of;
 use crate::groups::{Counted, Group};
 use crate::plan::Plan;
 use bpf_cert::MAX_WEIGHT;
-use bpf_outline::{Graph, get_or, longest_ways, put};
-use bpf_proposal::InferError;
+use bpf_outline::{Graph, Limit, Obstacle, Stop, get_or, longest_ways, put};
 use std::alloc::{AllocError, Global};
 
 /// The most labels of a region whose weights are made least.
@@ -177,16 +176,16 @@ fn lower(
 
 /// Gives the counters of a group their weights; those of inner groups have theirs. I2 at the lowest label of a group with
 /// a weight above 2^20.
-pub fn weigh(alloc: Global, plan: &mut Plan, group: &Group) -> Result<(), InferError> {
+pub fn weigh(alloc: Global, plan: &mut Plan, group: &Group) -> Result<(), Stop> {
     let lengths = lengths_of(alloc, plan, &group.region.graph)?;
-    let weight = match weight_of(alloc, group, &lengths)? {
-        Some(weight) if weight <= MAX_WEIGHT as i128 => weight,
-        _ => {
-            return Err(InferError::NoBudget {
-                slot: plan.slot(group.region.label(0)),
-            });
-        }
+    let slot = plan.slot(group.region.label(0));
+    let Some(weight) = weight_of(alloc, group, &lengths)? else {
+        return Err(Stop::no_budget(slot, Obstacle::Over(Limit::Passes)));
     };
+    if weight > MAX_WEIGHT as i128 {
+        let wanted = u64::try_from(weight).unwrap_or(u64::MAX);
+        return Err(Stop::no_budget(slot, Obstacle::Over(Limit::Weight { wanted })));
+    }
     for counted in &group.counters {
         plan.set_weight(counted.weight, weight);
     }

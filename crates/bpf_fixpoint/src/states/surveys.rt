@@ -8,7 +8,7 @@ use crate::task::{Task, Watcher};
 use bpf_cert::Function;
 use bpf_insn::{Insn, Reg};
 use bpf_num::Num;
-use bpf_outline::{Depths, Outline, Quest, Watch, depths_of, get_or, put, vacant};
+use bpf_outline::{Depths, Meter, Outline, Quest, Watch, depths_of, get_or, put, vacant};
 use bpf_proposal::{Condition, InferError};
 use bpf_state::{RegState, State};
 use std::alloc::{AllocError, Global};
@@ -167,15 +167,17 @@ impl<'a> Analysis<'a> {
 pub fn surveyed<W: Watch>(
     alloc: Global,
     quest: Quest<'_>,
-    watch: &mut W,
+    meter: &mut Meter<'_, W>,
 ) -> Result<Survey, InferError>
     requires { quest.least ≤ quest.most }
 {
     let outline = Outline::of(alloc, quest.program)?;
     let depths = depths_of(alloc, quest.program, &outline)?;
-    let start = quest.start();
-    let mut analysis = Analysis::new(alloc, quest, &outline)?;
-    analysis.settle(&depths, &start, watch)?;
+    let mut analysis = Analysis::new(alloc, quest, &outline, false)?;
+    match analysis.settle(&depths, &quest.start(), meter) {
+        Ok(()) => {}
+        Err(stop) => return Err(stop.error),
+    }
     let mut survey = analysis.surveyed(&depths)?;
     if analysis.fault().is_none() {
         analysis.spare_all(&depths)?;

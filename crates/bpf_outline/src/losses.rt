@@ -1,29 +1,12 @@
 //! Where a loop loses track of what its places held.
 
-use crate::loops::Loop;
-use crate::rounds::Rounds;
-use crate::walk::Walked;
-use bpf_insn::{AluOp, Insn, Operand, Reg, Width};
+use crate::flow::Flow;
+use crate::lists::get_or;
+use crate::places::{PLACES, place, tag_own};
+use crate::sketch::Loss;
+use bpf_insn::{AluOp, Insn, Operand, Program, Reg, Width};
 use bpf_num::Num;
-use bpf_outline::{Flow, PLACES, get_or, place, tag_own};
 use bpf_state::{Place, RegState, SlotState, State, Tag, branch, leave, transfer};
-
-/// Why a place doesn't hold, on each way, what it held before and a constant more.
-#[derive(Clone, Copy)]
-pub enum Loss {
-    /// On some way it is given another value.
-    Given,
-    /// The instruction at the slot computes it in 32 bits.
-    Short { slot: u32 },
-    /// The instruction at the slot adds or takes what isn't a constant.
-    Varying { slot: u32 },
-    /// The sum at the slot may pass 2^64. In front it is from `least` to `most`.
-    Above { slot: u32, least: u64, most: u64 },
-    /// The difference at the slot may pass 0. In front it is from `least` to `most`.
-    Below { slot: u32, least: u64, most: u64 },
-    /// The instruction at the slot moves it farther than is followed.
-    Far { slot: u32 },
-}
 
 /// By places, why each isn't followed; None of one that is.
 pub type Losses = [Option<Loss>; PLACES];
@@ -103,18 +86,31 @@ fn is_followed(state: &State, number: usize) -> bool {
     }
 }
 
-/// A walk over the blocks of a loop that looks where the numbers of its places are lost.
+/// A walk over a loop, from each of its labels to the next ones, that looks where the numbers of its places are lost.
 #[derive(Drop)]
-struct Tracker<'a> {
-    walk: &'a Walked<'a>,
-    head: usize,
-    last: usize,
-    losses: Losses,
+pub struct Tracker<'a> {
+    program: &'a Program,
+    least: u32,
+    /// The slots of the loop's labels, rising.
+    labels: &'a [u32],
+    /// By places, why each isn't followed through the loop.
+    pub losses: Losses,
     /// By the numbers of tags, why what they stand for was lost in this block.
     lost: [Option<Loss>; TERMS],
 }
 
 impl<'a> Tracker<'a> {
+    /// Nothing is lost yet in a loop with labels at these slots, on contexts of at least so many bytes.
+    pub fn new(program: &'a Program, least: u32, labels: &'a [u32]) -> Self {
+        Tracker {
+            program,
+            least,
+            labels,
+            losses: [None; PLACES],
+            lost: [None; TERMS],
+        }
+    }
+
     /// Takes note that a place is lost. That it is given another value is told first.
     fn lose(&mut self, number: usize, loss: Loss) {
         if let Some(held) = self.losses.get_mut(number) {
@@ -171,8 +167,7 @@ impl<'a> Tracker<'a> {
 
     /// Looks what is lost on an edge to a slot.
     fn arrive(&mut self, to: u32, state: &State) {
-        let block = self.walk.outline.block_of(to);
-        if block < self.head || block > self.last {
+        if self.labels.binary_search(&to).is_err() {
             return;
         }
         for number in 0..PLACES {
@@ -205,8 +200,8 @@ impl<'a> Tracker<'a> {
     /// Does an instruction. Whether the next one is reached.
     fn step(&mut self, slot: u32, insn: &Insn, state: &mut State) -> bool {
         let doubt = doubt_at(slot, insn, state);
-        let order = self.walk.program.order();
-        if !matches!(transfer(insn, self.walk.least, order, state), Ok(true)) {
+        let order = self.program.order();
+        if !matches!(transfer(insn, self.least, order, state), Ok(true)) {
             return false;
         }
         if let Some(doubt) = doubt {
@@ -215,37 +210,16 @@ impl<'a> Tracker<'a> {
         self.follow(slot, insn, state)
     }
 
-    /// Goes over a block from the state at its label.
-    fn over(&mut self, block: usize, state: &mut State) {
+    /// Goes from a label to the slot where the next one stands, in the state at the label.
+    pub fn over(&mut self, label: u32, end: u32, state: &mut State) {
         self.begin(state);
-        let end = self.walk.outline.end(block);
-        for slot in self.walk.outline.label(block)..end {
-            if let Some(insn) = self.walk.program.at(slot) {
+        for slot in label..end {
+            if let Some(insn) = self.program.at(slot) {
                 if !self.step(slot, insn, state) {
                     return;
                 }
             }
         }
-        if end < self.walk.program.slots() {
-            self.arrive(end, state);
-        }
+        self.arrive(end, state);
     }
-}
-
-/// By places, why each isn't followed through a loop.
-pub fn losses_in(walk: &Walked, rounds: &Rounds, found: Loop) -> Losses {
-    let mut tracker = Tracker {
-        walk,
-        head: found.head,
-        last: found.last,
-        losses: [None; PLACES],
-        lost: [None; TERMS],
-    };
-    let mut room = State::blank();
-    for block in found.head..found.last.saturating_add(1) {
-        if rounds.load(block, &mut room) {
-            tracker.over(block, &mut room);
-        }
-    }
-    tracker.losses
 }

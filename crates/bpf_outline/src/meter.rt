@@ -1,0 +1,64 @@
+//! What a search may cost: it is counted, and so the same on every machine.
+
+use crate::watch::Watch;
+
+/// The most that the plain search and the deep one go over, in slots. A label counts as a few slots, and so does what arrives
+/// over an edge.
+pub const PLAIN_WORK: u64 = 16_000_000;
+
+pub const DEEP_WORK: u64 = 40_000_000;
+
+/// The most entries of labels that a search keeps at a time.
+pub const MOST_ENTRIES: usize = 1 << 20;
+
+/// The work for a label beside its slots.
+pub const LABEL_WORK: usize = 3;
+
+/// The work for an edge on which so much is known, in slots: to look at an entry takes an eighth of what a slot does.
+pub fn edge_work(entries: usize, is_changed: bool) -> usize {
+    if is_changed {
+        entries / 2 + 4
+    } else {
+        entries / 8 + 1
+    }
+}
+
+/// Counts the work of a search, and tells it to who watches.
+#[derive(Drop)]
+pub struct Meter<'w, W: Watch> {
+    watch: &'w mut W,
+    most: u64,
+    left: u64,
+}
+
+impl<'w, W: Watch> Meter<'w, W> {
+    /// Nothing was done yet of the work that may be done.
+    pub fn new(watch: &'w mut W, most: u64) -> Self {
+        Meter {
+            watch,
+            most,
+            left: most,
+        }
+    }
+
+    /// The work that may be done.
+    pub fn most(&self) -> u64 {
+        self.most
+    }
+
+    /// So many labels were gone over, with so much work.
+    pub fn tell(&mut self, labels: usize, work: usize) {
+        self.watch.tell(labels);
+        self.left = self.left.saturating_sub(work as u64);
+    }
+
+    /// Whether less than half of the work is left.
+    pub fn is_low(&self) -> bool {
+        self.left < self.most / 2
+    }
+
+    /// Whether no work is left.
+    pub fn is_spent(&self) -> bool {
+        self.left == 0
+    }
+}
