@@ -6,10 +6,12 @@ ghost use Rattle.bpf_cert.specs.Limits.{IsCertificate};
 ghost use Rattle.bpf_proposal.specs.RefusalNumbers.{infer_slot};
 ghost use Rattle.bpf_proposal.specs.declared.error.InferError.TheVariants.{Memory};
 
-use crate::obstacles::{write_deep_obstacle, write_obstacle};
+use crate::obstacles::{write_no_budget, write_obstacle};
 use bpf_cert::Certificate;
 use bpf_check::{Cause, Refusal, cause_of, check};
-use bpf_infer::{Condition, InferError, Quest, Sketch, Watch, infer, search, sketch_of};
+use bpf_infer::{
+    Condition, InferError, Obstacle, Quest, Sketch, Stop, Watch, infer, search_or_stop, sketch_of,
+};
 use bpf_insn::{Code, Insn, Program};
 use bpf_page::{Page, Tell};
 use bpf_words::{Spelled, explain_on, source_at, tell_reason, tell_sketch, tell_unreached};
@@ -68,36 +70,55 @@ fn write_recursion<W: Tell>(out: &mut W, program: &Program, slot: u32) {
     }
 }
 
-/// Tells the reason of a refusal, as far as the program alone tells it.
-fn write_reason<W: Tell>(out: &mut W, program: &Program, error: InferError, effort: Effort) {
-    match (error, effort) {
-        (InferError::Unstable { slot }, Effort::Plain) => write!(
+/// Tells that the states of a function don't settle.
+fn write_unsettled<W: Tell>(out: &mut W, slot: u32, effort: Effort) {
+    match effort {
+        Effort::Plain => write!(
             out,
             "what is known in the function at slot {slot} still changes after 64 rounds\n"
         ),
-        (InferError::Unstable { slot }, Effort::Deep) => write!(
+        Effort::Deep => write!(
             out,
             "what is known in the function at slot {slot} doesn't settle\n"
         ),
-        (InferError::Recursion { slot }, _) => write_recursion(out, program, slot),
-        (
-            InferError::Fault {
-                slot,
-                condition: Condition::LeavesFunction,
-            },
-            _,
-        ) => write!(
+    }
+}
+
+/// Tells why there is no budget, where nothing more is known than whether there are states: before there are, a search is
+/// refused for its calls.
+fn write_unbudgeted<W: Tell>(out: &mut W, slot: u32, has_states: bool) {
+    if has_states {
+        write_no_budget(out, slot);
+    } else {
+        write!(
             out,
-            "slot {slot} jumps out of its function, or goes on into the next one\n"
-        ),
-        (
-            InferError::Fault {
-                condition: Condition::FallsOff,
-                ..
-            },
-            _,
-        ) => tell_unreached(program, out),
-        _ => {}
+            "functions call one another more than 8 deep, or there are more than 256\n"
+        );
+    }
+}
+
+/// Tells the reason of a refusal.
+fn write_reason<W: Tell>(out: &mut W, program: &Program, stop: &Stop, effort: Effort) {
+    let Stop { error, sketch } = stop;
+    match (*error, &sketch.obstacle) {
+        // At the deep search's labels only what is read is known.
+        (InferError::NoBudget { slot }, Some(Obstacle::NoCounter(trials)))
+            if trials.is_empty() && effort == Effort::Deep => { write_no_budget(out, slot) }
+        (_, Some(obstacle)) => write_obstacle(out, error.slot(), obstacle),
+        (InferError::Unstable { slot }, None) => write_unsettled(out, slot, effort),
+        (InferError::NoBudget { slot }, None) => {
+            write_unbudgeted(out, slot, sketch.certificate.is_some())
+        }
+        (InferError::Recursion { slot }, None) => write_recursion(out, program, slot),
+        (InferError::Fault { slot, condition }, None) => match condition {
+            Condition::State(_) => {}
+            Condition::FallsOff => tell_unreached(program, out),
+            Condition::LeavesFunction => write!(
+                out,
+                "slot {slot} jumps out of its function, or goes on into the next one\n"
+            ),
+        },
+        (InferError::Memory, None) => {}
     }
 }
 
@@ -138,13 +159,6 @@ fn may_be_found(program: &Program, error: InferError) -> bool {
     }
 }
 
-/// Tells to search deeper, where that may help.
-fn write_hint<W: Tell>(out: &mut W, program: &Program, error: InferError, effort: Effort) {
-    if effort == Effort::Plain && may_be_found(program, error) {
-        write!(out, "or try --deep: it searches longer, and finds more\n");
-    }
-}
-
 /// The flaw that the checker would name, where a refusal says so.
 fn flaw_of(error: InferError) -> Option<Refusal> {
     let InferError::Fault { slot, condition } = error else {
@@ -158,20 +172,16 @@ fn flaw_of(error: InferError) -> Option<Refusal> {
     Some(Refusal { slot, cause })
 }
 
-/// Tells the states that the plain inferrer has, and what is in the way of a refusal.
-fn write_sketch<W: Tell>(
+/// Tells the states that a search has, the refusal, and its flaw in these states.
+fn write_states<W: Tell>(
     out: &mut W,
     program: &Program,
     sketch: &Sketch,
     lines: &[u8],
     error: InferError,
-    effort: Effort,
 ) {
-    let (slot, flaw) = (error.slot(), flaw_of(error));
+    let flaw = flaw_of(error);
     if let Some(certificate) = &sketch.certificate {
-        if effort == Effort::Deep {
-            write!(out, "as far as the plain search sees:\n");
-        }
         tell_sketch(program, certificate, lines, flaw, out);
     }
     write_refusal(out, error);
@@ -179,22 +189,15 @@ fn write_sketch<W: Tell>(
         tell_reason(program, certificate, lines, flaw, out);
     }
     write_source(out, lines, error);
-    match (&sketch.obstacle, effort) {
-        (Some(obstacle), Effort::Plain) => write_obstacle(out, slot, obstacle),
-        (Some(obstacle), Effort::Deep) => write_deep_obstacle(out, slot, obstacle),
-        (None, _) => {}
-    }
 }
 
-/// A refusal before there are states: of calls, or of jumps out of a function.
-fn write_unseen<W: Tell>(out: &mut W, program: &Program, error: InferError, effort: Effort) {
-    write_refusal(out, error);
-    match error {
-        InferError::NoBudget { .. } => write!(
-            out,
-            "functions call one another more than 8 deep, or there are more than 256\n"
-        ),
-        _ => write_reason(out, program, error, effort),
+/// Tells what a search had where it stopped, and why it stopped; of the plain one, that the deep one may find more.
+fn write_stop<W: Tell>(out: &mut W, program: &Program, stop: &Stop, lines: &[u8], effort: Effort) {
+    write_states(out, program, &stop.sketch, lines, stop.error);
+    write_reason(out, program, stop, effort);
+    let has_states = stop.sketch.certificate.is_some();
+    if effort == Effort::Plain && has_states && may_be_found(program, stop.error) {
+        write!(out, "or try --deep: it searches longer, and finds more\n");
     }
 }
 
@@ -212,67 +215,75 @@ fn explain_certified<W: Tell>(
     explain_on(program, certificate, lines, refusal, out);
 }
 
-/// What a certificate is sought for, and how.
-#[derive(Clone, Copy)]
-struct Sought<'a> {
-    alloc: Global,
-    quest: Quest<'a>,
+/// Explains what a search found, with a table of source lines, in pieces of up to 4,096 bytes. What was found, or the refusal.
+fn explain<W: Write>(
+    out: &mut W,
+    program: &Program,
+    found: Result<Certificate, Stop>,
+    lines: &[u8],
     effort: Effort,
-    /// A table of source lines.
-    lines: &'a [u8],
+) -> io::Result<Result<Certificate, InferError>>
+    ensures found { IfOk result (λ told. IfOk told (λ c. found ≡ Ok c)) }
+    ensures refused { IfOk result (λ told. IfErr told (λ e. IsErrAnd found (λ s. e ≡ s.error))) }
+{
+    let mut page = Page::new(out);
+    let told = match found {
+        Ok(certificate) => {
+            explain_certified(program, &certificate, lines, &mut page);
+            Ok(certificate)
+        }
+        Err(stop) => {
+            write_stop(&mut page, program, &stop, lines, effort);
+            Err(stop.error)
+        }
+    };
+    page.finish()?;
+    Ok(told)
 }
 
-impl<'a> Sought<'a> {
-    /// Tells what the inferrer has of a program that it refuses. The refusal: I5 where memory runs out meanwhile.
-    fn write_refused<W: Tell>(&self, error: InferError, out: &mut W) -> InferError
-        requires order { self.now.quest.least ≤ self.now.quest.most }
-        requires short { self.now.quest.most ≤ 4096 }
-        ensures { (result ≡ error) ⊎ (result ≡ Memory) }
-    {
-        let (program, effort) = (self.quest.program, self.effort);
-        let sketch = match error {
-            InferError::Memory => Err(error),
-            _ => sketch_of(self.alloc, self.quest, error),
-        };
-        match sketch {
-            Ok(sketch) => {
-                write_sketch(out, program, &sketch, self.lines, error, effort);
-                write_reason(out, program, error, effort);
-                write_hint(out, program, error, effort);
-                error
-            }
-            Err(InferError::Memory) => {
-                write_refusal(out, InferError::Memory);
-                InferError::Memory
-            }
-            Err(_) => {
-                write_unseen(out, program, error, effort);
-                error
-            }
-        }
+/// What the plain inferrer had where it refused a program. I5 where memory runs out meanwhile.
+fn stop_of(alloc: Global, quest: Quest<'_>, error: InferError) -> Stop
+    requires order { quest.least ≤ quest.most }
+    requires short { quest.most ≤ 4096 }
+    ensures { (result.error ≡ error) ⊎ (result.error ≡ Memory) }
+{
+    let sketch = match error {
+        InferError::Memory => Err(error),
+        _ => sketch_of(alloc, quest, error),
+    };
+    match sketch {
+        Ok(sketch) => Stop { error, sketch },
+        Err(InferError::Memory) => Stop {
+            error: InferError::Memory,
+            sketch: Sketch::nothing(),
+        },
+        Err(_) => Stop {
+            error,
+            sketch: Sketch::nothing(),
+        },
     }
+}
 
-    /// Explains what a search found, in pieces of up to 4,096 bytes. What was found, or the refusal as it is told.
-    fn explain<W: Write>(
-        &self,
-        found: Result<Certificate, InferError>,
-        out: &mut W,
-    ) -> io::Result<Result<Certificate, InferError>>
-        requires order { self.now.quest.least ≤ self.now.quest.most }
-        requires short { self.now.quest.most ≤ 4096 }
-        ensures found { IfOk result (λ told. IfOk told (λ c. found ≡ Ok c)) }
-        ensures refused { IfOk result (λ told. IfErr told (λ e. IsErrAnd found (λ f. (e ≡ f) ⊎ (e ≡ Memory)))) }
-    {
-        let mut page = Page::new(out);
-        let told = match found {
-            Ok(certificate) => {
-                explain_certified(self.quest.program, &certificate, self.lines, &mut page);
-                Ok(certificate)
-            }
-            Err(error) => Err(self.write_refused(error, &mut page)),
-        };
-        page.finish()?;
-        Ok(told)
+/// What the deep search had where it stopped; of an access that is refused also which loop moves its pointer, where the plain
+/// inferrer sees one.
+fn with_walk(alloc: Global, quest: Quest<'_>, stop: Stop) -> Stop
+    requires order { quest.least ≤ quest.most }
+    requires short { quest.most ≤ 4096 }
+    ensures { result.error ≡ stop.error }
+{
+    if !matches!(stop.error, InferError::Fault { .. }) {
+        return stop;
+    }
+    let Ok(plain) = sketch_of(alloc, quest, stop.error) else {
+        return stop;
+    };
+    let Stop { error, sketch } = stop;
+    Stop {
+        error,
+        sketch: Sketch {
+            certificate: sketch.certificate,
+            obstacle: plain.obstacle,
+        },
     }
 }
 
@@ -299,17 +310,14 @@ pub fn explain_inferred<W: Write>(
         least,
         most,
     };
-    let sought = Sought {
-        alloc,
-        quest,
-        effort: Effort::Plain,
-        lines: &[],
+    let found = match infer(alloc, program, least, most) {
+        Ok(certificate) => Ok(certificate),
+        Err(error) => Err(stop_of(alloc, quest, error)),
     };
-    sought.explain(infer(alloc, program, least, most), out)
+    explain(out, program, found, &[], Effort::Plain)
 }
 
-/// Explains the same of the deep search, with the plain inferrer's states where it proposes none. Who watches is told how far
-/// it is.
+/// Explains the same of the deep search, with its own states where it proposes none. Who watches is told how far it is.
 pub fn explain_searched<W: Write, H: Watch>(
     alloc: Global,
     program: &Program,
@@ -331,11 +339,9 @@ pub fn explain_searched<W: Write, H: Watch>(
         least,
         most,
     };
-    let sought = Sought {
-        alloc,
-        quest,
-        effort: Effort::Deep,
-        lines: &[],
+    let found = match search_or_stop(alloc, program, least, most, watch) {
+        Ok(certificate) => Ok(certificate),
+        Err(stop) => Err(with_walk(alloc, quest, stop)),
     };
-    sought.explain(search(alloc, program, least, most, watch), out)
+    explain(out, program, found, &[], Effort::Deep)
 }

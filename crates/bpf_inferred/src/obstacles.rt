@@ -148,15 +148,10 @@ pub fn write_obstacle<W: Tell>(out: &mut W, slot: u32, obstacle: &Obstacle) {
     }
 }
 
-/// The same where the search went deeper: what was in the way of the plain one alone isn't told.
-pub fn write_deep_obstacle<W: Tell>(out: &mut W, slot: u32, obstacle: &Obstacle) {
-    match obstacle {
-        Obstacle::NoCounter(_) | Obstacle::Over(_) | Obstacle::Walking { .. } => {
-            write_obstacle(out, slot, obstacle)
-        }
-        Obstacle::Tangled(_) | Obstacle::Limit => write!(
-            out,
-            "no budget was found for slot {slot}: let a number fall or rise by a constant in each round of each loop, and test it against a constant before\n"
-        ),
-    }
+/// I2 where nothing more is known.
+pub fn write_no_budget<W: Tell>(out: &mut W, slot: u32) {
+    write!(
+        out,
+        "no budget was found for slot {slot}: let a number fall or rise by a constant in each round of each loop, and test it against a constant before\n"
+    );
 }
