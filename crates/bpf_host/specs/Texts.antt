@@ -57,15 +57,15 @@ inference_texts =
 -- F1 to F9: a run
 abbrev pub fault_texts : List (List ℕ)
 fault_texts =
-    codes "a register is read that holds nothing" ∷
-    codes "a stack byte is read that holds nothing" ∷
-    codes "an access isn't wholly inside the context or a live frame" ∷
+    codes "an uninitialised register is read" ∷
+    codes "an uninitialised byte of a frame is read" ∷
+    codes "the access isn't wholly inside the context or a live frame" ∷
     codes "the context is written" ∷
     codes "r10 is written" ∷
     codes "an operand is of the wrong kind" ∷
-    codes "a call with eight live frames" ∷
-    codes "the slot is past the last instruction" ∷
-    codes "r0 is a pointer at an exit" ∷
+    codes "a call is made with eight live frames" ∷
+    codes "the run is past the last instruction" ∷
+    codes "r0 is a pointer at the exit" ∷
     []
 
 -- the text with a number, the first being 1; none is empty

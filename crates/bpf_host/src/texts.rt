@@ -88,15 +88,15 @@ fn of_fault(number: u32) -> Option<&'static [u8]>
     ensures words { MatchOption result (text_in fault_texts number ≡ []) (λ words. words.now ≡ text_in fault_texts number) }
 {
     match number {
-        1 => Some(b"a register is read that holds nothing"),
-        2 => Some(b"a stack byte is read that holds nothing"),
-        3 => Some(b"an access isn't wholly inside the context or a live frame"),
+        1 => Some(b"an uninitialised register is read"),
+        2 => Some(b"an uninitialised byte of a frame is read"),
+        3 => Some(b"the access isn't wholly inside the context or a live frame"),
         4 => Some(b"the context is written"),
         5 => Some(b"r10 is written"),
         6 => Some(b"an operand is of the wrong kind"),
-        7 => Some(b"a call with eight live frames"),
-        8 => Some(b"the slot is past the last instruction"),
-        9 => Some(b"r0 is a pointer at an exit"),
+        7 => Some(b"a call is made with eight live frames"),
+        8 => Some(b"the run is past the last instruction"),
+        9 => Some(b"r0 is a pointer at the exit"),
         _ => None,
     }
 }
