@@ -194,7 +194,7 @@ def texts():
         number, _, text = line.partition(' ')
         told[number[0]].append(text)
         assert number[1:] == str(len(told[number[0]])), line
-    image, inference = errors_of('bpf_insn', 'refusal.rt'), errors_of('bpf_proposal', 'error.rt')
+    image, inference = errors_of('bpf_insn', 'refusal.rt'), errors_of('bpf_infer_error', 'error.rt')
     of_slot, of_image = image[:6], image[10:]
     inference[3] = told['I'][3]
     want = {

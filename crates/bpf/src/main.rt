@@ -1,7 +1,7 @@
 //! The command `bpf`: a toolchain for eBPF programs that hosts can trust.
 #![tactic(auto)]
 
-use bpf_command::{FAILED, Failure, FileStreams, Progress, respond, tell};
+use bpf_command::{FAILED, Failure, FilePlaces, Progress, respond, tell};
 use std::process::ExitCode;
 use std::rt::Env;
 use std::{env, io};
@@ -18,7 +18,7 @@ fn main(rt: HostRuntime) -> ExitCode {
         Ok(words) => respond(
             rt.alloc(),
             &words,
-            &mut FileStreams::new(&rt, rt.alloc(), rt.stdin(), rt.stdout()),
+            &mut FilePlaces::new(&rt, rt.alloc(), rt.stdin(), rt.stdout()),
             &mut out,
             &mut err,
             &mut Progress::new(&rt, rt.stderr()),

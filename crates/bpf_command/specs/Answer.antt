@@ -18,9 +18,9 @@ use Rattle.bpf_cert.specs.RefusalNumbers.{refusal_number as cert_number, refusal
 use Rattle.bpf_cert.specs.declared.error.CertError.{CertError}
 use Rattle.bpf_check.specs.RefusalNumbers.{refusal_number as check_number, refusal_slot as check_slot}
 use Rattle.bpf_check.specs.declared.refusal.Refusal.{Refusal}
-use Rattle.bpf_proposal.specs.RefusalNumbers.{condition_number}
-use Rattle.bpf_proposal.specs.declared.error.InferError.{InferError}
-use Rattle.bpf_proposal.specs.declared.error.InferError.TheVariants.{Unstable, NoBudget, Recursion, Fault as NoState, Memory as InferMemory}
+use Rattle.bpf_infer_error.specs.RefusalNumbers.{condition_number}
+use Rattle.bpf_infer_error.specs.declared.error.InferError.{InferError}
+use Rattle.bpf_infer_error.specs.declared.error.InferError.TheVariants.{Unstable, NoBudget, Recursion, Fault as NoState, Memory as InferMemory}
 use Rattle.bpf_machine.specs.declared.outcome.Outcome.{Outcome}
 use Rattle.bpf_machine.specs.declared.outcome.Outcome.TheVariants.{Done as DoneRun, Fault as FaultRun, OutOfFuel}
 

@@ -3,7 +3,7 @@ use Rattle.std.specs.Prelude.{◌≡◌, ◌⊎◌, ℕ, Bool, true, false, List
 use Rattle.std.specs.Io.KnownBytes.{Appends}
 use Rattle.bpf_insn.specs.Written.{AppendsBeginning}
 
--- From streams, a name and bytes lead to the streams in which the bytes stand at the name, or to those in which they could not be put
+-- From places, a name and bytes lead to the places in which the bytes stand at the name, or to those in which they could not be put
 -- there.
 abbrev pub Making : Type 0 → Type 1
 Making S = S → List ℕ → List ℕ → Bool → S → Type 0

@@ -7,8 +7,8 @@ use Rattle.bpf_insn.specs.Reading.{ReadsImage}
 abbrev pub Fails : Option (List ℕ) → Type 0
 Fails known = (given : List ℕ) × IfSome known (λ bytes. StartsWith bytes given)
 
--- From streams, a name leads to the bytes of a reader, as far as they are known, or to None where it can't be opened; and
--- to the streams after it.
+-- From places, a name leads to the bytes of a reader, as far as they are known, or to None where it can't be opened; and
+-- to the places after it.
 abbrev pub Opening : Type 0 → Type 1
 Opening S = S → List ℕ → Option (Option (List ℕ)) → S → Type 0
 

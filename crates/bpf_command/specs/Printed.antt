@@ -18,7 +18,7 @@ use Rattle.bpf_check.specs.CheckedProgram.{CheckedProgram, IsCertifiedBy, checke
 use Rattle.bpf_check.specs.RefusalNumbers.{refusal_slot, refusal_number}
 use Rattle.bpf_flat.specs.Runs.{RunsTo}
 use Rattle.bpf_check.specs.Verdicts.{Verified}
-use Rattle.bpf_proposal.specs.RefusalNumbers.{infer_slot}
+use Rattle.bpf_infer_error.specs.RefusalNumbers.{infer_slot}
 use Rattle.bpf_command.specs.Context.{context_in, max_context}
 use Rattle.bpf_command.specs.declared.context.ContextError.{ContextError}
 use Rattle.bpf_command.specs.declared.context.ContextError.TheVariants.{Memory as NoSpace}

@@ -1,4 +1,4 @@
-//! The commands, each a function from streams to a status.
+//! The commands, each a function from places to a status.
 
 mod asm;
 mod certificate;

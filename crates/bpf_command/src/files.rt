@@ -2,7 +2,7 @@
 
 ghost use Rattle.std.specs.Prelude.{◌≡◌};
 
-use crate::streams::Streams;
+use crate::places::Places;
 use std::alloc::Global;
 use std::fs::{self, File, OpenFile};
 use std::io::{self, Read, Stdin, Stdout, Write};
@@ -56,19 +56,19 @@ impl<F: Write + Drop> Write for FileWriter<F> {
 
 /// The files of the system, and `-` for standard input and output.
 #[derive(Drop)]
-pub struct FileStreams<'a, R: Files> {
+pub struct FilePlaces<'a, R: Files> {
     runtime: &'a R,
     alloc: Global,
     input: Stdin,
     output: Stdout,
 }
 
-impl<'a, R: Files> FileStreams<'a, R> {
+impl<'a, R: Files> FilePlaces<'a, R> {
     /// The files that the runtime reaches, and these streams.
     pub fn new(runtime: &'a R, alloc: Global, input: Stdin, output: Stdout) -> Self
         ensures { result.runtime ≡ runtime.entry }
     {
-        FileStreams {
+        FilePlaces {
             runtime,
             alloc,
             input,
@@ -84,7 +84,7 @@ impl<'a, R: Files> FileStreams<'a, R> {
     }
 }
 
-impl<'a, R: Files> Streams for FileStreams<'a, R> {
+impl<'a, R: Files> Places for FilePlaces<'a, R> {
     type Reader = FileReader<R::File>;
 
     type Writer = FileWriter<R::File>;

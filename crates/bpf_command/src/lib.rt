@@ -1,4 +1,4 @@
-//! The command `bpf` over streams: what each command answers, prints and writes. The program `bpf` joins it with the system.
+//! The command `bpf` over places that are named: what each command answers, prints and writes. The program `bpf` joins it with the system.
 #![tactic(auto)]
 
 mod commands;
@@ -6,14 +6,14 @@ mod context;
 mod failure;
 mod files;
 mod keeping;
+mod places;
 mod progress;
 mod reading;
 mod response;
-mod streams;
 
 pub use context::{ContextError, context_of};
 pub use failure::{FAILED, Failure, tell};
-pub use files::FileStreams;
+pub use files::FilePlaces;
+pub use places::Places;
 pub use progress::Progress;
 pub use response::respond;
-pub use streams::Streams;

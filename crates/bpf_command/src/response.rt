@@ -11,7 +11,7 @@ use crate::commands::{
     assembled, checked, explained, grouped, inferred, listed, migrated, ran_checked_on, ran_on,
 };
 use crate::failure::{BAD_WORDS, FAILED, Failure, tell};
-use crate::streams::Streams;
+use crate::places::Places;
 use bpf_infer::Watch;
 use bpf_request::{Request, Subject, request_of};
 use clap::error::ErrorKind;
@@ -87,47 +87,47 @@ fn conflict_in(request: Request<'_>) -> Option<Failure<'static>>
 }
 
 /// Does what is asked for.
-fn carry_out<'a, P: Streams, W: Write, H: Watch>(
+fn carry_out<'a, P: Places, W: Write, H: Watch>(
     alloc: Global,
     request: Request<'a>,
-    streams: &mut P,
+    places: &mut P,
     out: &mut W,
     watch: &mut H,
 ) -> Result<u8, Failure<'a>>
-    ensures ok { IfOk result (Does (opening P.opens P.Reader.remaining) (making P.creates P.ends P.Writer.contents) streams.old streams.new (W.contents out.old) (W.contents out.new) request.entry) }
-    ensures err { IfErr result (Misses (opening P.opens P.Reader.remaining) (making P.creates P.ends P.Writer.contents) streams.old streams.new (W.contents out.old) (W.contents out.new) request.entry) }
+    ensures ok { IfOk result (Does (opening P.opens P.Reader.remaining) (making P.creates P.ends P.Writer.contents) places.old places.new (W.contents out.old) (W.contents out.new) request.entry) }
+    ensures err { IfErr result (Misses (opening P.opens P.Reader.remaining) (making P.creates P.ends P.Writer.contents) places.old places.new (W.contents out.old) (W.contents out.new) request.entry) }
 {
     match request {
-        Request::Groups { input, order } => grouped(alloc, streams, out, input, order),
+        Request::Groups { input, order } => grouped(alloc, places, out, input, order),
         Request::Asm {
             input,
             output,
             order,
-        } => assembled(alloc, streams, out, input, output, order),
+        } => assembled(alloc, places, out, input, output, order),
         Request::List {
             input,
             slots,
             bytes,
             order,
-        } => listed(alloc, streams, out, input, slots, bytes, order),
+        } => listed(alloc, places, out, input, slots, bytes, order),
         Request::Run {
             input,
             contexts,
             steps,
             order,
-        } => ran_on(alloc, streams, out, input, contexts, steps, order),
+        } => ran_on(alloc, places, out, input, contexts, steps, order),
         Request::Check {
             input,
             certificate,
             work,
             order,
-        } => checked(alloc, streams, out, input, certificate, order, work),
+        } => checked(alloc, places, out, input, certificate, order, work),
         Request::RunChecked {
             input,
             certificate,
             contexts,
             order,
-        } => ran_checked_on(alloc, streams, out, input, certificate, contexts, order),
+        } => ran_checked_on(alloc, places, out, input, certificate, contexts, order),
         Request::Infer {
             input,
             least,
@@ -136,34 +136,34 @@ fn carry_out<'a, P: Streams, W: Write, H: Watch>(
             output,
             order,
         } => inferred(
-            alloc, streams, out, watch, input, least, most, deep, output, order,
+            alloc, places, out, watch, input, least, most, deep, output, order,
         ),
         Request::Explain {
             input,
             subject,
             order,
-        } => explained(alloc, streams, out, watch, input, subject, order),
+        } => explained(alloc, places, out, watch, input, subject, order),
         Request::Migrate {
             certificate,
             output,
-        } => migrated(alloc, streams, out, certificate, output),
+        } => migrated(alloc, places, out, certificate, output),
     }
 }
 
 /// Does what is asked for, unless two words can't stand together.
-fn perform<'a, P: Streams, W: Write, H: Watch>(
+fn perform<'a, P: Places, W: Write, H: Watch>(
     alloc: Global,
     request: Request<'a>,
-    streams: &mut P,
+    places: &mut P,
     out: &mut W,
     watch: &mut H,
 ) -> Result<u8, Failure<'a>>
-    ensures ok { IfOk result (λ status. (conflict_of request.entry ≡ None) × Does (opening P.opens P.Reader.remaining) (making P.creates P.ends P.Writer.contents) streams.old streams.new (W.contents out.old) (W.contents out.new) request.entry status) }
-    ensures err { IfErr result (Fails (opening P.opens P.Reader.remaining) (making P.creates P.ends P.Writer.contents) streams.old streams.new (W.contents out.old) (W.contents out.new) request.entry) }
+    ensures ok { IfOk result (λ status. (conflict_of request.entry ≡ None) × Does (opening P.opens P.Reader.remaining) (making P.creates P.ends P.Writer.contents) places.old places.new (W.contents out.old) (W.contents out.new) request.entry status) }
+    ensures err { IfErr result (Fails (opening P.opens P.Reader.remaining) (making P.creates P.ends P.Writer.contents) places.old places.new (W.contents out.old) (W.contents out.new) request.entry) }
 {
     match conflict_in(request) {
         Some(conflict) => Err(conflict),
-        None => carry_out(alloc, request, streams, out, watch),
+        None => carry_out(alloc, request, places, out, watch),
     }
 }
 
@@ -179,15 +179,15 @@ fn fail<E: Write>(failure: Failure<'_>, err: &mut E) -> u8
 
 /// Does what the words ask for, the command's own name first, and answers the status: 0 done, 1 refused, 2 words that are
 /// not understood, 3 where a file, the output or memory failed. Who watches is told how far a search is.
-pub fn respond<P: Streams, W: Write, E: Write, H: Watch>(
+pub fn respond<P: Places, W: Write, E: Write, H: Watch>(
     alloc: Global,
     words: &[String],
-    streams: &mut P,
+    places: &mut P,
     out: &mut W,
     err: &mut E,
     watch: &mut H,
 ) -> u8
-    ensures { Responds (Does (opening P.opens P.Reader.remaining) (making P.creates P.ends P.Writer.contents) streams.old streams.new (W.contents out.old) (W.contents out.new)) (Fails (opening P.opens P.Reader.remaining) (making P.creates P.ends P.Writer.contents) streams.old streams.new (W.contents out.old) (W.contents out.new)) (map (λ s. string_bytes s) words.now) result (E.contents err.old) (E.contents err.new) }
+    ensures { Responds (Does (opening P.opens P.Reader.remaining) (making P.creates P.ends P.Writer.contents) places.old places.new (W.contents out.old) (W.contents out.new)) (Fails (opening P.opens P.Reader.remaining) (making P.creates P.ends P.Writer.contents) places.old places.new (W.contents out.old) (W.contents out.new)) (map (λ s. string_bytes s) words.now) result (E.contents err.old) (E.contents err.new) }
 {
     let request = match request_of(alloc, words) {
         Ok(request) => request,
@@ -199,7 +199,7 @@ pub fn respond<P: Streams, W: Write, E: Write, H: Watch>(
             return BAD_WORDS;
         }
     };
-    match perform(alloc, request, streams, out, watch) {
+    match perform(alloc, request, places, out, watch) {
         Ok(status) => status,
         Err(failure) => fail(failure, err),
     }

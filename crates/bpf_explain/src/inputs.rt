@@ -9,9 +9,9 @@ ghost use Rattle.bpf_cert.specs.Certificates.{Spells};
 ghost use Rattle.bpf_cert.specs.ReadAnswers.{IsFaultOf};
 
 use bpf_cert::{CertError, read};
+use bpf_explain_inputs::{write_counts, write_fault, write_refusal};
+use bpf_explain_program::write_alone;
 use bpf_insn::{DecodeError, Order, ProgramView};
-use bpf_refusals::{write_counts, write_fault, write_refusal};
-use bpf_words::write_alone;
 use std::alloc::Global;
 use std::io::{self, Write};
 

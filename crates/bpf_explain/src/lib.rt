@@ -5,8 +5,8 @@
 mod inputs;
 mod program;
 
-pub use bpf_inferred::{explain_inferred, explain_searched};
-pub use bpf_refusals::explain_text;
-pub use bpf_words::dot_plain;
+pub use bpf_explain_inputs::explain_text;
+pub use bpf_explain_program::dot_plain;
+pub use bpf_explain_search::{explain_inferred, explain_searched};
 pub use inputs::{explain_certificate, explain_image};
 pub use program::{Shown, explain};

@@ -7,8 +7,8 @@ ghost use Rattle.bpf_check.specs.RefusalNumbers.{refusal_number, refusal_slot};
 
 use bpf_cert::Certificate;
 use bpf_check::{Refusal, check};
+use bpf_explain_program::{write_dot, write_explanation, write_slot};
 use bpf_insn::Code;
-use bpf_words::{write_dot, write_explanation, write_slot};
 use std::io::{self, Write};
 
 /// What is written of a program with a certificate, in words for people.

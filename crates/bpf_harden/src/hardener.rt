@@ -8,8 +8,8 @@ use crate::rounds::{certified, guard_all, guarded_everywhere};
 use bpf_harden_notes::{HardenError, Hardened, Options};
 use bpf_harden_plan::{Old, Plan};
 use bpf_infer::search;
+use bpf_infer_base::{Quest, Unwatched};
 use bpf_insn::{Code, Program};
-use bpf_outline::{Quest, Unwatched};
 use std::alloc::{AllocError, Global};
 
 /// The same program once more.

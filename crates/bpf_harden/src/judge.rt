@@ -3,13 +3,13 @@
 ghost use Rattle.std.specs.Prelude.{◌≤◌};
 
 use bpf_cert::{Certificate, Function};
-use bpf_fixpoint::{Survey, surveyed};
 use bpf_harden_notes::HardenError;
 use bpf_harden_plan::{Old, Plan, Rooms, refusal};
 use bpf_harden_text::{Draft, emitted};
-use bpf_outline::{DEEP_WORK, Meter, Quest, Unwatched, Watch};
-use bpf_proposal::InferError;
-use bpf_ranking::{ranked, uncounted};
+use bpf_infer_base::{DEEP_WORK, Meter, Quest, Unwatched, Watch};
+use bpf_infer_budgets::{ranked, uncounted};
+use bpf_infer_error::InferError;
+use bpf_infer_states::{Survey, surveyed};
 use std::alloc::Global;
 
 /// What the deep search says of a program's loops.

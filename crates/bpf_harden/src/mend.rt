@@ -3,8 +3,8 @@
 use crate::judge::Trial;
 use bpf_harden_notes::{Change, HardenError};
 use bpf_harden_plan::{Guard, Kind, Old, Plan};
+use bpf_infer_error::Condition;
 use bpf_insn::{Insn, Reg};
-use bpf_proposal::Condition;
 use bpf_state::{RegState, StateFault};
 
 /// A fault of the new text, by the old instruction that it belongs to.

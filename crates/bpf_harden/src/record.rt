@@ -3,7 +3,7 @@
 use bpf_harden_notes::{FunctionNote, HardenError, Hardened, Note};
 use bpf_harden_plan::{Old, Rooms};
 use bpf_harden_text::Draft;
-use bpf_outline::get_or;
+use bpf_infer_base::get_or;
 use std::alloc::{AllocError, Global};
 
 /// What was done at each slot of a new program.

@@ -8,8 +8,8 @@ use crate::wide::widen_all;
 use bpf_harden_notes::{HardenError, Hardened};
 use bpf_harden_plan::{Guard, Kind, Old, Plan, Rooms};
 use bpf_harden_text::emitted;
+use bpf_infer_base::Flow;
 use bpf_insn::Reg;
-use bpf_outline::Flow;
 use std::alloc::Global;
 
 /// The most rounds. A round mends all faults or counts all loops of a depth, so few are needed.

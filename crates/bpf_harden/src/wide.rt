@@ -1,8 +1,8 @@
 //! 32-bit operations that can't wrap, as 64-bit ones, which counters may use.
 
-use bpf_fixpoint::Survey;
 use bpf_harden_plan::{Old, Plan};
 use bpf_harden_text::Draft;
+use bpf_infer_states::Survey;
 use bpf_insn::{AluOp, Insn, Operand, Reg, Width};
 
 /// The bounds of a register in front of an old instruction, if it holds a number.

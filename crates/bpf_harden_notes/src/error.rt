@@ -3,7 +3,7 @@
 ghost use Rattle.std.specs.Prelude.{◌≡◌, ◌<◌};
 ghost use Rattle.bpf_harden_notes.specs.RefusalNumbers.{harden_number, harden_slot, within};
 
-use bpf_proposal::Condition;
+use bpf_infer_error::Condition;
 use std::alloc::{AllocError, AllocFailed};
 use thiserror::Error;
 

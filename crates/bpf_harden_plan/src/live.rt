@@ -2,8 +2,8 @@
 //! Approach to Global Program Optimization", 1973).
 
 use crate::registers::Registers;
+use bpf_infer_base::{Flow, get_or, put};
 use bpf_insn::{Insn, Program, Reg};
-use bpf_outline::{Flow, get_or, put};
 use std::alloc::{AllocError, Global};
 
 /// By slots, the registers whose content before the instruction may still be read.

@@ -6,11 +6,11 @@ use crate::kinds::Kind;
 use crate::live::Liveness;
 use crate::registers::Registers;
 use crate::uses::Uses;
-use bpf_fixpoint::{Survey, surveyed};
 use bpf_harden_notes::HardenError;
+use bpf_infer_base::{DEEP_WORK, Flow, Meter, Outline, Quest, Unwatched, get_or};
+use bpf_infer_error::InferError;
+use bpf_infer_states::{Survey, surveyed};
 use bpf_insn::{Insn, Program, Reg};
-use bpf_outline::{DEEP_WORK, Flow, Meter, Outline, Quest, Unwatched, get_or};
-use bpf_proposal::InferError;
 use std::alloc::{AllocError, Global};
 
 /// A program as it came, and what is known of it.

@@ -2,8 +2,8 @@
 
 use crate::old::Old;
 use bpf_harden_notes::Options;
+use bpf_infer_base::{get_or, put};
 use bpf_insn::Insn;
-use bpf_outline::{get_or, put};
 use std::alloc::{AllocError, Global};
 
 /// A test in front of an access, which leads to the trap where the access would leave its region.

@@ -5,9 +5,9 @@ use crate::plan::Plan;
 use crate::registers::Registers;
 use crate::uses::Uses;
 use bpf_harden_notes::HardenError;
+use bpf_infer_base::{Flow, get_or, put};
 use bpf_insn::Reg;
 use bpf_num::Num;
-use bpf_outline::{Flow, get_or, put};
 use bpf_state::Place;
 use std::alloc::{AllocError, Global};
 

@@ -4,8 +4,8 @@ use crate::parts::displacement;
 use crate::piece::{Goal, Piece};
 use crate::writer::Writer;
 use bpf_harden_notes::{Change, HardenError};
+use bpf_infer_base::get_or;
 use bpf_insn::{Insn, MAX_SLOTS, Order, Program};
-use bpf_outline::get_or;
 use std::alloc::{AllocError, Global};
 
 /// A new program, and which old slots its instructions belong to.

@@ -9,8 +9,8 @@ use crate::region::Region;
 use crate::writer::Writer;
 use bpf_harden_notes::{Change, HardenError};
 use bpf_harden_plan::{BY_CHOICE, Kind, Old, Plan, Rooms};
+use bpf_infer_base::{Flow, put};
 use bpf_insn::{Access, Cond, Insn, Operand, Reg};
-use bpf_outline::{Flow, put};
 use bpf_state::Place;
 use std::alloc::Global;
 

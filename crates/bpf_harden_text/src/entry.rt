@@ -5,8 +5,8 @@ use crate::piece::Goal;
 use crate::writer::Writer;
 use bpf_harden_notes::{Change, HardenError};
 use bpf_harden_plan::{Room, Uses};
+use bpf_infer_base::{get_or, put};
 use bpf_insn::{Cond, Insn, Operand, Reg};
-use bpf_outline::{get_or, put};
 use bpf_state::Place;
 use std::alloc::AllocError;
 

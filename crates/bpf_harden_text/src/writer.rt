@@ -4,8 +4,8 @@ use crate::parts::{JUMP, jump_if};
 use crate::piece::{Goal, Piece};
 use bpf_harden_notes::Change;
 use bpf_harden_plan::{Old, Plan, Rooms};
+use bpf_infer_base::put;
 use bpf_insn::{Cond, Insn, Operand, Reg};
-use bpf_outline::put;
 use std::alloc::{AllocError, Global};
 
 /// A new program that is being written.

@@ -10,9 +10,9 @@ use Rattle.bpf_semantics.specs.Run.{IsDone}
 use Rattle.bpf_sound.specs.Describes.{LengthWithin}
 use Rattle.bpf_cert.specs.View.{CertificateView}
 use Rattle.bpf_cert.specs.Certificates.{Spells}
-use Rattle.bpf_proposal.specs.RefusalNumbers.{infer_slot}
-use Rattle.bpf_proposal.specs.declared.error.InferError.{InferError}
-use Rattle.bpf_proposal.specs.declared.error.InferError.TheVariants.{Memory as OutOfMemory}
+use Rattle.bpf_infer_error.specs.RefusalNumbers.{infer_slot}
+use Rattle.bpf_infer_error.specs.declared.error.InferError.{InferError}
+use Rattle.bpf_infer_error.specs.declared.error.InferError.TheVariants.{Memory as OutOfMemory}
 use Rattle.bpf_check.specs.Verdicts.{Verified, IsRefusedBy, IsUnread, program_in}
 use Rattle.bpf_check.specs.declared.verifier.VerifyError.{VerifyError}
 use Rattle.bpf_machine.specs.Answers.{IsRun}

@@ -7,9 +7,9 @@ use Rattle.bpf_insn.specs.declared.refusal.DecodeError.{DecodeError}
 use Rattle.bpf_semantics.specs.ReasonNumbers.{reason_number}
 use Rattle.bpf_cert.specs.RefusalNumbers.{refusal_number as cert_number, refusal_line}
 use Rattle.bpf_cert.specs.declared.error.CertError.{CertError}
-use Rattle.bpf_proposal.specs.RefusalNumbers.{condition_number, infer_number, infer_slot}
-use Rattle.bpf_proposal.specs.declared.error.InferError.{InferError}
-use Rattle.bpf_proposal.specs.declared.error.InferError.TheVariants.{Unstable, NoBudget, Recursion, Fault as Refused, Memory}
+use Rattle.bpf_infer_error.specs.RefusalNumbers.{condition_number, infer_number, infer_slot}
+use Rattle.bpf_infer_error.specs.declared.error.InferError.{InferError}
+use Rattle.bpf_infer_error.specs.declared.error.InferError.TheVariants.{Unstable, NoBudget, Recursion, Fault as Refused, Memory}
 use Rattle.bpf_check.specs.RefusalNumbers.{refusal_number as check_number, refusal_slot}
 use Rattle.bpf_check.specs.declared.refusal.Refusal.{Refusal}
 use Rattle.bpf_check.specs.declared.verifier.VerifyError.{VerifyError}

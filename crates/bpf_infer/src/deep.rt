@@ -2,9 +2,9 @@
 
 ghost use Rattle.std.specs.Prelude.{◌≤◌};
 
-use bpf_fixpoint::draft;
-use bpf_outline::{DEEP_WORK, Meter, Proposal, Quest, Stop, Watch};
-use bpf_ranking::ranked;
+use bpf_infer_base::{DEEP_WORK, Meter, Proposal, Quest, Stop, Watch};
+use bpf_infer_budgets::ranked;
+use bpf_infer_states::draft;
 use std::alloc::Global;
 
 /// What the search gives a program: nested loops, code that nothing reaches and counters that change their places may

@@ -2,15 +2,15 @@
 
 ghost use Rattle.std.specs.Prelude.{◌≡◌, ◌<◌, ◌≤◌, IfOk, IfErr};
 ghost use Rattle.bpf_insn.specs.Instruction.{slots};
-ghost use Rattle.bpf_proposal.specs.RefusalNumbers.{infer_slot};
+ghost use Rattle.bpf_infer_error.specs.RefusalNumbers.{infer_slot};
 ghost use Rattle.bpf_cert.specs.Limits.{IsCertificate};
 
 use crate::deep::deep_proposal;
 use bpf_cert::Certificate;
+use bpf_infer_base::{Proposal, Quest, Stop, Unwatched, Watch};
+use bpf_infer_error::InferError;
+use bpf_infer_plain::plain_proposal;
 use bpf_insn::{Code, Program};
-use bpf_outline::{Proposal, Quest, Stop, Unwatched, Watch};
-use bpf_plain::plain_proposal;
-use bpf_proposal::InferError;
 use std::alloc::Global;
 
 /// The certificate of a proposal. I2 at slot 0 if it is over a limit.

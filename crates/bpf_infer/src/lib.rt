@@ -4,9 +4,9 @@
 mod deep;
 mod inferrer;
 
-pub use bpf_outline::{
+pub use bpf_infer_base::{
     Limit, Loss, Move, Obstacle, Quest, Sketch, Stop, Tangle, Trial, Unwatched, Watch,
 };
-pub use bpf_plain::sketch_of;
-pub use bpf_proposal::{Condition, InferError};
+pub use bpf_infer_error::{Condition, InferError};
+pub use bpf_infer_plain::sketch_of;
 pub use inferrer::{infer, search, search_or_stop};

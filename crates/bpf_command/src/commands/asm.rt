@@ -12,8 +12,8 @@ ghost use Rattle.bpf_command.specs.Told.{OutputFails};
 
 use crate::commands::output::put;
 use crate::failure::{Failure, REFUSED, say};
+use crate::places::Places;
 use crate::reading::read_up_to;
-use crate::streams::Streams;
 use bpf_insn::Order;
 use bpf_text::{TextError, assemble};
 use std::alloc::{AllocError, Global};
@@ -23,15 +23,15 @@ use std::io::Write;
 const MAX_TEXT: usize = 16_777_216;
 
 /// The text at a name. It can't be read where it isn't UTF-8, or is longer than that.
-pub fn text_at<'a, P: Streams>(
+pub fn text_at<'a, P: Places>(
     alloc: Global,
-    streams: &mut P,
+    places: &mut P,
     name: &'a str,
 ) -> Result<String, Failure<'a>>
-    ensures ok { IfOk result (λ text. ShortTextAt (opening P.opens P.Reader.remaining) streams.old name.entry.now streams.new (λ bytes. string_bytes text ≡ bytes)) }
-    ensures err { IfErr result (TextFails (opening P.opens P.Reader.remaining) streams.old name.entry.now streams.new) }
+    ensures ok { IfOk result (λ text. ShortTextAt (opening P.opens P.Reader.remaining) places.old name.entry.now places.new (λ bytes. string_bytes text ≡ bytes)) }
+    ensures err { IfErr result (TextFails (opening P.opens P.Reader.remaining) places.old name.entry.now places.new) }
 {
-    let Ok(mut reader) = streams.open(name) else {
+    let Ok(mut reader) = places.open(name) else {
         return Err(Failure::CannotRead(name));
     };
     let Some(bytes) = read_up_to(alloc, &mut reader, MAX_TEXT)? else {
@@ -80,20 +80,20 @@ pub fn refuse_text<'a, W: Write>(
 }
 
 /// Writes the image of a text. The place for it is made only where there is an image.
-pub fn assembled<'a, P: Streams, W: Write>(
+pub fn assembled<'a, P: Places, W: Write>(
     alloc: Global,
-    streams: &mut P,
+    places: &mut P,
     out: &mut W,
     input: &'a str,
     output: &'a str,
     order: Order,
 ) -> Result<u8, Failure<'a>>
-    ensures ok { IfOk result (Answered (AsmSays (opening P.opens P.Reader.remaining) (making P.creates P.ends P.Writer.contents) order streams.old input.entry.now output.entry.now streams.new) (W.contents out.old) (W.contents out.new)) }
-    ensures err { IfErr result (AsmFails (opening P.opens P.Reader.remaining) (making P.creates P.ends P.Writer.contents) order streams.old input.entry.now output.entry.now streams.new) }
+    ensures ok { IfOk result (Answered (AsmSays (opening P.opens P.Reader.remaining) (making P.creates P.ends P.Writer.contents) order places.old input.entry.now output.entry.now places.new) (W.contents out.old) (W.contents out.new)) }
+    ensures err { IfErr result (AsmFails (opening P.opens P.Reader.remaining) (making P.creates P.ends P.Writer.contents) order places.old input.entry.now output.entry.now places.new) }
 {
-    let text = text_at(alloc, streams, input)?;
+    let text = text_at(alloc, places, input)?;
     match assemble(alloc, text.as_str(), order) {
-        Ok(program) => put(streams, output, &program),
+        Ok(program) => put(places, output, &program),
         Err(error) => refuse_text(alloc, out, error),
     }
 }

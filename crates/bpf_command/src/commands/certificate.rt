@@ -9,22 +9,22 @@ ghost use Rattle.bpf_command.specs.Told.{OutputFails};
 
 use crate::commands::refusal::refuse_at;
 use crate::failure::Failure;
-use crate::streams::Streams;
+use crate::places::Places;
 use bpf_cert::{CertError, Certificate, read};
 use bpf_check::Refusal;
 use std::alloc::Global;
 use std::io::Write;
 
 /// The certificate at a name, or why it is refused.
-pub fn certificate_at<'a, P: Streams>(
+pub fn certificate_at<'a, P: Places>(
     alloc: Global,
-    streams: &mut P,
+    places: &mut P,
     name: &'a str,
 ) -> Result<Result<Certificate, CertError>, Failure<'a>>
-    ensures ok { IfOk result (λ read. MatchResult read (CertificateAt (opening P.opens P.Reader.remaining) streams.old name.entry.now streams.new) (CertificateRefused (opening P.opens P.Reader.remaining) streams.old name.entry.now streams.new)) }
-    ensures err { IfErr result (CertificateFails (opening P.opens P.Reader.remaining) streams.old name.entry.now streams.new) }
+    ensures ok { IfOk result (λ read. MatchResult read (CertificateAt (opening P.opens P.Reader.remaining) places.old name.entry.now places.new) (CertificateRefused (opening P.opens P.Reader.remaining) places.old name.entry.now places.new)) }
+    ensures err { IfErr result (CertificateFails (opening P.opens P.Reader.remaining) places.old name.entry.now places.new) }
 {
-    let Ok(reader) = streams.open(name) else {
+    let Ok(reader) = places.open(name) else {
         return Err(Failure::CannotRead(name));
     };
     match read(alloc, reader) {

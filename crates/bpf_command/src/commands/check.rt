@@ -8,7 +8,7 @@ ghost use Rattle.bpf_command.specs.Printed.{CheckSays, LoadedFails};
 use crate::commands::image::{image_at, refuse};
 use crate::commands::judged::{Wish, judged};
 use crate::failure::Failure;
-use crate::streams::Streams;
+use crate::places::Places;
 use bpf_insn::{Order, ProgramView, image_is_injective};
 use bpf_safety::{certified_is_flat_safe, certified_is_safe};
 use std::alloc::Global;
@@ -16,29 +16,29 @@ use std::io::Write;
 
 /// Judges whether the certificate certifies the image's program, and prints what it promises, and where it is asked for
 /// the work of the check. The image is judged before the certificate is opened. The program takes no memory.
-pub fn checked<'a, P: Streams, W: Write>(
+pub fn checked<'a, P: Places, W: Write>(
     alloc: Global,
-    streams: &mut P,
+    places: &mut P,
     out: &mut W,
     input: &'a str,
     certificate: &'a str,
     order: Order,
     counted: bool,
 ) -> Result<u8, Failure<'a>>
-    ensures ok { IfOk result (Answered (CheckSays (opening P.opens P.Reader.remaining) order streams.old input.entry.now certificate.entry.now streams.new counted) (W.contents out.old) (W.contents out.new)) }
-    ensures err { IfErr result (LoadedFails (opening P.opens P.Reader.remaining) order streams.old input.entry.now certificate.entry.now streams.new) }
+    ensures ok { IfOk result (Answered (CheckSays (opening P.opens P.Reader.remaining) order places.old input.entry.now certificate.entry.now places.new counted) (W.contents out.old) (W.contents out.new)) }
+    ensures err { IfErr result (LoadedFails (opening P.opens P.Reader.remaining) order places.old input.entry.now certificate.entry.now places.new) }
 {
     image_is_injective();
     certified_is_safe();
     certified_is_flat_safe();
-    let bytes = match image_at(alloc, streams, input)? {
+    let bytes = match image_at(alloc, places, input)? {
         Ok(bytes) => bytes,
         Err(error) => return refuse(alloc, out, error),
     };
     match ProgramView::of(&bytes, order) {
         Ok(program) => {
             let wish = Wish::Promise { counted };
-            judged(alloc, streams, out, &program, certificate, wish)
+            judged(alloc, places, out, &program, certificate, wish)
         }
         Err(error) => refuse(alloc, out, error),
     }

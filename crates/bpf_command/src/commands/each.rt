@@ -7,7 +7,7 @@ ghost use Rattle.bpf_command.specs.Each.{AnswersAt, FailsAt, LinesFail};
 
 use crate::context::ContextError;
 use crate::failure::{DONE, Failure};
-use crate::streams::Streams;
+use crate::places::Places;
 use arrayvec::ArrayVec;
 use bpf_insn::MAX_CONTEXT;
 use bpf_lines::{LineReader, Stop};
@@ -117,17 +117,17 @@ fn answer_lines<'a, R: Read + Drop, Q: Runner, W: Write>(
 
 /// Answers each context of the lines at a name, and gives the greatest of the statuses. A line that is refused ends it, and
 /// what was answered before stands.
-pub fn answered<'a, P: Streams, Q: Runner, W: Write>(
+pub fn answered<'a, P: Places, Q: Runner, W: Write>(
     alloc: Global,
-    streams: &mut P,
+    places: &mut P,
     out: &mut W,
     runner: &Q,
     name: &'a str,
 ) -> Result<u8, Failure<'a>>
-    ensures ok { IfOk result (AnswersAt (opening P.opens P.Reader.remaining) streams.old name.entry.now streams.new (Q.says runner.now) (W.contents out.old) (W.contents out.new)) }
-    ensures err { IfErr result (FailsAt (opening P.opens P.Reader.remaining) streams.old name.entry.now streams.new (Q.says runner.now) (W.contents out.old) (W.contents out.new)) }
+    ensures ok { IfOk result (AnswersAt (opening P.opens P.Reader.remaining) places.old name.entry.now places.new (Q.says runner.now) (W.contents out.old) (W.contents out.new)) }
+    ensures err { IfErr result (FailsAt (opening P.opens P.Reader.remaining) places.old name.entry.now places.new (Q.says runner.now) (W.contents out.old) (W.contents out.new)) }
 {
-    let Ok(reader) = streams.open(name) else {
+    let Ok(reader) = places.open(name) else {
         return Err(Failure::CannotRead(name));
     };
     let mut lines = LineReader::new(reader);

@@ -12,7 +12,7 @@ use crate::commands::certificate;
 use crate::commands::image::{image_at, refuse};
 use crate::failure::{DONE, Failure, REFUSED};
 use crate::keeping::Keeping;
-use crate::streams::Streams;
+use crate::places::Places;
 use bpf_cert::{CertError, Certificate, read};
 use bpf_check::check;
 use bpf_explain::{
@@ -65,18 +65,18 @@ fn say_valid<'a, C: Code, W: Write>(
 }
 
 /// Explains an image, or draws the graph of its program.
-fn explained_image<'a, P: Streams, W: Write>(
+fn explained_image<'a, P: Places, W: Write>(
     alloc: Global,
-    streams: &mut P,
+    places: &mut P,
     out: &mut W,
     input: &'a str,
     order: Order,
     is_graph: bool,
 ) -> Result<u8, Failure<'a>>
-    ensures ok { IfOk result (Answers (ImageSays (opening P.opens P.Reader.remaining) order streams.old input.entry.now streams.new (ListSays None))) }
-    ensures err { IfErr result (ImageFails (opening P.opens P.Reader.remaining) streams.old input.entry.now streams.new) }
+    ensures ok { IfOk result (Answers (ImageSays (opening P.opens P.Reader.remaining) order places.old input.entry.now places.new (ListSays None))) }
+    ensures err { IfErr result (ImageFails (opening P.opens P.Reader.remaining) places.old input.entry.now places.new) }
 {
-    let bytes = match image_at(alloc, streams, input)? {
+    let bytes = match image_at(alloc, places, input)? {
         Ok(bytes) => bytes,
         Err(error) => return refuse(alloc, out, error),
     };
@@ -104,17 +104,17 @@ fn say_text<'a, W: Write>(
 }
 
 /// Explains a text.
-fn explained_text<'a, P: Streams, W: Write>(
+fn explained_text<'a, P: Places, W: Write>(
     alloc: Global,
-    streams: &mut P,
+    places: &mut P,
     out: &mut W,
     input: &'a str,
     order: Order,
 ) -> Result<u8, Failure<'a>>
-    ensures ok { IfOk result (Answers (TextSays (opening P.opens P.Reader.remaining) streams.old input.entry.now streams.new)) }
-    ensures err { IfErr result (TextFails (opening P.opens P.Reader.remaining) streams.old input.entry.now streams.new) }
+    ensures ok { IfOk result (Answers (TextSays (opening P.opens P.Reader.remaining) places.old input.entry.now places.new)) }
+    ensures err { IfErr result (TextFails (opening P.opens P.Reader.remaining) places.old input.entry.now places.new) }
 {
-    let text = text_at(alloc, streams, input)?;
+    let text = text_at(alloc, places, input)?;
     match assemble(alloc, text.as_str(), order) {
         Ok(_program) => say_text(alloc, out, text.as_str().as_bytes(), DONE),
         Err(TextError::Memory) => refuse_text(alloc, out, TextError::Memory),
@@ -170,15 +170,15 @@ fn say_certificate<'a, W: Write>(
 }
 
 /// The certificate at a name, or why it is refused; and its bytes as far as they were read, unless memory ran out.
-fn certificate_kept<'a, P: Streams>(
+fn certificate_kept<'a, P: Places>(
     alloc: Global,
-    streams: &mut P,
+    places: &mut P,
     name: &'a str,
 ) -> Result<(Result<Certificate, CertError>, Option<Vec<u8>>), Failure<'a>>
-    ensures ok { IfOk result (λ found. MatchResult found.0 (CertificateAt (opening P.opens P.Reader.remaining) streams.old name.entry.now streams.new) (CertificateRefused (opening P.opens P.Reader.remaining) streams.old name.entry.now streams.new)) }
-    ensures err { IfErr result (CertificateFails (opening P.opens P.Reader.remaining) streams.old name.entry.now streams.new) }
+    ensures ok { IfOk result (λ found. MatchResult found.0 (CertificateAt (opening P.opens P.Reader.remaining) places.old name.entry.now places.new) (CertificateRefused (opening P.opens P.Reader.remaining) places.old name.entry.now places.new)) }
+    ensures err { IfErr result (CertificateFails (opening P.opens P.Reader.remaining) places.old name.entry.now places.new) }
 {
-    let Ok(reader) = streams.open(name) else {
+    let Ok(reader) = places.open(name) else {
         return Err(Failure::CannotRead(name));
     };
     let mut keeping = Keeping::new(alloc, reader);
@@ -189,18 +189,18 @@ fn certificate_kept<'a, P: Streams>(
 }
 
 /// Explains a program with the certificate at a name, or why there is none.
-fn explained_with<'a, P: Streams, C: Code, W: Write>(
+fn explained_with<'a, P: Places, C: Code, W: Write>(
     alloc: Global,
-    streams: &mut P,
+    places: &mut P,
     out: &mut W,
     program: &C,
     certificate: &'a str,
     shown: Shown,
 ) -> Result<u8, Failure<'a>>
-    ensures ok { IfOk result (Answers (JudgedSays (opening P.opens P.Reader.remaining) streams.old certificate.entry.now streams.new (C.program program.now) (YesSays false))) }
-    ensures err { IfErr result (CertificateFails (opening P.opens P.Reader.remaining) streams.old certificate.entry.now streams.new) }
+    ensures ok { IfOk result (Answers (JudgedSays (opening P.opens P.Reader.remaining) places.old certificate.entry.now places.new (C.program program.now) (YesSays false))) }
+    ensures err { IfErr result (CertificateFails (opening P.opens P.Reader.remaining) places.old certificate.entry.now places.new) }
 {
-    let (answer, bytes) = certificate_kept(alloc, streams, certificate)?;
+    let (answer, bytes) = certificate_kept(alloc, places, certificate)?;
     match answer {
         Ok(certificate) => say_program(out, program, &certificate, shown),
         Err(CertError::Memory) => certificate::refuse_text(alloc, out, CertError::Memory),
@@ -210,24 +210,24 @@ fn explained_with<'a, P: Streams, C: Code, W: Write>(
 
 /// Explains the image's program with a certificate, or why one of the two is refused. The image is judged before the
 /// certificate is opened.
-fn explained_certified<'a, P: Streams, W: Write>(
+fn explained_certified<'a, P: Places, W: Write>(
     alloc: Global,
-    streams: &mut P,
+    places: &mut P,
     out: &mut W,
     input: &'a str,
     certificate: &'a str,
     shown: Shown,
     order: Order,
 ) -> Result<u8, Failure<'a>>
-    ensures ok { IfOk result (Answers (LoadedSays (opening P.opens P.Reader.remaining) order streams.old input.entry.now certificate.entry.now streams.new (λ bytes. YesSays false))) }
-    ensures err { IfErr result (LoadedFails (opening P.opens P.Reader.remaining) order streams.old input.entry.now certificate.entry.now streams.new) }
+    ensures ok { IfOk result (Answers (LoadedSays (opening P.opens P.Reader.remaining) order places.old input.entry.now certificate.entry.now places.new (λ bytes. YesSays false))) }
+    ensures err { IfErr result (LoadedFails (opening P.opens P.Reader.remaining) order places.old input.entry.now certificate.entry.now places.new) }
 {
-    let bytes = match image_at(alloc, streams, input)? {
+    let bytes = match image_at(alloc, places, input)? {
         Ok(bytes) => bytes,
         Err(error) => return refuse(alloc, out, error),
     };
     match ProgramView::of(&bytes, order) {
-        Ok(program) => explained_with(alloc, streams, out, &program, certificate, shown),
+        Ok(program) => explained_with(alloc, places, out, &program, certificate, shown),
         Err(_error) => say_image(out, &bytes, order, REFUSED),
     }
 }
@@ -263,9 +263,9 @@ fn say_inferred<'a, W: Write, H: Watch>(
 }
 
 /// Explains what the inferrer finds for the image's program on contexts of `least` to `most` bytes, or the deep search.
-fn explained_inferred<'a, P: Streams, W: Write, H: Watch>(
+fn explained_inferred<'a, P: Places, W: Write, H: Watch>(
     alloc: Global,
-    streams: &mut P,
+    places: &mut P,
     out: &mut W,
     watch: &mut H,
     input: &'a str,
@@ -274,10 +274,10 @@ fn explained_inferred<'a, P: Streams, W: Write, H: Watch>(
     deep: bool,
     order: Order,
 ) -> Result<u8, Failure<'a>>
-    ensures ok { IfOk result (Answers (ImageSays (opening P.opens P.Reader.remaining) order streams.old input.entry.now streams.new SoughtSays)) }
-    ensures err { IfErr result (ImageFails (opening P.opens P.Reader.remaining) streams.old input.entry.now streams.new) }
+    ensures ok { IfOk result (Answers (ImageSays (opening P.opens P.Reader.remaining) order places.old input.entry.now places.new SoughtSays)) }
+    ensures err { IfErr result (ImageFails (opening P.opens P.Reader.remaining) places.old input.entry.now places.new) }
 {
-    let bytes = match image_at(alloc, streams, input)? {
+    let bytes = match image_at(alloc, places, input)? {
         Ok(bytes) => bytes,
         Err(error) => return refuse(alloc, out, error),
     };
@@ -290,25 +290,25 @@ fn explained_inferred<'a, P: Streams, W: Write, H: Watch>(
 
 /// Explains a program, or why an input is refused. The status is that of the command that judges the same. Who watches is told
 /// how far a deep search is.
-pub fn explained<'a, P: Streams, W: Write, H: Watch>(
+pub fn explained<'a, P: Places, W: Write, H: Watch>(
     alloc: Global,
-    streams: &mut P,
+    places: &mut P,
     out: &mut W,
     watch: &mut H,
     input: &'a str,
     subject: Subject<'a>,
     order: Order,
 ) -> Result<u8, Failure<'a>>
-    ensures ok { IfOk result (ExplainSays (opening P.opens P.Reader.remaining) order streams.old input.entry.now subject.entry streams.new) }
-    ensures err { IfErr result (ExplainFails (opening P.opens P.Reader.remaining) order streams.old input.entry.now subject.entry streams.new) }
+    ensures ok { IfOk result (ExplainSays (opening P.opens P.Reader.remaining) order places.old input.entry.now subject.entry places.new) }
+    ensures err { IfErr result (ExplainFails (opening P.opens P.Reader.remaining) order places.old input.entry.now subject.entry places.new) }
 {
     match subject {
-        Subject::Image => explained_image(alloc, streams, out, input, order, false),
-        Subject::GraphAlone => explained_image(alloc, streams, out, input, order, true),
-        Subject::Text => explained_text(alloc, streams, out, input, order),
+        Subject::Image => explained_image(alloc, places, out, input, order, false),
+        Subject::GraphAlone => explained_image(alloc, places, out, input, order, true),
+        Subject::Text => explained_text(alloc, places, out, input, order),
         Subject::Certified(certificate) => explained_certified(
             alloc,
-            streams,
+            places,
             out,
             input,
             certificate,
@@ -317,7 +317,7 @@ pub fn explained<'a, P: Streams, W: Write, H: Watch>(
         ),
         Subject::Graph(certificate) => explained_certified(
             alloc,
-            streams,
+            places,
             out,
             input,
             certificate,
@@ -326,7 +326,7 @@ pub fn explained<'a, P: Streams, W: Write, H: Watch>(
         ),
         Subject::Slot { certificate, slot } => explained_certified(
             alloc,
-            streams,
+            places,
             out,
             input,
             certificate,
@@ -334,7 +334,7 @@ pub fn explained<'a, P: Streams, W: Write, H: Watch>(
             order,
         ),
         Subject::Inferred { least, most, deep } => explained_inferred(
-            alloc, streams, out, watch, input, least, most, deep, order,
+            alloc, places, out, watch, input, least, most, deep, order,
         ),
         Subject::Misfit => Err(Failure::NotTogether),
     }

@@ -10,7 +10,7 @@ ghost use Rattle.bpf_command.specs.Told.{OutputFails};
 
 use crate::commands::image::{image_at, refuse};
 use crate::failure::{DONE, Failure, say};
-use crate::streams::Streams;
+use crate::places::Places;
 use bpf_insn::{Groups, Order, ProgramView};
 use std::alloc::Global;
 use std::io::Write;
@@ -41,17 +41,17 @@ fn say_groups<'a, W: Write>(out: &mut W, groups: Groups) -> Result<u8, Failure<'
 }
 
 /// Prints the conformance groups that occur in an image.
-pub fn grouped<'a, P: Streams, W: Write>(
+pub fn grouped<'a, P: Places, W: Write>(
     alloc: Global,
-    streams: &mut P,
+    places: &mut P,
     out: &mut W,
     input: &'a str,
     order: Order,
 ) -> Result<u8, Failure<'a>>
-    ensures ok { IfOk result (Answered (ImageSays (opening P.opens P.Reader.remaining) order streams.old input.entry.now streams.new GroupsSay) (W.contents out.old) (W.contents out.new)) }
-    ensures err { IfErr result (ImageFails (opening P.opens P.Reader.remaining) streams.old input.entry.now streams.new) }
+    ensures ok { IfOk result (Answered (ImageSays (opening P.opens P.Reader.remaining) order places.old input.entry.now places.new GroupsSay) (W.contents out.old) (W.contents out.new)) }
+    ensures err { IfErr result (ImageFails (opening P.opens P.Reader.remaining) places.old input.entry.now places.new) }
 {
-    let bytes = match image_at(alloc, streams, input)? {
+    let bytes = match image_at(alloc, places, input)? {
         Ok(bytes) => bytes,
         Err(error) => return refuse(alloc, out, error),
     };

@@ -9,22 +9,22 @@ ghost use Rattle.bpf_command.specs.Told.{OutputFails};
 
 use crate::commands::refusal::refuse_at;
 use crate::failure::Failure;
-use crate::streams::Streams;
+use crate::places::Places;
 use bpf_insn::{DecodeError, Order, Program, decode, read_image};
 use std::alloc::Global;
 use std::io::Write;
 
 /// The bytes of the image at a name, as far as they are read, or E9. It can't be read where it can't be opened or its reader
 /// fails.
-pub fn image_at<'a, P: Streams>(
+pub fn image_at<'a, P: Places>(
     alloc: Global,
-    streams: &mut P,
+    places: &mut P,
     name: &'a str,
 ) -> Result<Result<Vec<u8>, DecodeError>, Failure<'a>>
-    ensures ok { IfOk result (λ read. MatchResult read (λ v. ReadsAt (opening P.opens P.Reader.remaining) streams.old name.entry.now v.items streams.new) (NoSpaceFor (opening P.opens P.Reader.remaining) streams.old name.entry.now streams.new)) }
-    ensures err { IfErr result (ImageFails (opening P.opens P.Reader.remaining) streams.old name.entry.now streams.new) }
+    ensures ok { IfOk result (λ read. MatchResult read (λ v. ReadsAt (opening P.opens P.Reader.remaining) places.old name.entry.now v.items places.new) (NoSpaceFor (opening P.opens P.Reader.remaining) places.old name.entry.now places.new)) }
+    ensures err { IfErr result (ImageFails (opening P.opens P.Reader.remaining) places.old name.entry.now places.new) }
 {
-    let Ok(mut reader) = streams.open(name) else {
+    let Ok(mut reader) = places.open(name) else {
         return Err(Failure::CannotRead(name));
     };
     match read_image(alloc, &mut reader) {
@@ -35,16 +35,16 @@ pub fn image_at<'a, P: Streams>(
 }
 
 /// The program of the image at a name, or why it is refused.
-pub fn program_at<'a, P: Streams>(
+pub fn program_at<'a, P: Places>(
     alloc: Global,
-    streams: &mut P,
+    places: &mut P,
     name: &'a str,
     order: Order,
 ) -> Result<Result<Program, DecodeError>, Failure<'a>>
-    ensures ok { IfOk result (λ read. MatchResult read (LoadsImage (opening P.opens P.Reader.remaining) order streams.old name.entry.now streams.new) (ImageRefused (opening P.opens P.Reader.remaining) order streams.old name.entry.now streams.new)) }
-    ensures err { IfErr result (ImageFails (opening P.opens P.Reader.remaining) streams.old name.entry.now streams.new) }
+    ensures ok { IfOk result (λ read. MatchResult read (LoadsImage (opening P.opens P.Reader.remaining) order places.old name.entry.now places.new) (ImageRefused (opening P.opens P.Reader.remaining) order places.old name.entry.now places.new)) }
+    ensures err { IfErr result (ImageFails (opening P.opens P.Reader.remaining) places.old name.entry.now places.new) }
 {
-    match image_at(alloc, streams, name)? {
+    match image_at(alloc, places, name)? {
         Ok(bytes) => Ok(decode(alloc, &bytes, order)),
         Err(error) => Ok(Err(error)),
     }

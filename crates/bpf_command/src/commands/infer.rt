@@ -4,7 +4,7 @@ ghost use Rattle.std.specs.Prelude.{◌≡◌, ◌≤◌, ◌<◌, IfOk, IfErr};
 ghost use Rattle.std.specs.String.{string_bytes};
 ghost use Rattle.bpf_insn.specs.Instruction.{slots};
 ghost use Rattle.bpf_cert.specs.Limits.{IsCertificate};
-ghost use Rattle.bpf_proposal.specs.RefusalNumbers.{infer_slot};
+ghost use Rattle.bpf_infer_error.specs.RefusalNumbers.{infer_slot};
 ghost use Rattle.bpf_command.specs.Answer.{Answered, Says, text_of};
 ghost use Rattle.bpf_command.specs.Answer.Answer.{NotProposed};
 ghost use Rattle.bpf_command.specs.Made.{making};
@@ -15,7 +15,7 @@ ghost use Rattle.bpf_command.specs.Told.{OutputFails};
 use crate::commands::image::{program_at, refuse};
 use crate::commands::output::put;
 use crate::failure::{Failure, REFUSED, say};
-use crate::streams::Streams;
+use crate::places::Places;
 use bpf_cert::Certificate;
 use bpf_infer::{InferError, Watch, infer, search};
 use bpf_insn::{MAX_CONTEXT, Order, Program};
@@ -78,9 +78,9 @@ fn proposed<H: Watch>(
 
 /// Writes a certificate for an image and contexts of `least` to `most` bytes. The place for it is made only where there is
 /// one.
-pub fn inferred<'a, P: Streams, W: Write, H: Watch>(
+pub fn inferred<'a, P: Places, W: Write, H: Watch>(
     alloc: Global,
-    streams: &mut P,
+    places: &mut P,
     out: &mut W,
     watch: &mut H,
     input: &'a str,
@@ -90,17 +90,17 @@ pub fn inferred<'a, P: Streams, W: Write, H: Watch>(
     output: &'a str,
     order: Order,
 ) -> Result<u8, Failure<'a>>
-    ensures ok { IfOk result (Answered (InferSays (opening P.opens P.Reader.remaining) (making P.creates P.ends P.Writer.contents) order streams.old input.entry.now least most output.entry.now streams.new) (W.contents out.old) (W.contents out.new)) }
-    ensures err { IfErr result (InferFails (opening P.opens P.Reader.remaining) (making P.creates P.ends P.Writer.contents) order streams.old input.entry.now least most output.entry.now streams.new) }
+    ensures ok { IfOk result (Answered (InferSays (opening P.opens P.Reader.remaining) (making P.creates P.ends P.Writer.contents) order places.old input.entry.now least most output.entry.now places.new) (W.contents out.old) (W.contents out.new)) }
+    ensures err { IfErr result (InferFails (opening P.opens P.Reader.remaining) (making P.creates P.ends P.Writer.contents) order places.old input.entry.now least most output.entry.now places.new) }
 {
-    let program = match program_at(alloc, streams, input, order)? {
+    let program = match program_at(alloc, places, input, order)? {
         Ok(program) => program,
         Err(error) => return refuse(alloc, out, error),
     };
     // `respond` has seen that the lengths are in order, and the words' parser that they are at most the greatest.
     let most = most.min(MAX_CONTEXT as u32);
     match proposed(alloc, &program, least.min(most), most, deep, watch) {
-        Ok(certificate) => put(streams, output, &certificate),
+        Ok(certificate) => put(places, output, &certificate),
         Err(error) => refuse_inference(alloc, out, error),
     }
 }

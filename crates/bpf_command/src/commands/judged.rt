@@ -14,7 +14,7 @@ ghost use Rattle.bpf_command.specs.Told.{OutputFails};
 use crate::commands::certificate::{certificate_at, refuse_program, refuse_text};
 use crate::commands::each::{Runner, answered};
 use crate::failure::{DONE, Failure, REFUSED, say};
-use crate::streams::Streams;
+use crate::places::Places;
 use arrayvec::ArrayString;
 use bpf_check::{Checked, check};
 use bpf_insn::Code;
@@ -176,40 +176,40 @@ impl<'p, C: Code> Runner for Checked<'p, C> {
 
 /// Reads the certificate at a name, judges whether it certifies the program, and answers the contexts of the lines at
 /// another name, which is opened last.
-pub fn judged_each<'a, P: Streams, C: Code, W: Write>(
+pub fn judged_each<'a, P: Places, C: Code, W: Write>(
     alloc: Global,
-    streams: &mut P,
+    places: &mut P,
     out: &mut W,
     program: &C,
     certificate: &'a str,
     contexts: &'a str,
 ) -> Result<u8, Failure<'a>>
-    ensures ok { IfOk result (JudgedEachSays (opening P.opens P.Reader.remaining) streams.old certificate.entry.now contexts.entry.now streams.new (C.program program.now) (W.contents out.old) (W.contents out.new)) }
-    ensures err { IfErr result (JudgedEachFails (opening P.opens P.Reader.remaining) streams.old certificate.entry.now contexts.entry.now streams.new (C.program program.now) (W.contents out.old) (W.contents out.new)) }
+    ensures ok { IfOk result (JudgedEachSays (opening P.opens P.Reader.remaining) places.old certificate.entry.now contexts.entry.now places.new (C.program program.now) (W.contents out.old) (W.contents out.new)) }
+    ensures err { IfErr result (JudgedEachFails (opening P.opens P.Reader.remaining) places.old certificate.entry.now contexts.entry.now places.new (C.program program.now) (W.contents out.old) (W.contents out.new)) }
 {
-    let certificate = match certificate_at(alloc, streams, certificate)? {
+    let certificate = match certificate_at(alloc, places, certificate)? {
         Ok(certificate) => certificate,
         Err(error) => return refuse_text(alloc, out, error),
     };
     match check(program, &certificate) {
-        Ok(checked) => answered(alloc, streams, out, &checked, contexts),
+        Ok(checked) => answered(alloc, places, out, &checked, contexts),
         Err(refusal) => refuse_program(alloc, out, refusal),
     }
 }
 
 /// Reads the certificate at a name, judges whether it certifies the program, and prints what is wanted, or why not.
-pub fn judged<'a, P: Streams, C: Code, W: Write>(
+pub fn judged<'a, P: Places, C: Code, W: Write>(
     alloc: Global,
-    streams: &mut P,
+    places: &mut P,
     out: &mut W,
     program: &C,
     certificate: &'a str,
     wish: Wish<'_>,
 ) -> Result<u8, Failure<'a>>
-    ensures ok { IfOk result (Answered (JudgedSays (opening P.opens P.Reader.remaining) streams.old certificate.entry.now streams.new (C.program program.now) (WishSays wish.entry)) (W.contents out.old) (W.contents out.new)) }
-    ensures err { IfErr result (CertificateFails (opening P.opens P.Reader.remaining) streams.old certificate.entry.now streams.new) }
+    ensures ok { IfOk result (Answered (JudgedSays (opening P.opens P.Reader.remaining) places.old certificate.entry.now places.new (C.program program.now) (WishSays wish.entry)) (W.contents out.old) (W.contents out.new)) }
+    ensures err { IfErr result (CertificateFails (opening P.opens P.Reader.remaining) places.old certificate.entry.now places.new) }
 {
-    let certificate = match certificate_at(alloc, streams, certificate)? {
+    let certificate = match certificate_at(alloc, places, certificate)? {
         Ok(certificate) => certificate,
         Err(error) => return refuse_text(alloc, out, error),
     };

@@ -11,7 +11,7 @@ ghost use Rattle.bpf_command.specs.Told.{OutputFails};
 
 use crate::commands::image::{image_at, program_at, refuse};
 use crate::failure::{DONE, Failure};
-use crate::streams::Streams;
+use crate::places::Places;
 use bpf_insn::{Order, Program, ProgramView};
 use bpf_text::{Notes, annotate};
 use std::alloc::Global;
@@ -46,35 +46,35 @@ fn say_annotated<'a, 'b, W: Write>(
 }
 
 /// Prints the instructions of an image, one a line.
-fn listed_plainly<'a, P: Streams, W: Write>(
+fn listed_plainly<'a, P: Places, W: Write>(
     alloc: Global,
-    streams: &mut P,
+    places: &mut P,
     out: &mut W,
     input: &'a str,
     order: Order,
 ) -> Result<u8, Failure<'a>>
-    ensures ok { IfOk result (Answered (ImageSays (opening P.opens P.Reader.remaining) order streams.old input.entry.now streams.new (ListSays None)) (W.contents out.old) (W.contents out.new)) }
-    ensures err { IfErr result (ImageFails (opening P.opens P.Reader.remaining) streams.old input.entry.now streams.new) }
+    ensures ok { IfOk result (Answered (ImageSays (opening P.opens P.Reader.remaining) order places.old input.entry.now places.new (ListSays None)) (W.contents out.old) (W.contents out.new)) }
+    ensures err { IfErr result (ImageFails (opening P.opens P.Reader.remaining) places.old input.entry.now places.new) }
 {
-    match program_at(alloc, streams, input, order)? {
+    match program_at(alloc, places, input, order)? {
         Ok(program) => say_listing(out, &program),
         Err(error) => refuse(alloc, out, error),
     }
 }
 
 /// The same with comments.
-fn listed_with<'a, P: Streams, W: Write>(
+fn listed_with<'a, P: Places, W: Write>(
     alloc: Global,
-    streams: &mut P,
+    places: &mut P,
     out: &mut W,
     input: &'a str,
     notes: Notes,
     order: Order,
 ) -> Result<u8, Failure<'a>>
-    ensures ok { IfOk result (Answered (ImageSays (opening P.opens P.Reader.remaining) order streams.old input.entry.now streams.new (ListSays (Some notes))) (W.contents out.old) (W.contents out.new)) }
-    ensures err { IfErr result (ImageFails (opening P.opens P.Reader.remaining) streams.old input.entry.now streams.new) }
+    ensures ok { IfOk result (Answered (ImageSays (opening P.opens P.Reader.remaining) order places.old input.entry.now places.new (ListSays (Some notes))) (W.contents out.old) (W.contents out.new)) }
+    ensures err { IfErr result (ImageFails (opening P.opens P.Reader.remaining) places.old input.entry.now places.new) }
 {
-    let bytes = match image_at(alloc, streams, input)? {
+    let bytes = match image_at(alloc, places, input)? {
         Ok(bytes) => bytes,
         Err(error) => return refuse(alloc, out, error),
     };
@@ -97,20 +97,20 @@ fn notes_of(slots: bool, bytes: bool) -> Option<Notes>
 }
 
 /// Prints the instructions of an image, one a line, with their slots and their bytes in comments where that is asked for.
-pub fn listed<'a, P: Streams, W: Write>(
+pub fn listed<'a, P: Places, W: Write>(
     alloc: Global,
-    streams: &mut P,
+    places: &mut P,
     out: &mut W,
     input: &'a str,
     slots: bool,
     bytes: bool,
     order: Order,
 ) -> Result<u8, Failure<'a>>
-    ensures ok { IfOk result (Answered (ImageSays (opening P.opens P.Reader.remaining) order streams.old input.entry.now streams.new (ListSays (notes_of slots bytes))) (W.contents out.old) (W.contents out.new)) }
-    ensures err { IfErr result (ImageFails (opening P.opens P.Reader.remaining) streams.old input.entry.now streams.new) }
+    ensures ok { IfOk result (Answered (ImageSays (opening P.opens P.Reader.remaining) order places.old input.entry.now places.new (ListSays (notes_of slots bytes))) (W.contents out.old) (W.contents out.new)) }
+    ensures err { IfErr result (ImageFails (opening P.opens P.Reader.remaining) places.old input.entry.now places.new) }
 {
     match notes_of(slots, bytes) {
-        Some(notes) => listed_with(alloc, streams, out, input, notes, order),
-        None => listed_plainly(alloc, streams, out, input, order),
+        Some(notes) => listed_with(alloc, places, out, input, notes, order),
+        None => listed_plainly(alloc, places, out, input, order),
     }
 }

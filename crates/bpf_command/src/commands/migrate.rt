@@ -9,28 +9,28 @@ ghost use Rattle.bpf_command.specs.Printed.{MigrateSays, MigrateFails};
 use crate::commands::certificate::{certificate_at, refuse_text};
 use crate::commands::output::put;
 use crate::failure::Failure;
-use crate::streams::Streams;
+use crate::places::Places;
 use bpf_cert::migrate;
 use std::alloc::Global;
 use std::io::Write;
 
 /// Writes a certificate once more as version 2. The place for it is made only where there is one.
-pub fn migrated<'a, P: Streams, W: Write>(
+pub fn migrated<'a, P: Places, W: Write>(
     alloc: Global,
-    streams: &mut P,
+    places: &mut P,
     out: &mut W,
     certificate: &'a str,
     output: &'a str,
 ) -> Result<u8, Failure<'a>>
-    ensures ok { IfOk result (Answered (MigrateSays (opening P.opens P.Reader.remaining) (making P.creates P.ends P.Writer.contents) streams.old certificate.entry.now output.entry.now streams.new) (W.contents out.old) (W.contents out.new)) }
-    ensures err { IfErr result (MigrateFails (opening P.opens P.Reader.remaining) (making P.creates P.ends P.Writer.contents) streams.old certificate.entry.now output.entry.now streams.new) }
+    ensures ok { IfOk result (Answered (MigrateSays (opening P.opens P.Reader.remaining) (making P.creates P.ends P.Writer.contents) places.old certificate.entry.now output.entry.now places.new) (W.contents out.old) (W.contents out.new)) }
+    ensures err { IfErr result (MigrateFails (opening P.opens P.Reader.remaining) (making P.creates P.ends P.Writer.contents) places.old certificate.entry.now output.entry.now places.new) }
 {
-    let certificate = match certificate_at(alloc, streams, certificate)? {
+    let certificate = match certificate_at(alloc, places, certificate)? {
         Ok(certificate) => certificate,
         Err(error) => return refuse_text(alloc, out, error),
     };
     match migrate(alloc, &certificate) {
-        Ok(migrated) => put(streams, output, &migrated),
+        Ok(migrated) => put(places, output, &migrated),
         Err(error) => refuse_text(alloc, out, error),
     }
 }

@@ -7,7 +7,7 @@ ghost use Rattle.bpf_command.specs.Made.{making};
 ghost use Rattle.bpf_command.specs.declared.failure.Failure.TheVariants.{CannotWrite};
 
 use crate::failure::{DONE, Failure};
-use crate::streams::Streams;
+use crate::places::Places;
 use bpf_cert::{Certificate, write};
 use bpf_insn::{Program, encode};
 use std::io::{self, Write};
@@ -44,22 +44,22 @@ impl Content for Certificate {
 }
 
 /// Puts content at a name, whole; where that fails, what stood there stays.
-pub fn put<'a, P: Streams, C: Content>(
-    streams: &mut P,
+pub fn put<'a, P: Places, C: Content>(
+    places: &mut P,
     name: &'a str,
     content: &C,
 ) -> Result<u8, Failure<'a>>
-    ensures ok { IfOk result (λ status. (status ≡ 0) × making P.creates P.ends P.Writer.contents streams.old name.entry.now (C.bytes content.now) true streams.new) }
-    ensures err { IfErr result (λ failure. (failure ≡ CannotWrite name.entry) × making P.creates P.ends P.Writer.contents streams.old name.entry.now (C.bytes content.now) false streams.new) }
+    ensures ok { IfOk result (λ status. (status ≡ 0) × making P.creates P.ends P.Writer.contents places.old name.entry.now (C.bytes content.now) true places.new) }
+    ensures err { IfErr result (λ failure. (failure ≡ CannotWrite name.entry) × making P.creates P.ends P.Writer.contents places.old name.entry.now (C.bytes content.now) false places.new) }
 {
-    let Ok(mut writer) = streams.create(name) else {
+    let Ok(mut writer) = places.create(name) else {
         return Err(Failure::CannotWrite(name));
     };
     if content.write_to(&mut writer).is_err() {
-        streams.discard(writer);
+        places.discard(writer);
         return Err(Failure::CannotWrite(name));
     }
-    match streams.finish(writer) {
+    match places.finish(writer) {
         Ok(()) => Ok(DONE),
         Err(_) => Err(Failure::CannotWrite(name)),
     }

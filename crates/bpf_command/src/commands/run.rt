@@ -16,7 +16,7 @@ use crate::commands::image::{program_at, refuse};
 use crate::commands::whole::context_at;
 use crate::context::context_of;
 use crate::failure::{DONE, Failure, REFUSED, say};
-use crate::streams::Streams;
+use crate::places::Places;
 use bpf_insn::{Order, Program};
 use bpf_machine::{Outcome, run};
 use bpf_request::Contexts;
@@ -62,9 +62,9 @@ fn say_outcome<'a, W: Write>(
 
 /// Runs the image on a context, and prints how it ends. A program of its own is decoded once, where a view would be at
 /// each step.
-fn run_image<'a, P: Streams, W: Write>(
+fn run_image<'a, P: Places, W: Write>(
     alloc: Global,
-    streams: &mut P,
+    places: &mut P,
     out: &mut W,
     input: &'a str,
     context: &[u8],
@@ -72,10 +72,10 @@ fn run_image<'a, P: Streams, W: Write>(
     order: Order,
 ) -> Result<u8, Failure<'a>>
     requires { length context.now ≤ 4096 }
-    ensures ok { IfOk result (Answered (ImageSays (opening P.opens P.Reader.remaining) order streams.old input.entry.now streams.new (OutcomeSays context.now steps)) (W.contents out.old) (W.contents out.new)) }
-    ensures err { IfErr result (ImageFails (opening P.opens P.Reader.remaining) streams.old input.entry.now streams.new) }
+    ensures ok { IfOk result (Answered (ImageSays (opening P.opens P.Reader.remaining) order places.old input.entry.now places.new (OutcomeSays context.now steps)) (W.contents out.old) (W.contents out.new)) }
+    ensures err { IfErr result (ImageFails (opening P.opens P.Reader.remaining) places.old input.entry.now places.new) }
 {
-    match program_at(alloc, streams, input, order)? {
+    match program_at(alloc, places, input, order)? {
         Ok(program) => say_outcome(alloc, out, run(&program, context, u64::from(steps))),
         Err(error) => refuse(alloc, out, error),
     }
@@ -83,40 +83,40 @@ fn run_image<'a, P: Streams, W: Write>(
 
 /// Runs the image on the context, for at most so many instructions, and prints how it ends. The context is judged first,
 /// then the image.
-fn ran<'a, P: Streams, W: Write>(
+fn ran<'a, P: Places, W: Write>(
     alloc: Global,
-    streams: &mut P,
+    places: &mut P,
     out: &mut W,
     input: &'a str,
     hex: &'a str,
     steps: u32,
     order: Order,
 ) -> Result<u8, Failure<'a>>
-    ensures ok { IfOk result (λ status. (answer : Answer) × (context : List ℕ) × (context_in hex.entry.now ≡ Ok context) × Says answer status (W.contents out.old) (W.contents out.new) × ImageSays (opening P.opens P.Reader.remaining) order streams.old input.entry.now streams.new (OutcomeSays context steps) answer) }
-    ensures err { IfErr result (FailsWith streams.old streams.new hex.entry.now (ImageFails (opening P.opens P.Reader.remaining) streams.old input.entry.now streams.new)) }
+    ensures ok { IfOk result (λ status. (answer : Answer) × (context : List ℕ) × (context_in hex.entry.now ≡ Ok context) × Says answer status (W.contents out.old) (W.contents out.new) × ImageSays (opening P.opens P.Reader.remaining) order places.old input.entry.now places.new (OutcomeSays context steps) answer) }
+    ensures err { IfErr result (FailsWith places.old places.new hex.entry.now (ImageFails (opening P.opens P.Reader.remaining) places.old input.entry.now places.new)) }
 {
     let context = match context_of(alloc, hex) {
         Ok(context) => context,
         Err(error) => return Err(Failure::BadContext(error)),
     };
-    run_image(alloc, streams, out, input, &context, steps, order)
+    run_image(alloc, places, out, input, &context, steps, order)
 }
 
 /// The same with the context at a name, which is read first.
-fn ran_at<'a, P: Streams, W: Write>(
+fn ran_at<'a, P: Places, W: Write>(
     alloc: Global,
-    streams: &mut P,
+    places: &mut P,
     out: &mut W,
     input: &'a str,
     context: &'a str,
     steps: u32,
     order: Order,
 ) -> Result<u8, Failure<'a>>
-    ensures ok { IfOk result (λ status. RunAtSays (opening P.opens P.Reader.remaining) order streams.old input.entry.now context.entry.now steps streams.new (W.contents out.old) (W.contents out.new) status) }
-    ensures err { IfErr result (FailsBehind (opening P.opens P.Reader.remaining) streams.old context.entry.now streams.new (λ between. ImageFails (opening P.opens P.Reader.remaining) between input.entry.now streams.new)) }
+    ensures ok { IfOk result (λ status. RunAtSays (opening P.opens P.Reader.remaining) order places.old input.entry.now context.entry.now steps places.new (W.contents out.old) (W.contents out.new) status) }
+    ensures err { IfErr result (FailsBehind (opening P.opens P.Reader.remaining) places.old context.entry.now places.new (λ between. ImageFails (opening P.opens P.Reader.remaining) between input.entry.now places.new)) }
 {
-    let context = context_at(alloc, streams, context)?;
-    run_image(alloc, streams, out, input, &context, steps, order)
+    let context = context_at(alloc, places, context)?;
+    run_image(alloc, places, out, input, &context, steps, order)
 }
 
 /// A program and the most instructions that each run of it does.
@@ -146,19 +146,19 @@ impl<'a> Runner for Fueled<'a> {
 }
 
 /// The same with each context of the lines at a name, which is opened once the image is judged.
-fn ran_each<'a, P: Streams, W: Write>(
+fn ran_each<'a, P: Places, W: Write>(
     alloc: Global,
-    streams: &mut P,
+    places: &mut P,
     out: &mut W,
     input: &'a str,
     contexts: &'a str,
     steps: u32,
     order: Order,
 ) -> Result<u8, Failure<'a>>
-    ensures ok { IfOk result (RunEachSays (opening P.opens P.Reader.remaining) order streams.old input.entry.now contexts.entry.now steps streams.new (W.contents out.old) (W.contents out.new)) }
-    ensures err { IfErr result (RunEachFails (opening P.opens P.Reader.remaining) order streams.old input.entry.now contexts.entry.now steps streams.new (W.contents out.old) (W.contents out.new)) }
+    ensures ok { IfOk result (RunEachSays (opening P.opens P.Reader.remaining) order places.old input.entry.now contexts.entry.now steps places.new (W.contents out.old) (W.contents out.new)) }
+    ensures err { IfErr result (RunEachFails (opening P.opens P.Reader.remaining) order places.old input.entry.now contexts.entry.now steps places.new (W.contents out.old) (W.contents out.new)) }
 {
-    let program = match program_at(alloc, streams, input, order)? {
+    let program = match program_at(alloc, places, input, order)? {
         Ok(program) => program,
         Err(error) => return refuse(alloc, out, error),
     };
@@ -166,26 +166,26 @@ fn ran_each<'a, P: Streams, W: Write>(
         program: &program,
         steps,
     };
-    answered(alloc, streams, out, &runner, contexts)
+    answered(alloc, places, out, &runner, contexts)
 }
 
 /// Runs the image on the contexts that are given.
-pub fn ran_on<'a, P: Streams, W: Write>(
+pub fn ran_on<'a, P: Places, W: Write>(
     alloc: Global,
-    streams: &mut P,
+    places: &mut P,
     out: &mut W,
     input: &'a str,
     contexts: Contexts<'a>,
     steps: u32,
     order: Order,
 ) -> Result<u8, Failure<'a>>
-    ensures ok { IfOk result (RunSays (opening P.opens P.Reader.remaining) order streams.old input.entry.now contexts.entry steps streams.new (W.contents out.old) (W.contents out.new)) }
-    ensures err { IfErr result (RunFails (opening P.opens P.Reader.remaining) order streams.old input.entry.now contexts.entry steps streams.new (W.contents out.old) (W.contents out.new)) }
+    ensures ok { IfOk result (RunSays (opening P.opens P.Reader.remaining) order places.old input.entry.now contexts.entry steps places.new (W.contents out.old) (W.contents out.new)) }
+    ensures err { IfErr result (RunFails (opening P.opens P.Reader.remaining) order places.old input.entry.now contexts.entry steps places.new (W.contents out.old) (W.contents out.new)) }
 {
     match contexts {
-        Contexts::Word(hex) => ran(alloc, streams, out, input, hex, steps, order),
-        Contexts::Bytes(name) => ran_at(alloc, streams, out, input, name, steps, order),
-        Contexts::Lines(name) => ran_each(alloc, streams, out, input, name, steps, order),
+        Contexts::Word(hex) => ran(alloc, places, out, input, hex, steps, order),
+        Contexts::Bytes(name) => ran_at(alloc, places, out, input, name, steps, order),
+        Contexts::Lines(name) => ran_each(alloc, places, out, input, name, steps, order),
         Contexts::Nothing => Err(Failure::NoContext),
         Contexts::Several => Err(Failure::ContextTwice),
     }

@@ -12,29 +12,29 @@ use crate::commands::judged::{Wish, judged, judged_each};
 use crate::commands::whole::context_at;
 use crate::context::context_of;
 use crate::failure::Failure;
-use crate::streams::Streams;
+use crate::places::Places;
 use bpf_insn::Order;
 use bpf_request::Contexts;
 use std::alloc::Global;
 use std::io::Write;
 
 /// Runs the image's program on a context once the certificate has certified it, and prints the result.
-fn run_certified<'a, P: Streams, W: Write>(
+fn run_certified<'a, P: Places, W: Write>(
     alloc: Global,
-    streams: &mut P,
+    places: &mut P,
     out: &mut W,
     input: &'a str,
     certificate: &'a str,
     context: &[u8],
     order: Order,
 ) -> Result<u8, Failure<'a>>
-    ensures ok { IfOk result (Answered (RunCheckedSays (opening P.opens P.Reader.remaining) order streams.old input.entry.now certificate.entry.now streams.new context.now) (W.contents out.old) (W.contents out.new)) }
-    ensures err { IfErr result (LoadedFails (opening P.opens P.Reader.remaining) order streams.old input.entry.now certificate.entry.now streams.new) }
+    ensures ok { IfOk result (Answered (RunCheckedSays (opening P.opens P.Reader.remaining) order places.old input.entry.now certificate.entry.now places.new context.now) (W.contents out.old) (W.contents out.new)) }
+    ensures err { IfErr result (LoadedFails (opening P.opens P.Reader.remaining) order places.old input.entry.now certificate.entry.now places.new) }
 {
-    match program_at(alloc, streams, input, order)? {
+    match program_at(alloc, places, input, order)? {
         Ok(program) => {
             let wish = Wish::Run { context };
-            judged(alloc, streams, out, &program, certificate, wish)
+            judged(alloc, places, out, &program, certificate, wish)
         }
         Err(error) => refuse(alloc, out, error),
     }
@@ -42,79 +42,79 @@ fn run_certified<'a, P: Streams, W: Write>(
 
 /// Runs the image's program on the context once the certificate has certified it, and prints the result. The context's
 /// word is judged first, then the image, the certificate, the check, and the context's length last.
-fn ran_checked<'a, P: Streams, W: Write>(
+fn ran_checked<'a, P: Places, W: Write>(
     alloc: Global,
-    streams: &mut P,
+    places: &mut P,
     out: &mut W,
     input: &'a str,
     certificate: &'a str,
     hex: &'a str,
     order: Order,
 ) -> Result<u8, Failure<'a>>
-    ensures ok { IfOk result (λ status. (answer : Answer) × (context : List ℕ) × (context_in hex.entry.now ≡ Ok context) × Says answer status (W.contents out.old) (W.contents out.new) × RunCheckedSays (opening P.opens P.Reader.remaining) order streams.old input.entry.now certificate.entry.now streams.new context answer) }
-    ensures err { IfErr result (FailsWith streams.old streams.new hex.entry.now (LoadedFails (opening P.opens P.Reader.remaining) order streams.old input.entry.now certificate.entry.now streams.new)) }
+    ensures ok { IfOk result (λ status. (answer : Answer) × (context : List ℕ) × (context_in hex.entry.now ≡ Ok context) × Says answer status (W.contents out.old) (W.contents out.new) × RunCheckedSays (opening P.opens P.Reader.remaining) order places.old input.entry.now certificate.entry.now places.new context answer) }
+    ensures err { IfErr result (FailsWith places.old places.new hex.entry.now (LoadedFails (opening P.opens P.Reader.remaining) order places.old input.entry.now certificate.entry.now places.new)) }
 {
     let context = match context_of(alloc, hex) {
         Ok(context) => context,
         Err(error) => return Err(Failure::BadContext(error)),
     };
-    run_certified(alloc, streams, out, input, certificate, &context, order)
+    run_certified(alloc, places, out, input, certificate, &context, order)
 }
 
 /// The same with the context at a name, which is read first.
-fn ran_checked_at<'a, P: Streams, W: Write>(
+fn ran_checked_at<'a, P: Places, W: Write>(
     alloc: Global,
-    streams: &mut P,
+    places: &mut P,
     out: &mut W,
     input: &'a str,
     certificate: &'a str,
     context: &'a str,
     order: Order,
 ) -> Result<u8, Failure<'a>>
-    ensures ok { IfOk result (CheckedAtSays (opening P.opens P.Reader.remaining) order streams.old input.entry.now certificate.entry.now context.entry.now streams.new (W.contents out.old) (W.contents out.new)) }
-    ensures err { IfErr result (FailsBehind (opening P.opens P.Reader.remaining) streams.old context.entry.now streams.new (λ between. LoadedFails (opening P.opens P.Reader.remaining) order between input.entry.now certificate.entry.now streams.new)) }
+    ensures ok { IfOk result (CheckedAtSays (opening P.opens P.Reader.remaining) order places.old input.entry.now certificate.entry.now context.entry.now places.new (W.contents out.old) (W.contents out.new)) }
+    ensures err { IfErr result (FailsBehind (opening P.opens P.Reader.remaining) places.old context.entry.now places.new (λ between. LoadedFails (opening P.opens P.Reader.remaining) order between input.entry.now certificate.entry.now places.new)) }
 {
-    let context = context_at(alloc, streams, context)?;
-    run_certified(alloc, streams, out, input, certificate, &context, order)
+    let context = context_at(alloc, places, context)?;
+    run_certified(alloc, places, out, input, certificate, &context, order)
 }
 
 /// The same with each context of the lines at a name, which is opened once the certificate has certified the program.
-fn ran_checked_each<'a, P: Streams, W: Write>(
+fn ran_checked_each<'a, P: Places, W: Write>(
     alloc: Global,
-    streams: &mut P,
+    places: &mut P,
     out: &mut W,
     input: &'a str,
     certificate: &'a str,
     contexts: &'a str,
     order: Order,
 ) -> Result<u8, Failure<'a>>
-    ensures ok { IfOk result (CheckedEachSays (opening P.opens P.Reader.remaining) order streams.old input.entry.now certificate.entry.now contexts.entry.now streams.new (W.contents out.old) (W.contents out.new)) }
-    ensures err { IfErr result (CheckedEachFails (opening P.opens P.Reader.remaining) order streams.old input.entry.now certificate.entry.now contexts.entry.now streams.new (W.contents out.old) (W.contents out.new)) }
+    ensures ok { IfOk result (CheckedEachSays (opening P.opens P.Reader.remaining) order places.old input.entry.now certificate.entry.now contexts.entry.now places.new (W.contents out.old) (W.contents out.new)) }
+    ensures err { IfErr result (CheckedEachFails (opening P.opens P.Reader.remaining) order places.old input.entry.now certificate.entry.now contexts.entry.now places.new (W.contents out.old) (W.contents out.new)) }
 {
-    match program_at(alloc, streams, input, order)? {
-        Ok(program) => judged_each(alloc, streams, out, &program, certificate, contexts),
+    match program_at(alloc, places, input, order)? {
+        Ok(program) => judged_each(alloc, places, out, &program, certificate, contexts),
         Err(error) => refuse(alloc, out, error),
     }
 }
 
 /// Runs the image's program on the contexts that are given, once the certificate has certified it.
-pub fn ran_checked_on<'a, P: Streams, W: Write>(
+pub fn ran_checked_on<'a, P: Places, W: Write>(
     alloc: Global,
-    streams: &mut P,
+    places: &mut P,
     out: &mut W,
     input: &'a str,
     certificate: &'a str,
     contexts: Contexts<'a>,
     order: Order,
 ) -> Result<u8, Failure<'a>>
-    ensures ok { IfOk result (CheckedSays (opening P.opens P.Reader.remaining) order streams.old input.entry.now certificate.entry.now contexts.entry streams.new (W.contents out.old) (W.contents out.new)) }
-    ensures err { IfErr result (CheckedFails (opening P.opens P.Reader.remaining) order streams.old input.entry.now certificate.entry.now contexts.entry streams.new (W.contents out.old) (W.contents out.new)) }
+    ensures ok { IfOk result (CheckedSays (opening P.opens P.Reader.remaining) order places.old input.entry.now certificate.entry.now contexts.entry places.new (W.contents out.old) (W.contents out.new)) }
+    ensures err { IfErr result (CheckedFails (opening P.opens P.Reader.remaining) order places.old input.entry.now certificate.entry.now contexts.entry places.new (W.contents out.old) (W.contents out.new)) }
 {
     match contexts {
-        Contexts::Word(hex) => ran_checked(alloc, streams, out, input, certificate, hex, order),
+        Contexts::Word(hex) => ran_checked(alloc, places, out, input, certificate, hex, order),
         Contexts::Bytes(name) => ran_checked_at(
             alloc,
-            streams,
+            places,
             out,
             input,
             certificate,
@@ -123,7 +123,7 @@ pub fn ran_checked_on<'a, P: Streams, W: Write>(
         ),
         Contexts::Lines(name) => ran_checked_each(
             alloc,
-            streams,
+            places,
             out,
             input,
             certificate,

@@ -6,21 +6,21 @@ ghost use Rattle.bpf_command.specs.Given.{ContextAt, ContextFails};
 
 use crate::context::ContextError;
 use crate::failure::Failure;
+use crate::places::Places;
 use crate::reading::read_up_to;
-use crate::streams::Streams;
 use bpf_insn::MAX_CONTEXT;
 use std::alloc::Global;
 
 /// The context at a name.
-pub fn context_at<'a, P: Streams>(
+pub fn context_at<'a, P: Places>(
     alloc: Global,
-    streams: &mut P,
+    places: &mut P,
     name: &'a str,
 ) -> Result<Vec<u8>, Failure<'a>>
-    ensures ok { IfOk result (λ v. ContextAt (opening P.opens P.Reader.remaining) streams.old name.entry.now streams.new v.items) }
-    ensures err { IfErr result (ContextFails (opening P.opens P.Reader.remaining) streams.old name.entry.now streams.new) }
+    ensures ok { IfOk result (λ v. ContextAt (opening P.opens P.Reader.remaining) places.old name.entry.now places.new v.items) }
+    ensures err { IfErr result (ContextFails (opening P.opens P.Reader.remaining) places.old name.entry.now places.new) }
 {
-    let Ok(mut reader) = streams.open(name) else {
+    let Ok(mut reader) = places.open(name) else {
         return Err(Failure::CannotRead(name));
     };
     let Some(bytes) = read_up_to(alloc, &mut reader, MAX_CONTEXT)? else {

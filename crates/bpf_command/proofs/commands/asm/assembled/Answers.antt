@@ -11,10 +11,10 @@ use Rattle.bpf_command.proofs.commands.asm.assembled.Goals as goal
 
 pub returns-in-Ok-clause-ok : goal.returns-in-Ok-clause-ok
 returns-in-Ok-clause-ok g c =
-    let at = opening g.P.Streams.opens g.P.Reader.Read.remaining in
+    let at = opening g.P.Places.opens g.P.Reader.Read.remaining in
     let p = c.in-Ok.program in
-    let read : ShortTextAt at c.args.streams.now c.args.input.now c.text_at.new.streams (λ bytes. string_bytes c.in_ok-text.text ≡ bytes) = c.in_ok-text.ensures.ok in
+    let read : ShortTextAt at c.args.places.now c.args.input.now c.text_at.new.places (λ bytes. string_bytes c.in_ok-text.text ≡ bytes) = c.in_ok-text.ensures.ok in
     let said : Assembles (string_bytes c.in_ok-text.text) p.list = search rules in
-    let text : LoadsText at c.args.order c.args.streams.now c.args.input.now c.text_at.new.streams p
-    = record { assembles = text_says at c.args.streams.now c.args.input.now c.text_at.new.streams (string_bytes c.in_ok-text.text) (λ t. Assembles t p.list) read said; order_is = search rules } in
-    put_says c.put.result _ _ (AsmSays at (making g.P.Streams.creates g.P.Streams.ends g.P.Writer.Write.contents) c.args.order c.args.streams.now c.args.input.now c.args.output.now c.put.new.streams) c.put.ensures.ok (λ made. (c.text_at.new.streams, p, text, made))
+    let text : LoadsText at c.args.order c.args.places.now c.args.input.now c.text_at.new.places p
+    = record { assembles = text_says at c.args.places.now c.args.input.now c.text_at.new.places (string_bytes c.in_ok-text.text) (λ t. Assembles t p.list) read said; order_is = search rules } in
+    put_says c.put.result _ _ (AsmSays at (making g.P.Places.creates g.P.Places.ends g.P.Writer.Write.contents) c.args.order c.args.places.now c.args.input.now c.args.output.now c.put.new.places) c.put.ensures.ok (λ made. (c.text_at.new.places, p, text, made))

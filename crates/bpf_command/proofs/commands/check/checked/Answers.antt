@@ -11,16 +11,16 @@ use Rattle.bpf_command.proofs.commands.check.checked.Goals as goal
 
 pub returns-in-Ok-of-clause-ok : goal.returns-in-Ok-of-clause-ok
 returns-in-Ok-of-clause-ok g c =
-    let at = opening g.P.Streams.opens g.P.Reader.Read.remaining in
+    let at = opening g.P.Places.opens g.P.Reader.Read.remaining in
     let bytes = c.deref.result.now in
     let p = c.in-Ok-of.program in
     let same : c.in-Ok.bytes.items ≡ c.deref.result.now = search rules in
-    let read = read_of at (λ v. v.items) c.args.streams.now c.args.input.now c.image_at.new.streams c.in_ok-bytes.field-0 c.in-Ok.bytes c.deref.result.now c.in-Ok.is same c.in_ok-bytes.ensures.ok in
-    let image : LoadsImage at c.args.order c.args.streams.now c.args.input.now c.image_at.new.streams c.in-Ok-of.program
+    let read = read_of at (λ v. v.items) c.args.places.now c.args.input.now c.image_at.new.places c.in_ok-bytes.field-0 c.in-Ok.bytes c.deref.result.now c.in-Ok.is same c.in_ok-bytes.ensures.ok in
+    let image : LoadsImage at c.args.order c.args.places.now c.args.input.now c.image_at.new.places c.in-Ok-of.program
     = record { bytes = c.deref.result.now; read = read; is_image = record { program = c.in-Ok-of.ensures.program; bytes_are = c.in-Ok-of.ensures.ok.0.bytes_are }; order_is = c.in-Ok-of.ensures.ok.1 } in
     let safe : (d : CertificateView) → IsCertifiedBy c.in-Ok-of.program d → Verified c.args.order c.deref.result.now d.least d.most d.steps
     = λ d by. verified c.image_is_injective.ensures c.certified_is_safe.ensures c.certified_is_flat_safe.ensures c.args.order c.deref.result.now c.in-Ok-of.program d image.is_image image.order_is by in
-    says_so c.judged.result _ _ _ (CheckSays at c.args.order c.args.streams.now c.args.input.now c.args.certificate.now c.judged.new.streams c.args.counted)
-    (λ x h. loaded_says at c.args.order c.args.streams.now c.args.input.now c.args.certificate.now c.image_at.new.streams c.judged.new.streams p image (λ b k y. YesSays c.args.counted k y × IsPromised c.args.order b y) (λ k e n. n.0) x
-    (said_more at c.image_at.new.streams c.args.certificate.now c.judged.new.streams p (YesSays c.args.counted) (λ k y. YesSays c.args.counted k y × IsPromised c.args.order bytes y) (λ d by y m. promised c.args.order bytes c.args.counted p d (safe d by) y m) x h))
+    says_so c.judged.result _ _ _ (CheckSays at c.args.order c.args.places.now c.args.input.now c.args.certificate.now c.judged.new.places c.args.counted)
+    (λ x h. loaded_says at c.args.order c.args.places.now c.args.input.now c.args.certificate.now c.image_at.new.places c.judged.new.places p image (λ b k y. YesSays c.args.counted k y × IsPromised c.args.order b y) (λ k e n. n.0) x
+    (said_more at c.image_at.new.places c.args.certificate.now c.judged.new.places p (YesSays c.args.counted) (λ k y. YesSays c.args.counted k y × IsPromised c.args.order bytes y) (λ d by y m. promised c.args.order bytes c.args.counted p d (safe d by) y m) x h))
     c.judged.ensures.ok

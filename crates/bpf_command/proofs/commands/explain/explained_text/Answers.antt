@@ -12,32 +12,32 @@ use Rattle.bpf_command.proofs.commands.explain.explained_text.Goals as goal
 
 pub returns-in-Ok-clause-ok : goal.returns-in-Ok-clause-ok
 returns-in-Ok-clause-ok g c =
-    let at = opening g.P.Streams.opens g.P.Reader.Read.remaining in
+    let at = opening g.P.Places.opens g.P.Reader.Read.remaining in
     let p = c.in-Ok._program in
-    let read : ShortTextAt at c.args.streams.now c.args.input.now c.text_at.new.streams (λ bytes. string_bytes c.in_ok-text.text ≡ bytes) = c.in_ok-text.ensures.ok in
+    let read : ShortTextAt at c.args.places.now c.args.input.now c.text_at.new.places (λ bytes. string_bytes c.in_ok-text.text ≡ bytes) = c.in_ok-text.ensures.ok in
     let said : Assembles (string_bytes c.in_ok-text.text) p.list = search rules in
-    either_so c.say_text.result 0 1 (Lists p.list) (NoText Memory) (TextSays at c.args.streams.now c.args.input.now c.text_at.new.streams) refl refl
-    (text_says at c.args.streams.now c.args.input.now c.text_at.new.streams (string_bytes c.in_ok-text.text) (λ t. Assembles t p.list) read said)
-    (text_says at c.args.streams.now c.args.input.now c.text_at.new.streams (string_bytes c.in_ok-text.text) (λ t. (Memory ≡ Memory) ⊎ IsRefused t Memory) read (inl refl))
+    either_so c.say_text.result 0 1 (Lists p.list) (NoText Memory) (TextSays at c.args.places.now c.args.input.now c.text_at.new.places) refl refl
+    (text_says at c.args.places.now c.args.input.now c.text_at.new.places (string_bytes c.in_ok-text.text) (λ t. Assembles t p.list) read said)
+    (text_says at c.args.places.now c.args.input.now c.text_at.new.places (string_bytes c.in_ok-text.text) (λ t. (Memory ≡ Memory) ⊎ IsRefused t Memory) read (inl refl))
     c.say_text.ensures.ok
 
 pub returns-in-Err-Memory-clause-ok : goal.returns-in-Err-Memory-clause-ok
 returns-in-Err-Memory-clause-ok g c =
-    let at = opening g.P.Streams.opens g.P.Reader.Read.remaining in
-    let read : ShortTextAt at c.args.streams.now c.args.input.now c.text_at.new.streams (λ bytes. string_bytes c.in_ok-text.text ≡ bytes) = c.in_ok-text.ensures.ok in
-    printed_so c.refuse_text.result (NoText Memory) _ _ (TextSays at c.args.streams.now c.args.input.now c.text_at.new.streams)
-    (text_says at c.args.streams.now c.args.input.now c.text_at.new.streams (string_bytes c.in_ok-text.text) (λ t. (Memory ≡ Memory) ⊎ IsRefused t Memory) read (inl refl)) c.refuse_text.ensures.ok
+    let at = opening g.P.Places.opens g.P.Reader.Read.remaining in
+    let read : ShortTextAt at c.args.places.now c.args.input.now c.text_at.new.places (λ bytes. string_bytes c.in_ok-text.text ≡ bytes) = c.in_ok-text.ensures.ok in
+    printed_so c.refuse_text.result (NoText Memory) _ _ (TextSays at c.args.places.now c.args.input.now c.text_at.new.places)
+    (text_says at c.args.places.now c.args.input.now c.text_at.new.places (string_bytes c.in_ok-text.text) (λ t. (Memory ≡ Memory) ⊎ IsRefused t Memory) read (inl refl)) c.refuse_text.ensures.ok
 
 pub returns : goal.returns
 returns g c =
-    let at = opening g.P.Streams.opens g.P.Reader.Read.remaining in
+    let at = opening g.P.Places.opens g.P.Reader.Read.remaining in
     let e = c.in-Err._error in
-    let read : ShortTextAt at c.args.streams.now c.args.input.now c.text_at.new.streams (λ bytes. string_bytes c.in_ok-text.text ≡ bytes) = c.in_ok-text.ensures.ok in
+    let read : ShortTextAt at c.args.places.now c.args.input.now c.text_at.new.places (λ bytes. string_bytes c.in_ok-text.text ≡ bytes) = c.in_ok-text.ensures.ok in
     let refused : (e ≡ Memory) ⊎ IsRefused (string_bytes c.in_ok-text.text) e = search rules in
     record {
-      ok = either_so c.say_text-in-Err.result 1 1 (NoText e) (NoText Memory) (TextSays at c.args.streams.now c.args.input.now c.text_at.new.streams) refl refl
-          (text_says at c.args.streams.now c.args.input.now c.text_at.new.streams (string_bytes c.in_ok-text.text) (λ t. (e ≡ Memory) ⊎ IsRefused t e) read refused)
-          (text_says at c.args.streams.now c.args.input.now c.text_at.new.streams (string_bytes c.in_ok-text.text) (λ t. (Memory ≡ Memory) ⊎ IsRefused t Memory) read (inl refl))
+      ok = either_so c.say_text-in-Err.result 1 1 (NoText e) (NoText Memory) (TextSays at c.args.places.now c.args.input.now c.text_at.new.places) refl refl
+          (text_says at c.args.places.now c.args.input.now c.text_at.new.places (string_bytes c.in_ok-text.text) (λ t. (e ≡ Memory) ⊎ IsRefused t e) read refused)
+          (text_says at c.args.places.now c.args.input.now c.text_at.new.places (string_bytes c.in_ok-text.text) (λ t. (Memory ≡ Memory) ⊎ IsRefused t Memory) read (inl refl))
           c.say_text-in-Err.ensures.ok;
       err = search rules;
     }

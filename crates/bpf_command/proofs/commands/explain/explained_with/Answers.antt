@@ -9,21 +9,21 @@ use Rattle.bpf_command.proofs.commands.explain.explained_with.Goals as goal
 
 pub returns-in-Ok-clause-ok : goal.returns-in-Ok-clause-ok
 returns-in-Ok-clause-ok g c =
-    let at = opening g.P.Streams.opens g.P.Reader.Read.remaining in
+    let at = opening g.P.Places.opens g.P.Reader.Read.remaining in
     let p = g.C.Code.program c.args.program.now in
-    let read : CertificateAt at c.args.streams.now c.args.certificate.now c.certificate_kept.new.streams c.in-Ok.certificate = search rules in
-    judged_so c.say_program.result at c.args.streams.now c.args.certificate.now c.certificate_kept.new.streams p c.in-Ok.certificate read c.say_program.ensures.ok
+    let read : CertificateAt at c.args.places.now c.args.certificate.now c.certificate_kept.new.places c.in-Ok.certificate = search rules in
+    judged_so c.say_program.result at c.args.places.now c.args.certificate.now c.certificate_kept.new.places p c.in-Ok.certificate read c.say_program.ensures.ok
 
 pub returns-in-Err-Memory-clause-ok : goal.returns-in-Err-Memory-clause-ok
 returns-in-Err-Memory-clause-ok g c =
-    let at = opening g.P.Streams.opens g.P.Reader.Read.remaining in
+    let at = opening g.P.Places.opens g.P.Reader.Read.remaining in
     let p = g.C.Code.program c.args.program.now in
-    let refused : CertificateRefused at c.args.streams.now c.args.certificate.now c.certificate_kept.new.streams Memory = search rules in
-    printed_so c.refuse_text.result (NoCertificate Memory) _ _ (JudgedSays at c.args.streams.now c.args.certificate.now c.certificate_kept.new.streams p (YesSays false)) refused c.refuse_text.ensures.ok
+    let refused : CertificateRefused at c.args.places.now c.args.certificate.now c.certificate_kept.new.places Memory = search rules in
+    printed_so c.refuse_text.result (NoCertificate Memory) _ _ (JudgedSays at c.args.places.now c.args.certificate.now c.certificate_kept.new.places p (YesSays false)) refused c.refuse_text.ensures.ok
 
 pub returns-in-Err-clause-ok : goal.returns-in-Err-clause-ok
 returns-in-Err-clause-ok g c =
-    let at = opening g.P.Streams.opens g.P.Reader.Read.remaining in
+    let at = opening g.P.Places.opens g.P.Reader.Read.remaining in
     let p = g.C.Code.program c.args.program.now in
-    let refused : CertificateRefused at c.args.streams.now c.args.certificate.now c.certificate_kept.new.streams c.in-Err._error = search rules in
-    answered_so c.say_certificate.result 1 (NoCertificate c.in-Err._error) (JudgedSays at c.args.streams.now c.args.certificate.now c.certificate_kept.new.streams p (YesSays false)) refl refused c.say_certificate.ensures.ok
+    let refused : CertificateRefused at c.args.places.now c.args.certificate.now c.certificate_kept.new.places c.in-Err._error = search rules in
+    answered_so c.say_certificate.result 1 (NoCertificate c.in-Err._error) (JudgedSays at c.args.places.now c.args.certificate.now c.certificate_kept.new.places p (YesSays false)) refl refused c.say_certificate.ensures.ok

@@ -8,9 +8,9 @@ use Rattle.bpf_command.proofs.commands.infer.inferred.Goals as goal
 
 pub returns-in-Ok-proposed-clause-ok : goal.returns-in-Ok-proposed-clause-ok
 returns-in-Ok-proposed-clause-ok g c =
-    let at = opening g.P.Streams.opens g.P.Reader.Read.remaining in
-    let puts = making g.P.Streams.creates g.P.Streams.ends g.P.Writer.Write.contents in
-    let image : LoadsImage at c.args.order c.args.streams.now c.args.input.now c.program_at.new.streams c.in-Ok.program = search rules in
+    let at = opening g.P.Places.opens g.P.Reader.Read.remaining in
+    let puts = making g.P.Places.creates g.P.Places.ends g.P.Writer.Write.contents in
+    let image : LoadsImage at c.args.order c.args.places.now c.args.input.now c.program_at.new.places c.in-Ok.program = search rules in
     let proposal : IsProposal c.args.least c.args.most c.in-Ok-proposed.certificate = search rules in
-    put_says c.put.result _ _ (InferSays at puts c.args.order c.args.streams.now c.args.input.now c.args.least c.args.most c.args.output.now c.put.new.streams) c.put.ensures.ok
-    (λ made. (c.program_at.new.streams, c.in-Ok.program, c.in-Ok-proposed.certificate, image, proposal, made))
+    put_says c.put.result _ _ (InferSays at puts c.args.order c.args.places.now c.args.input.now c.args.least c.args.most c.args.output.now c.put.new.places) c.put.ensures.ok
+    (λ made. (c.program_at.new.places, c.in-Ok.program, c.in-Ok-proposed.certificate, image, proposal, made))

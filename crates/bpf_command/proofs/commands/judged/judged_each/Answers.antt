@@ -7,18 +7,18 @@ use Rattle.bpf_command.proofs.commands.judged.judged_each.Goals as goal
 
 pub returns-in-Ok-check-clause-ok : goal.returns-in-Ok-check-clause-ok
 returns-in-Ok-check-clause-ok g c =
-    let at = opening g.P.Streams.opens g.P.Reader.Read.remaining in
+    let at = opening g.P.Places.opens g.P.Reader.Read.remaining in
     let p = g.C.Code.program c.args.program.now in
-    let read : CertificateAt at c.args.streams.now c.args.certificate.now c.certificate_at.new.streams c.in-Ok.certificate = search rules in
+    let read : CertificateAt at c.args.places.now c.args.certificate.now c.certificate_at.new.places c.in-Ok.certificate = search rules in
     let by : IsCertifiedBy p c.in-Ok.certificate = search rules in
     let same : c.in-Ok-check.checked ≡ checked p c.in-Ok.certificate = c.in-Ok-check.ensures.ok in
-    judged_each_says at c.args.streams.now c.args.certificate.now c.args.contexts.now c.certificate_at.new.streams c.answered.new.streams p c.in-Ok.certificate c.in-Ok-check.checked _ _ c.answered.result read by same c.answered.ensures.ok
+    judged_each_says at c.args.places.now c.args.certificate.now c.args.contexts.now c.certificate_at.new.places c.answered.new.places p c.in-Ok.certificate c.in-Ok-check.checked _ _ c.answered.result read by same c.answered.ensures.ok
 
 pub returns-in-Ok-check-clause-err : goal.returns-in-Ok-check-clause-err
 returns-in-Ok-check-clause-err g c =
-    let at = opening g.P.Streams.opens g.P.Reader.Read.remaining in
+    let at = opening g.P.Places.opens g.P.Reader.Read.remaining in
     let p = g.C.Code.program c.args.program.now in
-    let read : CertificateAt at c.args.streams.now c.args.certificate.now c.certificate_at.new.streams c.in-Ok.certificate = search rules in
+    let read : CertificateAt at c.args.places.now c.args.certificate.now c.certificate_at.new.places c.in-Ok.certificate = search rules in
     let by : IsCertifiedBy p c.in-Ok.certificate = search rules in
     let same : c.in-Ok-check.checked ≡ checked p c.in-Ok.certificate = c.in-Ok-check.ensures.ok in
-    judged_each_fails at c.args.streams.now c.args.certificate.now c.args.contexts.now c.certificate_at.new.streams c.answered.new.streams p c.in-Ok.certificate c.in-Ok-check.checked _ _ c.answered.result read by same c.answered.ensures.err
+    judged_each_fails at c.args.places.now c.args.certificate.now c.args.contexts.now c.certificate_at.new.places c.answered.new.places p c.in-Ok.certificate c.in-Ok-check.checked _ _ c.answered.result read by same c.answered.ensures.err

@@ -9,9 +9,9 @@ use Rattle.bpf_command.proofs.commands.migrate.migrated.Goals as goal
 
 pub returns-in-Ok-migrate-clause-ok : goal.returns-in-Ok-migrate-clause-ok
 returns-in-Ok-migrate-clause-ok g c =
-    let at = opening g.P.Streams.opens g.P.Reader.Read.remaining in
-    let puts = making g.P.Streams.creates g.P.Streams.ends g.P.Writer.Write.contents in
-    let read : CertificateAt at c.args.streams.now c.args.certificate.now c.certificate_at.new.streams c.in-Ok.certificate = search rules in
+    let at = opening g.P.Places.opens g.P.Reader.Read.remaining in
+    let puts = making g.P.Places.creates g.P.Places.ends g.P.Writer.Write.contents in
+    let read : CertificateAt at c.args.places.now c.args.certificate.now c.certificate_at.new.places c.in-Ok.certificate = search rules in
     let same : c.in-Ok-migrate.migrated ≡ migrated c.in-Ok.certificate = c.in-Ok-migrate.ensures.ok in
-    put_says c.put.result _ _ (MigrateSays at puts c.args.streams.now c.args.certificate.now c.args.output.now c.put.new.streams) c.put.ensures.ok
-    (λ made. (c.certificate_at.new.streams, c.in-Ok.certificate, read, subst (λ m. puts c.certificate_at.new.streams c.args.output.now (certificate_text m) true c.put.new.streams) same made))
+    put_says c.put.result _ _ (MigrateSays at puts c.args.places.now c.args.certificate.now c.args.output.now c.put.new.places) c.put.ensures.ok
+    (λ made. (c.certificate_at.new.places, c.in-Ok.certificate, read, subst (λ m. puts c.certificate_at.new.places c.args.output.now (certificate_text m) true c.put.new.places) same made))

@@ -1,0 +1,39 @@
+//! What the command reads and writes, by name.
+
+ghost use Rattle.std.specs.Prelude.{◌≡◌, ℕ, Bool, List, [], Option, ⊤, IfOk, IfSome, is_ok, false};
+ghost use Rattle.std.specs.Result.{result_ok};
+
+use std::io::{self, Read, Write};
+
+/// Opens names for reading and for writing.
+pub trait Places {
+    type Reader: Read + Drop;
+
+    type Writer: Write + Drop;
+
+    /// What opening a name gives, None where it fails, and the places after it. Of files nothing is known.
+    ghost opens: { Self → List ℕ → Option Self.Reader → Self → Type 0 } = { λ _ _ _ _. ⊤ };
+
+    /// What making a stream for a name gives, None where it fails, and the places after it.
+    ghost creates: { Self → List ℕ → Option Self.Writer → Self → Type 0 } = { λ _ _ _ _. ⊤ };
+
+    /// Whether the bytes of a writer, as it then is, came to stand at its name, and the places after it.
+    ghost ends: { Self → Self.Writer → Bool → Self → Type 0 } = { λ _ _ _ _. ⊤ };
+
+    /// What stands at the name.
+    fn open(&mut self, name: &str) -> io::Result<Self::Reader>
+        ensures { opens self.old name.now (result_ok result) self.new };
+
+    /// An empty stream whose bytes stand at the name once it is finished.
+    fn create(&mut self, name: &str) -> io::Result<Self::Writer>
+        ensures creates { creates self.old name.now (result_ok result) self.new }
+        ensures empty { IfOk result (λ w. IfSome (Self.Writer.contents w) (λ bytes. bytes ≡ [])) };
+
+    /// Puts what was written at its name, in place of what stood there; where that fails, what stood there stays.
+    fn finish(&mut self, writer: Self::Writer) -> io::Result<()>
+        ensures { ends self.old writer (is_ok result) self.new };
+
+    /// Throws away what was written; what stood at the name stays.
+    fn discard(&mut self, writer: Self::Writer)
+        ensures { ends self.old writer false self.new };
+}

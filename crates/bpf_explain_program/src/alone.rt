@@ -1,0 +1,41 @@
+//! A program alone, without a certificate.
+
+use crate::reach::tell_unreached;
+use bpf_explain_page::{Count, Page, Tell};
+use bpf_insn::{Code, Insn, MAX_SLOTS};
+use std::io::{self, Write};
+
+/// What a lost relocation leaves most often: a call to itself, or a 64-bit constant that is 0.
+fn tell_suspect<W: Tell>(out: &mut W, slot: u32, insn: &Insn) {
+    match *insn {
+        Insn::CallLocal { off: -1 } => write!(
+            out,
+            "slot {slot} calls itself: mostly a call of another object's function that was never linked\n"
+        ),
+        Insn::LoadImm64 { value: 0, .. } => write!(
+            out,
+            "slot {slot} loads a 64-bit 0: mostly an address that a lost relocation left out\n"
+        ),
+        _ => {}
+    }
+}
+
+/// Tells how many slots a program has, and what is suspicious.
+fn tell_alone<C: Code, W: Tell>(program: &C, out: &mut W) {
+    let slots = Count(program.slots(), "slot");
+    write!(out, "an image of {slots}\n");
+    for slot in 0..program.slots().min(MAX_SLOTS as u32) {
+        if let Some(insn) = program.insn(slot) {
+            tell_suspect(out, slot, &insn);
+        }
+    }
+    tell_unreached(program, out);
+}
+
+/// Tells how many slots a program has, what looks like a lost relocation, and what nothing reaches. A fault of the writer, or a
+/// write of no bytes, ends it. It takes no memory.
+pub fn write_alone<C: Code, W: Write>(program: &C, out: &mut W) -> io::Result<()> {
+    let mut page = Page::new(out);
+    tell_alone(program, &mut page);
+    page.finish()
+}

@@ -1,0 +1,463 @@
+//! The flaws at a slot, told in the order of their numbers.
+
+use crate::effects::unknown_register;
+use crate::flaws::{CAUSES, Flaws};
+use crate::known::Spelled;
+use crate::listing::{write_edges, write_function, write_instruction, write_label};
+use crate::sight::{Outcome, Sight};
+use crate::source::SourceLines;
+use crate::standing::{
+    functions_about, label_flaws, label_in, lacks_first_label, standing_flaws, start_flaws,
+};
+use crate::whole::write_whole;
+use crate::words::{
+    Handings, Silence, tell, tell_function, tell_handed, tell_label, tell_silence, tell_start,
+};
+use bpf_cert::{Function, Label};
+use bpf_check::{Cause, Index, Refusal};
+use bpf_explain_page::Tell;
+use bpf_insn::Code;
+use bpf_state::State;
+
+/// What is written of a program.
+#[derive(Clone, Copy, PartialEq, Eq)]
+pub enum View {
+    /// The listing, with the flaws where they are.
+    Listing,
+    /// The flaws alone.
+    List,
+    /// One instruction, with its flaws.
+    Slot(u32),
+    /// The listing of states without budgets, with the flaw of one instruction.
+    Sketch(Option<Refusal>),
+    /// The flaw of one instruction alone.
+    Reason(Refusal),
+}
+
+/// Slots at which no state is known, for one reason and without another flaw.
+#[derive(Clone, Copy)]
+struct Quiet {
+    from: u32,
+    to: u32,
+    silence: Silence,
+}
+
+/// What goes on from slot to slot as a program is told.
+#[derive(Drop)]
+pub struct Report<'t> {
+    view: View,
+    /// What was told last of each place.
+    shown: State,
+    /// Room for a label's state.
+    room: State,
+    /// Why no state goes on.
+    silence: Silence,
+    quiet: Option<Quiet>,
+    /// The calls that hand frame pointers over, once they are looked for.
+    handings: Option<Handings>,
+    /// Where the instructions came from, and whether that is told at this one.
+    lines: SourceLines<'t>,
+    has_new_line: bool,
+}
+
+/// What is wrong at a slot.
+#[derive(Clone, Copy)]
+struct Found {
+    start: Flaws,
+    visit: Flaws,
+    standing: Flaws,
+}
+
+impl Found {
+    /// All that is wrong.
+    fn all(&self) -> Flaws {
+        let mut flaws = self.start;
+        flaws.add_all(&self.visit);
+        flaws.add_all(&self.standing);
+        flaws
+    }
+
+    /// Whether the one flaw is that no state reaches the instruction.
+    fn is_quiet<'a>(&self, sight: &Sight<'a>) -> bool {
+        let mut silent = Flaws::NONE;
+        silent.add_if(true, Cause::FallsOff);
+        sight.is_never && self.start.is_empty() && self.standing.is_empty() && self.visit == silent
+    }
+}
+
+impl<'t> Report<'t> {
+    /// Nothing is told yet.
+    pub fn new(view: View, lines: SourceLines<'t>) -> Self {
+        Report {
+            view,
+            shown: State::blank(),
+            room: State::blank(),
+            silence: Silence::Start,
+            quiet: None,
+            handings: None,
+            lines,
+            has_new_line: false,
+        }
+    }
+
+    /// Whether budgets are told.
+    pub fn has_budgets(&self) -> bool {
+        !matches!(self.view, View::Sketch(..) | View::Reason(..))
+    }
+
+    /// What a flaw's line begins with.
+    fn begin<'a, W: Tell>(&self, out: &mut W, cause: Cause, slot: u32, sight: Option<&Sight<'a>>) {
+        let number = cause.number();
+        if let View::Listing | View::Sketch(..) = self.view {
+            return write!(out, "     ! C{number}: ");
+        }
+        match sight {
+            Some(sight) => {
+                let text = Spelled(sight.insn);
+                write!(out, "C{number} at slot {slot}, {text}: ");
+            }
+            None => write!(out, "C{number} at slot {slot}: "),
+        }
+    }
+
+    /// Tells a flaw of the instruction at a slot.
+    fn tell_visit<'a, W: Tell, C: Code>(
+        &mut self,
+        out: &mut W,
+        program: &C,
+        certificate: &Index,
+        sight: &Sight<'a>,
+        cause: Cause,
+    ) {
+        self.begin(out, cause, sight.slot, Some(sight));
+        match cause {
+            Cause::FallsOff if sight.is_never => tell_silence(out, self.silence),
+            _ => tell(out, program, certificate, sight, cause),
+        }
+        if cause == Cause::UnsetRegister {
+            self.tell_cause(out, program, certificate, sight);
+        }
+        self.end_visit(out);
+    }
+
+    /// Ends a flaw's line: with the source's line, unless that stands above.
+    fn end_visit<W: Tell>(&self, out: &mut W) {
+        let text = self.lines.text();
+        if text.is_empty() || matches!(self.view, View::Listing | View::Sketch(..)) {
+            return write!(out, "\n");
+        }
+        write!(out, "; from {text}\n");
+    }
+
+    /// The line of the source that an instruction came from, where it is another one than before.
+    fn write_source<W: Tell>(&self, out: &mut W) {
+        let text = self.lines.text();
+        if self.has_new_line && !text.is_empty() {
+            write!(out, "; {text}\n");
+        }
+    }
+
+    /// Tells why nothing is known of a register that a function reads, if it was handed a frame pointer in it.
+    fn tell_cause<'a, W: Tell, C: Code>(
+        &mut self,
+        out: &mut W,
+        program: &C,
+        certificate: &Index,
+        sight: &Sight<'a>,
+    ) {
+        let Some(reg) = unknown_register(&sight.insn, &sight.before) else {
+            return;
+        };
+        let handings = match self.handings.take() {
+            Some(handings) => handings,
+            None => Handings::of(program, certificate),
+        };
+        tell_handed(out, program, certificate, sight, reg, &handings);
+        self.handings = Some(handings);
+    }
+
+    /// Tells that the first slot of a function, which is at a slot, has no label.
+    fn tell_shape<W: Tell>(&self, out: &mut W, function: &Function, slot: u32, cause: Cause) {
+        if cause == Cause::Misshapen && lacks_first_label(function, slot) {
+            self.begin(out, cause, slot, None);
+            tell_function(out, function);
+            write!(out, "\n");
+        }
+    }
+
+    /// Tells a flaw of a label.
+    fn tell_in_label<W: Tell, C: Code>(
+        &mut self,
+        out: &mut W,
+        program: &C,
+        certificate: &Index,
+        function: &Function,
+        label: &Label,
+        cause: Cause,
+    ) {
+        let found = label_flaws(program, certificate, function, label, &mut self.room);
+        if !found.flaws.has(cause) {
+            return;
+        }
+        self.begin(out, cause, label.slot, None);
+        let bad = found.bad;
+        tell_label(out, program, certificate, function, label, cause, bad);
+        write!(out, "\n");
+    }
+
+    /// Tells a flaw of the functions and labels at a slot.
+    fn tell_standing<W: Tell, C: Code>(
+        &mut self,
+        out: &mut W,
+        program: &C,
+        certificate: &Index,
+        slot: u32,
+        cause: Cause,
+    ) {
+        for function in functions_about(certificate, slot) {
+            self.tell_shape(out, function, slot, cause);
+            if let Some(label) = label_in(function, slot) {
+                self.tell_in_label(out, program, certificate, function, label, cause);
+            }
+        }
+    }
+
+    /// Tells a flaw of a certificate's beginning.
+    fn tell_at_start<W: Tell>(&self, out: &mut W, certificate: &Index, slot: u32, cause: Cause) {
+        self.begin(out, cause, slot, None);
+        tell_start(out, certificate, cause);
+        write!(out, "\n");
+    }
+
+    /// Tells all that is wrong at a slot, if something is, and first of the slots that were passed over.
+    fn tell_found<'a, W: Tell, C: Code>(
+        &mut self,
+        out: &mut W,
+        program: &C,
+        certificate: &Index,
+        slot: u32,
+        sight: Option<&Sight<'a>>,
+        found: &Found,
+    ) {
+        if found.all().is_empty() {
+            return;
+        }
+        self.tell_quiet(out);
+        for cause in CAUSES {
+            if found.start.has(cause) {
+                self.tell_at_start(out, certificate, slot, cause);
+            }
+            if let Some(sight) = sight {
+                if found.visit.has(cause) {
+                    self.tell_visit(out, program, certificate, sight, cause);
+                }
+            }
+            if found.standing.has(cause) {
+                self.tell_standing(out, program, certificate, slot, cause);
+            }
+        }
+    }
+
+    /// What is wrong at a slot.
+    fn found_at<'a, C: Code>(
+        &mut self,
+        program: &C,
+        certificate: &Index,
+        slot: u32,
+        sight: Option<&Sight<'a>>,
+    ) -> Found {
+        Found {
+            start: if slot == 0 {
+                start_flaws(certificate)
+            } else {
+                Flaws::NONE
+            },
+            visit: match sight {
+                Some(sight) => sight.flaws,
+                None => Flaws::NONE,
+            },
+            standing: standing_flaws(program, certificate, slot, &mut self.room),
+        }
+    }
+
+    // ---- slots at which no state is known
+
+    /// Tells of the slots that were passed over.
+    pub fn tell_quiet<W: Tell>(&mut self, out: &mut W) {
+        let Some(quiet) = self.quiet else {
+            return;
+        };
+        self.quiet = None;
+        let (from, to) = (quiet.from, quiet.to);
+        if from == to {
+            write!(out, "C11 at slot {from}: ");
+        } else {
+            write!(out, "C11 at slots {from} to {to}: ");
+        }
+        tell_silence(out, quiet.silence);
+        write!(out, "\n");
+    }
+
+    /// The first of the slots that were passed over, if it was for the reason that there is now.
+    fn quiet_from(&self) -> Option<u32> {
+        let quiet = self.quiet?;
+        if quiet.silence == self.silence {
+            Some(quiet.from)
+        } else {
+            None
+        }
+    }
+
+    /// Passes over a slot at which no state is known. Those that were passed over for another reason are told.
+    fn pass_over<W: Tell>(&mut self, out: &mut W, slot: u32) {
+        let from = match self.quiet_from() {
+            Some(from) => from,
+            None => {
+                self.tell_quiet(out);
+                slot
+            }
+        };
+        self.quiet = Some(Quiet {
+            from,
+            to: slot,
+            silence: self.silence,
+        });
+    }
+
+    // ---- slots
+
+    /// The lines of the functions and labels at a slot.
+    fn write_standing<W: Tell>(&mut self, out: &mut W, certificate: &Index, slot: u32) {
+        let has_budgets = self.has_budgets();
+        for function in functions_about(certificate, slot) {
+            if function.first == slot {
+                write_function(out, function);
+            }
+            if let Some(label) = label_in(function, slot) {
+                write_label(out, label, has_budgets, &mut self.room);
+            }
+        }
+    }
+
+    /// Tells of a slot at which no instruction begins.
+    pub fn tell_slot<W: Tell, C: Code>(
+        &mut self,
+        out: &mut W,
+        program: &C,
+        certificate: &Index,
+        slot: u32,
+    ) {
+        match self.view {
+            View::Listing => self.write_standing(out, certificate, slot),
+            View::Sketch(..) => return self.write_standing(out, certificate, slot),
+            View::Reason(..) => return,
+            View::Slot(wanted) if wanted != slot => return,
+            View::Slot(_) | View::List => {}
+        }
+        let found = self.found_at(program, certificate, slot, None);
+        self.tell_found(out, program, certificate, slot, None, &found);
+    }
+
+    /// The lines of an instruction, with those of what stands at its slot.
+    fn write_lines<'a, W: Tell>(&mut self, out: &mut W, certificate: &Index, sight: &Sight<'a>) {
+        self.write_standing(out, certificate, sight.slot);
+        if sight.label.is_some() {
+            self.shown.copy_from(&sight.before);
+        }
+        self.write_source(out);
+        write_instruction(out, sight, &mut self.shown);
+        write_edges(out, sight, &mut self.shown);
+    }
+
+    /// Notes why no state goes on, if none does.
+    fn note_silence<'a>(&mut self, sight: &Sight<'a>) {
+        match sight.outcome {
+            Outcome::Refused(_) => self.silence = Silence::Refused(sight.slot),
+            Outcome::Unreached if !sight.is_never => self.silence = Silence::Refused(sight.slot),
+            Outcome::Unreached => {}
+            Outcome::Done | Outcome::Dead => {
+                if !sight.goes_on {
+                    self.silence = Silence::Ends(sight.slot);
+                }
+            }
+        }
+    }
+
+    /// Tells the flaws at an instruction, those that only pass on an earlier one together.
+    fn tell_flaws<'a, W: Tell, C: Code>(
+        &mut self,
+        out: &mut W,
+        program: &C,
+        certificate: &Index,
+        sight: &Sight<'a>,
+    ) {
+        let slot = sight.slot;
+        let found = self.found_at(program, certificate, slot, Some(sight));
+        if found.is_quiet(sight) && self.view != View::Slot(slot) {
+            if self.view == View::List {
+                self.pass_over(out, slot);
+            }
+            return;
+        }
+        self.tell_found(out, program, certificate, slot, Some(sight), &found);
+    }
+
+    /// Tells one flaw of an instruction, if it has it.
+    fn tell_one<'a, W: Tell, C: Code>(
+        &mut self,
+        out: &mut W,
+        program: &C,
+        certificate: &Index,
+        sight: &Sight<'a>,
+        cause: Cause,
+    ) {
+        if sight.flaws.has(cause) {
+            self.tell_visit(out, program, certificate, sight, cause);
+        }
+    }
+
+    /// Tells of an instruction what the view shows.
+    fn show<'a, W: Tell, C: Code>(
+        &mut self,
+        out: &mut W,
+        program: &C,
+        certificate: &Index,
+        sight: &Sight<'a>,
+    ) {
+        match self.view {
+            View::Listing => {
+                self.write_lines(out, certificate, sight);
+                self.tell_flaws(out, program, certificate, sight);
+            }
+            View::List => self.tell_flaws(out, program, certificate, sight),
+            View::Slot(slot) if slot == sight.slot => {
+                self.has_new_line = true;
+                self.write_source(out);
+                write_whole(out, sight);
+                self.tell_flaws(out, program, certificate, sight);
+            }
+            View::Sketch(Some(flaw)) if flaw.slot == sight.slot => {
+                self.write_lines(out, certificate, sight);
+                self.tell_one(out, program, certificate, sight, flaw.cause);
+            }
+            View::Sketch(..) => self.write_lines(out, certificate, sight),
+            View::Reason(flaw) if flaw.slot == sight.slot => {
+                self.tell_one(out, program, certificate, sight, flaw.cause);
+            }
+            View::Slot(_) | View::Reason(..) => {}
+        }
+    }
+
+    /// Tells of an instruction.
+    pub fn tell_sight<'a, W: Tell, C: Code>(
+        &mut self,
+        out: &mut W,
+        program: &C,
+        certificate: &Index,
+        sight: &Sight<'a>,
+    ) {
+        self.has_new_line = self.lines.go_to(sight.slot);
+        self.show(out, program, certificate, sight);
+        self.note_silence(sight);
+    }
+}

@@ -1,0 +1,140 @@
+//! Budgets that don't cover a cost.
+
+use crate::known::{Known, Name};
+use crate::places::{content, tag_at};
+use crate::sight::{Edge, Sight, total_of};
+use bpf_cert::{Label, Measure, Term};
+use bpf_check::place_of;
+use bpf_explain_page::Tell;
+use bpf_insn::Insn;
+use bpf_state::{Place, SlotState, State, Tag};
+
+/// What a place that holds a counter did on the way: `r6 falls by 1 at weight 5`.
+fn tell_move<W: Tell>(out: &mut W, old: &Label, term: &Term, tag: Tag) {
+    let name = Name(place_of(term));
+    let weight = term.weight;
+    let by = tag.offset.unsigned_abs();
+    if let Some(counted) = old.budget.terms.as_slice().get(usize::from(tag.term)) {
+        let before = Name(place_of(counted));
+        if place_of(counted) != place_of(term) {
+            let slot = old.slot;
+            let sign = if tag.offset < 0 { "-" } else { "+" };
+            return write!(
+                out,
+                ", and {name} is {before} of slot {slot} {sign} {by} at weight {weight}"
+            );
+        }
+    }
+    if tag.offset < 0 {
+        write!(out, ", and {name} falls by {by} at weight {weight}");
+    } else if tag.offset > 0 {
+        write!(out, ", and {name} rises by {by} at weight {weight}");
+    } else {
+        write!(out, ", and {name} stays at weight {weight}");
+    }
+}
+
+/// A place that isn't followed from the label before: it counts as the worst that it may hold.
+fn tell_worst<W: Tell>(out: &mut W, state: &State, term: &Term) {
+    let place = place_of(term);
+    let name = Name(place);
+    let weight = term.weight;
+    let held = content(state, place);
+    let SlotState::Word(number) = held else {
+        let held = Known(held);
+        return write!(out, ", and {name} is {held}");
+    };
+    let bounds = number.unsigned();
+    match term.measure {
+        Measure::Down(_) => {
+            let most = bounds.hi();
+            write!(
+                out,
+                ", and {name} is another value, at most {most}, at weight {weight}"
+            );
+        }
+        Measure::Up(_, limit) => {
+            let least = bounds.lo();
+            write!(
+                out,
+                ", and {name} is another value, at least {least} of {limit}, at weight {weight}"
+            );
+        }
+    }
+}
+
+/// What the places did that a label's terms count.
+fn tell_terms<W: Tell>(out: &mut W, old: &Label, new: &Label, state: &State) {
+    for term in new.budget.terms.as_slice() {
+        match tag_at(state, place_of(term)) {
+            Some(tag) => tell_move(out, old, term, tag),
+            None => tell_worst(out, state, term),
+        }
+    }
+}
+
+/// Tells of a way that isn't paid: `the loop back to slot 1 costs 4, the base goes from 2 to 7`.
+fn tell_way<W: Tell>(out: &mut W, way: &str, cost: i128, old: &Label, new: &Label) {
+    let (to, before, behind) = (new.slot, old.budget.base, new.budget.base);
+    if before == behind {
+        write!(out, "{way} slot {to} costs {cost}");
+    } else {
+        write!(
+            out,
+            "{way} slot {to} costs {cost}, the base goes from {before} to {behind}"
+        );
+    }
+}
+
+/// What is missing on an edge that isn't paid.
+fn lack_of<'a>(edge: Edge<'a>) -> Option<i128> {
+    let total = total_of(edge.slack?);
+    if total < 0 { Some(total) } else { None }
+}
+
+/// Tells of an edge that isn't paid. Whether there was something to tell.
+fn tell_edge<'a, W: Tell>(out: &mut W, sight: &Sight<'a>, edge: Edge<'a>, state: &State) -> bool {
+    let (Some(here), Some(cost), Some(lack)) = (sight.here, sight.cost, lack_of(edge)) else {
+        return false;
+    };
+    let Some(new) = edge.label else {
+        return false;
+    };
+    let way = if edge.to <= sight.slot {
+        "the loop back to"
+    } else {
+        "the way to"
+    };
+    tell_way(out, way, cost, here.label, new);
+    tell_terms(out, here.label, new, state);
+    write!(out, ": slack {lack}");
+    true
+}
+
+/// What an EXIT costs, and what is left of the budget.
+fn tell_exit<'a, W: Tell>(out: &mut W, sight: &Sight<'a>) {
+    let (Some(here), Some(least), Some(cost)) = (sight.here, sight.least_budget, sight.cost) else {
+        return;
+    };
+    let slot = here.label.slot;
+    let slack = least.saturating_sub(cost);
+    write!(
+        out,
+        "the exit costs {cost}, and the budget at slot {slot} is at least {least}: slack {slack}"
+    );
+}
+
+/// C9: the budget at the last label doesn't cover the cost on an edge or at EXIT.
+pub fn tell_unpaid<'a, W: Tell>(out: &mut W, sight: &Sight<'a>) {
+    if let Insn::Exit = sight.insn {
+        return tell_exit(out, sight);
+    }
+    if let Some(edge) = sight.jump {
+        if tell_edge(out, sight, edge, sight.jump_state()) {
+            return;
+        }
+    }
+    if let Some(edge) = sight.next {
+        let _ = tell_edge(out, sight, edge, sight.next_state());
+    }
+}

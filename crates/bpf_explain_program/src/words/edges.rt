@@ -1,0 +1,113 @@
+//! States that don't lie in the label that they lead to.
+
+use crate::known::{Known, Name, Written, known_register};
+use crate::places::{PLACES, content, place_at, state_at, take_over};
+use crate::sight::{Edge, Sight};
+use bpf_cert::{LAST_SLOT, Label};
+use bpf_check::{Index, callee, function_at, label_at};
+use bpf_explain_page::Tell;
+use bpf_insn::{Insn, Reg};
+use bpf_state::{SlotState, State, Work, enter};
+
+/// A place at which a state doesn't lie in a label's: what it holds, and what the label says of it.
+#[derive(Clone, Copy)]
+pub struct Difference {
+    pub name: Name,
+    pub held: Known,
+    pub said: Written,
+}
+
+/// The first place at which a state doesn't lie in a label's.
+pub fn first_difference(state: &State, label: &Label) -> Option<Difference> {
+    let claimed = state_at(label);
+    if state.entails(&claimed) {
+        return None;
+    }
+    let mut mixed = claimed.copy();
+    for index in 0..PLACES {
+        let place = place_at(index);
+        take_over(&mut mixed, state, place);
+        if !mixed.entails(&claimed) {
+            return Some(Difference {
+                name: Name(place),
+                held: Known(content(state, place)),
+                said: Written(content(&claimed, place)),
+            });
+        }
+    }
+    None
+}
+
+/// The label at the end of an edge that a state goes along.
+fn label_ahead<'a>(edge: Option<Edge<'a>>) -> Option<&'a Label> {
+    let edge = edge?;
+    if edge.is_live { edge.label } else { None }
+}
+
+/// Tells where an edge's state doesn't lie in the label at its end: `r3 at slot 9 is anything; the label says u0..7`. Whether it
+/// doesn't.
+fn tell_edge<'a, W: Tell>(out: &mut W, edge: Option<Edge<'a>>, state: &State) -> bool {
+    let Some(label) = label_ahead(edge) else {
+        return false;
+    };
+    let Some(Difference { name, held, said }) = first_difference(state, label) else {
+        return false;
+    };
+    let to = label.slot;
+    write!(out, "{name} at slot {to} is {held}; the label says {said}");
+    true
+}
+
+/// Tells where a callee's label claims more than holds at the call. Whether it does.
+fn tell_entry<W: Tell>(out: &mut W, certificate: &Index, first: u32, state: &State) -> bool {
+    let Some(label) = label_at(certificate, first) else {
+        return false;
+    };
+    let mut entry = state.copy();
+    enter(&mut entry);
+    let Some(Difference { name, held, said }) = first_difference(&entry, label) else {
+        return false;
+    };
+    write!(
+        out,
+        "{name} is {held} where the function at slot {first} begins; its label says {said}"
+    );
+    true
+}
+
+/// Tells where a function is said to return less than r0 may hold. Whether it is.
+fn tell_result<'a, W: Tell>(out: &mut W, certificate: &Index, sight: &Sight<'a>) -> bool {
+    let Some(function) = function_at(certificate, sight.slot) else {
+        return false;
+    };
+    if Work::new().returns_counted(&sight.before, &function.ret) {
+        return false;
+    }
+    let held = known_register(sight.before.reg(Reg::R0));
+    let said = Written(SlotState::Word(function.ret));
+    let first = function.first;
+    write!(
+        out,
+        "r0 at exit is {held}; the function at slot {first} returns {said}"
+    );
+    true
+}
+
+/// C8: a state doesn't lie in what is claimed where it leads to.
+pub fn tell_difference<'a, W: Tell>(out: &mut W, certificate: &Index, sight: &Sight<'a>) {
+    if let Insn::Exit = sight.insn {
+        let _ = tell_result(out, certificate, sight);
+        return;
+    }
+    if sight.slot <= LAST_SLOT {
+        if let Some(function) = callee(certificate, sight.slot, &sight.insn) {
+            if tell_entry(out, certificate, function.first, &sight.before) {
+                return;
+            }
+        }
+    }
+    if tell_edge(out, sight.jump, sight.jump_state()) {
+        return;
+    }
+    let _ = tell_edge(out, sight.next, sight.next_state());
+}

@@ -1,0 +1,155 @@
+//! Why conditions fail at a label, at a function, or at the start.
+
+use crate::known::{Known, Name, Written};
+use crate::listing::steps_of;
+use crate::places::{PLACES, content, place_at, state_at};
+use crate::words::edges::{Difference, first_difference};
+use bpf_cert::{Function, Label, Measure, Term};
+use bpf_check::{Cause, Index, begins_elsewhere, function_at, greatest_budget, label_at, place_of};
+use bpf_explain_page::{Count, Tell};
+use bpf_insn::Code;
+use bpf_num::Num;
+use bpf_state::{Place, SlotState, State};
+
+/// C2: a label is at no instruction's first slot.
+fn tell_place<W: Tell, C: Code>(out: &mut W, program: &C, slot: u32) {
+    let slots = Count(program.slots(), "slot");
+    if slot < program.slots() {
+        write!(
+            out,
+            "the label stands at the second slot of a wide instruction"
+        );
+    } else {
+        write!(
+            out,
+            "the label stands behind the program's end: it has {slots}"
+        );
+    }
+}
+
+/// C9: a term counts what is no number, or what may be above its limit.
+fn tell_term<W: Tell>(out: &mut W, label: &Label, term: &Term) {
+    let place = place_of(term);
+    let name = Name(place);
+    let held = content(&state_at(label), place);
+    match (term.measure, held) {
+        (Measure::Up(_, limit), SlotState::Word(_)) => {
+            let held = Known(held);
+            write!(
+                out,
+                "the label counts {name} up to {limit}, and {name} is {held}"
+            );
+        }
+        _ => {
+            let held = Known(held);
+            write!(
+                out,
+                "the label counts {name}, which is {held} and no number"
+            );
+        }
+    }
+}
+
+/// The first place of a label whose number has no member, and the number.
+fn empty_number(label: &Label) -> Option<(Place, Num)> {
+    let state = state_at(label);
+    for index in 0..PLACES {
+        let place = place_at(index);
+        if let SlotState::Word(number) = content(&state, place) {
+            if number.tighten().is_none() {
+                return Some((place, number));
+            }
+        }
+    }
+    None
+}
+
+/// C13: a label lies outside of its function, or has no member.
+fn tell_shape<W: Tell>(out: &mut W, certificate: &Index, function: &Function, label: &Label) {
+    let first = function.first;
+    match function_at(certificate, label.slot) {
+        Some(owner) if owner.first == first => {}
+        Some(owner) => {
+            let other = owner.first;
+            return write!(
+                out,
+                "the label stands under the function at slot {first}, and lies in the one at slot {other}"
+            );
+        }
+        None => {
+            return write!(
+                out,
+                "the label stands under the function at slot {first}, and lies in front of it"
+            );
+        }
+    }
+    match empty_number(label) {
+        Some((place, number)) => {
+            let (name, said) = (Name(place), Written(SlotState::Word(number)));
+            write!(out, "no number is {said}, as the label says of {name}");
+        }
+        None => write!(out, "the label's state has no member"),
+    }
+}
+
+/// Tells why a condition fails at a label. A bad term is told by `bad`.
+pub fn tell_label<W: Tell, C: Code>(
+    out: &mut W,
+    program: &C,
+    certificate: &Index,
+    function: &Function,
+    label: &Label,
+    cause: Cause,
+    bad: Option<Term>,
+) {
+    match (cause, bad) {
+        (Cause::MisplacedLabel, _) => tell_place(out, program, label.slot),
+        (Cause::OverBudget, Some(term)) => tell_term(out, label, &term),
+        (Cause::Misshapen, _) => tell_shape(out, certificate, function, label),
+        _ => {}
+    }
+}
+
+/// C13: a function has no label where it begins.
+pub fn tell_function<W: Tell>(out: &mut W, function: &Function) {
+    let first = function.first;
+    write!(
+        out,
+        "the function at slot {first} has no label where it begins"
+    );
+}
+
+/// C13: the start doesn't lie in the label at slot 0.
+fn tell_outside<W: Tell>(out: &mut W, start: &State, label: &Label) {
+    if let Some(Difference { name, held, said }) = first_difference(start, label) {
+        write!(
+            out,
+            "{name} at the start is {held}; the label at slot 0 says {said}"
+        );
+    }
+}
+
+/// Tells why a condition fails at the start.
+pub fn tell_start<W: Tell>(out: &mut W, certificate: &Index, cause: Cause) {
+    certificate.valid();
+    let start = State::start(certificate.least(), certificate.most());
+    if let Cause::Misshapen = cause {
+        if begins_elsewhere(certificate.functions()) {
+            return write!(out, "no function of the certificate begins at slot 0");
+        }
+    }
+    let Some(label) = label_at(certificate, 0) else {
+        return;
+    };
+    if let Cause::OverBudget = cause {
+        let steps = steps_of(certificate);
+        if let Some(most) = greatest_budget(label, &start) {
+            write!(
+                out,
+                "the budget at slot 0 is up to {most} at the start, and the certificate promises {steps}"
+            );
+        }
+        return;
+    }
+    tell_outside(out, &start, label);
+}

@@ -1,0 +1,136 @@
+//! Conditions on where instructions lead to.
+
+ghost use Rattle.std.specs.Prelude.{◌≤◌};
+
+use crate::sight::Sight;
+use bpf_cert::LAST_SLOT;
+use bpf_check::{Index, callee, function_at, jump_target};
+use bpf_explain_page::Tell;
+use bpf_insn::{Code, Insn};
+
+/// Why no state goes on to an instruction without a label.
+#[derive(Clone, Copy, PartialEq, Eq)]
+pub enum Silence {
+    /// The program's first slot has no label.
+    Start,
+    /// The instruction at the slot is refused.
+    Refused(u32),
+    /// The instruction at the slot doesn't go on at the next one.
+    Ends(u32),
+}
+
+/// C11: no state reaches an instruction.
+pub fn tell_silence<W: Tell>(out: &mut W, silence: Silence) {
+    match silence {
+        Silence::Start => write!(out, "no state goes on here: no label stands at slot 0"),
+        Silence::Refused(slot) => {
+            write!(out, "no state goes on behind the refusal at slot {slot}");
+        }
+        Silence::Ends(slot) => write!(
+            out,
+            "no state goes on from slot {slot}, and no label stands here"
+        ),
+    }
+}
+
+/// C11: the last instruction can go on.
+pub fn tell_end<W: Tell>(out: &mut W) {
+    write!(
+        out,
+        "goes on past the program's end: the last instruction must be exit, goto or gotol"
+    );
+}
+
+/// C1: no label stands at a jump's target.
+pub fn tell_missing_label<'a, W: Tell>(out: &mut W, sight: &Sight<'a>) {
+    if sight.slot > LAST_SLOT {
+        return;
+    }
+    if let Some(to) = jump_target(sight.slot, &sight.insn) {
+        write!(out, "jumps to slot {to}, where no label stands");
+    }
+}
+
+/// C10: a callee's depth isn't below its caller's.
+pub fn tell_depth<'a, W: Tell>(out: &mut W, certificate: &Index, sight: &Sight<'a>) {
+    if sight.slot > LAST_SLOT {
+        return;
+    }
+    let called = callee(certificate, sight.slot, &sight.insn);
+    let (Some(callee), Some(caller)) = (called, function_at(certificate, sight.slot)) else {
+        return;
+    };
+    let (first, depth, own) = (callee.first, callee.depth, caller.depth);
+    write!(
+        out,
+        "calls the function at slot {first} of depth {depth} from depth {own}: a callee's depth must be below its caller's"
+    );
+}
+
+/// Whether a slot lies in the function that begins at `first`.
+fn lies_in(certificate: &Index, slot: u32, first: u32) -> bool {
+    match function_at(certificate, slot) {
+        Some(function) => function.first == first,
+        None => false,
+    }
+}
+
+/// A call that leads to no function.
+fn tell_nowhere<W: Tell>(out: &mut W, slot: u32, off: i32) {
+    let to = i64::from(slot)
+        .saturating_add(1)
+        .saturating_add(i64::from(off));
+    write!(
+        out,
+        "calls slot {to}, where no function of the certificate begins"
+    );
+}
+
+/// Where a jump or the next instruction leads out of the function that begins at `first`.
+fn way_out<'a, C: Code>(
+    program: &C,
+    certificate: &Index,
+    sight: &Sight<'a>,
+    first: u32,
+) -> Option<(&'static str, u32)>
+    requires { sight.now.slot ≤ 65535 }
+{
+    if let Some(to) = jump_target(sight.slot, &sight.insn) {
+        if !lies_in(certificate, to, first) {
+            return Some(("jumps to", to));
+        }
+    }
+    let next = sight.slot + sight.insn.slots();
+    if sight.insn.goes_on() && next < program.slots() {
+        Some(("goes on to", next))
+    } else {
+        None
+    }
+}
+
+/// C12: a jump or the next instruction lies in another function, or a call leads to none.
+pub fn tell_leaving<'a, W: Tell, C: Code>(
+    out: &mut W,
+    program: &C,
+    certificate: &Index,
+    sight: &Sight<'a>,
+) {
+    if sight.slot > LAST_SLOT {
+        return;
+    }
+    if let Insn::CallLocal { off } = sight.insn {
+        if callee(certificate, sight.slot, &sight.insn).is_none() {
+            return tell_nowhere(out, sight.slot, off);
+        }
+    }
+    let Some(function) = function_at(certificate, sight.slot) else {
+        return;
+    };
+    let first = function.first;
+    if let Some((leads, to)) = way_out(program, certificate, sight, first) {
+        write!(
+            out,
+            "{leads} slot {to}, out of the function at slot {first}"
+        );
+    }
+}

@@ -1,0 +1,349 @@
+//! The inferrer's own work, explained.
+
+ghost use Rattle.std.specs.Prelude.{◌≡◌, ◌⊎◌, ◌≤◌, ◌<◌, IfOk, IfErr, IsErrAnd, Ok};
+ghost use Rattle.bpf_insn.specs.Instruction.{slots};
+ghost use Rattle.bpf_cert.specs.Limits.{IsCertificate};
+ghost use Rattle.bpf_infer_error.specs.RefusalNumbers.{infer_slot};
+ghost use Rattle.bpf_infer_error.specs.declared.error.InferError.TheVariants.{Memory};
+
+use crate::obstacles::{write_no_budget, write_obstacle};
+use bpf_cert::Certificate;
+use bpf_check::{Cause, Refusal, cause_of, check};
+use bpf_explain_page::{Page, Tell};
+use bpf_explain_program::{
+    Spelled, explain_on, source_at, tell_reason, tell_sketch, tell_unreached,
+};
+use bpf_infer::{
+    Condition, InferError, Obstacle, Quest, Sketch, Stop, Watch, infer, search_or_stop, sketch_of,
+};
+use bpf_insn::{Code, Insn, Program};
+use std::alloc::Global;
+use std::io::{self, Write};
+
+/// Which search is explained.
+#[derive(Clone, Copy, PartialEq, Eq)]
+enum Effort {
+    Plain,
+    Deep,
+}
+
+/// `no certificate: I2 at slot 3`
+fn write_refusal<W: Tell>(out: &mut W, error: InferError) {
+    let (number, slot) = (error.number(), error.slot());
+    match error {
+        InferError::Fault { condition, .. } => {
+            let failed = condition.number();
+            write!(
+                out,
+                "no certificate: I{number} (C{failed}) at slot {slot}\n"
+            );
+        }
+        InferError::Memory => write!(out, "no certificate: I5, memory ran out\n"),
+        _ => write!(out, "no certificate: I{number} at slot {slot}\n"),
+    }
+}
+
+/// `slot 12 is from filter.c:20 while (left)`, where a loop has no counter and its line is known.
+fn write_source<W: Tell>(out: &mut W, lines: &[u8], error: InferError) {
+    let InferError::NoBudget { slot } = error else {
+        return;
+    };
+    let text = source_at(lines, slot);
+    if !text.is_empty() {
+        write!(out, "slot {slot} is from {text}\n");
+    }
+}
+
+/// I3: a call is part of a recursion.
+fn write_recursion<W: Tell>(out: &mut W, program: &Program, slot: u32) {
+    match program.insn(slot) {
+        Some(Insn::CallLocal { off: -1 }) => write!(
+            out,
+            "`call -1` calls itself: mostly a call of another object's function that was never linked\n"
+        ),
+        Some(insn) => {
+            let text = Spelled(insn);
+            write!(
+                out,
+                "`{text}` leads back to the function it stands in: recursion can't be certified\n"
+            );
+        }
+        None => {}
+    }
+}
+
+/// Tells that the states of a function don't settle.
+fn write_unsettled<W: Tell>(out: &mut W, slot: u32, effort: Effort) {
+    match effort {
+        Effort::Plain => write!(
+            out,
+            "what is known in the function at slot {slot} still changes after 64 rounds\n"
+        ),
+        Effort::Deep => write!(
+            out,
+            "what is known in the function at slot {slot} doesn't settle\n"
+        ),
+    }
+}
+
+/// Tells why there is no budget, where nothing more is known than whether there are states: before there are, a search is
+/// refused for its calls.
+fn write_unbudgeted<W: Tell>(out: &mut W, slot: u32, has_states: bool) {
+    if has_states {
+        write_no_budget(out, slot);
+    } else {
+        write!(
+            out,
+            "functions call one another more than 8 deep, or there are more than 256\n"
+        );
+    }
+}
+
+/// Tells the reason of a refusal.
+fn write_reason<W: Tell>(out: &mut W, program: &Program, stop: &Stop, effort: Effort) {
+    let Stop { error, sketch } = stop;
+    match (*error, &sketch.obstacle) {
+        // At the deep search's labels only what is read is known.
+        (InferError::NoBudget { slot }, Some(Obstacle::NoCounter(trials)))
+            if trials.is_empty() && effort == Effort::Deep => { write_no_budget(out, slot) }
+        (_, Some(obstacle)) => write_obstacle(out, error.slot(), obstacle),
+        (InferError::Unstable { slot }, None) => write_unsettled(out, slot, effort),
+        (InferError::NoBudget { slot }, None) => {
+            write_unbudgeted(out, slot, sketch.certificate.is_some())
+        }
+        (InferError::Recursion { slot }, None) => write_recursion(out, program, slot),
+        (InferError::Fault { slot, condition }, None) => match condition {
+            Condition::State(_) => {}
+            Condition::FallsOff => tell_unreached(program, out),
+            Condition::LeavesFunction => write!(
+                out,
+                "slot {slot} jumps out of its function, or goes on into the next one\n"
+            ),
+        },
+        (InferError::Memory, None) => {}
+    }
+}
+
+/// Whether an instruction leads back, or calls a function.
+fn leads_back(insn: &Insn) -> bool {
+    match *insn {
+        Insn::CallLocal { off: _off } => true,
+        _ => insn.distance().is_some_and(|off| off < 0),
+    }
+}
+
+/// Whether a program has a loop or calls a function: elsewhere both searches know the same.
+fn goes_round(program: &Program) -> bool {
+    for slot in 0..program.slots() {
+        if let Some(insn) = program.at(slot) {
+            if leads_back(insn) {
+                return true;
+            }
+        }
+    }
+    false
+}
+
+/// Whether the deep search may find what the plain one refuses, as far as the refusal and the program tell.
+fn may_be_found(program: &Program, error: InferError) -> bool {
+    match error {
+        InferError::Recursion { .. } | InferError::Memory => false,
+        InferError::Fault {
+            condition: Condition::LeavesFunction,
+            ..
+        } => false,
+        InferError::Fault {
+            condition: Condition::FallsOff,
+            ..
+        } => true,
+        InferError::Fault { .. } => goes_round(program),
+        InferError::Unstable { .. } | InferError::NoBudget { .. } => true,
+    }
+}
+
+/// The flaw that the checker would name, where a refusal says so.
+fn flaw_of(error: InferError) -> Option<Refusal> {
+    let InferError::Fault { slot, condition } = error else {
+        return None;
+    };
+    let cause = match condition {
+        Condition::State(fault) => cause_of(fault),
+        Condition::FallsOff => Cause::FallsOff,
+        Condition::LeavesFunction => Cause::LeavesFunction,
+    };
+    Some(Refusal { slot, cause })
+}
+
+/// Tells the states that a search has, the refusal, and its flaw in these states.
+fn write_states<W: Tell>(
+    out: &mut W,
+    program: &Program,
+    sketch: &Sketch,
+    lines: &[u8],
+    error: InferError,
+) {
+    let flaw = flaw_of(error);
+    if let Some(certificate) = &sketch.certificate {
+        tell_sketch(program, certificate, lines, flaw, out);
+    }
+    write_refusal(out, error);
+    if let (Some(certificate), Some(flaw)) = (&sketch.certificate, flaw) {
+        tell_reason(program, certificate, lines, flaw, out);
+    }
+    write_source(out, lines, error);
+}
+
+/// Tells what a search had where it stopped, and why it stopped; of the plain one, that the deep one may find more.
+fn write_stop<W: Tell>(out: &mut W, program: &Program, stop: &Stop, lines: &[u8], effort: Effort) {
+    write_states(out, program, &stop.sketch, lines, stop.error);
+    write_reason(out, program, stop, effort);
+    let has_states = stop.sketch.certificate.is_some();
+    if effort == Effort::Plain && has_states && may_be_found(program, stop.error) {
+        write!(out, "or try --deep: it searches longer, and finds more\n");
+    }
+}
+
+/// Explains a certificate that was found, with the checker's answer.
+fn explain_certified<W: Tell>(
+    program: &Program,
+    certificate: &Certificate,
+    lines: &[u8],
+    out: &mut W,
+) {
+    let refusal = match check(program, certificate) {
+        Ok(_checked) => None,
+        Err(refusal) => Some(refusal),
+    };
+    explain_on(program, certificate, lines, refusal, out);
+}
+
+/// Explains what a search found, with a table of source lines, in pieces of up to 4,096 bytes. What was found, or the refusal.
+fn explain<W: Write>(
+    out: &mut W,
+    program: &Program,
+    found: Result<Certificate, Stop>,
+    lines: &[u8],
+    effort: Effort,
+) -> io::Result<Result<Certificate, InferError>>
+    ensures found { IfOk result (λ told. IfOk told (λ c. found ≡ Ok c)) }
+    ensures refused { IfOk result (λ told. IfErr told (λ e. IsErrAnd found (λ s. e ≡ s.error))) }
+{
+    let mut page = Page::new(out);
+    let told = match found {
+        Ok(certificate) => {
+            explain_certified(program, &certificate, lines, &mut page);
+            Ok(certificate)
+        }
+        Err(stop) => {
+            write_stop(&mut page, program, &stop, lines, effort);
+            Err(stop.error)
+        }
+    };
+    page.finish()?;
+    Ok(told)
+}
+
+/// What the plain inferrer had where it refused a program. I5 where memory runs out meanwhile.
+fn stop_of(alloc: Global, quest: Quest<'_>, error: InferError) -> Stop
+    requires order { quest.least ≤ quest.most }
+    requires short { quest.most ≤ 4096 }
+    ensures { (result.error ≡ error) ⊎ (result.error ≡ Memory) }
+{
+    let sketch = match error {
+        InferError::Memory => Err(error),
+        _ => sketch_of(alloc, quest, error),
+    };
+    match sketch {
+        Ok(sketch) => Stop { error, sketch },
+        Err(InferError::Memory) => Stop {
+            error: InferError::Memory,
+            sketch: Sketch::nothing(),
+        },
+        Err(_) => Stop {
+            error,
+            sketch: Sketch::nothing(),
+        },
+    }
+}
+
+/// What the deep search had where it stopped; of an access that is refused also which loop moves its pointer, where the plain
+/// inferrer sees one.
+fn with_walk(alloc: Global, quest: Quest<'_>, stop: Stop) -> Stop
+    requires order { quest.least ≤ quest.most }
+    requires short { quest.most ≤ 4096 }
+    ensures { result.error ≡ stop.error }
+{
+    if !matches!(stop.error, InferError::Fault { .. }) {
+        return stop;
+    }
+    let Ok(plain) = sketch_of(alloc, quest, stop.error) else {
+        return stop;
+    };
+    let Stop { error, sketch } = stop;
+    Stop {
+        error,
+        sketch: Sketch {
+            certificate: sketch.certificate,
+            obstacle: plain.obstacle,
+        },
+    }
+}
+
+/// Explains the certificate that the inferrer proposes for a program on contexts of `least` to `most` bytes, at most 4,096, with
+/// the checker's answer; where it proposes none, writes the states at its labels as far as it came, and in words why (I1 to I5).
+/// The certificate or the refusal is given back. A fault of the writer, or a write of no bytes, ends it.
+pub fn explain_inferred<W: Write>(
+    alloc: Global,
+    program: &Program,
+    least: u32,
+    most: u32,
+    out: &mut W,
+) -> io::Result<Result<Certificate, InferError>>
+    requires order { least ≤ most }
+    requires short { most ≤ 4096 }
+    ensures version { IfOk result (λ told. IfOk told (λ c. c.version ≡ 2)) }
+    ensures least { IfOk result (λ told. IfOk told (λ c. c.least ≡ least)) }
+    ensures most { IfOk result (λ told. IfOk told (λ c. c.most ≡ most)) }
+    ensures certificate { IfOk result (λ told. IfOk told (λ c. IsCertificate c)) }
+    ensures slot { IfOk result (λ told. IfErr told (λ e. infer_slot e < slots program.now.list)) }
+{
+    let quest = Quest {
+        program,
+        least,
+        most,
+    };
+    let found = match infer(alloc, program, least, most) {
+        Ok(certificate) => Ok(certificate),
+        Err(error) => Err(stop_of(alloc, quest, error)),
+    };
+    explain(out, program, found, &[], Effort::Plain)
+}
+
+/// Explains the same of the deep search, with its own states where it proposes none. Who watches is told how far it is.
+pub fn explain_searched<W: Write, H: Watch>(
+    alloc: Global,
+    program: &Program,
+    least: u32,
+    most: u32,
+    watch: &mut H,
+    out: &mut W,
+) -> io::Result<Result<Certificate, InferError>>
+    requires order { least ≤ most }
+    requires short { most ≤ 4096 }
+    ensures version { IfOk result (λ told. IfOk told (λ c. c.version ≡ 2)) }
+    ensures least { IfOk result (λ told. IfOk told (λ c. c.least ≡ least)) }
+    ensures most { IfOk result (λ told. IfOk told (λ c. c.most ≡ most)) }
+    ensures certificate { IfOk result (λ told. IfOk told (λ c. IsCertificate c)) }
+    ensures slot { IfOk result (λ told. IfErr told (λ e. infer_slot e < slots program.now.list)) }
+{
+    let quest = Quest {
+        program,
+        least,
+        most,
+    };
+    let found = match search_or_stop(alloc, program, least, most, watch) {
+        Ok(certificate) => Ok(certificate),
+        Err(stop) => Err(with_walk(alloc, quest, stop)),
+    };
+    explain(out, program, found, &[], Effort::Deep)
+}

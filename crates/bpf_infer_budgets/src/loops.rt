@@ -1,0 +1,55 @@
+//! The loops of a draft that nothing counts.
+
+use crate::draft::{Draft, Price, labels_by_slots};
+use crate::groups::{Groups, arcs_of};
+use crate::plan::Plan;
+use crate::ways::ways_of;
+use bpf_cert::Function;
+use bpf_infer_base::{Meter, Quest, Watch};
+use bpf_infer_error::InferError;
+use std::alloc::Global;
+
+/// Adds the first slots of a function's loops that nothing counts.
+fn add_uncounted<W: Watch>(
+    alloc: Global,
+    draft: Draft,
+    number: usize,
+    slots: &mut Vec<u32>,
+    meter: &mut Meter<'_, W>,
+) -> Result<(), InferError> {
+    let Some(function) = draft.functions.get(number) else {
+        return Ok(());
+    };
+    // What a call costs counts nothing.
+    let prices = vec![in alloc; Price::NONE; draft.functions.len()]?;
+    let ways = ways_of(alloc, draft, number, function, &prices)?;
+    let mut plan = Plan::new(alloc, function, &ways)?;
+    let graph = arcs_of(alloc, &plan)?;
+    let groups = Groups::of(alloc, &mut plan, &graph, meter)?;
+    for label in &groups.all_uncounted {
+        slots.push(plan.slot(*label))?;
+    }
+    Ok(())
+}
+
+/// The lowest label of each loop of a draft that nothing counts, without those that lie in another such. I1 and I4 as
+/// `ranked` has them.
+pub fn uncounted<W: Watch>(
+    alloc: Global,
+    quest: Quest<'_>,
+    functions: &[Function],
+    meter: &mut Meter<'_, W>,
+) -> Result<Vec<u32>, InferError> {
+    let labels = labels_by_slots(alloc, quest.program, functions)?;
+    let draft = Draft {
+        program: quest.program,
+        least: quest.least,
+        functions,
+        labels: &labels,
+    };
+    let mut slots = Vec::new(alloc);
+    for number in 0..functions.len() {
+        add_uncounted(alloc, draft, number, &mut slots, meter)?;
+    }
+    Ok(slots)
+}

@@ -1,0 +1,260 @@
+//! The budgets of a function's labels while they are looked for, and what they leave ways to pay.
+
+use crate::draft::{Price, span_at};
+use crate::ways::{Way, Ways};
+use bpf_cert::{Function, MAX_TERMS};
+use bpf_infer_base::{Counter, Line, Span, get_or, number_said, pointer_said, put};
+use bpf_state::{State, Tag};
+use std::alloc::{AllocError, Global};
+
+/// A term of the budget at a label: what its place counts there, and the number of its weight.
+#[derive(Clone, Copy)]
+pub struct Part {
+    pub counter: Counter,
+    pub weight: usize,
+}
+
+/// The terms of a budget.
+pub type Parts = [Option<Part>; MAX_TERMS];
+
+/// Budgets of a function's labels.
+#[derive(Drop)]
+pub struct Plan<'a> {
+    pub function: &'a Function,
+    pub ways: &'a Ways,
+    /// By labels.
+    parts: Vec<Parts>,
+    /// How often what is counted is counted.
+    weights: Vec<i128>,
+    /// By labels.
+    pub bases: Vec<i128>,
+}
+
+/// The part that counts a place.
+fn part_of(parts: &Parts, number: usize) -> Option<Part> {
+    for part in parts {
+        if let Some(part) = part {
+            if part.counter.number() == number {
+                return Some(*part);
+            }
+        }
+    }
+    None
+}
+
+impl<'a> Plan<'a> {
+    /// Budgets of base 0 without terms.
+    pub fn new(
+        alloc: Global,
+        function: &'a Function,
+        ways: &'a Ways,
+    ) -> Result<Plan<'a>, AllocError> {
+        let count = function.labels.len();
+        Ok(Plan {
+            function,
+            ways,
+            parts: vec![in alloc; [None; MAX_TERMS]; count]?,
+            weights: Vec::new(alloc),
+            bases: vec![in alloc; 0; count]?,
+        })
+    }
+
+    /// The slot of a label.
+    pub fn slot(&self, label: usize) -> u32 {
+        match self.function.labels.get(label) {
+            Some(label) => label.slot,
+            None => self.function.first,
+        }
+    }
+
+    /// What the number in a place may be at a label.
+    pub fn span(&self, label: usize, number: usize) -> Span {
+        match self.function.labels.get(label) {
+            Some(label) => span_at(label, number),
+            None => Span::ALL,
+        }
+    }
+
+    /// Whether a place holds a number at a label.
+    pub fn is_number(&self, label: usize, number: usize) -> bool {
+        match self.function.labels.get(label) {
+            Some(label) => number_said(&label.state, number).is_some(),
+            None => false,
+        }
+    }
+
+    /// Whether a place holds a pointer at a label.
+    pub fn is_pointer(&self, label: usize, number: usize) -> bool {
+        match self.function.labels.get(label) {
+            Some(label) => pointer_said(&label.state, number),
+            None => false,
+        }
+    }
+
+    /// Makes a state the one at a label, with its numbers tightened. False if there is none.
+    pub fn load(&self, label: usize, room: &mut State) -> bool {
+        match self.function.labels.get(label) {
+            Some(label) => {
+                label.state.put_into(room);
+                room.tighten()
+            }
+            None => false,
+        }
+    }
+
+    /// The base of a label's budget.
+    pub fn base(&self, label: usize) -> i128 {
+        get_or(&self.bases, label, 0)
+    }
+
+    /// The terms of a label's budget.
+    pub fn parts(&self, label: usize) -> Parts {
+        get_or(&self.parts, label, [None; MAX_TERMS])
+    }
+
+    /// The term of a label's budget that counts a place.
+    pub fn part(&self, label: usize, number: usize) -> Option<Part> {
+        part_of(self.parts.get(label)?, number)
+    }
+
+    /// Whether a place is counted at a label.
+    pub fn is_counted(&self, label: usize, number: usize) -> bool {
+        self.part(label, number).is_some()
+    }
+
+    /// Puts terms in the place of a label's.
+    pub fn set_parts(&mut self, label: usize, parts: Parts) {
+        put(&mut self.parts, label, parts);
+    }
+
+    /// Adds a term to a label's, if there are fewer than four.
+    pub fn add_part(&mut self, label: usize, added: Part) {
+        let mut parts = self.parts(label);
+        for part in parts.iter_mut() {
+            if part.is_none() {
+                *part = Some(added);
+                break;
+            }
+        }
+        self.set_parts(label, parts);
+    }
+
+    // ---- weights
+
+    /// A new weight. Its number.
+    pub fn add_weight(&mut self, weight: i128) -> Result<usize, AllocError> {
+        let number = self.weights.len();
+        self.weights.push(weight)?;
+        Ok(number)
+    }
+
+    /// The weight with a number.
+    pub fn weight(&self, number: usize) -> i128 {
+        get_or(&self.weights, number, 0)
+    }
+
+    /// Sets the weight with a number.
+    pub fn set_weight(&mut self, number: usize, weight: i128) {
+        put(&mut self.weights, number, weight);
+    }
+
+    /// What a term gives by what its place holds.
+    pub fn line(&self, part: Part) -> Line {
+        Line::of(part.counter, self.weight(part.weight))
+    }
+
+    // ---- what a way has to pay beside bases
+
+    /// How much of an old term's place the new terms on a way take, less what the old one gives, at the greatest.
+    fn taken(&self, way: &Way, old: Part, parts: &Parts) -> i128 {
+        let mut line = Line::ZERO.minus(self.line(old));
+        for part in parts {
+            if let Some(part) = part {
+                if let Some(tag) = self.source(way, *part) {
+                    if tag.term as usize == old.counter.number() {
+                        line = line.plus(self.line(*part).moved(tag.offset));
+                    }
+                }
+            }
+        }
+        line.greatest(self.span(way.from, old.counter.number()))
+    }
+
+    /// Where a new term's place comes from, if that is the place of an old term.
+    fn source(&self, way: &Way, part: Part) -> Option<Tag> {
+        let held = self.ways.held(way, part.counter.number())?;
+        let tag = held.source?;
+        if self.is_counted(way.from, tag.term as usize) {
+            Some(tag)
+        } else {
+            None
+        }
+    }
+
+    /// What a new term takes on a way beside the old places, at the greatest.
+    fn free(&self, way: &Way, part: Part) -> i128 {
+        if self.source(way, part).is_some() {
+            return 0;
+        }
+        match self.ways.held(way, part.counter.number()) {
+            Some(held) => self.line(part).greatest(held.span),
+            None => self.line(part).greatest(Span::ALL),
+        }
+    }
+
+    /// As `taken` for all old terms together.
+    fn taken_by_all(&self, way: &Way, parts: &Parts) -> i128 {
+        let mut sum = 0i128;
+        for old in self.parts(way.from) {
+            if let Some(old) = old {
+                sum = sum.saturating_add(self.taken(way, old, parts));
+            }
+        }
+        sum
+    }
+
+    /// What the base at the start of a way has to pay beside the one at its end: its cost, and what terms take more than
+    /// terms give.
+    pub fn length(&self, way: &Way) -> i128 {
+        let parts = match way.to {
+            Some(to) => self.parts(to),
+            None => [None; MAX_TERMS],
+        };
+        let mut sum = way.cost.saturating_add(self.taken_by_all(way, &parts));
+        for part in parts {
+            if let Some(part) = part {
+                sum = sum.saturating_add(self.free(way, part));
+            }
+        }
+        sum
+    }
+
+    // ---- the whole budget
+
+    /// What a call of the function costs.
+    pub fn price(&self) -> Price {
+        let mut price = Price {
+            base: self.base(0),
+            lines: [None; MAX_TERMS],
+        };
+        let parts = self.parts(0);
+        for i in 0..MAX_TERMS {
+            if let Some(part) = parts[i] {
+                price.lines[i] = Some((part.counter.number(), self.line(part)));
+            }
+        }
+        price
+    }
+
+    /// The greatest budget at a label.
+    pub fn greatest(&self, label: usize) -> i128 {
+        let mut sum = self.base(label);
+        for part in self.parts(label) {
+            if let Some(part) = part {
+                let span = self.span(label, part.counter.number());
+                sum = sum.saturating_add(self.line(part).greatest(span));
+            }
+        }
+        sum
+    }
+}

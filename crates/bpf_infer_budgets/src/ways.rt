@@ -1,0 +1,332 @@
+//! The ways from each label of a function to the labels behind it.
+
+use crate::draft::{Draft, Price};
+use bpf_cert::{Function, Label};
+use bpf_infer_base::{
+    Flow, PLACES, Span, compared, get_or, number_at, number_said, place, tag_own,
+};
+use bpf_infer_error::{Condition, InferError};
+use bpf_insn::{Insn, Reg};
+use bpf_state::{RegState, State, Tag, branch, enter, leave, transfer};
+use std::alloc::{AllocError, Global};
+
+/// What a place holds at the end of a way. Its source is the place that held it at the start, less an offset.
+#[derive(Clone, Copy)]
+pub struct Held {
+    number: usize,
+    pub span: Span,
+    pub source: Option<Tag>,
+}
+
+/// A way from a label to the next one on it, or to an EXIT: how many instructions it takes, those of called functions
+/// included.
+#[derive(Clone, Copy)]
+pub struct Way {
+    pub from: usize,
+    pub to: Option<usize>,
+    pub cost: i128,
+    held_from: usize,
+    held_to: usize,
+}
+
+/// The ways of a function, by the labels that they leave.
+#[derive(Drop)]
+pub struct Ways {
+    list: Vec<Way>,
+    /// What places hold at the ends of the ways, if their labels say that it is a number.
+    held: Vec<Held>,
+    /// By labels, how many ways leave it or lower ones.
+    ends: Vec<usize>,
+}
+
+impl Ways {
+    /// How many there are.
+    pub fn count(&self) -> usize {
+        self.list.len()
+    }
+
+    /// The way with a number.
+    pub fn at(&self, number: usize) -> Option<&Way> {
+        self.list.get(number)
+    }
+
+    /// The number of the first way that leaves a label or a higher one.
+    pub fn first(&self, label: usize) -> usize {
+        match label.checked_sub(1) {
+            Some(before) => get_or(&self.ends, before, 0),
+            None => 0,
+        }
+    }
+
+    /// What a place holds at the end of a way, if its label says that it is a number.
+    pub fn held(&self, way: &Way, number: usize) -> Option<&Held> {
+        for index in way.held_from..way.held_to {
+            if let Some(held) = self.held.get(index) {
+                if held.number == number {
+                    return Some(held);
+                }
+            }
+        }
+        None
+    }
+
+    /// Where the number in a place comes from on a way.
+    pub fn source(&self, way: usize, number: usize) -> Option<Tag> {
+        let way = self.at(way)?;
+        self.held(way, number)?.source
+    }
+
+    /// Takes note of what the places hold that a label says a number of.
+    fn note(&mut self, state: &State, label: &Label) -> Result<(), AllocError> {
+        for number in 0..PLACES {
+            if number_said(&label.state, number).is_some() {
+                self.held.push(Held {
+                    number,
+                    span: Span::of(state, number),
+                    source: state.tag(place(number)),
+                })?;
+            }
+        }
+        Ok(())
+    }
+
+    /// Takes in a way, and what is held at its end.
+    fn add(
+        &mut self,
+        spot: Spot,
+        to: Option<(usize, &Label)>,
+        state: &State,
+    ) -> Result<(), AllocError> {
+        let held_from = self.held.len();
+        if let Some((_, label)) = to {
+            self.note(state, label)?;
+        }
+        self.list.push(Way {
+            from: spot.label,
+            to: to.map(|(number, _)| number),
+            cost: spot.cost,
+            held_from,
+            held_to: self.held.len(),
+        })?;
+        Ok(())
+    }
+}
+
+/// Where a walk is: the number of the label before it, the slot, and the cost since the label, this instruction's included.
+#[derive(Clone, Copy)]
+struct Spot {
+    label: usize,
+    slot: u32,
+    cost: i128,
+}
+
+/// A walk over a function.
+#[derive(Drop)]
+struct Walker<'a> {
+    draft: Draft<'a>,
+    function: &'a Function,
+    number: usize,
+    /// What is known to be the price of each function so far.
+    prices: &'a [Price],
+    ways: Ways,
+}
+
+/// Tags each number with its place.
+fn tag_all(state: &mut State) {
+    for i in 0..PLACES {
+        if number_at(state, i).is_some() {
+            tag_own(state, i);
+        }
+    }
+}
+
+impl<'a> Walker<'a> {
+    /// I1 at the function's first slot: a state of the function doesn't lie in the one that it leads to.
+    fn unstable(&self) -> InferError {
+        InferError::Unstable {
+            slot: self.function.first,
+        }
+    }
+
+    /// Ends a way at a label. I1 where the state does not lie in what the label says.
+    fn arrive(&mut self, spot: Spot, target: u32, state: &State) -> Result<(), InferError> {
+        let Some(number) = self.draft.label_at(target) else {
+            return Err(InferError::NoBudget { slot: target });
+        };
+        let Some(label) = self.function.labels.get(number) else {
+            return Err(InferError::NoBudget { slot: target });
+        };
+        if !state.entails_entries(&label.state) {
+            return Err(self.unstable());
+        }
+        self.ways.add(spot, Some((number, label)), state)?;
+        Ok(())
+    }
+
+    /// Calls a function. Whether it may return.
+    fn call(
+        &mut self,
+        spot: &mut Spot,
+        target: u32,
+        state: &mut State,
+    ) -> Result<bool, InferError> {
+        let Some(number) = self.draft.function_at(target) else {
+            return Err(InferError::NoBudget { slot: target });
+        };
+        let (Some(callee), Some(price)) = (
+            self.draft.functions.get(number),
+            self.prices.get(number),
+        ) else {
+            return Err(InferError::NoBudget { slot: target });
+        };
+        let mut entry = state.copy();
+        enter(&mut entry);
+        if !callee
+            .labels
+            .first()
+            .is_some_and(|label| entry.entails_entries(&label.state))
+        {
+            return Err(self.unstable());
+        }
+        spot.cost = spot.cost.saturating_add(price.greatest(state));
+        Ok(leave(state, callee.ret))
+    }
+
+    /// Ends a way at an EXIT. I1 where r0 is not what the function is said to return.
+    fn exit(&mut self, spot: Spot, state: &State) -> Result<(), InferError> {
+        if !state.reg(Reg::R0).entails(RegState::Num(self.function.ret)) {
+            return Err(self.unstable());
+        }
+        self.ways.add(spot, None, state)?;
+        Ok(())
+    }
+
+    /// Follows the edges of an instruction. Whether the next one is reached.
+    fn follow(
+        &mut self,
+        spot: &mut Spot,
+        insn: &Insn,
+        state: &mut State,
+    ) -> Result<bool, InferError> {
+        match Flow::of(spot.slot, insn) {
+            Flow::Next => Ok(true),
+            Flow::Jump(target) => {
+                self.arrive(*spot, target, state)?;
+                Ok(false)
+            }
+            Flow::Branch(target) => {
+                let (a, b) = compared(insn);
+                let (held_a, held_b) = (state.reg(a), state.reg(b));
+                if branch(insn, true, state) {
+                    self.arrive(*spot, target, state)?;
+                    state.set_reg(a, held_a);
+                    state.set_reg(b, held_b);
+                }
+                Ok(branch(insn, false, state))
+            }
+            Flow::Call(target) => self.call(spot, target, state),
+            Flow::Exit => {
+                self.exit(*spot, state)?;
+                Ok(false)
+            }
+        }
+    }
+
+    /// Does an instruction. Whether the next one is reached.
+    fn step(
+        &mut self,
+        spot: &mut Spot,
+        insn: &Insn,
+        state: &mut State,
+    ) -> Result<bool, InferError> {
+        spot.cost = spot.cost.saturating_add(1);
+        match transfer(insn, self.draft.least, self.draft.program.order(), state) {
+            Ok(true) => self.follow(spot, insn, state),
+            Ok(false) => Ok(false),
+            Err(fault) => Err(InferError::Fault {
+                slot: spot.slot,
+                condition: Condition::State(fault),
+            }),
+        }
+    }
+
+    /// Goes on past the last slot before another label, if there is one.
+    fn fall(&mut self, spot: Spot, end: u32, state: &State) -> Result<(), InferError> {
+        if end >= self.draft.program.slots() {
+            return Err(InferError::Fault {
+                slot: spot.slot,
+                condition: Condition::FallsOff,
+            });
+        }
+        self.arrive(spot, end, state)
+    }
+
+    /// Goes from a label to the labels behind it. I4 (C11) at an instruction on the way that isn't reached.
+    fn walk(&mut self, number: usize, label: &Label, state: &mut State) -> Result<(), InferError> {
+        label.state.put_into(state);
+        if !state.tighten() {
+            return Err(self.unstable());
+        }
+        tag_all(state);
+        let end = self.draft.end(self.number, number);
+        let mut goes_on = true;
+        let mut spot = Spot {
+            label: number,
+            slot: label.slot,
+            cost: 0,
+        };
+        for slot in label.slot..end {
+            if let Some(insn) = self.draft.program.at(slot) {
+                if !goes_on {
+                    return Err(InferError::Fault {
+                        slot,
+                        condition: Condition::FallsOff,
+                    });
+                }
+                spot.slot = slot;
+                goes_on = self.step(&mut spot, insn, state)?;
+            }
+        }
+        if goes_on {
+            self.fall(spot, end, state)?;
+        }
+        Ok(())
+    }
+
+    /// Goes from each of the function's labels to those behind it.
+    fn walk_all(&mut self) -> Result<(), InferError> {
+        let function = self.function;
+        let mut room = State::blank();
+        for number in 0..function.labels.len() {
+            if let Some(label) = function.labels.get(number) {
+                self.walk(number, label, &mut room)?;
+            }
+            self.ways.ends.push(self.ways.list.len())?;
+        }
+        Ok(())
+    }
+}
+
+/// The ways of a function. I1 if a state on one doesn't lie in its label's, I4 at an instruction that is refused or not
+/// reached.
+pub fn ways_of(
+    alloc: Global,
+    draft: Draft,
+    number: usize,
+    function: &Function,
+    prices: &[Price],
+) -> Result<Ways, InferError> {
+    let mut walker = Walker {
+        draft,
+        function,
+        number,
+        prices,
+        ways: Ways {
+            list: Vec::new(alloc),
+            held: Vec::new(alloc),
+            ends: Vec::new(alloc),
+        },
+    };
+    walker.walk_all()?;
+    Ok(walker.ways)
+}

@@ -1,0 +1,198 @@
+//! How often the counters of a group are counted: longest paths to their steps, and halving for the least weights.
+
+use crate::candidates::graph_of;
+use crate::groups::{Counted, Group};
+use crate::plan::Plan;
+use bpf_cert::MAX_WEIGHT;
+use bpf_infer_base::{Graph, Limit, Obstacle, Stop, get_or, longest_ways, put};
+use std::alloc::{AllocError, Global};
+
+/// The most labels of a region whose weights are made least.
+const FEW_LABELS: usize = 64;
+
+/// The most passes over a region.
+pub const MOST_PASSES: usize = 1024;
+
+/// How often a number from 1 to the greatest weight may be halved.
+const HALVINGS: usize = 20;
+
+/// By arcs, what bases have to pay beside one another.
+fn lengths_of(alloc: Global, plan: &Plan, graph: &Graph) -> Result<Vec<i128>, AllocError> {
+    let mut lengths = Vec::with_capacity(alloc, graph.arcs().len())?;
+    for arc in graph.arcs() {
+        let length = match plan.ways.at(arc.way) {
+            Some(way) => plan.length(way),
+            None => 0,
+        };
+        lengths.push(length)?;
+    }
+    Ok(lengths)
+}
+
+/// Adds what a counter grows by, so many times.
+fn add_changes(sums: &mut Vec<i128>, counted: &Counted, weight: i128) {
+    for number in 0..counted.changes.len() {
+        if let (Some(sum), Some(change)) = (sums.get_mut(number), counted.changes.get(number)) {
+            *sum = sum.saturating_add(change.saturating_mul(weight));
+        }
+    }
+}
+
+/// By arcs, how much the counters of a group grow together: 0 or less.
+fn changes_of(alloc: Global, group: &Group) -> Result<Vec<i128>, AllocError> {
+    let mut sums = vec![in alloc; 0; group.region.graph.arcs().len()]?;
+    for counted in &group.counters {
+        add_changes(&mut sums, counted, 1);
+    }
+    Ok(sums)
+}
+
+/// The arcs of a group on which nothing falls, and the length of the longest one on which something does, by where it
+/// begins.
+#[derive(Drop)]
+struct Split {
+    left: Vec<usize>,
+    lengths: Vec<i128>,
+    heights: Vec<i128>,
+    step: i128,
+}
+
+impl Split {
+    /// Puts an arc to those on which nothing falls, or to the others.
+    fn add(
+        &mut self,
+        number: usize,
+        from: usize,
+        length: i128,
+        change: i128,
+    ) -> Result<(), AllocError> {
+        if change < 0 {
+            let height = length.max(get_or(&self.heights, from, 0));
+            put(&mut self.heights, from, height);
+            self.step = self.step.min(0i128.saturating_sub(change));
+        } else {
+            self.left.push(number)?;
+            self.lengths.push(length)?;
+        }
+        Ok(())
+    }
+
+    /// The arcs of a group and their lengths, apart by whether something falls on them.
+    fn of(alloc: Global, group: &Group, lengths: &[i128]) -> Result<Split, AllocError> {
+        let changes = changes_of(alloc, group)?;
+        let graph = &group.region.graph;
+        let mut split = Split {
+            left: Vec::new(alloc),
+            lengths: Vec::new(alloc),
+            heights: vec![in alloc; 0; graph.count()]?,
+            step: i128::MAX,
+        };
+        for number in 0..graph.arcs().len() {
+            if let (Some(arc), Some(length), Some(change)) = (
+                graph.arcs().get(number),
+                lengths.get(number),
+                changes.get(number),
+            ) {
+                split.add(number, arc.from, *length, *change)?;
+            }
+        }
+        Ok(split)
+    }
+}
+
+/// The greatest of some numbers, 0 if all are below.
+fn greatest_of(list: &[i128]) -> i128 {
+    let mut greatest = 0;
+    for number in list {
+        greatest = greatest.max(*number);
+    }
+    greatest
+}
+
+/// How many passes a graph of so many nodes is given.
+fn passes_over(count: usize) -> usize {
+    count.saturating_add(2).min(MOST_PASSES)
+}
+
+/// A weight with which a step pays the longest way to it, and the way of the step. None if there is no longest one.
+fn weight_of(alloc: Global, group: &Group, lengths: &[i128]) -> Result<Option<i128>, AllocError> {
+    let Split {
+        left,
+        lengths,
+        heights,
+        step,
+    } = Split::of(alloc, group, lengths)?;
+    let graph = graph_of(alloc, &group.region, &left)?;
+    let Some(heights) = longest_ways(&graph, &lengths, heights, passes_over(graph.count())) else {
+        return Ok(None);
+    };
+    let rounded = greatest_of(&heights).saturating_add(step.saturating_sub(1));
+    Ok(Some(rounded.checked_div(step).unwrap_or(1).max(1)))
+}
+
+// ---- the least weights
+
+/// Whether no way round costs more than the counters pay.
+fn is_paid(
+    alloc: Global,
+    plan: &Plan,
+    group: &Group,
+    lengths: &[i128],
+) -> Result<bool, AllocError> {
+    let mut sums = lengths.to_vec(alloc)?;
+    for counted in &group.counters {
+        add_changes(&mut sums, counted, plan.weight(counted.weight));
+    }
+    let graph = &group.region.graph;
+    let heights = vec![in alloc; 0; graph.count()]?;
+    Ok(longest_ways(graph, &sums, heights, passes_over(graph.count())).is_some())
+}
+
+/// Makes a weight the least with which ways round are paid.
+fn lower(
+    alloc: Global,
+    plan: &mut Plan,
+    group: &Group,
+    lengths: &[i128],
+    number: usize,
+) -> Result<(), AllocError> {
+    let mut most = plan.weight(number);
+    let mut least = 1i128;
+    for _ in 0..HALVINGS {
+        if least >= most {
+            break;
+        }
+        let middle = least.saturating_add(most).checked_div(2).unwrap_or(least);
+        plan.set_weight(number, middle);
+        if is_paid(alloc, plan, group, lengths)? {
+            most = middle;
+        } else {
+            least = middle.saturating_add(1);
+        }
+    }
+    plan.set_weight(number, most);
+    Ok(())
+}
+
+/// Gives the counters of a group their weights; those of inner groups have theirs. I2 at the lowest label of a group with
+/// a weight above 2^20.
+pub fn weigh(alloc: Global, plan: &mut Plan, group: &Group) -> Result<(), Stop> {
+    let lengths = lengths_of(alloc, plan, &group.region.graph)?;
+    let slot = plan.slot(group.region.label(0));
+    let Some(weight) = weight_of(alloc, group, &lengths)? else {
+        return Err(Stop::no_budget(slot, Obstacle::Over(Limit::Passes)));
+    };
+    if weight > MAX_WEIGHT as i128 {
+        let wanted = u64::try_from(weight).unwrap_or(u64::MAX);
+        return Err(Stop::no_budget(slot, Obstacle::Over(Limit::Weight { wanted })));
+    }
+    for counted in &group.counters {
+        plan.set_weight(counted.weight, weight);
+    }
+    if group.region.labels.len() <= FEW_LABELS {
+        for counted in &group.counters {
+            lower(alloc, plan, group, &lengths, counted.weight)?;
+        }
+    }
+    Ok(())
+}

@@ -1,0 +1,35 @@
+-- The numbers of refusals, and the slots that they name.
+use Rattle.std.specs.Prelude.{ℕ, ◌-◌, min}
+use Rattle.bpf_state.specs.Answer.{fault_number}
+use Rattle.bpf_infer_error.specs.declared.condition.Condition.{Condition}
+use Rattle.bpf_infer_error.specs.declared.condition.Condition.TheVariants.{State, FallsOff, LeavesFunction}
+use Rattle.bpf_infer_error.specs.declared.error.InferError.{InferError}
+use Rattle.bpf_infer_error.specs.declared.error.InferError.TheVariants.{Unstable, NoBudget, Recursion, Fault, Memory}
+
+-- the checker's number of a condition
+abbrev pub condition_number : Condition → ℕ
+condition_number (State fault) = fault_number fault
+condition_number FallsOff = 11
+condition_number LeavesFunction = 12
+
+abbrev pub infer_number : InferError → ℕ
+infer_number (Unstable slot) = 1
+infer_number (NoBudget slot) = 2
+infer_number (Recursion slot) = 3
+infer_number (Fault slot condition) = 4
+infer_number Memory = 5
+
+abbrev pub infer_slot : InferError → ℕ
+infer_slot (Unstable slot) = slot
+infer_slot (NoBudget slot) = slot
+infer_slot (Recursion slot) = slot
+infer_slot (Fault slot condition) = slot
+infer_slot Memory = 0
+
+-- the same refusal with a slot of a program of so many, its last one in the place of one behind it
+abbrev pub within : ℕ → InferError → InferError
+within slots (Unstable slot) = Unstable (min slot (slots - 1))
+within slots (NoBudget slot) = NoBudget (min slot (slots - 1))
+within slots (Recursion slot) = Recursion (min slot (slots - 1))
+within slots (Fault slot condition) = Fault (min slot (slots - 1)) condition
+within slots Memory = Memory

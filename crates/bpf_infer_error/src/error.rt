@@ -1,0 +1,103 @@
+//! Why no certificate is proposed.
+
+ghost use Rattle.std.specs.Prelude.{◌≡◌, ◌<◌};
+ghost use Rattle.bpf_infer_error.specs.RefusalNumbers.{infer_number, infer_slot, within};
+
+use crate::condition::Condition;
+use std::alloc::{AllocError, AllocFailed};
+use thiserror::Error;
+
+/// Why no certificate is proposed for a program, with a slot of it.
+#[derive(Clone, Copy, Debug, PartialEq, Eq, Error)]
+pub enum InferError {
+    /// I1: the states of the function that begins at the slot aren't stable after 64 rounds.
+    #[error("states of the function at slot {slot} aren't stable")]
+    Unstable { slot: u32 },
+    /// I2: the loop at the slot has no counter, or the slot's label is over a limit.
+    #[error("no budget for the label at slot {slot}")]
+    NoBudget { slot: u32 },
+    /// I3: the call at the slot is part of a recursion.
+    #[error("recursion by the call at slot {slot}")]
+    Recursion { slot: u32 },
+    /// I4: the checker would refuse the instruction at the slot, since it fails a condition.
+    #[error("instruction at slot {slot}: {condition}")]
+    Fault { slot: u32, condition: Condition },
+    /// I5: memory ran out.
+    #[error("out of memory")]
+    Memory,
+}
+
+impl InferError {
+    /// The number of the refusal, from 1 to 5.
+    pub fn number(&self) -> u8
+        ensures { result ≡ infer_number self.now }
+    {
+        match self {
+            InferError::Unstable { .. } => 1,
+            InferError::NoBudget { .. } => 2,
+            InferError::Recursion { .. } => 3,
+            InferError::Fault { .. } => 4,
+            InferError::Memory => 5,
+        }
+    }
+
+    /// The slot that is named, 0 where memory ran out.
+    pub fn slot(&self) -> u32
+        ensures { result ≡ infer_slot self.now }
+    {
+        match *self {
+            InferError::Unstable { slot }
+            | InferError::NoBudget { slot }
+            | InferError::Recursion { slot }
+            | InferError::Fault { slot, .. } => slot,
+            InferError::Memory => 0,
+        }
+    }
+
+    /// The same refusal with a slot of a program of so many slots, its last one in the place of one behind it.
+    pub fn within(self, slots: u32) -> InferError
+        requires { 0 < slots }
+        ensures same { result ≡ within slots self }
+        ensures inside { infer_slot result < slots }
+    {
+        let last = slots - 1;
+        match self {
+            InferError::Unstable { slot } => InferError::Unstable {
+                slot: slot.min(last),
+            },
+            InferError::NoBudget { slot } => InferError::NoBudget {
+                slot: slot.min(last),
+            },
+            InferError::Recursion { slot } => InferError::Recursion {
+                slot: slot.min(last),
+            },
+            InferError::Fault { slot, condition } => InferError::Fault {
+                slot: slot.min(last),
+                condition,
+            },
+            InferError::Memory => InferError::Memory,
+        }
+    }
+}
+
+impl From<AllocError> for InferError {
+    ghost use Rattle.std.specs.Prelude.{◌≡◌};
+    ghost use Rattle.bpf_infer_error.specs.declared.error.InferError.TheVariants.{Memory};
+
+    ghost from_gives = { λ _ e. e ≡ Memory };
+
+    fn from(_error: AllocError) -> InferError {
+        InferError::Memory
+    }
+}
+
+impl<T: Drop> From<AllocFailed<T>> for InferError {
+    ghost use Rattle.std.specs.Prelude.{◌≡◌};
+    ghost use Rattle.bpf_infer_error.specs.declared.error.InferError.TheVariants.{Memory};
+
+    ghost from_gives = { λ _ e. e ≡ Memory };
+
+    fn from(_error: AllocFailed<T>) -> InferError {
+        InferError::Memory
+    }
+}

@@ -1,0 +1,380 @@
+//! Budgets: how many instructions may still be done from each label on.
+
+use crate::loops::{Loop, Loops};
+use crate::rounds::Rounds;
+use crate::walk::{Edge, Visitor, Walked};
+use bpf_cert::{MAX_BASE, MAX_WEIGHT};
+use bpf_infer_base::{Counter, Depths, Line, Span, get_or, place, put};
+use bpf_infer_error::InferError;
+use bpf_state::{State, Tag};
+use std::alloc::{AllocError, Global};
+
+/// What the place of an edge's target holds: an offset more than the place of the label before did, or any number of
+/// some.
+#[derive(Clone, Copy)]
+enum Held {
+    Moved(i64),
+    Within(Span),
+}
+
+/// An edge into a label, or an exit, with its cost since the label before.
+#[derive(Clone, Copy)]
+struct Way {
+    from: usize,
+    to: Option<usize>,
+    cost: i128,
+    held: Held,
+}
+
+/// The budget at a label.
+#[derive(Clone, Copy)]
+pub struct Plan {
+    /// At most 2^40, where no limit is passed.
+    pub base: i128,
+    /// At a loop's head the weight of its counter, from 1 to 2^20.
+    weight: i128,
+    /// What the counter's place holds.
+    span: Span,
+    /// The numbers of the ways from here on.
+    ways_from: usize,
+    ways_to: usize,
+}
+
+impl Plan {
+    const NONE: Plan = Plan {
+        base: 0,
+        weight: 1,
+        span: Span::ALL,
+        ways_from: 0,
+        ways_to: 0,
+    };
+}
+
+/// The budgets of a program's labels.
+#[derive(Drop)]
+pub struct Budgets {
+    loops: Loops,
+    plans: Vec<Plan>,
+    ways: Vec<Way>,
+    /// What the calls since the label may cost.
+    called: i128,
+}
+
+impl Visitor for Budgets {
+    fn edge(&mut self, edge: Edge, done: i128, state: &State) -> Result<(), AllocError> {
+        let way = Way {
+            from: edge.from,
+            to: Some(edge.to),
+            cost: done.saturating_add(self.called),
+            held: self.held_at(edge.to, state),
+        };
+        self.ways.push(way)?;
+        Ok(())
+    }
+
+    fn call(&mut self, callee: usize, state: &State) -> Result<(), AllocError> {
+        self.called = self.called.saturating_add(self.greatest(callee, state));
+        Ok(())
+    }
+
+    fn exit(&mut self, from: usize, done: i128) -> Result<(), AllocError> {
+        let way = Way {
+            from,
+            to: None,
+            cost: done.saturating_add(self.called),
+            held: Held::Moved(0),
+        };
+        self.ways.push(way)?;
+        Ok(())
+    }
+}
+
+impl Budgets {
+    /// The budget's base, and its counter with the weight.
+    pub fn at(&self, block: usize) -> (i128, Option<(Counter, i128)>) {
+        let base = self.plan(block).base;
+        match self.loops.at(block) {
+            Some(
+                Loop {
+                    counter: Some(counter),
+                    head,
+                    ..
+                },
+            ) => (base, Some((counter, self.plan(head).weight))),
+            _ => (base, None),
+        }
+    }
+
+    /// What is planned at a label.
+    fn plan(&self, block: usize) -> Plan {
+        get_or(&self.plans, block, Plan::NONE)
+    }
+
+    /// The term of a label's budget, as a line over what its place holds.
+    fn line_at(&self, block: usize) -> Line {
+        match self.at(block) {
+            (_, Some((counter, weight))) => Line::of(counter, weight),
+            (_, None) => Line::ZERO,
+        }
+    }
+
+    /// What the place of a label's counter holds in a state on the way to it.
+    fn held_at(&self, block: usize, state: &State) -> Held {
+        let Some(counter) = self.loops.counter_at(block) else {
+            return Held::Moved(0);
+        };
+        match state.tag(place(counter.number())) {
+            Some(tag) => Held::Moved(tag.offset),
+            None => Held::Within(Span::of(state, counter.number())),
+        }
+    }
+
+    /// The greatest budget of a label over a state.
+    pub fn greatest(&self, block: usize, state: &State) -> i128 {
+        let base = self.plan(block).base;
+        match self.loops.counter_at(block) {
+            Some(counter) => {
+                let span = Span::of(state, counter.number());
+                base.saturating_add(self.line_at(block).greatest(span))
+            }
+            None => base,
+        }
+    }
+
+    // ---- the ways from each label
+
+    /// Tags the counter at a label. What it holds.
+    fn tag_counter(&self, block: usize, state: &mut State) -> Span {
+        let Some(counter) = self.loops.counter_at(block) else {
+            return Span::ALL;
+        };
+        state.set_tag(place(counter.number()), Some(Tag { term: 0, offset: 0 }));
+        Span::of(state, counter.number())
+    }
+
+    /// Goes over a block, and takes note of its ways and of what its counter holds.
+    fn walk_over(
+        &mut self,
+        walk: &Walked,
+        rounds: &Rounds,
+        block: usize,
+        state: &mut State,
+    ) -> Result<(), InferError> {
+        if !rounds.load(block, state) {
+            return Ok(());
+        }
+        let span = self.tag_counter(block, state);
+        let ways_from = self.ways.len();
+        self.called = 0;
+        walk.over(block, state, self)?;
+        let plan = Plan {
+            span,
+            ways_from,
+            ways_to: self.ways.len(),
+            ..Plan::NONE
+        };
+        put(&mut self.plans, block, plan);
+        Ok(())
+    }
+
+    /// Goes over the blocks from one to another.
+    fn walk_over_all(
+        &mut self,
+        walk: &Walked,
+        rounds: &Rounds,
+        first: usize,
+        end: usize,
+    ) -> Result<(), InferError> {
+        let mut room = State::blank();
+        for block in first..end {
+            self.walk_over(walk, rounds, block, &mut room)?;
+        }
+        Ok(())
+    }
+
+    // ---- weights
+
+    /// The greatest cost of a way from the head of a loop to itself.
+    fn cost_around(&self, alloc: Global, found: Loop) -> Result<i128, AllocError> {
+        let count = found.last.saturating_sub(found.head).saturating_add(1);
+        let mut costs = vec![in alloc; None; count]?;
+        put(&mut costs, 0, Some(0i128));
+        let mut around = 0;
+        for number in self.plan(found.head).ways_from..self.plan(found.last).ways_to {
+            if let Some(way) = self.ways.get(number) {
+                around = around.max(follow(&mut costs, found, way));
+            }
+        }
+        Ok(around)
+    }
+
+    /// I2 at the head of a loop with a weight above 2^20.
+    fn weigh(&mut self, alloc: Global, walk: &Walked, head: usize) -> Result<(), InferError> {
+        let Some(found) = self.loops.at(head) else {
+            return Ok(());
+        };
+        if found.head != head {
+            return Ok(());
+        }
+        let weight = self.cost_around(alloc, found)?.max(1);
+        if weight > MAX_WEIGHT as i128 {
+            return Err(InferError::NoBudget {
+                slot: walk.outline.label(head),
+            });
+        }
+        let plan = self.plan(head);
+        put(&mut self.plans, head, Plan { weight, ..plan });
+        Ok(())
+    }
+
+    /// Weighs the counters of the loops whose heads are among the blocks from one to another.
+    fn weigh_all(
+        &mut self,
+        alloc: Global,
+        walk: &Walked,
+        first: usize,
+        end: usize,
+    ) -> Result<(), InferError> {
+        for block in first..end {
+            self.weigh(alloc, walk, block)?;
+        }
+        Ok(())
+    }
+
+    // ---- bases
+
+    /// The least base that pays a way.
+    fn price(&self, way: &Way) -> i128 {
+        let own = self.line_at(way.from);
+        let span = self.plan(way.from).span;
+        let (base, line) = match way.to {
+            Some(to) => (self.plan(to).base, self.line_at(to)),
+            None => (0, Line::ZERO),
+        };
+        let varying = match way.held {
+            Held::Moved(offset) => line.moved(offset).minus(own).greatest(span),
+            Held::Within(held) => {
+                let least = Line::ZERO.minus(own).greatest(span);
+                line.greatest(held).saturating_add(least)
+            }
+        };
+        way.cost.saturating_add(base).saturating_add(varying)
+    }
+
+    /// The least base that pays the ways from a label, of those that lead back only if wanted. I2 above 2^40.
+    fn pay(&mut self, walk: &Walked, block: usize, pays_back: bool) -> Result<(), InferError> {
+        let plan = self.plan(block);
+        let mut base = 0;
+        for number in plan.ways_from..plan.ways_to {
+            if let Some(way) = self.ways.get(number) {
+                let leads_back = way.to.is_some_and(|to| to <= way.from);
+                if pays_back || !leads_back {
+                    base = base.max(self.price(way));
+                }
+            }
+        }
+        if base > MAX_BASE as i128 {
+            return Err(InferError::NoBudget {
+                slot: walk.outline.label(block),
+            });
+        }
+        put(&mut self.plans, block, Plan { base, ..plan });
+        Ok(())
+    }
+
+    /// Pays the ways from the labels of a loop, those back to its head too.
+    fn pay_back(&mut self, walk: &Walked, found: Loop) -> Result<(), InferError> {
+        for block in (found.head.saturating_add(1)..found.last.saturating_add(1)).rev() {
+            self.pay(walk, block, true)?;
+        }
+        Ok(())
+    }
+
+    /// From the highest label on; the ways in a loop are paid once its head is.
+    fn pay_all(&mut self, walk: &Walked, first: usize, end: usize) -> Result<(), InferError> {
+        for block in (first..end).rev() {
+            self.pay(walk, block, false)?;
+            if let Some(found) = self.loops.at(block) {
+                if found.head == block {
+                    self.pay_back(walk, found)?;
+                }
+            }
+        }
+        Ok(())
+    }
+
+    // ---- functions
+
+    /// Finds the budgets of a function's labels; those of its callees are there.
+    fn plan_function(
+        &mut self,
+        alloc: Global,
+        walk: &Walked,
+        rounds: &Rounds,
+        function: usize,
+    ) -> Result<(), InferError> {
+        let first = walk.outline.first_block(function);
+        let end = walk.outline.first_block(function.saturating_add(1));
+        self.walk_over_all(walk, rounds, first, end)?;
+        self.weigh_all(alloc, walk, first, end)?;
+        self.pay_all(walk, first, end)
+    }
+
+    /// Finds the budgets of the functions of a depth.
+    fn plan_depth(
+        &mut self,
+        alloc: Global,
+        walk: &Walked,
+        rounds: &Rounds,
+        depths: &Depths,
+        depth: u32,
+    ) -> Result<(), InferError> {
+        for function in 0..walk.outline.function_count() {
+            if get_or(depths, function, 0) == depth {
+                self.plan_function(alloc, walk, rounds, function)?;
+            }
+        }
+        Ok(())
+    }
+}
+
+/// Goes on along a way. The cost of the way around the loop, or 0 if it isn't at the head again.
+fn follow(costs: &mut Vec<Option<i128>>, found: Loop, way: &Way) -> i128 {
+    let Some(to) = way.to else {
+        return 0;
+    };
+    let here = way.from.saturating_sub(found.head);
+    let Some(Some(cost)) = costs.get(here) else {
+        return 0;
+    };
+    let cost = cost.saturating_add(way.cost);
+    if to == found.head {
+        return cost;
+    }
+    if to > found.head && to <= found.last {
+        if let Some(held) = costs.get_mut(to.saturating_sub(found.head)) {
+            *held = Some(held.unwrap_or(0).max(cost));
+        }
+    }
+    0
+}
+
+/// The budgets of a program's labels, callees first. I2 at a label that is over a limit.
+pub fn budgets_of(
+    alloc: Global,
+    walk: &Walked,
+    rounds: &Rounds,
+    loops: Loops,
+    depths: &Depths,
+) -> Result<Budgets, InferError> {
+    let mut budgets = Budgets {
+        loops,
+        plans: vec![in alloc; Plan::NONE; walk.outline.block_count()]?,
+        ways: Vec::new(alloc),
+        called: 0,
+    };
+    for depth in 1..9 {
+        budgets.plan_depth(alloc, walk, rounds, depths, depth)?;
+    }
+    Ok(budgets)
+}

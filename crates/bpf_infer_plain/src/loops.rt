@@ -1,0 +1,276 @@
+//! The loops of a program, and what counts their rounds.
+
+use crate::rounds::Rounds;
+use crate::walk::{Edge, Visitor, Walked};
+use bpf_infer_base::{Counter, PLACES, get_or, number_at, place, put, tag_own};
+use bpf_infer_error::InferError;
+use bpf_state::State;
+use std::alloc::{AllocError, Global};
+
+/// A loop: the blocks from its head to the last one that leads back to it.
+#[derive(Clone, Copy)]
+pub struct Loop {
+    pub head: usize,
+    pub last: usize,
+    /// What falls on each way from the head to itself; None if there is no such way.
+    pub counter: Option<Counter>,
+}
+
+/// The loops of a program by their heads, and the number of the one that each block is in.
+#[derive(Drop)]
+pub struct Loops {
+    loops: Vec<Loop>,
+    loop_of: Vec<Option<usize>>,
+}
+
+impl Loops {
+    /// The loop that a block is in.
+    pub fn at(&self, block: usize) -> Option<Loop> {
+        let number = get_or(&self.loop_of, block, None)?;
+        self.loops.get(number).copied()
+    }
+
+    /// What is counted in the loop that a block is in.
+    pub fn counter_at(&self, block: usize) -> Option<Counter> {
+        self.at(block)?.counter
+    }
+
+    /// Takes note of the loop that a block is in, the last one that began.
+    fn continue_to(&mut self, block: usize) -> Result<(), AllocError> {
+        let number = match self.loops.last() {
+            Some(open) if block <= open.last => self.loops.len().checked_sub(1),
+            _ => None,
+        };
+        self.loop_of.push(number)?;
+        Ok(())
+    }
+}
+
+/// The loop whose head is a block, if a way leads back to it.
+pub fn loop_from(rounds: &Rounds, head: usize) -> Option<Loop> {
+    let last = get_or(&rounds.backs, head, None)?;
+    Some(Loop {
+        head,
+        last,
+        counter: None,
+    })
+}
+
+/// The lowest loop between whose ends another one begins, and that one.
+pub fn first_crossing(rounds: &Rounds) -> Option<(Loop, Loop)> {
+    let mut open: Option<Loop> = None;
+    for head in 0..rounds.backs.len() {
+        if let Some(found) = loop_from(rounds, head) {
+            match open {
+                Some(open) if head <= open.last => return Some((open, found)),
+                _ => open = Some(found),
+            }
+        }
+    }
+    None
+}
+
+// ---- how places move
+
+/// By how much each place has moved on the ways to a label, at the least and at the most.
+#[derive(Clone, Copy)]
+pub struct Moves {
+    pub least: [i64; PLACES],
+    pub greatest: [i64; PLACES],
+}
+
+impl Moves {
+    const NONE: Moves = Moves {
+        least: [0; PLACES],
+        greatest: [0; PLACES],
+    };
+
+    /// Moves further.
+    fn add(&mut self, offsets: &[i64; PLACES]) {
+        for i in 0..PLACES {
+            self.least[i] = self.least[i].saturating_add(offsets[i]);
+            self.greatest[i] = self.greatest[i].saturating_add(offsets[i]);
+        }
+    }
+
+    /// Takes in other ways.
+    fn join(&mut self, other: &Moves) {
+        for i in 0..PLACES {
+            self.least[i] = self.least[i].min(other.least[i]);
+            self.greatest[i] = self.greatest[i].max(other.greatest[i]);
+        }
+    }
+}
+
+/// A walk over the blocks of a loop that looks where its places go.
+#[derive(Drop)]
+pub struct Search {
+    head: usize,
+    last: usize,
+    /// Whether each place holds on each edge what it held at the label before, and an offset more.
+    pub is_tagged: [bool; PLACES],
+    /// The moves from the head to each block from it on, None where no way leads.
+    moves: Vec<Option<Moves>>,
+    /// The moves on all ways from the head to itself.
+    pub around: Option<Moves>,
+}
+
+/// The moves on these ways and on those that are held.
+fn taken_in(held: Option<Moves>, moves: &Moves) -> Moves {
+    match held {
+        Some(mut held) => {
+            held.join(moves);
+            held
+        }
+        None => *moves,
+    }
+}
+
+impl Visitor for Search {
+    fn edge(&mut self, edge: Edge, _done: i128, state: &State) -> Result<(), AllocError> {
+        if edge.to < self.head || edge.to > self.last {
+            return Ok(());
+        }
+        let offsets = self.offsets_in(state);
+        let Some(mut moves) = self.moves_to(edge.from) else {
+            return Ok(());
+        };
+        moves.add(&offsets);
+        if edge.to == self.head {
+            self.around = Some(taken_in(self.around, &moves));
+        } else {
+            let held = self.moves_to(edge.to);
+            let index = edge.to.saturating_sub(self.head);
+            put(&mut self.moves, index, Some(taken_in(held, &moves)));
+        }
+        Ok(())
+    }
+}
+
+impl Search {
+    /// The moves on the ways to a block.
+    fn moves_to(&self, block: usize) -> Option<Moves> {
+        let index = block.saturating_sub(self.head);
+        get_or(&self.moves, index, None)
+    }
+
+    /// How much more than at the label before each place holds; places of which that isn't known are given up.
+    fn offsets_in(&mut self, state: &State) -> [i64; PLACES] {
+        let mut offsets = [0; PLACES];
+        for i in 0..PLACES {
+            match state.tag(place(i)) {
+                Some(tag) if tag.term as usize == i => offsets[i] = tag.offset,
+                _ => self.is_tagged[i] = false,
+            }
+        }
+        offsets
+    }
+
+    /// Tags each place with its own number; places that hold no number are given up.
+    fn tag_all(&mut self, state: &mut State) {
+        for i in 0..PLACES {
+            if number_at(state, i).is_some() {
+                tag_own(state, i);
+            } else {
+                self.is_tagged[i] = false;
+            }
+        }
+    }
+
+    /// Goes over all blocks of the loop.
+    fn walk_over(&mut self, walk: &Walked, rounds: &Rounds) -> Result<(), InferError> {
+        let mut state = State::blank();
+        for block in self.head..self.last.saturating_add(1) {
+            if rounds.load(block, &mut state) {
+                self.tag_all(&mut state);
+                walk.over(block, &mut state, self)?;
+            }
+        }
+        Ok(())
+    }
+
+    /// The first place that falls on each way around, or rises.
+    fn counter(&self, rounds: &Rounds, around: &Moves) -> Option<Counter> {
+        for i in 0..PLACES {
+            if self.is_tagged[i] && around.greatest[i] < 0 {
+                return Some(Counter::Falling(i));
+            }
+            if self.is_tagged[i] && around.least[i] > 0 {
+                return Some(Counter::Rising(i, self.limit(rounds, i)));
+            }
+        }
+        None
+    }
+
+    /// The greatest number that a place holds at a label of the loop.
+    fn limit(&self, rounds: &Rounds, number: usize) -> u64 {
+        let mut limit = 0;
+        for block in self.head..self.last.saturating_add(1) {
+            if let Some(held) = rounds.number(block, number) {
+                limit = limit.max(held.unsigned().hi());
+            }
+        }
+        limit
+    }
+}
+
+/// Where the places of a loop go on the ways from its head to itself.
+pub fn searched(
+    alloc: Global,
+    walk: &Walked,
+    rounds: &Rounds,
+    found: Loop,
+) -> Result<Search, InferError> {
+    let count = found.last.saturating_sub(found.head).saturating_add(1);
+    let mut search = Search {
+        head: found.head,
+        last: found.last,
+        is_tagged: [true; PLACES],
+        moves: vec![in alloc; None; count]?,
+        around: None,
+    };
+    put(&mut search.moves, 0, Some(Moves::NONE));
+    search.walk_over(walk, rounds)?;
+    Ok(search)
+}
+
+/// What falls on each way from the head of a loop to itself, or rises up to a limit. I2 at the head if nothing does.
+fn counter_of(
+    alloc: Global,
+    walk: &Walked,
+    rounds: &Rounds,
+    found: Loop,
+) -> Result<Option<Counter>, InferError> {
+    let search = searched(alloc, walk, rounds, found)?;
+    let Some(around) = search.around else {
+        return Ok(None);
+    };
+    match search.counter(rounds, &around) {
+        Some(counter) => Ok(Some(counter)),
+        None => Err(InferError::NoBudget {
+            slot: walk.outline.label(found.head),
+        }),
+    }
+}
+
+/// The loops of a program with their counters. I2 at the head of the lowest loop in which another one begins, else of
+/// the lowest one without a counter.
+pub fn loops_of(alloc: Global, walk: &Walked, rounds: &Rounds) -> Result<Loops, InferError> {
+    if let Some((open, _)) = first_crossing(rounds) {
+        return Err(InferError::NoBudget {
+            slot: walk.outline.label(open.head),
+        });
+    }
+    let mut loops = Loops {
+        loops: Vec::new(alloc),
+        loop_of: Vec::new(alloc),
+    };
+    for block in 0..rounds.backs.len() {
+        if let Some(found) = loop_from(rounds, block) {
+            let counter = counter_of(alloc, walk, rounds, found)?;
+            loops.loops.push(Loop { counter, ..found })?;
+        }
+        loops.continue_to(block)?;
+    }
+    Ok(loops)
+}

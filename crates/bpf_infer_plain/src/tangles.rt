@@ -1,0 +1,83 @@
+//! Ways back that cross: a loop in a loop, or a way back into the middle of one.
+
+use crate::loops::Loop;
+use crate::rounds::Rounds;
+use crate::walk::{Edge, Visitor, Walked};
+use bpf_infer_base::{Arc, Flow, Graph, Tangle, get_or};
+use bpf_infer_error::InferError;
+use bpf_state::State;
+use std::alloc::{AllocError, Global};
+
+/// The edges from block to block.
+#[derive(Drop)]
+struct Arcs {
+    list: Vec<Arc>,
+}
+
+impl Visitor for Arcs {
+    fn edge(&mut self, edge: Edge, _done: i128, _state: &State) -> Result<(), AllocError> {
+        self.list.push(Arc {
+            from: edge.from,
+            to: edge.to,
+            way: 0,
+        })?;
+        Ok(())
+    }
+}
+
+/// The blocks that were reached, and the edges between them as far as nothing is refused.
+fn graph_of(alloc: Global, walk: &Walked, rounds: &Rounds) -> Result<Graph, AllocError> {
+    let mut arcs = Arcs {
+        list: Vec::new(alloc),
+    };
+    let count = walk.outline.block_count();
+    let mut room = State::blank();
+    for block in 0..count {
+        if rounds.load(block, &mut room) {
+            match walk.over(block, &mut room, &mut arcs) {
+                Err(InferError::Memory) => return Err(AllocError),
+                Ok(_) | Err(_) => {}
+            }
+        }
+    }
+    Graph::of(alloc, count, arcs.list)
+}
+
+/// The slot of the last jump that leads back to a loop's head.
+fn way_back(walk: &Walked, found: Loop) -> u32 {
+    let head = walk.outline.label(found.head);
+    let mut last = walk.outline.label(found.last);
+    for slot in last..walk.outline.end(found.last) {
+        if let Some(insn) = walk.program.at(slot) {
+            if Flow::of(slot, insn).jump() == Some(head) {
+                last = slot;
+            }
+        }
+    }
+    last
+}
+
+/// What a loop is that begins between the head of another one and the last way back to it.
+pub fn tangle_of(
+    alloc: Global,
+    walk: &Walked,
+    rounds: &Rounds,
+    outer: Loop,
+    inner: Loop,
+) -> Result<Tangle, AllocError> {
+    let graph = graph_of(alloc, walk, rounds)?;
+    let (from, back) = (way_back(walk, inner), way_back(walk, outer));
+    let around = graph.reached(alloc, outer.head, None)?;
+    if !get_or(&around, outer.head, false) {
+        return Ok(Tangle::Backward { from: back });
+    }
+    let within = graph.reached(alloc, inner.head, Some(outer.head))?;
+    let beyond = graph.reached(alloc, inner.head, None)?;
+    let is_inner = get_or(&within, inner.head, false) && get_or(&beyond, outer.head, false);
+    let to = walk.outline.label(inner.head);
+    if is_inner && from <= back {
+        Ok(Tangle::Nested { inner: to })
+    } else {
+        Ok(Tangle::Middle { from, to, back })
+    }
+}

@@ -1,0 +1,307 @@
+//! States for dead code: the checker wants a state at each instruction, so code that no run reaches gets states as if edges
+//! that are never taken were. In each round what isn't reached and is led to gets the state over the edge, and what
+//! nothing leads to at all the one of the code in front of it; the search for a fixpoint joins them with what else
+//! arrives. Where an instruction is at fault then, the states that lead to it are changed.
+
+use crate::judge::{Fault, Report, walk_all};
+use crate::region::graph_of;
+use crate::repair::{change_kinds, fill};
+use crate::sums::{Held, held, take_in_at};
+use crate::task::{Task, Watcher};
+use bpf_infer_base::{Flow, get_or, put, vacant};
+use bpf_infer_error::Condition;
+use bpf_insn::Insn;
+use bpf_state::{Entries, State, StateFault};
+use std::alloc::{AllocError, Global};
+
+/// States for slots that nothing reaches, as if dead edges to them were alive.
+#[derive(Drop)]
+pub struct Seeds {
+    alloc: Global,
+    first: u32,
+    /// By slots from the function's first on.
+    states: Vec<Held>,
+    /// Where states are changed.
+    room: Box<State>,
+}
+
+impl Seeds {
+    /// None, for a function of so many slots.
+    pub fn new(alloc: Global, first: u32, slots: usize) -> Result<Seeds, AllocError> {
+        Ok(Seeds {
+            alloc,
+            first,
+            states: vacant(alloc, slots)?,
+            room: Box::new(alloc, State::blank())?,
+        })
+    }
+
+    /// The index of a slot among those of the function.
+    fn index(&self, slot: u32) -> usize {
+        slot.saturating_sub(self.first) as usize
+    }
+
+    /// The state for a slot.
+    pub fn at(&self, slot: u32) -> Option<&Entries> {
+        held(&self.states, self.index(slot))
+    }
+
+    /// A slot is also led to in a state.
+    fn add(&mut self, slot: u32, state: &State) -> Result<(), AllocError> {
+        let index = self.index(slot);
+        let _is_changed = take_in_at(self.alloc, &mut *self.room, &mut self.states, index, state)?;
+        Ok(())
+    }
+
+    /// Takes the state for a slot over from others.
+    fn take(&mut self, slot: u32, others: &mut Seeds) {
+        let index = self.index(slot);
+        if let Some(state) = others.states.get_mut(index) {
+            put(&mut self.states, index, state.take());
+        }
+    }
+
+    /// Gives a slot that has no state a copy of another one's.
+    fn repeat(&mut self, from: u32, to: u32) -> Result<(), AllocError> {
+        let Some(state) = self.at(from) else {
+            return Ok(());
+        };
+        let copy = state.copy(self.alloc)?;
+        let index = self.index(to);
+        put(&mut self.states, index, Some(copy));
+        Ok(())
+    }
+
+    /// Takes over the states of others.
+    fn take_over(&mut self, others: Seeds) {
+        let mut states = others.states;
+        for index in 0..states.len() {
+            if let Some(state) = states.get_mut(index) {
+                if state.is_some() {
+                    put(&mut self.states, index, state.take());
+                }
+            }
+        }
+    }
+
+    /// The slots that have a state, rising.
+    pub fn slots(&self) -> Result<Vec<u32>, AllocError> {
+        let mut slots = Vec::new(self.alloc);
+        let mut slot = self.first;
+        for index in 0..self.states.len() {
+            if held(&self.states, index).is_some() {
+                slots.push(slot)?;
+            }
+            slot = slot.saturating_add(1);
+        }
+        Ok(slots)
+    }
+
+    // ---- repairs
+
+    /// Puts the changed state back to its slot.
+    fn change(&mut self, slot: u32) -> Result<(), AllocError> {
+        let index = self.index(slot);
+        let changed = Entries::of(self.alloc, &*self.room)?;
+        put(&mut self.states, index, Some(changed));
+        Ok(())
+    }
+
+    /// Gives each register that a slot's state doesn't know a number, and each slot of the frame too if that is asked for.
+    /// Whether there is one.
+    fn fill(&mut self, slot: u32, fills_slots: bool) -> Result<bool, AllocError> {
+        let index = self.index(slot);
+        let Some(state) = held(&self.states, index) else {
+            return Ok(false);
+        };
+        state.put_into(&mut *self.room);
+        let is_filled = fill(&mut *self.room, fills_slots);
+        if is_filled {
+            self.change(slot)?;
+        }
+        Ok(is_filled)
+    }
+
+    /// The same for the states of all slots that lead to a fault. Whether there is one.
+    fn fill_before(
+        &mut self,
+        task: Task,
+        fault: u32,
+        fills_slots: bool,
+    ) -> Result<bool, AllocError> {
+        let region = task.region;
+        let graph = graph_of(self.alloc, task.program, region)?;
+        let target = region.segment(fault);
+        let before = graph
+            .reversed(self.alloc)?
+            .reached(self.alloc, target, None)?;
+        let mut is_filled = false;
+        for label in 0..region.labels() {
+            if label == target || get_or(&before, label, false) {
+                is_filled = self.fill(region.slot(label), fills_slots)? || is_filled;
+            }
+        }
+        Ok(is_filled)
+    }
+
+    /// Changes the state for the label before a slot so that the instruction there takes its kinds. Whether that is a change.
+    fn change_kinds(&mut self, task: Task, slot: u32) -> Result<bool, AllocError> {
+        let label = task.region.slot(task.region.segment(slot));
+        let index = self.index(label);
+        let Some(state) = held(&self.states, index) else {
+            return Ok(false);
+        };
+        state.put_into(&mut *self.room);
+        let is_changed = change_kinds(task, label, slot, &mut *self.room);
+        if is_changed {
+            self.change(label)?;
+        }
+        Ok(is_changed)
+    }
+
+    /// Changes the states so that a fault may go away. Whether something was changed.
+    pub fn repair(&mut self, task: Task, fault: Fault) -> Result<bool, AllocError> {
+        match fault.condition {
+            Condition::State(StateFault::UnsetRegister) => {
+                self.fill_before(task, fault.slot, false)
+            }
+            Condition::State(StateFault::UnsetByte) => self.fill_before(task, fault.slot, true),
+            Condition::State(StateFault::WrongKinds | StateFault::OutOfBounds) => {
+                self.change_kinds(task, fault.slot)
+            }
+            Condition::State(StateFault::Protected)
+            | Condition::FallsOff
+            | Condition::LeavesFunction => Ok(false),
+        }
+    }
+}
+
+// ---- where dead code begins
+
+/// A walk that looks for what reached instructions lead to and is not reached.
+#[derive(Drop)]
+struct Seeker<'a> {
+    task: Task<'a>,
+    report: &'a Report,
+    /// States over edges that aren't taken.
+    found: Seeds,
+    /// States behind jumps and EXITs.
+    behind: Seeds,
+    /// By slots from the function's first on, what found ones lead to.
+    is_led_to: Vec<bool>,
+    waiting: Vec<u32>,
+}
+
+impl<'a> Watcher for Seeker<'a> {
+    fn before(&mut self, slot: u32, insn: &Insn, state: &State) -> Result<(), AllocError> {
+        let next = slot.saturating_add(insn.slots());
+        if self.is_dead(next) {
+            if insn.goes_on() {
+                self.found.add(next, state)?;
+            } else {
+                self.behind.add(next, state)?;
+            }
+        }
+        match Flow::of(slot, insn).jump() {
+            Some(target) if self.is_dead(target) => self.found.add(target, state),
+            _ => Ok(()),
+        }
+    }
+}
+
+impl<'a> Seeker<'a> {
+    /// Whether an instruction of the function stands at a slot and isn't reached.
+    fn is_dead(&self, slot: u32) -> bool {
+        let region = self.task.region;
+        slot < region.end() && self.task.program.at(slot).is_some() && !self.report.is_reached(slot)
+    }
+
+    /// Takes note that a slot is led to, if it is dead, for the first time.
+    fn lead_to(&mut self, slot: u32) -> Result<(), AllocError> {
+        let index = self.task.region.index(slot);
+        if self.is_dead(slot) && !get_or(&self.is_led_to, index, true) {
+            put(&mut self.is_led_to, index, true);
+            self.waiting.push(slot)?;
+        }
+        Ok(())
+    }
+
+    /// Takes note of what the instruction at a slot leads to.
+    fn lead_on(&mut self, slot: u32) -> Result<(), AllocError> {
+        let Some(insn) = self.task.program.at(slot) else {
+            return Ok(());
+        };
+        if insn.goes_on() {
+            self.lead_to(slot.saturating_add(insn.slots()))?;
+        }
+        match Flow::of(slot, insn).jump() {
+            Some(target) => self.lead_to(target),
+            None => Ok(()),
+        }
+    }
+
+    /// Takes note of all dead code that a slot leads to.
+    fn lead_from(&mut self, slot: u32) -> Result<(), AllocError> {
+        self.lead_to(slot)?;
+        for _ in 0..self.is_led_to.len() {
+            let Some(slot) = self.waiting.pop() else {
+                break;
+            };
+            self.lead_on(slot)?;
+        }
+        Ok(())
+    }
+
+    /// Takes note of what the slots that were found lead to.
+    fn lead_from_all(&mut self) -> Result<(), AllocError> {
+        for slot in self.task.region.first()..self.task.region.end() {
+            if self.found.at(slot).is_some() {
+                self.lead_from(slot)?;
+            }
+        }
+        Ok(())
+    }
+
+    /// Dead code to which nothing leads takes the state behind the jump or EXIT before it, else the last one that was found.
+    fn seek_roots(&mut self) -> Result<(), AllocError> {
+        let region = self.task.region;
+        let mut last = region.first();
+        for slot in region.first()..region.end() {
+            if self.is_dead(slot) && !get_or(&self.is_led_to, region.index(slot), true) {
+                self.found.take(slot, &mut self.behind);
+                if self.found.at(slot).is_none() {
+                    self.found.repeat(last, slot)?;
+                }
+                self.lead_from(slot)?;
+            }
+            if self.found.at(slot).is_some() {
+                last = slot;
+            }
+        }
+        Ok(())
+    }
+}
+
+/// Adds states for slots that aren't reached, so that dead code may be reached from there.
+pub fn add_seeds(
+    alloc: Global,
+    task: Task,
+    states: &[Held],
+    report: &Report,
+    seeds: &mut Seeds,
+) -> Result<(), AllocError> {
+    let (first, slots) = (task.region.first(), task.region.slots());
+    let mut seeker = Seeker {
+        task,
+        report,
+        found: Seeds::new(alloc, first, slots)?,
+        behind: Seeds::new(alloc, first, slots)?,
+        is_led_to: vec![in alloc; false; slots]?,
+        waiting: Vec::new(alloc),
+    };
+    walk_all(task, states, &mut seeker)?;
+    seeker.lead_from_all()?;
+    seeker.seek_roots()?;
+    seeds.take_over(seeker.found);
+    Ok(())
+}

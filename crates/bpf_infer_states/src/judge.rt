@@ -1,0 +1,145 @@
+//! What the states of a function's labels say of its instructions.
+
+use crate::sums::{Held, load};
+use crate::task::{Task, Watcher};
+use bpf_infer_base::{get_or, join, put};
+use bpf_infer_error::{Condition, InferError};
+use bpf_insn::{Insn, Reg};
+use bpf_num::Num;
+use bpf_state::{State, enter};
+use std::alloc::{AllocError, Global};
+
+/// An instruction that fails a condition of the checker, by its slot.
+#[derive(Clone, Copy)]
+pub struct Fault {
+    pub slot: u32,
+    pub condition: Condition,
+}
+
+impl Fault {
+    /// The instruction at a slot isn't reached.
+    pub fn dead(slot: u32) -> Fault {
+        Fault {
+            slot,
+            condition: Condition::FallsOff,
+        }
+    }
+
+    /// I4 for it.
+    pub fn refusal(self) -> InferError {
+        InferError::Fault {
+            slot: self.slot,
+            condition: self.condition,
+        }
+    }
+}
+
+/// A call of a function, by its number, with the state that it begins in.
+#[derive(Drop)]
+pub struct Entry {
+    pub callee: usize,
+    pub state: Box<State>,
+}
+
+/// What a walk over all segments of a function saw.
+#[derive(Drop)]
+pub struct Report {
+    alloc: Global,
+    first: u32,
+    /// By slots from the first on.
+    reached: Vec<bool>,
+    /// The lowest fault.
+    pub fault: Option<Fault>,
+    /// The functions that are called, each once.
+    pub entries: Vec<Entry>,
+    /// What r0 is at an EXIT.
+    pub exit: Option<Num>,
+}
+
+impl Watcher for Report {
+    fn before(&mut self, slot: u32, _insn: &Insn, _state: &State) -> Result<(), AllocError> {
+        let place = slot.saturating_sub(self.first) as usize;
+        put(&mut self.reached, place, true);
+        Ok(())
+    }
+
+    fn call(&mut self, callee: usize, state: &State) -> Result<(), AllocError> {
+        let mut entry = state.copy();
+        enter(&mut entry);
+        for known in self.entries.iter_mut() {
+            if known.callee == callee {
+                if !entry.entails(&*known.state) {
+                    join(&mut *known.state, &entry, None);
+                }
+                return Ok(());
+            }
+        }
+        self.entries.push(Entry {
+            callee,
+            state: Box::new(self.alloc, entry)?,
+        })?;
+        Ok(())
+    }
+
+    fn exit(&mut self, state: &State) {
+        let number = state.reg(Reg::R0).number().unwrap_or(Num::top());
+        self.exit = match self.exit {
+            Some(others) => Some(others.join(number)),
+            None => Some(number),
+        };
+    }
+
+    fn fault(&mut self, slot: u32, condition: Condition) {
+        match self.fault {
+            Some(lowest) if lowest.slot <= slot => {}
+            _ => self.fault = Some(Fault { slot, condition }),
+        }
+    }
+}
+
+impl Report {
+    /// Goes over all segments from the states of their labels.
+    pub fn of(alloc: Global, task: Task, states: &[Held]) -> Result<Report, AllocError> {
+        let mut report = Report {
+            alloc,
+            first: task.region.first(),
+            reached: vec![in alloc; false; task.region.slots()]?,
+            fault: None,
+            entries: Vec::new(alloc),
+            exit: None,
+        };
+        walk_all(task, states, &mut report)?;
+        Ok(report)
+    }
+
+    /// Whether the instruction at a slot is reached.
+    pub fn is_reached(&self, slot: u32) -> bool {
+        let place = slot.saturating_sub(self.first) as usize;
+        get_or(&self.reached, place, false)
+    }
+
+    /// The lowest instruction that isn't reached.
+    pub fn unreached(&self, task: Task) -> Option<u32> {
+        for slot in task.region.first()..task.region.end() {
+            if task.program.at(slot).is_some() && !self.is_reached(slot) {
+                return Some(slot);
+            }
+        }
+        None
+    }
+}
+
+/// Goes over all segments from the states of their labels.
+pub fn walk_all<W: Watcher>(
+    task: Task,
+    states: &[Held],
+    watcher: &mut W,
+) -> Result<(), AllocError> {
+    let mut room = State::blank();
+    for label in 0..task.region.labels() {
+        if load(states, label, &mut room) {
+            task.walk(label, &mut room, watcher)?;
+        }
+    }
+    Ok(())
+}

@@ -1,0 +1,356 @@
+//! The states of a program's labels: function by function, with labels for dead code, until what functions return stands.
+
+mod outcome;
+mod surveys;
+
+use crate::dead::{Seeds, add_seeds};
+use crate::judge::Report;
+use crate::nest::Nest;
+use crate::region::{Region, graph_of};
+use crate::settle::Settler;
+use crate::sums::{Held, held, take_in_at};
+use crate::task::Task;
+use arrayvec::ArrayVec;
+use bpf_cert::{Budget, Label};
+use bpf_infer_base::{Depths, Limit, Meter, Outline, Quest, Stop, Watch, get_or, put, vacant};
+use bpf_insn::Program;
+use bpf_num::Num;
+use bpf_state::{Entries, State};
+pub use outcome::draft;
+use std::alloc::{AllocError, Global};
+pub use surveys::{Survey, surveyed};
+
+/// The most times that labels are added for dead code of a function, or their states are changed.
+const DEAD_ROUNDS: u32 = 24;
+
+/// The passes in which what functions return may be found to be less.
+const PASSES: u32 = 3;
+
+/// The most passes with those that take back what a function returns.
+const MOST_PASSES: u32 = 11;
+
+/// What was found of a function that begins in a state.
+#[derive(Drop)]
+struct Judged {
+    entry: Entries,
+    region: Region,
+    states: Vec<Held>,
+    report: Report,
+    /// The lowest slot that isn't reached.
+    unreached: Option<u32>,
+}
+
+impl Judged {
+    /// The labels with their states, which are taken, each with a budget of 0.
+    fn labels(&mut self, alloc: Global) -> Result<Vec<Label>, AllocError> {
+        let mut labels = Vec::with_capacity(alloc, self.states.len())?;
+        for label in 0..self.states.len() {
+            if let Some(Some(state)) = self.states.get_mut(label).map(|held| held.take()) {
+                labels.push(Label {
+                    slot: self.region.slot(label),
+                    state,
+                    budget: Budget {
+                        base: 0,
+                        terms: ArrayVec::new(),
+                    },
+                })?;
+            }
+        }
+        Ok(labels)
+    }
+}
+
+/// The functions of a program and what is known of them so far, by their numbers.
+#[derive(Drop)]
+struct Analysis<'a> {
+    alloc: Global,
+    quest: Quest<'a>,
+    outline: &'a Outline,
+    /// Whether walks end at faults, and dead code stays dead.
+    stops: bool,
+    /// The first slots, and at the end how many slots there are.
+    firsts: Vec<u32>,
+    /// What each returns.
+    rets: Vec<Num>,
+    /// Whether what each returns changed since all were judged.
+    is_changed: Vec<bool>,
+    /// The states that each begins in.
+    entries: Vec<Held>,
+    judged: Vec<Option<Judged>>,
+}
+
+/// The first slot of each function, and how many slots there are.
+fn firsts_of(alloc: Global, program: &Program, outline: &Outline) -> Result<Vec<u32>, AllocError> {
+    let mut firsts = Vec::new(alloc);
+    for function in 0..outline.function_count() {
+        firsts.push(outline.label(outline.first_block(function)))?;
+    }
+    firsts.push(program.slots())?;
+    Ok(firsts)
+}
+
+/// Whether two numbers have the same members.
+fn is_same(a: Num, b: Num) -> bool {
+    a.entails(b) && b.entails(a)
+}
+
+impl<'a> Analysis<'a> {
+    /// Nothing is known of any function.
+    fn new(
+        alloc: Global,
+        quest: Quest<'a>,
+        outline: &'a Outline,
+        stops: bool,
+    ) -> Result<Analysis<'a>, AllocError> {
+        let firsts = firsts_of(alloc, quest.program, outline)?;
+        let count = outline.function_count();
+        Ok(Analysis {
+            alloc,
+            quest,
+            outline,
+            stops,
+            firsts,
+            rets: vec![in alloc; Num::top(); count]?,
+            is_changed: vec![in alloc; false; count]?,
+            entries: vacant(alloc, count)?,
+            judged: vacant(alloc, count)?,
+        })
+    }
+
+    /// The first slot of a function.
+    fn first(&self, function: usize) -> u32 {
+        get_or(&self.firsts, function, 0)
+    }
+
+    /// What a walk over a function is given.
+    fn task<'b>(&'b self, region: &'b Region) -> Task<'b> {
+        Task {
+            program: self.quest.program,
+            outline: self.outline,
+            region,
+            least: self.quest.least,
+            most: self.quest.most,
+            rets: &self.rets,
+            stops: self.stops,
+        }
+    }
+
+    // ---- one function
+
+    /// Judges a function that begins in a state. I1 at its first slot if its states don't settle.
+    fn judge<W: Watch>(
+        &self,
+        function: usize,
+        entry: &State,
+        meter: &mut Meter<'_, W>,
+    ) -> Result<Judged, Stop> {
+        let first = self.first(function);
+        let end = self.first(function.saturating_add(1));
+        let slots = end.saturating_sub(first) as usize;
+        let mut seeds = Seeds::new(self.alloc, first, slots)?;
+        let mut judged = self.judge_once(first, end, entry, &seeds, meter)?;
+        if self.stops {
+            return Ok(judged);
+        }
+        for _ in 0..DEAD_ROUNDS {
+            if !self.improve(&judged, &mut seeds)? {
+                break;
+            }
+            judged = self.judge_once(first, end, entry, &seeds, meter)?;
+        }
+        Ok(judged)
+    }
+
+    /// Adds labels for what isn't reached; where all is, changes the states of those that were added, if something is wrong.
+    /// Whether there was anything to do.
+    fn improve(&self, judged: &Judged, seeds: &mut Seeds) -> Result<bool, AllocError> {
+        let task = self.task(&judged.region);
+        if judged.unreached.is_some() {
+            add_seeds(self.alloc, task, &judged.states, &judged.report, seeds)?;
+            return Ok(true);
+        }
+        match judged.report.fault {
+            Some(fault) => seeds.repair(task, fault),
+            None => Ok(false),
+        }
+    }
+
+    /// Judges the function from one slot to another with the labels that it has so far.
+    fn judge_once<W: Watch>(
+        &self,
+        first: u32,
+        end: u32,
+        entry: &State,
+        seeds: &Seeds,
+        meter: &mut Meter<'_, W>,
+    ) -> Result<Judged, Stop> {
+        let extra = seeds.slots()?;
+        let region = Region::of(self.alloc, self.quest.program, first, end, &extra)?;
+        let states = self.states_of(&region, entry, seeds, meter)?;
+        let task = self.task(&region);
+        let report = Report::of(self.alloc, task, &states)?;
+        let unreached = report.unreached(task);
+        Ok(Judged {
+            entry: Entries::of(self.alloc, entry)?,
+            region,
+            states,
+            report,
+            unreached,
+        })
+    }
+
+    /// The states of a function's labels. I1 at its first slot if they don't settle.
+    fn states_of<W: Watch>(
+        &self,
+        region: &Region,
+        entry: &State,
+        seeds: &Seeds,
+        meter: &mut Meter<'_, W>,
+    ) -> Result<Vec<Held>, Stop> {
+        let graph = graph_of(self.alloc, self.quest.program, region)?;
+        let Some(nest) = Nest::of(self.alloc, &graph, region.labels())? else {
+            return Err(Stop::unstable(region.first(), Limit::Depth));
+        };
+        let mut settler = Settler::new(self.alloc, self.task(region), &nest)?;
+        settler.seed(0, entry)?;
+        let mut room = State::blank();
+        for label in 0..region.labels() {
+            if let Some(state) = seeds.at(region.slot(label)) {
+                state.put_into(&mut room);
+                settler.seed(label, &room)?;
+            }
+        }
+        match settler.settle(meter)? {
+            Ok(states) => Ok(states),
+            Err(limit) => Err(Stop::unstable(region.first(), limit)),
+        }
+    }
+
+    // ---- all functions
+
+    /// Whether a function was judged with this entry, and with what its callees return.
+    fn is_current(&self, function: usize, entry: &State) -> bool {
+        let Some(Some(judged)) = self.judged.get(function) else {
+            return false;
+        };
+        for called in judged.report.entries.as_slice() {
+            if get_or(&self.is_changed, called.callee, true) {
+                return false;
+            }
+        }
+        entry.entails_entries(&judged.entry) && judged.entry.state().entails(entry)
+    }
+
+    /// Judges a function that is reached. I1 at its first slot if its states don't settle.
+    fn visit<W: Watch>(&mut self, function: usize, meter: &mut Meter<'_, W>) -> Result<(), Stop> {
+        let Some(entry) = held(&self.entries, function).map(|entry| entry.state()) else {
+            return Ok(());
+        };
+        if !self.is_current(function, &entry) {
+            let judged = self.judge(function, &entry, meter)?;
+            put(&mut self.judged, function, Some(judged));
+        }
+        self.enter_callees(function)?;
+        Ok(())
+    }
+
+    /// Takes note of the states in which a function calls others.
+    fn enter_callees(&mut self, function: usize) -> Result<(), AllocError> {
+        let mut room = State::blank();
+        if let Some(Some(judged)) = self.judged.get(function) {
+            for called in judged.report.entries.as_slice() {
+                let _is_changed = take_in_at(
+                    self.alloc,
+                    &mut room,
+                    &mut self.entries,
+                    called.callee,
+                    &*called.state,
+                )?;
+            }
+        }
+        Ok(())
+    }
+
+    /// Judges all functions, callers before callees. I1 at one whose states don't settle.
+    fn pass<W: Watch>(
+        &mut self,
+        depths: &Depths,
+        start: &State,
+        meter: &mut Meter<'_, W>,
+    ) -> Result<(), Stop> {
+        let count = self.judged.len();
+        self.entries = vacant(self.alloc, count)?;
+        put(&mut self.entries, 0, Some(Entries::of(self.alloc, start)?));
+        for depth in (1..9).rev() {
+            self.pass_depth(depths, depth, meter)?;
+        }
+        Ok(())
+    }
+
+    /// Judges the functions of a depth. I1 at the first of them whose states don't settle.
+    fn pass_depth<W: Watch>(
+        &mut self,
+        depths: &Depths,
+        depth: u32,
+        meter: &mut Meter<'_, W>,
+    ) -> Result<(), Stop> {
+        for function in 0..self.judged.len() {
+            if get_or(depths, function, 0) == depth {
+                self.visit(function, meter)?;
+            }
+        }
+        Ok(())
+    }
+
+    /// What a function returns as far as its EXITs say.
+    fn exit(&self, function: usize) -> Num {
+        match self.judged.get(function) {
+            Some(Some(judged)) => judged.report.exit.unwrap_or(Num::top()),
+            _ => Num::top(),
+        }
+    }
+
+    /// Makes each function return what its EXITs say, if that says more and may be taken; where they say less, any number.
+    /// Whether something changed.
+    fn update_rets(&mut self, may_fall: bool) -> bool {
+        let mut has_changed = false;
+        for function in 0..self.judged.len() {
+            let old = get_or(&self.rets, function, Num::top());
+            let new = self.exit(function);
+            let next = if !new.entails(old) {
+                Num::top()
+            } else if may_fall {
+                new
+            } else {
+                old
+            };
+            let is_changed = !is_same(old, next);
+            has_changed = has_changed || is_changed;
+            put(&mut self.is_changed, function, is_changed);
+            put(&mut self.rets, function, next);
+        }
+        has_changed
+    }
+
+    /// Judges all functions until what they return stands. I1 at a function whose states don't settle, and at slot 0 if what
+    /// they return doesn't.
+    fn settle<W: Watch>(
+        &mut self,
+        depths: &Depths,
+        start: &State,
+        meter: &mut Meter<'_, W>,
+    ) -> Result<(), Stop> {
+        for pass in 0..MOST_PASSES {
+            self.pass(depths, start, meter)?;
+            if !self.update_rets(pass < PASSES) {
+                return Ok(());
+            }
+        }
+        Err(Stop::unstable(
+            0,
+            Limit::Returns {
+                passes: MOST_PASSES,
+            },
+        ))
+    }
+}

@@ -1,0 +1,187 @@
+//! What the states of a program say of all its instructions, also where one is refused.
+
+ghost use Rattle.std.specs.Prelude.{◌≤◌};
+
+use crate::states::Analysis;
+use crate::sums::{Held, load};
+use crate::task::{Task, Watcher};
+use bpf_cert::Function;
+use bpf_infer_base::{Depths, Meter, Outline, Quest, Watch, depths_of, get_or, put, vacant};
+use bpf_infer_error::{Condition, InferError};
+use bpf_insn::{Insn, Reg};
+use bpf_num::Num;
+use bpf_state::{RegState, State};
+use std::alloc::{AllocError, Global};
+
+/// What is known of the registers before an instruction.
+type Sight = Option<Box<[RegState; 11]>>;
+
+/// What was found of a program's instructions.
+#[derive(Drop)]
+pub struct Survey {
+    alloc: Global,
+    /// By slots, of those that are reached.
+    sights: Vec<Sight>,
+    /// By slots, the conditions that fail.
+    faults: Vec<Option<Condition>>,
+    /// By functions' numbers, whether one is called from what is reached.
+    called: Vec<bool>,
+    /// By labels of the function that is gone over, whether one was met.
+    met: Vec<bool>,
+    /// Labels that were met and are still to be gone over.
+    waiting: Vec<usize>,
+    /// What each function returns, by their numbers.
+    pub rets: Vec<Num>,
+    /// The functions with their labels, each with a budget of 0, if no instruction is refused.
+    pub draft: Option<Vec<Function>>,
+}
+
+impl Watcher for Survey {
+    fn before(&mut self, slot: u32, _insn: &Insn, state: &State) -> Result<(), AllocError> {
+        let mut registers = [RegState::Any; 11];
+        for i in 0..11u8 {
+            registers[i as usize] = state.reg(Reg::numbered(i));
+        }
+        let sight = Box::new(self.alloc, registers)?;
+        put(&mut self.sights, slot as usize, Some(sight));
+        Ok(())
+    }
+
+    fn edge(&mut self, _from: usize, to: usize, _state: &State) -> Result<(), AllocError> {
+        if !get_or(&self.met, to, true) {
+            put(&mut self.met, to, true);
+            self.waiting.push(to)?;
+        }
+        Ok(())
+    }
+
+    fn call(&mut self, callee: usize, _state: &State) -> Result<(), AllocError> {
+        put(&mut self.called, callee, true);
+        Ok(())
+    }
+
+    fn fault(&mut self, slot: u32, condition: Condition) {
+        put(&mut self.faults, slot as usize, Some(condition));
+    }
+}
+
+impl Survey {
+    /// Nothing of so many slots and functions.
+    fn new(alloc: Global, slots: usize, functions: usize) -> Result<Survey, AllocError> {
+        Ok(Survey {
+            alloc,
+            sights: vacant(alloc, slots)?,
+            faults: vec![in alloc; None; slots]?,
+            called: vec![in alloc; false; functions]?,
+            met: Vec::new(alloc),
+            waiting: Vec::new(alloc),
+            rets: Vec::new(alloc),
+            draft: None,
+        })
+    }
+
+    /// Whether an instruction at a slot is reached.
+    pub fn is_reached(&self, slot: u32) -> bool {
+        matches!(self.sights.get(slot as usize), Some(Some(_)))
+    }
+
+    /// What is known of a register before the instruction at a slot; nothing where it isn't reached.
+    pub fn register(&self, slot: u32, r: Reg) -> RegState {
+        match self.sights.get(slot as usize) {
+            Some(Some(sight)) => sight[r as usize],
+            _ => RegState::Any,
+        }
+    }
+
+    /// The condition of the checker that the instruction at a slot fails, if it is reached.
+    pub fn fault(&self, slot: u32) -> Option<Condition> {
+        get_or(&self.faults, slot as usize, None)
+    }
+
+    /// The lowest slot that is reached at which a condition fails.
+    pub fn lowest_fault(&self) -> Option<u32> {
+        let mut slot = 0u32;
+        for fault in &self.faults {
+            if fault.is_some() {
+                return Some(slot);
+            }
+            slot = slot.saturating_add(1);
+        }
+        None
+    }
+
+    /// Goes over the labels of a function that are reached.
+    fn visit(&mut self, task: Task, states: &[Held]) -> Result<(), AllocError> {
+        self.met = vec![in self.alloc; false; task.region.labels()]?;
+        self.waiting = Vec::new(self.alloc);
+        let mut room = State::blank();
+        self.edge(0, 0, &room)?;
+        for _ in 0..task.region.labels() {
+            let Some(label) = self.waiting.pop() else {
+                break;
+            };
+            if load(states, label, &mut room) {
+                task.walk(label, &mut room, self)?;
+            }
+        }
+        Ok(())
+    }
+}
+
+impl<'a> Analysis<'a> {
+    /// Takes note of the functions of a depth that are called.
+    fn survey_depth(
+        &self,
+        depths: &Depths,
+        depth: u32,
+        survey: &mut Survey,
+    ) -> Result<(), AllocError> {
+        for function in 0..self.judged.len() {
+            let is_due = get_or(depths, function, 0) == depth;
+            if is_due && get_or(&survey.called, function, false) {
+                if let Some(Some(judged)) = self.judged.get(function) {
+                    survey.visit(self.task(&judged.region), &judged.states)?;
+                }
+            }
+        }
+        Ok(())
+    }
+
+    /// Takes note of what the states of all that is reached say.
+    fn surveyed(&self, depths: &Depths) -> Result<Survey, AllocError> {
+        let slots = self.quest.program.slots() as usize;
+        let mut survey = Survey::new(self.alloc, slots, self.judged.len())?;
+        put(&mut survey.called, 0, true);
+        for depth in (1..9).rev() {
+            self.survey_depth(depths, depth, &mut survey)?;
+        }
+        for ret in &self.rets {
+            survey.rets.push(*ret)?;
+        }
+        Ok(survey)
+    }
+}
+
+/// What the states of a program say of the instructions that are reached, and what comes of them where none is refused. I1 at a
+/// function whose states don't settle; I2 and I3 as `depths_of` has them; I4 (C12) at an instruction that leaves its function.
+pub fn surveyed<W: Watch>(
+    alloc: Global,
+    quest: Quest<'_>,
+    meter: &mut Meter<'_, W>,
+) -> Result<Survey, InferError>
+    requires { quest.least ≤ quest.most }
+{
+    let outline = Outline::of(alloc, quest.program)?;
+    let depths = depths_of(alloc, quest.program, &outline)?;
+    let mut analysis = Analysis::new(alloc, quest, &outline, false)?;
+    match analysis.settle(&depths, &quest.start(), meter) {
+        Ok(()) => {}
+        Err(stop) => return Err(stop.error),
+    }
+    let mut survey = analysis.surveyed(&depths)?;
+    if analysis.fault().is_none() {
+        analysis.spare_all(&depths)?;
+        survey.draft = Some(analysis.functions(&depths)?);
+    }
+    Ok(survey)
+}

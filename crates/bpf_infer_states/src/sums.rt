@@ -1,0 +1,188 @@
+//! What arrives at labels over their edges.
+
+use crate::nest::Nest;
+use bpf_infer_base::{edge_work, get_or, join, places_known, put, vacant};
+use bpf_state::{Entries, State};
+use std::alloc::{AllocError, Global};
+
+/// What is known where a label is reached; None where it isn't. Entries take memory for what is known alone.
+pub type Held = Option<Entries>;
+
+/// What is known at an index of a list.
+pub fn held(states: &[Held], index: usize) -> Option<&Entries> {
+    match states.get(index) {
+        Some(Some(state)) => Some(state),
+        _ => None,
+    }
+}
+
+/// Makes a state the one at an index of a list, with its numbers tightened. False if there is none.
+pub fn load(states: &[Held], index: usize, room: &mut State) -> bool {
+    match states.get(index) {
+        Some(Some(state)) => {
+            state.put_into(room);
+            room.tighten()
+        }
+        _ => false,
+    }
+}
+
+/// Makes a sum one that a state lies in too, in room of another state. Whether it changes.
+pub fn take_in(
+    alloc: Global,
+    room: &mut State,
+    sum: &mut Held,
+    state: &State,
+) -> Result<bool, AllocError> {
+    let is_first = match sum {
+        Some(old) => {
+            if state.entails_entries(old) {
+                return Ok(false);
+            }
+            old.put_into(room);
+            false
+        }
+        None => true,
+    };
+    if is_first {
+        *sum = Some(Entries::of(alloc, state)?);
+    } else {
+        join(room, state, None);
+        *sum = Some(Entries::of(alloc, room)?);
+    }
+    Ok(true)
+}
+
+/// As `take_in` for the sum at an index of a list.
+pub fn take_in_at(
+    alloc: Global,
+    room: &mut State,
+    states: &mut Vec<Held>,
+    index: usize,
+    state: &State,
+) -> Result<bool, AllocError> {
+    match states.get_mut(index) {
+        Some(sum) => take_in(alloc, room, sum, state),
+        None => Ok(false),
+    }
+}
+
+/// For each label the states over its edges joined, apart by the innermost loop that an edge is in.
+#[derive(Drop)]
+pub struct Sums {
+    alloc: Global,
+    /// By labels, the place of the first of its sums; at the end how many there are. A label in k loops has k + 1.
+    starts: Vec<usize>,
+    sums: Vec<Held>,
+    /// By sums, how many entries each had when it began, and all of them together.
+    counts: Vec<u8>,
+    kept: usize,
+    /// Where states are joined.
+    room: Box<State>,
+    other: Box<State>,
+}
+
+impl Sums {
+    /// Nothing arrives.
+    pub fn new(alloc: Global, nest: &Nest) -> Result<Sums, AllocError> {
+        let mut starts = Vec::with_capacity(alloc, nest.labels().saturating_add(1))?;
+        let mut count = 0usize;
+        for label in 0..nest.labels() {
+            starts.push(count)?;
+            count = count.saturating_add(nest.depth(label)).saturating_add(1);
+        }
+        starts.push(count)?;
+        Ok(Sums {
+            alloc,
+            starts,
+            sums: vacant(alloc, count)?,
+            counts: vec![in alloc; 0; count]?,
+            kept: 0,
+            room: Box::new(alloc, State::blank())?,
+            other: Box::new(alloc, State::blank())?,
+        })
+    }
+
+    /// The index of a label's first sum.
+    fn start(&self, label: usize) -> usize {
+        get_or(&self.starts, label, 0)
+    }
+
+    /// The index behind a label's last sum.
+    fn end(&self, label: usize) -> usize {
+        self.start(label.saturating_add(1))
+    }
+
+    /// How many entries there are, those of sums that were taken among them.
+    pub fn kept(&self) -> usize {
+        self.kept
+    }
+
+    /// A state arrives at a label over an edge in so many loops. The work, in slots.
+    pub fn add(&mut self, label: usize, depth: usize, state: &State) -> Result<usize, AllocError> {
+        let index = self.start(label).saturating_add(depth);
+        if held(&self.sums, index).is_none() {
+            self.count(index, places_known(state));
+        }
+        let is_changed = take_in_at(self.alloc, &mut *self.room, &mut self.sums, index, state)?;
+        let entries = get_or(&self.counts, index, 0) as usize;
+        Ok(edge_work(entries, is_changed))
+    }
+
+    /// Takes note how many entries a sum has.
+    fn count(&mut self, index: usize, count: usize) {
+        let before = get_or(&self.counts, index, 0) as usize;
+        self.kept = self.kept.saturating_sub(before).saturating_add(count);
+        put(
+            &mut self.counts,
+            index,
+            u8::try_from(count).unwrap_or(u8::MAX),
+        );
+    }
+
+    /// Forgets a sum.
+    fn drop_sum(&mut self, index: usize) {
+        put(&mut self.sums, index, None);
+        self.count(index, 0);
+    }
+
+    /// Forgets what arrives at a label over edges in so many loops.
+    pub fn forget(&mut self, label: usize, depth: usize) {
+        let index = self.start(label).saturating_add(depth);
+        self.drop_sum(index);
+    }
+
+    /// Forgets what arrives at a label over edges in so many loops or more.
+    pub fn forget_inside(&mut self, label: usize, depth: usize) {
+        for index in self.start(label).saturating_add(depth)..self.end(label) {
+            self.drop_sum(index);
+        }
+    }
+
+    /// What arrives at a label.
+    pub fn total(&mut self, label: usize) -> Result<Held, AllocError> {
+        let mut total = None;
+        for index in self.start(label)..self.end(label) {
+            if let Some(state) = held(&self.sums, index) {
+                if total.is_none() {
+                    total = Some(state.copy(self.alloc)?);
+                } else {
+                    state.put_into(&mut *self.other);
+                    let _is_changed = take_in(
+                        self.alloc,
+                        &mut *self.room,
+                        &mut total,
+                        &*self.other,
+                    )?;
+                }
+            }
+        }
+        Ok(total)
+    }
+
+    /// What arrives at a label from outside of loops; it is forgotten.
+    pub fn take(&mut self, label: usize) -> Held {
+        let index = self.start(label);
+        self.sums.get_mut(index)?.take()
+    }
+}

@@ -1,5 +1,0 @@
-use Rattle.std.proofs.Common.{◌≡◌, replicate, None}
-use Rattle.bpf_outline.proofs.lists.vacant.Given as goal
-
-abbrev pub invariant-loop : goal.invariant-loop
-invariant-loop g l = l.list.items ≡ replicate l.counter None
