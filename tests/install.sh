@@ -1,71 +1,219 @@
 #!/usr/bin/env bash
-# install.sh: ./install takes nothing that is older than the sources. It is tried on a tree with a crate for the command and one for the
-# library, whose `rt` builds at once and writes down what it was asked for.
+# install.sh: what ./bpf runs and ./install takes is of the sources that are there. Tried on a small tree, with a kit whose `rt` builds at once
+# and writes down what it was asked for: what ./build made, what prebuilt/ has, with and without the kit, behind each kind of change. Then what
+# this tree has is installed, and hosts are built against it.
 set -eu
 root=$(cd "$(dirname "${BASH_SOURCE[0]}")/.." && pwd)
+. "$root/scripts/built.sh"
+wants_kit "to test,"
 dir=$(mktemp -d)
 trap 'rm -rf "$dir"' EXIT
-mkdir -p "$dir/kit/bin" "$dir/kit/c" "$dir/tree/crates/bpf/src" "$dir/tree/crates/bpf_host/src" "$dir/tree/crates/bpf_host/specs"
-cp -r "$root/install" "$root/bpf" "$root/docs" "$root/examples" "$root/include" "$dir/tree"
-printf 'bpf_host staticlib:\nbpf:\n' >"$dir/tree/crates.txt"
-touch "$dir/tree/crates/bpf/src/main.rt" "$dir/tree/crates/bpf_host/src/lib.rt" "$dir/tree/crates/bpf_host/specs/Lib.antt"
-cat >"$dir/kit/bin/rt" <<'END'
-#!/usr/bin/env bash
-echo "$(basename "$PWD") $1" >>"$(dirname "$0")/asked"
-mkdir -p out
-case $1 in
-lib) printf 'int bpf_host;' | "${CC:-cc}" -c -x c - -o out/host.o && ar rcs out/libbpf_host.a out/host.o ;;
-run) printf '#!/bin/sh\n' >out/bpf && chmod +x out/bpf ;;
-esac
-END
-chmod +x "$dir/kit/bin/rt"
-printf 'int memory;' | "${CC:-cc}" -c -x c - -o "$dir/memory.o"
-ar rcs "$dir/kit/c/liblibc_c.a" "$dir/memory.o"
+export TMPDIR=$dir
+tree=$dir/tree
 failed=0
-
-# wants WORDS..: what rt is asked for by the next install.
-wants() {
-    rm -f "$dir/kit/bin/asked"
-    touch "$dir/kit/bin/asked"
-    PATH="$dir/kit/bin:$PATH" "$dir/tree/install" "$dir/prefix" >"$dir/said" 2>"$dir/error" || { cat "$dir/error" >&2; exit 1; }
-    asked=$(tr '\n' ',' <"$dir/kit/bin/asked")
-    [ "$asked" = "$1" ] || { echo "install: rt was asked for '$asked', and not for '$1'" >&2; failed=1; }
-}
-# A second passes, so that what is touched is newer.
-newer() {
-    sleep 1.1
-    touch "$dir/tree/$1"
+complains() {
+    echo "install: $1" >&2
+    failed=1
 }
 
-wants 'bpf run,bpf_host lib,'
-wants ''
-newer crates/bpf_host/src/lib.rt
-wants 'bpf run,bpf_host lib,'
-newer crates/bpf_host/specs/Lib.antt
-wants 'bpf run,bpf_host lib,'
-newer crates.txt
-wants 'bpf run,bpf_host lib,'
-newer crates/bpf_host/out/other.rt
-wants ''
+# ---- a small tree, a kit for it, and a machine without
 
-# Without the kit, both say so.
-without() {
-    PATH=$dir/bin "$@" >"$dir/out" 2>"$dir/error" && failed=1
-    grep -q 'the Rattle kit is wanted' "$dir/error" || { echo "install: without rt, $1 says $(cat "$dir/error")" >&2; failed=1; }
-}
-mkdir "$dir/bin"
-for tool in env bash dirname; do
+mkdir -p "$dir/kit/bin" "$dir/bin" "$tree/tests" "$tree"/crates/{bpf,bpf_host,other}/src "$tree/crates/bpf_host/specs"
+cp -r "$root/install" "$root/bpf" "$root/build" "$root/scripts" "$root/docs" "$root/examples" "$root/include" "$root/HANDLES" "$tree"
+cp "$root/tests/prebuilt.sh" "$tree/tests"
+printf 'bpf_host staticlib:\nother:\nbpf:\n' >"$tree/crates.txt"
+echo one >"$tree/crates/bpf/src/main.rt"
+touch "$tree/crates/bpf_host/src/lib.rt" "$tree/crates/bpf_host/specs/Lib.antt" "$tree/crates/other/src/lib.rt"
+ln -s "$kit/toolchain" "$kit/c" "$dir/kit"
+cat >"$dir/kit/bin/rt" <<'RT'
+#!/usr/bin/env bash
+built() { "${CC:-cc}" -x c - "$@"; }
+case $1 in
+version) echo a kit && exit ;;
+all) printf '== %s\n' bpf_host other bpf ;;
+lib)
+    mkdir -p out
+    echo 'void *rattle_alloc(unsigned long); void *bpf_host(void) { return rattle_alloc(8); }' | built -c -o out/host.o
+    ar rcs out/libbpf_host.a out/host.o
+    ;;
+run)
+    mkdir -p out
+    printf '#include <stdio.h>\nint main(void) { return puts("%s") < 0; }\n' "$(cat src/main.rt)" | built -o out/bpf
+    ;;
+esac
+echo "$(basename "$PWD") $1" >>"$(dirname "$0")/asked"
+exit "${RT_FAILS:-0}"
+RT
+chmod +x "$dir/kit/bin/rt"
+for tool in env bash dirname readlink find grep sha256sum sort xargs cut tail mktemp mv rm cat cp install basename; do
     ln -s "$(command -v "$tool")" "$dir/bin"
 done
-without "$dir/tree/install" "$dir/none"
-rm "$dir/tree/crates/bpf/out/bpf"
-without "$dir/tree/bpf" groups
+with() { PATH=$dir/kit/bin:$PATH "$@"; }
+without() { PATH=$dir/bin "$@"; }
+# A second passes, so that what is touched is younger.
+younger() {
+    sleep 1.1
+    touch "$@"
+}
 
+# runs WORD HOW: what ./bpf prints, with status 0; HOW is with or without, the kit.
+runs() {
+    local said
+    said=$("$2" "$tree/bpf" 2>&1) && [ "$said" = "$1" ] || complains "line ${BASH_LINENO[0]}: ./bpf says '$said', and not '$1'"
+}
+# refuses WORDS HOW COMMAND: that a command does nothing but say so, with status 3.
+refuses() {
+    local said status=0
+    said=$("${@:2}" 2>&1) || status=$?
+    [ "$status" -eq 3 ] && [[ "$said" == *"$1"* ]] || complains "line ${BASH_LINENO[0]}: status $status, '$said', and not '$1'"
+}
+# does HOW COMMAND: that it ends with status 0.
+does() {
+    "$@" >"$dir/said" 2>&1 || complains "line ${BASH_LINENO[0]}: ${*:2}: $(tail -n 1 "$dir/said")"
+}
+# installs HOW: ./install puts what ./bpf runs, and the library.
+installs() {
+    rm -rf "$dir/prefix"
+    does "$1" "$tree/install" "$dir/prefix"
+    [ "$("$dir/prefix/bin/bpf")" = "$(cat "$tree/crates/bpf/src/main.rt")" ] || complains "line ${BASH_LINENO[0]}: it put another command"
+    [ -s "$dir/prefix/lib/libbpf_host.a" ] || complains "line ${BASH_LINENO[0]}: it put no library"
+}
+
+# ---- nothing is built, and nothing prebuilt
+
+refuses "bpf isn't built" without "$tree/bpf"
+refuses "isn't built" without "$tree/install" "$dir/none"
+refuses "the Rattle kit is wanted" without "$tree/build"
+refuses "nothing is built of these sources" with "$tree/tests/prebuilt.sh" --renew
+does with "$tree/tests/prebuilt.sh"
+grep -q 'there is no prebuilt/' "$dir/said" || complains "nothing is said where prebuilt/ isn't there"
+
+# ---- what ./build made
+
+does with "$tree/build"
+[ "$(tr '\n' , <"$dir/kit/bin/asked")" = 'tree all,bpf run,bpf_host lib,' ] || complains "rt was asked for $(cat "$dir/kit/bin/asked")"
+grep -q '^build: 3 of 3, bpf' "$dir/said" || complains "./build tells no progress: $(cat "$dir/said")"
+runs one without
+installs without
+younger "$tree/crates/other/src/lib.rt"
+runs one without
+younger "$tree/crates/bpf/src/main.rt"
+refuses "the sources were changed since bpf was built: ./build" with "$tree/bpf"
+for source in crates/bpf/src/main.rt crates.txt HANDLES; do
+    younger "$tree/$source"
+    refuses "the sources were changed since bpf was built: ./build" with "$tree/install" "$dir/none"
+    does with "$tree/build" command
+    runs one with
+done
+younger "$tree/crates/bpf_host/specs/Lib.antt"
+refuses "the sources were changed since libbpf_host.a was built: ./build" with "$tree/install" "$dir/none"
+does with "$tree/build" library
+RT_FAILS=1 refuses "not proved, or not built" with "$tree/build"
+installs with
+
+# ---- what is prebuilt
+
+does with "$tree/tests/prebuilt.sh" --renew
+does with "$tree/tests/prebuilt.sh"
+rm -r "$tree"/crates/*/out
+runs one without
+[ -f "$tree/prebuilt/.compared" ] || complains "the comparison isn't kept"
+runs one without
+installs without
+younger "$tree/crates/bpf/src/main.rt"
+runs one without
+changed="the sources were changed since bpf was built: ./build"
+echo two >"$tree/crates/bpf/src/main.rt"
+refuses "$changed" without "$tree/bpf"
+refuses "$changed" without "$tree/install" "$dir/none"
+echo one >"$tree/crates/bpf/src/main.rt"
+runs one without
+# A file of old in another's place, one more, and one less.
+echo two >"$dir/old"
+touch -d 2001-01-01 "$dir/old"
+cp -p "$dir/old" "$tree/crates/bpf/src/main.rt"
+refuses "$changed" without "$tree/bpf"
+echo one >"$tree/crates/bpf/src/main.rt"
+runs one without
+touch "$tree/crates/bpf_host/src/more.rt"
+refuses "$changed" without "$tree/bpf"
+rm "$tree/crates/bpf_host/src/more.rt"
+runs one without
+mv "$tree/crates/bpf_host/src/lib.rt" "$dir/gone"
+refuses "$changed" without "$tree/bpf"
+mv "$dir/gone" "$tree/crates/bpf_host/src/lib.rt"
+runs one without
+# A file that isn't what was built.
+printf x >>"$tree/prebuilt/libbpf_host.a"
+refuses "$changed" without "$tree/bpf"
+
+# ---- what the gate says of what is prebuilt
+
+refuses "nothing is built of these sources" with "$tree/tests/prebuilt.sh"
+does with "$tree/build"
+refuses "prebuilt/libbpf_host.a isn't what the proofs made: tests/prebuilt.sh --renew" with "$tree/tests/prebuilt.sh"
+does with "$tree/tests/prebuilt.sh" --renew
+sed -i '1s/.*/another kit/' "$tree/prebuilt/SOURCES"
+does with "$tree/tests/prebuilt.sh"
+grep -q 'it says that another kit made it' "$dir/said" || complains "nothing is said of another kit"
+sed -i '3s/^./x/' "$tree/prebuilt/SOURCES"
+refuses "prebuilt/SOURCES has other sums" with "$tree/tests/prebuilt.sh"
+does with "$tree/tests/prebuilt.sh" --renew
+echo two >"$tree/crates/bpf/src/main.rt"
+does with "$tree/build"
+refuses "prebuilt/ isn't of these sources: tests/prebuilt.sh --renew" with "$tree/tests/prebuilt.sh"
+rm "$tree/prebuilt/bpf"
+refuses "prebuilt/bpf isn't there" with "$tree/tests/prebuilt.sh"
+
+# ---- what this tree has
+
+"$root/install" "$dir/real" >"$dir/said"
 while read -r path; do
-    [ -s "$path" ] || { echo "install: $path isn't there" >&2; failed=1; }
+    [ -s "$path" ] || complains "$path isn't there"
 done <"$dir/said"
 for path in bin/bpf bin/bpf-cc lib/libbpf_host.a lib/pkgconfig/bpf_host.pc include/bpf.h include/bpf/filter.h share/man/man1/bpf.1 share/doc/bpf/GUIDE.md; do
-    grep -qx "$dir/prefix/$path" "$dir/said" || { echo "install: $path isn't said" >&2; failed=1; }
+    grep -qx "$dir/real/$path" "$dir/said" || complains "$path isn't said"
 done
-[ "$failed" -eq 0 ] && echo "install: builds anew what is older than a source, and puts $(wc -l <"$dir/said") files"
+cat >"$dir/host.c" <<'HOST'
+#include <bpf.h>
+#include <stdio.h>
+#include <stdlib.h>
+
+/* What a library of another kit may bring along. */
+void *rattle_alloc(size_t size) { (void)size; abort(); }
+void *rattle_realloc(void *at, size_t size) { (void)at, (void)size; abort(); }
+void rattle_dealloc(void *at) { (void)at; abort(); }
+
+static size_t bytes_of(const char *name, char *bytes, size_t most) {
+    FILE *file = fopen(name, "rb");
+    size_t len = file ? fread(bytes, 1, most, file) : 0;
+    if (file) fclose(file);
+    return len;
+}
+
+int main(int count, char **words) {
+    static char image[4096], certificate[4096];
+    struct bpf_verdict verdict;
+    struct bpf_refusal refusal;
+    size_t image_len = count > 2 ? bytes_of(words[1], image, sizeof image) : 0;
+    size_t certificate_len = count > 2 ? bytes_of(words[2], certificate, sizeof certificate) : 0;
+    if (bpf_verify(image, image_len, BPF_LITTLE, certificate, certificate_len, &verdict, &refusal) != BPF_YES) return 1;
+    return printf("%u %u %u\n", (unsigned)verdict.least, (unsigned)verdict.most, (unsigned)verdict.bound) < 0;
+}
+HOST
+# hosts FLAG..: a host that is built so says yes, by the library's own memory.
+hosts() {
+    local said
+    "${CC:-cc}" -O2 -Wall -Wextra -Werror "$dir/host.c" -o "$dir/host" "$@" || complains "no host is built with $*"
+    said=$("$dir/host" "$root/examples/countdown.img" "$root/examples/countdown.cert") || true
+    [ "$said" = '0 0 23' ] || complains "a host says '$said' of examples/countdown.img, and not '0 0 23'"
+}
+hosts "-I$dir/real/include" "-L$dir/real/lib" -lbpf_host
+if command -v pkg-config >/dev/null; then
+    hosts $(PKG_CONFIG_PATH="$dir/real/lib/pkgconfig" pkg-config --cflags --libs bpf_host)
+fi
+others=$(nm -g --defined-only "$dir/real/lib/libbpf_host.a" | awk 'NF == 3 && $3 !~ /^bpf_/ { print $3 }')
+[ -z "$others" ] || complains "libbpf_host.a has names besides bpf_..: $others"
+
+[ "$failed" -eq 0 ] && echo "install: takes what is of the sources that are there, with and without the kit, and puts $(wc -l <"$dir/said") files"
 exit "$failed"

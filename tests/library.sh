@@ -20,3 +20,4 @@ done
 cd "$root/crates/$name"
 mkdir -p out
 "$kit/bin/rattle" build --crate-name "$name" src/lib.rt "${words[@]}" --jobs "$(nproc)" -o "out/lib$name.a" 2>&1 | tail -n 1
+"$root/scripts/archive.sh"
