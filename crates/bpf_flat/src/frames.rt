@@ -46,7 +46,7 @@ enum Held {
 }
 
 /// The frame that a run has had until its first call, and seven new ones.
-#[inline(never)]
+#[inline(always)]
 fn first_call(first: &[u8; FRAME_BYTES], caller: Caller) -> Held
     requires { length first.now ≡ 512 }
     ensures frames { frames_in result ≡ record { bytes = first.now ++ replicate behind_first 0; returns = return_of caller ∷ [] } }
@@ -127,6 +127,19 @@ impl Frames {
     /// Puts away what a call keeps. There is room for a frame.
     #[inline(always)]
     pub(crate) fn push(&mut self, caller: Caller)
+        requires { length self.old.returns < 7 }
+        ensures { self.new ≡ record { bytes = self.old.bytes; returns = return_of caller ∷ self.old.returns } }
+    {
+        if let Held::All(_, callers) = &mut self.held {
+            callers.push(caller);
+            return;
+        }
+        self.push_first(caller);
+    }
+
+    /// Puts away what a call keeps, where it may be the first.
+    #[inline(never)]
+    fn push_first(&mut self, caller: Caller)
         requires { length self.old.returns < 7 }
         ensures { self.new ≡ record { bytes = self.old.bytes; returns = return_of caller ∷ self.old.returns } }
     {
