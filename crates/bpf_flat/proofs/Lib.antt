@@ -1,5 +1,6 @@
 pub mod ByteLemmas
 pub mod PartLemmas
+pub mod FrameLemmas
 pub mod CallLemmas
 pub mod MoveLemmas
 pub mod FlowLemmas

@@ -3,6 +3,7 @@
 
 mod class;
 mod dispatch;
+mod frames;
 mod machine;
 mod runs;
 mod seldom;
