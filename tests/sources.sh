@@ -91,5 +91,43 @@ done
 # Where some calls take an allocator, the others get none from a `Vec` that they borrow: by `Vec::allocator` they could.
 files=$(find "$crates/bpf_insn/src" "$crates/bpf_text/src" "$crates/bpf_semantics/src" "$crates/bpf_flat/src" -name '*.rt' | sort)
 wants 'allocator' 0
+# The default arms of matches on instructions, by the layout of `rt fmt`: arms stand four columns behind the line that opens the match.
+default_arms() {
+    awk '
+        FNR == 1 { depth = 0 }
+        {
+            match($0, /^ */); column = RLENGTH
+            line = substr($0, column + 1)
+            if (depth > 0 && column == opened[depth] && line ~ /^}/) {
+                if (told[depth] && arm[depth]) print FILENAME ":" arm[depth]
+                depth--
+            }
+            if (depth > 0 && column == opened[depth] + 4) {
+                front = line
+                sub(/ => .*/, "", front)
+                if (front ~ /(^|[^[:alnum:]_])Insn::/) told[depth] = 1
+                if (line ~ /^_ (=>|if )/) arm[depth] = FNR
+            }
+            if (line ~ /(^|[^[:alnum:]_])match .*[{]$/) {
+                depth++
+                opened[depth] = column; told[depth] = 0; arm[depth] = 0
+            }
+        }
+    ' "$@"
+}
+
+# A match on instructions names each of them, so that a new one is thought of in every place; but for crates where some don't yet.
+unnamed='bpf_check bpf_explain_program bpf_explain_search bpf_harden_text bpf_infer_base bpf_infer_plain bpf_infer_states bpf_insn'
+for crate in "$crates"/*/; do
+    name=$(basename "$crate")
+    case " $unnamed " in *" $name "*) continue ;; esac
+    files=$(find "$crate/src" -name '*.rt' ! -path '*/tests/*' ! -name 'tests.rt' | sort)
+    arms=$(default_arms $files)
+    if [ -n "$arms" ]; then
+        echo "these matches on instructions have a default arm:"
+        echo "$arms"
+        failed=1
+    fi
+done
 [ "$failed" -eq 0 ] && echo "the checker makes one Work, and all its work is counted; what takes no memory names no allocator"
 exit "$failed"

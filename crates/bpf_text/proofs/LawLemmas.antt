@@ -1,5 +1,5 @@
 -- A text is one program or refused for one cause.
-use Rattle.std.proofs.Common.{◌≡◌, ℕ, List, Ok, Err, Result, refl, sym, ap, subst, arith, ◌∙◌}
+use Rattle.std.proofs.Common.{◌≡◌, ℕ, List, Ok, Err, Result, sym, ap, subst, ◌∙◌}
 use Rattle.bpf_insn.specs.Refusal.{IsNoProgram}
 use Rattle.bpf_insn.specs.declared.instruction.Insn.{Insn}
 use Rattle.bpf_insn.specs.declared.refusal.BuildError.{BuildError}

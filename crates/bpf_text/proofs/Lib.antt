@@ -1,6 +1,6 @@
 pub mod WriteLemmas
 pub mod PutLemmas
-pub mod DigitLemmas
+pub mod HexLemmas
 pub mod ListingLemmas
 pub mod NumberLemmas
 pub mod LineLemmas

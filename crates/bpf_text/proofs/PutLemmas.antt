@@ -1,5 +1,5 @@
 -- A line put together in a room that is large enough.
-use Rattle.std.proofs.Common.{◌≡◌, ℕ, zero, suc, ◌+◌, ◌-◌, ◌≤◌, min, List, [], ◌∷◌, ◌++◌, length, take, refl, sym, ap, ◌∙◌, append_assoc, arith}
+use Rattle.std.proofs.Common.{◌≡◌, ℕ, zero, suc, ◌+◌, min, List, [], ◌∷◌, ◌++◌, length, take, refl, sym, ap, ◌∙◌, append_assoc, arith}
 use Rattle.std.proofs.Math.Seq.{take-append-add}
 use Rattle.std.proofs.lemmas.List.{take_all, take_min}
 use Rattle.std.specs.Prelude.{ℤ, codes}
@@ -32,10 +32,10 @@ pub place_then : (a b c : List ℕ) (memory : Memory) (base : Reg) (off : ℤ) (
 place_then a b c memory base off t h k = record { is = (puts_more a b c (memory_operand_text memory base off) t h k).is ∙ ap (λ x. take 256 (a ++ x)) (behind_place memory base off t) }
 
 -- a text, as far as there is room
-pub puts_front : (a t b : List ℕ) (used n : ℕ) → length a ≡ used → used ≤ 256 → n ≡ min (256 - used) (length t) → b ≡ a ++ take n t → Puts a t b
-puts_front a t b used n here room count e =
-    let whole : length a + (256 - used) ≡ 256 = omega (arith, here, room) in
-    record { is = e ∙ ap (λ m. a ++ take m t) count ∙ ap (λ xs. a ++ xs) (take_min (256 - used) t) ∙ sym (take-append-add a t (256 - used)) ∙ ap (λ m. take m (a ++ t)) whole }
+pub puts_front : (s a t b : List ℕ) (room n : ℕ) → a ≡ s → room + length a ≡ 256 → n ≡ min room (length t) → b ≡ a ++ take n t → Puts s t b
+puts_front s a t b room n here all count e =
+    let whole : length a + room ≡ 256 = omega (arith, all) in
+    record { is = e ∙ ap (λ m. a ++ take m t) count ∙ ap (λ xs. a ++ xs) (take_min room t) ∙ sym (take-append-add a t room) ∙ ap (λ m. take m (a ++ t)) whole ∙ ap (λ x. take 256 (x ++ t)) here }
 
 -- a whole line
 pub line_put : (i : Insn) (b : List ℕ) → Puts [] (line_text i) b → b ≡ line_text i

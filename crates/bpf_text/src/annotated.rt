@@ -10,11 +10,12 @@ ghost use Rattle.bpf_text.specs.Annotated.{annotated, byte_text, bytes_text, com
 ghost use Rattle.bpf_text.specs.code.Slots.{line_at};
 ghost use Rattle.bpf_text.specs.Listing.{pieces};
 
-use crate::digits::{digits_of, glyph};
+use crate::listed_line::glyph;
 use crate::lister::write_line;
 use arrayvec::ArrayVec;
 use bpf_insn::written::Pending;
 use bpf_insn::{Code, Insn};
+use itoa::Buffer;
 use std::io::{self, Write};
 
 /// What stands in the comment behind an instruction.
@@ -42,11 +43,7 @@ fn padding(count: usize) -> &'static [u8]
 fn byte_text(byte: u8) -> [u8; 3]
     ensures { result ≡ byte_text byte }
 {
-    [
-        b' ',
-        glyph(u64::from(byte / 16)),
-        glyph(u64::from(byte % 16)),
-    ]
+    [b' ', glyph(byte / 16), glyph(byte % 16)]
 }
 
 fn put_bytes<W: Write>(pending: &mut Pending, out: &mut W, bytes: &[u8]) -> io::Result<()>
@@ -139,11 +136,12 @@ fn put_comment<W: Write>(
     ensures ok { OnOk result (Gathers (W.contents out.old) (W.contents out.new) pending.old pending.new (comment notes slot bytes.now)) }
     ensures err { OnErr result (AppendsBeginning (W.contents out.old) (W.contents out.new) (pending.old ++ comment notes slot bytes.now)) }
 {
-    let digits = digits_of(u64::from(slot), 10);
+    let mut buffer = Buffer::new();
+    let slot = buffer.format(slot).as_bytes();
     match notes {
-        Notes::Slots => put_two(pending, out, b"; ", digits.as_bytes()),
+        Notes::Slots => put_two(pending, out, b"; ", slot),
         Notes::Bytes => put_marked(pending, out, b";", bytes),
-        Notes::Both => put_all(pending, out, b"; ", digits.as_bytes(), b":", bytes),
+        Notes::Both => put_all(pending, out, b"; ", slot, b":", bytes),
     }
 }
 

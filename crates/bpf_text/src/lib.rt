@@ -4,7 +4,6 @@
 mod annotated;
 mod assembler;
 mod chains;
-mod digits;
 mod error;
 mod laws;
 mod line;

@@ -1,32 +1,39 @@
 //! A line of a listing, put together part by part.
 
-ghost use Rattle.std.specs.Prelude.{◌≡◌, ◌⊎◌, ◌++◌, ◌+◌, ◌≤◌, List, [], ℕ, length, take, false};
-ghost use Rattle.std.specs.Fmt.{digits};
+ghost use Rattle.std.specs.Prelude.{◌≡◌, ◌++◌, ◌<◌, List, [], ℕ, decimal, false};
+ghost use Rattle.std.specs.Fmt.{digits, digit_glyph};
 ghost use Rattle.bpf_text.specs.Spelling.{register_text};
 ghost use Rattle.bpf_text.specs.Listing.{with_sign, number_text, offset_text, distance_text, hex_text, operand_text};
 ghost use Rattle.bpf_text.specs.code.Puts.{Puts};
 
-use crate::digits::digits_of;
 use crate::spelling::{Register, Spelled};
+use arrayvec::ArrayVec;
 use bpf_insn::{Operand, Reg, Width};
+use itoa::Buffer;
 use std::marker::Model;
 
-/// More bytes than a line has.
-const ROOM: usize = 256;
+/// A digit in base 16, with lower-case letters.
+pub fn glyph(digit: u8) -> u8
+    requires { digit < 16 }
+    ensures { result ≡ digit_glyph false digit }
+{
+    if digit < 10 {
+        b'0' + digit
+    } else {
+        b'a' + (digit - 10)
+    }
+}
 
-/// What is written of a line: its first 256 bytes.
+/// What is written of a line: its first 256 bytes, more than any line has.
 #[derive(Drop)]
 pub struct ListedLine {
-    bytes: [u8; ROOM],
-    used: usize,
+    text: ArrayVec<u8, 256>,
 }
 
 impl Model for ListedLine {
     ghost Value = { List ℕ };
 
-    ghost view = { λ l. take l.used l.bytes };
-
-    ghost invariant = { λ l. l.used ≤ 256 };
+    ghost view = { λ l. l.text.items };
 }
 
 impl ListedLine {
@@ -35,8 +42,7 @@ impl ListedLine {
         ensures { result ≡ [] }
     {
         ListedLine {
-            bytes: [0; ROOM],
-            used: 0,
+            text: ArrayVec::new(),
         }
     }
 
@@ -44,24 +50,13 @@ impl ListedLine {
     pub fn clear(&mut self)
         ensures { self.new ≡ [] }
     {
-        self.used = 0;
+        self.text.clear();
     }
 
     pub fn as_bytes(&self) -> &[u8]
         ensures { result.now ≡ self.now }
     {
-        &self.bytes[..self.used]
-    }
-
-    /// Puts bytes for which there is room.
-    #[inline(always)]
-    fn keep(&mut self, bytes: &[u8])
-        requires { length self.old + length bytes.now ≤ 256 }
-        ensures { self.new ≡ self.old ++ bytes.now }
-    {
-        let end = self.used + bytes.len();
-        self.bytes[self.used..end].copy_from_slice(bytes);
-        self.used = end;
+        self.text.as_slice()
     }
 
     /// Puts bytes, as far as there is room.
@@ -69,8 +64,11 @@ impl ListedLine {
     fn put(&mut self, bytes: &[u8])
         ensures { Puts self.old bytes.now self.new }
     {
-        let count = (ROOM - self.used).min(bytes.len());
-        self.keep(&bytes[..count]);
+        let count = self.text.remaining_capacity().min(bytes.len());
+        match self.text.try_extend_from_slice(&bytes[..count]) {
+            Ok(()) => {}
+            Err(_) => unreachable!(),
+        }
     }
 
     #[inline(always)]
@@ -80,14 +78,25 @@ impl ListedLine {
         self.put(text.as_bytes());
     }
 
-    /// Puts a text and the digits of a number.
+    /// Puts a text and a number in decimal.
     #[inline(always)]
-    fn number_behind(&mut self, front: &str, value: u64, base: u64)
-        requires { (base ≡ 10) ⊎ (base ≡ 16) }
-        ensures { Puts self.old (front.now ++ digits base false value) self.new }
+    fn decimal_behind(&mut self, front: &str, value: u32)
+        ensures { Puts self.old (front.now ++ decimal value) self.new }
     {
         self.put_text(front);
-        self.put(digits_of(value, base).as_bytes());
+        self.put_text(Buffer::new().format(value));
+    }
+
+    /// Puts a number in base 16.
+    fn digits(&mut self, value: u64)
+        ensures { Puts self.old (digits 16 false value) self.new }
+    {
+        if value >= 16 {
+            self.digits(value / 16);
+            self.put(&[glyph((value % 16) as u8)]);
+        } else {
+            self.put(&[glyph(value as u8)]);
+        }
     }
 
     /// Puts a number in decimal, with one text in front from 0 on and another below.
@@ -96,7 +105,7 @@ impl ListedLine {
         ensures { Puts self.old (with_sign plus.now minus.now value) self.new }
     {
         let front = if value < 0 { minus } else { plus };
-        self.number_behind(front, u64::from(value.unsigned_abs()), 10);
+        self.decimal_behind(front, value.unsigned_abs());
     }
 
     /// `5` or `-5`
@@ -131,7 +140,8 @@ impl ListedLine {
     pub fn hex(&mut self, value: u64)
         ensures { Puts self.old (hex_text value) self.new }
     {
-        self.number_behind("0x", value, 16);
+        self.put_text("0x");
+        self.digits(value);
     }
 
     #[inline(always)]
