@@ -1,5 +1,6 @@
-"""failures.py BPF EXAMPLES SHIM: the command under a library that refuses the Nth growth of memory, fails the Nth read or
-write, or shortens it. Right is the answer of the undisturbed command, or the named failure, with nothing half written."""
+"""failures.py BPF EXAMPLES SHIM MEMORY: the command under a library that refuses the Nth growth of memory, fails the Nth read or
+write, or shortens it. Right is the answer of the undisturbed command, or the named failure, with nothing half written. So are
+calls that no command makes alone, by a program of their own."""
 import os
 import pathlib
 import re
@@ -8,11 +9,18 @@ import subprocess
 import sys
 import tempfile
 
-BPF, EXAMPLES, SHIM = sys.argv[1], pathlib.Path(sys.argv[2]), sys.argv[3]
+BPF, EXAMPLES, SHIM, MEMORY = sys.argv[1], pathlib.Path(sys.argv[2]), sys.argv[3], sys.argv[4]
 OLD = b'what stood here before\n'
 WANT_OF_MEMORY = {'no E9 at slot 0\n', 'no A7 at line 0\n', 'no K4 at line 0\n', 'no I5 at slot 0\n'}
 # the same in words
 WANT_OF_MEMORY |= {'A7: out of memory\n', 'K4 at line 0: memory ran out\n', 'no certificate: I5, memory ran out\n'}
+# Calls that no command makes alone, and their refusals.
+CALLS = {
+    'assemble': {'A7 at line 0'},
+    'decode_from': {'E9 at slot 0'},
+    'new': {'no list', 'E9 at slot 0'},
+    'verify': {'K4 at line 0'},
+}
 
 COMMANDS = [
     ['groups', 'fetch.img'],
@@ -154,6 +162,32 @@ def show_no_memory():
     takes_no_memory('run-checked, countdown', *runs)
 
 
+def called(folder, **disturbed):
+    """What the calls answer, by their names, and how often memory grew."""
+    counts = folder / 'calls'
+    env = {'LD_PRELOAD': SHIM, 'COUNT_FILE': str(counts), **{k: str(v) for k, v in disturbed.items()}}
+    done = subprocess.run([MEMORY], env=env, capture_output=True, timeout=60, check=True)
+    answers = dict(line.split(': ') for line in done.stdout.decode().splitlines())
+    return answers, int(counts.read_text().split()[0])
+
+
+def show_calls(folder):
+    """Where one growth is refused, one call answers its refusal, and the others what they answer anyway. Each call has such growths."""
+    right, total = called(folder)
+    seen = set()
+    for n in range(1, total + 1):
+        got, _ = called(folder, REFUSE_ALLOC=n)
+        others = [name for name in CALLS if got.get(name) != right[name]]
+        if list(got) != list(CALLS) or len(others) != 1 or got[others[0]] not in CALLS[others[0]]:
+            print(f'failures: allocation {n} of the calls\n  got   {got}\n  right {right}')
+            sys.exit(1)
+        seen.add((others[0], got[others[0]]))
+    if seen != {(name, refusal) for name, refusals in CALLS.items() for refusal in refusals}:
+        print(f'failures: not each call was refused memory: {seen}')
+        sys.exit(1)
+    print(f'{", ".join(CALLS)}: {total} allocations')
+
+
 def main():
     global EXTRA, FOLDER
     FOLDER = extra = pathlib.Path(tempfile.mkdtemp())
@@ -184,6 +218,7 @@ def main():
             totals[name] += count
         print(f'{" ".join(words)}: {allocs} allocations, {io} reads and writes, {short} of several bytes')
     show_no_memory()
+    show_calls(extra)
     shutil.rmtree(extra)
     print('failures: ' + ', '.join(f'{count} {name}' for name, count in totals.items()) + ', no wrong answer')
 

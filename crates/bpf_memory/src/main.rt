@@ -1,8 +1,9 @@
-//! What calls that no command makes answer where memory is refused: `tests/failures.py` refuses each of their growths in turn.
+//! What calls answer where memory is refused, apart from the commands: `tests/failures.py` refuses each of their growths in turn.
 #![tactic(auto)]
 
 use bpf_check::{VerifyError, verify};
 use bpf_insn::{Insn, Order, Program, decode_from};
+use bpf_text::assemble;
 use std::alloc::Global;
 use std::io::{self, Write};
 use std::process::ExitCode;
@@ -11,6 +12,23 @@ use std::process::ExitCode;
 const IMAGE: &[u8] = &[0xb7, 0, 0, 0, 0, 0, 0, 0, 0x95, 0, 0, 0, 0, 0, 0, 0];
 
 const CERTIFICATE: &[u8] = b"bpfcert 1 0 2\nfn 0 1 *\nat 0 2\nr1 ctx0..0\nend\n";
+
+/// A text with labels.
+const TEXT: &str = "a: r0 = 0\nif r0 != 0 goto b\nb: exit";
+
+/// A text.
+fn tell_assembled(alloc: Global, out: &mut impl Write) -> io::Result<()> {
+    match assemble(alloc, TEXT, Order::Little) {
+        Ok(program) => {
+            let slots = program.slots();
+            write!(out, "assemble: {slots} slots\n")
+        }
+        Err(error) => {
+            let (number, line) = (error.number(), error.line());
+            write!(out, "assemble: A{number} at line {line}\n")
+        }
+    }
+}
 
 /// An image from a reader.
 fn tell_decoded(alloc: Global, out: &mut impl Write) -> io::Result<()> {
@@ -66,8 +84,9 @@ fn tell_verified(alloc: Global, out: &mut impl Write) -> io::Result<()> {
     }
 }
 
-/// All three, a line each.
+/// All four, a line each.
 fn tell_all(alloc: Global, out: &mut impl Write) -> io::Result<()> {
+    tell_assembled(alloc, out)?;
     tell_decoded(alloc, out)?;
     tell_new(alloc, out)?;
     tell_verified(alloc, out)
