@@ -1,5 +1,5 @@
 -- The command line, as its parser sees it.
-use Rattle.std.specs.Prelude.{◌≡◌, ◌≢◌, ℕ, Bool, List, [], Option, Some, None, is_some, is_none, not, ◌&&◌, ◌||◌, option_map, unwrap_or, pos, codes, Result, IfOk, true, false}
+use Rattle.std.specs.Prelude.{◌≡◌, ◌≢◌, ℕ, Bool, List, [], ◌∷◌, Option, Some, None, is_some, is_none, not, ◌&&◌, ◌||◌, option_map, unwrap_or, pos, codes, Result, IfOk, true, false}
 use Rattle.std.specs.Str.Parse.{ParsesUnsigned}
 use Rattle.std.specs.declared.num.ParseIntError.{ParseIntError}
 use Rattle.clap.specs.Words.{App, Kinds, ReadsOne, Row, Rule, Text, app_of, fault_of, first_of, one_of, new_app, new_rule, with_rule, with_subcommand}
@@ -30,6 +30,17 @@ place id = record (new_rule id) { required = true }
 abbrev pub steps : Rule
 steps = record (new_rule (codes "steps")) { long = Some (codes "steps"); value_names = 1; parser = Some (parser.Signed (pos 0) (pos 4294967295)); required = true }
 
+-- the option `--trace`, with a number from 1, below 2 ^ 32, or 1000 where it is given without one
+abbrev pub trace : Rule
+trace =
+    record (new_rule (codes "trace")) {
+      long = Some (codes "trace");
+      value_names = 1;
+      range = Some (record { start_inclusive = 0; end_inclusive = 1 });
+      missing = codes "1000" ∷ [];
+      parser = Some (parser.Signed (pos 1) (pos 4294967295));
+    }
+
 -- an option with a name to read
 abbrev pub file : Text → Rule
 file name = record (new_rule name) { long = Some name; value_names = 1 }
@@ -59,7 +70,7 @@ abbrev pub run_places : App
 run_places = with_rule (new_app (codes "run")) (place (codes "IN"))
 
 abbrev pub run : App
-run = with_rule (with_rule (with_contexts run_places) steps) big
+run = with_rule (with_rule (with_rule (with_contexts run_places) steps) trace) big
 
 abbrev pub top : App
 top = let named = new_app (codes "bpf") in record named { top = record named.top { has_version = true; subcommand_required = true } }
@@ -120,7 +131,7 @@ abbrev pub explain_places : App
 explain_places = with_rule (with_rule (new_app (codes "explain")) (place (codes "IN"))) (new_rule (codes "CERT"))
 
 abbrev pub explain : App
-explain = with_rule (with_rule (with_rule (with_rule (with_rule (with_rule (with_rule explain_places one_slot) inferred) most) (flag (codes "deep"))) (flag (codes "text"))) (flag (codes "dot"))) big
+explain = with_rule (with_rule (with_rule (with_rule (with_rule (with_rule (with_rule (with_rule explain_places one_slot) inferred) most) (flag (codes "deep"))) (flag (codes "text"))) (flag (codes "dot"))) (file (codes "lines"))) big
 
 -- `bpf` with the commands that judge, run and propose
 abbrev pub with_proposals : App
@@ -239,7 +250,9 @@ Asks name rows (Groups input order) =
 Asks name rows (Asm input output order) = (name ≡ codes "asm") × IsInput rows input.now order × (output.now ≡ word_of (codes "OUT") rows)
 Asks name rows (ListOf input slots bytes order) =
     (name ≡ codes "list") × IsInput rows input.now order × IsFlag (one_of (codes "slots") rows) slots × IsFlag (one_of (codes "bytes") rows) bytes
-Asks name rows (Run input contexts count order) = (name ≡ codes "run") × IsInput rows input.now order × AreContexts rows contexts × IsCount 32 0 (one_of (codes "steps") rows) count
+Asks name rows (Run input contexts count trace order) =
+    (name ≡ codes "run") × IsInput rows input.now order × AreContexts rows contexts
+    × IsCount 32 0 (one_of (codes "steps") rows) count × IsNumber (one_of (codes "trace") rows) trace
 Asks name rows (Check input certificate work order) =
     (name ≡ codes "check") × IsInput rows input.now order × (certificate.now ≡ word_of (codes "CERT") rows) × IsFlag (one_of (codes "work") rows) work
 Asks name rows (RunChecked input certificate contexts order) =
@@ -248,7 +261,8 @@ Asks name rows (Infer input least most deep output order) =
     (name ≡ codes "infer") × IsInput rows input.now order × IsCount 32 0 (one_of (codes "LEN") rows) least
     × IsCount 32 least (one_of (codes "most") rows) most × IsFlag (one_of (codes "deep") rows) deep × (output.now ≡ word_of (codes "OUT") rows)
 Asks name rows (Harden hardening) = (name ≡ codes "harden") × IsHardening rows hardening
-Asks name rows (Explain input subject order) = (name ≡ codes "explain") × IsInput rows input.now order × IsSubject rows subject
+Asks name rows (Explain input subject lines order) =
+    (name ≡ codes "explain") × IsInput rows input.now order × IsSubject rows subject × (option_map (λ s. s.now) lines ≡ first_of (codes "lines") rows)
 Asks name rows (Migrate certificate output) = (name ≡ codes "migrate") × (certificate.now ≡ word_of (codes "CERT") rows) × (output.now ≡ word_of (codes "OUT") rows)
 
 -- the request of a command line on which the parser found this subcommand

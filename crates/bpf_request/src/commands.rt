@@ -2,7 +2,7 @@
 
 ghost use Rattle.std.specs.Prelude.{◌≡◌, false};
 ghost use Rattle.clap.specs.Words.{App, Rule, new_app, new_rule, rule_of, with_rule, with_subcommand};
-ghost use Rattle.bpf_request.specs.CommandLine.{Grows, asm, big, bpf, check, context_length, explain, explain_places, file, flag, groups, harden, harden_places, infer, inferred, list, migrate, most, one_slot, otherwise, place, run, run_checked, steps, top, turns, with_contexts, with_proposals, without_certificates};
+ghost use Rattle.bpf_request.specs.CommandLine.{Grows, asm, big, bpf, check, context_length, explain, explain_places, file, flag, groups, harden, harden_places, infer, inferred, list, migrate, most, one_slot, otherwise, place, run, run_checked, steps, top, trace, turns, with_contexts, with_proposals, without_certificates};
 
 use bpf_insn::{MAX_CONTEXT, MAX_SLOTS};
 use clap::{Arg, ArgAction, Command, value_parser};
@@ -83,6 +83,20 @@ fn steps<'a>(alloc: Global) -> Arg<'a>
         .required(true)
         .value_parser(value_parser!(u32))
         .help("the most instructions that are done")
+}
+
+/// The option for the last steps of a run.
+fn trace<'a>(alloc: Global) -> Arg<'a>
+    ensures rule { rule_of result ≡ trace }
+    ensures local { result.global ≡ false }
+{
+    Arg::new(alloc, "trace")
+        .long("trace")
+        .value_name("N")
+        .num_args(0..=1)
+        .default_missing_value("1000")
+        .value_parser(value_parser!(u32).range(1..=u32::MAX as i64))
+        .help("the last steps of each run on standard error, at most N lines, else 1000")
 }
 
 /// The word for the length of the contexts.
@@ -232,6 +246,7 @@ fn run_command<'a>(alloc: Global) -> Grown<'a>
     let command = taking(command, place(alloc, "IN", "an image"));
     let command = with_contexts(alloc, command);
     let command = taking(command, steps(alloc));
+    let command = taking(command, trace(alloc));
     taking(command, big(alloc))
 }
 
@@ -367,6 +382,14 @@ fn explain_command<'a>(alloc: Global) -> Grown<'a>
     let command = taking(
         command,
         flag(alloc, "dot", "the control-flow graph as DOT text"),
+    );
+    let command = taking(
+        command,
+        file(
+            alloc,
+            "lines",
+            "the lines of the source by slots, as bpf-cc writes them",
+        ),
     );
     taking(command, big(alloc))
 }

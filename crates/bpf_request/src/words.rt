@@ -35,11 +35,12 @@ pub enum Request<'a> {
         bytes: bool,
         order: Order,
     },
-    /// Runs of an image on contexts, each for at most so many instructions.
+    /// Runs of an image on contexts, each for at most so many instructions, and how many lines are told of each run's last steps.
     Run {
         input: &'a str,
         contexts: Contexts<'a>,
         steps: u32,
+        trace: Option<u32>,
         order: Order,
     },
     /// A certificate's verdict on an image, and the work of judging where it is asked for.
@@ -68,10 +69,12 @@ pub enum Request<'a> {
     },
     /// A hardened image.
     Harden(Hardening<'a>),
-    /// What the checker or the inferrer sees of a program, or why an input is refused, in words.
+    /// What the checker or the inferrer sees of a program, or why an input is refused, in words, with the lines of its source at a
+    /// name.
     Explain {
         input: &'a str,
         subject: Subject<'a>,
+        lines: Option<&'a str>,
         order: Order,
     },
     /// A certificate of the newest version with the same content.
@@ -210,6 +213,7 @@ fn request_in<'a>(name: &str, matches: &ArgMatches<'a>) -> Request<'a>
             input,
             contexts: contexts_of(matches),
             steps: number(matches, "steps", 0),
+            trace: number_if(matches, "trace"),
             order,
         },
         "check" => Request::Check {
@@ -239,6 +243,7 @@ fn request_in<'a>(name: &str, matches: &ArgMatches<'a>) -> Request<'a>
         "explain" => Request::Explain {
             input,
             subject: subject_in(matches),
+            lines: word_if(matches, "lines"),
             order,
         },
         "migrate" => Request::Migrate {
