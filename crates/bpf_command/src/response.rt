@@ -41,7 +41,7 @@ fn thrice(first: &str, second: &str, third: &str) -> Option<Failure<'static>>
 
 /// Source lines are given where none are shown.
 fn misplaced(lines: Option<&str>) -> Option<Failure<'static>>
-    ensures { result ≡ misplaced lines }
+    ensures { result ≡ misplaced lines.entry }
 {
     match lines {
         Some(_name) => Some(Failure::NotTogether),
@@ -69,7 +69,7 @@ fn out_of_order(least: u32, most: u32) -> Option<Failure<'static>>
 
 /// The two names that are written are two.
 fn written_twice(output: &str, notes: Option<&str>) -> Option<Failure<'static>>
-    ensures { result ≡ written_twice output.now notes }
+    ensures { result ≡ written_twice output.now notes.entry }
 {
     match notes {
         Some(name) if name == output => Some(Failure::NotTogether),
@@ -79,7 +79,7 @@ fn written_twice(output: &str, notes: Option<&str>) -> Option<Failure<'static>>
 
 /// What can't be explained of this input.
 fn conflict_with(input: &str, lines: Option<&str>, subject: Subject<'_>) -> Option<Failure<'static>>
-    ensures { result ≡ conflict_with input.now lines subject.entry }
+    ensures { result ≡ conflict_with input.now lines.entry subject.entry }
 {
     match subject {
         Subject::Image | Subject::Text | Subject::GraphAlone => misplaced(lines),
