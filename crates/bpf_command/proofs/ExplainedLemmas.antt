@@ -1,5 +1,5 @@
 -- The status of what is explained, from what is said of the image, the text and the certificate.
-use Rattle.std.proofs.Common.{◌≡◌, ◌⊎◌, ℕ, List, Option, None, false, Result, Ok, Err, IfOk, refl, inl, inr, ◌∙◌}
+use Rattle.std.proofs.Common.{◌≡◌, ◌⊎◌, ℕ, List, Option, None, false, Result, Ok, Err, IfOk, IfErr, refl, inl, inr, ◌∙◌}
 use Rattle.bpf_insn.specs.Instruction.{Instructions}
 use Rattle.bpf_insn.specs.declared.order.Order.{Order}
 use Rattle.bpf_cert.specs.View.{CertificateView}
@@ -9,7 +9,10 @@ use Rattle.bpf_command.specs.Loaded.{LoadsImage, CertificateAt}
 use Rattle.bpf_command.specs.Answer.{Answer, Says, status_of}
 use Rattle.bpf_command.specs.Answer.Answer.{Yes, NoImage, NotCertified, Written}
 use Rattle.bpf_command.specs.Printed.{ImageSays, JudgedSays, LoadedSays, YesSays}
-use Rattle.bpf_command.specs.Explained.{Answers, JudgesOf, SoughtSays}
+use Rattle.std.specs.Borrow.{Bor}
+use Rattle.bpf_request.specs.declared.subject.Subject.{Subject}
+use Rattle.bpf_command.specs.declared.failure.Failure.{Failure}
+use Rattle.bpf_command.specs.Explained.{Answers, ExplainFails, ExplainSays, ExplainWithFails, ExplainWithSays, JudgesOf, LinesAt, SoughtSays}
 use Rattle.bpf_command.proofs.JudgedLemmas.{loaded_says}
 
 -- an answer that was printed has its status
@@ -55,3 +58,15 @@ pub sought_so : {S E : Type 0} (result : Result ℕ E) (opening : Opening S) (or
     → IfOk result (Answers (SoughtSays p)) → IfOk result (Answers (ImageSays opening order old input new SoughtSays))
 sought_so (Ok s) opening order old input new p image h = (h.0, h.1, image_says opening order old input new p image h.0 h.2)
 sought_so (Err e) opening order old input new p image h = tt
+
+-- ---- with the lines of the source
+
+pub with_lines_so : {S E : Type 0} (result : Result ℕ E) (o : Opening S) (order : Order) (old : S) (input : List ℕ) (subject : Subject) (lines : Option (Bor (List ℕ))) (between new : S) → LinesAt o old lines between
+    → IfOk result (ExplainSays o order between input subject new) → IfOk result (ExplainWithSays o order old input subject lines new)
+with_lines_so (Ok s) o order old input subject lines between new read h = (between, read, h)
+with_lines_so (Err e) o order old input subject lines between new read h = tt
+
+pub with_lines_fails : {S : Type 0} (result : Result ℕ Failure) (o : Opening S) (order : Order) (old : S) (input : List ℕ) (subject : Subject) (lines : Option (Bor (List ℕ))) (between new : S) → LinesAt o old lines between
+    → IfErr result (ExplainFails o order between input subject new) → IfErr result (ExplainWithFails o order old input subject lines new)
+with_lines_fails (Ok s) o order old input subject lines between new read h = tt
+with_lines_fails (Err e) o order old input subject lines between new read h = inr (between, read, h)

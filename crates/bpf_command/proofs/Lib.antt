@@ -2,6 +2,7 @@ pub mod ToldLemmas
 pub mod LoadedLemmas
 pub mod TextLemmas
 pub mod MadeLemmas
+pub mod HardenedLemmas
 pub mod JudgedLemmas
 pub mod LinesLemmas
 pub mod ReadingLemmas

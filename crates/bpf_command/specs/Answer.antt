@@ -21,6 +21,8 @@ use Rattle.bpf_check.specs.declared.refusal.Refusal.{Refusal}
 use Rattle.bpf_infer_error.specs.RefusalNumbers.{condition_number}
 use Rattle.bpf_infer_error.specs.declared.error.InferError.{InferError}
 use Rattle.bpf_infer_error.specs.declared.error.InferError.TheVariants.{Unstable, NoBudget, Recursion, Fault as NoState, Memory as InferMemory}
+use Rattle.bpf_harden_notes.specs.RefusalNumbers.{harden_number, harden_slot}
+use Rattle.bpf_harden_notes.specs.declared.error.HardenError.{HardenError}
 use Rattle.bpf_machine.specs.declared.outcome.Outcome.{Outcome}
 use Rattle.bpf_machine.specs.declared.outcome.Outcome.TheVariants.{Done as DoneRun, Fault as FaultRun, OutOfFuel}
 
@@ -34,6 +36,8 @@ pub data Answer : Type 0 where
   NoCertificate : (error : CertError) → Answer
   NotCertified : (refusal : Refusal) → Answer
   NotProposed : (error : InferError) → Answer
+  -- a program isn't hardened
+  NotHardened : (error : HardenError) → Answer
   -- a context of so many bytes, where the certificate speaks of `least` to `most`
   NoContext : (count least most : ℕ) → Answer
   -- a checked program ends with this number
@@ -62,6 +66,7 @@ status_of (NoText error) = 1
 status_of (NoCertificate error) = 1
 status_of (NotCertified refusal) = 1
 status_of (NotProposed error) = 1
+status_of (NotHardened error) = 1
 status_of (NoContext count least most) = 1
 status_of (Ends value) = 0
 status_of (Ran outcome) = status_of_run outcome
@@ -141,6 +146,7 @@ text_of (NoText error) = text_refusal_line error
 text_of (NoCertificate error) = refusal_line (codes "K") (cert_number error) at_line (cert_line error)
 text_of (NotCertified refusal) = refusal_line (codes "C") (check_number refusal) at_slot (check_slot refusal)
 text_of (NotProposed error) = infer_refusal_line error
+text_of (NotHardened error) = refusal_line (codes "H") (harden_number error) at_slot (harden_slot error)
 text_of (NoContext count least most) = no_context_line count least most
 text_of (Ends value) = concat (codes "done " ∷ decimal value ∷ codes "\n" ∷ [])
 text_of (Ran outcome) = run_line outcome

@@ -1,6 +1,7 @@
 -- Which status `explain` answers, by what the names hold: that of an answer of the command that judges the same. What it
 -- prints are words.
-use Rattle.std.specs.Prelude.{◌≡◌, ◌⊎◌, ℕ, List, None, false, ⊤}
+use Rattle.std.specs.Prelude.{◌≡◌, ◌⊎◌, ℕ, List, Option, Some, None, false, ⊤}
+use Rattle.std.specs.Borrow.{Bor}
 use Rattle.bpf_insn.specs.Instruction.{Instructions}
 use Rattle.bpf_insn.specs.declared.order.Order.{Order}
 use Rattle.bpf_text.specs.Assembly.{Assembles, IsRefused}
@@ -14,9 +15,10 @@ use Rattle.bpf_command.specs.Opened.{Opening}
 use Rattle.bpf_command.specs.Loaded.{ImageFails, ShortTextAt, TextFails}
 use Rattle.bpf_command.specs.Answer.{Answer, status_of}
 use Rattle.bpf_command.specs.Answer.Answer.{NoText, NotCertified, NotProposed, Lists, Written}
+use Rattle.bpf_command.specs.Told.{OutputFails}
 use Rattle.bpf_command.specs.Printed.{ImageSays, ListSays, LoadedSays, LoadedFails, YesSays}
 use Rattle.bpf_command.specs.declared.failure.Failure.{Failure}
-use Rattle.bpf_command.specs.declared.failure.Failure.TheVariants.{NotTogether}
+use Rattle.bpf_command.specs.declared.failure.Failure.TheVariants.{CannotRead, NotTogether}
 use Rattle.bpf_request.specs.declared.subject.Subject.{Subject}
 use Rattle.bpf_request.specs.declared.subject.Subject.TheVariants.{Image, Text, Certified, Slot, Inferred, Graph, GraphAlone, Misfit}
 
@@ -61,3 +63,24 @@ ExplainFails o order old input (Inferred least most deep) new = ImageFails o old
 ExplainFails o order old input (Graph certificate) new = LoadedFails o order old input certificate.now new
 ExplainFails o order old input GraphAlone new = ImageFails o old input new
 ExplainFails o order old input Misfit new = λ failure. (failure ≡ NotTogether) × (new ≡ old)
+
+-- ---- with the lines of the source at a name, which is opened first
+
+-- the name is opened, or can't be
+abbrev pub Opens : {S : Type 0} → Opening S → S → List ℕ → S → Type 0
+Opens opening old name new = (known : Option (Option (List ℕ))) × opening old name known new
+
+abbrev pub LinesAt : {S : Type 0} → Opening S → S → Option (Bor (List ℕ)) → S → Type 0
+LinesAt opening old None new = new ≡ old
+LinesAt opening old (Some lines) new = Opens opening old lines.now new
+
+abbrev pub LinesFail : {S : Type 0} → Opening S → S → Option (Bor (List ℕ)) → S → Failure → Type 0
+LinesFail opening old (Some lines) new (CannotRead name) = (name.now ≡ lines.now) × Opens opening old lines.now new
+LinesFail opening old lines new failure = OutputFails failure
+
+abbrev pub ExplainWithSays : {S : Type 0} → Opening S → Order → S → List ℕ → Subject → Option (Bor (List ℕ)) → S → ℕ → Type 0
+ExplainWithSays {S} o order old input subject lines new status = (between : S) × LinesAt o old lines between × ExplainSays o order between input subject new status
+
+abbrev pub ExplainWithFails : {S : Type 0} → Opening S → Order → S → List ℕ → Subject → Option (Bor (List ℕ)) → S → Failure → Type 0
+ExplainWithFails {S} o order old input subject lines new failure =
+    LinesFail o old lines new failure ⊎ ((between : S) × LinesAt o old lines between × ExplainFails o order between input subject new failure)

@@ -7,6 +7,7 @@ pub mod Loaded
 pub mod Made
 pub mod Answer
 pub mod Printed
+pub mod Hardened
 pub mod Given
 pub mod Explained
 pub mod Response

@@ -1,6 +1,7 @@
 -- What the command answers to its words, whatever they ask for.
-use Rattle.std.specs.Prelude.{◌≡◌, ◌≢◌, ◌⊎◌, ◌&&◌, List, [], ℕ, Option, Some, None, nat_lt, codes, if◌then◌else◌}
+use Rattle.std.specs.Prelude.{◌≡◌, ◌≢◌, ◌⊎◌, ◌&&◌, List, [], ℕ, Option, Some, None, nat_lt, codes, option_map, unwrap_or, if◌then◌else◌}
 use Rattle.std.specs.Option.{option_or}
+use Rattle.std.specs.Borrow.{Bor}
 use Rattle.std.specs.Io.KnownBytes.{Keeps}
 use Rattle.clap.specs.Words.{Text, subcommand_of}
 use Rattle.bpf_request.specs.CommandLine.{IsAsked, bpf, faults_in, name_of}
@@ -9,12 +10,13 @@ use Rattle.bpf_command.specs.Made.{Making}
 use Rattle.bpf_command.specs.Loaded.{ImageFails}
 use Rattle.bpf_command.specs.Answer.{Answered}
 use Rattle.bpf_command.specs.Printed.{LoadedFails, ImageSays, GroupsSay, ListSays, notes_of, AsmSays, AsmFails, InferSays, InferFails, MigrateSays, MigrateFails, CheckSays}
+use Rattle.bpf_command.specs.Hardened.{HardenFails, HardenSays}
 use Rattle.bpf_command.specs.Given.{CheckedFails, CheckedSays, RunFails, RunSays}
-use Rattle.bpf_command.specs.Explained.{ExplainSays, ExplainFails}
+use Rattle.bpf_command.specs.Explained.{ExplainWithFails, ExplainWithSays}
 use Rattle.bpf_command.specs.Told.{IsTold}
 use Rattle.std.specs.Str.{bytes_eq}
 use Rattle.bpf_request.specs.declared.words.Request.{Request}
-use Rattle.bpf_request.specs.declared.words.Request.TheVariants.{Groups, Asm, List as ListOf, Run, Check, RunChecked, Infer, Migrate, Explain}
+use Rattle.bpf_request.specs.declared.words.Request.TheVariants.{Groups, Asm, List as ListOf, Run, Check, RunChecked, Infer, Harden, Migrate, Explain}
 use Rattle.bpf_request.specs.declared.subject.Subject.{Subject}
 use Rattle.bpf_request.specs.declared.subject.Subject.TheVariants.{Image, Text as TextAlone, Certified, Slot, Inferred, Graph, GraphAlone, Misfit}
 use Rattle.bpf_command.specs.declared.failure.Failure.{Failure}
@@ -26,32 +28,50 @@ use Rattle.bpf_command.specs.declared.failure.Failure.TheVariants.{NoMemory, Mos
 abbrev pub twice : List ℕ → List ℕ → Option Failure
 twice first second = if bytes_eq first (codes "-") && bytes_eq second (codes "-") then Some InputTwice else None
 
+-- standard input for two of three names
+abbrev pub thrice : List ℕ → List ℕ → List ℕ → Option Failure
+thrice first second third = option_or (option_or (twice first second) (twice first third)) (twice second third)
+
+-- the name that is given, if one is
+abbrev pub name_given : Option (Bor (List ℕ)) → List ℕ
+name_given name = unwrap_or (option_map (λ s. s.now) name) []
+
+-- source lines where none are shown
+abbrev pub misplaced : Option (Bor (List ℕ)) → Option Failure
+misplaced None = None
+misplaced (Some lines) = Some NotTogether
+
 -- the greatest length below the least
 abbrev pub out_of_order : ℕ → ℕ → Option Failure
 out_of_order least most = if nat_lt most least then Some MostBelowLeast else None
 
+-- one name for OUT and the notes
+abbrev pub written_twice : List ℕ → Option (Bor (List ℕ)) → Option Failure
+written_twice output None = None
+written_twice output (Some notes) = if bytes_eq output notes.now then Some NotTogether else None
+
 -- what can't be explained of this input
-abbrev pub conflict_with : List ℕ → Subject → Option Failure
-conflict_with input Image = None
-conflict_with input TextAlone = None
-conflict_with input (Certified certificate) = twice input certificate.now
-conflict_with input (Slot certificate slot) = twice input certificate.now
-conflict_with input (Inferred least most deep) = out_of_order least most
-conflict_with input (Graph certificate) = twice input certificate.now
-conflict_with input GraphAlone = None
-conflict_with input Misfit = Some NotTogether
+abbrev pub conflict_with : List ℕ → Option (Bor (List ℕ)) → Subject → Option Failure
+conflict_with input lines Image = misplaced lines
+conflict_with input lines TextAlone = misplaced lines
+conflict_with input lines (Certified certificate) = thrice input certificate.now (name_given lines)
+conflict_with input lines (Slot certificate slot) = thrice input certificate.now (name_given lines)
+conflict_with input lines (Inferred least most deep) = option_or (out_of_order least most) (twice input (name_given lines))
+conflict_with input lines (Graph certificate) = option_or (misplaced lines) (twice input certificate.now)
+conflict_with input lines GraphAlone = misplaced lines
+conflict_with input lines Misfit = Some NotTogether
 
 abbrev pub conflict_of : Request → Option Failure
 conflict_of (Groups input order) = None
 conflict_of (Asm input output order) = None
 conflict_of (ListOf input slots bytes order) = None
-conflict_of (Run input contexts steps order) = twice input.now (name_of contexts)
+conflict_of (Run input contexts steps trace order) = twice input.now (name_of contexts)
 conflict_of (Check input certificate work order) = twice input.now certificate.now
-conflict_of (RunChecked input certificate contexts order) =
-    option_or (option_or (twice input.now certificate.now) (twice input.now (name_of contexts))) (twice certificate.now (name_of contexts))
+conflict_of (RunChecked input certificate contexts order) = thrice input.now certificate.now (name_of contexts)
 conflict_of (Infer input least most deep output order) = out_of_order least most
+conflict_of (Harden h) = written_twice h.output.now h.notes
 conflict_of (Migrate certificate output) = None
-conflict_of (Explain input subject order) = conflict_with input.now subject
+conflict_of (Explain input subject lines order) = conflict_with input.now lines subject
 
 -- ---- what is done, and why not
 
@@ -60,11 +80,12 @@ abbrev pub Does : {S : Type 0} → Opening S → Making S → S → S → Option
 Does o m old new before after (Groups input order) = Answered (ImageSays o order old input.now new GroupsSay) before after
 Does o m old new before after (Asm input output order) = Answered (AsmSays o m order old input.now output.now new) before after
 Does o m old new before after (ListOf input slots bytes order) = Answered (ImageSays o order old input.now new (ListSays (notes_of slots bytes))) before after
-Does o m old new before after (Run input contexts steps order) = λ status. RunSays o order old input.now contexts steps new before after status
+Does o m old new before after (Run input contexts steps trace order) = λ status. RunSays o order old input.now contexts steps new before after status
 Does o m old new before after (Check input certificate work order) = Answered (CheckSays o order old input.now certificate.now new work) before after
 Does o m old new before after (RunChecked input certificate contexts order) = λ status. CheckedSays o order old input.now certificate.now contexts new before after status
 Does o m old new before after (Infer input least most deep output order) = Answered (InferSays o m order old input.now least most output.now new) before after
-Does o m old new before after (Explain input subject order) = ExplainSays o order old input.now subject new
+Does o m old new before after (Explain input subject lines order) = ExplainWithSays o order old input.now subject lines new
+Does o m old new before after (Harden h) = Answered (HardenSays o m old h new) before after
 Does o m old new before after (Migrate certificate output) = Answered (MigrateSays o m old certificate.now output.now new) before after
 
 -- What failed of a request without a conflict; what was answered before stands on standard output.
@@ -72,11 +93,12 @@ abbrev pub Misses : {S : Type 0} → Opening S → Making S → S → S → Opti
 Misses o m old new before after (Groups input order) = ImageFails o old input.now new
 Misses o m old new before after (Asm input output order) = AsmFails o m order old input.now output.now new
 Misses o m old new before after (ListOf input slots bytes order) = ImageFails o old input.now new
-Misses o m old new before after (Run input contexts steps order) = RunFails o order old input.now contexts steps new before after
+Misses o m old new before after (Run input contexts steps trace order) = RunFails o order old input.now contexts steps new before after
 Misses o m old new before after (Check input certificate work order) = LoadedFails o order old input.now certificate.now new
 Misses o m old new before after (RunChecked input certificate contexts order) = CheckedFails o order old input.now certificate.now contexts new before after
 Misses o m old new before after (Infer input least most deep output order) = InferFails o m order old input.now least most output.now new
-Misses o m old new before after (Explain input subject order) = ExplainFails o order old input.now subject new
+Misses o m old new before after (Explain input subject lines order) = ExplainWithFails o order old input.now subject lines new
+Misses o m old new before after (Harden h) = HardenFails o m old h new
 Misses o m old new before after (Migrate certificate output) = MigrateFails o m old certificate.now output.now new
 
 -- A request is in conflict, before any name is opened; or something of it failed.

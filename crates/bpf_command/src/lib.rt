@@ -1,6 +1,7 @@
 //! The command `bpf` over places that are named: what each command answers, prints and writes. The program `bpf` joins it with the system.
 #![tactic(auto)]
 
+mod aside;
 mod commands;
 mod context;
 mod failure;
@@ -11,6 +12,7 @@ mod progress;
 mod reading;
 mod response;
 
+pub use aside::Aside;
 pub use context::{ContextError, context_of};
 pub use failure::{FAILED, Failure, tell};
 pub use files::FilePlaces;

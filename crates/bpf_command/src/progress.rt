@@ -2,6 +2,7 @@
 
 ghost use Rattle.std.specs.Prelude.{◌≡◌, false};
 
+use crate::aside::Aside;
 use bpf_infer::Watch;
 use std::io::{IsTerminal, Write};
 use std::rt::Clock;
@@ -71,5 +72,17 @@ impl<'a, C: Clock, E: Write + IsTerminal + Drop> Watch for Progress<'a, C, E> {
             let _ = write!(self.terminal, "\r\x1b[K");
         }
         self.is_shown = false;
+    }
+}
+
+impl<'a, C: Clock, E: Write + IsTerminal + Copy + Drop> Aside for Progress<'a, C, E> {
+    type Stream = E;
+
+    fn stream(&self) -> E {
+        self.terminal
+    }
+
+    fn is_terminal(&self) -> bool {
+        self.terminal.is_terminal()
     }
 }

@@ -4,15 +4,16 @@ ghost use Rattle.std.specs.Prelude.{◌≡◌, IfOk, IfErr, None, map};
 ghost use Rattle.std.specs.String.{string_bytes};
 ghost use Rattle.bpf_command.specs.Opened.{opening};
 ghost use Rattle.bpf_command.specs.Made.{making};
-ghost use Rattle.bpf_command.specs.Response.{Does, Fails, Misses, Responds, conflict_of, conflict_with, out_of_order, twice};
+ghost use Rattle.bpf_command.specs.Response.{Does, Fails, Misses, Responds, conflict_of, conflict_with, misplaced, name_given, out_of_order, thrice, twice, written_twice};
 ghost use Rattle.bpf_command.specs.Told.{IsTold};
 
+use crate::aside::Aside;
 use crate::commands::{
-    assembled, checked, explained, grouped, inferred, listed, migrated, ran_checked_on, ran_on,
+    Trace, assembled, checked, explained, grouped, hardened, inferred, listed, migrated,
+    ran_checked_on, ran_on,
 };
 use crate::failure::{BAD_WORDS, FAILED, Failure, tell};
 use crate::places::Places;
-use bpf_infer::Watch;
 use bpf_request::{Request, Subject, request_of};
 use clap::error::ErrorKind;
 use std::alloc::Global;
@@ -29,6 +30,32 @@ fn twice(first: &str, second: &str) -> Option<Failure<'static>>
     }
 }
 
+/// Of three names at most one is standard input.
+fn thrice(first: &str, second: &str, third: &str) -> Option<Failure<'static>>
+    ensures { result ≡ thrice first.now second.now third.now }
+{
+    twice(first, second)
+        .or(twice(first, third))
+        .or(twice(second, third))
+}
+
+/// Source lines are given where none are shown.
+fn misplaced(lines: Option<&str>) -> Option<Failure<'static>>
+    ensures { result ≡ misplaced lines.entry }
+{
+    match lines {
+        Some(_name) => Some(Failure::NotTogether),
+        None => None,
+    }
+}
+
+/// The name that is given; empty where none is.
+fn name_given<'a>(name: Option<&'a str>) -> &'a str
+    ensures { result.now ≡ name_given name.entry }
+{
+    name.unwrap_or("")
+}
+
 /// The greatest length of contexts is at least the least.
 fn out_of_order(least: u32, most: u32) -> Option<Failure<'static>>
     ensures { result ≡ out_of_order least most }
@@ -40,15 +67,29 @@ fn out_of_order(least: u32, most: u32) -> Option<Failure<'static>>
     }
 }
 
+/// The two names that are written are two.
+fn written_twice(output: &str, notes: Option<&str>) -> Option<Failure<'static>>
+    ensures { result ≡ written_twice output.now notes.entry }
+{
+    match notes {
+        Some(name) if name == output => Some(Failure::NotTogether),
+        _ => None,
+    }
+}
+
 /// What can't be explained of this input.
-fn conflict_with(input: &str, subject: Subject<'_>) -> Option<Failure<'static>>
-    ensures { result ≡ conflict_with input.now subject.entry }
+fn conflict_with(input: &str, lines: Option<&str>, subject: Subject<'_>) -> Option<Failure<'static>>
+    ensures { result ≡ conflict_with input.now lines.entry subject.entry }
 {
     match subject {
-        Subject::Image | Subject::Text | Subject::GraphAlone => None,
-        Subject::Certified(certificate) | Subject::Graph(certificate) => twice(input, certificate),
-        Subject::Slot { certificate, .. } => twice(input, certificate),
-        Subject::Inferred { least, most, .. } => out_of_order(least, most),
+        Subject::Image | Subject::Text | Subject::GraphAlone => misplaced(lines),
+        Subject::Certified(certificate) | Subject::Slot { certificate, .. } => {
+            thrice(input, certificate, name_given(lines))
+        }
+        Subject::Inferred { least, most, .. } => {
+            out_of_order(least, most).or(twice(input, name_given(lines)))
+        }
+        Subject::Graph(certificate) => misplaced(lines).or(twice(input, certificate)),
         Subject::Misfit => Some(Failure::NotTogether),
     }
 }
@@ -60,7 +101,12 @@ fn conflict_in(request: Request<'_>) -> Option<Failure<'static>>
     match request {
         Request::Groups { .. } | Request::Asm { .. } | Request::List { .. } => None,
         Request::Migrate { .. } => None,
-        Request::Explain { input, subject, .. } => conflict_with(input, subject),
+        Request::Explain {
+            input,
+            subject,
+            lines,
+            ..
+        } => conflict_with(input, lines, subject),
         Request::Run {
             input,
             contexts,
@@ -76,23 +122,19 @@ fn conflict_in(request: Request<'_>) -> Option<Failure<'static>>
             certificate,
             contexts,
             ..
-        } => {
-            let name = contexts.name();
-            twice(input, certificate)
-                .or(twice(input, name))
-                .or(twice(certificate, name))
-        }
+        } => thrice(input, certificate, contexts.name()),
         Request::Infer { least, most, .. } => out_of_order(least, most),
+        Request::Harden(asked) => written_twice(asked.output, asked.notes),
     }
 }
 
 /// Does what is asked for.
-fn carry_out<'a, P: Places, W: Write, H: Watch>(
+fn carry_out<'a, P: Places, W: Write, H: Aside>(
     alloc: Global,
     request: Request<'a>,
     places: &mut P,
     out: &mut W,
-    watch: &mut H,
+    aside: &mut H,
 ) -> Result<u8, Failure<'a>>
     ensures ok { IfOk result (Does (opening P.opens P.Reader.remaining) (making P.creates P.ends P.Writer.contents) places.old places.new (W.contents out.old) (W.contents out.new) request.entry) }
     ensures err { IfErr result (Misses (opening P.opens P.Reader.remaining) (making P.creates P.ends P.Writer.contents) places.old places.new (W.contents out.old) (W.contents out.new) request.entry) }
@@ -114,8 +156,15 @@ fn carry_out<'a, P: Places, W: Write, H: Watch>(
             input,
             contexts,
             steps,
+            trace,
             order,
-        } => ran_on(alloc, places, out, input, contexts, steps, order),
+        } => {
+            let trace = Trace {
+                aside: &*aside,
+                lines: trace,
+            };
+            ran_on(alloc, places, out, &trace, input, contexts, steps, order)
+        }
         Request::Check {
             input,
             certificate,
@@ -136,13 +185,15 @@ fn carry_out<'a, P: Places, W: Write, H: Watch>(
             output,
             order,
         } => inferred(
-            alloc, places, out, watch, input, least, most, deep, output, order,
+            alloc, places, out, aside, input, least, most, deep, output, order,
         ),
+        Request::Harden(asked) => hardened(alloc, places, out, asked),
         Request::Explain {
             input,
             subject,
+            lines,
             order,
-        } => explained(alloc, places, out, watch, input, subject, order),
+        } => explained(alloc, places, out, aside, input, subject, lines, order),
         Request::Migrate {
             certificate,
             output,
@@ -151,19 +202,19 @@ fn carry_out<'a, P: Places, W: Write, H: Watch>(
 }
 
 /// Does what is asked for, unless two words can't stand together.
-fn perform<'a, P: Places, W: Write, H: Watch>(
+fn perform<'a, P: Places, W: Write, H: Aside>(
     alloc: Global,
     request: Request<'a>,
     places: &mut P,
     out: &mut W,
-    watch: &mut H,
+    aside: &mut H,
 ) -> Result<u8, Failure<'a>>
     ensures ok { IfOk result (λ status. (conflict_of request.entry ≡ None) × Does (opening P.opens P.Reader.remaining) (making P.creates P.ends P.Writer.contents) places.old places.new (W.contents out.old) (W.contents out.new) request.entry status) }
     ensures err { IfErr result (Fails (opening P.opens P.Reader.remaining) (making P.creates P.ends P.Writer.contents) places.old places.new (W.contents out.old) (W.contents out.new) request.entry) }
 {
     match conflict_in(request) {
         Some(conflict) => Err(conflict),
-        None => carry_out(alloc, request, places, out, watch),
+        None => carry_out(alloc, request, places, out, aside),
     }
 }
 
@@ -178,14 +229,15 @@ fn fail<E: Write>(failure: Failure<'_>, err: &mut E) -> u8
 }
 
 /// Does what the words ask for, the command's own name first, and answers the status: 0 done, 1 refused, 2 words that are
-/// not understood, 3 where a file, the output or memory failed. Who watches is told how far a search is.
-pub fn respond<P: Places, W: Write, E: Write, H: Watch>(
+/// not understood, 3 where a file, the output or memory failed. On the side people are told how far a search is, and the steps
+/// of a run.
+pub fn respond<P: Places, W: Write, E: Write, H: Aside>(
     alloc: Global,
     words: &[String],
     places: &mut P,
     out: &mut W,
     err: &mut E,
-    watch: &mut H,
+    aside: &mut H,
 ) -> u8
     ensures { Responds (Does (opening P.opens P.Reader.remaining) (making P.creates P.ends P.Writer.contents) places.old places.new (W.contents out.old) (W.contents out.new)) (Fails (opening P.opens P.Reader.remaining) (making P.creates P.ends P.Writer.contents) places.old places.new (W.contents out.old) (W.contents out.new)) (map (λ s. string_bytes s) words.now) result (E.contents err.old) (E.contents err.new) }
 {
@@ -199,7 +251,7 @@ pub fn respond<P: Places, W: Write, E: Write, H: Watch>(
             return BAD_WORDS;
         }
     };
-    match perform(alloc, request, places, out, watch) {
+    match perform(alloc, request, places, out, aside) {
         Ok(status) => status,
         Err(failure) => fail(failure, err),
     }

@@ -6,7 +6,7 @@ mod inputs;
 mod program;
 
 pub use bpf_explain_inputs::explain_text;
-pub use bpf_explain_program::dot_plain;
+pub use bpf_explain_program::{Shown, dot_plain, is_table};
 pub use bpf_explain_search::{explain_inferred, explain_searched};
 pub use inputs::{explain_certificate, explain_image};
-pub use program::{Shown, explain};
+pub use program::explain;

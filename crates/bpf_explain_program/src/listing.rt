@@ -117,7 +117,7 @@ pub fn write_label<W: Tell>(out: &mut W, label: &Label, has_budgets: bool, room:
 // ---- instructions
 
 /// The slot and the instruction, padded.
-fn write_padded<W: Tell>(out: &mut W, slot: u32, insn: &Insn) {
+pub fn write_padded<W: Tell>(out: &mut W, slot: u32, insn: &Insn) {
     let spelled = spelling_of(insn);
     let text = from_utf8(spelled.as_slice()).unwrap_or("");
     write!(out, "{slot:>5}  {text:<36}");

@@ -19,6 +19,22 @@ fn entry_of(line: &[u8]) -> Option<(u32, &str)> {
     Some((slot, from_utf8(text).ok()?))
 }
 
+/// Whether a text is such a table: each line of that form, and none of a lower slot than the one before.
+pub fn is_table(table: &[u8]) -> bool {
+    let mut lines = SourceLines::of(table);
+    let mut least = 0;
+    for _ in 0..u64::MAX {
+        let Some(line) = lines.take_line() else {
+            return true;
+        };
+        match entry_of(line) {
+            Some((slot, _)) if slot >= least => least = slot,
+            _ => return false,
+        }
+    }
+    false
+}
+
 impl<'a> SourceLines<'a> {
     /// A table that is read from its beginning. Nothing came from anywhere in front of its first line.
     pub fn of(table: &'a [u8]) -> Self {
@@ -28,14 +44,28 @@ impl<'a> SourceLines<'a> {
         }
     }
 
+    /// The next line and what is behind it; None at the end.
+    fn next_line(&self) -> Option<(&'a [u8], &'a [u8])> {
+        if self.rest.is_empty() {
+            return None;
+        }
+        match cut(self.rest, b'\n') {
+            Some(parts) => Some(parts),
+            None => Some((self.rest, self.rest.get(..0).unwrap_or(&[]))),
+        }
+    }
+
+    /// Takes the next line.
+    fn take_line(&mut self) -> Option<&'a [u8]> {
+        let (line, rest) = self.next_line()?;
+        self.rest = rest;
+        Some(line)
+    }
+
     /// Reads one line, unless it is of a later slot. Whether one was read.
     fn read_line(&mut self, slot: u32) -> bool {
-        if self.rest.is_empty() {
+        let Some((line, rest)) = self.next_line() else {
             return false;
-        }
-        let (line, rest) = match cut(self.rest, b'\n') {
-            Some(parts) => parts,
-            None => (self.rest, self.rest.get(..0).unwrap_or(&[])),
         };
         match entry_of(line) {
             Some((at, _)) if at > slot => return false,

@@ -291,12 +291,14 @@ fn with_walk(alloc: Global, quest: Quest<'_>, stop: Stop) -> Stop
 
 /// Explains the certificate that the inferrer proposes for a program on contexts of `least` to `most` bytes, at most 4,096, with
 /// the checker's answer; where it proposes none, writes the states at its labels as far as it came, and in words why (I1 to I5).
-/// The certificate or the refusal is given back. A fault of the writer, or a write of no bytes, ends it.
+/// A table of the lines of the source may be empty. The certificate or the refusal is given back. A fault of the writer, or a write
+/// of no bytes, ends it.
 pub fn explain_inferred<W: Write>(
     alloc: Global,
     program: &Program,
     least: u32,
     most: u32,
+    lines: &[u8],
     out: &mut W,
 ) -> io::Result<Result<Certificate, InferError>>
     requires order { least ≤ most }
@@ -316,7 +318,7 @@ pub fn explain_inferred<W: Write>(
         Ok(certificate) => Ok(certificate),
         Err(error) => Err(stop_of(alloc, quest, error)),
     };
-    explain(out, program, found, &[], Effort::Plain)
+    explain(out, program, found, lines, Effort::Plain)
 }
 
 /// Explains the same of the deep search, with its own states where it proposes none. Who watches is told how far it is.
@@ -326,6 +328,7 @@ pub fn explain_searched<W: Write, H: Watch>(
     least: u32,
     most: u32,
     watch: &mut H,
+    lines: &[u8],
     out: &mut W,
 ) -> io::Result<Result<Certificate, InferError>>
     requires order { least ≤ most }
@@ -345,5 +348,5 @@ pub fn explain_searched<W: Write, H: Watch>(
         Ok(certificate) => Ok(certificate),
         Err(stop) => Err(with_walk(alloc, quest, stop)),
     };
-    explain(out, program, found, &[], Effort::Deep)
+    explain(out, program, found, lines, Effort::Deep)
 }

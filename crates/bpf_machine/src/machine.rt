@@ -128,7 +128,7 @@ impl<'a, C: Code> Machine<'a, C> {
 
     /// The slot of the next instruction.
     #[inline(always)]
-    pub(crate) fn slot(&self) -> u32
+    pub fn slot(&self) -> u32
         ensures { result ≡ self.now.state.top.slot }
     {
         self.slot
@@ -136,7 +136,7 @@ impl<'a, C: Code> Machine<'a, C> {
 
     /// The value of a register; None where it holds nothing.
     #[inline(always)]
-    pub(crate) fn register(&self, r: Reg) -> Option<Value>
+    pub fn register(&self, r: Reg) -> Option<Value>
         ensures { result ≡ register self.now.state r }
     {
         self.registers.value(r)

@@ -73,21 +73,21 @@ no_sub (Some b) name e f = cc
 -- ---- numbers
 
 -- what `parse` says of a text
-abbrev pub Parses : Text → Result ℕ ParseIntError → Type 0
-Parses t r = ParsesUnsigned 32 10 t r × ExplainsUnsignedError 10 t r × HasUnsignedDigitsIfOk t r
+abbrev pub Parses : ℕ → Text → Result ℕ ParseIntError → Type 0
+Parses bits t r = ParsesUnsigned bits 10 t r × ExplainsUnsignedError 10 t r × HasUnsignedDigitsIfOk t r
 
-plainly : (t : Text) (parsed : Option ℕ) → ReadsOne {E = ParseIntError} Parses t parsed → ReadsOne {E = ParseIntError} (λ t r. ParsesUnsigned 32 10 t r) t parsed
-plainly t (Some n) h = h.0
-plainly t None h = (h.0, h.1.0)
+plainly : (bits : ℕ) (t : Text) (parsed : Option ℕ) → ReadsOne {E = ParseIntError} (Parses bits) t parsed → ReadsOne {E = ParseIntError} (λ t r. ParsesUnsigned bits 10 t r) t parsed
+plainly bits t (Some n) h = h.0
+plainly bits t None h = (h.0, h.1.0)
 
-pub count_is : (default : ℕ) (o : Option Text) (parsed : Option ℕ) (n : ℕ) → (o ≡ None → parsed ≡ None) → ((t : Text) → o ≡ Some t → ReadsOne {E = ParseIntError} Parses t parsed) → n ≡ unwrap_or parsed default
-    → IsCount default o n
-count_is default None parsed n none value is = is ∙ ap (λ p. unwrap_or p default) (none refl)
-count_is default (Some t) parsed n none value is = (parsed, plainly t parsed (value t refl), is)
+pub count_is : (bits default : ℕ) (o : Option Text) (parsed : Option ℕ) (n : ℕ) → (o ≡ None → parsed ≡ None) → ((t : Text) → o ≡ Some t → ReadsOne {E = ParseIntError} (Parses bits) t parsed) → n ≡ unwrap_or parsed default
+    → IsCount bits default o n
+count_is bits default None parsed n none value is = is ∙ ap (λ p. unwrap_or p default) (none refl)
+count_is bits default (Some t) parsed n none value is = (parsed, plainly bits t parsed (value t refl), is)
 
-pub number_is : (o : Option Text) (parsed : Option ℕ) → (o ≡ None → parsed ≡ None) → ((t : Text) → o ≡ Some t → ReadsOne {E = ParseIntError} Parses t parsed) → IsNumber o parsed
+pub number_is : (o : Option Text) (parsed : Option ℕ) → (o ≡ None → parsed ≡ None) → ((t : Text) → o ≡ Some t → ReadsOne {E = ParseIntError} (Parses 32) t parsed) → IsNumber o parsed
 number_is None parsed none value = none refl
-number_is (Some t) parsed none value = plainly t parsed (value t refl)
+number_is (Some t) parsed none value = plainly 32 t parsed (value t refl)
 
 -- ---- flags
 

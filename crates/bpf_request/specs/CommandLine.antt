@@ -1,5 +1,5 @@
 -- The command line, as its parser sees it.
-use Rattle.std.specs.Prelude.{◌≡◌, ◌≢◌, ℕ, Bool, List, [], Option, Some, None, is_some, is_none, not, ◌&&◌, ◌||◌, unwrap_or, pos, codes, Result, IfOk, true, false}
+use Rattle.std.specs.Prelude.{◌≡◌, ◌≢◌, ℕ, Bool, List, [], ◌∷◌, Option, Some, None, is_some, is_none, not, ◌&&◌, ◌||◌, option_map, unwrap_or, pos, codes, Result, IfOk, true, false}
 use Rattle.std.specs.Str.Parse.{ParsesUnsigned}
 use Rattle.std.specs.declared.num.ParseIntError.{ParseIntError}
 use Rattle.clap.specs.Words.{App, Kinds, ReadsOne, Row, Rule, Text, app_of, fault_of, first_of, one_of, new_app, new_rule, with_rule, with_subcommand}
@@ -12,8 +12,9 @@ use Rattle.bpf_insn.specs.declared.order.Order.{Order}
 use Rattle.bpf_insn.specs.declared.order.Order.TheVariants.{Little, Big}
 use Rattle.bpf_request.specs.declared.contexts.Contexts.{Contexts}
 use Rattle.bpf_request.specs.declared.contexts.Contexts.TheVariants.{Word, Bytes, Lines, Nothing, Several}
+use Rattle.bpf_request.specs.declared.hardening.Hardening.{Hardening}
 use Rattle.bpf_request.specs.declared.words.Request.{Request}
-use Rattle.bpf_request.specs.declared.words.Request.TheVariants.{Groups, Asm, List as ListOf, Run, Check, RunChecked, Infer, Migrate, Explain}
+use Rattle.bpf_request.specs.declared.words.Request.TheVariants.{Groups, Asm, List as ListOf, Run, Check, RunChecked, Infer, Harden, Migrate, Explain}
 use Rattle.bpf_request.specs.declared.subject.Subject.{Subject}
 use Rattle.bpf_request.specs.declared.subject.Subject.TheVariants.{Image, Text as TextAlone, Certified, Slot, Inferred, Graph, GraphAlone, Misfit}
 
@@ -28,6 +29,17 @@ place id = record (new_rule id) { required = true }
 -- the required option `--steps`, with a number below 2 ^ 32
 abbrev pub steps : Rule
 steps = record (new_rule (codes "steps")) { long = Some (codes "steps"); value_names = 1; parser = Some (parser.Signed (pos 0) (pos 4294967295)); required = true }
+
+-- the option `--trace`, with a number from 1, below 2 ^ 32, or 1000 where it is given without one
+abbrev pub trace : Rule
+trace =
+    record (new_rule (codes "trace")) {
+      long = Some (codes "trace");
+      value_names = 1;
+      range = Some (record { start_inclusive = 0; end_inclusive = 1 });
+      missing = codes "1000" ∷ [];
+      parser = Some (parser.Signed (pos 1) (pos 4294967295));
+    }
 
 -- an option with a name to read
 abbrev pub file : Text → Rule
@@ -58,7 +70,7 @@ abbrev pub run_places : App
 run_places = with_rule (new_app (codes "run")) (place (codes "IN"))
 
 abbrev pub run : App
-run = with_rule (with_rule (with_contexts run_places) steps) big
+run = with_rule (with_rule (with_rule (with_contexts run_places) steps) trace) big
 
 abbrev pub top : App
 top = let named = new_app (codes "bpf") in record named { top = record named.top { has_version = true; subcommand_required = true } }
@@ -90,6 +102,20 @@ infer_places = with_rule (with_rule (with_rule (new_app (codes "infer")) (place 
 abbrev pub infer : App
 infer = with_rule (with_rule (with_rule infer_places most) (flag (codes "deep"))) big
 
+-- the option `--turns`, with a number from 1, below 2 ^ 32
+abbrev pub turns : Rule
+turns = record (new_rule (codes "turns")) { long = Some (codes "turns"); value_names = 1; parser = Some (parser.Signed (pos 1) (pos 4294967295)) }
+
+-- the option `--otherwise`, with a number below 2 ^ 64
+abbrev pub otherwise : Rule
+otherwise = record (new_rule (codes "otherwise")) { long = Some (codes "otherwise"); value_names = 1; parser = Some (parser.Unsigned 0 18446744073709551615) }
+
+abbrev pub harden_places : App
+harden_places = with_rule (with_rule (with_rule (new_app (codes "harden")) (place (codes "IN"))) context_length) (place (codes "OUT"))
+
+abbrev pub harden : App
+harden = with_rule (with_rule (with_rule (with_rule (with_rule harden_places turns) otherwise) (flag (codes "padded"))) (file (codes "notes"))) big
+
 abbrev pub migrate : App
 migrate = with_rule (with_rule (new_app (codes "migrate")) (place (codes "CERT"))) (place (codes "OUT"))
 
@@ -105,11 +131,15 @@ abbrev pub explain_places : App
 explain_places = with_rule (with_rule (new_app (codes "explain")) (place (codes "IN"))) (new_rule (codes "CERT"))
 
 abbrev pub explain : App
-explain = with_rule (with_rule (with_rule (with_rule (with_rule (with_rule (with_rule explain_places one_slot) inferred) most) (flag (codes "deep"))) (flag (codes "text"))) (flag (codes "dot"))) big
+explain = with_rule (with_rule (with_rule (with_rule (with_rule (with_rule (with_rule (with_rule explain_places one_slot) inferred) most) (flag (codes "deep"))) (flag (codes "text"))) (flag (codes "dot"))) (file (codes "lines"))) big
 
--- `bpf` with all nine
+-- `bpf` with the commands that judge, run and propose
+abbrev pub with_proposals : App
+with_proposals = with_subcommand (with_subcommand (with_subcommand (with_subcommand without_certificates check.top) run_checked.top) infer.top) harden.top
+
+-- `bpf` with all ten
 abbrev pub bpf : App
-bpf = with_subcommand (with_subcommand (with_subcommand (with_subcommand (with_subcommand without_certificates check.top) run_checked.top) infer.top) migrate.top) explain.top
+bpf = with_subcommand (with_subcommand with_proposals migrate.top) explain.top
 
 -- the kinds of what is wrong with the words, by the first step of the parse that fails; none of words that are taken
 abbrev pub faults_in : List Text → Kinds
@@ -121,10 +151,10 @@ faults_in words = fault_of bpf words
 abbrev pub word_of : Text → List Row → Text
 word_of id rows = unwrap_or (first_of id rows) []
 
--- a number below 2 ^ 32 as it is parsed, this one where there is none
-abbrev pub IsCount : ℕ → Option Text → ℕ → Type 0
-IsCount default None n = n ≡ default
-IsCount default (Some text) n = (parsed : Option ℕ) × ReadsOne {E = ParseIntError} (λ t r. ParsesUnsigned 32 10 t r) text parsed × (n ≡ unwrap_or parsed default)
+-- a number of so many bits as it is parsed, this one where there is none
+abbrev pub IsCount : (bits default : ℕ) → Option Text → ℕ → Type 0
+IsCount bits default None n = n ≡ default
+IsCount bits default (Some text) n = (parsed : Option ℕ) × ReadsOne {E = ParseIntError} (λ t r. ParsesUnsigned bits 10 t r) text parsed × (n ≡ unwrap_or parsed default)
 
 -- a number below 2 ^ 32 as it is parsed, None where there is none
 abbrev pub IsNumber : Option Text → Option ℕ → Type 0
@@ -205,23 +235,34 @@ IsSubject rows subject =
     × IsNumber (one_of (codes "slot") rows) slot × IsFlag (one_of (codes "text") rows) text × IsFlag (one_of (codes "dot") rows) dot × IsFlag (one_of (codes "deep") rows) deep
     × GivesSubject (first_of (codes "CERT") rows) least most slot text dot deep subject
 
+-- what is to be hardened, how, and where the answer goes
+abbrev pub IsHardening : List Row → Hardening → Type 0
+IsHardening rows h =
+    IsInput rows h.input.now h.order × IsCount 32 0 (one_of (codes "LEN") rows) h.length × (h.output.now ≡ word_of (codes "OUT") rows)
+    × IsCount 32 65536 (one_of (codes "turns") rows) h.turns × IsCount 64 0 (one_of (codes "otherwise") rows) h.otherwise
+    × IsFlag (one_of (codes "padded") rows) h.padded × (option_map (λ s. s.now) h.notes ≡ first_of (codes "notes") rows)
+
 -- the request of a subcommand with these matches
 abbrev pub Asks : Text → List Row → Request → Type 0
 Asks name rows (Groups input order) =
     (name ≢ codes "asm") × (name ≢ codes "list") × (name ≢ codes "run") × (name ≢ codes "check") × (name ≢ codes "run-checked") × (name ≢ codes "infer")
-    × (name ≢ codes "migrate") × (name ≢ codes "explain") × IsInput rows input.now order
+    × (name ≢ codes "harden") × (name ≢ codes "migrate") × (name ≢ codes "explain") × IsInput rows input.now order
 Asks name rows (Asm input output order) = (name ≡ codes "asm") × IsInput rows input.now order × (output.now ≡ word_of (codes "OUT") rows)
 Asks name rows (ListOf input slots bytes order) =
     (name ≡ codes "list") × IsInput rows input.now order × IsFlag (one_of (codes "slots") rows) slots × IsFlag (one_of (codes "bytes") rows) bytes
-Asks name rows (Run input contexts count order) = (name ≡ codes "run") × IsInput rows input.now order × AreContexts rows contexts × IsCount 0 (one_of (codes "steps") rows) count
+Asks name rows (Run input contexts count trace order) =
+    (name ≡ codes "run") × IsInput rows input.now order × AreContexts rows contexts
+    × IsCount 32 0 (one_of (codes "steps") rows) count × IsNumber (one_of (codes "trace") rows) trace
 Asks name rows (Check input certificate work order) =
     (name ≡ codes "check") × IsInput rows input.now order × (certificate.now ≡ word_of (codes "CERT") rows) × IsFlag (one_of (codes "work") rows) work
 Asks name rows (RunChecked input certificate contexts order) =
     (name ≡ codes "run-checked") × IsInput rows input.now order × (certificate.now ≡ word_of (codes "CERT") rows) × AreContexts rows contexts
 Asks name rows (Infer input least most deep output order) =
-    (name ≡ codes "infer") × IsInput rows input.now order × IsCount 0 (one_of (codes "LEN") rows) least
-    × IsCount least (one_of (codes "most") rows) most × IsFlag (one_of (codes "deep") rows) deep × (output.now ≡ word_of (codes "OUT") rows)
-Asks name rows (Explain input subject order) = (name ≡ codes "explain") × IsInput rows input.now order × IsSubject rows subject
+    (name ≡ codes "infer") × IsInput rows input.now order × IsCount 32 0 (one_of (codes "LEN") rows) least
+    × IsCount 32 least (one_of (codes "most") rows) most × IsFlag (one_of (codes "deep") rows) deep × (output.now ≡ word_of (codes "OUT") rows)
+Asks name rows (Harden hardening) = (name ≡ codes "harden") × IsHardening rows hardening
+Asks name rows (Explain input subject lines order) =
+    (name ≡ codes "explain") × IsInput rows input.now order × IsSubject rows subject × (option_map (λ s. s.now) lines ≡ first_of (codes "lines") rows)
 Asks name rows (Migrate certificate output) = (name ≡ codes "migrate") × (certificate.now ≡ word_of (codes "CERT") rows) × (output.now ≡ word_of (codes "OUT") rows)
 
 -- the request of a command line on which the parser found this subcommand

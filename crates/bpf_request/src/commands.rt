@@ -2,7 +2,7 @@
 
 ghost use Rattle.std.specs.Prelude.{◌≡◌, false};
 ghost use Rattle.clap.specs.Words.{App, Rule, new_app, new_rule, rule_of, with_rule, with_subcommand};
-ghost use Rattle.bpf_request.specs.CommandLine.{Grows, asm, big, bpf, check, context_length, explain, explain_places, file, flag, groups, infer, inferred, list, migrate, most, one_slot, place, run, run_checked, steps, top, with_contexts, without_certificates};
+ghost use Rattle.bpf_request.specs.CommandLine.{Grows, asm, big, bpf, check, context_length, explain, explain_places, file, flag, groups, harden, harden_places, infer, inferred, list, migrate, most, one_slot, otherwise, place, run, run_checked, steps, top, trace, turns, with_contexts, with_proposals, without_certificates};
 
 use bpf_insn::{MAX_CONTEXT, MAX_SLOTS};
 use clap::{Arg, ArgAction, Command, value_parser};
@@ -85,15 +85,29 @@ fn steps<'a>(alloc: Global) -> Arg<'a>
         .help("the most instructions that are done")
 }
 
-/// The word for the least length of the contexts.
-fn context_length<'a>(alloc: Global) -> Arg<'a>
+/// The option for the last steps of a run.
+fn trace<'a>(alloc: Global) -> Arg<'a>
+    ensures rule { rule_of result ≡ trace }
+    ensures local { result.global ≡ false }
+{
+    Arg::new(alloc, "trace")
+        .long("trace")
+        .value_name("N")
+        .num_args(0..=1)
+        .default_missing_value("1000")
+        .value_parser(value_parser!(u32).range(1..=u32::MAX as i64))
+        .help("the last steps of each run on standard error, at most N lines, else 1000")
+}
+
+/// The word for the length of the contexts.
+fn context_length<'a>(alloc: Global, help: &'a str) -> Arg<'a>
     ensures rule { rule_of result ≡ context_length }
     ensures local { result.global ≡ false }
 {
     Arg::new(alloc, "LEN")
         .required(true)
         .value_parser(value_parser!(u32).range(0..=MAX_CONTEXT as i64))
-        .help("the least length of the contexts in bytes, at most 4096")
+        .help(help)
 }
 
 /// The option for the least length of the contexts of an inferred certificate.
@@ -130,6 +144,30 @@ fn one_slot<'a>(alloc: Global) -> Arg<'a>
         .value_name("S")
         .value_parser(value_parser!(u32).range(0..=MAX_SLOTS as i64 - 1))
         .help("one instruction alone, with the whole state before and behind it")
+}
+
+/// The option for the turns of a loop.
+fn turns<'a>(alloc: Global) -> Arg<'a>
+    ensures rule { rule_of result ≡ turns }
+    ensures local { result.global ≡ false }
+{
+    Arg::new(alloc, "turns")
+        .long("turns")
+        .value_name("N")
+        .value_parser(value_parser!(u32).range(1..=u32::MAX as i64))
+        .help("how often a loop that gets a counter may turn, else 65536")
+}
+
+/// The option for the number with which a trap ends the program.
+fn otherwise<'a>(alloc: Global) -> Arg<'a>
+    ensures rule { rule_of result ≡ otherwise }
+    ensures local { result.global ≡ false }
+{
+    Arg::new(alloc, "otherwise")
+        .long("otherwise")
+        .value_name("V")
+        .value_parser(value_parser!(u64))
+        .help("the number with which a trap ends the program, else 0")
 }
 
 /// The command with the three ways to give contexts.
@@ -208,6 +246,7 @@ fn run_command<'a>(alloc: Global) -> Grown<'a>
     let command = taking(command, place(alloc, "IN", "an image"));
     let command = with_contexts(alloc, command);
     let command = taking(command, steps(alloc));
+    let command = taking(command, trace(alloc));
     taking(command, big(alloc))
 }
 
@@ -242,7 +281,13 @@ fn infer_command<'a>(alloc: Global) -> Grown<'a>
     let about = "Proposes a certificate for an image";
     let command = named(alloc, "infer", about);
     let command = taking(command, place(alloc, "IN", "an image"));
-    let command = taking(command, context_length(alloc));
+    let command = taking(
+        command,
+        context_length(
+            alloc,
+            "the least length of the contexts in bytes, at most 4096",
+        ),
+    );
     let command = taking(command, place(alloc, "OUT", "where the certificate goes"));
     let command = taking(command, most(alloc));
     let command = taking(
@@ -251,6 +296,47 @@ fn infer_command<'a>(alloc: Global) -> Grown<'a>
             alloc,
             "deep",
             "searches longer, and finds more certificates",
+        ),
+    );
+    taking(command, big(alloc))
+}
+
+/// `harden` with its words for names and the length.
+fn harden_places<'a>(alloc: Global) -> Grown<'a>
+    ensures { Grows result harden_places }
+{
+    let about = "Rewrites an image so that a certificate is found for it";
+    let command = named(alloc, "harden", about);
+    let command = taking(command, place(alloc, "IN", "an image"));
+    let command = taking(
+        command,
+        context_length(alloc, "the length of the contexts in bytes, at most 4096"),
+    );
+    taking(
+        command,
+        place(alloc, "OUT", "where the hardened image goes"),
+    )
+}
+
+fn harden_command<'a>(alloc: Global) -> Grown<'a>
+    ensures { Grows result harden }
+{
+    let command = taking(harden_places(alloc), turns(alloc));
+    let command = taking(command, otherwise(alloc));
+    let command = taking(
+        command,
+        flag(
+            alloc,
+            "padded",
+            "contexts are blocks: a packet's length in 8 bytes, the packet, padding up to LEN",
+        ),
+    );
+    let command = taking(
+        command,
+        file(
+            alloc,
+            "notes",
+            "what was done goes to FILE, a line for each change",
         ),
     );
     taking(command, big(alloc))
@@ -297,6 +383,14 @@ fn explain_command<'a>(alloc: Global) -> Grown<'a>
         command,
         flag(alloc, "dot", "the control-flow graph as DOT text"),
     );
+    let command = taking(
+        command,
+        file(
+            alloc,
+            "lines",
+            "the lines of the source by slots, as bpf-cc writes them",
+        ),
+    );
     taking(command, big(alloc))
 }
 
@@ -322,13 +416,20 @@ fn first_commands<'a>(alloc: Global) -> Grown<'a>
     over(command, run_command(alloc))
 }
 
-/// `bpf` with all its commands.
-pub fn command<'a>(alloc: Global) -> Result<Command<'a>, AllocError>
-    ensures { Grows result bpf }
+/// `bpf` with the commands that judge, run and propose.
+fn with_proposals<'a>(alloc: Global) -> Grown<'a>
+    ensures { Grows result with_proposals }
 {
     let command = over(first_commands(alloc), check_command(alloc));
     let command = over(command, run_checked_command(alloc));
     let command = over(command, infer_command(alloc));
-    let command = over(command, migrate_command(alloc));
+    over(command, harden_command(alloc))
+}
+
+/// `bpf` with all its commands.
+pub fn command<'a>(alloc: Global) -> Result<Command<'a>, AllocError>
+    ensures { Grows result bpf }
+{
+    let command = over(with_proposals(alloc), migrate_command(alloc));
     over(command, explain_command(alloc))
 }

@@ -3,9 +3,11 @@
 
 mod commands;
 mod contexts;
+mod hardening;
 mod subject;
 mod words;
 
 pub use contexts::Contexts;
+pub use hardening::Hardening;
 pub use subject::Subject;
 pub use words::{Request, request_of};

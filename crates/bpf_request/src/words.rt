@@ -2,12 +2,13 @@
 
 ghost use Rattle.std.specs.Prelude.{◌≡◌, IfOk, IfErr, map, option_map, true};
 ghost use Rattle.std.specs.String.{string_bytes};
-ghost use Rattle.clap.specs.Words.{FailsBy, found_of, kind_of, one_of, rows_of, subcommand_of, takes};
-ghost use Rattle.bpf_request.specs.CommandLine.{AreContexts, Asks, GivenBy, IsAsked, IsCount, IsFlag, IsNumber, IsOrder, IsSubject, bpf, faults_in, word_of};
+ghost use Rattle.clap.specs.Words.{FailsBy, first_of, found_of, kind_of, one_of, rows_of, subcommand_of, takes};
+ghost use Rattle.bpf_request.specs.CommandLine.{AreContexts, Asks, GivenBy, IsAsked, IsCount, IsFlag, IsHardening, IsNumber, IsOrder, IsSubject, bpf, faults_in, word_of};
 ghost use Rattle.clap.specs.declared.error.ErrorKind.TheVariants.{OutOfMemory};
 
 use crate::commands::command;
 use crate::contexts::Contexts;
+use crate::hardening::Hardening;
 use crate::subject::{Subject, subject_of};
 use bpf_insn::Order;
 use clap::{ArgMatches, Error};
@@ -34,11 +35,12 @@ pub enum Request<'a> {
         bytes: bool,
         order: Order,
     },
-    /// Runs of an image on contexts, each for at most so many instructions.
+    /// Runs of an image on contexts, each for at most so many instructions, and how many lines are told of each run's last steps.
     Run {
         input: &'a str,
         contexts: Contexts<'a>,
         steps: u32,
+        trace: Option<u32>,
         order: Order,
     },
     /// A certificate's verdict on an image, and the work of judging where it is asked for.
@@ -65,10 +67,14 @@ pub enum Request<'a> {
         output: &'a str,
         order: Order,
     },
-    /// What the checker or the inferrer sees of a program, or why an input is refused, in words.
+    /// A hardened image.
+    Harden(Hardening<'a>),
+    /// What the checker or the inferrer sees of a program, or why an input is refused, in words, with the lines of its source at a
+    /// name.
     Explain {
         input: &'a str,
         subject: Subject<'a>,
+        lines: Option<&'a str>,
         order: Order,
     },
     /// A certificate of the newest version with the same content.
@@ -85,11 +91,25 @@ fn word<'a>(matches: &ArgMatches<'a>, id: &str) -> &'a str
     matches.get_str(id).unwrap_or("")
 }
 
+/// The word of an argument, None where there is none.
+fn word_if<'a>(matches: &ArgMatches<'a>, id: &str) -> Option<&'a str>
+    ensures { option_map (λ s. s.now) result ≡ first_of id.now (rows_of (found_of matches.now)) }
+{
+    matches.get_str(id)
+}
+
 /// The number of an argument, this one where there is none.
 fn number(matches: &ArgMatches<'_>, id: &str, default: u32) -> u32
-    ensures { IsCount default (one_of id.now (rows_of (found_of matches.now))) result }
+    ensures { IsCount 32 default (one_of id.now (rows_of (found_of matches.now))) result }
 {
     matches.get_one::<u32>(id).unwrap_or(default)
+}
+
+/// The 64-bit number of an argument, this one where there is none.
+fn wide_number(matches: &ArgMatches<'_>, id: &str, default: u64) -> u64
+    ensures { IsCount 64 default (one_of id.now (rows_of (found_of matches.now))) result }
+{
+    matches.get_one::<u64>(id).unwrap_or(default)
 }
 
 /// The number of an argument, None where there is none.
@@ -155,6 +175,22 @@ fn subject_in<'a>(matches: &ArgMatches<'a>) -> Subject<'a>
     subject_of(certificate, least, most, slot, text, dot, deep)
 }
 
+/// What is to be hardened.
+fn hardening_in<'a>(matches: &ArgMatches<'a>) -> Hardening<'a>
+    ensures { IsHardening (rows_of (found_of matches.now)) result }
+{
+    Hardening {
+        input: word(matches, "IN"),
+        length: number(matches, "LEN", 0),
+        output: word(matches, "OUT"),
+        turns: number(matches, "turns", 65536),
+        otherwise: wide_number(matches, "otherwise", 0),
+        padded: has_flag(matches, "padded"),
+        notes: word_if(matches, "notes"),
+        order: order_of(matches),
+    }
+}
+
 /// What the words of the command with this name ask for.
 fn request_in<'a>(name: &str, matches: &ArgMatches<'a>) -> Request<'a>
     ensures { Asks name.now (rows_of (found_of matches.now)) result }
@@ -177,6 +213,7 @@ fn request_in<'a>(name: &str, matches: &ArgMatches<'a>) -> Request<'a>
             input,
             contexts: contexts_of(matches),
             steps: number(matches, "steps", 0),
+            trace: number_if(matches, "trace"),
             order,
         },
         "check" => Request::Check {
@@ -202,9 +239,11 @@ fn request_in<'a>(name: &str, matches: &ArgMatches<'a>) -> Request<'a>
                 order,
             }
         }
+        "harden" => Request::Harden(hardening_in(matches)),
         "explain" => Request::Explain {
             input,
             subject: subject_in(matches),
+            lines: word_if(matches, "lines"),
             order,
         },
         "migrate" => Request::Migrate {

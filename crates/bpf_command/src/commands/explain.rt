@@ -3,7 +3,7 @@
 ghost use Rattle.std.specs.Prelude.{◌≡◌, ◌⊎◌, IfOk, IfErr, None, MatchResult, false};
 ghost use Rattle.bpf_command.specs.Opened.{opening};
 ghost use Rattle.bpf_command.specs.Loaded.{CertificateAt, CertificateFails, CertificateRefused, ImageFails, TextFails};
-ghost use Rattle.bpf_command.specs.Explained.{Answers, ExplainFails, ExplainSays, JudgesOf, SoughtSays, TextSays};
+ghost use Rattle.bpf_command.specs.Explained.{Answers, ExplainFails, ExplainSays, ExplainWithFails, ExplainWithSays, JudgesOf, LinesAt, LinesFail, SoughtSays, TextSays};
 ghost use Rattle.bpf_command.specs.Printed.{ImageSays, JudgedSays, ListSays, LoadedFails, LoadedSays, YesSays};
 ghost use Rattle.bpf_command.specs.Told.{OutputFails};
 
@@ -17,7 +17,7 @@ use bpf_cert::{CertError, Certificate, read};
 use bpf_check::check;
 use bpf_explain::{
     Shown, dot_plain, explain, explain_certificate, explain_image, explain_inferred,
-    explain_searched, explain_text,
+    explain_searched, explain_text, is_table,
 };
 use bpf_infer::Watch;
 use bpf_insn::{Code, DecodeError, MAX_CONTEXT, Order, Program, ProgramView, decode};
@@ -139,7 +139,7 @@ fn say_program<'a, C: Code, W: Write>(
     out: &mut W,
     program: &C,
     certificate: &Certificate,
-    shown: Shown,
+    shown: Shown<'_>,
 ) -> Result<u8, Failure<'a>>
     ensures ok { IfOk result (JudgesOf (C.program program.now) certificate.now) }
     ensures err { IfErr result OutputFails }
@@ -195,7 +195,7 @@ fn explained_with<'a, P: Places, C: Code, W: Write>(
     out: &mut W,
     program: &C,
     certificate: &'a str,
-    shown: Shown,
+    shown: Shown<'_>,
 ) -> Result<u8, Failure<'a>>
     ensures ok { IfOk result (Answers (JudgedSays (opening P.opens P.Reader.remaining) places.old certificate.entry.now places.new (C.program program.now) (YesSays false))) }
     ensures err { IfErr result (CertificateFails (opening P.opens P.Reader.remaining) places.old certificate.entry.now places.new) }
@@ -216,7 +216,7 @@ fn explained_certified<'a, P: Places, W: Write>(
     out: &mut W,
     input: &'a str,
     certificate: &'a str,
-    shown: Shown,
+    shown: Shown<'_>,
     order: Order,
 ) -> Result<u8, Failure<'a>>
     ensures ok { IfOk result (Answers (LoadedSays (opening P.opens P.Reader.remaining) order places.old input.entry.now certificate.entry.now places.new (λ bytes. YesSays false))) }
@@ -243,6 +243,7 @@ fn say_inferred<'a, W: Write, H: Watch>(
     least: u32,
     most: u32,
     deep: bool,
+    lines: &[u8],
 ) -> Result<u8, Failure<'a>>
     ensures ok { IfOk result (Answers (SoughtSays program.now)) }
     ensures err { IfErr result OutputFails }
@@ -251,9 +252,9 @@ fn say_inferred<'a, W: Write, H: Watch>(
     let most = most.min(MAX_CONTEXT as u32);
     let least = least.min(most);
     let answer = if deep {
-        explain_searched(alloc, program, least, most, watch, out)
+        explain_searched(alloc, program, least, most, watch, lines, out)
     } else {
-        explain_inferred(alloc, program, least, most, out)
+        explain_inferred(alloc, program, least, most, lines, out)
     };
     match answer {
         Ok(Ok(certificate)) => Ok(verdict(program, &certificate)),
@@ -272,6 +273,7 @@ fn explained_inferred<'a, P: Places, W: Write, H: Watch>(
     least: u32,
     most: u32,
     deep: bool,
+    lines: &[u8],
     order: Order,
 ) -> Result<u8, Failure<'a>>
     ensures ok { IfOk result (Answers (ImageSays (opening P.opens P.Reader.remaining) order places.old input.entry.now places.new SoughtSays)) }
@@ -282,21 +284,42 @@ fn explained_inferred<'a, P: Places, W: Write, H: Watch>(
         Err(error) => return refuse(alloc, out, error),
     };
     match decode(alloc, &bytes, order) {
-        Ok(program) => say_inferred(alloc, out, watch, &program, least, most, deep),
+        Ok(program) => say_inferred(alloc, out, watch, &program, least, most, deep, lines),
         Err(DecodeError::Memory) => refuse(alloc, out, DecodeError::Memory),
         Err(_error) => say_image(out, &bytes, order, REFUSED),
     }
 }
 
-/// Explains a program, or why an input is refused. The status is that of the command that judges the same. Who watches is told
-/// how far a deep search is.
-pub fn explained<'a, P: Places, W: Write, H: Watch>(
+// ---- what is asked for
+
+/// The table of source lines at a name; an empty one where no name is given. What isn't one can't be read.
+fn lines_at<'a, P: Places>(
+    alloc: Global,
+    places: &mut P,
+    lines: Option<&'a str>,
+) -> Result<String, Failure<'a>>
+    ensures ok { IfOk result (λ _. LinesAt (opening P.opens P.Reader.remaining) places.old lines.entry places.new) }
+    ensures err { IfErr result (LinesFail (opening P.opens P.Reader.remaining) places.old lines.entry places.new) }
+{
+    let Some(name) = lines else {
+        return Ok(String::new(alloc));
+    };
+    let table = text_at(alloc, places, name)?;
+    if !is_table(table.as_str().as_bytes()) {
+        return Err(Failure::CannotRead(name));
+    }
+    Ok(table)
+}
+
+/// Explains what is asked for, with a table of source lines.
+fn explained_subject<'a, P: Places, W: Write, H: Watch>(
     alloc: Global,
     places: &mut P,
     out: &mut W,
     watch: &mut H,
     input: &'a str,
     subject: Subject<'a>,
+    lines: &[u8],
     order: Order,
 ) -> Result<u8, Failure<'a>>
     ensures ok { IfOk result (ExplainSays (opening P.opens P.Reader.remaining) order places.old input.entry.now subject.entry places.new) }
@@ -312,7 +335,7 @@ pub fn explained<'a, P: Places, W: Write, H: Watch>(
             out,
             input,
             certificate,
-            Shown::Listing,
+            Shown::Listing { lines },
             order,
         ),
         Subject::Graph(certificate) => explained_certified(
@@ -330,12 +353,32 @@ pub fn explained<'a, P: Places, W: Write, H: Watch>(
             out,
             input,
             certificate,
-            Shown::Slot(slot),
+            Shown::Slot { slot, lines },
             order,
         ),
         Subject::Inferred { least, most, deep } => explained_inferred(
-            alloc, places, out, watch, input, least, most, deep, order,
+            alloc, places, out, watch, input, least, most, deep, lines, order,
         ),
         Subject::Misfit => Err(Failure::NotTogether),
     }
+}
+
+/// Explains a program, or why an input is refused, with the lines of its source at a name, which is opened first. The status is
+/// that of the command that judges the same. Who watches is told how far a deep search is.
+pub fn explained<'a, P: Places, W: Write, H: Watch>(
+    alloc: Global,
+    places: &mut P,
+    out: &mut W,
+    watch: &mut H,
+    input: &'a str,
+    subject: Subject<'a>,
+    lines: Option<&'a str>,
+    order: Order,
+) -> Result<u8, Failure<'a>>
+    ensures ok { IfOk result (ExplainWithSays (opening P.opens P.Reader.remaining) order places.old input.entry.now subject.entry lines.entry places.new) }
+    ensures err { IfErr result (ExplainWithFails (opening P.opens P.Reader.remaining) order places.old input.entry.now subject.entry lines.entry places.new) }
+{
+    let table = lines_at(alloc, places, lines)?;
+    let bytes = table.as_str().as_bytes();
+    explained_subject(alloc, places, out, watch, input, subject, bytes, order)
 }

@@ -1,4 +1,4 @@
-//! What is put at a name: the image of a program, the text of a certificate.
+//! What is put at a name: the image of a program, the text of a certificate, other text.
 
 ghost use Rattle.std.specs.Prelude.{◌≡◌, ℕ, List, IfOk, IfErr, OnOk, OnErr, true, false};
 ghost use Rattle.std.specs.Io.KnownBytes.{Appends};
@@ -9,6 +9,7 @@ ghost use Rattle.bpf_command.specs.declared.failure.Failure.TheVariants.{CannotW
 use crate::failure::{DONE, Failure};
 use crate::places::Places;
 use bpf_cert::{Certificate, write};
+use bpf_insn::written::write_bytes;
 use bpf_insn::{Program, encode};
 use std::io::{self, Write};
 
@@ -40,6 +41,16 @@ impl Content for Certificate {
 
     fn write_to<W: Write>(&self, out: &mut W) -> io::Result<()> {
         write(self, out)
+    }
+}
+
+impl Content for String {
+    ghost use Rattle.std.specs.String.{string_bytes};
+
+    ghost bytes = { λ s. string_bytes s };
+
+    fn write_to<W: Write>(&self, out: &mut W) -> io::Result<()> {
+        write_bytes(out, self.as_str().as_bytes())
     }
 }
 

@@ -3,6 +3,7 @@
 ghost use Rattle.std.specs.Prelude.{◌≡◌, ◌≤◌, ℕ, List, Ok, IfOk, IfErr, length};
 ghost use Rattle.std.specs.String.{string_bytes};
 ghost use Rattle.bpf_command.specs.Context.{context_in};
+ghost use Rattle.bpf_machine.specs.Answers.{IsRun};
 ghost use Rattle.bpf_command.specs.Opened.{opening};
 ghost use Rattle.bpf_command.specs.Answer.{Answer, Answered, Says, status_of, text_of};
 ghost use Rattle.bpf_command.specs.Answer.Answer.{Ran};
@@ -11,13 +12,15 @@ ghost use Rattle.bpf_command.specs.Printed.{FailsWith, ImageSays, OutcomeSays};
 ghost use Rattle.bpf_command.specs.Given.{FailsBehind, RunAtSays, RunEachFails, RunEachSays, RunFails, RunSays};
 ghost use Rattle.bpf_command.specs.Told.{OutputFails};
 
+use crate::aside::Aside;
 use crate::commands::each::{Runner, answered};
 use crate::commands::image::{program_at, refuse};
+use crate::commands::trace::Trace;
 use crate::commands::whole::context_at;
 use crate::context::context_of;
 use crate::failure::{DONE, Failure, REFUSED, say};
 use crate::places::Places;
-use bpf_insn::{Order, Program};
+use bpf_insn::{Code, Order, Program};
 use bpf_machine::{Outcome, run};
 use bpf_request::Contexts;
 use std::alloc::{AllocError, Global};
@@ -60,12 +63,28 @@ fn say_outcome<'a, W: Write>(
     Ok(status)
 }
 
+/// How a run of a program on a context ends. Its last steps are told where that is asked for.
+fn outcome_of<C: Code, H: Aside>(
+    program: &C,
+    context: &[u8],
+    steps: u32,
+    trace: &Trace<'_, H>,
+) -> Outcome
+    requires { length context.now ≤ 4096 }
+    ensures { IsRun (C.program program.now) context.now steps result }
+{
+    let outcome = run(program, context, u64::from(steps));
+    trace.tell(program, context, outcome, u64::from(steps));
+    outcome
+}
+
 /// Runs the image on a context, and prints how it ends. A program of its own is decoded once, where a view would be at
 /// each step.
-fn run_image<'a, P: Places, W: Write>(
+fn run_image<'a, P: Places, W: Write, H: Aside>(
     alloc: Global,
     places: &mut P,
     out: &mut W,
+    trace: &Trace<'_, H>,
     input: &'a str,
     context: &[u8],
     steps: u32,
@@ -76,17 +95,21 @@ fn run_image<'a, P: Places, W: Write>(
     ensures err { IfErr result (ImageFails (opening P.opens P.Reader.remaining) places.old input.entry.now places.new) }
 {
     match program_at(alloc, places, input, order)? {
-        Ok(program) => say_outcome(alloc, out, run(&program, context, u64::from(steps))),
+        Ok(program) => {
+            let outcome = outcome_of(&program, context, steps, trace);
+            say_outcome(alloc, out, outcome)
+        }
         Err(error) => refuse(alloc, out, error),
     }
 }
 
 /// Runs the image on the context, for at most so many instructions, and prints how it ends. The context is judged first,
 /// then the image.
-fn ran<'a, P: Places, W: Write>(
+fn ran<'a, P: Places, W: Write, H: Aside>(
     alloc: Global,
     places: &mut P,
     out: &mut W,
+    trace: &Trace<'_, H>,
     input: &'a str,
     hex: &'a str,
     steps: u32,
@@ -99,14 +122,15 @@ fn ran<'a, P: Places, W: Write>(
         Ok(context) => context,
         Err(error) => return Err(Failure::BadContext(error)),
     };
-    run_image(alloc, places, out, input, &context, steps, order)
+    run_image(alloc, places, out, trace, input, &context, steps, order)
 }
 
 /// The same with the context at a name, which is read first.
-fn ran_at<'a, P: Places, W: Write>(
+fn ran_at<'a, P: Places, W: Write, H: Aside>(
     alloc: Global,
     places: &mut P,
     out: &mut W,
+    trace: &Trace<'_, H>,
     input: &'a str,
     context: &'a str,
     steps: u32,
@@ -116,17 +140,18 @@ fn ran_at<'a, P: Places, W: Write>(
     ensures err { IfErr result (FailsBehind (opening P.opens P.Reader.remaining) places.old context.entry.now places.new (λ between. ImageFails (opening P.opens P.Reader.remaining) between input.entry.now places.new)) }
 {
     let context = context_at(alloc, places, context)?;
-    run_image(alloc, places, out, input, &context, steps, order)
+    run_image(alloc, places, out, trace, input, &context, steps, order)
 }
 
-/// A program and the most instructions that each run of it does.
-#[derive(Clone, Copy)]
-struct Fueled<'a> {
+/// A program, the most instructions that each run of it does, and where its last steps are told.
+#[derive(Drop)]
+struct Fueled<'a, H: Aside> {
     program: &'a Program,
     steps: u32,
+    trace: &'a Trace<'a, H>,
 }
 
-impl<'a> Runner for Fueled<'a> {
+impl<'a, H: Aside> Runner for Fueled<'a, H> {
     ghost use Rattle.bpf_command.specs.Printed.{OutcomeSays};
 
     ghost says = { λ f context answer. OutcomeSays context f.steps f.program.now answer };
@@ -137,19 +162,17 @@ impl<'a> Runner for Fueled<'a> {
         out: &mut W,
         context: &[u8],
     ) -> Result<u8, Failure<'b>> {
-        say_outcome(
-            alloc,
-            out,
-            run(self.program, context, u64::from(self.steps)),
-        )
+        let outcome = outcome_of(self.program, context, self.steps, self.trace);
+        say_outcome(alloc, out, outcome)
     }
 }
 
 /// The same with each context of the lines at a name, which is opened once the image is judged.
-fn ran_each<'a, P: Places, W: Write>(
+fn ran_each<'a, P: Places, W: Write, H: Aside>(
     alloc: Global,
     places: &mut P,
     out: &mut W,
+    trace: &Trace<'_, H>,
     input: &'a str,
     contexts: &'a str,
     steps: u32,
@@ -165,15 +188,17 @@ fn ran_each<'a, P: Places, W: Write>(
     let runner = Fueled {
         program: &program,
         steps,
+        trace,
     };
     answered(alloc, places, out, &runner, contexts)
 }
 
 /// Runs the image on the contexts that are given.
-pub fn ran_on<'a, P: Places, W: Write>(
+pub fn ran_on<'a, P: Places, W: Write, H: Aside>(
     alloc: Global,
     places: &mut P,
     out: &mut W,
+    trace: &Trace<'_, H>,
     input: &'a str,
     contexts: Contexts<'a>,
     steps: u32,
@@ -183,9 +208,9 @@ pub fn ran_on<'a, P: Places, W: Write>(
     ensures err { IfErr result (RunFails (opening P.opens P.Reader.remaining) order places.old input.entry.now contexts.entry steps places.new (W.contents out.old) (W.contents out.new)) }
 {
     match contexts {
-        Contexts::Word(hex) => ran(alloc, places, out, input, hex, steps, order),
-        Contexts::Bytes(name) => ran_at(alloc, places, out, input, name, steps, order),
-        Contexts::Lines(name) => ran_each(alloc, places, out, input, name, steps, order),
+        Contexts::Word(hex) => ran(alloc, places, out, trace, input, hex, steps, order),
+        Contexts::Bytes(name) => ran_at(alloc, places, out, trace, input, name, steps, order),
+        Contexts::Lines(name) => ran_each(alloc, places, out, trace, input, name, steps, order),
         Contexts::Nothing => Err(Failure::NoContext),
         Contexts::Several => Err(Failure::ContextTwice),
     }

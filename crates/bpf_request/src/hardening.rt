@@ -1,0 +1,23 @@
+//! What a command line wants hardened.
+
+use bpf_insn::Order;
+
+/// A hardening: of which image, for which contexts, how, and where the answer goes.
+#[derive(Clone, Copy)]
+pub struct Hardening<'a> {
+    /// The name of the image.
+    pub input: &'a str,
+    /// The length of the contexts in bytes, at most 4,096.
+    pub length: u32,
+    /// Where the hardened image goes.
+    pub output: &'a str,
+    /// How often a loop that gets a counter may turn, at least once.
+    pub turns: u32,
+    /// The number with which a trap ends the program.
+    pub otherwise: u64,
+    /// Contexts are blocks: a packet's length in eight bytes, the packet, and padding.
+    pub padded: bool,
+    /// Where notes of what was done go.
+    pub notes: Option<&'a str>,
+    pub order: Order,
+}
