@@ -168,16 +168,21 @@ class Runner:
         return None
 
 
-def compare(contexts, old, new, is_exact, may_cut):
-    """Raises where a new answer isn't what the old one asks for. A trap of a local function may answer its caller; a frame that has no
-    room beside it loses its lowest bytes."""
-    for context, was, now in zip(contexts, old, new):
-        if was == 'F3':
-            right = now == TRAP or not is_exact
-        else:
-            right = not isinstance(was, int) or was == now or may_cut and now == TRAP
+def compare(run, order, cases, is_exact):
+    """Raises where a new answer isn't what the old one asks for: `cases` are contexts of the new program, and what the old one's run
+    ended with. A trap of a local function may answer its caller, so what comes of an F3 is told only where `is_exact`; where the frame
+    is written by a register, what hardening keeps may take its lowest bytes."""
+    told = [(context, was) for context, was in cases if isinstance(was, int) or was == 'F3' and is_exact]
+    new = run.on(['run-checked', *order, 'new.img', 'new.cert'], [context for context, _ in told]) if told else []
+    may_cut = is_written_by_register(run, order)
+    for (context, was), now in zip(told, new):
+        right = now == TRAP if was == 'F3' else was == now or may_cut and now == TRAP
         if not right:
             raise Wrong(f'on {context.hex()} {was} before, {now} hardened')
+
+
+def has_call(run, order):
+    return 'call' in run.call('list', *order, 'old.img')[1]
 
 
 def is_written_by_register(run, order):
@@ -186,15 +191,13 @@ def is_written_by_register(run, order):
 
 
 def try_image(run, rng, length, order, tells):
-    """Hardens old.img, if it is an image, and compares."""
+    """Hardens old.img and compares; `tells` says that an F3 is to end in the trap."""
     why = run.hardened(length, *order)
     if why:
         return why
     contexts = contexts_of(rng, length)
     old = run.on(['run', *order, 'old.img', '--steps', str(STEPS)], contexts)
-    new = run.on(['run-checked', *order, 'new.img', 'new.cert'], contexts)
-    is_exact = 'call' not in run.call('list', *order, 'old.img')[1]
-    compare(contexts, old, new, is_exact and tells, is_written_by_register(run, order))
+    compare(run, order, list(zip(contexts, old)), tells and not has_call(run, order))
     return 'same' if run.get('old.img') == run.get('new.img') else 'changed'
 
 
@@ -207,9 +210,7 @@ def try_blocks(run, rng, most, order):
     way = 'big' if order else 'little'
     blocks = [len(p).to_bytes(8, way) + p + bytes(rng.randrange(256) for _ in range(most - len(p))) for p in packets]
     old = [run.on(['run', *order, 'old.img', '--steps', str(STEPS)], [packet])[0] for packet in packets]
-    new = run.on(['run-checked', *order, 'new.img', 'new.cert'], blocks)
-    is_exact = 'call' not in run.call('list', *order, 'old.img')[1]
-    compare(packets, old, new, is_exact, is_written_by_register(run, order))
+    compare(run, order, list(zip(blocks, old)), not has_call(run, order))
     return 'blocks'
 
 
