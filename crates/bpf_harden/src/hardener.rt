@@ -4,11 +4,12 @@ ghost use Rattle.std.specs.Prelude.{◌<◌, ◌≤◌, IfOk, IfErr};
 ghost use Rattle.bpf_insn.specs.Instruction.{slots};
 ghost use Rattle.bpf_harden_notes.specs.RefusalNumbers.{harden_slot};
 
+use crate::judge::{Verdict, verdict_of};
 use crate::rounds::{certified, guard_all, guarded_everywhere};
 use bpf_harden_notes::{HardenError, Hardened, Options};
 use bpf_harden_plan::{Old, Plan};
-use bpf_infer::search;
-use bpf_infer_base::{Quest, Unwatched};
+use bpf_infer::infer;
+use bpf_infer_base::{DEEP_WORK, Meter, Quest, Unwatched, Watch};
 use bpf_insn::{Code, Program};
 use std::alloc::{AllocError, Global};
 
@@ -45,11 +46,25 @@ fn unchanged(alloc: Global, program: &Program) -> Result<Hardened, HardenError> 
     })
 }
 
-/// Whether a program has a certificate as it stands.
-fn is_certified(alloc: Global, program: &Program, length: u32) -> bool
-    requires { length ≤ 4096 }
+/// How much of a program of so many slots may be gone over, in slots, in all rounds together.
+fn work_for(slots: u32) -> u64 {
+    u64::from(slots)
+        .saturating_mul(500)
+        .saturating_add(DEEP_WORK)
+}
+
+/// Whether the deep search has a certificate for a program as it stands; the states that it found are taken.
+fn is_certified<W: Watch>(
+    alloc: Global,
+    quest: Quest<'_>,
+    old: &mut Old,
+    meter: &mut Meter<'_, W>,
+) -> Result<bool, HardenError>
+    requires { quest.least ≤ quest.most }
 {
-    search(alloc, program, length, length, &mut Unwatched).is_ok()
+    let draft = old.survey.draft.take();
+    let verdict = verdict_of(alloc, quest, draft, meter)?;
+    Ok(matches!(verdict, Verdict::Yes))
 }
 
 /// The lengths that the old program is given: of a block the packet's.
@@ -74,7 +89,7 @@ fn hardened(
     requires { length ≤ 4096 }
 {
     let is_asked = options.padded || options.everywhere;
-    if !is_asked && is_certified(alloc, program, length) {
+    if !is_asked && infer(alloc, program, length, length).is_ok() {
         return unchanged(alloc, program);
     }
     let (least, most) = lengths(length, options)?;
@@ -83,17 +98,23 @@ fn hardened(
         least,
         most,
     };
-    let old = Old::of(alloc, quest)?;
+    let mut unwatched = Unwatched;
+    let mut meter = Meter::new(&mut unwatched, DEEP_WORK);
+    let mut old = Old::of(alloc, quest, &mut meter)?;
+    if !is_asked && is_certified(alloc, quest, &mut old, &mut meter)? {
+        return unchanged(alloc, program);
+    }
     let mut plan = Plan::new(alloc, *options, length, program.slots(), old.count())?;
     if options.padded {
         // Nothing that the checker knows keeps an access below the packet's length.
         guard_all(&old, &mut plan);
     }
     if options.everywhere {
-        guarded_everywhere(alloc, &old, plan)
-    } else {
-        certified(alloc, &old, plan)
+        return guarded_everywhere(alloc, &old, plan);
     }
+    let mut unseen = Unwatched;
+    let mut rounds = Meter::new(&mut unseen, work_for(program.slots()));
+    certified(alloc, &old, plan, &mut rounds)
 }
 
 /// A program that does what the old one does and has a certificate for contexts of `length` bytes, at most 4,096: on every

@@ -6,7 +6,7 @@ use bpf_cert::{Certificate, Function};
 use bpf_harden_notes::HardenError;
 use bpf_harden_plan::{Old, Plan, Rooms, refusal};
 use bpf_harden_text::{Draft, emitted};
-use bpf_infer_base::{DEEP_WORK, Meter, Quest, Unwatched, Watch};
+use bpf_infer_base::{Meter, Quest, Watch};
 use bpf_infer_budgets::{ranked, uncounted};
 use bpf_infer_error::InferError;
 use bpf_infer_states::{Survey, surveyed};
@@ -35,7 +35,7 @@ pub struct Trial {
 }
 
 /// What the loops of a draft come to.
-fn verdict_of<W: Watch>(
+pub fn verdict_of<W: Watch>(
     alloc: Global,
     quest: Quest<'_>,
     draft: Option<Vec<Function>>,
@@ -69,7 +69,12 @@ fn verdict_of<W: Watch>(
 
 impl Trial {
     /// The text of a program under a plan, judged.
-    pub fn of(alloc: Global, old: &Old, plan: &Plan) -> Result<Trial, HardenError> {
+    pub fn of<W: Watch>(
+        alloc: Global,
+        old: &Old,
+        plan: &Plan,
+        meter: &mut Meter<'_, W>,
+    ) -> Result<Trial, HardenError> {
         let rooms = Rooms::of(alloc, old, plan)?;
         let draft = emitted(alloc, old, plan, &rooms)?;
         let quest = Quest {
@@ -77,14 +82,12 @@ impl Trial {
             least: plan.length,
             most: plan.length,
         };
-        let mut unwatched = Unwatched;
-        let mut meter = Meter::new(&mut unwatched, DEEP_WORK);
-        let mut survey = match surveyed(alloc, quest, &mut meter) {
+        let mut survey = match surveyed(alloc, quest, meter) {
             Ok(survey) => survey,
             Err(error) => return Err(refusal(error)),
         };
         let functions = survey.draft.take();
-        let verdict = verdict_of(alloc, quest, functions, &mut meter)?;
+        let verdict = verdict_of(alloc, quest, functions, meter)?;
         Ok(Trial {
             draft,
             rooms,

@@ -2,9 +2,9 @@
 
 use crate::judge::Trial;
 use bpf_harden_notes::{Change, HardenError};
-use bpf_harden_plan::{Guard, Kind, Old, Plan};
+use bpf_harden_plan::{Guard, Kind, Old, Plan, Span};
 use bpf_infer_error::Condition;
-use bpf_insn::{Insn, Reg};
+use bpf_insn::{Access, Insn, Reg};
 use bpf_state::{RegState, StateFault};
 
 /// A fault of the new text, by the old instruction that it belongs to.
@@ -17,6 +17,9 @@ struct Flaw {
 
 /// The offsets that are folded into accesses are below this.
 const MOST_CONSTANT: u64 = 8192;
+
+/// How many instructions may lie between accesses that are tested together.
+const LONGEST_SPAN: u32 = 32;
 
 /// An old program and what is said of a text of it: what plans are mended by.
 #[derive(Clone, Copy)]
@@ -109,13 +112,47 @@ impl<'a> Mender<'a> {
         if !is_offset || plan.guard(flaw.slot).is_some() {
             return false;
         }
-        let is_exact = self.may_wrap(flaw.slot, access.base, access.off);
-        plan.set_guard(flaw.slot, Some(Guard::both(is_exact)));
+        let span = if plan.options.padded {
+            Span::of(access)
+        } else {
+            self.span(flaw.slot, access)
+        };
+        let is_exact = self.may_wrap(flaw.slot, access.base, span.from);
+        plan.set_guard(flaw.slot, Some(Guard::both(span, is_exact)));
         true
     }
 
+    /// The bytes of an access and of those by the same base that surely follow it: where one of them leaves its region, the run
+    /// has done nothing in between that could be seen, so all are tested at once.
+    fn span(&self, slot: u32, access: Access) -> Span {
+        let mut span = Span::of(access);
+        let mut last = slot;
+        for _ in 0..LONGEST_SPAN {
+            if self.writes(last, access.base) {
+                break;
+            }
+            let Some(next) = self.old.following(last) else {
+                break;
+            };
+            last = next;
+            span = match self.old.kept(last).and_then(|insn| insn.access()) {
+                Some(other) if other.base == access.base => span.with(Span::of(other)),
+                _ => span,
+            };
+        }
+        span
+    }
+
+    /// Whether the instruction at a slot writes a register.
+    fn writes(&self, slot: u32, r: Reg) -> bool {
+        match self.old.kept(slot) {
+            Some(insn) => insn.register_written() == Some(r),
+            None => true,
+        }
+    }
+
     /// Whether a register may hold an offset before its region that a displacement leads back into it.
-    fn may_wrap(&self, slot: u32, base: Reg, off: i16) -> bool {
+    fn may_wrap(&self, slot: u32, base: Reg, off: i64) -> bool {
         let Ok(more) = u64::try_from(off) else {
             return false;
         };

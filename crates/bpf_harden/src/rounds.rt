@@ -6,9 +6,9 @@ use crate::record::recorded;
 use crate::slim::slim;
 use crate::wide::widen_all;
 use bpf_harden_notes::{HardenError, Hardened};
-use bpf_harden_plan::{Guard, Kind, Old, Plan, Rooms};
+use bpf_harden_plan::{Guard, Kind, Old, Plan, Rooms, Span};
 use bpf_harden_text::emitted;
-use bpf_infer_base::Flow;
+use bpf_infer_base::{Flow, Meter, Watch};
 use bpf_insn::Reg;
 use std::alloc::Global;
 
@@ -95,9 +95,9 @@ impl<'a> Rounds<'a> {
     }
 
     /// The first text that has a certificate.
-    fn run(&mut self) -> Result<Trial, HardenError> {
+    fn run<W: Watch>(&mut self, meter: &mut Meter<'_, W>) -> Result<Trial, HardenError> {
         for _ in 0..ROUNDS {
-            let trial = Trial::of(self.alloc, self.old, &self.plan)?;
+            let trial = Trial::of(self.alloc, self.old, &self.plan, meter)?;
             if let Verdict::Yes = trial.verdict {
                 return Ok(trial);
             }
@@ -117,28 +117,36 @@ impl<'a> Rounds<'a> {
     }
 
     /// The trimmed text, if it has a certificate.
-    fn trimmed(&mut self, trial: Trial) -> Result<Trial, HardenError> {
+    fn trimmed<W: Watch>(
+        &mut self,
+        trial: Trial,
+        meter: &mut Meter<'_, W>,
+    ) -> Result<Trial, HardenError> {
         if !self.trim(&trial) {
             return Ok(trial);
         }
-        let slimmer = Trial::of(self.alloc, self.old, &self.plan)?;
-        match slimmer.verdict {
-            Verdict::Yes => Ok(slimmer),
+        match Trial::of(self.alloc, self.old, &self.plan, meter) {
+            Ok(slimmer) if matches!(slimmer.verdict, Verdict::Yes) => Ok(slimmer),
             _ => Ok(trial),
         }
     }
 }
 
 /// A program rewritten under a plan until it has a certificate.
-pub fn certified(alloc: Global, old: &Old, plan: Plan) -> Result<Hardened, HardenError> {
+pub fn certified<W: Watch>(
+    alloc: Global,
+    old: &Old,
+    plan: Plan,
+    meter: &mut Meter<'_, W>,
+) -> Result<Hardened, HardenError> {
     let mut rounds = Rounds {
         alloc,
         old,
         plan,
         is_widened: false,
     };
-    let trial = rounds.run()?;
-    let trial = rounds.trimmed(trial)?;
+    let trial = rounds.run(meter)?;
+    let trial = rounds.trimmed(trial, meter)?;
     let Trial { draft, rooms, .. } = trial;
     recorded(alloc, old, &rooms, draft)
 }
@@ -176,7 +184,7 @@ pub fn guard_all(old: &Old, plan: &mut Plan) {
                 Kind::Number | Kind::Unknown => false,
             };
             if is_due {
-                plan.set_guard(slot, Some(Guard::both(access.off != 0)));
+                plan.set_guard(slot, Some(Guard::both(Span::of(access), access.off != 0)));
             }
         }
     }

@@ -6,6 +6,9 @@ use bpf_infer_base::{Flow, get_or, put};
 use bpf_insn::{Insn, Program, Reg};
 use std::alloc::{AllocError, Global};
 
+/// The most passes over a program. Where they don't do, all registers may be read.
+const PASSES: u32 = 64;
+
 /// By slots, the registers whose content before the instruction may still be read.
 #[derive(Drop)]
 pub struct Liveness {
@@ -71,11 +74,13 @@ impl Liveness {
         let mut liveness = Liveness {
             before: vec![in alloc; Registers::NONE; program.slots() as usize]?,
         };
-        for _ in 0..program.slots() {
+        for _ in 0..PASSES {
             if !liveness.pass(program) {
-                break;
+                return Ok(liveness);
             }
         }
-        Ok(liveness)
+        Ok(Liveness {
+            before: vec![in alloc; Registers::ALL; program.slots() as usize]?,
+        })
     }
 }

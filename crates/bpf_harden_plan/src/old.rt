@@ -7,7 +7,7 @@ use crate::live::Liveness;
 use crate::registers::Registers;
 use crate::uses::Uses;
 use bpf_harden_notes::HardenError;
-use bpf_infer_base::{DEEP_WORK, Flow, Meter, Outline, Quest, Unwatched, get_or};
+use bpf_infer_base::{Flow, Meter, Outline, Quest, Watch, get_or};
 use bpf_infer_error::InferError;
 use bpf_infer_states::{Survey, surveyed};
 use bpf_insn::{Insn, Program, Reg};
@@ -37,12 +37,14 @@ pub fn refusal(error: InferError) -> HardenError {
 
 impl<'a> Old<'a> {
     /// What is known of a program on the lengths of a quest.
-    pub fn of(alloc: Global, quest: Quest<'a>) -> Result<Old<'a>, HardenError>
+    pub fn of<W: Watch>(
+        alloc: Global,
+        quest: Quest<'a>,
+        meter: &mut Meter<'_, W>,
+    ) -> Result<Old<'a>, HardenError>
         requires { quest.least ≤ quest.most }
     {
-        let mut unwatched = Unwatched;
-        let mut meter = Meter::new(&mut unwatched, DEEP_WORK);
-        let survey = match surveyed(alloc, quest, &mut meter) {
+        let survey = match surveyed(alloc, quest, meter) {
             Ok(survey) => survey,
             Err(error) => return Err(refusal(error)),
         };
@@ -152,6 +154,17 @@ impl<'a> Old<'a> {
             self.program.at(slot)
         } else {
             None
+        }
+    }
+
+    /// The slot behind an instruction that leads there alone, and to which nothing else leads.
+    pub fn following(&self, slot: u32) -> Option<u32> {
+        let insn = self.kept(slot)?;
+        let next = slot.saturating_add(insn.slots());
+        let is_alone = self.outline.block_of(next) == self.outline.block_of(slot);
+        match Flow::of(slot, insn) {
+            Flow::Next if is_alone && self.kept(next).is_some() => Some(next),
+            _ => None,
         }
     }
 

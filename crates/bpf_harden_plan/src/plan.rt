@@ -3,12 +3,40 @@
 use crate::old::Old;
 use bpf_harden_notes::Options;
 use bpf_infer_base::{get_or, put};
-use bpf_insn::Insn;
+use bpf_insn::{Access, Insn};
 use std::alloc::{AllocError, Global};
+
+/// Bytes beside a base, by displacements: from the first one to before the end.
+#[derive(Clone, Copy, Debug)]
+pub struct Span {
+    pub from: i64,
+    pub to: i64,
+}
+
+impl Span {
+    /// The bytes that an access touches.
+    pub fn of(access: Access) -> Span {
+        let from = i64::from(access.off);
+        Span {
+            from,
+            to: from.saturating_add(i64::from(access.size.bytes())),
+        }
+    }
+
+    /// The bytes from the first of either on.
+    pub fn with(self, other: Span) -> Span {
+        Span {
+            from: self.from.min(other.from),
+            to: self.to.max(other.to),
+        }
+    }
+}
 
 /// A test in front of an access, which leads to the trap where the access would leave its region.
 #[derive(Clone, Copy, Debug)]
 pub struct Guard {
+    /// The bytes that must lie in the region: those of the access, and of further ones that surely follow.
+    pub span: Span,
     /// Where the access begins is computed first, modulo 2^64, and tested: also right where the register holds an offset before
     /// the region.
     pub exact: bool,
@@ -20,8 +48,9 @@ pub struct Guard {
 
 impl Guard {
     /// A test of both ends.
-    pub fn both(exact: bool) -> Guard {
+    pub fn both(span: Span, exact: bool) -> Guard {
         Guard {
+            span,
             exact,
             low: true,
             high: true,

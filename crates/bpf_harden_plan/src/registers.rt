@@ -27,6 +27,9 @@ impl Registers {
     /// No register.
     pub const NONE: Registers = Registers { has: [false; 11] };
 
+    /// All registers.
+    pub const ALL: Registers = Registers { has: [true; 11] };
+
     /// Whether a register is in it.
     pub fn has(&self, r: Reg) -> bool {
         self.has[r as usize]

@@ -2,7 +2,7 @@
 
 use crate::old::Old;
 use crate::plan::Plan;
-use crate::registers::Registers;
+use crate::registers::{BY_CHOICE, Registers};
 use crate::uses::Uses;
 use bpf_harden_notes::HardenError;
 use bpf_infer_base::{Flow, get_or, put};
@@ -15,6 +15,20 @@ use std::alloc::{AllocError, Global};
 const FRAME_BYTES: u32 = 512;
 
 const FRAME_SLOTS: u32 = 64;
+
+/// How many instructions from a loop's head on its counter may stand.
+const FARTHEST: u32 = 16;
+
+/// The registers in which something may be kept, in the order in which they are taken.
+const KEPT_IN: [Reg; 7] = [
+    Reg::R9,
+    Reg::R8,
+    Reg::R7,
+    Reg::R6,
+    Reg::R5,
+    Reg::R4,
+    Reg::R3,
+];
 
 /// What a function keeps, and what it is given and gives.
 #[derive(Clone, Copy)]
@@ -35,6 +49,8 @@ pub struct Room {
     pub traps: bool,
     /// The registers that hold what it keeps.
     pub taken: Registers,
+    /// How many loops share their counter; 0 if each has one of its own.
+    pub sharing: u32,
 }
 
 impl Room {
@@ -48,6 +64,7 @@ impl Room {
         spare: None,
         traps: false,
         taken: Registers::NONE,
+        sharing: 0,
     };
 }
 
@@ -95,6 +112,16 @@ impl Space {
         (is_kept || !self.uses.calls) && !self.uses.registers.has(r) && !self.taken.has(r)
     }
 
+    /// Whether a register is neither kept nor one of those that are read.
+    fn has_idle(&self, live: Registers) -> bool {
+        for r in BY_CHOICE {
+            if !live.has(r) && !self.taken.has(r) {
+                return true;
+            }
+        }
+        false
+    }
+
     /// A slot of the frame, by its number.
     fn slot(&mut self) -> Option<u8> {
         let used = self.uses.depth / 8;
@@ -119,17 +146,21 @@ impl Space {
         self.slot()
     }
 
+    /// How many places there are, but for one slot in which registers are saved.
+    fn places(&self) -> u32 {
+        let used = (self.uses.depth / 8).saturating_add(self.slots);
+        let mut count = FRAME_SLOTS.saturating_sub(used).saturating_sub(1);
+        for r in KEPT_IN {
+            if self.is_free(r) {
+                count = count.saturating_add(1);
+            }
+        }
+        count
+    }
+
     /// A register or else a slot.
     fn place(&mut self) -> Option<Place> {
-        for r in [
-            Reg::R9,
-            Reg::R8,
-            Reg::R7,
-            Reg::R6,
-            Reg::R5,
-            Reg::R4,
-            Reg::R3,
-        ] {
+        for r in KEPT_IN {
             if self.is_free(r) {
                 self.taken.add(r);
                 return Some(Place::Register(r));
@@ -219,7 +250,8 @@ impl Rooms {
                 return Err(HardenError::FiveArguments { slot: uses.first });
             }
         }
-        self.place_counters(plan, function, &mut space)?;
+        room.sharing = sharing(plan, function, &space);
+        self.place_counters(old, plan, room.sharing > 0, &mut space)?;
         room.scratch = space.scratch();
         room.frame = space.frame();
         room.taken = space.taken;
@@ -231,8 +263,9 @@ impl Rooms {
     /// Finds a place for each counter of a function, or one for all.
     fn place_counters(
         &mut self,
+        old: &Old,
         plan: &Plan,
-        function: usize,
+        is_shared: bool,
         space: &mut Space,
     ) -> Result<(), HardenError> {
         let uses = space.uses;
@@ -243,8 +276,9 @@ impl Rooms {
                     Some(place) => place,
                     None => taken(space.place(), uses)?,
                 };
-                put(&mut self.counters, slot as usize, Some(place));
-                if plan.shares(function) {
+                let counting = counting_slot(old, space, slot, place);
+                put(&mut self.counters, counting as usize, Some(place));
+                if is_shared {
                     shared = Some(place);
                 }
             }
@@ -291,6 +325,40 @@ impl Rooms {
             }
         }
     }
+}
+
+/// How many loops of a function share their counter: all, where they jump into one another or there is no place for one each.
+fn sharing(plan: &Plan, function: usize, space: &Space) -> u32 {
+    let mut count = 0u32;
+    for slot in space.uses.first..space.uses.end {
+        if plan.counts(slot) {
+            count = count.saturating_add(1);
+        }
+    }
+    if plan.shares(function) || count > space.places() {
+        count
+    } else {
+        0
+    }
+}
+
+/// The slot in front of which the turns of the loop with its head at a slot are counted. A counter in the frame needs a register
+/// for a while: so it goes behind the first instructions of the loop, where one of these leaves a register that isn't read.
+fn counting_slot(old: &Old, space: &Space, head: u32, place: Place) -> u32 {
+    if let Place::Register(_) = place {
+        return head;
+    }
+    let mut slot = head;
+    for _ in 0..FARTHEST {
+        if space.has_idle(old.live.before(slot)) {
+            return slot;
+        }
+        match old.following(slot) {
+            Some(next) => slot = next,
+            None => return head,
+        }
+    }
+    head
 }
 
 /// A place that was found. H3 if there is none.

@@ -5,7 +5,7 @@ use crate::parts::{add, add_constant, alu, constant, copy, displacement, fetch, 
 use crate::region::Region;
 use crate::writer::Writer;
 use bpf_harden_notes::{Change, HardenError};
-use bpf_harden_plan::{BY_CHOICE, Guard, Kind, Registers};
+use bpf_harden_plan::{BY_CHOICE, Guard, Kind, Registers, Span};
 use bpf_insn::{Access, AluOp, Cond, Insn, Operand, Reg};
 use bpf_state::Place;
 
@@ -68,29 +68,42 @@ impl Site {
         }
     }
 
-    /// The least offset in the base with which it lies in the region.
+    /// The bytes that its guard tests: its own, and those of further accesses that surely follow.
+    fn span(&self) -> Span {
+        match self.guard {
+            Some(guard) => guard.span,
+            None => Span::of(self.access),
+        }
+    }
+
+    /// How many bytes its guard tests.
+    fn width(&self) -> i64 {
+        self.span().to.saturating_sub(self.span().from)
+    }
+
+    /// The least offset in the base with which what is tested lies in the region.
     fn least(&self) -> i64 {
-        self.region.start.saturating_sub(self.off())
+        self.region.start.saturating_sub(self.span().from)
     }
 
     /// The greatest.
     fn most(&self) -> i64 {
-        let end = self.least().saturating_add(self.region.bytes);
-        end.saturating_sub(self.bytes())
+        let end = self.region.start.saturating_add(self.region.bytes);
+        end.saturating_sub(self.span().to)
     }
 
-    /// Whether it lies in the region with no offset from 0 on.
+    /// Whether what is tested lies in the region with no offset from 0 on.
     fn never_lies(&self) -> bool {
         let is_exact = self.guard.is_some_and(|guard| guard.exact);
-        self.region.bytes < self.bytes() || !is_exact && self.most() < 0
+        self.region.bytes < self.width() || !is_exact && self.most() < 0
     }
 
-    /// What its base is moved by before it is tested. A guard that is exact tests where the access begins, from the region's
-    /// start on; one against an end that is known as the program runs tests where it ends.
+    /// What its base is moved by before it is tested. A guard that is exact tests where the bytes begin, from the region's
+    /// start on; one against an end that is known as the program runs tests where they end.
     fn moved_by(&self) -> i64 {
         match self.guard {
-            Some(_) if self.region.end.is_some() => self.off().saturating_add(self.bytes()),
-            Some(guard) if guard.exact => self.off().saturating_sub(self.region.start),
+            Some(_) if self.region.end.is_some() => self.span().to,
+            Some(guard) if guard.exact => self.span().from.saturating_sub(self.region.start),
             _ => 0,
         }
     }
@@ -268,12 +281,12 @@ impl<'a> Writer<'a> {
                 self.test_end(site, moved, end)?;
             }
             if guard.low {
-                let least = site.region.start.saturating_add(site.bytes());
+                let least = site.region.start.saturating_add(site.width());
                 let src = Operand::Imm(constant(least));
                 self.trap_if(site.slot, Cond::Lt, moved, src, Change::Guard)?;
             }
         } else if guard.exact && guard.high {
-            let most = site.region.bytes.saturating_sub(site.bytes());
+            let most = site.region.bytes.saturating_sub(site.width());
             let src = Operand::Imm(constant(most));
             self.trap_if(site.slot, Cond::Gt, moved, src, Change::Guard)?;
         }

@@ -98,11 +98,13 @@ impl<'a> Writer<'a> {
 
     /// Sets the counters of a function's loops.
     fn set_turns(&mut self, function: usize, uses: Uses) -> Result<(), AllocError> {
-        let turns = constant(i64::from(self.plan.options.turns));
+        let sharing = self.rooms.room(function).sharing;
+        let each = i64::from(self.plan.options.turns);
+        let turns = constant(each.saturating_mul(i64::from(sharing.max(1))));
         for slot in uses.first..uses.end {
             if let Some(counter) = self.rooms.counter(slot) {
                 self.add(uses.first, keep_constant(counter, turns), Change::Turns)?;
-                if self.plan.shares(function) {
+                if sharing > 0 {
                     break;
                 }
             }

@@ -1,0 +1,270 @@
+#!/usr/bin/env python3
+"""Hardens programs and compares what the new ones answer with the old ones: harden.py BPF [COUNT [SEED]]
+
+- COUNT random programs (600 if not said) with walking pointers, indexes that nothing tests, loops that nothing counts, arrays in the
+  frame and local functions, in both orders, and their packets in blocks;
+- the images of examples/c, and random programs, with one byte changed.
+
+Each that is hardened gets a certificate by `infer --deep`. On random contexts it ends with the number that the old program ends with;
+where the old one leaves the context or its frame (F3) it goes to the trap. Refusals are counted, and have a number.
+"""
+import collections
+import os
+import pathlib
+import random
+import re
+import subprocess
+import sys
+import tempfile
+from concurrent.futures import ThreadPoolExecutor
+
+EXAMPLES = pathlib.Path(__file__).resolve().parent.parent / 'examples' / 'c'
+TRAP = 0x7261707472617074
+STEPS = 60_000
+SIZES = {'u8': 1, 'u16': 2, 'u32': 4, 'u64': 8}
+
+
+class Wrong(Exception):
+    pass
+
+
+# ---- random programs
+
+class Program:
+    """Lines of a random program for contexts of a length, as people and compilers write them: nothing keeps its accesses inside."""
+
+    def __init__(self, rng):
+        self.rng, self.lines, self.labels = rng, [], 0
+        self.length = rng.randrange(8, 65)
+        self.has_call = rng.random() < 0.3
+        self.body('r6', ['r6 = r1', 'r0 = 7'])
+        if self.has_call:
+            self.lines.append('helper:')
+            self.body('r1', ['r0 = 1'] if rng.random() < 0.7 else ['r0 = 0xffffffffffff ll'])
+
+    def body(self, base, first):
+        self.lines += first
+        if base == 'r6' and self.rng.random() < 0.3:
+            self.lines += ['*(u64 *)(r10 - 48) = r6', 'r9 = *(u64 *)(r10 - 48)']
+        for _ in range(self.rng.randrange(1, 5)):
+            self.statement(base, 2)
+        if self.rng.random() < 0.5 or base == 'r1':
+            self.lines.append('r0 &= 1023')
+        self.lines.append('exit')
+
+    def label(self):
+        self.labels += 1
+        return f'l{self.labels}'
+
+    def byte(self, register, base):
+        """A number that comes from the context."""
+        self.lines.append(f'{register} = *(u8 *)({base} + {self.rng.randrange(self.length)})')
+        if self.rng.random() < 0.5:
+            self.lines.append(f'{register} {self.rng.choice(["&= 15", ">>= 3", "&= 63", "<<= 1", "+= -3"])}')
+
+    def statement(self, base, depth):
+        kinds = ['index', 'pair', 'walk', 'count', 'halve', 'array'] + ['branch', 'nest'] * (depth > 0) + ['call'] * (self.has_call and base == 'r6')
+        getattr(self, self.rng.choice(kinds))(base, depth)
+
+    def index(self, base, _):
+        size = self.rng.choice(list(SIZES))
+        self.byte('r2', base)
+        self.lines += [f'r3 = {base}', 'r3 += r2', f'r4 = *({size} *)(r3 {self.rng.choice(["+ 0", "+ 0", "+ 3", "- 2", "+ 9"])})', 'r0 ^= r4']
+
+    def pair(self, base, _):
+        self.byte('r2', base)
+        self.lines += [f'r2 += {base}', f'r3 = *(u8 *)(r2 + {self.rng.randrange(8)})', 'r3 <<= 8', 'r4 = *(u8 *)(r2 + 0)', 'r4 |= r3', 'r0 += r4']
+
+    def walk(self, base, _):
+        step, turns = self.rng.choice([1, 1, 2, 3]), self.rng.randrange(1, 9)
+        first, again = self.rng.randrange(self.length), self.label()
+        self.lines += [f'r3 = {base}', f'r3 += {first}', f'r4 = {base}', f'r4 += {first + step * turns}', f'{again}:',
+                       'r5 = *(u8 *)(r3 + 0)', 'r0 += r5', f'r3 += {step}', f'if r3 != r4 goto {again}']
+
+    def count(self, base, _):
+        again = self.label()
+        self.lines += ['w5 = 0', f'{again}:', f'r2 = {base}', 'r2 += r5', 'r3 = *(u8 *)(r2 + 0)', 'w0 ^= w3', 'w5 += 1',
+                       f'if w5 < {self.rng.randrange(1, self.length + 3)} goto {again}']
+
+    def halve(self, base, _):
+        again = self.label()
+        self.byte('r2', base)
+        self.lines += ['r2 &= 255', f'{again}:', 'r0 += r2', 'r2 >>= 1', f'if r2 != 0 goto {again}']
+
+    def array(self, base, _):
+        bytes_ = self.rng.choice([8, 16, 32])
+        self.byte('r2', base)
+        self.lines += ['r3 = r10', f'r3 += -{bytes_}', 'r3 += r2', self.rng.choice(['*(u8 *)(r3 + 0) = 5', '*(u8 *)(r3 + 0) = r2']),
+                       f'r4 = *(u8 *)(r10 - {self.rng.randrange(1, bytes_ + 1)})', 'r0 += r4']
+
+    def branch(self, base, depth):
+        over = self.label()
+        self.byte('r2', base)
+        self.lines.append(f'if r2 {self.rng.choice(["==", "!=", ">", "<=", "s<"])} {self.rng.randrange(self.length)} goto {over}')
+        self.statement(base, depth - 1)
+        self.lines.append(f'{over}:')
+
+    def nest(self, base, depth):
+        counter, again = f'r{6 + depth}', self.label()
+        self.lines += [f'{counter} = {self.rng.randrange(1, 6)}', f'{again}:']
+        self.statement(base, depth - 1)
+        self.lines += [self.rng.choice([f'{counter} += -1', f'w{counter[1:]} += -1']), f'if {counter} != 0 goto {again}']
+
+    def call(self, base, _):
+        self.byte('r2', base)
+        self.lines += ['r7 = r0', f'r1 = {base}', 'call helper', 'r0 += r7']
+
+
+def contexts_of(rng, length):
+    """Contexts whose bytes are often small, so that indexes often lie inside."""
+    def byte():
+        return rng.randrange(max(length, 1)) if rng.random() < 0.6 else rng.choice([0, 1, 127, 128, 255, rng.randrange(256)])
+    return [bytes(byte() for _ in range(length)) for _ in range(12)]
+
+
+# ---- the command
+
+class Runner:
+    def __init__(self, bpf, folder):
+        self.bpf, self.folder = bpf, folder
+
+    def call(self, *words):
+        done = subprocess.run([self.bpf, *words], cwd=self.folder, capture_output=True, text=True, timeout=60)
+        if done.returncode not in (0, 1):
+            raise Wrong(f'{" ".join(words)}: status {done.returncode} {done.stderr.strip()}')
+        return done.returncode, done.stdout
+
+    def put(self, name, data):
+        with open(os.path.join(self.folder, name), 'wb') as it:
+            it.write(data)
+
+    def get(self, name):
+        with open(os.path.join(self.folder, name), 'rb') as it:
+            return it.read()
+
+    def on(self, words, contexts):
+        """What a run of each context ends with: a number, the letter and number of a fault, or nothing where it has no end."""
+        self.put('contexts', ''.join((c.hex() or 'none') + '\n' for c in contexts).encode())
+        said = self.call(*words, '--contexts', 'contexts')[1].splitlines()
+        if len(said) != len(contexts):
+            raise Wrong(f'{" ".join(words)}: {len(said)} answers for {len(contexts)} contexts')
+        return [int(m[1]) if (m := re.match(r'done (\d+)', line)) else m[1] if (m := re.match(r'fault (F\d)', line)) else None for line in said]
+
+    def hardened(self, length, *flags):
+        """Whether old.img is hardened to new.img, with a certificate new.cert."""
+        order = [flag for flag in flags if flag == '--big']
+        for name in ('new.img', 'new.cert'):
+            if os.path.exists(os.path.join(self.folder, name)):
+                os.remove(os.path.join(self.folder, name))
+        status, out = self.call('harden', 'old.img', str(length), 'new.img', '--otherwise', str(TRAP), *flags)
+        if status:
+            if not re.fullmatch(r'no H\d+ at slot \d+\n', out):
+                raise Wrong(f'harden says {out!r}')
+            return out.split()[1]
+        for words in (('infer', '--deep', *order, 'new.img', str(length), 'new.cert'), ('check', *order, 'new.img', 'new.cert')):
+            status, out = self.call(*words)
+            if status:
+                raise Wrong(f'{words[0]} of the hardened image says {out!r}')
+        return None
+
+
+def compare(run, order, cases, is_exact):
+    """Raises where a new answer isn't what the old one asks for: `cases` are contexts of the new program, and what the old one's run
+    ended with. A trap of a local function may answer its caller, so what comes of an F3 is told only where `is_exact`; where the frame
+    is written by a register, what hardening keeps may take its lowest bytes."""
+    told = [(context, was) for context, was in cases if isinstance(was, int) or was == 'F3' and is_exact]
+    new = run.on(['run-checked', *order, 'new.img', 'new.cert'], [context for context, _ in told]) if told else []
+    may_cut = is_written_by_register(run, order)
+    for (context, was), now in zip(told, new):
+        right = now == TRAP if was == 'F3' else was == now or may_cut and now == TRAP
+        if not right:
+            raise Wrong(f'on {context.hex()} {was} before, {now} hardened')
+
+
+def has_call(run, order):
+    return 'call' in run.call('list', *order, 'old.img')[1]
+
+
+def is_written_by_register(run, order):
+    listing = run.call('list', *order, 'old.img')[1]
+    return re.search(r'^(lock )?\*\(u\d+ \*\)\(r[0-9] ', listing, re.M) is not None
+
+
+def try_image(run, rng, length, order, tells):
+    """Hardens old.img and compares; `tells` says that an F3 is to end in the trap."""
+    why = run.hardened(length, *order)
+    if why:
+        return why
+    contexts = contexts_of(rng, length)
+    old = run.on(['run', *order, 'old.img', '--steps', str(STEPS)], contexts)
+    compare(run, order, list(zip(contexts, old)), tells and not has_call(run, order))
+    return 'same' if run.get('old.img') == run.get('new.img') else 'changed'
+
+
+def try_blocks(run, rng, most, order):
+    """Hardens old.img for blocks, and compares it on packets of many lengths."""
+    why = run.hardened(most + 8, '--padded', *order)
+    if why:
+        return why
+    packets = [rng.choice(contexts_of(rng, rng.randrange(most + 1))) for _ in range(12)]
+    way = 'big' if order else 'little'
+    blocks = [len(p).to_bytes(8, way) + p + bytes(rng.randrange(256) for _ in range(most - len(p))) for p in packets]
+    old = [run.on(['run', *order, 'old.img', '--steps', str(STEPS)], [packet])[0] for packet in packets]
+    compare(run, order, list(zip(blocks, old)), not has_call(run, order))
+    return 'blocks'
+
+
+def changed_byte(rng, image):
+    at = rng.randrange(len(image))
+    return image[:at] + bytes([rng.randrange(256)]) + image[at + 1:]
+
+
+def try_seed(bpf, seed):
+    """A random program, the same with a byte changed, and an example with a byte changed. What became of them."""
+    rng, found = random.Random(seed), collections.Counter()
+    order = ['--big'] if rng.random() < 0.2 else []
+    with tempfile.TemporaryDirectory() as folder:
+        run = Runner(bpf, folder)
+        program = Program(rng)
+        run.put('p.asm', ''.join(line + '\n' for line in program.lines).encode())
+        try:
+            status, out = run.call('asm', *order, 'p.asm', 'old.img')
+            if status:
+                raise Wrong(f'asm says {out!r}')
+            image = run.get('old.img')
+            found[try_image(run, rng, program.length, order, True)] += 1
+            if seed % 4 == 0:
+                found[try_blocks(run, rng, program.length, order)] += 1
+            example = rng.choice(sorted(EXAMPLES.glob('*.img'))).read_bytes()
+            for other, length, way in ((image, program.length, order), (example, 128, [])):
+                run.put('old.img', changed_byte(rng, other))
+                if run.call('list', *way, 'old.img')[0] == 0:
+                    found[try_image(run, rng, length, way, False)] += 1
+        except Wrong as wrong:
+            name = f'harden-{seed}.img'
+            pathlib.Path(name).write_bytes(run.get('old.img'))
+            raise Wrong(f'seed {seed}, length {program.length} {order}: {wrong}; the image is {name}') from None
+    return found
+
+
+def main():
+    bpf = os.path.abspath(sys.argv[1])
+    count = int(sys.argv[2]) if len(sys.argv) > 2 else 600
+    first = int(sys.argv[3]) if len(sys.argv) > 3 else 1
+    found = collections.Counter()
+    try:
+        with ThreadPoolExecutor(os.cpu_count()) as pool:
+            for each in pool.map(lambda seed: try_seed(bpf, seed), range(first, first + count)):
+                found += each
+    except Wrong as wrong:
+        sys.exit(f'harden.py: {wrong}')
+    hardened = found['same'] + found['changed'] + found['blocks']
+    refused = ', '.join(f'{number} {found[number]}' for number in sorted(found, key=lambda n: (len(n), n)) if number[0] == 'H')
+    if found['changed'] < count // 3:
+        sys.exit(f'harden.py: of {count} programs {found["changed"]} alone were changed: {refused}')
+    print(f'harden: {hardened} programs answer as before ({found["same"]} unchanged, {found["changed"]} changed, {found["blocks"]} in blocks); '
+          f'refused: {refused or "none"}')
+
+
+if __name__ == '__main__':
+    main()
