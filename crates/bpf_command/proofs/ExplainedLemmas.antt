@@ -1,18 +1,19 @@
 -- The status of what is explained, from what is said of the image, the text and the certificate.
-use Rattle.std.proofs.Common.{◌≡◌, ◌⊎◌, ℕ, List, Option, None, false, Result, Ok, Err, IfOk, IfErr, refl, inl, inr, ◌∙◌}
+use Rattle.std.proofs.Common.{◌≡◌, ◌⊎◌, ℕ, List, Option, Some, None, false, Result, Ok, Err, IfOk, IfErr, refl, sym, subst, inl, inr, ◌∙◌}
 use Rattle.bpf_insn.specs.Instruction.{Instructions}
 use Rattle.bpf_insn.specs.declared.order.Order.{Order}
 use Rattle.bpf_cert.specs.View.{CertificateView}
 use Rattle.bpf_check.specs.CheckedProgram.{CheckedProgram}
-use Rattle.bpf_command.specs.Opened.{Opening}
-use Rattle.bpf_command.specs.Loaded.{LoadsImage, CertificateAt}
+use Rattle.bpf_command.specs.Opened.{Opening, Unreadable}
+use Rattle.bpf_command.specs.Loaded.{LoadsImage, CertificateAt, TextAt, TextFails}
 use Rattle.bpf_command.specs.Answer.{Answer, Says, status_of}
 use Rattle.bpf_command.specs.Answer.Answer.{Yes, NoImage, NotCertified, Written}
 use Rattle.bpf_command.specs.Printed.{ImageSays, JudgedSays, LoadedSays, YesSays}
 use Rattle.std.specs.Borrow.{Bor}
 use Rattle.bpf_request.specs.declared.subject.Subject.{Subject}
 use Rattle.bpf_command.specs.declared.failure.Failure.{Failure}
-use Rattle.bpf_command.specs.Explained.{Answers, ExplainFails, ExplainSays, ExplainWithFails, ExplainWithSays, JudgesOf, LinesAt, SoughtSays}
+use Rattle.bpf_command.specs.declared.failure.Failure.TheVariants.{CannotRead}
+use Rattle.bpf_command.specs.Explained.{Answers, ExplainFails, ExplainSays, ExplainWithFails, ExplainWithSays, JudgesOf, LinesAt, LinesFail, Opens, SoughtSays}
 use Rattle.bpf_command.proofs.JudgedLemmas.{loaded_says}
 
 -- an answer that was printed has its status
@@ -70,3 +71,28 @@ pub with_lines_fails : {S : Type 0} (result : Result ℕ Failure) (o : Opening S
     → IfErr result (ExplainFails o order between input subject new) → IfErr result (ExplainWithFails o order old input subject lines new)
 with_lines_fails (Ok s) o order old input subject lines between new read h = tt
 with_lines_fails (Err e) o order old input subject lines between new read h = inr (between, read, h)
+
+tried : {S : Type 0} {P : List ℕ → Type 0} (o : Opening S) (old : S) (name : List ℕ) (new : S) → Unreadable o old name new ⊎ TextAt o old name new P → Opens o old name new
+tried o old name new (inl (inl h)) = (None, h)
+tried o old name new (inl (inr h)) = (Some h.0, h.1)
+tried o old name new (inr h) = (Some h.0, h.1)
+
+lines_fail : {S : Type 0} (o : Opening S) (old : S) (name : Bor (List ℕ)) (new : S) (f : Failure) → TextFails o old name.now new f → LinesFail o old (Some name) new f
+lines_fail o old name new (CannotRead n) h = (h.0, tried o old name.now new h.1)
+lines_fail o old name new f h = h
+
+-- the text at the name can't be read
+pub lines_unread : {S A : Type 0} (result : Result A Failure) (o : Opening S) (old : S) (lines : Option (Bor (List ℕ))) (name : Bor (List ℕ)) (new : S) → lines ≡ Some name
+    → IfErr result (TextFails o old name.now new) → IfErr result (LinesFail o old lines new)
+lines_unread (Ok x) o old lines name new is h = tt
+lines_unread (Err f) o old lines name new is h = subst (λ l. LinesFail o old l new f) (sym is) (lines_fail o old name new f h)
+
+-- it can, and is no table
+pub no_table : {S : Type 0} {P : List ℕ → Type 0} (o : Opening S) (old : S) (lines : Option (Bor (List ℕ))) (name : Bor (List ℕ)) (new : S) → lines ≡ Some name
+    → TextAt o old name.now new P → LinesFail o old lines new (CannotRead name)
+no_table o old lines name new is h = subst (λ l. LinesFail o old l new (CannotRead name)) (sym is) (refl, (Some h.0, h.1))
+
+-- it is one
+pub lines_read : {S : Type 0} {P : List ℕ → Type 0} (o : Opening S) (old : S) (lines : Option (Bor (List ℕ))) (name : Bor (List ℕ)) (new : S) → lines ≡ Some name
+    → TextAt o old name.now new P → LinesAt o old lines new
+lines_read o old lines name new is h = subst (λ l. LinesAt o old l new) (sym is) (Some h.0, h.1)

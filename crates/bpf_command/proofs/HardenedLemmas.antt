@@ -1,5 +1,5 @@
 -- What is said of the two names of a hardening, from what is said of each.
-use Rattle.std.proofs.Common.{◌≡◌, ℕ, List, true, Option, Result, Ok, Err, IfOk, IfErr, inr}
+use Rattle.std.proofs.Common.{◌≡◌, ℕ, List, true, false, Option, Result, Ok, Err, IfOk, IfErr, refl, sym, subst, inl, inr}
 use Rattle.bpf_insn.specs.Instruction.{Instructions}
 use Rattle.bpf_insn.specs.Image.{image}
 use Rattle.bpf_request.specs.declared.hardening.Hardening.{Hardening}
@@ -24,3 +24,10 @@ notes_fail (Ok s) opening making old h between put new made hardens whole fails 
 notes_fail (Err (CannotWrite name)) opening making old h between put new made hardens whole fails = inr (inr (between, put, made, hardens, whole, fails))
 notes_fail (Err (CannotRead name)) opening making old h between put new made hardens whole fails = absurd fails
 notes_fail (Err failure) opening making old h between put new made hardens whole fails = absurd fails
+
+pub out_fails : {S A : Type 0} (result : Result A Failure) (opening : Opening S) (making : Making S) (old : S) (h : Hardening) (between new : S) (made : Instructions)
+    → Hardens opening old h between made
+    → IfErr result (λ failure. (failure ≡ CannotWrite h.output) × making between h.output.now (image made.order made.list) false new) → IfErr result (HardenFails opening making old h new)
+out_fails (Ok s) opening making old h between new made hardens fails = tt
+out_fails (Err f) opening making old h between new made hardens fails =
+    subst (HardenFails opening making old h new) (sym fails.0) (inr (inl (refl, (between, made, hardens, fails.1))))
