@@ -1,6 +1,6 @@
 #!/usr/bin/env bash
 # library.sh: proves and builds the static library for hosts over the libraries that `rt ci` has just proved and left. `rt lib`, which
-# ./install calls where there is no such library yet, takes nothing that `rt ci` leaves, and would prove each of them again.
+# ./build calls, takes nothing that `rt ci` leaves, and would prove each of them again.
 set -euo pipefail
 root=$(cd "$(dirname "${BASH_SOURCE[0]}")/.." && pwd)
 kit=$(cd "$(dirname "$(readlink -f "$(command -v rt)")")/.." && pwd)
