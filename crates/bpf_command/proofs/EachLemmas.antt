@@ -3,7 +3,7 @@ use Rattle.std.proofs.Common.{◌≡◌, ℕ, List, Option, Result, Ok, Err, IfO
 use Rattle.bpf_insn.specs.Instruction.{Instructions}
 use Rattle.bpf_cert.specs.View.{CertificateView}
 use Rattle.bpf_check.specs.CheckedProgram.{CheckedProgram, IsCertifiedBy, checked}
-use Rattle.bpf_command.specs.Opened.{Opening}
+use Rattle.bpf_places.specs.Opened.{Opening}
 use Rattle.bpf_command.specs.Loaded.{CertificateAt}
 use Rattle.bpf_command.specs.Each.{AnswersAt, FailsAt}
 use Rattle.bpf_command.specs.Given.{JudgedEachSays, JudgedEachFails}

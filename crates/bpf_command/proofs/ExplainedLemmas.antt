@@ -4,7 +4,7 @@ use Rattle.bpf_insn.specs.Instruction.{Instructions}
 use Rattle.bpf_insn.specs.declared.order.Order.{Order}
 use Rattle.bpf_cert.specs.View.{CertificateView}
 use Rattle.bpf_check.specs.CheckedProgram.{CheckedProgram}
-use Rattle.bpf_command.specs.Opened.{Opening, Unreadable}
+use Rattle.bpf_places.specs.Opened.{Opening, Unreadable}
 use Rattle.bpf_command.specs.Loaded.{LoadsImage, CertificateAt, TextAt, TextFails}
 use Rattle.bpf_command.specs.Answer.{Answer, Says, status_of}
 use Rattle.bpf_command.specs.Answer.Answer.{Yes, NoImage, NotCertified, Written}

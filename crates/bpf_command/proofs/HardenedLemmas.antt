@@ -3,8 +3,8 @@ use Rattle.std.proofs.Common.{◌≡◌, ℕ, List, true, false, Option, Result,
 use Rattle.bpf_insn.specs.Instruction.{Instructions}
 use Rattle.bpf_insn.specs.Image.{image}
 use Rattle.bpf_request.specs.declared.hardening.Hardening.{Hardening}
-use Rattle.bpf_command.specs.Opened.{Opening}
-use Rattle.bpf_command.specs.Made.{Making}
+use Rattle.bpf_places.specs.Opened.{Opening}
+use Rattle.bpf_places.specs.Made.{Making}
 use Rattle.bpf_command.specs.Answer.{Answer, Says}
 use Rattle.bpf_command.specs.Hardened.{HardenFails, HardenSays, Hardens, NotesAt, NotesFail}
 use Rattle.bpf_command.specs.declared.failure.Failure.{Failure}

@@ -5,6 +5,5 @@ pub mod MadeLemmas
 pub mod HardenedLemmas
 pub mod JudgedLemmas
 pub mod LinesLemmas
-pub mod ReadingLemmas
 pub mod EachLemmas
 pub mod ExplainedLemmas

@@ -2,7 +2,7 @@
 use Rattle.std.proofs.Common.{◌≡◌, ℕ, ◌<◌, ◌≤◌, List, [], length, Option, Some, None, IfSome, inl, inr, refl, sym, subst}
 use Rattle.std.specs.Prelude.{◌⊎◌}
 use Rattle.std.specs.Str.{IsUtf8}
-use Rattle.bpf_command.specs.Opened.{Fails, Opening}
+use Rattle.bpf_places.specs.Opened.{Fails, Opening}
 use Rattle.bpf_command.specs.Loaded.{ShortTextAt, max_text}
 
 if_some : {A : Type 0} (o : Option A) {P Q : A → Type 0} → ((x : A) → P x → Q x) → IfSome o P → IfSome o Q

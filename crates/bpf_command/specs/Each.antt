@@ -1,7 +1,7 @@
 -- The answers to the contexts at a name, one a line.
 use Rattle.std.specs.Prelude.{◌≡◌, ◌⊎◌, ℕ, List, Option, Some, None, IfSome}
 use Rattle.std.specs.Io.KnownBytes.{Appends}
-use Rattle.bpf_command.specs.Opened.{Opening}
+use Rattle.bpf_places.specs.Opened.{Opening}
 use Rattle.bpf_command.specs.Answer.{Answer}
 use Rattle.bpf_command.specs.Lines.{AllAnswered, BegunLines, RefusedLine, texts_of}
 use Rattle.bpf_command.specs.Told.{OutputFails}

@@ -11,7 +11,7 @@ use Rattle.bpf_safety.specs.Certified.{IsLeastFlaw}
 use Rattle.bpf_check.specs.CheckedProgram.{IsCertifiedBy}
 use Rattle.bpf_check.specs.declared.refusal.Refusal.{Refusal}
 use Rattle.bpf_check.specs.RefusalNumbers.{refusal_slot, refusal_number}
-use Rattle.bpf_command.specs.Opened.{Opening}
+use Rattle.bpf_places.specs.Opened.{Opening}
 use Rattle.bpf_command.specs.Loaded.{ImageFails, ShortTextAt, TextFails}
 use Rattle.bpf_command.specs.Answer.{Answer, status_of}
 use Rattle.bpf_command.specs.Answer.Answer.{NoText, NotCertified, NotProposed, Lists, Written}

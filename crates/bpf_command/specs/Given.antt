@@ -5,7 +5,7 @@ use Rattle.bpf_insn.specs.declared.order.Order.{Order}
 use Rattle.bpf_cert.specs.View.{CertificateView}
 use Rattle.bpf_check.specs.CheckedProgram.{IsCertifiedBy, checked}
 use Rattle.bpf_command.specs.Context.{context_in, max_context}
-use Rattle.bpf_command.specs.Opened.{Opening, Unreadable}
+use Rattle.bpf_places.specs.Opened.{Opening, Unreadable}
 use Rattle.bpf_command.specs.Loaded.{LoadsImage, ImageFails, TextAt, CertificateAt, CertificateFails}
 use Rattle.bpf_command.specs.Answer.{Answer, Answered, Says}
 use Rattle.bpf_command.specs.Each.{AnswersAt, FailsAt}

@@ -5,9 +5,9 @@ use Rattle.bpf_insn.specs.Instruction.{Instructions, slots}
 use Rattle.bpf_insn.specs.Image.{IsProgram, image}
 use Rattle.bpf_harden_notes.specs.RefusalNumbers.{harden_slot}
 use Rattle.bpf_request.specs.declared.hardening.Hardening.{Hardening}
-use Rattle.bpf_command.specs.Opened.{Opening}
+use Rattle.bpf_places.specs.Opened.{Opening}
 use Rattle.bpf_command.specs.Loaded.{ImageFails, ImageRefused, LoadsImage}
-use Rattle.bpf_command.specs.Made.{Making}
+use Rattle.bpf_places.specs.Made.{Making}
 use Rattle.bpf_command.specs.Answer.{Answer}
 use Rattle.bpf_command.specs.Answer.Answer.{NoImage, NotHardened, Written}
 use Rattle.bpf_command.specs.Told.{OutputFails}

@@ -1,10 +1,8 @@
 pub mod Context
 pub mod Lines
-pub mod Opened
 pub mod Told
 pub mod Each
 pub mod Loaded
-pub mod Made
 pub mod Answer
 pub mod Printed
 pub mod Hardened

@@ -12,7 +12,7 @@ use Rattle.bpf_cert.specs.ReadAnswers.{IsFaultOf}
 use Rattle.bpf_cert.specs.declared.error.CertError.{CertError}
 use Rattle.bpf_cert.specs.declared.error.CertError.TheVariants as errors
 use Rattle.std.specs.Str.{IsUtf8}
-use Rattle.bpf_command.specs.Opened.{Opening, ReadsAt, Unreadable}
+use Rattle.bpf_places.specs.Opened.{Opening, ReadsAt, Unreadable}
 use Rattle.bpf_command.specs.Told.{OutputFails}
 use Rattle.bpf_command.specs.declared.failure.Failure.{Failure}
 use Rattle.bpf_command.specs.declared.failure.Failure.TheVariants.{CannotRead}

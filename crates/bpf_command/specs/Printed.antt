@@ -22,9 +22,9 @@ use Rattle.bpf_infer_error.specs.RefusalNumbers.{infer_slot}
 use Rattle.bpf_command.specs.Context.{context_in, max_context}
 use Rattle.bpf_command.specs.declared.context.ContextError.{ContextError}
 use Rattle.bpf_command.specs.declared.context.ContextError.TheVariants.{Memory as NoSpace}
-use Rattle.bpf_command.specs.Opened.{Opening}
+use Rattle.bpf_places.specs.Opened.{Opening}
 use Rattle.bpf_command.specs.Loaded.{ImageRefused, LoadsImage, ImageFails, ShortTextAt, TextFails, CertificateAt, CertificateRefused, CertificateUnread, CertificateFails}
-use Rattle.bpf_command.specs.Made.{Making}
+use Rattle.bpf_places.specs.Made.{Making}
 use Rattle.bpf_command.specs.Answer.{Answer}
 use Rattle.bpf_command.specs.Answer.Answer.{Yes, NoImage, NoText, NoCertificate, NotCertified, NotProposed, NoContext, Ends, Ran, Occur, Lists, Annotates, Written}
 use Rattle.bpf_command.specs.Told.{OutputFails}

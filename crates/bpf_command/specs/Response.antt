@@ -5,8 +5,8 @@ use Rattle.std.specs.Borrow.{Bor}
 use Rattle.std.specs.Io.KnownBytes.{Keeps}
 use Rattle.clap.specs.Words.{Text, subcommand_of}
 use Rattle.bpf_request.specs.CommandLine.{IsAsked, bpf, faults_in, name_of}
-use Rattle.bpf_command.specs.Opened.{Opening}
-use Rattle.bpf_command.specs.Made.{Making}
+use Rattle.bpf_places.specs.Opened.{Opening}
+use Rattle.bpf_places.specs.Made.{Making}
 use Rattle.bpf_command.specs.Loaded.{ImageFails}
 use Rattle.bpf_command.specs.Answer.{Answered}
 use Rattle.bpf_command.specs.Printed.{LoadedFails, ImageSays, GroupsSay, ListSays, notes_of, AsmSays, AsmFails, InferSays, InferFails, MigrateSays, MigrateFails, CheckSays}

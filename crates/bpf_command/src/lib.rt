@@ -5,17 +5,11 @@ mod aside;
 mod commands;
 mod context;
 mod failure;
-mod files;
-mod keeping;
-mod places;
 mod progress;
-mod reading;
 mod response;
 
 pub use aside::Aside;
 pub use context::{ContextError, context_of};
 pub use failure::{FAILED, Failure, tell};
-pub use files::FilePlaces;
-pub use places::Places;
 pub use progress::Progress;
 pub use response::respond;

@@ -2,8 +2,8 @@
 
 ghost use Rattle.std.specs.Prelude.{◌≡◌, IfOk, IfErr, None, map};
 ghost use Rattle.std.specs.String.{string_bytes};
-ghost use Rattle.bpf_command.specs.Opened.{opening};
-ghost use Rattle.bpf_command.specs.Made.{making};
+ghost use Rattle.bpf_places.specs.Opened.{opening};
+ghost use Rattle.bpf_places.specs.Made.{making};
 ghost use Rattle.bpf_command.specs.Response.{Does, Fails, Misses, Responds, conflict_of, conflict_with, misplaced, name_given, out_of_order, thrice, twice, written_twice};
 ghost use Rattle.bpf_command.specs.Told.{IsTold};
 
@@ -13,7 +13,7 @@ use crate::commands::{
     ran_checked_on, ran_on,
 };
 use crate::failure::{BAD_WORDS, FAILED, Failure, tell};
-use crate::places::Places;
+use bpf_places::Places;
 use bpf_request::{Request, Subject, request_of};
 use clap::error::ErrorKind;
 use std::alloc::Global;

@@ -3,15 +3,15 @@
 ghost use Rattle.std.specs.Prelude.{◌≡◌, IfOk, IfErr, MatchResult};
 ghost use Rattle.bpf_command.specs.Answer.{Says};
 ghost use Rattle.bpf_command.specs.Answer.Answer.{NoCertificate, NotCertified};
-ghost use Rattle.bpf_command.specs.Opened.{opening};
+ghost use Rattle.bpf_places.specs.Opened.{opening};
 ghost use Rattle.bpf_command.specs.Loaded.{CertificateAt, CertificateRefused, CertificateFails};
 ghost use Rattle.bpf_command.specs.Told.{OutputFails};
 
 use crate::commands::refusal::refuse_at;
 use crate::failure::Failure;
-use crate::places::Places;
 use bpf_cert::{CertError, Certificate, read};
 use bpf_check::Refusal;
+use bpf_places::Places;
 use std::alloc::Global;
 use std::io::Write;
 

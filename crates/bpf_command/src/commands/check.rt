@@ -1,15 +1,15 @@
 //! `bpf check IN CERT`.
 
 ghost use Rattle.std.specs.Prelude.{IfOk, IfErr};
-ghost use Rattle.bpf_command.specs.Opened.{opening};
+ghost use Rattle.bpf_places.specs.Opened.{opening};
 ghost use Rattle.bpf_command.specs.Answer.{Answered};
 ghost use Rattle.bpf_command.specs.Printed.{CheckSays, LoadedFails};
 
 use crate::commands::image::{image_at, refuse};
 use crate::commands::judged::{Wish, judged};
 use crate::failure::Failure;
-use crate::places::Places;
 use bpf_insn::{Order, ProgramView, image_is_injective};
+use bpf_places::Places;
 use bpf_safety::{certified_is_flat_safe, certified_is_safe};
 use std::alloc::Global;
 use std::io::Write;

@@ -1,16 +1,16 @@
 //! Contexts at a name, one a line, and the answer to each.
 
 ghost use Rattle.std.specs.Prelude.{◌≡◌, ◌≤◌, IfOk, IfErr, length};
-ghost use Rattle.bpf_command.specs.Opened.{opening};
+ghost use Rattle.bpf_places.specs.Opened.{opening};
 ghost use Rattle.bpf_command.specs.Lines.{AllAnswered, Spelled, Turns};
 ghost use Rattle.bpf_command.specs.Each.{AnswersAt, FailsAt, LinesFail};
 
 use crate::context::ContextError;
 use crate::failure::{DONE, Failure};
-use crate::places::Places;
 use arrayvec::ArrayVec;
 use bpf_insn::MAX_CONTEXT;
 use bpf_lines::{LineReader, Stop};
+use bpf_places::Places;
 use std::alloc::Global;
 use std::io::{Read, Write};
 

@@ -1,7 +1,7 @@
 //! `bpf explain IN`, and the same with a certificate, over the inferrer's work, and of a text.
 
 ghost use Rattle.std.specs.Prelude.{◌≡◌, ◌⊎◌, IfOk, IfErr, None, MatchResult, false};
-ghost use Rattle.bpf_command.specs.Opened.{opening};
+ghost use Rattle.bpf_places.specs.Opened.{opening};
 ghost use Rattle.bpf_command.specs.Loaded.{CertificateAt, CertificateFails, CertificateRefused, ImageFails, TextFails};
 ghost use Rattle.bpf_command.specs.Explained.{Answers, ExplainFails, ExplainSays, ExplainWithFails, ExplainWithSays, JudgesOf, LinesAt, LinesFail, SoughtSays, TextSays};
 ghost use Rattle.bpf_command.specs.Printed.{ImageSays, JudgedSays, ListSays, LoadedFails, LoadedSays, YesSays};
@@ -11,8 +11,6 @@ use crate::commands::asm::{refuse_text, text_at};
 use crate::commands::certificate;
 use crate::commands::image::{image_at, refuse};
 use crate::failure::{DONE, Failure, REFUSED};
-use crate::keeping::Keeping;
-use crate::places::Places;
 use bpf_cert::{CertError, Certificate, read};
 use bpf_check::check;
 use bpf_explain::{
@@ -21,6 +19,7 @@ use bpf_explain::{
 };
 use bpf_infer::Watch;
 use bpf_insn::{Code, DecodeError, MAX_CONTEXT, Order, Program, ProgramView, decode};
+use bpf_places::{Keeping, Places};
 use bpf_request::Subject;
 use bpf_text::{TextError, assemble};
 use std::alloc::Global;

@@ -1,7 +1,7 @@
 //! `bpf groups IN`.
 
 ghost use Rattle.std.specs.Prelude.{◌≡◌, IfOk, IfErr};
-ghost use Rattle.bpf_command.specs.Opened.{opening};
+ghost use Rattle.bpf_places.specs.Opened.{opening};
 ghost use Rattle.bpf_command.specs.Answer.{Answered, Says, groups_line};
 ghost use Rattle.bpf_command.specs.Answer.Answer.{Occur};
 ghost use Rattle.bpf_command.specs.Loaded.{ImageFails};
@@ -10,8 +10,8 @@ ghost use Rattle.bpf_command.specs.Told.{OutputFails};
 
 use crate::commands::image::{image_at, refuse};
 use crate::failure::{DONE, Failure, say};
-use crate::places::Places;
 use bpf_insn::{Groups, Order, ProgramView};
+use bpf_places::Places;
 use std::alloc::Global;
 use std::io::Write;
 

@@ -1,7 +1,7 @@
 //! Images at a name, and why they are refused.
 
 ghost use Rattle.std.specs.Prelude.{◌≡◌, IfOk, IfErr, MatchResult};
-ghost use Rattle.bpf_command.specs.Opened.{opening, ReadsAt};
+ghost use Rattle.bpf_places.specs.Opened.{opening, ReadsAt};
 ghost use Rattle.bpf_command.specs.Loaded.{NoSpaceFor, ImageRefused, LoadsImage, ImageFails};
 ghost use Rattle.bpf_command.specs.Answer.{Says};
 ghost use Rattle.bpf_command.specs.Answer.Answer.{NoImage};
@@ -9,8 +9,8 @@ ghost use Rattle.bpf_command.specs.Told.{OutputFails};
 
 use crate::commands::refusal::refuse_at;
 use crate::failure::Failure;
-use crate::places::Places;
 use bpf_insn::{DecodeError, Order, Program, decode, read_image};
+use bpf_places::Places;
 use std::alloc::Global;
 use std::io::Write;
 

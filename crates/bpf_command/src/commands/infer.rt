@@ -7,18 +7,18 @@ ghost use Rattle.bpf_cert.specs.Limits.{IsCertificate};
 ghost use Rattle.bpf_infer_error.specs.RefusalNumbers.{infer_slot};
 ghost use Rattle.bpf_command.specs.Answer.{Answered, Says, text_of};
 ghost use Rattle.bpf_command.specs.Answer.Answer.{NotProposed};
-ghost use Rattle.bpf_command.specs.Made.{making};
-ghost use Rattle.bpf_command.specs.Opened.{opening};
+ghost use Rattle.bpf_places.specs.Made.{making};
+ghost use Rattle.bpf_places.specs.Opened.{opening};
 ghost use Rattle.bpf_command.specs.Printed.{InferSays, InferFails};
 ghost use Rattle.bpf_command.specs.Told.{OutputFails};
 
 use crate::commands::image::{program_at, refuse};
 use crate::commands::output::put;
 use crate::failure::{Failure, REFUSED, say};
-use crate::places::Places;
 use bpf_cert::Certificate;
 use bpf_infer::{InferError, Watch, infer, search};
 use bpf_insn::{MAX_CONTEXT, Order, Program};
+use bpf_places::Places;
 use std::alloc::{AllocError, Global};
 use std::io::Write;
 

@@ -2,7 +2,7 @@
 
 ghost use Rattle.std.specs.Prelude.{◌≡◌, IfOk, IfErr, None, Some};
 ghost use Rattle.bpf_insn.specs.Image.{image};
-ghost use Rattle.bpf_command.specs.Opened.{opening};
+ghost use Rattle.bpf_places.specs.Opened.{opening};
 ghost use Rattle.bpf_command.specs.Answer.{Answered, Says};
 ghost use Rattle.bpf_command.specs.Answer.Answer.{Annotates, Lists};
 ghost use Rattle.bpf_command.specs.Loaded.{ImageFails};
@@ -11,8 +11,8 @@ ghost use Rattle.bpf_command.specs.Told.{OutputFails};
 
 use crate::commands::image::{image_at, program_at, refuse};
 use crate::failure::{DONE, Failure};
-use crate::places::Places;
 use bpf_insn::{Order, Program, ProgramView};
+use bpf_places::Places;
 use bpf_text::{Notes, annotate};
 use std::alloc::Global;
 use std::io::Write;

@@ -1,16 +1,16 @@
 //! `bpf migrate CERT OUT`.
 
 ghost use Rattle.std.specs.Prelude.{IfOk, IfErr};
-ghost use Rattle.bpf_command.specs.Opened.{opening};
-ghost use Rattle.bpf_command.specs.Made.{making};
+ghost use Rattle.bpf_places.specs.Opened.{opening};
+ghost use Rattle.bpf_places.specs.Made.{making};
 ghost use Rattle.bpf_command.specs.Answer.{Answered};
 ghost use Rattle.bpf_command.specs.Printed.{MigrateSays, MigrateFails};
 
 use crate::commands::certificate::{certificate_at, refuse_text};
 use crate::commands::output::put;
 use crate::failure::Failure;
-use crate::places::Places;
 use bpf_cert::migrate;
+use bpf_places::Places;
 use std::alloc::Global;
 use std::io::Write;
 

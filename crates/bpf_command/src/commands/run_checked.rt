@@ -2,7 +2,7 @@
 
 ghost use Rattle.std.specs.Prelude.{◌≡◌, ℕ, List, Ok, IfOk, IfErr};
 ghost use Rattle.bpf_command.specs.Context.{context_in};
-ghost use Rattle.bpf_command.specs.Opened.{opening};
+ghost use Rattle.bpf_places.specs.Opened.{opening};
 ghost use Rattle.bpf_command.specs.Answer.{Answer, Answered, Says};
 ghost use Rattle.bpf_command.specs.Given.{CheckedAtSays, CheckedEachFails, CheckedEachSays, CheckedFails, CheckedSays, FailsBehind};
 ghost use Rattle.bpf_command.specs.Printed.{RunCheckedSays, LoadedFails, FailsWith};
@@ -12,8 +12,8 @@ use crate::commands::judged::{Wish, judged, judged_each};
 use crate::commands::whole::context_at;
 use crate::context::context_of;
 use crate::failure::Failure;
-use crate::places::Places;
 use bpf_insn::Order;
+use bpf_places::Places;
 use bpf_request::Contexts;
 use std::alloc::Global;
 use std::io::Write;

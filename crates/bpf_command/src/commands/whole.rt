@@ -1,14 +1,13 @@
 //! The context that all bytes at a name are.
 
 ghost use Rattle.std.specs.Prelude.{IfOk, IfErr};
-ghost use Rattle.bpf_command.specs.Opened.{opening};
+ghost use Rattle.bpf_places.specs.Opened.{opening};
 ghost use Rattle.bpf_command.specs.Given.{ContextAt, ContextFails};
 
 use crate::context::ContextError;
 use crate::failure::Failure;
-use crate::places::Places;
-use crate::reading::read_up_to;
 use bpf_insn::MAX_CONTEXT;
+use bpf_places::{Places, read_up_to};
 use std::alloc::Global;
 
 /// The context at a name.

@@ -3,7 +3,7 @@ use Rattle.std.proofs.lemmas.Bool.{false≢true}
 use Rattle.std.specs.Io.KnownBytes.{Consumes, IsAtEnd}
 use Rattle.std.specs.Str.{IsUtf8}
 use Rattle.std.specs.String.{string_bytes}
-use Rattle.bpf_command.proofs.ReadingLemmas.{at_end, some_is, too_many}
+use Rattle.bpf_places.proofs.ReadingLemmas.{at_end, some_is, too_many}
 use Rattle.bpf_command.proofs.TextLemmas.{may_fail, short_text, no_text, long_text}
 use Rattle.bpf_command.proofs.commands.asm.text_at.Goals as goal
 

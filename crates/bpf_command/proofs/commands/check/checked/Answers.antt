@@ -2,7 +2,7 @@ use Rattle.std.proofs.Common.{rules, ◌≡◌}
 use Rattle.bpf_cert.specs.View.{CertificateView}
 use Rattle.bpf_check.specs.CheckedProgram.{IsCertifiedBy}
 use Rattle.bpf_check.specs.Verdicts.{Verified}
-use Rattle.bpf_command.specs.Opened.{opening}
+use Rattle.bpf_places.specs.Opened.{opening}
 use Rattle.bpf_command.specs.Loaded.{LoadsImage}
 use Rattle.bpf_command.specs.Printed.{CheckSays, YesSays, IsPromised}
 use Rattle.bpf_command.proofs.LoadedLemmas.{read_of}

@@ -1,5 +1,5 @@
 use Rattle.std.proofs.Common.{◌≡◌, refl, false, inl, inr, rules}
-use Rattle.bpf_command.specs.Opened.{opening}
+use Rattle.bpf_places.specs.Opened.{opening}
 use Rattle.bpf_command.specs.Loaded.{LoadsImage, NoSpaceFor}
 use Rattle.bpf_command.specs.Answer.Answer.{NoImage}
 use Rattle.bpf_command.specs.Printed.{LoadedSays, YesSays}

@@ -1,6 +1,6 @@
 use Rattle.std.proofs.Common.{◌≡◌, refl, inl, rules}
 use Rattle.bpf_insn.specs.declared.refusal.DecodeError.TheVariants.{Memory}
-use Rattle.bpf_command.specs.Opened.{opening}
+use Rattle.bpf_places.specs.Opened.{opening}
 use Rattle.bpf_command.specs.Loaded.{ImageRefused, LoadsImage, NoSpaceFor}
 use Rattle.bpf_command.specs.Answer.Answer.{NoImage}
 use Rattle.bpf_command.specs.Printed.{ImageSays}

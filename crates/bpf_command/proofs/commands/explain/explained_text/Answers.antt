@@ -2,7 +2,7 @@ use Rattle.std.proofs.Common.{◌≡◌, ◌⊎◌, refl, inl, rules}
 use Rattle.std.specs.String.{string_bytes}
 use Rattle.bpf_text.specs.Assembly.{Assembles, IsRefused}
 use Rattle.bpf_text.specs.declared.error.TextError.TheVariants.{Memory}
-use Rattle.bpf_command.specs.Opened.{opening}
+use Rattle.bpf_places.specs.Opened.{opening}
 use Rattle.bpf_command.specs.Loaded.{ShortTextAt}
 use Rattle.bpf_command.specs.Answer.Answer.{NoText, Lists}
 use Rattle.bpf_command.specs.Explained.{TextSays}

@@ -1,5 +1,5 @@
 use Rattle.std.proofs.Common.{refl, false, rules}
-use Rattle.bpf_command.specs.Opened.{opening}
+use Rattle.bpf_places.specs.Opened.{opening}
 use Rattle.bpf_command.specs.Loaded.{CertificateAt, CertificateRefused}
 use Rattle.bpf_command.specs.Answer.Answer.{NoCertificate}
 use Rattle.bpf_command.specs.Printed.{JudgedSays, YesSays}

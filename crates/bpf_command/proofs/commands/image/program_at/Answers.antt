@@ -1,5 +1,5 @@
 use Rattle.std.proofs.Common.{rules, ◌≡◌}
-use Rattle.bpf_command.specs.Opened.{opening}
+use Rattle.bpf_places.specs.Opened.{opening}
 use Rattle.bpf_command.proofs.LoadedLemmas.{decoded, read_of}
 use Rattle.bpf_command.proofs.commands.image.program_at.Goals as goal
 

@@ -1,8 +1,8 @@
 use Rattle.std.proofs.Common.{rules, ◌≡◌, subst, true}
 use Rattle.bpf_cert.specs.Spelling.{certificate_text}
-use Rattle.bpf_command.specs.Opened.{opening}
+use Rattle.bpf_places.specs.Opened.{opening}
 use Rattle.bpf_command.specs.Loaded.{CertificateAt}
-use Rattle.bpf_command.specs.Made.{making}
+use Rattle.bpf_places.specs.Made.{making}
 use Rattle.bpf_command.specs.Printed.{MigrateSays, migrated}
 use Rattle.bpf_command.proofs.MadeLemmas.{put_says}
 use Rattle.bpf_command.proofs.commands.migrate.migrated.Goals as goal

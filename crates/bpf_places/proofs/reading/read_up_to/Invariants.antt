@@ -1,6 +1,6 @@
 use Rattle.std.proofs.Common.{◌-◌, suc, vec_len}
 use Rattle.std.specs.Io.KnownBytes.{Consumes}
-use Rattle.bpf_command.proofs.reading.read_up_to.Given as goal
+use Rattle.bpf_places.proofs.reading.read_up_to.Given as goal
 
 abbrev pub invariant-reads : goal.invariant-reads
 invariant-reads g l = Consumes (g.R.Read.remaining l.fn.reader) (g.R.Read.remaining l.reader) l.bytes.items

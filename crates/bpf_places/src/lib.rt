@@ -1,0 +1,12 @@
+//! What a command reads and writes by name: the files of the system, whole or not at all.
+#![tactic(auto)]
+
+mod files;
+mod keeping;
+mod places;
+mod reading;
+
+pub use files::FilePlaces;
+pub use keeping::Keeping;
+pub use places::Places;
+pub use reading::read_up_to;
