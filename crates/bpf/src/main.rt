@@ -1,7 +1,8 @@
 //! The command `bpf`: a toolchain for eBPF programs that hosts can trust.
 #![tactic(auto)]
 
-use bpf_command::{FAILED, Failure, Progress, respond, tell};
+use bpf_answers::{FAILED, Failure, tell};
+use bpf_command::{Progress, respond};
 use bpf_places::FilePlaces;
 use std::process::ExitCode;
 use std::rt::Env;

@@ -4,11 +4,11 @@ use Rattle.bpf_insn.specs.Instruction.{Instructions}
 use Rattle.bpf_cert.specs.View.{CertificateView}
 use Rattle.bpf_check.specs.CheckedProgram.{CheckedProgram, IsCertifiedBy, checked}
 use Rattle.bpf_places.specs.Opened.{Opening}
-use Rattle.bpf_command.specs.Loaded.{CertificateAt}
-use Rattle.bpf_command.specs.Each.{AnswersAt, FailsAt}
+use Rattle.bpf_answers.specs.Loaded.{CertificateAt}
+use Rattle.bpf_answers.specs.Each.{AnswersAt, FailsAt}
 use Rattle.bpf_command.specs.Given.{JudgedEachSays, JudgedEachFails}
 use Rattle.bpf_command.specs.Printed.{ResultSays}
-use Rattle.bpf_command.specs.declared.failure.Failure.{Failure}
+use Rattle.bpf_answers.specs.declared.failure.Failure.{Failure}
 
 pub judged_each_says : {S E : Type 0} (opening : Opening S) (old : S) (certificate contexts : List ℕ) (between new : S) (p : Instructions) (c : CertificateView) (k : CheckedProgram) (before after : Option (List ℕ)) (result : Result ℕ E)
     → CertificateAt opening old certificate between c → IsCertifiedBy p c → k ≡ checked p c

@@ -5,14 +5,14 @@ use Rattle.bpf_insn.specs.declared.order.Order.{Order}
 use Rattle.bpf_cert.specs.View.{CertificateView}
 use Rattle.bpf_check.specs.CheckedProgram.{CheckedProgram}
 use Rattle.bpf_places.specs.Opened.{Opening, Unreadable}
-use Rattle.bpf_command.specs.Loaded.{LoadsImage, CertificateAt, TextAt, TextFails}
-use Rattle.bpf_command.specs.Answer.{Answer, Says, status_of}
-use Rattle.bpf_command.specs.Answer.Answer.{Yes, NoImage, NotCertified, Written}
+use Rattle.bpf_answers.specs.Loaded.{LoadsImage, CertificateAt, TextAt, TextFails}
+use Rattle.bpf_answers.specs.Answer.{Answer, Says, status_of}
+use Rattle.bpf_answers.specs.Answer.Answer.{Yes, NoImage, NotCertified, Written}
 use Rattle.bpf_command.specs.Printed.{ImageSays, JudgedSays, LoadedSays, YesSays}
 use Rattle.std.specs.Borrow.{Bor}
 use Rattle.bpf_request.specs.declared.subject.Subject.{Subject}
-use Rattle.bpf_command.specs.declared.failure.Failure.{Failure}
-use Rattle.bpf_command.specs.declared.failure.Failure.TheVariants.{CannotRead}
+use Rattle.bpf_answers.specs.declared.failure.Failure.{Failure}
+use Rattle.bpf_answers.specs.declared.failure.Failure.TheVariants.{CannotRead}
 use Rattle.bpf_command.specs.Explained.{Answers, ExplainFails, ExplainSays, ExplainWithFails, ExplainWithSays, JudgesOf, LinesAt, LinesFail, Opens, SoughtSays}
 use Rattle.bpf_command.proofs.JudgedLemmas.{loaded_says}
 

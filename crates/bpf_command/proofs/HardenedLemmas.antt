@@ -5,11 +5,11 @@ use Rattle.bpf_insn.specs.Image.{image}
 use Rattle.bpf_request.specs.declared.hardening.Hardening.{Hardening}
 use Rattle.bpf_places.specs.Opened.{Opening}
 use Rattle.bpf_places.specs.Made.{Making}
-use Rattle.bpf_command.specs.Answer.{Answer, Says}
+use Rattle.bpf_answers.specs.Answer.{Answer, Says}
 use Rattle.bpf_command.specs.Hardened.{HardenFails, HardenSays, Hardens, NotesAt, NotesFail}
-use Rattle.bpf_command.specs.declared.failure.Failure.{Failure}
-use Rattle.bpf_command.specs.declared.failure.Failure.TheVariants.{CannotRead, CannotWrite}
-use Rattle.bpf_command.proofs.MadeLemmas.{put_says}
+use Rattle.bpf_answers.specs.declared.failure.Failure.{Failure}
+use Rattle.bpf_answers.specs.declared.failure.Failure.TheVariants.{CannotRead, CannotWrite}
+use Rattle.bpf_answers.proofs.MadeLemmas.{put_says}
 
 pub both_stand : {S E : Type 0} (result : Result ℕ E) (known : Option (List ℕ)) (opening : Opening S) (making : Making S) (old : S) (h : Hardening) (between put new : S) (made : Instructions)
     → Hardens opening old h between made → making between h.output.now (image made.order made.list) true put

@@ -10,9 +10,9 @@ use Rattle.bpf_check.specs.CheckedProgram.{CheckedProgram, IsCertifiedBy, checke
 use Rattle.bpf_check.specs.Verdicts.{Verified, program_in}
 use Rattle.bpf_check.proofs.CertificateFacts.{range_is_one, most_fits}
 use Rattle.bpf_places.specs.Opened.{Opening}
-use Rattle.bpf_command.specs.Loaded.{LoadsImage}
-use Rattle.bpf_command.specs.Answer.{Answer, Says}
-use Rattle.bpf_command.specs.Answer.Answer.{Yes, NoImage, NoCertificate, NotCertified}
+use Rattle.bpf_answers.specs.Loaded.{LoadsImage}
+use Rattle.bpf_answers.specs.Answer.{Answer, Says}
+use Rattle.bpf_answers.specs.Answer.Answer.{Yes, NoImage, NoCertificate, NotCertified}
 use Rattle.bpf_command.specs.Printed.{JudgedSays, LoadedSays, YesSays, IsPromised}
 
 -- ---- what a yes promises

@@ -1,9 +1,4 @@
-pub mod ToldLemmas
-pub mod LoadedLemmas
-pub mod TextLemmas
-pub mod MadeLemmas
 pub mod HardenedLemmas
 pub mod JudgedLemmas
-pub mod LinesLemmas
 pub mod EachLemmas
 pub mod ExplainedLemmas

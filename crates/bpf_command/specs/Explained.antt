@@ -12,13 +12,13 @@ use Rattle.bpf_check.specs.CheckedProgram.{IsCertifiedBy}
 use Rattle.bpf_check.specs.declared.refusal.Refusal.{Refusal}
 use Rattle.bpf_check.specs.RefusalNumbers.{refusal_slot, refusal_number}
 use Rattle.bpf_places.specs.Opened.{Opening}
-use Rattle.bpf_command.specs.Loaded.{ImageFails, ShortTextAt, TextFails}
-use Rattle.bpf_command.specs.Answer.{Answer, status_of}
-use Rattle.bpf_command.specs.Answer.Answer.{NoText, NotCertified, NotProposed, Lists, Written}
-use Rattle.bpf_command.specs.Told.{OutputFails}
+use Rattle.bpf_answers.specs.Loaded.{ImageFails, ShortTextAt, TextFails}
+use Rattle.bpf_answers.specs.Answer.{Answer, status_of}
+use Rattle.bpf_answers.specs.Answer.Answer.{NoText, NotCertified, NotProposed, Lists, Written}
+use Rattle.bpf_answers.specs.Told.{OutputFails}
 use Rattle.bpf_command.specs.Printed.{ImageSays, ListSays, LoadedSays, LoadedFails, YesSays}
-use Rattle.bpf_command.specs.declared.failure.Failure.{Failure}
-use Rattle.bpf_command.specs.declared.failure.Failure.TheVariants.{CannotRead, NotTogether}
+use Rattle.bpf_answers.specs.declared.failure.Failure.{Failure}
+use Rattle.bpf_answers.specs.declared.failure.Failure.TheVariants.{CannotRead, NotTogether}
 use Rattle.bpf_request.specs.declared.subject.Subject.{Subject}
 use Rattle.bpf_request.specs.declared.subject.Subject.TheVariants.{Image, Text, Certified, Slot, Inferred, Graph, GraphAlone, Misfit}
 

@@ -4,30 +4,20 @@ use Rattle.bpf_insn.specs.Instruction.{Instructions}
 use Rattle.bpf_insn.specs.declared.order.Order.{Order}
 use Rattle.bpf_cert.specs.View.{CertificateView}
 use Rattle.bpf_check.specs.CheckedProgram.{IsCertifiedBy, checked}
-use Rattle.bpf_command.specs.Context.{context_in, max_context}
+use Rattle.bpf_answers.specs.Context.{context_in, max_context}
 use Rattle.bpf_places.specs.Opened.{Opening, Unreadable}
-use Rattle.bpf_command.specs.Loaded.{LoadsImage, ImageFails, TextAt, CertificateAt, CertificateFails}
-use Rattle.bpf_command.specs.Answer.{Answer, Answered, Says}
-use Rattle.bpf_command.specs.Each.{AnswersAt, FailsAt}
+use Rattle.bpf_answers.specs.Loaded.{LoadsImage, ImageFails, CertificateAt, CertificateFails, ContextAt, ContextFails}
+use Rattle.bpf_answers.specs.Answer.{Answer, Answered, Says}
+use Rattle.bpf_answers.specs.Each.{AnswersAt, FailsAt}
 use Rattle.bpf_command.specs.Printed.{FailsWith, ImageSays, JudgedSays, LoadedFails, OutcomeSays, ResultSays, RunCheckedSays}
-use Rattle.bpf_command.specs.Told.{OutputFails}
-use Rattle.bpf_command.specs.declared.context.ContextError.TheVariants.{TooLong}
+use Rattle.bpf_answers.specs.Told.{OutputFails}
+use Rattle.bpf_answers.specs.declared.context.ContextError.TheVariants.{TooLong}
 use Rattle.bpf_request.specs.declared.contexts.Contexts.{Contexts}
 use Rattle.bpf_request.specs.declared.contexts.Contexts.TheVariants.{Word, Bytes, Lines, Nothing, Several}
-use Rattle.bpf_command.specs.declared.failure.Failure.{Failure}
-use Rattle.bpf_command.specs.declared.failure.Failure.TheVariants.{CannotRead, BadContext, NoContext, ContextTwice}
+use Rattle.bpf_answers.specs.declared.failure.Failure.{Failure}
+use Rattle.bpf_answers.specs.declared.failure.Failure.TheVariants.{CannotRead, BadContext, NoContext, ContextTwice}
 
--- ---- a context at a name
-
--- the bytes at the name are the context
-abbrev pub ContextAt : {S : Type 0} → Opening S → S → List ℕ → S → List ℕ → Type 0
-ContextAt opening old name new context = TextAt opening old name new (λ text. context ≡ text) × (length context ≤ max_context)
-
--- there are too many bytes, or the name can't be read
-abbrev pub ContextFails : {S : Type 0} → Opening S → S → List ℕ → S → Failure → Type 0
-ContextFails opening old input new (BadContext error) = (error ≡ TooLong) × TextAt opening old input new (λ text. max_context < length text)
-ContextFails opening old input new (CannotRead name) = (name.now ≡ input) × Unreadable opening old input new
-ContextFails opening old input new failure = OutputFails failure
+-- ---- contexts
 
 -- the context is judged first, then what is behind it
 abbrev pub FailsBehind : {S : Type 0} → Opening S → S → List ℕ → S → (S → Failure → Type 0) → Failure → Type 0

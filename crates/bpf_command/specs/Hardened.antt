@@ -6,13 +6,13 @@ use Rattle.bpf_insn.specs.Image.{IsProgram, image}
 use Rattle.bpf_harden_notes.specs.RefusalNumbers.{harden_slot}
 use Rattle.bpf_request.specs.declared.hardening.Hardening.{Hardening}
 use Rattle.bpf_places.specs.Opened.{Opening}
-use Rattle.bpf_command.specs.Loaded.{ImageFails, ImageRefused, LoadsImage}
+use Rattle.bpf_answers.specs.Loaded.{ImageFails, ImageRefused, LoadsImage}
 use Rattle.bpf_places.specs.Made.{Making}
-use Rattle.bpf_command.specs.Answer.{Answer}
-use Rattle.bpf_command.specs.Answer.Answer.{NoImage, NotHardened, Written}
-use Rattle.bpf_command.specs.Told.{OutputFails}
-use Rattle.bpf_command.specs.declared.failure.Failure.{Failure}
-use Rattle.bpf_command.specs.declared.failure.Failure.TheVariants.{CannotRead, CannotWrite}
+use Rattle.bpf_answers.specs.Answer.{Answer}
+use Rattle.bpf_answers.specs.Answer.Answer.{NoImage, NotHardened, Written}
+use Rattle.bpf_answers.specs.Told.{OutputFails}
+use Rattle.bpf_answers.specs.declared.failure.Failure.{Failure}
+use Rattle.bpf_answers.specs.declared.failure.Failure.TheVariants.{CannotRead, CannotWrite}
 
 -- a name holds notes, if one is given
 abbrev pub NotesAt : {S : Type 0} → Making S → S → Option (Bor (List ℕ)) → S → Type 0

@@ -1,9 +1,3 @@
-pub mod Context
-pub mod Lines
-pub mod Told
-pub mod Each
-pub mod Loaded
-pub mod Answer
 pub mod Printed
 pub mod Hardened
 pub mod Given

@@ -19,17 +19,17 @@ use Rattle.bpf_check.specs.RefusalNumbers.{refusal_slot, refusal_number}
 use Rattle.bpf_flat.specs.Runs.{RunsTo}
 use Rattle.bpf_check.specs.Verdicts.{Verified}
 use Rattle.bpf_infer_error.specs.RefusalNumbers.{infer_slot}
-use Rattle.bpf_command.specs.Context.{context_in, max_context}
-use Rattle.bpf_command.specs.declared.context.ContextError.{ContextError}
-use Rattle.bpf_command.specs.declared.context.ContextError.TheVariants.{Memory as NoSpace}
+use Rattle.bpf_answers.specs.Context.{context_in, max_context}
+use Rattle.bpf_answers.specs.declared.context.ContextError.{ContextError}
+use Rattle.bpf_answers.specs.declared.context.ContextError.TheVariants.{Memory as NoSpace}
 use Rattle.bpf_places.specs.Opened.{Opening}
-use Rattle.bpf_command.specs.Loaded.{ImageRefused, LoadsImage, ImageFails, ShortTextAt, TextFails, CertificateAt, CertificateRefused, CertificateUnread, CertificateFails}
+use Rattle.bpf_answers.specs.Loaded.{ImageRefused, LoadsImage, ImageFails, ShortTextAt, TextFails, CertificateAt, CertificateRefused, CertificateUnread, CertificateFails}
 use Rattle.bpf_places.specs.Made.{Making}
-use Rattle.bpf_command.specs.Answer.{Answer}
-use Rattle.bpf_command.specs.Answer.Answer.{Yes, NoImage, NoText, NoCertificate, NotCertified, NotProposed, NoContext, Ends, Ran, Occur, Lists, Annotates, Written}
-use Rattle.bpf_command.specs.Told.{OutputFails}
-use Rattle.bpf_command.specs.declared.failure.Failure.{Failure}
-use Rattle.bpf_command.specs.declared.failure.Failure.TheVariants.{CannotRead, CannotWrite, BadContext}
+use Rattle.bpf_answers.specs.Answer.{Answer}
+use Rattle.bpf_answers.specs.Answer.Answer.{Yes, NoImage, NoText, NoCertificate, NotCertified, NotProposed, NoContext, Ends, Ran, Occur, Lists, Annotates, Written}
+use Rattle.bpf_answers.specs.Told.{OutputFails}
+use Rattle.bpf_answers.specs.declared.failure.Failure.{Failure}
+use Rattle.bpf_answers.specs.declared.failure.Failure.TheVariants.{CannotRead, CannotWrite, BadContext}
 use Rattle.bpf_command.specs.declared.commands.judged.Wish.{Wish}
 use Rattle.bpf_command.specs.declared.commands.judged.Wish.TheVariants.{Promise, Run}
 

@@ -7,20 +7,20 @@ use Rattle.clap.specs.Words.{Text, subcommand_of}
 use Rattle.bpf_request.specs.CommandLine.{IsAsked, bpf, faults_in, name_of}
 use Rattle.bpf_places.specs.Opened.{Opening}
 use Rattle.bpf_places.specs.Made.{Making}
-use Rattle.bpf_command.specs.Loaded.{ImageFails}
-use Rattle.bpf_command.specs.Answer.{Answered}
+use Rattle.bpf_answers.specs.Loaded.{ImageFails}
+use Rattle.bpf_answers.specs.Answer.{Answered}
 use Rattle.bpf_command.specs.Printed.{LoadedFails, ImageSays, GroupsSay, ListSays, notes_of, AsmSays, AsmFails, InferSays, InferFails, MigrateSays, MigrateFails, CheckSays}
 use Rattle.bpf_command.specs.Hardened.{HardenFails, HardenSays}
 use Rattle.bpf_command.specs.Given.{CheckedFails, CheckedSays, RunFails, RunSays}
 use Rattle.bpf_command.specs.Explained.{ExplainWithFails, ExplainWithSays}
-use Rattle.bpf_command.specs.Told.{IsTold}
+use Rattle.bpf_answers.specs.Told.{IsTold}
 use Rattle.std.specs.Str.{bytes_eq}
 use Rattle.bpf_request.specs.declared.words.Request.{Request}
 use Rattle.bpf_request.specs.declared.words.Request.TheVariants.{Groups, Asm, List as ListOf, Run, Check, RunChecked, Infer, Harden, Migrate, Explain}
 use Rattle.bpf_request.specs.declared.subject.Subject.{Subject}
 use Rattle.bpf_request.specs.declared.subject.Subject.TheVariants.{Image, Text as TextAlone, Certified, Slot, Inferred, Graph, GraphAlone, Misfit}
-use Rattle.bpf_command.specs.declared.failure.Failure.{Failure}
-use Rattle.bpf_command.specs.declared.failure.Failure.TheVariants.{NoMemory, MostBelowLeast, InputTwice, NotTogether}
+use Rattle.bpf_answers.specs.declared.failure.Failure.{Failure}
+use Rattle.bpf_answers.specs.declared.failure.Failure.TheVariants.{NoMemory, MostBelowLeast, InputTwice, NotTogether}
 
 -- ---- words that can't stand together
 

@@ -1,24 +1,18 @@
 //! The commands, each a function from places to a status.
 
 mod asm;
-mod certificate;
 mod check;
-mod each;
 mod explain;
 mod groups;
 mod harden;
-mod image;
 mod infer;
 mod judged;
 mod list;
 mod migrate;
 mod notes;
-mod output;
-mod refusal;
 mod run;
 mod run_checked;
 mod trace;
-mod whole;
 
 pub use asm::assembled;
 pub use check::checked;

@@ -3,13 +3,9 @@
 
 mod aside;
 mod commands;
-mod context;
-mod failure;
 mod progress;
 mod response;
 
 pub use aside::Aside;
-pub use context::{ContextError, context_of};
-pub use failure::{FAILED, Failure, tell};
 pub use progress::Progress;
 pub use response::respond;

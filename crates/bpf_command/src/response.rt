@@ -5,14 +5,14 @@ ghost use Rattle.std.specs.String.{string_bytes};
 ghost use Rattle.bpf_places.specs.Opened.{opening};
 ghost use Rattle.bpf_places.specs.Made.{making};
 ghost use Rattle.bpf_command.specs.Response.{Does, Fails, Misses, Responds, conflict_of, conflict_with, misplaced, name_given, out_of_order, thrice, twice, written_twice};
-ghost use Rattle.bpf_command.specs.Told.{IsTold};
+ghost use Rattle.bpf_answers.specs.Told.{IsTold};
 
 use crate::aside::Aside;
 use crate::commands::{
     Trace, assembled, checked, explained, grouped, hardened, inferred, listed, migrated,
     ran_checked_on, ran_on,
 };
-use crate::failure::{BAD_WORDS, FAILED, Failure, tell};
+use bpf_answers::{BAD_WORDS, FAILED, Failure, tell};
 use bpf_places::Places;
 use bpf_request::{Request, Subject, request_of};
 use clap::error::ErrorKind;

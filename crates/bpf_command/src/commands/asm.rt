@@ -1,82 +1,17 @@
 //! `bpf asm IN OUT`.
 
-ghost use Rattle.std.specs.Prelude.{◌≡◌, IfOk, IfErr};
-ghost use Rattle.std.specs.String.{string_bytes};
-ghost use Rattle.bpf_command.specs.Answer.{Answered, Says, text_of};
-ghost use Rattle.bpf_command.specs.Answer.Answer.{NoText};
-ghost use Rattle.bpf_places.specs.Opened.{opening};
-ghost use Rattle.bpf_command.specs.Loaded.{ShortTextAt, TextFails};
+ghost use Rattle.std.specs.Prelude.{IfOk, IfErr};
 ghost use Rattle.bpf_places.specs.Made.{making};
+ghost use Rattle.bpf_places.specs.Opened.{opening};
+ghost use Rattle.bpf_answers.specs.Answer.{Answered};
 ghost use Rattle.bpf_command.specs.Printed.{AsmSays, AsmFails};
-ghost use Rattle.bpf_command.specs.Told.{OutputFails};
 
-use crate::commands::output::put;
-use crate::failure::{Failure, REFUSED, say};
+use bpf_answers::{Failure, put, refuse_text, text_at};
 use bpf_insn::Order;
-use bpf_places::{Places, read_up_to};
-use bpf_text::{TextError, assemble};
-use std::alloc::{AllocError, Global};
+use bpf_places::Places;
+use bpf_text::assemble;
+use std::alloc::Global;
 use std::io::Write;
-
-/// The greatest length of a text that is read, in bytes.
-const MAX_TEXT: usize = 16_777_216;
-
-/// The text at a name. It can't be read where it isn't UTF-8, or is longer than that.
-pub fn text_at<'a, P: Places>(
-    alloc: Global,
-    places: &mut P,
-    name: &'a str,
-) -> Result<String, Failure<'a>>
-    ensures ok { IfOk result (λ text. ShortTextAt (opening P.opens P.Reader.remaining) places.old name.entry.now places.new (λ bytes. string_bytes text ≡ bytes)) }
-    ensures err { IfErr result (TextFails (opening P.opens P.Reader.remaining) places.old name.entry.now places.new) }
-{
-    let Ok(mut reader) = places.open(name) else {
-        return Err(Failure::CannotRead(name));
-    };
-    let Some(bytes) = read_up_to(alloc, &mut reader, MAX_TEXT)? else {
-        return Err(Failure::CannotRead(name));
-    };
-    if bytes.len() > MAX_TEXT {
-        return Err(Failure::CannotRead(name));
-    }
-    let Ok(text) = String::from_utf8(bytes) else {
-        return Err(Failure::CannotRead(name));
-    };
-    Ok(text)
-}
-
-/// The line of a refusal.
-fn line_of(alloc: Global, error: TextError) -> Result<String, AllocError>
-    ensures { IfOk result (λ line. string_bytes line ≡ text_of (NoText error)) }
-{
-    match error {
-        TextError::Form { line } => format!(in alloc; "no A1 at line {line}\n"),
-        TextError::Range { line } => format!(in alloc; "no A2 at line {line}\n"),
-        TextError::DefinedAgain { line } => format!(in alloc; "no A3 at line {line}\n"),
-        TextError::Undefined { line } => format!(in alloc; "no A4 at line {line}\n"),
-        TextError::TooFar { line } => format!(in alloc; "no A5 at line {line}\n"),
-        TextError::Program { line, error } => {
-            let cause = error.number();
-            let slot = error.slot();
-            format!(in alloc; "no A6 at line {line} (E{cause} at slot {slot})\n")
-        }
-        TextError::Memory => String::from_str(alloc, "no A7 at line 0\n"),
-    }
-}
-
-/// Prints why a text is refused.
-pub fn refuse_text<'a, W: Write>(
-    alloc: Global,
-    out: &mut W,
-    error: TextError,
-) -> Result<u8, Failure<'a>>
-    ensures ok { IfOk result (λ status. Says (NoText error) status (W.contents out.old) (W.contents out.new)) }
-    ensures err { IfErr result OutputFails }
-{
-    let line = line_of(alloc, error)?;
-    say(out, line.as_str())?;
-    Ok(REFUSED)
-}
 
 /// Writes the image of a text. The place for it is made only where there is an image.
 pub fn assembled<'a, P: Places, W: Write>(

@@ -2,12 +2,11 @@
 
 ghost use Rattle.std.specs.Prelude.{IfOk, IfErr};
 ghost use Rattle.bpf_places.specs.Opened.{opening};
-ghost use Rattle.bpf_command.specs.Answer.{Answered};
+ghost use Rattle.bpf_answers.specs.Answer.{Answered};
 ghost use Rattle.bpf_command.specs.Printed.{CheckSays, LoadedFails};
 
-use crate::commands::image::{image_at, refuse};
 use crate::commands::judged::{Wish, judged};
-use crate::failure::Failure;
+use bpf_answers::{Failure, image_at, refuse_image};
 use bpf_insn::{Order, ProgramView, image_is_injective};
 use bpf_places::Places;
 use bpf_safety::{certified_is_flat_safe, certified_is_safe};
@@ -33,13 +32,13 @@ pub fn checked<'a, P: Places, W: Write>(
     certified_is_flat_safe();
     let bytes = match image_at(alloc, places, input)? {
         Ok(bytes) => bytes,
-        Err(error) => return refuse(alloc, out, error),
+        Err(error) => return refuse_image(alloc, out, error),
     };
     match ProgramView::of(&bytes, order) {
         Ok(program) => {
             let wish = Wish::Promise { counted };
             judged(alloc, places, out, &program, certificate, wish)
         }
-        Err(error) => refuse(alloc, out, error),
+        Err(error) => refuse_image(alloc, out, error),
     }
 }

@@ -2,15 +2,14 @@
 
 ghost use Rattle.std.specs.Prelude.{◌≡◌, ◌⊎◌, IfOk, IfErr, None, MatchResult, false};
 ghost use Rattle.bpf_places.specs.Opened.{opening};
-ghost use Rattle.bpf_command.specs.Loaded.{CertificateAt, CertificateFails, CertificateRefused, ImageFails, TextFails};
+ghost use Rattle.bpf_answers.specs.Loaded.{CertificateAt, CertificateFails, CertificateRefused, ImageFails, TextFails};
 ghost use Rattle.bpf_command.specs.Explained.{Answers, ExplainFails, ExplainSays, ExplainWithFails, ExplainWithSays, JudgesOf, LinesAt, LinesFail, SoughtSays, TextSays};
 ghost use Rattle.bpf_command.specs.Printed.{ImageSays, JudgedSays, ListSays, LoadedFails, LoadedSays, YesSays};
-ghost use Rattle.bpf_command.specs.Told.{OutputFails};
+ghost use Rattle.bpf_answers.specs.Told.{OutputFails};
 
-use crate::commands::asm::{refuse_text, text_at};
-use crate::commands::certificate;
-use crate::commands::image::{image_at, refuse};
-use crate::failure::{DONE, Failure, REFUSED};
+use bpf_answers::{
+    DONE, Failure, REFUSED, image_at, refuse_certificate, refuse_image, refuse_text, text_at,
+};
 use bpf_cert::{CertError, Certificate, read};
 use bpf_check::check;
 use bpf_explain::{
@@ -77,7 +76,7 @@ fn explained_image<'a, P: Places, W: Write>(
 {
     let bytes = match image_at(alloc, places, input)? {
         Ok(bytes) => bytes,
-        Err(error) => return refuse(alloc, out, error),
+        Err(error) => return refuse_image(alloc, out, error),
     };
     match ProgramView::of(&bytes, order) {
         Ok(program) => say_valid(out, &program, &bytes, order, is_graph),
@@ -202,7 +201,7 @@ fn explained_with<'a, P: Places, C: Code, W: Write>(
     let (answer, bytes) = certificate_kept(alloc, places, certificate)?;
     match answer {
         Ok(certificate) => say_program(out, program, &certificate, shown),
-        Err(CertError::Memory) => certificate::refuse_text(alloc, out, CertError::Memory),
+        Err(CertError::Memory) => refuse_certificate(alloc, out, CertError::Memory),
         Err(_error) => say_certificate(alloc, out, bytes),
     }
 }
@@ -223,7 +222,7 @@ fn explained_certified<'a, P: Places, W: Write>(
 {
     let bytes = match image_at(alloc, places, input)? {
         Ok(bytes) => bytes,
-        Err(error) => return refuse(alloc, out, error),
+        Err(error) => return refuse_image(alloc, out, error),
     };
     match ProgramView::of(&bytes, order) {
         Ok(program) => explained_with(alloc, places, out, &program, certificate, shown),
@@ -280,11 +279,11 @@ fn explained_inferred<'a, P: Places, W: Write, H: Watch>(
 {
     let bytes = match image_at(alloc, places, input)? {
         Ok(bytes) => bytes,
-        Err(error) => return refuse(alloc, out, error),
+        Err(error) => return refuse_image(alloc, out, error),
     };
     match decode(alloc, &bytes, order) {
         Ok(program) => say_inferred(alloc, out, watch, &program, least, most, deep, lines),
-        Err(DecodeError::Memory) => refuse(alloc, out, DecodeError::Memory),
+        Err(DecodeError::Memory) => refuse_image(alloc, out, DecodeError::Memory),
         Err(_error) => say_image(out, &bytes, order, REFUSED),
     }
 }

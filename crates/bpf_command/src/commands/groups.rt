@@ -2,14 +2,13 @@
 
 ghost use Rattle.std.specs.Prelude.{◌≡◌, IfOk, IfErr};
 ghost use Rattle.bpf_places.specs.Opened.{opening};
-ghost use Rattle.bpf_command.specs.Answer.{Answered, Says, groups_line};
-ghost use Rattle.bpf_command.specs.Answer.Answer.{Occur};
-ghost use Rattle.bpf_command.specs.Loaded.{ImageFails};
+ghost use Rattle.bpf_answers.specs.Answer.{Answered, Says, groups_line};
+ghost use Rattle.bpf_answers.specs.Answer.Answer.{Occur};
+ghost use Rattle.bpf_answers.specs.Loaded.{ImageFails};
 ghost use Rattle.bpf_command.specs.Printed.{GroupsSay, ImageSays};
-ghost use Rattle.bpf_command.specs.Told.{OutputFails};
+ghost use Rattle.bpf_answers.specs.Told.{OutputFails};
 
-use crate::commands::image::{image_at, refuse};
-use crate::failure::{DONE, Failure, say};
+use bpf_answers::{DONE, Failure, image_at, refuse_image, say};
 use bpf_insn::{Groups, Order, ProgramView};
 use bpf_places::Places;
 use std::alloc::Global;
@@ -53,10 +52,10 @@ pub fn grouped<'a, P: Places, W: Write>(
 {
     let bytes = match image_at(alloc, places, input)? {
         Ok(bytes) => bytes,
-        Err(error) => return refuse(alloc, out, error),
+        Err(error) => return refuse_image(alloc, out, error),
     };
     match ProgramView::of(&bytes, order) {
         Ok(program) => say_groups(out, program.groups()),
-        Err(error) => refuse(alloc, out, error),
+        Err(error) => refuse_image(alloc, out, error),
     }
 }

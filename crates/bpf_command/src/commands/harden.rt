@@ -4,18 +4,15 @@ ghost use Rattle.std.specs.Prelude.{◌≡◌, ◌<◌, IfOk, IfErr};
 ghost use Rattle.bpf_insn.specs.Instruction.{slots};
 ghost use Rattle.bpf_insn.specs.Image.{IsProgram};
 ghost use Rattle.bpf_harden_notes.specs.RefusalNumbers.{harden_slot};
-ghost use Rattle.bpf_command.specs.Answer.{Answered, Says};
-ghost use Rattle.bpf_command.specs.Answer.Answer.{NotHardened};
+ghost use Rattle.bpf_answers.specs.Answer.{Answered, Says};
+ghost use Rattle.bpf_answers.specs.Answer.Answer.{NotHardened};
 ghost use Rattle.bpf_command.specs.Hardened.{HardenFails, HardenSays, NotesAt, NotesFail};
 ghost use Rattle.bpf_places.specs.Made.{making};
 ghost use Rattle.bpf_places.specs.Opened.{opening};
-ghost use Rattle.bpf_command.specs.Told.{OutputFails};
+ghost use Rattle.bpf_answers.specs.Told.{OutputFails};
 
-use crate::commands::image::{program_at, refuse};
 use crate::commands::notes::notes_text;
-use crate::commands::output::put;
-use crate::commands::refusal::refuse_at;
-use crate::failure::{DONE, Failure};
+use bpf_answers::{DONE, Failure, program_at, put, refuse_at, refuse_image};
 use bpf_harden::{HardenError, Hardened, Options, harden};
 use bpf_insn::{Code, MAX_CONTEXT, Program};
 use bpf_places::Places;
@@ -93,7 +90,7 @@ pub fn hardened<'a, P: Places, W: Write>(
 {
     let program = match program_at(alloc, places, asked.input, asked.order)? {
         Ok(program) => program,
-        Err(error) => return refuse(alloc, out, error),
+        Err(error) => return refuse_image(alloc, out, error),
     };
     let hardened = match answer_of(alloc, &program, asked) {
         Ok(hardened) => hardened,

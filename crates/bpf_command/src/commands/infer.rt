@@ -5,16 +5,14 @@ ghost use Rattle.std.specs.String.{string_bytes};
 ghost use Rattle.bpf_insn.specs.Instruction.{slots};
 ghost use Rattle.bpf_cert.specs.Limits.{IsCertificate};
 ghost use Rattle.bpf_infer_error.specs.RefusalNumbers.{infer_slot};
-ghost use Rattle.bpf_command.specs.Answer.{Answered, Says, text_of};
-ghost use Rattle.bpf_command.specs.Answer.Answer.{NotProposed};
+ghost use Rattle.bpf_answers.specs.Answer.{Answered, Says, text_of};
+ghost use Rattle.bpf_answers.specs.Answer.Answer.{NotProposed};
 ghost use Rattle.bpf_places.specs.Made.{making};
 ghost use Rattle.bpf_places.specs.Opened.{opening};
 ghost use Rattle.bpf_command.specs.Printed.{InferSays, InferFails};
-ghost use Rattle.bpf_command.specs.Told.{OutputFails};
+ghost use Rattle.bpf_answers.specs.Told.{OutputFails};
 
-use crate::commands::image::{program_at, refuse};
-use crate::commands::output::put;
-use crate::failure::{Failure, REFUSED, say};
+use bpf_answers::{Failure, REFUSED, program_at, put, refuse_image, say};
 use bpf_cert::Certificate;
 use bpf_infer::{InferError, Watch, infer, search};
 use bpf_insn::{MAX_CONTEXT, Order, Program};
@@ -95,7 +93,7 @@ pub fn inferred<'a, P: Places, W: Write, H: Watch>(
 {
     let program = match program_at(alloc, places, input, order)? {
         Ok(program) => program,
-        Err(error) => return refuse(alloc, out, error),
+        Err(error) => return refuse_image(alloc, out, error),
     };
     // `respond` has seen that the lengths are in order, and the words' parser that they are at most the greatest.
     let most = most.min(MAX_CONTEXT as u32);

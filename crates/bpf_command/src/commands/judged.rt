@@ -4,17 +4,18 @@ ghost use Rattle.std.specs.Prelude.{◌≡◌, IfOk, IfErr, Some, None};
 ghost use Rattle.std.specs.String.{string_bytes};
 ghost use Rattle.bpf_check.specs.CheckedProgram.{work_of};
 ghost use Rattle.bpf_places.specs.Opened.{opening};
-ghost use Rattle.bpf_command.specs.Answer.{Answered, Says, no_context_line, work_line, yes_line};
-ghost use Rattle.bpf_command.specs.Answer.Answer.{Yes, NoContext, Ends};
-ghost use Rattle.bpf_command.specs.Loaded.{CertificateFails};
+ghost use Rattle.bpf_answers.specs.Answer.{Answered, Says, no_context_line, work_line, yes_line};
+ghost use Rattle.bpf_answers.specs.Answer.Answer.{Yes, NoContext, Ends};
+ghost use Rattle.bpf_answers.specs.Loaded.{CertificateFails};
 ghost use Rattle.bpf_command.specs.Printed.{JudgedSays, ResultSays, WishSays};
 ghost use Rattle.bpf_command.specs.Given.{JudgedEachFails, JudgedEachSays};
-ghost use Rattle.bpf_command.specs.Told.{OutputFails};
+ghost use Rattle.bpf_answers.specs.Told.{OutputFails};
 
-use crate::commands::certificate::{certificate_at, refuse_program, refuse_text};
-use crate::commands::each::{Runner, answered};
-use crate::failure::{DONE, Failure, REFUSED, say};
 use arrayvec::ArrayString;
+use bpf_answers::{
+    DONE, Failure, REFUSED, Runner, answered, certificate_at, refuse_certificate, refuse_program,
+    say,
+};
 use bpf_check::{Checked, check};
 use bpf_insn::Code;
 use bpf_places::Places;
@@ -159,18 +160,24 @@ fn grant<'a, C: Code, W: Write>(
     }
 }
 
-impl<'p, C: Code> Runner for Checked<'p, C> {
+/// A checked program, as what answers contexts.
+#[derive(Drop)]
+struct Certified<'a, 'p, C: Code> {
+    checked: &'a Checked<'p, C>,
+}
+
+impl<'a, 'p, C: Code> Runner for Certified<'a, 'p, C> {
     ghost use Rattle.bpf_command.specs.Printed.{ResultSays};
 
-    ghost says = { λ k context answer. ResultSays context k answer };
+    ghost says = { λ r context answer. ResultSays context r.checked.now answer };
 
-    fn answer<'a, W: Write>(
+    fn answer<'b, W: Write>(
         &self,
         alloc: Global,
         out: &mut W,
         context: &[u8],
-    ) -> Result<u8, Failure<'a>> {
-        run_on(alloc, out, self, context)
+    ) -> Result<u8, Failure<'b>> {
+        run_on(alloc, out, self.checked, context)
     }
 }
 
@@ -189,10 +196,13 @@ pub fn judged_each<'a, P: Places, C: Code, W: Write>(
 {
     let certificate = match certificate_at(alloc, places, certificate)? {
         Ok(certificate) => certificate,
-        Err(error) => return refuse_text(alloc, out, error),
+        Err(error) => return refuse_certificate(alloc, out, error),
     };
     match check(program, &certificate) {
-        Ok(checked) => answered(alloc, places, out, &checked, contexts),
+        Ok(checked) => {
+            let runner = Certified { checked: &checked };
+            answered(alloc, places, out, &runner, contexts)
+        }
         Err(refusal) => refuse_program(alloc, out, refusal),
     }
 }
@@ -211,7 +221,7 @@ pub fn judged<'a, P: Places, C: Code, W: Write>(
 {
     let certificate = match certificate_at(alloc, places, certificate)? {
         Ok(certificate) => certificate,
-        Err(error) => return refuse_text(alloc, out, error),
+        Err(error) => return refuse_certificate(alloc, out, error),
     };
     match check(program, &certificate) {
         Ok(checked) => grant(alloc, out, &checked, wish),

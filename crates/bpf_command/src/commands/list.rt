@@ -3,14 +3,13 @@
 ghost use Rattle.std.specs.Prelude.{◌≡◌, IfOk, IfErr, None, Some};
 ghost use Rattle.bpf_insn.specs.Image.{image};
 ghost use Rattle.bpf_places.specs.Opened.{opening};
-ghost use Rattle.bpf_command.specs.Answer.{Answered, Says};
-ghost use Rattle.bpf_command.specs.Answer.Answer.{Annotates, Lists};
-ghost use Rattle.bpf_command.specs.Loaded.{ImageFails};
+ghost use Rattle.bpf_answers.specs.Answer.{Answered, Says};
+ghost use Rattle.bpf_answers.specs.Answer.Answer.{Annotates, Lists};
+ghost use Rattle.bpf_answers.specs.Loaded.{ImageFails};
 ghost use Rattle.bpf_command.specs.Printed.{ImageSays, ListSays, notes_of};
-ghost use Rattle.bpf_command.specs.Told.{OutputFails};
+ghost use Rattle.bpf_answers.specs.Told.{OutputFails};
 
-use crate::commands::image::{image_at, program_at, refuse};
-use crate::failure::{DONE, Failure};
+use bpf_answers::{DONE, Failure, image_at, program_at, refuse_image};
 use bpf_insn::{Order, Program, ProgramView};
 use bpf_places::Places;
 use bpf_text::{Notes, annotate};
@@ -58,7 +57,7 @@ fn listed_plainly<'a, P: Places, W: Write>(
 {
     match program_at(alloc, places, input, order)? {
         Ok(program) => say_listing(out, &program),
-        Err(error) => refuse(alloc, out, error),
+        Err(error) => refuse_image(alloc, out, error),
     }
 }
 
@@ -76,11 +75,11 @@ fn listed_with<'a, P: Places, W: Write>(
 {
     let bytes = match image_at(alloc, places, input)? {
         Ok(bytes) => bytes,
-        Err(error) => return refuse(alloc, out, error),
+        Err(error) => return refuse_image(alloc, out, error),
     };
     match ProgramView::of(&bytes, order) {
         Ok(program) => say_annotated(out, &program, &bytes, notes),
-        Err(error) => refuse(alloc, out, error),
+        Err(error) => refuse_image(alloc, out, error),
     }
 }
 

@@ -3,12 +3,10 @@
 ghost use Rattle.std.specs.Prelude.{IfOk, IfErr};
 ghost use Rattle.bpf_places.specs.Opened.{opening};
 ghost use Rattle.bpf_places.specs.Made.{making};
-ghost use Rattle.bpf_command.specs.Answer.{Answered};
+ghost use Rattle.bpf_answers.specs.Answer.{Answered};
 ghost use Rattle.bpf_command.specs.Printed.{MigrateSays, MigrateFails};
 
-use crate::commands::certificate::{certificate_at, refuse_text};
-use crate::commands::output::put;
-use crate::failure::Failure;
+use bpf_answers::{Failure, certificate_at, put, refuse_certificate};
 use bpf_cert::migrate;
 use bpf_places::Places;
 use std::alloc::Global;
@@ -27,10 +25,10 @@ pub fn migrated<'a, P: Places, W: Write>(
 {
     let certificate = match certificate_at(alloc, places, certificate)? {
         Ok(certificate) => certificate,
-        Err(error) => return refuse_text(alloc, out, error),
+        Err(error) => return refuse_certificate(alloc, out, error),
     };
     match migrate(alloc, &certificate) {
         Ok(migrated) => put(places, output, &migrated),
-        Err(error) => refuse_text(alloc, out, error),
+        Err(error) => refuse_certificate(alloc, out, error),
     }
 }

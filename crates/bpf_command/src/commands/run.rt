@@ -2,23 +2,21 @@
 
 ghost use Rattle.std.specs.Prelude.{◌≡◌, ◌≤◌, ℕ, List, Ok, IfOk, IfErr, length};
 ghost use Rattle.std.specs.String.{string_bytes};
-ghost use Rattle.bpf_command.specs.Context.{context_in};
+ghost use Rattle.bpf_answers.specs.Context.{context_in};
 ghost use Rattle.bpf_machine.specs.Answers.{IsRun};
 ghost use Rattle.bpf_places.specs.Opened.{opening};
-ghost use Rattle.bpf_command.specs.Answer.{Answer, Answered, Says, status_of, text_of};
-ghost use Rattle.bpf_command.specs.Answer.Answer.{Ran};
-ghost use Rattle.bpf_command.specs.Loaded.{ImageFails};
+ghost use Rattle.bpf_answers.specs.Answer.{Answer, Answered, Says, status_of, text_of};
+ghost use Rattle.bpf_answers.specs.Answer.Answer.{Ran};
+ghost use Rattle.bpf_answers.specs.Loaded.{ImageFails};
 ghost use Rattle.bpf_command.specs.Printed.{FailsWith, ImageSays, OutcomeSays};
 ghost use Rattle.bpf_command.specs.Given.{FailsBehind, RunAtSays, RunEachFails, RunEachSays, RunFails, RunSays};
-ghost use Rattle.bpf_command.specs.Told.{OutputFails};
+ghost use Rattle.bpf_answers.specs.Told.{OutputFails};
 
 use crate::aside::Aside;
-use crate::commands::each::{Runner, answered};
-use crate::commands::image::{program_at, refuse};
 use crate::commands::trace::Trace;
-use crate::commands::whole::context_at;
-use crate::context::context_of;
-use crate::failure::{DONE, Failure, REFUSED, say};
+use bpf_answers::{
+    DONE, Failure, REFUSED, Runner, answered, context_at, context_of, program_at, refuse_image, say,
+};
 use bpf_insn::{Code, Order, Program};
 use bpf_machine::{Outcome, run};
 use bpf_places::Places;
@@ -99,7 +97,7 @@ fn run_image<'a, P: Places, W: Write, H: Aside>(
             let outcome = outcome_of(&program, context, steps, trace);
             say_outcome(alloc, out, outcome)
         }
-        Err(error) => refuse(alloc, out, error),
+        Err(error) => refuse_image(alloc, out, error),
     }
 }
 
@@ -183,7 +181,7 @@ fn ran_each<'a, P: Places, W: Write, H: Aside>(
 {
     let program = match program_at(alloc, places, input, order)? {
         Ok(program) => program,
-        Err(error) => return refuse(alloc, out, error),
+        Err(error) => return refuse_image(alloc, out, error),
     };
     let runner = Fueled {
         program: &program,

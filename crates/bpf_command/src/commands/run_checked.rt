@@ -1,17 +1,14 @@
 //! `bpf run-checked IN CERT HEX`, and the same with `--context FILE` or `--contexts FILE` in place of HEX.
 
 ghost use Rattle.std.specs.Prelude.{◌≡◌, ℕ, List, Ok, IfOk, IfErr};
-ghost use Rattle.bpf_command.specs.Context.{context_in};
+ghost use Rattle.bpf_answers.specs.Context.{context_in};
 ghost use Rattle.bpf_places.specs.Opened.{opening};
-ghost use Rattle.bpf_command.specs.Answer.{Answer, Answered, Says};
+ghost use Rattle.bpf_answers.specs.Answer.{Answer, Answered, Says};
 ghost use Rattle.bpf_command.specs.Given.{CheckedAtSays, CheckedEachFails, CheckedEachSays, CheckedFails, CheckedSays, FailsBehind};
 ghost use Rattle.bpf_command.specs.Printed.{RunCheckedSays, LoadedFails, FailsWith};
 
-use crate::commands::image::{program_at, refuse};
 use crate::commands::judged::{Wish, judged, judged_each};
-use crate::commands::whole::context_at;
-use crate::context::context_of;
-use crate::failure::Failure;
+use bpf_answers::{Failure, context_at, context_of, program_at, refuse_image};
 use bpf_insn::Order;
 use bpf_places::Places;
 use bpf_request::Contexts;
@@ -36,7 +33,7 @@ fn run_certified<'a, P: Places, W: Write>(
             let wish = Wish::Run { context };
             judged(alloc, places, out, &program, certificate, wish)
         }
-        Err(error) => refuse(alloc, out, error),
+        Err(error) => refuse_image(alloc, out, error),
     }
 }
 
@@ -93,7 +90,7 @@ fn ran_checked_each<'a, P: Places, W: Write>(
 {
     match program_at(alloc, places, input, order)? {
         Ok(program) => judged_each(alloc, places, out, &program, certificate, contexts),
-        Err(error) => refuse(alloc, out, error),
+        Err(error) => refuse_image(alloc, out, error),
     }
 }
 

@@ -2,11 +2,11 @@ use Rattle.std.proofs.Common.{rules, ◌≡◌}
 use Rattle.std.specs.String.{string_bytes}
 use Rattle.bpf_text.specs.Assembly.{Assembles}
 use Rattle.bpf_places.specs.Opened.{opening}
-use Rattle.bpf_command.specs.Loaded.{ShortTextAt}
+use Rattle.bpf_answers.specs.Loaded.{ShortTextAt}
 use Rattle.bpf_places.specs.Made.{making}
 use Rattle.bpf_command.specs.Printed.{AsmSays, LoadsText}
-use Rattle.bpf_command.proofs.MadeLemmas.{put_says}
-use Rattle.bpf_command.proofs.TextLemmas.{text_says}
+use Rattle.bpf_answers.proofs.MadeLemmas.{put_says}
+use Rattle.bpf_answers.proofs.TextLemmas.{text_says}
 use Rattle.bpf_command.proofs.commands.asm.assembled.Goals as goal
 
 pub returns-in-Ok-clause-ok : goal.returns-in-Ok-clause-ok

@@ -3,9 +3,9 @@ use Rattle.bpf_cert.specs.View.{CertificateView}
 use Rattle.bpf_check.specs.CheckedProgram.{IsCertifiedBy}
 use Rattle.bpf_check.specs.Verdicts.{Verified}
 use Rattle.bpf_places.specs.Opened.{opening}
-use Rattle.bpf_command.specs.Loaded.{LoadsImage}
+use Rattle.bpf_answers.specs.Loaded.{LoadsImage}
 use Rattle.bpf_command.specs.Printed.{CheckSays, YesSays, IsPromised}
-use Rattle.bpf_command.proofs.LoadedLemmas.{read_of}
+use Rattle.bpf_answers.proofs.LoadedLemmas.{read_of}
 use Rattle.bpf_command.proofs.JudgedLemmas.{verified, promised, said_more, loaded_says, says_so}
 use Rattle.bpf_command.proofs.commands.check.checked.Goals as goal
 

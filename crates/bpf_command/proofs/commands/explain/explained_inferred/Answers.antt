@@ -1,11 +1,11 @@
 use Rattle.std.proofs.Common.{◌≡◌, refl, inl, rules}
 use Rattle.bpf_insn.specs.declared.refusal.DecodeError.TheVariants.{Memory}
 use Rattle.bpf_places.specs.Opened.{opening}
-use Rattle.bpf_command.specs.Loaded.{ImageRefused, LoadsImage, NoSpaceFor}
-use Rattle.bpf_command.specs.Answer.Answer.{NoImage}
+use Rattle.bpf_answers.specs.Loaded.{ImageRefused, LoadsImage, NoSpaceFor}
+use Rattle.bpf_answers.specs.Answer.Answer.{NoImage}
 use Rattle.bpf_command.specs.Printed.{ImageSays}
 use Rattle.bpf_command.specs.Explained.{SoughtSays}
-use Rattle.bpf_command.proofs.LoadedLemmas.{decoded, read_of}
+use Rattle.bpf_answers.proofs.LoadedLemmas.{decoded, read_of}
 use Rattle.bpf_command.proofs.ExplainedLemmas.{answered_so, printed_so, sought_so}
 use Rattle.bpf_command.proofs.commands.explain.explained_inferred.Goals as goal
 

@@ -3,10 +3,10 @@ use Rattle.std.specs.String.{string_bytes}
 use Rattle.bpf_text.specs.Assembly.{Assembles, IsRefused}
 use Rattle.bpf_text.specs.declared.error.TextError.TheVariants.{Memory}
 use Rattle.bpf_places.specs.Opened.{opening}
-use Rattle.bpf_command.specs.Loaded.{ShortTextAt}
-use Rattle.bpf_command.specs.Answer.Answer.{NoText, Lists}
+use Rattle.bpf_answers.specs.Loaded.{ShortTextAt}
+use Rattle.bpf_answers.specs.Answer.Answer.{NoText, Lists}
 use Rattle.bpf_command.specs.Explained.{TextSays}
-use Rattle.bpf_command.proofs.TextLemmas.{text_says}
+use Rattle.bpf_answers.proofs.TextLemmas.{text_says}
 use Rattle.bpf_command.proofs.ExplainedLemmas.{either_so, printed_so}
 use Rattle.bpf_command.proofs.commands.explain.explained_text.Goals as goal
 

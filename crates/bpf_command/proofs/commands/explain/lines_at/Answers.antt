@@ -1,7 +1,7 @@
 use Rattle.std.proofs.Common.{rules, ◌≡◌, Some, IfErr}
 use Rattle.std.specs.String.{string_bytes}
 use Rattle.bpf_places.specs.Opened.{opening}
-use Rattle.bpf_command.specs.Loaded.{ShortTextAt, TextFails}
+use Rattle.bpf_answers.specs.Loaded.{ShortTextAt, TextFails}
 use Rattle.bpf_command.proofs.ExplainedLemmas.{lines_read, lines_unread, no_table}
 use Rattle.bpf_command.proofs.commands.explain.lines_at.Goals as goal
 

@@ -1,6 +1,6 @@
 use Rattle.std.proofs.Common.{refl}
 use Rattle.bpf_infer_error.specs.declared.error.InferError.TheVariants.{Memory}
-use Rattle.bpf_command.specs.Answer.Answer.{NotProposed}
+use Rattle.bpf_answers.specs.Answer.Answer.{NotProposed}
 use Rattle.bpf_command.proofs.ExplainedLemmas.{sought}
 use Rattle.bpf_command.proofs.commands.explain.say_inferred.Goals as goal
 

@@ -1,10 +1,10 @@
 use Rattle.std.proofs.Common.{rules, ◌≡◌, true, false, IfErr}
 use Rattle.bpf_insn.specs.Image.{image as image_of}
 use Rattle.bpf_places.specs.Opened.{opening}
-use Rattle.bpf_command.specs.Loaded.{LoadsImage}
+use Rattle.bpf_answers.specs.Loaded.{LoadsImage}
 use Rattle.bpf_places.specs.Made.{making}
 use Rattle.bpf_command.specs.Hardened.{Hardens}
-use Rattle.bpf_command.specs.declared.failure.Failure.TheVariants.{CannotWrite}
+use Rattle.bpf_answers.specs.declared.failure.Failure.TheVariants.{CannotWrite}
 use Rattle.bpf_command.proofs.HardenedLemmas.{both_stand, notes_fail, out_fails}
 use Rattle.bpf_command.proofs.commands.harden.hardened.Goals as goal
 

@@ -1,9 +1,9 @@
 use Rattle.std.proofs.Common.{rules}
 use Rattle.bpf_places.specs.Opened.{opening}
-use Rattle.bpf_command.specs.Loaded.{LoadsImage}
+use Rattle.bpf_answers.specs.Loaded.{LoadsImage}
 use Rattle.bpf_places.specs.Made.{making}
 use Rattle.bpf_command.specs.Printed.{InferSays, IsProposal}
-use Rattle.bpf_command.proofs.MadeLemmas.{put_says}
+use Rattle.bpf_answers.proofs.MadeLemmas.{put_says}
 use Rattle.bpf_command.proofs.commands.infer.inferred.Goals as goal
 
 pub returns-in-Ok-proposed-clause-ok : goal.returns-in-Ok-proposed-clause-ok

@@ -1,7 +1,7 @@
 use Rattle.std.proofs.Common.{rules, ◌≡◌}
 use Rattle.bpf_check.specs.CheckedProgram.{IsCertifiedBy, checked}
 use Rattle.bpf_places.specs.Opened.{opening}
-use Rattle.bpf_command.specs.Loaded.{CertificateAt}
+use Rattle.bpf_answers.specs.Loaded.{CertificateAt}
 use Rattle.bpf_command.proofs.EachLemmas.{judged_each_says, judged_each_fails}
 use Rattle.bpf_command.proofs.commands.judged.judged_each.Goals as goal
 

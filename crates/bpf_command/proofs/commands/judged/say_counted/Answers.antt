@@ -1,7 +1,7 @@
 use Rattle.std.proofs.Common.{rules, ◌≡◌, List, ℕ, ◌++◌, refl, ap, ap₂, subst, ◌∙◌}
 use Rattle.std.specs.Io.KnownBytes.{Appends}
 use Rattle.std.specs.String.{string_bytes}
-use Rattle.bpf_command.specs.Answer.{yes_line, work_line}
+use Rattle.bpf_answers.specs.Answer.{yes_line, work_line}
 use Rattle.bpf_command.proofs.commands.judged.say_counted.Goals as goal
 
 pub returns-clause-ok : goal.returns-clause-ok

@@ -1,10 +1,10 @@
 use Rattle.std.proofs.Common.{rules, ◌≡◌, subst, true}
 use Rattle.bpf_cert.specs.Spelling.{certificate_text}
 use Rattle.bpf_places.specs.Opened.{opening}
-use Rattle.bpf_command.specs.Loaded.{CertificateAt}
+use Rattle.bpf_answers.specs.Loaded.{CertificateAt}
 use Rattle.bpf_places.specs.Made.{making}
 use Rattle.bpf_command.specs.Printed.{MigrateSays, migrated}
-use Rattle.bpf_command.proofs.MadeLemmas.{put_says}
+use Rattle.bpf_answers.proofs.MadeLemmas.{put_says}
 use Rattle.bpf_command.proofs.commands.migrate.migrated.Goals as goal
 
 pub returns-in-Ok-migrate-clause-ok : goal.returns-in-Ok-migrate-clause-ok

@@ -1,0 +1,5 @@
+pub mod ToldLemmas
+pub mod LoadedLemmas
+pub mod TextLemmas
+pub mod MadeLemmas
+pub mod LinesLemmas

@@ -1,0 +1,22 @@
+use Rattle.std.proofs.Common.{◌≡◌, ◌+◌, max, rules, sym, subst, take}
+use Rattle.bpf_answers.proofs.LinesLemmas.{SoFar, at_first, one_more_said, refused_line}
+use Rattle.bpf_answers.proofs.each.answer_lines.Goals as goal
+
+pub answers-init : goal.answers-init
+answers-init g c = at_first (g.Q.Runner.says c.args.runner.now) c.args.lines.now (g.W.Write.contents c.args.out.now)
+
+pub returns-in-Refused-clause-err : goal.returns-in-Refused-clause-err
+returns-in-Refused-clause-err g c = refused_line _ _ _ _ _ _ _ c.in-Refused.error c.answers.invariant c.in-Refused.ensures
+
+pub answers-preserved : goal.answers-preserved
+answers-preserved g c =
+    let says = g.Q.Runner.says c.args.runner.now in
+    let known = c.args.lines.now in
+    let before = g.W.Write.contents c.args.out.now in
+    let after = g.W.Write.contents c.answer.new.out in
+    let turn = c.in-Context.ensures in
+    let said = c.in_ok-answer-in-Context.ensures.ok in
+    let status : c.max-status.result ≡ max c.answers.status c.in_ok-answer-in-Context.field-0 = search rules in
+    subst (λ n. SoFar says known c.next_context.new.lines before after n (c.answers.before + 1)) (sym status)
+    (one_more_said says known c.answers.lines c.next_context.new.lines before (g.W.Write.contents c.answers.out) after c.answers.status c.answers.before c.in_ok-answer-in-Context.field-0 turn.0 (take c.in-Context.count c.next_context.new.buffer) said.0
+    c.answers.invariant turn.1 turn.2.1 said.1 said.2)

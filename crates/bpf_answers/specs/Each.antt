@@ -1,0 +1,31 @@
+-- The answers to the contexts at a name, one a line.
+use Rattle.std.specs.Prelude.{◌≡◌, ◌⊎◌, ℕ, List, Option, Some, None, IfSome}
+use Rattle.std.specs.Io.KnownBytes.{Appends}
+use Rattle.bpf_places.specs.Opened.{Opening}
+use Rattle.bpf_answers.specs.Answer.{Answer}
+use Rattle.bpf_answers.specs.Lines.{AllAnswered, BegunLines, RefusedLine, texts_of}
+use Rattle.bpf_answers.specs.Told.{OutputFails}
+use Rattle.bpf_answers.specs.declared.failure.Failure.{Failure}
+use Rattle.bpf_answers.specs.declared.failure.Failure.TheVariants.{CannotRead, BadLine}
+
+-- What fails of lines: the reader, a line, or the output. What was answered before stands.
+abbrev pub LinesFail : (List ℕ → Answer → Type 0) → Option (List ℕ) → Option (List ℕ) → Option (List ℕ) → List ℕ → Failure → Type 0
+LinesFail says known before after contexts (CannotRead name) =
+    (name.now ≡ contexts) × ((answers : List Answer) × Appends before after (texts_of answers) × IfSome known (λ text. BegunLines says text answers))
+LinesFail says known before after contexts (BadLine error number) =
+    (answers : List Answer) × Appends before after (texts_of answers) × IfSome known (λ text. RefusedLine says text answers error number)
+LinesFail says known before after contexts failure = OutputFails failure
+
+-- the name is opened, and all its lines are answered
+abbrev pub AnswersAt : {S : Type 0} → Opening S → S → List ℕ → S → (List ℕ → Answer → Type 0) → Option (List ℕ) → Option (List ℕ) → ℕ → Type 0
+AnswersAt opening old contexts new says before after status =
+    (known : Option (List ℕ)) × opening old contexts (Some known) new × AllAnswered says known before after status
+
+-- the name can't be opened, or something fails of its lines
+abbrev pub FailsAt : {S : Type 0} → Opening S → S → List ℕ → S → (List ℕ → Answer → Type 0) → Option (List ℕ) → Option (List ℕ) → Failure → Type 0
+FailsAt opening old contexts new says before after (CannotRead name) =
+    ((name.now ≡ contexts) × opening old contexts None new)
+    ⊎ ((known : Option (List ℕ)) × opening old contexts (Some known) new × LinesFail says known before after contexts (CannotRead name))
+FailsAt opening old contexts new says before after (BadLine error number) =
+    (known : Option (List ℕ)) × opening old contexts (Some known) new × LinesFail says known before after contexts (BadLine error number)
+FailsAt opening old contexts new says before after failure = OutputFails failure

@@ -1,0 +1,6 @@
+pub mod Context
+pub mod Told
+pub mod Loaded
+pub mod Answer
+pub mod Lines
+pub mod Each

@@ -1,0 +1,99 @@
+-- What stands at names: the image of a program, a text, a certificate, a context.
+use Rattle.std.specs.Prelude.{◌≡◌, ◌⊎◌, ◌<◌, ◌≤◌, length, ℕ, Bool, true, false, List, Option, Some, None, IfSome}
+use Rattle.bpf_insn.specs.Instruction.{Instructions}
+use Rattle.bpf_insn.specs.Laws.{IsImageOfProgram}
+use Rattle.bpf_insn.specs.Refusal.{IsRefused}
+use Rattle.bpf_insn.specs.declared.order.Order.{Order}
+use Rattle.bpf_insn.specs.declared.refusal.DecodeError.{DecodeError}
+use Rattle.bpf_insn.specs.declared.refusal.DecodeError.TheVariants.{Memory}
+use Rattle.bpf_cert.specs.View.{CertificateView}
+use Rattle.bpf_cert.specs.Certificates.{Spells}
+use Rattle.bpf_cert.specs.ReadAnswers.{IsFaultOf}
+use Rattle.bpf_cert.specs.declared.error.CertError.{CertError}
+use Rattle.bpf_cert.specs.declared.error.CertError.TheVariants as errors
+use Rattle.std.specs.Str.{IsUtf8}
+use Rattle.bpf_places.specs.Opened.{Opening, ReadsAt, Unreadable}
+use Rattle.bpf_answers.specs.Context.{max_context}
+use Rattle.bpf_answers.specs.Told.{OutputFails}
+use Rattle.bpf_answers.specs.declared.context.ContextError.TheVariants.{TooLong}
+use Rattle.bpf_answers.specs.declared.failure.Failure.{Failure}
+use Rattle.bpf_answers.specs.declared.failure.Failure.TheVariants.{CannotRead, BadContext}
+
+-- ---- images
+
+-- the name is opened, and there is no memory for its bytes
+abbrev pub NoSpaceFor : {S : Type 0} → Opening S → S → List ℕ → S → DecodeError → Type 0
+NoSpaceFor opening old name new e = ((known : Option (List ℕ)) × opening old name (Some known) new) × (e ≡ Memory)
+
+-- The image at the name is refused: for want of memory, or for its bytes.
+abbrev pub ImageRefused : {S : Type 0} → Opening S → Order → S → List ℕ → S → DecodeError → Type 0
+ImageRefused {S} opening order old name new e =
+    NoSpaceFor opening old name new e ⊎ ((bytes : List ℕ) × ReadsAt opening old name bytes new × IsRefused order bytes e)
+
+-- The bytes at the name are the image of this program.
+pub record LoadsImage {S : Type 0} (opening : Opening S) (order : Order) (old : S) (name : List ℕ) (new : S) (p : Instructions) : Type 0 where
+  pub bytes : List ℕ
+  pub read : ReadsAt opening old name bytes new
+  pub is_image : IsImageOfProgram order bytes p.list
+  pub order_is : p.order ≡ order
+
+-- the image can't be read, or standard output fails
+abbrev pub ImageFails : {S : Type 0} → Opening S → S → List ℕ → S → Failure → Type 0
+ImageFails opening old input new (CannotRead name) = (name.now ≡ input) × Unreadable opening old input new
+ImageFails opening old input new failure = OutputFails failure
+
+-- ---- texts
+
+-- what the name is opened to, with what is said of its text, where that is known
+abbrev pub TextAt : {S : Type 0} → Opening S → S → List ℕ → S → (List ℕ → Type 0) → Type 0
+TextAt opening old name new says = (text : Option (List ℕ)) × opening old name (Some text) new × IfSome text says
+
+-- the greatest length of a text that is read, in bytes
+abbrev pub max_text : ℕ
+max_text = 16777216
+
+-- the same of a text that is no longer than that
+abbrev pub ShortTextAt : {S : Type 0} → Opening S → S → List ℕ → S → (List ℕ → Type 0) → Type 0
+ShortTextAt opening old name new says = TextAt opening old name new (λ text. (length text ≤ max_text) × says text)
+
+-- the name can't be opened, its reader fails, or its text isn't UTF-8 or is longer
+abbrev pub TextFails : {S : Type 0} → Opening S → S → List ℕ → S → Failure → Type 0
+TextFails opening old input new (CannotRead name) = (name.now ≡ input) × (Unreadable opening old input new ⊎ TextAt opening old input new (λ text. (¬ (IsUtf8 text)) ⊎ (max_text < length text)))
+TextFails opening old input new failure = OutputFails failure
+
+-- ---- certificates
+
+-- A failure of the reader is told on standard error, and is no answer.
+abbrev pub reader_failed : CertError → Bool
+reader_failed (errors.Syntax n) = false
+reader_failed (errors.NotCanonical n) = false
+reader_failed (errors.Limit n) = false
+reader_failed errors.Memory = false
+reader_failed (errors.Read n) = true
+
+-- the text at the name spells the certificate
+abbrev pub CertificateAt : {S : Type 0} → Opening S → S → List ℕ → S → CertificateView → Type 0
+CertificateAt opening old name new c = TextAt opening old name new (λ text. Spells text c)
+
+abbrev pub CertificateRefused : {S : Type 0} → Opening S → S → List ℕ → S → CertError → Type 0
+CertificateRefused opening old name new e = (reader_failed e ≡ false) × TextAt opening old name new (λ text. IsFaultOf text e)
+
+-- the name can't be opened, or its reader fails
+abbrev pub CertificateUnread : {S : Type 0} → Opening S → S → List ℕ → S → Type 0
+CertificateUnread opening old name new = opening old name None new ⊎ ((n : ℕ) × TextAt opening old name new (λ text. IsFaultOf text (errors.Read n)))
+
+abbrev pub CertificateFails : {S : Type 0} → Opening S → S → List ℕ → S → Failure → Type 0
+CertificateFails opening old certificate new (CannotRead name) = (name.now ≡ certificate) × CertificateUnread opening old certificate new
+CertificateFails opening old certificate new failure = OutputFails failure
+
+-- ---- contexts
+
+-- the bytes at the name are the context
+abbrev pub ContextAt : {S : Type 0} → Opening S → S → List ℕ → S → List ℕ → Type 0
+ContextAt opening old name new context = TextAt opening old name new (λ text. context ≡ text) × (length context ≤ max_context)
+
+-- there are too many bytes, or the name can't be read
+abbrev pub ContextFails : {S : Type 0} → Opening S → S → List ℕ → S → Failure → Type 0
+ContextFails opening old input new (BadContext error) = (error ≡ TooLong) × TextAt opening old input new (λ text. max_context < length text)
+ContextFails opening old input new (CannotRead name) = (name.now ≡ input) × Unreadable opening old input new
+ContextFails opening old input new failure = OutputFails failure

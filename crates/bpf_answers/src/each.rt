@@ -1,0 +1,135 @@
+//! Contexts at a name, one a line, and the answer to each.
+
+ghost use Rattle.std.specs.Prelude.{◌≡◌, ◌≤◌, IfOk, IfErr, length};
+ghost use Rattle.bpf_places.specs.Opened.{opening};
+ghost use Rattle.bpf_answers.specs.Lines.{AllAnswered, Spelled, Turns};
+ghost use Rattle.bpf_answers.specs.Each.{AnswersAt, FailsAt, LinesFail};
+
+use crate::context::ContextError;
+use crate::failure::{DONE, Failure};
+use arrayvec::ArrayVec;
+use bpf_insn::MAX_CONTEXT;
+use bpf_lines::{LineReader, Stop};
+use bpf_places::Places;
+use std::alloc::Global;
+use std::io::{Read, Write};
+
+/// What answers contexts.
+pub trait Runner {
+    ghost use Rattle.std.specs.Prelude.{◌≤◌, ℕ, List, IfOk, IfErr, length};
+    ghost use Rattle.bpf_answers.specs.Answer.{Answer, Answered};
+    ghost use Rattle.bpf_answers.specs.Told.{OutputFails};
+
+    /// What is answered to a context.
+    ghost says: { Self → List ℕ → Answer → Type 0 };
+
+    /// Prints the answer to a context in a line, and gives its status.
+    fn answer<'a, W: Write>(
+        &self,
+        alloc: Global,
+        out: &mut W,
+        context: &[u8],
+    ) -> Result<u8, Failure<'a>>
+        requires { length context.now ≤ 4096 }
+        ensures ok { IfOk result (Answered (says self.now context.now) (W.contents out.old) (W.contents out.new)) }
+        ensures err { IfErr result OutputFails };
+}
+
+/// What is found of the next context.
+#[derive(Clone, Copy)]
+pub enum Turn {
+    /// It has so many bytes, which stand at the front of the buffer.
+    Context(usize),
+    /// There is none.
+    End,
+    /// Its line is refused.
+    Refused(ContextError),
+    /// The reader failed.
+    Failed,
+}
+
+/// Puts the context that a line spells at the front of the buffer.
+fn put_context(line: &[u8], buffer: &mut [u8]) -> Turn
+    requires short { length line.now ≤ 8192 }
+    requires room { length buffer.old ≡ 4096 }
+    ensures { Spelled line.now buffer.new result }
+{
+    if line == b"none".as_slice() {
+        return Turn::Context(0);
+    }
+    let count = line.len() / 2;
+    match hex::decode_to_slice(line, &mut buffer[..count]) {
+        Ok(()) => Turn::Context(count),
+        Err(_) => Turn::Refused(ContextError::BadHex),
+    }
+}
+
+/// Takes the next line, and puts its context at the front of the buffer.
+fn next_context<R: Read + Drop>(
+    lines: &mut LineReader<R>,
+    line: &mut ArrayVec<u8, 8192>,
+    buffer: &mut [u8],
+) -> Turn
+    requires { length buffer.old ≡ 4096 }
+    ensures { Turns lines.old lines.new buffer.new result }
+{
+    line.clear();
+    let stop = lines.next_line(line);
+    match stop {
+        Stop::Failed => Turn::Failed,
+        Stop::Long => Turn::Refused(ContextError::TooLong),
+        Stop::End if line.is_empty() => Turn::End,
+        Stop::End => put_context(line.as_slice(), buffer),
+        Stop::LineEnd => put_context(line.as_slice(), buffer),
+    }
+}
+
+/// Answers each context of the lines, until one is refused.
+fn answer_lines<'a, R: Read + Drop, Q: Runner, W: Write>(
+    alloc: Global,
+    lines: &mut LineReader<R>,
+    out: &mut W,
+    runner: &Q,
+    name: &'a str,
+) -> Result<u8, Failure<'a>>
+    ensures ok { IfOk result (AllAnswered (Q.says runner.now) lines.old (W.contents out.old) (W.contents out.new)) }
+    ensures err { IfErr result (LinesFail (Q.says runner.now) lines.old (W.contents out.old) (W.contents out.new) name.entry.now) }
+{
+    let mut line: ArrayVec<u8, 8192> = ArrayVec::new();
+    let mut buffer = [0; MAX_CONTEXT];
+    let mut status = DONE;
+    'answers: for before in 0..u64::MAX {
+        match next_context(lines, &mut line, &mut buffer) {
+            Turn::Context(count) => {
+                status = status.max(runner.answer(alloc, out, &buffer[..count])?);
+            }
+            Turn::End => return Ok(status),
+            Turn::Refused(error) => {
+                let line = before + 1;
+                return Err(Failure::BadLine { error, line });
+            }
+            Turn::Failed => return Err(Failure::CannotRead(name)),
+        }
+    }
+    // No text has as many lines as that.
+    Err(Failure::NoMemory)
+}
+
+/// Answers each context of the lines at a name, and gives the greatest of the statuses. A line that is refused ends it, and
+/// what was answered before stands.
+pub fn answered<'a, P: Places, Q: Runner, W: Write>(
+    alloc: Global,
+    places: &mut P,
+    out: &mut W,
+    runner: &Q,
+    name: &'a str,
+) -> Result<u8, Failure<'a>>
+    ensures ok { IfOk result (AnswersAt (opening P.opens P.Reader.remaining) places.old name.entry.now places.new (Q.says runner.now) (W.contents out.old) (W.contents out.new)) }
+    ensures err { IfErr result (FailsAt (opening P.opens P.Reader.remaining) places.old name.entry.now places.new (Q.says runner.now) (W.contents out.old) (W.contents out.new)) }
+{
+    let Ok(reader) = places.open(name) else {
+        return Err(Failure::CannotRead(name));
+    };
+    let mut lines = LineReader::new(reader);
+    answer_lines(alloc, &mut lines, out, runner, name)
+}

@@ -1,0 +1,64 @@
+//! Images at a name, and why they are refused.
+
+ghost use Rattle.std.specs.Prelude.{◌≡◌, IfOk, IfErr, MatchResult};
+ghost use Rattle.bpf_places.specs.Opened.{opening, ReadsAt};
+ghost use Rattle.bpf_answers.specs.Loaded.{NoSpaceFor, ImageRefused, LoadsImage, ImageFails};
+ghost use Rattle.bpf_answers.specs.Answer.{Says};
+ghost use Rattle.bpf_answers.specs.Answer.Answer.{NoImage};
+ghost use Rattle.bpf_answers.specs.Told.{OutputFails};
+
+use crate::failure::Failure;
+use crate::refusal::refuse_at;
+use bpf_insn::{DecodeError, Order, Program, decode, read_image};
+use bpf_places::Places;
+use std::alloc::Global;
+use std::io::Write;
+
+/// The bytes of the image at a name, as far as they are read, or E9. It can't be read where it can't be opened or its reader
+/// fails.
+pub fn image_at<'a, P: Places>(
+    alloc: Global,
+    places: &mut P,
+    name: &'a str,
+) -> Result<Result<Vec<u8>, DecodeError>, Failure<'a>>
+    ensures ok { IfOk result (λ read. MatchResult read (λ v. ReadsAt (opening P.opens P.Reader.remaining) places.old name.entry.now v.items places.new) (NoSpaceFor (opening P.opens P.Reader.remaining) places.old name.entry.now places.new)) }
+    ensures err { IfErr result (ImageFails (opening P.opens P.Reader.remaining) places.old name.entry.now places.new) }
+{
+    let Ok(mut reader) = places.open(name) else {
+        return Err(Failure::CannotRead(name));
+    };
+    match read_image(alloc, &mut reader) {
+        Ok(bytes) => Ok(Ok(bytes)),
+        Err(DecodeError::Memory) => Ok(Err(DecodeError::Memory)),
+        Err(_) => Err(Failure::CannotRead(name)),
+    }
+}
+
+/// The program of the image at a name, or why it is refused.
+pub fn program_at<'a, P: Places>(
+    alloc: Global,
+    places: &mut P,
+    name: &'a str,
+    order: Order,
+) -> Result<Result<Program, DecodeError>, Failure<'a>>
+    ensures ok { IfOk result (λ read. MatchResult read (LoadsImage (opening P.opens P.Reader.remaining) order places.old name.entry.now places.new) (ImageRefused (opening P.opens P.Reader.remaining) order places.old name.entry.now places.new)) }
+    ensures err { IfErr result (ImageFails (opening P.opens P.Reader.remaining) places.old name.entry.now places.new) }
+{
+    match image_at(alloc, places, name)? {
+        Ok(bytes) => Ok(decode(alloc, &bytes, order)),
+        Err(error) => Ok(Err(error)),
+    }
+}
+
+/// Prints why an image is refused.
+pub fn refuse_image<'a, W: Write>(
+    alloc: Global,
+    out: &mut W,
+    error: DecodeError,
+) -> Result<u8, Failure<'a>>
+    ensures ok { IfOk result (λ status. Says (NoImage error) status (W.contents out.old) (W.contents out.new)) }
+    ensures err { IfErr result OutputFails }
+{
+    let slot = u64::from(error.slot());
+    refuse_at(alloc, out, "E", error.number(), " at slot ", slot)
+}

@@ -1,0 +1,23 @@
+//! What the command `bpf` finds at names, and the lines that it answers: images, texts, certificates and contexts by name, each
+//! refusal in its line, and what is told of failures.
+#![tactic(auto)]
+
+mod certificate;
+mod context;
+mod each;
+mod failure;
+mod image;
+mod output;
+mod refusal;
+mod text;
+mod whole;
+
+pub use certificate::{certificate_at, refuse_certificate, refuse_program};
+pub use context::{ContextError, context_of};
+pub use each::{Runner, answered};
+pub use failure::{BAD_WORDS, DONE, FAILED, Failure, REFUSED, say, tell};
+pub use image::{image_at, program_at, refuse_image};
+pub use output::{Content, put};
+pub use refusal::refuse_at;
+pub use text::{refuse_text, text_at};
+pub use whole::context_at;

@@ -1,9 +1,0 @@
-use Rattle.std.proofs.Common.{refl, subst, inr, IfSome}
-use Rattle.bpf_cert.specs.ReadAnswers.{IsFaultOf}
-use Rattle.bpf_command.proofs.commands.certificate.certificate_at.Goals as goal
-
-pub returns-in-Err-Read-clause-err : goal.returns-in-Err-Read-clause-err
-returns-in-Err-Read-clause-err g c =
-    let known = g.P.Reader.Read.remaining c.in-Ok.reader in
-    let fault = subst (λ e. IfSome known (λ text. IsFaultOf text e)) c.in-Err-Read.field-0-is c.in-Err-Read.ensures.err in
-    (refl, inr (c.in-Err-Read.field-0-0, (known, (c.in-Ok.reader, c.in-Ok.ensures, refl), fault)))

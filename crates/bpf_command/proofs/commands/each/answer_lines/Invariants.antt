@@ -1,5 +1,0 @@
-use Rattle.bpf_command.proofs.LinesLemmas.{SoFar}
-use Rattle.bpf_command.proofs.commands.each.answer_lines.Given as goal
-
-abbrev pub invariant-answers : goal.invariant-answers
-invariant-answers g l = SoFar (g.Q.Runner.says l.fn.runner) l.fn.lines l.lines (g.W.Write.contents l.fn.out) (g.W.Write.contents l.out) l.status l.before
