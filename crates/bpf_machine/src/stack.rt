@@ -7,7 +7,7 @@ ghost use Rattle.bpf_semantics.specs.State.{Cell, cell, empty_stack};
 ghost use Rattle.bpf_semantics.specs.State.Cell.{Byte};
 ghost use Rattle.bpf_semantics.specs.Memory.{bytes_in, pointer_in, with_bytes, with_parts};
 ghost use Rattle.bpf_semantics.specs.Stuck.{first_unreadable};
-ghost use Rattle.bpf_machine.specs.code.PackedStack.{IsMask};
+ghost use Rattle.bpf_machine.specs.code.PackedStack.{IsMask, region_of_code};
 
 use bpf_insn::{FRAME_BYTES, MAX_FRAMES, Order, Size, number_in, put_number};
 use bpf_semantics::{Reason, Region, Value};
@@ -16,13 +16,40 @@ use std::marker::Model;
 /// How many slots of eight bytes there are.
 const SLOTS: usize = FRAME_BYTES / 8;
 
+/// The number of a slot that holds no pointer.
+const NO_REGION: u16 = 0;
+
 /// A stack by slots: the bytes, those of each slot that hold a number, and the regions of the pointers, whose offsets
 /// are the numbers in the slots' bytes then, the lowest first. What no mask has and no region is may hold anything.
+/// Regions are kept as numbers, so that a stack is cleared at once: 1 is the context, and 2 more than its depth a frame.
 #[derive(Drop)]
 pub(crate) struct Stack {
     bytes: [u8; FRAME_BYTES],
     masks: [u8; SLOTS],
-    regions: [Option<Region>; SLOTS],
+    regions: [u16; SLOTS],
+}
+
+/// The number of a pointer's region.
+#[inline(always)]
+fn code_of(region: Region) -> u16
+    ensures { region_of_code result ≡ Some region }
+{
+    match region {
+        Region::Context => 1,
+        Region::Frame(depth) => 2 + u16::from(depth),
+    }
+}
+
+/// The region that a slot's number stands for.
+#[inline(always)]
+fn region_of(code: u16) -> Option<Region>
+    ensures { result ≡ region_of_code code }
+{
+    match code {
+        NO_REGION => None,
+        1 => Some(Region::Context),
+        _ => Some(Region::Frame(((code - 2) % 256) as u8)),
+    }
 }
 
 /// The mask of some bytes of a slot, from a place in it on.
@@ -36,17 +63,13 @@ fn mask_of(place: usize, count: usize) -> u8
 }
 
 impl Model for Stack {
-    ghost use Rattle.std.specs.Prelude.{List, Option};
+    ghost use Rattle.std.specs.Prelude.{List, Option, map};
     ghost use Rattle.bpf_semantics.specs.State.{Cell};
-    ghost use Rattle.bpf_machine.specs.code.PackedStack.{packed_cells};
+    ghost use Rattle.bpf_machine.specs.code.PackedStack.{packed_cells, region_of_code};
 
     ghost Value = { List (Option Cell) };
 
-    ghost view = { λ s. packed_cells s.bytes s.masks s.regions };
-
-    ghost use Rattle.std.specs.Prelude.{◌≡◌, length};
-
-    ghost invariant = { λ s. length s.regions ≡ 64 };
+    ghost view = { λ s. packed_cells s.bytes s.masks (map region_of_code s.regions) };
 }
 
 impl Stack {
@@ -58,7 +81,7 @@ impl Stack {
         Stack {
             bytes: [0; FRAME_BYTES],
             masks: [0; SLOTS],
-            regions: [None; SLOTS],
+            regions: [NO_REGION; SLOTS],
         }
     }
 
@@ -68,7 +91,7 @@ impl Stack {
         ensures { self.new ≡ empty_stack }
     {
         self.masks = [0; SLOTS];
-        self.regions = [None; SLOTS];
+        self.regions = [NO_REGION; SLOTS];
     }
 
     /// The byte of a number at an address; else why it can't be read.
@@ -81,7 +104,7 @@ impl Stack {
         if (self.masks[at / 8] >> (at % 8)) % 2 == 1 {
             return Ok(self.bytes[at]);
         }
-        match self.regions[at / 8] {
+        match region_of(self.regions[at / 8]) {
             Some(_region) => Err(Reason::OperandKind),
             None => Err(Reason::UnsetByte),
         }
@@ -162,7 +185,7 @@ impl Stack {
         if at % 8 != 0 || self.masks[at / 8] % 2 == 1 {
             return None;
         }
-        match self.regions[at / 8] {
+        match region_of(self.regions[at / 8]) {
             Some(region) => {
                 let number = number_in(Order::Little, Size::DW, &self.bytes[at..]);
                 Some(Value::Pointer(region, number.cast_signed()))
@@ -179,7 +202,7 @@ impl Stack {
     {
         self.bytes[at] = byte;
         self.masks[at / 8] |= mask_of(at % 8, 1);
-        self.regions[at / 8] = None;
+        self.regions[at / 8] = NO_REGION;
     }
 
     /// Writes the lowest bytes of a number, byte by byte. Pointers that the slots held are gone.
@@ -205,7 +228,7 @@ impl Stack {
     {
         put_number(order, size, &mut self.bytes[at..], x);
         self.masks[at / 8] |= mask_of(at % 8, usize::from(size.bytes()));
-        self.regions[at / 8] = None;
+        self.regions[at / 8] = NO_REGION;
     }
 
     /// Writes the lowest bytes of a number at an address. Pointers that the slots held are gone.
@@ -231,7 +254,7 @@ impl Stack {
         let number = off.cast_unsigned();
         put_number(Order::Little, Size::DW, &mut self.bytes[at..], number);
         self.masks[at / 8] = 0;
-        self.regions[at / 8] = Some(region);
+        self.regions[at / 8] = code_of(region);
     }
 }
 

@@ -1,4 +1,4 @@
-use Rattle.std.proofs.Common.{◌∙◌, ap, None, slice_set, get_or, arith, rules}
+use Rattle.std.proofs.Common.{◌∙◌, ap, None, slice_set, get_or, rules}
 use Rattle.std.specs.Prelude.{set}
 use Rattle.bpf_insn.specs.declared.instruction.Width.TheVariants.{W64}
 use Rattle.bpf_insn.specs.declared.instruction.AluOp.TheVariants.{Add}
