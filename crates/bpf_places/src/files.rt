@@ -2,6 +2,7 @@
 
 ghost use Rattle.std.specs.Prelude.{◌≡◌};
 
+use crate::error::PlaceError;
 use crate::places::Places;
 use std::alloc::Global;
 use std::fs::{self, File, OpenFile};
@@ -89,7 +90,7 @@ impl<'a, R: Files> Places for FilePlaces<'a, R> {
 
     type Writer = FileWriter<R::File>;
 
-    fn open(&mut self, name: &str) -> io::Result<FileReader<R::File>> {
+    fn open(&mut self, name: &str) -> Result<FileReader<R::File>, PlaceError> {
         if name == "-" {
             return Ok(FileReader::Input(self.input));
         }
@@ -97,7 +98,7 @@ impl<'a, R: Files> Places for FilePlaces<'a, R> {
     }
 
     // Whoever changes what stands at the name between the question and the renaming has it renamed over.
-    fn create(&mut self, name: &str) -> io::Result<FileWriter<R::File>> {
+    fn create(&mut self, name: &str) -> Result<FileWriter<R::File>, PlaceError> {
         if name == "-" {
             return Ok(FileWriter::Output(self.output));
         }

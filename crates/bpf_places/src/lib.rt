@@ -1,11 +1,13 @@
 //! What a command reads and writes by name: the files of the system, whole or not at all.
 #![tactic(auto)]
 
+mod error;
 mod files;
 mod keeping;
 mod places;
 mod reading;
 
+pub use error::PlaceError;
 pub use files::FilePlaces;
 pub use keeping::Keeping;
 pub use places::Places;
