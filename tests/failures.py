@@ -1,6 +1,7 @@
 """failures.py BPF EXAMPLES SHIM MEMORY: the command under a library that refuses the Nth growth of memory, fails the Nth read or
-write, or shortens it. Right is the answer of the undisturbed command, or the named failure, with nothing half written. So are
-calls that no command makes alone, by a program of their own."""
+write, or shortens it. Right is the answer of the undisturbed command, or the named failure, with nothing half written: for want of
+memory the refusal of the step at which it ran out, or `no memory`; for a name the words that name it. So are calls that no command
+makes alone, by a program of their own."""
 import os
 import pathlib
 import re
@@ -11,9 +12,10 @@ import tempfile
 
 BPF, EXAMPLES, SHIM, MEMORY = sys.argv[1], pathlib.Path(sys.argv[2]), sys.argv[3], sys.argv[4]
 OLD = b'what stood here before\n'
-WANT_OF_MEMORY = {'no E9 at slot 0\n', 'no A7 at line 0\n', 'no K4 at line 0\n', 'no I5 at slot 0\n'}
-# the same in words
-WANT_OF_MEMORY |= {'A7: out of memory\n', 'K4 at line 0: memory ran out\n', 'no certificate: I5, memory ran out\n'}
+# The refusal for want of memory: of an image, a certificate, a text, a search, a program to be hardened.
+E9, K4, A7, I5, H12 = 'no E9 at slot 0\n', 'no K4 at line 0\n', 'no A7 at line 0\n', 'no I5 at slot 0\n', 'no H12 at slot 0\n'
+# Of an explanation: of a text behind its first reading, and of a search, whose words stand behind what was found out before it.
+A7_TOLD, I5_TOLD = 'A7: out of memory\n', 'no certificate: I5, memory ran out\n'
 # Calls that no command makes alone, and their refusals.
 CALLS = {
     'assemble': {'A7 at line 0'},
@@ -22,41 +24,44 @@ CALLS = {
     'verify': {'K4 at line 0'},
 }
 
+# The words of each command, and the refusal that want of memory may be at each of its steps, in their order.
 COMMANDS = [
-    ['groups', 'fetch.img'],
-    ['asm', 'checksum.asm', 'OUT'],
-    ['asm', 'bad.asm', 'OUT'],
-    ['list', 'fetch.img'],
-    ['list', 'reserved.img'],
-    ['list', '--slots', '--bytes', 'fetch.img'],
-    ['infer', 'checksum.img', '16', 'OUT'],
-    ['infer', 'checksum.img', '15', 'OUT'],
-    ['check', 'countdown.img', 'countdown.cert'],
-    ['check', 'first-byte.img', 'countdown.cert'],
-    ['check', '--work', 'countdown.img', 'countdown.cert'],
-    ['run', 'first-byte.img', '2a', '--steps', '100'],
-    ['run', 'first-byte.img', 'none', '--steps', '100'],
-    ['run', 'first-byte.img', '--context', 'byte', '--steps', '100'],
-    ['run', 'first-byte.img', '--contexts', 'contexts', '--steps', '100'],
-    ['run', 'first-byte.img', '--contexts', 'bad-second', '--steps', '100'],
-    ['run-checked', 'first-byte.img', 'first-byte.cert', '2a'],
-    ['run-checked', 'first-byte.img', 'first-byte.cert', 'none'],
-    ['run-checked', 'first-byte.img', 'first-byte.cert', '--context', 'byte'],
-    ['run-checked', 'first-byte.img', 'first-byte.cert', '--contexts', 'contexts'],
-    ['run-checked', 'first-byte.img', 'first-byte.cert', '--contexts', 'bad-second'],
-    ['migrate', 'countdown.cert', 'OUT'],
-    ['explain', 'fetch.img'],
-    ['explain', 'reserved.img'],
-    ['explain', '--text', 'bad.asm'],
-    ['explain', '--text', 'checksum.asm'],
-    ['explain', 'countdown.img', 'countdown.cert'],
-    ['explain', 'first-byte.img', 'countdown.cert', '--slot', '0'],
-    ['explain', 'fetch.img', '--dot'],
-    ['explain', 'countdown.img', 'countdown.cert', '--dot'],
-    ['explain', 'countdown.img', 'bad.asm'],
-    ['explain', 'checksum.img', '--infer', '16'],
-    ['explain', 'checksum.img', '--infer', '15'],
-    ['explain', 'checksum.img', '--infer', '15', '--deep'],
+    ('groups fetch.img', [E9]),
+    ('asm checksum.asm OUT', [A7]),
+    ('asm bad.asm OUT', [A7]),
+    ('list fetch.img', [E9]),
+    ('list reserved.img', [E9]),
+    ('list --slots --bytes fetch.img', [E9]),
+    ('infer checksum.img 16 OUT', [E9, I5]),
+    ('infer checksum.img 15 OUT', [E9, I5]),
+    ('harden first-byte.img 1 OUT', [E9, H12]),
+    ('harden checksum.img 15 OUT', [E9, H12]),
+    ('check countdown.img countdown.cert', [E9, K4]),
+    ('check first-byte.img countdown.cert', [E9, K4]),
+    ('check --work countdown.img countdown.cert', [E9, K4]),
+    ('run first-byte.img 2a --steps 100', [E9]),
+    ('run first-byte.img none --steps 100', [E9]),
+    ('run first-byte.img --context byte --steps 100', [E9]),
+    ('run first-byte.img --contexts contexts --steps 100', [E9]),
+    ('run first-byte.img --contexts bad-second --steps 100', [E9]),
+    ('run-checked first-byte.img first-byte.cert 2a', [E9, K4]),
+    ('run-checked first-byte.img first-byte.cert none', [E9, K4]),
+    ('run-checked first-byte.img first-byte.cert --context byte', [E9, K4]),
+    ('run-checked first-byte.img first-byte.cert --contexts contexts', [E9, K4]),
+    ('run-checked first-byte.img first-byte.cert --contexts bad-second', [E9, K4]),
+    ('migrate countdown.cert OUT', [K4]),
+    ('explain fetch.img', [E9]),
+    ('explain reserved.img', [E9]),
+    ('explain --text bad.asm', [A7, A7_TOLD]),
+    ('explain --text checksum.asm', [A7, A7_TOLD]),
+    ('explain countdown.img countdown.cert', [E9, K4]),
+    ('explain first-byte.img countdown.cert --slot 0', [E9, K4]),
+    ('explain fetch.img --dot', [E9]),
+    ('explain countdown.img countdown.cert --dot', [E9, K4]),
+    ('explain countdown.img bad.asm', [E9, K4]),
+    ('explain checksum.img --infer 16', [E9, I5_TOLD]),
+    ('explain checksum.img --infer 15', [E9, I5_TOLD]),
+    ('explain checksum.img --infer 15 --deep', [E9, I5_TOLD]),
 ]
 
 
@@ -92,32 +97,30 @@ def wrong(what, n, got, right):
     sys.exit(1)
 
 
-def opened(got):
-    return [f'cannot {verb} {name}\n' for verb in ('read', 'write') for name in got.words[1:] if not name.startswith('-')]
-
-
 def is_in_part(got, right):
     """An explanation that leaves out what there is no memory for: it says so in its last line, or says nothing that the whole one doesn't."""
-    *lines, last = got.out.splitlines() or ['']
+    *lines, last = got.out.splitlines(keepends=True) or ['']
     instructions = [line.split(';')[0].rstrip() for line in lines if re.match(r' +\d+  ', line)]
-    if last == 'no certificate: I5, memory ran out':
+    if last == I5_TOLD:
         return all(instruction in right.out for instruction in instructions)
     return right.status == 1 and all(line in right.out for line in [*lines, last])
 
 
-def is_refused_for_memory(got, right):
-    if got.status == 1 and got.out in WANT_OF_MEMORY and not got.err:
-        return True
-    if '--infer' in got.words and got.status == 1 and not got.err and is_in_part(got, right):
-        return True
-    # where the system has no memory to open a name, that name can't be read or written
-    return got.status == 3 and (got.err == 'no memory\n' or got.err in opened(got)) and right.out.startswith(got.out)
+def refusal_in(got, right, refusals):
+    """The step whose refusal for want of memory this is, None where it is none. Want of memory elsewhere is no step's."""
+    if got.status == 3:
+        return -1 if got.err == 'no memory\n' and right.out.startswith(got.out) else None
+    if got.status != 1 or got.err:
+        return None
+    if got.out in refusals:
+        return refusals.index(got.out)
+    return len(refusals) - 1 if refusals[-1] == I5_TOLD and is_in_part(got, right) else None
 
 
 def is_failure(got, right):
-    names = [w for w in got.words[1:] if not w.startswith('-')] + ['standard output']
-    lines = [f'cannot {verb} {name}\n' for verb in ('read', 'write') for name in names] + ['no memory\n']
-    # where standard error fails, a beginning of a line without its LF
+    """The name that can't be read or written is told; where standard error fails, a beginning of a line without its LF."""
+    names = [word for word in got.words[1:] if not word.startswith('-')]
+    lines = [f'cannot read {name}\n' for name in names if name != 'OUT'] + ['cannot write OUT\n', 'cannot write standard output\n']
     told = got.err in lines or any(line[:-1].startswith(got.err) for line in [*lines, right.err])
     return got.status == 3 and told and right.out.startswith(got.out)
 
@@ -188,6 +191,33 @@ def show_calls(folder):
     print(f'{", ".join(CALLS)}: {total} allocations')
 
 
+def try_memory(words, refusals, right):
+    """Each growth of memory is refused: each step's refusal comes, and none before the one of an earlier step."""
+    steps = []
+    for n in range(1, right.counts[0] + 1):
+        got = Answer(words, REFUSE_ALLOC=n)
+        step = refusal_in(got, right, refusals)
+        if got.told() != right.told() and step is None or not whole_or_old(got, right):
+            wrong('allocation', n, got, right)
+        if got.told() != right.told() and step >= 0:
+            steps.append(step)
+    if steps != sorted(steps) or 0 not in steps:
+        print(f'failures: {words}: want of memory is told of the steps {steps} of {refusals}')
+        sys.exit(1)
+
+
+def try_streams(words, right):
+    """Each read or write fails, and each is shortened."""
+    for n in range(1, right.counts[2] + 1):
+        got = Answer(words, REFUSE_IO=n)
+        if got.told() != right.told() and not is_failure(got, right) or not whole_or_old(got, right):
+            wrong('read or write', n, got, right)
+    for n in range(1, right.counts[3] + 1):
+        got = Answer(words, SHORT_IO=n)
+        if got.told() != right.told() or got.left:
+            wrong('short read or write', n, got, right)
+
+
 def main():
     global EXTRA, FOLDER
     FOLDER = extra = pathlib.Path(tempfile.mkdtemp())
@@ -199,24 +229,15 @@ def main():
     subprocess.run([BPF, 'asm', str(EXAMPLES / 'checksum.asm'), str(extra / 'checksum.img')], check=True)
     EXTRA = sorted(extra.iterdir())
     totals = {'allocations refused': 0, 'reads and writes failed': 0, 'reads and writes shortened': 0}
-    for words in COMMANDS:
+    for line, refusals in COMMANDS:
+        words = line.split()
         right = Answer(words)
+        try_memory(words, refusals, right)
+        try_streams(words, right)
         allocs, _, io, short = right.counts
-        for n in range(1, allocs + 1):
-            got = Answer(words, REFUSE_ALLOC=n)
-            if got.told() != right.told() and not is_refused_for_memory(got, right) or not whole_or_old(got, right):
-                wrong('allocation', n, got, right)
-        for n in range(1, io + 1):
-            got = Answer(words, REFUSE_IO=n)
-            if got.told() != right.told() and not is_failure(got, right) or not whole_or_old(got, right):
-                wrong('read or write', n, got, right)
-        for n in range(1, short + 1):
-            got = Answer(words, SHORT_IO=n)
-            if got.told() != right.told() or got.left:
-                wrong('short read or write', n, got, right)
         for name, count in zip(totals, (allocs, io, short)):
             totals[name] += count
-        print(f'{" ".join(words)}: {allocs} allocations, {io} reads and writes, {short} of several bytes')
+        print(f'{line}: {allocs} allocations, {io} reads and writes, {short} of several bytes', flush=True)
     show_no_memory()
     show_calls(extra)
     shutil.rmtree(extra)

@@ -1,9 +1,10 @@
 //! The command `bpf`: a toolchain for eBPF programs that hosts can trust.
 #![tactic(auto)]
 
-use bpf_answers::{FAILED, Failure, tell};
-use bpf_command::{Progress, respond};
+use bpf_answers::Failure;
+use bpf_command::{Progress, fail, respond};
 use bpf_places::FilePlaces;
+use std::io::ErrorKind;
 use std::process::ExitCode;
 use std::rt::Env;
 use std::{env, io};
@@ -25,10 +26,8 @@ fn main(rt: HostRuntime) -> ExitCode {
             &mut err,
             &mut Progress::new(&rt, rt.stderr()),
         ),
-        Err(_) => {
-            let _ = tell(Failure::NoMemory, &mut err);
-            FAILED
-        }
+        Err(error) if error.kind() == ErrorKind::OutOfMemory => fail(Failure::NoMemory, &mut err),
+        Err(_) => fail(Failure::NotUtf8, &mut err),
     };
     ExitCode::from(status)
 }

@@ -5,7 +5,7 @@ use Rattle.bpf_insn.specs.Written.{AppendsBeginning}
 use Rattle.bpf_answers.specs.declared.context.ContextError.{ContextError}
 use Rattle.bpf_answers.specs.declared.context.ContextError.TheVariants.{BadHex, TooLong, Memory}
 use Rattle.bpf_answers.specs.declared.failure.Failure.{Failure}
-use Rattle.bpf_answers.specs.declared.failure.Failure.TheVariants.{CannotRead, CannotWrite, NoMemory, BadContext, BadLine, NoContext, ContextTwice, MostBelowLeast, InputTwice, NotTogether}
+use Rattle.bpf_answers.specs.declared.failure.Failure.TheVariants.{CannotRead, CannotWrite, NoMemory, BadContext, BadLine, NoContext, ContextTwice, MostBelowLeast, InputTwice, NotTogether, NotUtf8}
 
 abbrev pub context_text : ContextError → List ℕ
 context_text BadHex = codes "bad hex"
@@ -29,6 +29,7 @@ failure_text ContextTwice = codes "context twice"
 failure_text MostBelowLeast = codes "most below least"
 failure_text InputTwice = codes "standard input twice"
 failure_text NotTogether = codes "words that don't go together"
+failure_text NotUtf8 = codes "words that aren't UTF-8"
 
 abbrev pub failure_line : Failure → List ℕ
 failure_line failure = failure_text failure ++ codes "\n"
@@ -50,6 +51,7 @@ status_of_failure ContextTwice = 2
 status_of_failure MostBelowLeast = 2
 status_of_failure InputTwice = 2
 status_of_failure NotTogether = 2
+status_of_failure NotUtf8 = 2
 
 -- The failure's line went to standard error, with its status; 3 where standard error failed as well, and took a beginning.
 abbrev pub IsTold : Failure → ℕ → Option (List ℕ) → Option (List ℕ) → Type 0
@@ -68,3 +70,4 @@ OutputFails ContextTwice = ⊥
 OutputFails MostBelowLeast = ⊥
 OutputFails InputTwice = ⊥
 OutputFails NotTogether = ⊥
+OutputFails NotUtf8 = ⊥

@@ -40,6 +40,8 @@ pub enum Failure<'a> {
     InputTwice,
     /// Words that don't go together are given.
     NotTogether,
+    /// A word isn't UTF-8.
+    NotUtf8,
 }
 
 impl ContextError {
@@ -75,7 +77,7 @@ impl<'a> Failure<'a> {
             Failure::BadContext(error) | Failure::BadLine { error, .. } => error.status(),
             Failure::NoContext | Failure::ContextTwice => BAD_WORDS,
             Failure::MostBelowLeast | Failure::InputTwice => BAD_WORDS,
-            Failure::NotTogether => BAD_WORDS,
+            Failure::NotTogether | Failure::NotUtf8 => BAD_WORDS,
         }
     }
 
@@ -95,6 +97,7 @@ impl<'a> Failure<'a> {
             Failure::MostBelowLeast => ("most below least", ""),
             Failure::InputTwice => ("standard input twice", ""),
             Failure::NotTogether => ("words that don't go together", ""),
+            Failure::NotUtf8 => ("words that aren't UTF-8", ""),
         }
     }
 }

@@ -8,4 +8,4 @@ mod response;
 
 pub use aside::Aside;
 pub use progress::Progress;
-pub use response::respond;
+pub use response::{fail, respond};

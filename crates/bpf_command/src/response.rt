@@ -219,7 +219,7 @@ fn perform<'a, P: Places, W: Write, H: Aside>(
 }
 
 /// Tells a failure, and answers its status; 3 where standard error fails as well, for there is nowhere left to tell that.
-fn fail<E: Write>(failure: Failure<'_>, err: &mut E) -> u8
+pub fn fail<E: Write>(failure: Failure<'_>, err: &mut E) -> u8
     ensures { IsTold failure.entry result (E.contents err.old) (E.contents err.new) }
 {
     match tell(failure, err) {

@@ -2,10 +2,14 @@
 
 ghost use Rattle.std.specs.Prelude.{◌≡◌};
 
+use crate::beside::Beside;
+use crate::error::PlaceError;
+use crate::links::{behind_links, is_name_of};
 use crate::places::Places;
 use std::alloc::Global;
-use std::fs::{self, File, OpenFile};
-use std::io::{self, Read, Stdin, Stdout, Write};
+use std::fs::{self, Metadata};
+use std::io::{self, ErrorKind, Read, Stdin, Stdout, Write};
+use std::os::unix::fs::MetadataExt;
 use std::rt::Files;
 
 /// A file, or standard input.
@@ -27,13 +31,8 @@ impl<F: Read + Drop> Read for FileReader<F> {
 /// A file that isn't at its name yet, or what is written as it is.
 #[derive(Drop)]
 pub enum FileWriter<F: Write + Drop> {
-    /// A new file beside the name.
-    Beside {
-        file: F,
-        partial: String,
-        name: String,
-    },
-    /// What stands at the name and is no plain file: a device, a pipe or a link.
+    Beside(Beside<F>),
+    /// What stands at the name and is no plain file: a device or a pipe.
     AtName(F),
     Output(Stdout),
 }
@@ -41,14 +40,16 @@ pub enum FileWriter<F: Write + Drop> {
 impl<F: Write + Drop> Write for FileWriter<F> {
     fn write(&mut self, buf: &[u8]) -> io::Result<usize> {
         match self {
-            FileWriter::Beside { file, .. } | FileWriter::AtName(file) => file.write(buf),
+            FileWriter::Beside(beside) => beside.file.write(buf),
+            FileWriter::AtName(file) => file.write(buf),
             FileWriter::Output(output) => output.write(buf),
         }
     }
 
     fn flush(&mut self) -> io::Result<()> {
         match self {
-            FileWriter::Beside { file, .. } | FileWriter::AtName(file) => file.flush(),
+            FileWriter::Beside(beside) => beside.file.flush(),
+            FileWriter::AtName(file) => file.flush(),
             FileWriter::Output(output) => output.flush(),
         }
     }
@@ -76,11 +77,30 @@ impl<'a, R: Files> FilePlaces<'a, R> {
         }
     }
 
-    /// Puts a whole file in the place of what stands at the name.
-    fn put(&self, file: R::File, partial: &str, name: &str) -> io::Result<()> {
-        file.sync_all()?;
-        drop(file);
-        fs::rename(self.runtime, partial, name)
+    /// What is written for a name where a plain file stands, or nothing: a new file beside it. A name that is a link is that of
+    /// what it leads to. A file that no name leads to, as an open one may be, is written as it is.
+    fn beside(&self, name: &str, found: Option<&Metadata>) -> io::Result<FileWriter<R::File>> {
+        let target = behind_links(self.runtime, self.alloc, name)?;
+        if found.is_some_and(|file| !is_name_of(self.runtime, target.as_str(), file)) {
+            return self.at_name(name);
+        }
+        let mode = found.map(Metadata::mode);
+        Ok(FileWriter::Beside(Beside::new(self.runtime, self.alloc, target, mode)?))
+    }
+
+    /// What stands at the name.
+    fn at_name(&self, name: &str) -> io::Result<FileWriter<R::File>> {
+        Ok(FileWriter::AtName(fs::create(self.runtime, name)?))
+    }
+
+    /// What is written for a name.
+    fn writer(&self, name: &str) -> io::Result<FileWriter<R::File>> {
+        match fs::metadata(self.runtime, name) {
+            Ok(found) if found.is_file() => self.beside(name, Some(&found)),
+            Ok(_) => self.at_name(name),
+            Err(error) if error.kind() == ErrorKind::NotFound => self.beside(name, None),
+            Err(error) => Err(error),
+        }
     }
 }
 
@@ -89,7 +109,7 @@ impl<'a, R: Files> Places for FilePlaces<'a, R> {
 
     type Writer = FileWriter<R::File>;
 
-    fn open(&mut self, name: &str) -> io::Result<FileReader<R::File>> {
+    fn open(&mut self, name: &str) -> Result<FileReader<R::File>, PlaceError> {
         if name == "-" {
             return Ok(FileReader::Input(self.input));
         }
@@ -97,44 +117,24 @@ impl<'a, R: Files> Places for FilePlaces<'a, R> {
     }
 
     // Whoever changes what stands at the name between the question and the renaming has it renamed over.
-    fn create(&mut self, name: &str) -> io::Result<FileWriter<R::File>> {
+    fn create(&mut self, name: &str) -> Result<FileWriter<R::File>, PlaceError> {
         if name == "-" {
             return Ok(FileWriter::Output(self.output));
         }
-        if fs::symlink_metadata(self.runtime, name).is_ok_and(|found| !found.is_file()) {
-            return Ok(FileWriter::AtName(fs::create(self.runtime, name)?));
-        }
-        let partial = format!(in self.alloc; "{name}.partial")?;
-        let name = String::from_str(self.alloc, name)?;
-        Ok(FileWriter::Beside {
-            file: File::create_new(self.runtime, partial.as_str())?,
-            partial,
-            name,
-        })
+        Ok(self.writer(name)?)
     }
 
     fn finish(&mut self, writer: FileWriter<R::File>) -> io::Result<()> {
         match writer {
-            FileWriter::Output(mut output) => output.flush(),
+            FileWriter::Beside(beside) => beside.put(self.runtime),
             FileWriter::AtName(mut file) => file.flush(),
-            FileWriter::Beside {
-                file,
-                partial,
-                name,
-            } => {
-                let put = self.put(file, partial.as_str(), name.as_str());
-                if put.is_err() {
-                    let _ = fs::remove_file(self.runtime, partial.as_str());
-                }
-                put
-            }
+            FileWriter::Output(mut output) => output.flush(),
         }
     }
 
     fn discard(&mut self, writer: FileWriter<R::File>) {
-        if let FileWriter::Beside { file, partial, .. } = writer {
-            drop(file);
-            let _ = fs::remove_file(self.runtime, partial.as_str());
+        if let FileWriter::Beside(beside) = writer {
+            beside.discard(self.runtime);
         }
     }
 }

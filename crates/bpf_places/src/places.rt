@@ -3,6 +3,7 @@
 ghost use Rattle.std.specs.Prelude.{◌≡◌, ℕ, Bool, List, [], Option, ⊤, IfOk, IfSome, is_ok, false};
 ghost use Rattle.std.specs.Result.{result_ok};
 
+use crate::error::PlaceError;
 use std::io::{self, Read, Write};
 
 /// Opens names for reading and for writing.
@@ -20,12 +21,13 @@ pub trait Places {
     /// Whether the bytes of a writer, as it then is, came to stand at its name, and the places after it.
     ghost ends: { Self → Self.Writer → Bool → Self → Type 0 } = { λ _ _ _ _. ⊤ };
 
-    /// What stands at the name.
-    fn open(&mut self, name: &str) -> io::Result<Self::Reader>
+    /// What stands at the name. `Memory` where there is none to open it, `Refused` where it can't be opened for another cause.
+    fn open(&mut self, name: &str) -> Result<Self::Reader, PlaceError>
         ensures { opens self.old name.now (result_ok result) self.new };
 
-    /// An empty stream whose bytes stand at the name once it is finished.
-    fn create(&mut self, name: &str) -> io::Result<Self::Writer>
+    /// An empty stream whose bytes stand at the name once it is finished. `Memory` where there is none to make it, `Refused` where it
+    /// can't be made for another cause.
+    fn create(&mut self, name: &str) -> Result<Self::Writer, PlaceError>
         ensures creates { creates self.old name.now (result_ok result) self.new }
         ensures empty { IfOk result (λ w. IfSome (Self.Writer.contents w) (λ bytes. bytes ≡ [])) };
 

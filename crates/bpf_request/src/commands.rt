@@ -8,6 +8,9 @@ use bpf_insn::{MAX_CONTEXT, MAX_SLOTS};
 use clap::{Arg, ArgAction, Command, value_parser};
 use std::alloc::{AllocError, Global};
 
+/// The command's version, and in a line of its own the kit that it is proved with, as `rt version` names it.
+const VERSION: &str = "0.1.0\nrattle-kit-13f logic dac8208d650f15bf";
+
 /// A command with what was added to it, or the want of memory that ended that.
 type Grown<'a> = Result<Command<'a>, AllocError>;
 
@@ -400,7 +403,7 @@ fn top<'a>(alloc: Global) -> Grown<'a>
 {
     Ok(
         Command::new(alloc, "bpf")
-            .version("0.1.0")
+            .version(VERSION)
             .about("Works on eBPF programs (RFC 9669, integer profile)")
             .subcommand_required(true),
     )
