@@ -15,6 +15,8 @@ use Rattle.bpf_request.specs.declared.contexts.Contexts.TheVariants.{Word, Bytes
 use Rattle.bpf_request.specs.declared.hardening.Hardening.{Hardening}
 use Rattle.bpf_request.specs.declared.words.Request.{Request}
 use Rattle.bpf_request.specs.declared.words.Request.TheVariants.{Groups, Asm, List as ListOf, Run, Check, RunChecked, Infer, Harden, Migrate, Explain}
+use Rattle.bpf_request.specs.declared.subject.Aspect.{Aspect}
+use Rattle.bpf_request.specs.declared.subject.Aspect.TheVariants.{Listing, Slot as OneSlot, Graph as Drawn}
 use Rattle.bpf_request.specs.declared.subject.Subject.{Subject}
 use Rattle.bpf_request.specs.declared.subject.Subject.TheVariants.{Image, Text as TextAlone, Certified, Slot, Inferred, Graph, GraphAlone, Misfit}
 
@@ -195,12 +197,19 @@ name_of (Lines name) = name.now
 name_of Nothing = []
 name_of Several = []
 
--- at most one of CERT, `--infer` and `--text`; `--most` and `--deep` with `--infer` alone, `--slot` with CERT alone, and `--dot` with CERT or nothing
+-- at most one of CERT, `--infer` and `--text`; `--most` and `--deep` with `--infer` alone, `--slot` with CERT or `--infer`, and `--dot` with neither
+-- `--text` nor `--slot`
 abbrev pub go_together : Option Text → (least most slot : Option ℕ) → (text dot deep : Bool) → Bool
 go_together certificate least most slot text dot deep =
     (not deep || is_some least)
-    && not (dot && (text || (is_some least || (is_some most || is_some slot))))
-    && (not (text && (is_some certificate || is_some least)) && (not (is_some certificate && is_some least) && ((is_some least || is_none most) && (is_some certificate || is_none slot))))
+    && not (dot && (text || is_some slot))
+    && (not (text && (is_some certificate || is_some least)) && (not (is_some certificate && is_some least) && ((is_some least || is_none most) && (is_some certificate || is_some least || is_none slot))))
+
+-- by the slot, and whether a graph is wanted
+abbrev pub GivesAspect : (slot : Option ℕ) → (dot : Bool) → Aspect → Type 0
+GivesAspect slot dot Listing = (slot ≡ None) × (dot ≡ false)
+GivesAspect slot dot (OneSlot s) = (slot ≡ Some s) × (dot ≡ false)
+GivesAspect slot dot Drawn = (slot ≡ None) × (dot ≡ true)
 
 -- by the word for a certificate, the lengths, the slot, whether it is a text, whether a graph is wanted, and whether to search deeply
 abbrev pub GivesSubject : Option Text → (least most slot : Option ℕ) → (text dot deep : Bool) → Subject → Type 0
@@ -216,9 +225,9 @@ GivesSubject certificate least most slot text dot deep (Certified c) =
 GivesSubject certificate least most slot text dot deep (Slot c s) =
     (certificate ≡ Some c.now) × (least ≡ None) × (most ≡ None) × (slot ≡ Some s)
     × (text ≡ false) × (dot ≡ false) × (deep ≡ false)
-GivesSubject certificate least most slot text dot deep (Inferred l m d) =
-    (certificate ≡ None) × (least ≡ Some l) × (m ≡ unwrap_or most l) × (slot ≡ None)
-    × (text ≡ false) × (dot ≡ false) × (deep ≡ d)
+GivesSubject certificate least most slot text dot deep (Inferred l m d aspect) =
+    (certificate ≡ None) × (least ≡ Some l) × (m ≡ unwrap_or most l) × GivesAspect slot dot aspect
+    × (text ≡ false) × (deep ≡ d)
 GivesSubject certificate least most slot text dot deep (Graph c) =
     (certificate ≡ Some c.now) × (least ≡ None) × (most ≡ None) × (slot ≡ None)
     × (text ≡ false) × (dot ≡ true) × (deep ≡ false)
