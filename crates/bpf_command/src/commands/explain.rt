@@ -19,7 +19,7 @@ use bpf_explain::{
 use bpf_infer::Watch;
 use bpf_insn::{Code, DecodeError, MAX_CONTEXT, Order, Program, ProgramView, decode};
 use bpf_places::{Keeping, Places};
-use bpf_request::Subject;
+use bpf_request::{Aspect, Subject};
 use bpf_text::{TextError, assemble};
 use std::alloc::Global;
 use std::io::Write;
@@ -232,27 +232,33 @@ fn explained_certified<'a, P: Places, W: Write>(
 
 // ---- the inferrer
 
+/// A search, and what is shown of what it finds.
+#[derive(Clone, Copy)]
+struct Search<'t> {
+    least: u32,
+    most: u32,
+    deep: bool,
+    shown: Shown<'t>,
+}
+
 /// Explains what the inferrer finds for a program, or the deep search.
 fn say_inferred<'a, W: Write, H: Watch>(
     alloc: Global,
     out: &mut W,
     watch: &mut H,
     program: &Program,
-    least: u32,
-    most: u32,
-    deep: bool,
-    lines: &[u8],
+    search: Search<'_>,
 ) -> Result<u8, Failure<'a>>
     ensures ok { IfOk result (Answers (SoughtSays program.now)) }
     ensures err { IfErr result OutputFails }
 {
     // `respond` has seen that the lengths are in order, and the words' parser that they are at most the greatest.
-    let most = most.min(MAX_CONTEXT as u32);
-    let least = least.min(most);
-    let answer = if deep {
-        explain_searched(alloc, program, least, most, watch, lines, out)
+    let most = search.most.min(MAX_CONTEXT as u32);
+    let least = search.least.min(most);
+    let answer = if search.deep {
+        explain_searched(alloc, program, least, most, watch, search.shown, out)
     } else {
-        explain_inferred(alloc, program, least, most, lines, out)
+        explain_inferred(alloc, program, least, most, search.shown, out)
     };
     match answer {
         Ok(Ok(certificate)) => Ok(verdict(program, &certificate)),
@@ -261,17 +267,14 @@ fn say_inferred<'a, W: Write, H: Watch>(
     }
 }
 
-/// Explains what the inferrer finds for the image's program on contexts of `least` to `most` bytes, or the deep search.
+/// Explains what a search finds for the image's program.
 fn explained_inferred<'a, P: Places, W: Write, H: Watch>(
     alloc: Global,
     places: &mut P,
     out: &mut W,
     watch: &mut H,
     input: &'a str,
-    least: u32,
-    most: u32,
-    deep: bool,
-    lines: &[u8],
+    search: Search<'_>,
     order: Order,
 ) -> Result<u8, Failure<'a>>
     ensures ok { IfOk result (Answers (ImageSays (opening P.opens P.Reader.remaining) order places.old input.entry.now places.new SoughtSays)) }
@@ -282,7 +285,7 @@ fn explained_inferred<'a, P: Places, W: Write, H: Watch>(
         Err(error) => return refuse_image(alloc, out, error),
     };
     match decode(alloc, &bytes, order) {
-        Ok(program) => say_inferred(alloc, out, watch, &program, least, most, deep, lines),
+        Ok(program) => say_inferred(alloc, out, watch, &program, search),
         Err(DecodeError::Memory) => refuse_image(alloc, out, DecodeError::Memory),
         Err(_error) => say_image(out, &bytes, order, REFUSED),
     }
@@ -307,6 +310,15 @@ fn lines_at<'a, P: Places>(
         return Err(Failure::CannotRead(name));
     }
     Ok(table)
+}
+
+/// What is shown, with a table of source lines.
+fn shown_of(aspect: Aspect, lines: &[u8]) -> Shown<'_> {
+    match aspect {
+        Aspect::Listing => Shown::Listing { lines },
+        Aspect::Slot(slot) => Shown::Slot { slot, lines },
+        Aspect::Graph => Shown::Graph,
+    }
 }
 
 /// Explains what is asked for, with a table of source lines.
@@ -354,9 +366,21 @@ fn explained_subject<'a, P: Places, W: Write, H: Watch>(
             Shown::Slot { slot, lines },
             order,
         ),
-        Subject::Inferred { least, most, deep } => explained_inferred(
-            alloc, places, out, watch, input, least, most, deep, lines, order,
-        ),
+        Subject::Inferred {
+            least,
+            most,
+            deep,
+            aspect,
+        } => {
+            let shown = shown_of(aspect, lines);
+            let search = Search {
+                least,
+                most,
+                deep,
+                shown,
+            };
+            explained_inferred(alloc, places, out, watch, input, search, order)
+        }
         Subject::Misfit => Err(Failure::NotTogether),
     }
 }
