@@ -14,6 +14,29 @@ pub enum Aspect {
     Graph,
 }
 
+/// Which words don't go together.
+#[derive(Clone, Copy)]
+pub enum Clash {
+    /// CERT and `--infer`.
+    CertificateInfer,
+    /// `--text` and CERT.
+    TextCertificate,
+    /// `--text` and `--infer`.
+    TextInfer,
+    /// `--text` and `--slot`.
+    TextSlot,
+    /// `--text` and `--dot`.
+    TextDot,
+    /// `--slot` and `--dot`.
+    SlotDot,
+    /// `--slot` with neither CERT nor `--infer`.
+    SlotAlone,
+    /// `--most` without `--infer`.
+    MostAlone,
+    /// `--deep` without `--infer`.
+    DeepAlone,
+}
+
 /// What is to be explained of a program.
 #[derive(Clone, Copy)]
 pub enum Subject<'a> {
@@ -24,7 +47,10 @@ pub enum Subject<'a> {
     /// The program with the certificate at a name.
     Certified(&'a str),
     /// One slot of the program with the certificate at a name.
-    Slot { certificate: &'a str, slot: u32 },
+    Slot {
+        certificate: &'a str,
+        slot: u32,
+    },
     /// What the inferrer finds for contexts of `least` to `most` bytes, or the deep search, and what is shown of it. `most` may be
     /// below `least`.
     Inferred {
@@ -38,7 +64,7 @@ pub enum Subject<'a> {
     /// Its control-flow graph by itself.
     GraphAlone,
     /// Words that don't go together are given.
-    Misfit,
+    Misfit(Clash),
 }
 
 /// What is to be shown of what a search finds; None where a slot and a graph are wanted.
@@ -73,9 +99,9 @@ fn sought_of<'a>(
             deep,
             aspect,
         },
-        (true, _, _) => Subject::Misfit,
-        (false, Some(_), _) => Subject::Misfit,
-        (false, None, None) => Subject::Misfit,
+        (true, _, _) => Subject::Misfit(Clash::TextInfer),
+        (false, Some(_), _) => Subject::Misfit(Clash::CertificateInfer),
+        (false, None, None) => Subject::Misfit(Clash::SlotDot),
     }
 }
 
@@ -86,8 +112,8 @@ fn graph_of<'a>(certificate: Option<&'a str>, slot: Option<u32>, text: bool) -> 
     match (text, certificate, slot) {
         (false, None, None) => Subject::GraphAlone,
         (false, Some(certificate), None) => Subject::Graph(certificate),
-        (true, _, _) => Subject::Misfit,
-        (false, _, Some(_)) => Subject::Misfit,
+        (true, _, _) => Subject::Misfit(Clash::TextDot),
+        (false, _, Some(_)) => Subject::Misfit(Clash::SlotDot),
     }
 }
 
@@ -100,9 +126,9 @@ fn told_of<'a>(certificate: Option<&'a str>, slot: Option<u32>, text: bool) -> S
         (true, None, None) => Subject::Text,
         (false, Some(certificate), None) => Subject::Certified(certificate),
         (false, Some(certificate), Some(slot)) => Subject::Slot { certificate, slot },
-        (true, Some(_), _) => Subject::Misfit,
-        (true, None, Some(_)) => Subject::Misfit,
-        (false, None, Some(_)) => Subject::Misfit,
+        (true, Some(_), _) => Subject::Misfit(Clash::TextCertificate),
+        (true, None, Some(_)) => Subject::Misfit(Clash::TextSlot),
+        (false, None, Some(_)) => Subject::Misfit(Clash::SlotAlone),
     }
 }
 
@@ -123,7 +149,7 @@ pub fn subject_of<'a>(
         (Some(least), _, _, _) => sought_of(certificate, least, most, slot, text, dot, deep),
         (None, None, false, true) => graph_of(certificate, slot, text),
         (None, None, false, false) => told_of(certificate, slot, text),
-        (None, Some(_), _, _) => Subject::Misfit,
-        (None, None, true, _) => Subject::Misfit,
+        (None, Some(_), _, _) => Subject::Misfit(Clash::MostAlone),
+        (None, None, true, _) => Subject::Misfit(Clash::DeepAlone),
     }
 }
