@@ -67,7 +67,7 @@ conflict_with input lines (Slot certificate slot) = thrice input certificate.now
 conflict_with input lines (Inferred least most deep aspect) = option_or (out_of_order least most) (option_or (misplaced_in lines aspect) (twice input (name_given lines)))
 conflict_with input lines (Graph certificate) = option_or (misplaced lines) (twice input certificate.now)
 conflict_with input lines GraphAlone = misplaced lines
-conflict_with input lines Misfit = Some NotTogether
+conflict_with input lines (Misfit clash) = Some NotTogether
 
 abbrev pub conflict_of : Request → Option Failure
 conflict_of (Groups input order) = None

@@ -7,12 +7,13 @@ ghost use Rattle.bpf_places.specs.Made.{making};
 ghost use Rattle.bpf_command.specs.Response.{Does, Fails, Misses, Responds, conflict_of, conflict_with, misplaced, misplaced_in, name_given, out_of_order, thrice, twice, written_twice};
 ghost use Rattle.bpf_answers.specs.Told.{IsTold};
 
+use crate::advice::{after_failure, after_refusal};
 use crate::aside::Aside;
 use crate::commands::{
     Trace, assembled, checked, explained, grouped, hardened, inferred, listed, migrated,
     ran_checked_on, ran_on,
 };
-use bpf_answers::{BAD_WORDS, FAILED, Failure, tell};
+use bpf_answers::{BAD_WORDS, FAILED, Failure, REFUSED, tell};
 use bpf_places::Places;
 use bpf_request::{Aspect, Request, Subject, request_of};
 use clap::error::ErrorKind;
@@ -101,10 +102,12 @@ fn conflict_with(input: &str, lines: Option<&str>, subject: Subject<'_>) -> Opti
             most,
             aspect,
             ..
-        } => out_of_order(least, most)
-            .or(misplaced_in(lines, aspect).or(twice(input, name_given(lines)))),
+        } => out_of_order(least, most).or(misplaced_in(lines, aspect).or(twice(
+            input,
+            name_given(lines),
+        ))),
         Subject::Graph(certificate) => misplaced(lines).or(twice(input, certificate)),
-        Subject::Misfit => Some(Failure::NotTogether),
+        Subject::Misfit(_) => Some(Failure::NotTogether),
     }
 }
 
@@ -266,7 +269,16 @@ pub fn respond<P: Places, W: Write, E: Write, H: Aside>(
         }
     };
     match perform(alloc, request, places, out, aside) {
-        Ok(status) => status,
-        Err(failure) => fail(failure, err),
+        Ok(status) => {
+            if status == REFUSED {
+                after_refusal(&*aside, request);
+            }
+            status
+        }
+        Err(failure) => {
+            let status = fail(failure, err);
+            after_failure(&*aside, request, failure);
+            status
+        }
     }
 }

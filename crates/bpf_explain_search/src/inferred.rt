@@ -149,7 +149,7 @@ fn goes_round(program: &Program) -> bool {
 }
 
 /// Whether the deep search may find what the plain one refuses, as far as the refusal and the program tell.
-fn may_be_found(program: &Program, error: InferError) -> bool {
+pub fn may_be_found(program: &Program, error: InferError) -> bool {
     match error {
         InferError::Recursion { .. } | InferError::Memory => false,
         InferError::Fault {
