@@ -8,7 +8,7 @@ use Rattle.bpf_places.specs.Opened.{Opening, Unreadable}
 use Rattle.bpf_answers.specs.Loaded.{LoadsImage, CertificateAt, TextAt, TextFails}
 use Rattle.bpf_answers.specs.Answer.{Answer, Says, status_of}
 use Rattle.bpf_answers.specs.Answer.Answer.{Yes, NoImage, NotCertified, Written}
-use Rattle.bpf_command.specs.Printed.{ImageSays, JudgedSays, LoadedSays, YesSays}
+use Rattle.bpf_command.specs.Printed.{ImageSays, IsProposal, JudgedSays, LoadedSays, YesSays}
 use Rattle.std.specs.Borrow.{Bor}
 use Rattle.bpf_request.specs.declared.subject.Subject.{Subject}
 use Rattle.bpf_answers.specs.declared.failure.Failure.{Failure}
@@ -47,18 +47,19 @@ loaded_so (Err e) opening order old input certificate between new p image h = tt
 
 -- ---- the inferrer
 
-pub sought : (p : Instructions) (c : CertificateView) (status : ℕ) → JudgesOf p c status → Answers (SoughtSays p) status
-sought p c status (inl h) = (Written, h.0, (c, h.1))
-sought p c status (inr h) = (NotCertified (h.1).0, h.0, (c, (h.1).1))
+pub sought : (least most : ℕ) (p : Instructions) (c : CertificateView) (status : ℕ) → IsProposal least most c → JudgesOf p c status → Answers (SoughtSays least most p) status
+sought least most p c status found (inl h) = (Written, h.0, (c, found, h.1))
+sought least most p c status found (inr h) = (NotCertified (h.1).0, h.0, (c, found, (h.1).1))
 
-image_says : {S : Type 0} (opening : Opening S) (order : Order) (old : S) (input : List ℕ) (new : S) (p : Instructions) → LoadsImage opening order old input new p → (x : Answer) → SoughtSays p x → ImageSays opening order old input new SoughtSays x
-image_says opening order old input new p image (NoImage e) h = absurd h
-image_says opening order old input new p image x h = (p, image, h)
+image_says : {S : Type 0} (opening : Opening S) (order : Order) (old : S) (input : List ℕ) (new : S) (least most : ℕ) (p : Instructions) → LoadsImage opening order old input new p → (x : Answer) → SoughtSays least most p x
+    → ImageSays opening order old input new (SoughtSays least most) x
+image_says opening order old input new least most p image (NoImage e) h = absurd h
+image_says opening order old input new least most p image x h = (p, image, h)
 
-pub sought_so : {S E : Type 0} (result : Result ℕ E) (opening : Opening S) (order : Order) (old : S) (input : List ℕ) (new : S) (p : Instructions) → LoadsImage opening order old input new p
-    → IfOk result (Answers (SoughtSays p)) → IfOk result (Answers (ImageSays opening order old input new SoughtSays))
-sought_so (Ok s) opening order old input new p image h = (h.0, h.1, image_says opening order old input new p image h.0 h.2)
-sought_so (Err e) opening order old input new p image h = tt
+pub sought_so : {S E : Type 0} (result : Result ℕ E) (opening : Opening S) (order : Order) (old : S) (input : List ℕ) (new : S) (least most : ℕ) (p : Instructions) → LoadsImage opening order old input new p
+    → IfOk result (Answers (SoughtSays least most p)) → IfOk result (Answers (ImageSays opening order old input new (SoughtSays least most)))
+sought_so (Ok s) opening order old input new least most p image h = (h.0, h.1, image_says opening order old input new least most p image h.0 h.2)
+sought_so (Err e) opening order old input new least most p image h = tt
 
 -- ---- with the lines of the source
 

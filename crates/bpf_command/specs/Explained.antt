@@ -1,8 +1,8 @@
 -- Which status `explain` answers, by what the names hold: that of an answer of the command that judges the same. What it
 -- prints are words.
-use Rattle.std.specs.Prelude.{◌≡◌, ◌⊎◌, ℕ, List, Option, Some, None, false, ⊤}
+use Rattle.std.specs.Prelude.{◌≡◌, ◌⊎◌, ◌<◌, ℕ, List, Option, Some, None, false}
 use Rattle.std.specs.Borrow.{Bor}
-use Rattle.bpf_insn.specs.Instruction.{Instructions}
+use Rattle.bpf_insn.specs.Instruction.{Instructions, slots}
 use Rattle.bpf_insn.specs.declared.order.Order.{Order}
 use Rattle.bpf_text.specs.Assembly.{Assembles, IsRefused}
 use Rattle.bpf_text.specs.declared.error.TextError.TheVariants.{Memory as NoRoom}
@@ -11,12 +11,13 @@ use Rattle.bpf_safety.specs.Certified.{IsLeastFlaw}
 use Rattle.bpf_check.specs.CheckedProgram.{IsCertifiedBy}
 use Rattle.bpf_check.specs.declared.refusal.Refusal.{Refusal}
 use Rattle.bpf_check.specs.RefusalNumbers.{refusal_slot, refusal_number}
+use Rattle.bpf_infer_error.specs.RefusalNumbers.{infer_slot}
 use Rattle.bpf_places.specs.Opened.{Opening}
 use Rattle.bpf_answers.specs.Loaded.{ImageFails, ShortTextAt, TextFails}
 use Rattle.bpf_answers.specs.Answer.{Answer, status_of}
 use Rattle.bpf_answers.specs.Answer.Answer.{NoText, NotCertified, NotProposed, Lists, Written}
 use Rattle.bpf_answers.specs.Told.{OutputFails}
-use Rattle.bpf_command.specs.Printed.{ImageSays, ListSays, LoadedSays, LoadedFails, YesSays}
+use Rattle.bpf_command.specs.Printed.{ImageSays, IsProposal, ListSays, LoadedSays, LoadedFails, YesSays}
 use Rattle.bpf_answers.specs.declared.failure.Failure.{Failure}
 use Rattle.bpf_answers.specs.declared.failure.Failure.TheVariants.{CannotRead, NotTogether}
 use Rattle.bpf_request.specs.declared.subject.Subject.{Subject}
@@ -36,12 +37,13 @@ TextSays opening old input new answer = ⊥
 abbrev pub JudgesOf : Instructions → CertificateView → ℕ → Type 0
 JudgesOf p c status = ((status ≡ 0) × IsCertifiedBy p c) ⊎ ((status ≡ 1) × ((r : Refusal) × IsLeastFlaw p c (refusal_slot r) (refusal_number r)))
 
--- what is said of a program for which a certificate was sought: one was found that certifies it, or that doesn't, or none
-abbrev pub SoughtSays : Instructions → Answer → Type 0
-SoughtSays p Written = (c : CertificateView) × IsCertifiedBy p c
-SoughtSays p (NotCertified r) = (c : CertificateView) × IsLeastFlaw p c (refusal_slot r) (refusal_number r)
-SoughtSays p (NotProposed e) = ⊤
-SoughtSays p answer = ⊥
+-- what is said of a program for which a certificate for contexts of this range was sought: the search found one that certifies it, or
+-- that doesn't, or it refused
+abbrev pub SoughtSays : (least most : ℕ) → Instructions → Answer → Type 0
+SoughtSays least most p Written = (c : CertificateView) × IsProposal least most c × IsCertifiedBy p c
+SoughtSays least most p (NotCertified r) = (c : CertificateView) × IsProposal least most c × IsLeastFlaw p c (refusal_slot r) (refusal_number r)
+SoughtSays least most p (NotProposed e) = infer_slot e < slots p.list
+SoughtSays least most p answer = ⊥
 
 -- the image is judged as by `list`, the text as by `asm`, the certificate as by `check`, and what is inferred as by both
 abbrev pub ExplainSays : {S : Type 0} → Opening S → Order → S → List ℕ → Subject → S → ℕ → Type 0
@@ -49,20 +51,20 @@ ExplainSays o order old input Image new = Answers (ImageSays o order old input n
 ExplainSays o order old input Text new = Answers (TextSays o old input new)
 ExplainSays o order old input (Certified certificate) new = Answers (LoadedSays o order old input certificate.now new (λ bytes. YesSays false))
 ExplainSays o order old input (Slot certificate slot) new = Answers (LoadedSays o order old input certificate.now new (λ bytes. YesSays false))
-ExplainSays o order old input (Inferred least most deep) new = Answers (ImageSays o order old input new SoughtSays)
+ExplainSays o order old input (Inferred least most deep aspect) new = Answers (ImageSays o order old input new (SoughtSays least most))
 ExplainSays o order old input (Graph certificate) new = Answers (LoadedSays o order old input certificate.now new (λ bytes. YesSays false))
 ExplainSays o order old input GraphAlone new = Answers (ImageSays o order old input new (ListSays None))
-ExplainSays o order old input Misfit new = λ status. ⊥
+ExplainSays o order old input (Misfit clash) new = λ status. ⊥
 
 abbrev pub ExplainFails : {S : Type 0} → Opening S → Order → S → List ℕ → Subject → S → Failure → Type 0
 ExplainFails o order old input Image new = ImageFails o old input new
 ExplainFails o order old input Text new = TextFails o old input new
 ExplainFails o order old input (Certified certificate) new = LoadedFails o order old input certificate.now new
 ExplainFails o order old input (Slot certificate slot) new = LoadedFails o order old input certificate.now new
-ExplainFails o order old input (Inferred least most deep) new = ImageFails o old input new
+ExplainFails o order old input (Inferred least most deep aspect) new = ImageFails o old input new
 ExplainFails o order old input (Graph certificate) new = LoadedFails o order old input certificate.now new
 ExplainFails o order old input GraphAlone new = ImageFails o old input new
-ExplainFails o order old input Misfit new = λ failure. (failure ≡ NotTogether) × (new ≡ old)
+ExplainFails o order old input (Misfit clash) new = λ failure. (failure ≡ NotTogether) × (new ≡ old)
 
 -- ---- with the lines of the source at a name, which is opened first
 

@@ -17,6 +17,8 @@ use Rattle.bpf_answers.specs.Told.{IsTold}
 use Rattle.std.specs.Str.{bytes_eq}
 use Rattle.bpf_request.specs.declared.words.Request.{Request}
 use Rattle.bpf_request.specs.declared.words.Request.TheVariants.{Groups, Asm, List as ListOf, Run, Check, RunChecked, Infer, Harden, Migrate, Explain}
+use Rattle.bpf_request.specs.declared.subject.Aspect.{Aspect}
+use Rattle.bpf_request.specs.declared.subject.Aspect.TheVariants.{Listing, Slot as OneSlot, Graph as Drawn}
 use Rattle.bpf_request.specs.declared.subject.Subject.{Subject}
 use Rattle.bpf_request.specs.declared.subject.Subject.TheVariants.{Image, Text as TextAlone, Certified, Slot, Inferred, Graph, GraphAlone, Misfit}
 use Rattle.bpf_answers.specs.declared.failure.Failure.{Failure}
@@ -41,6 +43,12 @@ abbrev pub misplaced : Option (Bor (List ℕ)) → Option Failure
 misplaced None = None
 misplaced (Some lines) = Some NotTogether
 
+-- source lines to a graph
+abbrev pub misplaced_in : Option (Bor (List ℕ)) → Aspect → Option Failure
+misplaced_in lines Listing = None
+misplaced_in lines (OneSlot slot) = None
+misplaced_in lines Drawn = misplaced lines
+
 -- the greatest length below the least
 abbrev pub out_of_order : ℕ → ℕ → Option Failure
 out_of_order least most = if nat_lt most least then Some MostBelowLeast else None
@@ -56,10 +64,10 @@ conflict_with input lines Image = misplaced lines
 conflict_with input lines TextAlone = misplaced lines
 conflict_with input lines (Certified certificate) = thrice input certificate.now (name_given lines)
 conflict_with input lines (Slot certificate slot) = thrice input certificate.now (name_given lines)
-conflict_with input lines (Inferred least most deep) = option_or (out_of_order least most) (twice input (name_given lines))
+conflict_with input lines (Inferred least most deep aspect) = option_or (out_of_order least most) (option_or (misplaced_in lines aspect) (twice input (name_given lines)))
 conflict_with input lines (Graph certificate) = option_or (misplaced lines) (twice input certificate.now)
 conflict_with input lines GraphAlone = misplaced lines
-conflict_with input lines Misfit = Some NotTogether
+conflict_with input lines (Misfit clash) = Some NotTogether
 
 abbrev pub conflict_of : Request → Option Failure
 conflict_of (Groups input order) = None

@@ -1,6 +1,7 @@
 //! The command `bpf` over places that are named: what each command answers, prints and writes. The program `bpf` joins it with the system.
 #![tactic(auto)]
 
+mod advice;
 mod aside;
 mod commands;
 mod progress;

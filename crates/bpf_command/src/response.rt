@@ -4,17 +4,18 @@ ghost use Rattle.std.specs.Prelude.{◌≡◌, IfOk, IfErr, None, map};
 ghost use Rattle.std.specs.String.{string_bytes};
 ghost use Rattle.bpf_places.specs.Opened.{opening};
 ghost use Rattle.bpf_places.specs.Made.{making};
-ghost use Rattle.bpf_command.specs.Response.{Does, Fails, Misses, Responds, conflict_of, conflict_with, misplaced, name_given, out_of_order, thrice, twice, written_twice};
+ghost use Rattle.bpf_command.specs.Response.{Does, Fails, Misses, Responds, conflict_of, conflict_with, misplaced, misplaced_in, name_given, out_of_order, thrice, twice, written_twice};
 ghost use Rattle.bpf_answers.specs.Told.{IsTold};
 
+use crate::advice::{after_failure, after_refusal};
 use crate::aside::Aside;
 use crate::commands::{
     Trace, assembled, checked, explained, grouped, hardened, inferred, listed, migrated,
     ran_checked_on, ran_on,
 };
-use bpf_answers::{BAD_WORDS, FAILED, Failure, tell};
+use bpf_answers::{BAD_WORDS, FAILED, Failure, REFUSED, tell};
 use bpf_places::Places;
-use bpf_request::{Request, Subject, request_of};
+use bpf_request::{Aspect, Request, Subject, request_of};
 use clap::error::ErrorKind;
 use std::alloc::Global;
 use std::io::Write;
@@ -46,6 +47,16 @@ fn misplaced(lines: Option<&str>) -> Option<Failure<'static>>
     match lines {
         Some(_name) => Some(Failure::NotTogether),
         None => None,
+    }
+}
+
+/// Source lines are given to a graph.
+fn misplaced_in(lines: Option<&str>, aspect: Aspect) -> Option<Failure<'static>>
+    ensures { result ≡ misplaced_in lines.entry aspect }
+{
+    match aspect {
+        Aspect::Listing | Aspect::Slot(_) => None,
+        Aspect::Graph => misplaced(lines),
     }
 }
 
@@ -86,11 +97,17 @@ fn conflict_with(input: &str, lines: Option<&str>, subject: Subject<'_>) -> Opti
         Subject::Certified(certificate) | Subject::Slot { certificate, .. } => {
             thrice(input, certificate, name_given(lines))
         }
-        Subject::Inferred { least, most, .. } => {
-            out_of_order(least, most).or(twice(input, name_given(lines)))
-        }
+        Subject::Inferred {
+            least,
+            most,
+            aspect,
+            ..
+        } => out_of_order(least, most).or(misplaced_in(lines, aspect).or(twice(
+            input,
+            name_given(lines),
+        ))),
         Subject::Graph(certificate) => misplaced(lines).or(twice(input, certificate)),
-        Subject::Misfit => Some(Failure::NotTogether),
+        Subject::Misfit(_) => Some(Failure::NotTogether),
     }
 }
 
@@ -252,7 +269,16 @@ pub fn respond<P: Places, W: Write, E: Write, H: Aside>(
         }
     };
     match perform(alloc, request, places, out, aside) {
-        Ok(status) => status,
-        Err(failure) => fail(failure, err),
+        Ok(status) => {
+            if status == REFUSED {
+                after_refusal(&*aside, request);
+            }
+            status
+        }
+        Err(failure) => {
+            let status = fail(failure, err);
+            after_failure(&*aside, request, failure);
+            status
+        }
     }
 }

@@ -7,6 +7,6 @@ mod program;
 
 pub use bpf_explain_inputs::explain_text;
 pub use bpf_explain_program::{Shown, dot_plain, is_table};
-pub use bpf_explain_search::{explain_inferred, explain_searched};
+pub use bpf_explain_search::{explain_inferred, explain_searched, may_be_found};
 pub use inputs::{explain_certificate, explain_image};
 pub use program::explain;

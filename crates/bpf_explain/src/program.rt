@@ -7,7 +7,7 @@ ghost use Rattle.bpf_check.specs.RefusalNumbers.{refusal_number, refusal_slot};
 
 use bpf_cert::Certificate;
 use bpf_check::{Refusal, check};
-use bpf_explain_program::{Shown, write_dot, write_explanation, write_slot};
+use bpf_explain_program::{Shown, write_shown};
 use bpf_insn::Code;
 use std::io::{self, Write};
 
@@ -19,23 +19,6 @@ fn refusal_of<C: Code>(program: &C, certificate: &Certificate) -> Option<Refusal
     match check(program, certificate) {
         Ok(_checked) => None,
         Err(refusal) => Some(refusal),
-    }
-}
-
-/// Writes a program with a certificate and the checker's answer in words.
-fn write_shown<C: Code, W: Write>(
-    program: &C,
-    certificate: &Certificate,
-    shown: Shown<'_>,
-    refusal: Option<Refusal>,
-    out: &mut W,
-) -> io::Result<()>
-    requires { IfNone refusal (IsCertifiedBy (C.program program.now) certificate.now) }
-{
-    match shown {
-        Shown::Listing { lines } => write_explanation(program, certificate, lines, refusal, out),
-        Shown::Slot { slot, lines } => write_slot(program, certificate, lines, slot, out),
-        Shown::Graph => write_dot(program, certificate, refusal, out),
     }
 }
 

@@ -21,12 +21,15 @@ use bpf_cert::Certificate;
 use bpf_check::{Index, Refusal};
 use bpf_explain_page::{Page, Tell};
 use bpf_insn::Code;
+use std::fmt::Display;
 use std::io::{self, Write};
 
 /// What a graph shows.
 #[derive(Drop)]
 pub struct Scene<'a, 'b> {
     pub certificate: Option<&'a Index<'b>>,
+    /// Whether budgets are told.
+    pub has_budgets: bool,
     pub plan: Plan,
     pub flow: Flow,
     /// The instructions that slot 0 leads to.
@@ -53,75 +56,107 @@ fn write_answer<W: Tell>(out: &mut W, certificate: &Index, refusal: Option<Refus
     }
 }
 
-/// The graph's title.
-fn write_title<W: Tell>(out: &mut W, certificate: &Index, refusal: Option<Refusal>) {
+/// What a certificate says of a program, as its pass sees it.
+fn scene_with<'a, 'b, C: Code>(
+    program: &C,
+    certificate: &'a Index<'b>,
+    has_budgets: bool,
+    refusal: Option<Refusal>,
+) -> Scene<'a, 'b> {
+    let flow = flow_of(program, certificate);
+    let reached = reached_from_start(program, &flow);
+    Scene {
+        certificate: Some(certificate),
+        has_budgets,
+        plan: Plan::with(program, certificate),
+        flow,
+        reached,
+        refusal,
+    }
+}
+
+/// A program alone.
+fn scene_alone<'a, 'b, C: Code>(program: &C) -> Scene<'a, 'b> {
+    let flow = Flow::any();
+    let reached = reached_from_start(program, &flow);
+    Scene {
+        certificate: None,
+        has_budgets: false,
+        plan: Plan::of(program),
+        flow,
+        reached,
+        refusal: None,
+    }
+}
+
+/// The graph's title begins.
+fn begin_title<W: Tell>(out: &mut W) {
     write!(
         out,
         "  graph [fontname=\"monospace\", labelloc=t, labeljust=l, label=\""
     );
     out.set_quoted(true);
-    write_answer(out, certificate, refusal);
+}
+
+/// The graph's title ends.
+fn end_title<W: Tell>(out: &mut W) {
     out.set_quoted(false);
     write!(out, "\"];\n");
 }
 
-/// The whole graph, with a title if there is a certificate.
-fn write_graph<'a, 'b, C: Code, W: Tell>(out: &mut W, program: &C, scene: &Scene<'a, 'b>) {
-    write_style(out);
-    if let Some(certificate) = scene.certificate {
-        write_title(out, certificate, scene.refusal);
-    }
+/// The blocks and the edges, and the graph's end.
+fn write_scene<'a, 'b, C: Code, W: Tell>(out: &mut W, program: &C, scene: &Scene<'a, 'b>) {
     write_blocks(out, program, scene);
     write_edges(out, program, scene);
     write!(out, "}}\n");
 }
 
-/// Writes the graph in pieces of up to 4,096 bytes.
-fn write_scene<'a, 'b, C: Code, W: Write>(
-    out: &mut W,
-    program: &C,
-    scene: &Scene<'a, 'b>,
-) -> io::Result<()> {
-    let mut page = Page::new(out);
-    write_graph(&mut page, program, scene);
-    page.finish()
-}
-
-/// Writes the control-flow graph of a program with a certificate as DOT text, with the checker's answer, which is given. A
-/// fault of the writer, or a write of no bytes, ends it. It takes no memory, and writes pieces of up to 4,096 bytes.
-pub fn write_dot<C: Code, W: Write>(
+/// Writes the control-flow graph of a program with a certificate as DOT text on a page, with the checker's answer, which is given.
+/// Without a refusal it is said to be accepted.
+pub fn tell_dot<C: Code, W: Tell>(
     program: &C,
     certificate: &Certificate,
     refusal: Option<Refusal>,
-    out: &mut W,
-) -> io::Result<()>
+    page: &mut W,
+)
     requires { IfNone refusal (IsCertifiedBy (C.program program.now) certificate.now) }
 {
     let index = Index::of(certificate);
-    let flow = flow_of(program, &index);
-    let reached = reached_from_start(program, &flow);
-    let scene = Scene {
-        certificate: Some(&index),
-        plan: Plan::with(program, &index),
-        flow,
-        reached,
-        refusal,
-    };
-    write_scene(out, program, &scene)
+    write_style(page);
+    begin_title(page);
+    write_answer(page, &index, refusal);
+    end_title(page);
+    write_scene(page, program, &scene_with(program, &index, true, refusal))
+}
+
+/// Writes the control-flow graph of a program with the states of a certificate without budgets on a page, or of the program alone;
+/// with the flaw of one instruction, if it is given, and a title.
+pub fn tell_sketched_dot<C: Code, W: Tell, D: Display + Drop>(
+    program: &C,
+    certificate: Option<&Certificate>,
+    flaw: Option<Refusal>,
+    title: D,
+    page: &mut W,
+) {
+    write_style(page);
+    begin_title(page);
+    write!(page, "{title}\n");
+    end_title(page);
+    match certificate {
+        Some(certificate) => {
+            let index = Index::of(certificate);
+            write_scene(page, program, &scene_with(program, &index, false, flaw))
+        }
+        None => write_scene(page, program, &scene_alone(program)),
+    }
 }
 
 /// Writes the control-flow graph of a program alone as DOT text: its blocks, in functions that begin at slot 0 and where calls
 /// lead, and all edges. A fault of the writer, or a write of no bytes, ends it. It takes no memory, and writes pieces of up
 /// to 4,096 bytes.
 pub fn dot_plain<C: Code, W: Write>(program: &C, out: &mut W) -> io::Result<()> {
-    let flow = Flow::any();
-    let reached = reached_from_start(program, &flow);
-    let scene = Scene {
-        certificate: None,
-        plan: Plan::of(program),
-        flow,
-        reached,
-        refusal: None,
-    };
-    write_scene(out, program, &scene)
+    let mut page = Page::new(out);
+    write_style(&mut page);
+    write_scene(&mut page, program, &scene_alone(program));
+    page.finish()
 }

@@ -23,10 +23,10 @@ mod whole;
 mod words;
 
 pub use alone::write_alone;
-pub use graph::{dot_plain, write_dot};
+pub use graph::{dot_plain, tell_sketched_dot};
 pub use known::{Name, Spelled};
 pub use listing::write_padded;
-pub use program::{explain_on, tell_reason, tell_sketch, write_explanation, write_slot};
+pub use program::{tell_glimpse, tell_reason, tell_shown, tell_sketch, write_shown};
 pub use reach::tell_unreached;
 pub use shown::Shown;
 pub use source::{is_table, source_at};

@@ -3,10 +3,12 @@
 ghost use Rattle.std.specs.Prelude.{IfNone};
 ghost use Rattle.bpf_check.specs.CheckedProgram.{IsCertifiedBy};
 
+use crate::graph::tell_dot;
 use crate::listing::{Lengths, steps_of, write_header};
 use crate::pass::see;
 use crate::reach::tell_unreached;
 use crate::report::{Report, View};
+use crate::shown::Shown;
 use crate::sight::Sight;
 use crate::source::SourceLines;
 use crate::standing::last_slot;
@@ -85,8 +87,8 @@ fn write_answer<C: Code, W: Tell>(
     }
 }
 
-/// Explains a program with a certificate, and with the checker's answer, on a page. Without a refusal it is said to be accepted.
-pub fn explain_on<C: Code, W: Tell>(
+/// The listing of a program with a certificate, and the checker's answer.
+fn tell_listing<C: Code, W: Tell>(
     program: &C,
     certificate: &Certificate,
     lines: &[u8],
@@ -99,6 +101,42 @@ pub fn explain_on<C: Code, W: Tell>(
     write_header(page, &index);
     tell_all(program, &index, View::Listing, lines, page);
     write_answer(program, &index, lines, refusal, page)
+}
+
+/// What a view shows of one instruction.
+fn tell_at<C: Code, W: Tell>(
+    program: &C,
+    certificate: &Certificate,
+    view: View,
+    lines: &[u8],
+    page: &mut W,
+) {
+    if let View::Slot(slot) | View::Glimpse(slot) = view {
+        if program.insn(slot).is_none() {
+            write!(page, "no instruction begins at slot {slot}\n");
+        }
+    }
+    let index = Index::of(certificate);
+    tell_all(program, &index, view, lines, page)
+}
+
+/// Explains a program with a certificate, and with the checker's answer, on a page. Without a refusal it is said to be accepted.
+pub fn tell_shown<C: Code, W: Tell>(
+    program: &C,
+    certificate: &Certificate,
+    shown: Shown<'_>,
+    refusal: Option<Refusal>,
+    page: &mut W,
+)
+    requires { IfNone refusal (IsCertifiedBy (C.program program.now) certificate.now) }
+{
+    match shown {
+        Shown::Listing { lines } => tell_listing(program, certificate, lines, refusal, page),
+        Shown::Slot { slot, lines } => {
+            tell_at(program, certificate, View::Slot(slot), lines, page)
+        }
+        Shown::Graph => tell_dot(program, certificate, refusal, page),
+    }
 }
 
 /// Writes the listing of a program with the states of a certificate without budgets, and the flaw of one instruction, if it
@@ -114,6 +152,17 @@ pub fn tell_sketch<C: Code, W: Tell>(
     tell_all(program, &index, View::Sketch(flaw), lines, page)
 }
 
+/// Writes one instruction of a program with the states of a certificate before and behind it, without budgets and flaws.
+pub fn tell_glimpse<C: Code, W: Tell>(
+    program: &C,
+    certificate: &Certificate,
+    lines: &[u8],
+    slot: u32,
+    page: &mut W,
+) {
+    tell_at(program, certificate, View::Glimpse(slot), lines, page)
+}
+
 /// Writes the flaw of one instruction, if it has it, judged without budgets.
 pub fn tell_reason<C: Code, W: Tell>(
     program: &C,
@@ -126,48 +175,19 @@ pub fn tell_reason<C: Code, W: Tell>(
     tell_all(program, &index, View::Reason(flaw), lines, page)
 }
 
-/// Writes the listing of a program with the lines of its source, what the certificate and the checker's pass know at each
-/// instruction, and the checker's answer, which is given: accepted, or refused with all flaws, the first one first. A fault of
-/// the writer, or a write of no bytes, ends it. It takes no memory, and writes pieces of up to 4,096 bytes.
-pub fn write_explanation<C: Code, W: Write>(
+/// Writes what is shown of a program with a certificate, and with the checker's answer, which is given: accepted, or refused with
+/// all flaws, the first one first. A fault of the writer, or a write of no bytes, ends it. It takes no memory, and writes pieces of
+/// up to 4,096 bytes.
+pub fn write_shown<C: Code, W: Write>(
     program: &C,
     certificate: &Certificate,
-    lines: &[u8],
+    shown: Shown<'_>,
     refusal: Option<Refusal>,
     out: &mut W,
 ) -> io::Result<()>
     requires { IfNone refusal (IsCertifiedBy (C.program program.now) certificate.now) }
 {
     let mut page = Page::new(out);
-    explain_on(program, certificate, lines, refusal, &mut page);
-    page.finish()
-}
-
-/// One instruction with the whole state before and after it, and what is wrong there.
-fn tell_at<C: Code, W: Tell>(
-    program: &C,
-    certificate: &Certificate,
-    lines: &[u8],
-    slot: u32,
-    out: &mut W,
-) {
-    let index = Index::of(certificate);
-    if program.insn(slot).is_none() {
-        write!(out, "no instruction begins at slot {slot}\n");
-    }
-    tell_all(program, &index, View::Slot(slot), lines, out);
-}
-
-/// Writes one instruction of a program with the whole state before and after it, and what is wrong there. A fault of the
-/// writer, or a write of no bytes, ends it.
-pub fn write_slot<C: Code, W: Write>(
-    program: &C,
-    certificate: &Certificate,
-    lines: &[u8],
-    slot: u32,
-    out: &mut W,
-) -> io::Result<()> {
-    let mut page = Page::new(out);
-    tell_at(program, certificate, lines, slot, &mut page);
+    tell_shown(program, certificate, shown, refusal, &mut page);
     page.finish()
 }

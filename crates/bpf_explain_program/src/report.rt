@@ -30,6 +30,8 @@ pub enum View {
     Slot(u32),
     /// The listing of states without budgets, with the flaw of one instruction.
     Sketch(Option<Refusal>),
+    /// One instruction with its states, without budgets and flaws.
+    Glimpse(u32),
     /// The flaw of one instruction alone.
     Reason(Refusal),
 }
@@ -102,7 +104,10 @@ impl<'t> Report<'t> {
 
     /// Whether budgets are told.
     pub fn has_budgets(&self) -> bool {
-        !matches!(self.view, View::Sketch(..) | View::Reason(..))
+        !matches!(
+            self.view,
+            View::Sketch(..) | View::Glimpse(_) | View::Reason(..)
+        )
     }
 
     /// What a flaw's line begins with.
@@ -350,7 +355,7 @@ impl<'t> Report<'t> {
         match self.view {
             View::Listing => self.write_standing(out, certificate, slot),
             View::Sketch(..) => return self.write_standing(out, certificate, slot),
-            View::Reason(..) => return,
+            View::Glimpse(_) | View::Reason(..) => return,
             View::Slot(wanted) if wanted != slot => return,
             View::Slot(_) | View::List => {}
         }
@@ -416,6 +421,13 @@ impl<'t> Report<'t> {
         }
     }
 
+    /// The lines of an instruction that is shown by itself, with the whole states before and behind it.
+    fn write_alone<'a, W: Tell>(&mut self, out: &mut W, sight: &Sight<'a>) {
+        self.has_new_line = true;
+        self.write_source(out);
+        write_whole(out, sight);
+    }
+
     /// Tells of an instruction what the view shows.
     fn show<'a, W: Tell, C: Code>(
         &mut self,
@@ -430,10 +442,9 @@ impl<'t> Report<'t> {
                 self.tell_flaws(out, program, certificate, sight);
             }
             View::List => self.tell_flaws(out, program, certificate, sight),
+            View::Glimpse(slot) if slot == sight.slot => self.write_alone(out, sight),
             View::Slot(slot) if slot == sight.slot => {
-                self.has_new_line = true;
-                self.write_source(out);
-                write_whole(out, sight);
+                self.write_alone(out, sight);
                 self.tell_flaws(out, program, certificate, sight);
             }
             View::Sketch(Some(flaw)) if flaw.slot == sight.slot => {
@@ -444,7 +455,7 @@ impl<'t> Report<'t> {
             View::Reason(flaw) if flaw.slot == sight.slot => {
                 self.tell_one(out, program, certificate, sight, flaw.cause);
             }
-            View::Slot(_) | View::Reason(..) => {}
+            View::Slot(_) | View::Glimpse(_) | View::Reason(..) => {}
         }
     }
 

@@ -11,13 +11,15 @@ use bpf_cert::Certificate;
 use bpf_check::{Cause, Refusal, cause_of, check};
 use bpf_explain_page::{Page, Tell};
 use bpf_explain_program::{
-    Spelled, explain_on, source_at, tell_reason, tell_sketch, tell_unreached,
+    Shown, Spelled, source_at, tell_glimpse, tell_reason, tell_shown, tell_sketch,
+    tell_sketched_dot, tell_unreached,
 };
 use bpf_infer::{
     Condition, InferError, Obstacle, Quest, Sketch, Stop, Watch, infer, search_or_stop, sketch_of,
 };
 use bpf_insn::{Code, Insn, Program};
 use std::alloc::Global;
+use std::fmt;
 use std::io::{self, Write};
 
 /// Which search is explained.
@@ -28,18 +30,20 @@ enum Effort {
 }
 
 /// `no certificate: I2 at slot 3`
-fn write_refusal<W: Tell>(out: &mut W, error: InferError) {
-    let (number, slot) = (error.number(), error.slot());
-    match error {
-        InferError::Fault { condition, .. } => {
-            let failed = condition.number();
-            write!(
-                out,
-                "no certificate: I{number} (C{failed}) at slot {slot}\n"
-            );
+#[derive(Clone, Copy)]
+struct Refused(InferError);
+
+impl fmt::Display for Refused {
+    fn fmt<W: fmt::Write>(&self, f: &mut fmt::Formatter<W>) -> fmt::Result {
+        let (number, slot) = (self.0.number(), self.0.slot());
+        match self.0 {
+            InferError::Fault { condition, .. } => {
+                let failed = condition.number();
+                write!(f, "no certificate: I{number} (C{failed}) at slot {slot}")
+            }
+            InferError::Memory => f.write_str("no certificate: I5, memory ran out"),
+            _ => write!(f, "no certificate: I{number} at slot {slot}"),
         }
-        InferError::Memory => write!(out, "no certificate: I5, memory ran out\n"),
-        _ => write!(out, "no certificate: I{number} at slot {slot}\n"),
     }
 }
 
@@ -145,7 +149,7 @@ fn goes_round(program: &Program) -> bool {
 }
 
 /// Whether the deep search may find what the plain one refuses, as far as the refusal and the program tell.
-fn may_be_found(program: &Program, error: InferError) -> bool {
+pub fn may_be_found(program: &Program, error: InferError) -> bool {
     match error {
         InferError::Recursion { .. } | InferError::Memory => false,
         InferError::Fault {
@@ -174,28 +178,55 @@ fn flaw_of(error: InferError) -> Option<Refusal> {
     Some(Refusal { slot, cause })
 }
 
-/// Tells the states that a search has, the refusal, and its flaw in these states.
+/// Tells what is shown of the states that a search has.
+fn write_sketch<W: Tell>(
+    out: &mut W,
+    program: &Program,
+    certificate: &Certificate,
+    shown: Shown<'_>,
+    flaw: Option<Refusal>,
+) {
+    match shown {
+        Shown::Slot { slot, lines } => tell_glimpse(program, certificate, lines, slot, out),
+        Shown::Listing { lines } => tell_sketch(program, certificate, lines, flaw, out),
+        Shown::Graph => {}
+    }
+}
+
+/// Tells what is shown of the states that a search has, the refusal, and its flaw in these states.
 fn write_states<W: Tell>(
     out: &mut W,
     program: &Program,
-    sketch: &Sketch,
+    stop: &Stop,
+    shown: Shown<'_>,
     lines: &[u8],
-    error: InferError,
 ) {
-    let flaw = flaw_of(error);
-    if let Some(certificate) = &sketch.certificate {
-        tell_sketch(program, certificate, lines, flaw, out);
+    let flaw = flaw_of(stop.error);
+    let refused = Refused(stop.error);
+    if let Some(certificate) = &stop.sketch.certificate {
+        write_sketch(out, program, certificate, shown, flaw);
     }
-    write_refusal(out, error);
-    if let (Some(certificate), Some(flaw)) = (&sketch.certificate, flaw) {
+    write!(out, "{refused}\n");
+    if let (Some(certificate), Some(flaw)) = (&stop.sketch.certificate, flaw) {
         tell_reason(program, certificate, lines, flaw, out);
     }
-    write_source(out, lines, error);
+    write_source(out, lines, stop.error);
 }
 
-/// Tells what a search had where it stopped, and why it stopped; of the plain one, that the deep one may find more.
-fn write_stop<W: Tell>(out: &mut W, program: &Program, stop: &Stop, lines: &[u8], effort: Effort) {
-    write_states(out, program, &stop.sketch, lines, stop.error);
+/// Tells what is shown of what a search had where it stopped, and why it stopped; of the plain one, that the deep one may find
+/// more.
+fn write_stop<W: Tell>(
+    out: &mut W,
+    program: &Program,
+    stop: &Stop,
+    shown: Shown<'_>,
+    effort: Effort,
+) {
+    let (Shown::Listing { lines } | Shown::Slot { lines, .. }) = shown else {
+        let (flaw, title) = (flaw_of(stop.error), Refused(stop.error));
+        return tell_sketched_dot(program, stop.sketch.certificate.as_ref(), flaw, title, out);
+    };
+    write_states(out, program, stop, shown, lines);
     write_reason(out, program, stop, effort);
     let has_states = stop.sketch.certificate.is_some();
     if effort == Effort::Plain && has_states && may_be_found(program, stop.error) {
@@ -207,22 +238,22 @@ fn write_stop<W: Tell>(out: &mut W, program: &Program, stop: &Stop, lines: &[u8]
 fn explain_certified<W: Tell>(
     program: &Program,
     certificate: &Certificate,
-    lines: &[u8],
+    shown: Shown<'_>,
     out: &mut W,
 ) {
     let refusal = match check(program, certificate) {
         Ok(_checked) => None,
         Err(refusal) => Some(refusal),
     };
-    explain_on(program, certificate, lines, refusal, out);
+    tell_shown(program, certificate, shown, refusal, out);
 }
 
-/// Explains what a search found, with a table of source lines, in pieces of up to 4,096 bytes. What was found, or the refusal.
+/// Explains what a search found, in pieces of up to 4,096 bytes. What was found, or the refusal.
 fn explain<W: Write>(
     out: &mut W,
     program: &Program,
     found: Result<Certificate, Stop>,
-    lines: &[u8],
+    shown: Shown<'_>,
     effort: Effort,
 ) -> io::Result<Result<Certificate, InferError>>
     ensures found { IfOk result (λ told. IfOk told (λ c. found ≡ Ok c)) }
@@ -231,11 +262,11 @@ fn explain<W: Write>(
     let mut page = Page::new(out);
     let told = match found {
         Ok(certificate) => {
-            explain_certified(program, &certificate, lines, &mut page);
+            explain_certified(program, &certificate, shown, &mut page);
             Ok(certificate)
         }
         Err(stop) => {
-            write_stop(&mut page, program, &stop, lines, effort);
+            write_stop(&mut page, program, &stop, shown, effort);
             Err(stop.error)
         }
     };
@@ -289,16 +320,15 @@ fn with_walk(alloc: Global, quest: Quest<'_>, stop: Stop) -> Stop
     }
 }
 
-/// Explains the certificate that the inferrer proposes for a program on contexts of `least` to `most` bytes, at most 4,096, with
-/// the checker's answer; where it proposes none, writes the states at its labels as far as it came, and in words why (I1 to I5).
-/// A table of the lines of the source may be empty. The certificate or the refusal is given back. A fault of the writer, or a write
-/// of no bytes, ends it.
+/// Shows a program with the certificate that the inferrer proposes for contexts of `least` to `most` bytes, at most 4,096, and the
+/// checker's answer; where it proposes none, with the states at its labels as far as it came, and in words why (I1 to I5), of a graph
+/// by number alone. The certificate or the refusal is given back. A fault of the writer, or a write of no bytes, ends it.
 pub fn explain_inferred<W: Write>(
     alloc: Global,
     program: &Program,
     least: u32,
     most: u32,
-    lines: &[u8],
+    shown: Shown<'_>,
     out: &mut W,
 ) -> io::Result<Result<Certificate, InferError>>
     requires order { least ≤ most }
@@ -318,7 +348,7 @@ pub fn explain_inferred<W: Write>(
         Ok(certificate) => Ok(certificate),
         Err(error) => Err(stop_of(alloc, quest, error)),
     };
-    explain(out, program, found, lines, Effort::Plain)
+    explain(out, program, found, shown, Effort::Plain)
 }
 
 /// Explains the same of the deep search, with its own states where it proposes none. Who watches is told how far it is.
@@ -328,7 +358,7 @@ pub fn explain_searched<W: Write, H: Watch>(
     least: u32,
     most: u32,
     watch: &mut H,
-    lines: &[u8],
+    shown: Shown<'_>,
     out: &mut W,
 ) -> io::Result<Result<Certificate, InferError>>
     requires order { least ≤ most }
@@ -348,5 +378,5 @@ pub fn explain_searched<W: Write, H: Watch>(
         Ok(certificate) => Ok(certificate),
         Err(stop) => Err(with_walk(alloc, quest, stop)),
     };
-    explain(out, program, found, lines, Effort::Deep)
+    explain(out, program, found, shown, Effort::Deep)
 }

@@ -15,6 +15,10 @@ use Rattle.bpf_request.specs.declared.contexts.Contexts.TheVariants.{Word, Bytes
 use Rattle.bpf_request.specs.declared.hardening.Hardening.{Hardening}
 use Rattle.bpf_request.specs.declared.words.Request.{Request}
 use Rattle.bpf_request.specs.declared.words.Request.TheVariants.{Groups, Asm, List as ListOf, Run, Check, RunChecked, Infer, Harden, Migrate, Explain}
+use Rattle.bpf_request.specs.declared.subject.Aspect.{Aspect}
+use Rattle.bpf_request.specs.declared.subject.Aspect.TheVariants.{Listing, Slot as OneSlot, Graph as Drawn}
+use Rattle.bpf_request.specs.declared.subject.Clash.{Clash}
+use Rattle.bpf_request.specs.declared.subject.Clash.TheVariants.{CertificateInfer, TextCertificate, TextInfer, TextSlot, TextDot, SlotDot, SlotAlone, MostAlone, DeepAlone}
 use Rattle.bpf_request.specs.declared.subject.Subject.{Subject}
 use Rattle.bpf_request.specs.declared.subject.Subject.TheVariants.{Image, Text as TextAlone, Certified, Slot, Inferred, Graph, GraphAlone, Misfit}
 
@@ -195,12 +199,24 @@ name_of (Lines name) = name.now
 name_of Nothing = []
 name_of Several = []
 
--- at most one of CERT, `--infer` and `--text`; `--most` and `--deep` with `--infer` alone, `--slot` with CERT alone, and `--dot` with CERT or nothing
-abbrev pub go_together : Option Text → (least most slot : Option ℕ) → (text dot deep : Bool) → Bool
-go_together certificate least most slot text dot deep =
-    (not deep || is_some least)
-    && not (dot && (text || (is_some least || (is_some most || is_some slot))))
-    && (not (text && (is_some certificate || is_some least)) && (not (is_some certificate && is_some least) && ((is_some least || is_none most) && (is_some certificate || is_none slot))))
+-- At most one of CERT, `--infer` and `--text` is given, `--most` and `--deep` with `--infer` alone, `--slot` with CERT or `--infer`, and `--dot` with
+-- neither `--text` nor `--slot`: which of this isn't so.
+abbrev pub Clashes : Option Text → (least most slot : Option ℕ) → (text dot deep : Bool) → Clash → Type 0
+Clashes certificate least most slot text dot deep CertificateInfer = (is_some certificate && is_some least) ≡ true
+Clashes certificate least most slot text dot deep TextCertificate = (text && is_some certificate) ≡ true
+Clashes certificate least most slot text dot deep TextInfer = (text && is_some least) ≡ true
+Clashes certificate least most slot text dot deep TextSlot = (text && is_some slot) ≡ true
+Clashes certificate least most slot text dot deep TextDot = (text && dot) ≡ true
+Clashes certificate least most slot text dot deep SlotDot = (is_some slot && dot) ≡ true
+Clashes certificate least most slot text dot deep SlotAlone = (is_some slot && is_none certificate && is_none least) ≡ true
+Clashes certificate least most slot text dot deep MostAlone = (is_some most && is_none least) ≡ true
+Clashes certificate least most slot text dot deep DeepAlone = (deep && is_none least) ≡ true
+
+-- by the slot, and whether a graph is wanted
+abbrev pub GivesAspect : (slot : Option ℕ) → (dot : Bool) → Aspect → Type 0
+GivesAspect slot dot Listing = (slot ≡ None) × (dot ≡ false)
+GivesAspect slot dot (OneSlot s) = (slot ≡ Some s) × (dot ≡ false)
+GivesAspect slot dot Drawn = (slot ≡ None) × (dot ≡ true)
 
 -- by the word for a certificate, the lengths, the slot, whether it is a text, whether a graph is wanted, and whether to search deeply
 abbrev pub GivesSubject : Option Text → (least most slot : Option ℕ) → (text dot deep : Bool) → Subject → Type 0
@@ -216,16 +232,16 @@ GivesSubject certificate least most slot text dot deep (Certified c) =
 GivesSubject certificate least most slot text dot deep (Slot c s) =
     (certificate ≡ Some c.now) × (least ≡ None) × (most ≡ None) × (slot ≡ Some s)
     × (text ≡ false) × (dot ≡ false) × (deep ≡ false)
-GivesSubject certificate least most slot text dot deep (Inferred l m d) =
-    (certificate ≡ None) × (least ≡ Some l) × (m ≡ unwrap_or most l) × (slot ≡ None)
-    × (text ≡ false) × (dot ≡ false) × (deep ≡ d)
+GivesSubject certificate least most slot text dot deep (Inferred l m d aspect) =
+    (certificate ≡ None) × (least ≡ Some l) × (m ≡ unwrap_or most l) × GivesAspect slot dot aspect
+    × (text ≡ false) × (deep ≡ d)
 GivesSubject certificate least most slot text dot deep (Graph c) =
     (certificate ≡ Some c.now) × (least ≡ None) × (most ≡ None) × (slot ≡ None)
     × (text ≡ false) × (dot ≡ true) × (deep ≡ false)
 GivesSubject certificate least most slot text dot deep GraphAlone =
     (certificate ≡ None) × (least ≡ None) × (most ≡ None) × (slot ≡ None)
     × (text ≡ false) × (dot ≡ true) × (deep ≡ false)
-GivesSubject certificate least most slot text dot deep Misfit = go_together certificate least most slot text dot deep ≡ false
+GivesSubject certificate least most slot text dot deep (Misfit clash) = Clashes certificate least most slot text dot deep clash
 
 -- what CERT, `--infer`, `--most`, `--slot`, `--text`, `--dot` and `--deep` want explained
 abbrev pub IsSubject : List Row → Subject → Type 0

@@ -9,5 +9,5 @@ mod words;
 
 pub use contexts::Contexts;
 pub use hardening::Hardening;
-pub use subject::Subject;
+pub use subject::{Aspect, Clash, Subject};
 pub use words::{Request, request_of};

@@ -1,7 +1,41 @@
 //! What a command line wants explained.
 
-ghost use Rattle.std.specs.Prelude.{option_map, true, false};
-ghost use Rattle.bpf_request.specs.CommandLine.{GivesSubject};
+ghost use Rattle.std.specs.Prelude.{◌≡◌, ◌&&◌, IfSome, IfNone, Some, None, is_some, option_map, true, false};
+ghost use Rattle.bpf_request.specs.CommandLine.{GivesAspect, GivesSubject};
+
+/// What is shown of a program with what a search found for it.
+#[derive(Clone, Copy)]
+pub enum Aspect {
+    /// All its instructions.
+    Listing,
+    /// The instruction at a slot.
+    Slot(u32),
+    /// Its control-flow graph.
+    Graph,
+}
+
+/// Which words don't go together.
+#[derive(Clone, Copy)]
+pub enum Clash {
+    /// CERT and `--infer`.
+    CertificateInfer,
+    /// `--text` and CERT.
+    TextCertificate,
+    /// `--text` and `--infer`.
+    TextInfer,
+    /// `--text` and `--slot`.
+    TextSlot,
+    /// `--text` and `--dot`.
+    TextDot,
+    /// `--slot` and `--dot`.
+    SlotDot,
+    /// `--slot` with neither CERT nor `--infer`.
+    SlotAlone,
+    /// `--most` without `--infer`.
+    MostAlone,
+    /// `--deep` without `--infer`.
+    DeepAlone,
+}
 
 /// What is to be explained of a program.
 #[derive(Clone, Copy)]
@@ -13,102 +47,88 @@ pub enum Subject<'a> {
     /// The program with the certificate at a name.
     Certified(&'a str),
     /// One slot of the program with the certificate at a name.
-    Slot { certificate: &'a str, slot: u32 },
-    /// What the inferrer finds for contexts of `least` to `most` bytes, or the deep search. `most` may be below `least`.
-    Inferred { least: u32, most: u32, deep: bool },
+    Slot {
+        certificate: &'a str,
+        slot: u32,
+    },
+    /// What the inferrer finds for contexts of `least` to `most` bytes, or the deep search, and what is shown of it. `most` may be
+    /// below `least`.
+    Inferred {
+        least: u32,
+        most: u32,
+        deep: bool,
+        aspect: Aspect,
+    },
     /// The program's control-flow graph with what the certificate at a name says.
     Graph(&'a str),
     /// Its control-flow graph by itself.
     GraphAlone,
     /// Words that don't go together are given.
-    Misfit,
+    Misfit(Clash),
 }
 
-/// Which graph is wanted, by the other words that are given.
-fn graph_of<'a>(
-    certificate: Option<&'a str>,
-    least: Option<u32>,
-    most: Option<u32>,
-    slot: Option<u32>,
-    text: bool,
-) -> Subject<'a>
-    ensures { GivesSubject (option_map (λ s. s.now) certificate.entry) least most slot text true false result }
+/// What is to be shown of what a search finds; None where a slot and a graph are wanted.
+fn aspect_of(slot: Option<u32>, dot: bool) -> Option<Aspect>
+    ensures one { IfSome result (GivesAspect slot dot) }
+    ensures both { IfNone result ((is_some slot && dot) ≡ true) }
 {
-    match (text, certificate, least, most, slot) {
-        (false, None, None, None, None) => Subject::GraphAlone,
-        (false, Some(certificate), None, None, None) => Subject::Graph(certificate),
-        (true, _, _, _, _) => Subject::Misfit,
-        (false, _, Some(_), _, _) => Subject::Misfit,
-        (false, _, None, Some(_), _) => Subject::Misfit,
-        (false, _, None, None, Some(_)) => Subject::Misfit,
+    match (slot, dot) {
+        (None, false) => Some(Aspect::Listing),
+        (Some(slot), false) => Some(Aspect::Slot(slot)),
+        (None, true) => Some(Aspect::Graph),
+        (Some(_), true) => None,
     }
 }
 
-/// What is to be explained in words, by the words that are given.
-fn told_of<'a>(
+/// What a search is to find, by the other words that are given.
+fn sought_of<'a>(
     certificate: Option<&'a str>,
-    least: Option<u32>,
-    most: Option<u32>,
-    slot: Option<u32>,
-    text: bool,
-) -> Subject<'a>
-    ensures { GivesSubject (option_map (λ s. s.now) certificate.entry) least most slot text false false result }
-{
-    match (text, certificate, least, most, slot) {
-        (false, None, None, None, None) => Subject::Image,
-        (true, None, None, None, None) => Subject::Text,
-        (false, Some(certificate), None, None, None) => Subject::Certified(certificate),
-        (false, Some(certificate), None, None, Some(slot)) => Subject::Slot { certificate, slot },
-        (false, None, Some(least), None, None) => Subject::Inferred {
-            least,
-            most: least,
-            deep: false,
-        },
-        (false, None, Some(least), Some(most), None) => Subject::Inferred {
-            least,
-            most,
-            deep: false,
-        },
-        (true, Some(_), _, _, _) => Subject::Misfit,
-        (true, None, Some(_), _, _) => Subject::Misfit,
-        (true, None, None, Some(_), _) => Subject::Misfit,
-        (true, None, None, None, Some(_)) => Subject::Misfit,
-        (false, Some(_), Some(_), _, _) => Subject::Misfit,
-        (false, Some(_), None, Some(_), _) => Subject::Misfit,
-        (false, None, Some(_), None, Some(_)) => Subject::Misfit,
-        (false, None, Some(_), Some(_), Some(_)) => Subject::Misfit,
-        (false, None, None, Some(_), _) => Subject::Misfit,
-        (false, None, None, None, Some(_)) => Subject::Misfit,
-    }
-}
-
-/// What the deep search is to find, by the other words that are given.
-fn searched_of<'a>(
-    certificate: Option<&'a str>,
-    least: Option<u32>,
+    least: u32,
     most: Option<u32>,
     slot: Option<u32>,
     text: bool,
     dot: bool,
+    deep: bool,
 ) -> Subject<'a>
-    ensures { GivesSubject (option_map (λ s. s.now) certificate.entry) least most slot text dot true result }
+    ensures { GivesSubject (option_map (λ s. s.now) certificate.entry) (Some least) most slot text dot deep result }
 {
-    match (least, dot, text, certificate, slot, most) {
-        (Some(least), false, false, None, None, None) => Subject::Inferred {
+    match (text, certificate, aspect_of(slot, dot)) {
+        (false, None, Some(aspect)) => Subject::Inferred {
             least,
-            most: least,
-            deep: true,
+            most: most.unwrap_or(least),
+            deep,
+            aspect,
         },
-        (Some(least), false, false, None, None, Some(most)) => Subject::Inferred {
-            least,
-            most,
-            deep: true,
-        },
-        (None, _, _, _, _, _) => Subject::Misfit,
-        (Some(_), true, _, _, _, _) => Subject::Misfit,
-        (Some(_), false, true, _, _, _) => Subject::Misfit,
-        (Some(_), false, false, Some(_), _, _) => Subject::Misfit,
-        (Some(_), false, false, None, Some(_), _) => Subject::Misfit,
+        (true, _, _) => Subject::Misfit(Clash::TextInfer),
+        (false, Some(_), _) => Subject::Misfit(Clash::CertificateInfer),
+        (false, None, None) => Subject::Misfit(Clash::SlotDot),
+    }
+}
+
+/// Which graph is wanted, by the other words that are given.
+fn graph_of<'a>(certificate: Option<&'a str>, slot: Option<u32>, text: bool) -> Subject<'a>
+    ensures { GivesSubject (option_map (λ s. s.now) certificate.entry) None None slot text true false result }
+{
+    match (text, certificate, slot) {
+        (false, None, None) => Subject::GraphAlone,
+        (false, Some(certificate), None) => Subject::Graph(certificate),
+        (true, _, _) => Subject::Misfit(Clash::TextDot),
+        (false, _, Some(_)) => Subject::Misfit(Clash::SlotDot),
+    }
+}
+
+/// What is to be explained in words without a search, by the words that are given.
+fn told_of<'a>(certificate: Option<&'a str>, slot: Option<u32>, text: bool) -> Subject<'a>
+    ensures { GivesSubject (option_map (λ s. s.now) certificate.entry) None None slot text false false result }
+{
+    match (text, certificate, slot) {
+        (false, None, None) => Subject::Image,
+        (true, None, None) => Subject::Text,
+        (false, Some(certificate), None) => Subject::Certified(certificate),
+        (false, Some(certificate), Some(slot)) => Subject::Slot { certificate, slot },
+        (true, Some(_), _) => Subject::Misfit(Clash::TextCertificate),
+        (true, None, Some(_)) => Subject::Misfit(Clash::TextSlot),
+        (false, None, Some(_)) => Subject::Misfit(Clash::SlotAlone),
     }
 }
 
@@ -125,11 +145,11 @@ pub fn subject_of<'a>(
 ) -> Subject<'a>
     ensures { GivesSubject (option_map (λ s. s.now) certificate.entry) least most slot text dot deep result }
 {
-    if deep {
-        searched_of(certificate, least, most, slot, text, dot)
-    } else if dot {
-        graph_of(certificate, least, most, slot, text)
-    } else {
-        told_of(certificate, least, most, slot, text)
+    match (least, most, deep, dot) {
+        (Some(least), _, _, _) => sought_of(certificate, least, most, slot, text, dot, deep),
+        (None, None, false, true) => graph_of(certificate, slot, text),
+        (None, None, false, false) => told_of(certificate, slot, text),
+        (None, Some(_), _, _) => Subject::Misfit(Clash::MostAlone),
+        (None, None, true, _) => Subject::Misfit(Clash::DeepAlone),
     }
 }

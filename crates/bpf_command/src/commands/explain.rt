@@ -1,6 +1,9 @@
 //! `bpf explain IN`, and the same with a certificate, over the inferrer's work, and of a text.
 
-ghost use Rattle.std.specs.Prelude.{◌≡◌, ◌⊎◌, IfOk, IfErr, None, MatchResult, false};
+ghost use Rattle.std.specs.Prelude.{◌≡◌, ◌⊎◌, ◌≤◌, ◌<◌, IfOk, IfErr, None, MatchResult, false};
+ghost use Rattle.bpf_insn.specs.Instruction.{slots};
+ghost use Rattle.bpf_cert.specs.Limits.{IsCertificate};
+ghost use Rattle.bpf_infer_error.specs.RefusalNumbers.{infer_slot};
 ghost use Rattle.bpf_places.specs.Opened.{opening};
 ghost use Rattle.bpf_answers.specs.Loaded.{CertificateAt, CertificateFails, CertificateRefused, ImageFails, TextFails};
 ghost use Rattle.bpf_command.specs.Explained.{Answers, ExplainFails, ExplainSays, ExplainWithFails, ExplainWithSays, JudgesOf, LinesAt, LinesFail, SoughtSays, TextSays};
@@ -16,13 +19,13 @@ use bpf_explain::{
     Shown, dot_plain, explain, explain_certificate, explain_image, explain_inferred,
     explain_searched, explain_text, is_table,
 };
-use bpf_infer::Watch;
+use bpf_infer::{InferError, Watch};
 use bpf_insn::{Code, DecodeError, MAX_CONTEXT, Order, Program, ProgramView, decode};
 use bpf_places::{Keeping, Places};
-use bpf_request::Subject;
+use bpf_request::{Aspect, Subject};
 use bpf_text::{TextError, assemble};
 use std::alloc::Global;
-use std::io::Write;
+use std::io::{self, Write};
 
 // ---- images and texts
 
@@ -232,49 +235,81 @@ fn explained_certified<'a, P: Places, W: Write>(
 
 // ---- the inferrer
 
-/// Explains what the inferrer finds for a program, or the deep search.
+/// A search for contexts of `least` to `most` bytes, and what is shown of what it finds.
+#[derive(Clone, Copy)]
+struct Wanted<'t> {
+    least: u32,
+    most: u32,
+    deep: bool,
+    shown: Shown<'t>,
+}
+
+/// Explains what the inferrer finds for a program, or the deep search, and hands on what was found.
+fn found_of<W: Write, H: Watch>(
+    alloc: Global,
+    out: &mut W,
+    watch: &mut H,
+    program: &Program,
+    wanted: Wanted<'_>,
+) -> io::Result<Result<Certificate, InferError>>
+    requires order { wanted.least ≤ wanted.most }
+    requires short { wanted.most ≤ 4096 }
+    ensures version { IfOk result (λ told. IfOk told (λ c. c.version ≡ 2)) }
+    ensures least { IfOk result (λ told. IfOk told (λ c. c.least ≡ wanted.least)) }
+    ensures most { IfOk result (λ told. IfOk told (λ c. c.most ≡ wanted.most)) }
+    ensures certificate { IfOk result (λ told. IfOk told (λ c. IsCertificate c)) }
+    ensures slot { IfOk result (λ told. IfErr told (λ e. infer_slot e < slots program.now.list)) }
+{
+    let Wanted {
+        least,
+        most,
+        deep,
+        shown,
+    } = wanted;
+    if deep {
+        explain_searched(alloc, program, least, most, watch, shown, out)
+    } else {
+        explain_inferred(alloc, program, least, most, shown, out)
+    }
+}
+
+/// Explains what a search finds for a program, and answers the status.
 fn say_inferred<'a, W: Write, H: Watch>(
     alloc: Global,
     out: &mut W,
     watch: &mut H,
     program: &Program,
-    least: u32,
-    most: u32,
-    deep: bool,
-    lines: &[u8],
+    wanted: Wanted<'_>,
 ) -> Result<u8, Failure<'a>>
-    ensures ok { IfOk result (Answers (SoughtSays program.now)) }
+    ensures ok { IfOk result (Answers (SoughtSays wanted.least wanted.most program.now)) }
     ensures err { IfErr result OutputFails }
 {
     // `respond` has seen that the lengths are in order, and the words' parser that they are at most the greatest.
-    let most = most.min(MAX_CONTEXT as u32);
-    let least = least.min(most);
-    let answer = if deep {
-        explain_searched(alloc, program, least, most, watch, lines, out)
-    } else {
-        explain_inferred(alloc, program, least, most, lines, out)
+    let most = wanted.most.min(MAX_CONTEXT as u32);
+    let within = Wanted {
+        least: wanted.least.min(most),
+        most,
+        deep: wanted.deep,
+        shown: wanted.shown,
     };
-    match answer {
+    match found_of(alloc, out, watch, program, within) {
         Ok(Ok(certificate)) => Ok(verdict(program, &certificate)),
         Ok(Err(_error)) => Ok(REFUSED),
         Err(_) => Err(Failure::CannotWrite("standard output")),
     }
 }
 
-/// Explains what the inferrer finds for the image's program on contexts of `least` to `most` bytes, or the deep search.
+/// Explains what a search finds for the image's program.
 fn explained_inferred<'a, P: Places, W: Write, H: Watch>(
     alloc: Global,
     places: &mut P,
     out: &mut W,
     watch: &mut H,
     input: &'a str,
-    least: u32,
-    most: u32,
-    deep: bool,
-    lines: &[u8],
+    wanted: Wanted<'_>,
     order: Order,
 ) -> Result<u8, Failure<'a>>
-    ensures ok { IfOk result (Answers (ImageSays (opening P.opens P.Reader.remaining) order places.old input.entry.now places.new SoughtSays)) }
+    ensures ok { IfOk result (Answers (ImageSays (opening P.opens P.Reader.remaining) order places.old input.entry.now places.new (SoughtSays wanted.least wanted.most))) }
     ensures err { IfErr result (ImageFails (opening P.opens P.Reader.remaining) places.old input.entry.now places.new) }
 {
     let bytes = match image_at(alloc, places, input)? {
@@ -282,7 +317,7 @@ fn explained_inferred<'a, P: Places, W: Write, H: Watch>(
         Err(error) => return refuse_image(alloc, out, error),
     };
     match decode(alloc, &bytes, order) {
-        Ok(program) => say_inferred(alloc, out, watch, &program, least, most, deep, lines),
+        Ok(program) => say_inferred(alloc, out, watch, &program, wanted),
         Err(DecodeError::Memory) => refuse_image(alloc, out, DecodeError::Memory),
         Err(_error) => say_image(out, &bytes, order, REFUSED),
     }
@@ -307,6 +342,15 @@ fn lines_at<'a, P: Places>(
         return Err(Failure::CannotRead(name));
     }
     Ok(table)
+}
+
+/// What is shown, with a table of source lines.
+fn shown_of(aspect: Aspect, lines: &[u8]) -> Shown<'_> {
+    match aspect {
+        Aspect::Listing => Shown::Listing { lines },
+        Aspect::Slot(slot) => Shown::Slot { slot, lines },
+        Aspect::Graph => Shown::Graph,
+    }
 }
 
 /// Explains what is asked for, with a table of source lines.
@@ -354,10 +398,22 @@ fn explained_subject<'a, P: Places, W: Write, H: Watch>(
             Shown::Slot { slot, lines },
             order,
         ),
-        Subject::Inferred { least, most, deep } => explained_inferred(
-            alloc, places, out, watch, input, least, most, deep, lines, order,
-        ),
-        Subject::Misfit => Err(Failure::NotTogether),
+        Subject::Inferred {
+            least,
+            most,
+            deep,
+            aspect,
+        } => {
+            let shown = shown_of(aspect, lines);
+            let wanted = Wanted {
+                least,
+                most,
+                deep,
+                shown,
+            };
+            explained_inferred(alloc, places, out, watch, input, wanted, order)
+        }
+        Subject::Misfit(_) => Err(Failure::NotTogether),
     }
 }
 

@@ -12,6 +12,8 @@ ghost use Rattle.bpf_places.specs.Opened.{opening};
 ghost use Rattle.bpf_command.specs.Printed.{InferSays, InferFails};
 ghost use Rattle.bpf_answers.specs.Told.{OutputFails};
 
+use crate::advice::{Sought, after_search};
+use crate::aside::Aside;
 use bpf_answers::{Failure, REFUSED, program_at, put, refuse_image, say};
 use bpf_cert::Certificate;
 use bpf_infer::{InferError, Watch, infer, search};
@@ -76,11 +78,11 @@ fn proposed<H: Watch>(
 
 /// Writes a certificate for an image and contexts of `least` to `most` bytes. The place for it is made only where there is
 /// one.
-pub fn inferred<'a, P: Places, W: Write, H: Watch>(
+pub fn inferred<'a, P: Places, W: Write, H: Aside>(
     alloc: Global,
     places: &mut P,
     out: &mut W,
-    watch: &mut H,
+    aside: &mut H,
     input: &'a str,
     least: u32,
     most: u32,
@@ -97,8 +99,19 @@ pub fn inferred<'a, P: Places, W: Write, H: Watch>(
     };
     // `respond` has seen that the lengths are in order, and the words' parser that they are at most the greatest.
     let most = most.min(MAX_CONTEXT as u32);
-    match proposed(alloc, &program, least.min(most), most, deep, watch) {
+    match proposed(alloc, &program, least.min(most), most, deep, aside) {
         Ok(certificate) => put(places, output, &certificate),
-        Err(error) => refuse_inference(alloc, out, error),
+        Err(error) => {
+            let status = refuse_inference(alloc, out, error)?;
+            let sought = Sought {
+                input,
+                least,
+                most,
+                deep,
+                order,
+            };
+            after_search(&*aside, &program, sought, error);
+            Ok(status)
+        }
     }
 }

@@ -48,11 +48,11 @@ fn write_head<W: Tell>(out: &mut W, certificate: Option<&Index>, slot: u32) {
     }
 }
 
-/// The line of the label at a slot, if one stands there.
-fn write_promise<W: Tell>(out: &mut W, certificate: Option<&Index>, slot: u32) {
-    let known = match certificate {
-        Some(certificate) => label_at(certificate, slot),
-        None => None,
+/// The line of the label at a slot, if one stands there and budgets are told.
+fn write_promise<'a, 'b, W: Tell>(out: &mut W, scene: &Scene<'a, 'b>, slot: u32) {
+    let known = match scene.certificate {
+        Some(certificate) if scene.has_budgets => label_at(certificate, slot),
+        _ => None,
     };
     let Some(label) = known else {
         return;
@@ -119,7 +119,7 @@ impl Drawn {
         });
         write!(out, "    b{slot} [label=\"");
         out.set_quoted(true);
-        write_promise(out, scene.certificate, slot);
+        write_promise(out, scene, slot);
         out.set_quoted(false);
     }
 

@@ -13,7 +13,7 @@ pub returns-in-Err-clause-ok : goal.returns-in-Err-clause-ok
 returns-in-Err-clause-ok g c =
     let at = opening g.P.Places.opens g.P.Reader.Read.remaining in
     let none : NoSpaceFor at c.args.places.now c.args.input.now c.image_at.new.places c.in-Err.error = rw c.in-Err.is at c.in_ok-bytes.ensures.ok in
-    printed_so c.refuse.result (NoImage c.in-Err.error) _ _ (ImageSays at c.args.order c.args.places.now c.args.input.now c.image_at.new.places SoughtSays) (inl none) c.refuse.ensures.ok
+    printed_so c.refuse.result (NoImage c.in-Err.error) _ _ (ImageSays at c.args.order c.args.places.now c.args.input.now c.image_at.new.places (SoughtSays c.args.wanted.least c.args.wanted.most)) (inl none) c.refuse.ensures.ok
 
 pub returns-in-Ok-decode-clause-ok : goal.returns-in-Ok-decode-clause-ok
 returns-in-Ok-decode-clause-ok g c =
@@ -22,14 +22,14 @@ returns-in-Ok-decode-clause-ok g c =
     let read = read_of at (λ v. v.items) c.args.places.now c.args.input.now c.image_at.new.places c.in_ok-bytes.field-0 c.in-Ok.bytes c.deref.result.now c.in-Ok.is same c.in_ok-bytes.ensures.ok in
     let image : LoadsImage at c.args.order c.args.places.now c.args.input.now c.image_at.new.places c.in-Ok-decode.program
     = record { bytes = c.deref.result.now; read = read; is_image = record { program = c.in-Ok-decode.ensures.program; bytes_are = c.in-Ok-decode.ensures.ok.0.bytes_are }; order_is = c.in-Ok-decode.ensures.ok.1 } in
-    sought_so c.say_inferred.result at c.args.order c.args.places.now c.args.input.now c.image_at.new.places c.in-Ok-decode.program image c.say_inferred.ensures.ok
+    sought_so c.say_inferred.result at c.args.order c.args.places.now c.args.input.now c.image_at.new.places c.args.wanted.least c.args.wanted.most c.in-Ok-decode.program image c.say_inferred.ensures.ok
 
 pub returns-in-Err-Memory-clause-ok : goal.returns-in-Err-Memory-clause-ok
 returns-in-Err-Memory-clause-ok g c =
     let at = opening g.P.Places.opens g.P.Reader.Read.remaining in
     let same : c.in-Ok.bytes.items ≡ c.deref.result.now = search rules in
     let read = read_of at (λ v. v.items) c.args.places.now c.args.input.now c.image_at.new.places c.in_ok-bytes.field-0 c.in-Ok.bytes c.deref.result.now c.in-Ok.is same c.in_ok-bytes.ensures.ok in
-    printed_so c.refuse-in-Err-Memory.result (NoImage Memory) _ _ (ImageSays at c.args.order c.args.places.now c.args.input.now c.image_at.new.places SoughtSays) (inl ((read.known, read.opened), refl)) c.refuse-in-Err-Memory.ensures.ok
+    printed_so c.refuse-in-Err-Memory.result (NoImage Memory) _ _ (ImageSays at c.args.order c.args.places.now c.args.input.now c.image_at.new.places (SoughtSays c.args.wanted.least c.args.wanted.most)) (inl ((read.known, read.opened), refl)) c.refuse-in-Err-Memory.ensures.ok
 
 pub returns : goal.returns
 returns g c =
@@ -39,6 +39,6 @@ returns g c =
     let said = decoded at c.args.order c.args.places.now c.args.input.now c.deref.result.now c.image_at.new.places c.decode.result read c.decode.ensures.ok c.decode.ensures.program c.decode.ensures.err in
     let refused : ImageRefused at c.args.order c.args.places.now c.args.input.now c.image_at.new.places c.in-Err-decode._error = rw c.in-Err-decode.is at said in
     record {
-      ok = answered_so c.say_image.result 1 (NoImage c.in-Err-decode._error) (ImageSays at c.args.order c.args.places.now c.args.input.now c.image_at.new.places SoughtSays) refl refused c.say_image.ensures.ok;
+      ok = answered_so c.say_image.result 1 (NoImage c.in-Err-decode._error) (ImageSays at c.args.order c.args.places.now c.args.input.now c.image_at.new.places (SoughtSays c.args.wanted.least c.args.wanted.most)) refl refused c.say_image.ensures.ok;
       err = search rules;
     }

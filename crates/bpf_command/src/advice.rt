@@ -1,0 +1,243 @@
+//! One line that helps behind a refusal or a failure, on a terminal. Elsewhere nothing is told.
+
+use crate::aside::Aside;
+use bpf_answers::{ContextError, Failure};
+use bpf_explain::may_be_found;
+use bpf_infer::{Condition, InferError};
+use bpf_insn::{Order, Program};
+use bpf_request::{Clash, Contexts, Request, Subject};
+use std::fmt::{self, Display};
+use std::io::Write;
+
+/// Tells a line on a terminal. Whether it can be written makes no difference.
+fn tell_line<H: Aside, D: Display + Drop>(aside: &H, line: D) {
+    if aside.is_terminal() {
+        let mut terminal = aside.stream();
+        let _ = write!(terminal, "{line}\n");
+    }
+}
+
+/// The word for the order of an image, with a blank behind it.
+fn order_word(order: Order) -> &'static str {
+    match order {
+        Order::Big => "--big ",
+        Order::Little => "",
+    }
+}
+
+// ---- a refusal of an image, a text or a certificate
+
+/// The command that tells more of a refusal.
+#[derive(Clone, Copy)]
+struct Told<'a> {
+    flags: &'static str,
+    order: Order,
+    input: &'a str,
+    certificate: Option<&'a str>,
+}
+
+impl<'a> Display for Told<'a> {
+    fn fmt<W: fmt::Write>(&self, f: &mut fmt::Formatter<W>) -> fmt::Result {
+        let (flags, order, input) = (self.flags, order_word(self.order), self.input);
+        match self.certificate {
+            Some(name) => write!(f, "`bpf explain {flags}{order}{input} {name}` tells why"),
+            None => write!(f, "`bpf explain {flags}{order}{input}` tells why"),
+        }
+    }
+}
+
+/// Names the command that tells why a request was refused, if one tells it of all its refusals. A search tells of its own.
+pub fn after_refusal<H: Aside>(aside: &H, request: Request<'_>) {
+    let (flags, order, input, certificate) = match request {
+        Request::Groups { input, order } | Request::List { input, order, .. } => {
+            ("", order, input, None)
+        }
+        Request::Asm { input, order, .. } => ("--text ", order, input, None),
+        Request::Check {
+            input,
+            certificate,
+            order,
+            ..
+        } => ("", order, input, Some(certificate)),
+        _ => return,
+    };
+    let told = Told {
+        flags,
+        order,
+        input,
+        certificate,
+    };
+    tell_line(aside, told)
+}
+
+// ---- a refusal of a search
+
+/// What a search was asked for.
+#[derive(Clone, Copy)]
+pub struct Sought<'a> {
+    pub input: &'a str,
+    pub least: u32,
+    pub most: u32,
+    pub deep: bool,
+    pub order: Order,
+}
+
+/// The command that explains the search.
+#[derive(Clone, Copy)]
+struct Explaining<'a>(Sought<'a>);
+
+impl<'a> Display for Explaining<'a> {
+    fn fmt<W: fmt::Write>(&self, f: &mut fmt::Formatter<W>) -> fmt::Result {
+        let Sought {
+            input,
+            least,
+            most,
+            ..
+        } = self.0;
+        let order = order_word(self.0.order);
+        let deep = if self.0.deep { " --deep" } else { "" };
+        if most == least {
+            write!(f, "`bpf explain {order}{input} --infer {least}{deep}`")
+        } else {
+            write!(
+                f,
+                "`bpf explain {order}{input} --infer {least} --most {most}{deep}`"
+            )
+        }
+    }
+}
+
+/// What may help a program for which no certificate was found.
+#[derive(Clone, Copy)]
+struct Cures<'a> {
+    sought: Sought<'a>,
+    may_deepen: bool,
+    may_harden: bool,
+}
+
+impl<'a> Display for Cures<'a> {
+    fn fmt<W: fmt::Write>(&self, f: &mut fmt::Formatter<W>) -> fmt::Result {
+        let Sought { input, least, .. } = self.sought;
+        let (order, explaining) = (order_word(self.sought.order), Explaining(self.sought));
+        match (self.may_deepen, self.may_harden) {
+            (true, true) => write!(
+                f,
+                "try --deep, or `bpf harden {order}{input} {least} NEW`; {explaining} tells why"
+            ),
+            (true, false) => write!(f, "try --deep; {explaining} tells why"),
+            (false, true) => write!(
+                f,
+                "try `bpf harden {order}{input} {least} NEW`; {explaining} tells why"
+            ),
+            (false, false) => write!(f, "{explaining} tells why"),
+        }
+    }
+}
+
+/// Whether a program may be hardened so that it has a certificate, as far as the refusal tells.
+fn may_be_hardened(error: InferError) -> bool {
+    match error {
+        InferError::Unstable { .. } | InferError::NoBudget { .. } => true,
+        InferError::Fault {
+            condition: Condition::State(_) | Condition::FallsOff,
+            ..
+        } => true,
+        InferError::Fault {
+            condition: Condition::LeavesFunction,
+            ..
+        } => false,
+        InferError::Recursion { .. } | InferError::Memory => false,
+    }
+}
+
+/// Names what may help where no certificate was found: the deep search, hardening, the words of the search. Only contexts of one
+/// length are hardened for.
+pub fn after_search<H: Aside>(aside: &H, program: &Program, sought: Sought<'_>, error: InferError) {
+    if let InferError::Memory = error {
+        return;
+    }
+    let cures = Cures {
+        sought,
+        may_deepen: !sought.deep && may_be_found(program, error),
+        may_harden: sought.least == sought.most && may_be_hardened(error),
+    };
+    tell_line(aside, cures)
+}
+
+// ---- failures
+
+/// A word that spells no bytes.
+#[derive(Clone, Copy)]
+struct NoHex<'a>(&'a str);
+
+impl<'a> Display for NoHex<'a> {
+    fn fmt<W: fmt::Write>(&self, f: &mut fmt::Formatter<W>) -> fmt::Result {
+        let word = self.0;
+        write!(
+            f,
+            "`{word}` isn't two hexadecimal digits a byte, nor `none`: --context FILE takes the bytes of a file"
+        )
+    }
+}
+
+/// Which words of `explain` don't go together.
+fn clash_text(clash: Clash) -> &'static str {
+    match clash {
+        Clash::CertificateInfer => "CERT and --infer: one of the two",
+        Clash::TextCertificate => "--text goes with IN alone, not with CERT",
+        Clash::TextInfer => "--text goes with IN alone, not with --infer",
+        Clash::TextSlot => "--text goes with IN alone, not with --slot",
+        Clash::TextDot => "--text goes with IN alone, not with --dot",
+        Clash::SlotDot => "--slot and --dot: one of the two",
+        Clash::SlotAlone => "--slot goes with CERT or --infer",
+        Clash::MostAlone => "--most goes with --infer",
+        Clash::DeepAlone => "--deep goes with --infer",
+    }
+}
+
+/// Which words of a request don't go together.
+fn misfit_text(request: Request<'_>) -> Option<&'static str> {
+    match request {
+        Request::Explain {
+            subject: Subject::Misfit(clash),
+            ..
+        } => Some(clash_text(clash)),
+        Request::Explain { lines: Some(_), .. } => Some(
+            "--lines goes with CERT or --infer, and not with --dot",
+        ),
+        Request::Harden(_) => Some("OUT and --notes are two names"),
+        _ => None,
+    }
+}
+
+/// The word that was to spell a context.
+fn context_word<'a>(request: Request<'a>) -> Option<&'a str> {
+    match request {
+        Request::Run {
+            contexts: Contexts::Word(word),
+            ..
+        } => Some(word),
+        Request::RunChecked {
+            contexts: Contexts::Word(word),
+            ..
+        } => Some(word),
+        _ => None,
+    }
+}
+
+/// Tells more of a failure that lies in the words: the word that spells no bytes, or which words don't go together.
+pub fn after_failure<H: Aside>(aside: &H, request: Request<'_>, failure: Failure<'_>) {
+    match failure {
+        Failure::BadContext(ContextError::BadHex) => {
+            if let Some(word) = context_word(request) {
+                tell_line(aside, NoHex(word));
+            }
+        }
+        Failure::NotTogether => {
+            if let Some(text) = misfit_text(request) {
+                tell_line(aside, text);
+            }
+        }
+        _ => {}
+    }
+}

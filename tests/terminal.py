@@ -1,0 +1,108 @@
+#!/usr/bin/env python3
+"""terminal.py BPF: goes at the built command with standard error as a terminal, where one line that helps follows a refusal, and beside it as a
+pipe, where none does. Standard output and the status are the same."""
+
+import os
+import pty
+import subprocess
+import sys
+import tempfile
+
+FILES = {
+    "smallest.asm": "r0 = 0\nexit\n",
+    "smallest.cert": "bpfcert 1 0 2\nfn 0 1 *\nat 0 2\nend\n",
+    "other.cert": "bpfcert 1 0 1\nfn 0 1 *\nat 0 1\nend\n",
+    "index.asm": "r2 = *(u8 *)(r1 + 0)\nr1 += r2\nr0 = *(u8 *)(r1 + 0)\nexit\n",
+    "round.asm": "goto -1\n",
+    "itself.asm": "call -1\nexit\n",
+    "wrong.asm": "r0 = \n",
+    "short.img": "1234567",
+}
+
+IMAGES = ["smallest", "index", "round", "itself"]
+
+# The words, the status, and the line that helps; None where there is none.
+CASES = [
+    ("check smallest.img smallest.cert", 0, None),
+    ("check smallest.img other.cert", 1, "`bpf explain smallest.img other.cert` tells why"),
+    ("check --big short.img smallest.cert", 1, "`bpf explain --big short.img smallest.cert` tells why"),
+    ("list short.img", 1, "`bpf explain short.img` tells why"),
+    ("groups short.img", 1, "`bpf explain short.img` tells why"),
+    ("asm wrong.asm out", 1, "`bpf explain --text wrong.asm` tells why"),
+    ("list nowhere", 3, None),
+    ("run smallest.img none --steps 1", 1, None),
+    ("infer smallest.img 0 out", 0, None),
+    ("infer index.img 128 out", 1, "try `bpf harden index.img 128 NEW`; `bpf explain index.img --infer 128` tells why"),
+    ("infer index.img 128 out --deep", 1, "try `bpf harden index.img 128 NEW`; `bpf explain index.img --infer 128 --deep` tells why"),
+    ("infer index.img 64 out --most 128", 1, "`bpf explain index.img --infer 64 --most 128` tells why"),
+    ("infer round.img 0 out", 1, "try --deep, or `bpf harden round.img 0 NEW`; `bpf explain round.img --infer 0` tells why"),
+    ("infer round.img 0 out --most 8", 1, "try --deep; `bpf explain round.img --infer 0 --most 8` tells why"),
+    ("infer round.img 0 out --deep", 1, "try `bpf harden round.img 0 NEW`; `bpf explain round.img --infer 0 --deep` tells why"),
+    ("infer itself.img 0 out", 1, "`bpf explain itself.img --infer 0` tells why"),
+    ("explain index.img --infer 128", 1, None),
+    ("run smallest.img 0g --steps 9", 2, "`0g` isn't two hexadecimal digits a byte, nor `none`: --context FILE takes the bytes of a file"),
+    ("run-checked smallest.img smallest.cert 0", 2, "`0` isn't two hexadecimal digits a byte, nor `none`: --context FILE takes the bytes of a file"),
+    ("run smallest.img --steps 9", 2, None),
+    ("explain smallest.img smallest.cert --infer 0", 2, "CERT and --infer: one of the two"),
+    ("explain --text smallest.asm smallest.cert", 2, "--text goes with IN alone, not with CERT"),
+    ("explain --text smallest.asm --infer 0", 2, "--text goes with IN alone, not with --infer"),
+    ("explain --text smallest.asm --slot 0", 2, "--text goes with IN alone, not with --slot"),
+    ("explain --text smallest.asm --dot", 2, "--text goes with IN alone, not with --dot"),
+    ("explain smallest.img smallest.cert --slot 0 --dot", 2, "--slot and --dot: one of the two"),
+    ("explain smallest.img --infer 0 --slot 0 --dot", 2, "--slot and --dot: one of the two"),
+    ("explain smallest.img --slot 0", 2, "--slot goes with CERT or --infer"),
+    ("explain smallest.img --most 0", 2, "--most goes with --infer"),
+    ("explain smallest.img --deep", 2, "--deep goes with --infer"),
+    ("explain smallest.img --lines smallest.lines", 2, "--lines goes with CERT or --infer, and not with --dot"),
+    ("harden smallest.img 0 out --notes out", 2, "OUT and --notes are two names"),
+]
+
+
+def on_terminal(words, folder):
+    """Runs the command with a terminal as its standard error: the status, and what it wrote to both."""
+    ours, theirs = pty.openpty()
+    process = subprocess.Popen(words, cwd=folder, stdin=subprocess.DEVNULL, stdout=subprocess.PIPE, stderr=theirs)
+    os.close(theirs)
+    told = b""
+    while True:
+        try:
+            piece = os.read(ours, 65536)
+        except OSError:  # Linux's answer where the other end is closed
+            break
+        if not piece:
+            break
+        told += piece
+    os.close(ours)
+    printed, _ = process.communicate(timeout=60)
+    return process.returncode, printed, told.replace(b"\r\n", b"\n")
+
+
+def on_pipe(words, folder):
+    """Runs the command with a pipe as its standard error: the same."""
+    done = subprocess.run(words, cwd=folder, stdin=subprocess.DEVNULL, capture_output=True, timeout=60)
+    return done.returncode, done.stdout, done.stderr
+
+
+def main():
+    bpf = os.path.abspath(sys.argv[1])
+    failed = 0
+    with tempfile.TemporaryDirectory() as folder:
+        for name, text in FILES.items():
+            with open(os.path.join(folder, name), "w") as file:
+                file.write(text)
+        for name in IMAGES:
+            subprocess.run([bpf, "asm", name + ".asm", name + ".img"], cwd=folder, check=True)
+        for line, status, help_line in CASES:
+            words = [bpf, *line.split()]
+            piped = on_pipe(words, folder)
+            shown = on_terminal(words, folder)
+            told = piped[2] + (help_line + "\n").encode() if help_line else piped[2]
+            if piped[0] != status or shown != (status, piped[1], told):
+                failed += 1
+                print(f"terminal.py: bpf {line}:\n  on a pipe {piped}\n  on a terminal {shown}\n  wanted {status}, {told}")
+    print(f"terminal.py: {len(CASES)} commands, {failed} wrong")
+    return 1 if failed else 0
+
+
+if __name__ == "__main__":
+    sys.exit(main())
