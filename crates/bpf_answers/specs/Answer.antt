@@ -1,8 +1,9 @@
 -- What a command answers on standard output, with its status.
-use Rattle.std.specs.Prelude.{◌≡◌, ◌++◌, ℕ, List, [], ◌∷◌, Option, Some, None, Bool, true, false, codes, decimal, nat_eq, if◌then◌else◌}
-use Rattle.std.specs.Io.KnownBytes.{Appends}
+use Rattle.std.specs.Prelude.{◌≡◌, ◌⊎◌, ◌++◌, ℕ, List, [], ◌∷◌, Option, Some, None, Bool, true, false, codes, decimal, nat_eq, if◌then◌else◌}
+use Rattle.std.specs.Io.KnownBytes.{Appends, Keeps}
 use Rattle.std.specs.List.{concat, join_with_byte}
 use Rattle.bpf_semantics.specs.ReasonNumbers.{reason_number}
+use Rattle.bpf_insn.specs.Written.{AppendsBeginning}
 use Rattle.bpf_insn.specs.RefusalNumbers.{decode_number, decode_slot, build_number, build_slot}
 use Rattle.bpf_insn.specs.declared.instruction.Groups.{Groups}
 use Rattle.bpf_insn.specs.declared.instruction.Insn.{Insn}
@@ -161,6 +162,10 @@ text_of Written = []
 pub record Says (answer : Answer) (status : ℕ) (old new : Option (List ℕ)) : Type 0 where
   pub status_is : status ≡ status_of answer
   pub printed : Appends old new (text_of answer)
+
+-- standard output has what it had, or a beginning of an answer of which this holds
+abbrev pub Unfinished : (Answer → Type 0) → Option (List ℕ) → Option (List ℕ) → Type 0
+Unfinished says before after = Keeps before after ⊎ ((answer : Answer) × AppendsBeginning before after (text_of answer) × says answer)
 
 -- an answer of which this holds was printed, with its status
 abbrev pub Answered : (Answer → Type 0) → Option (List ℕ) → Option (List ℕ) → ℕ → Type 0

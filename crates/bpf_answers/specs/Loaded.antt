@@ -19,6 +19,10 @@ use Rattle.bpf_answers.specs.declared.context.ContextError.TheVariants.{TooLong}
 use Rattle.bpf_answers.specs.declared.failure.Failure.{Failure}
 use Rattle.bpf_answers.specs.declared.failure.Failure.TheVariants.{CannotRead, BadContext}
 
+-- the name was opened, or couldn't be
+abbrev pub Tried : {S : Type 0} → Opening S → S → List ℕ → S → Type 0
+Tried opening old name new = (known : Option (Option (List ℕ))) × opening old name known new
+
 -- ---- images
 
 -- the name is opened, and there is no memory for its bytes

@@ -1,17 +1,18 @@
 //! Certificates at a name, and why they and programs are refused.
 
 ghost use Rattle.std.specs.Prelude.{◌≡◌, IfOk, IfErr, MatchResult};
-ghost use Rattle.bpf_answers.specs.Answer.{Says};
+ghost use Rattle.bpf_insn.specs.Written.{AppendsBeginning};
+ghost use Rattle.bpf_answers.specs.Answer.{Says, text_of};
 ghost use Rattle.bpf_answers.specs.Answer.Answer.{NoCertificate, NotCertified};
 ghost use Rattle.bpf_places.specs.Opened.{opening};
-ghost use Rattle.bpf_answers.specs.Loaded.{CertificateAt, CertificateRefused, CertificateFails};
+ghost use Rattle.bpf_answers.specs.Loaded.{CertificateAt, CertificateRefused, CertificateFails, Tried};
 ghost use Rattle.bpf_answers.specs.Told.{OutputFails};
 
 use crate::failure::Failure;
 use crate::refusal::refuse_at;
 use bpf_cert::{CertError, Certificate, read};
 use bpf_check::Refusal;
-use bpf_places::Places;
+use bpf_places::{PlaceError, Places};
 use std::alloc::Global;
 use std::io::Write;
 
@@ -23,9 +24,12 @@ pub fn certificate_at<'a, P: Places>(
 ) -> Result<Result<Certificate, CertError>, Failure<'a>>
     ensures ok { IfOk result (λ read. MatchResult read (CertificateAt (opening P.opens P.Reader.remaining) places.old name.entry.now places.new) (CertificateRefused (opening P.opens P.Reader.remaining) places.old name.entry.now places.new)) }
     ensures err { IfErr result (CertificateFails (opening P.opens P.Reader.remaining) places.old name.entry.now places.new) }
+    ensures names { Tried (opening P.opens P.Reader.remaining) places.old name.entry.now places.new }
 {
-    let Ok(reader) = places.open(name) else {
-        return Err(Failure::CannotRead(name));
+    let reader = match places.open(name) {
+        Ok(reader) => reader,
+        Err(PlaceError::Refused) => return Err(Failure::CannotRead(name)),
+        Err(PlaceError::Memory) => return Err(Failure::NoMemory),
     };
     match read(alloc, reader) {
         Err(CertError::Read { .. }) => Err(Failure::CannotRead(name)),
@@ -33,7 +37,7 @@ pub fn certificate_at<'a, P: Places>(
     }
 }
 
-/// Prints why a certificate's text is refused.
+/// Prints why a certificate's text is refused; where that fails, standard output has a beginning of the line.
 pub fn refuse_certificate<'a, W: Write>(
     alloc: Global,
     out: &mut W,
@@ -41,12 +45,13 @@ pub fn refuse_certificate<'a, W: Write>(
 ) -> Result<u8, Failure<'a>>
     ensures ok { IfOk result (λ status. Says (NoCertificate error) status (W.contents out.old) (W.contents out.new)) }
     ensures err { IfErr result OutputFails }
+    ensures begun { IfErr result (λ _. AppendsBeginning (W.contents out.old) (W.contents out.new) (text_of (NoCertificate error))) }
 {
     let line = error.line() as u64;
     refuse_at(alloc, out, "K", error.number(), " at line ", line)
 }
 
-/// Prints why a certificate doesn't certify a program.
+/// Prints why a certificate doesn't certify a program; where that fails, standard output has a beginning of the line.
 pub fn refuse_program<'a, W: Write>(
     alloc: Global,
     out: &mut W,
@@ -54,6 +59,7 @@ pub fn refuse_program<'a, W: Write>(
 ) -> Result<u8, Failure<'a>>
     ensures ok { IfOk result (λ status. Says (NotCertified refusal) status (W.contents out.old) (W.contents out.new)) }
     ensures err { IfErr result OutputFails }
+    ensures begun { IfErr result (λ _. AppendsBeginning (W.contents out.old) (W.contents out.new) (text_of (NotCertified refusal))) }
 {
     let slot = u64::from(refusal.slot());
     refuse_at(alloc, out, "C", refusal.number(), " at slot ", slot)

@@ -10,7 +10,7 @@ use crate::failure::{DONE, Failure};
 use arrayvec::ArrayVec;
 use bpf_insn::MAX_CONTEXT;
 use bpf_lines::{LineReader, Stop};
-use bpf_places::Places;
+use bpf_places::{PlaceError, Places};
 use std::alloc::Global;
 use std::io::{Read, Write};
 
@@ -127,8 +127,10 @@ pub fn answered<'a, P: Places, Q: Runner, W: Write>(
     ensures ok { IfOk result (AnswersAt (opening P.opens P.Reader.remaining) places.old name.entry.now places.new (Q.says runner.now) (W.contents out.old) (W.contents out.new)) }
     ensures err { IfErr result (FailsAt (opening P.opens P.Reader.remaining) places.old name.entry.now places.new (Q.says runner.now) (W.contents out.old) (W.contents out.new)) }
 {
-    let Ok(reader) = places.open(name) else {
-        return Err(Failure::CannotRead(name));
+    let reader = match places.open(name) {
+        Ok(reader) => reader,
+        Err(PlaceError::Refused) => return Err(Failure::CannotRead(name)),
+        Err(PlaceError::Memory) => return Err(Failure::NoMemory),
     };
     let mut lines = LineReader::new(reader);
     answer_lines(alloc, &mut lines, out, runner, name)

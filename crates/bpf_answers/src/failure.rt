@@ -113,10 +113,11 @@ impl<'a> From<AllocError> for Failure<'a> {
     }
 }
 
-/// Writes a line to standard output.
+/// Writes a line to standard output, which has a beginning of it where that fails.
 pub fn say<'a, W: Write>(out: &mut W, line: &str) -> Result<(), Failure<'a>>
     ensures ok { OnOk result (Appends (W.contents out.old) (W.contents out.new) line.now) }
     ensures err { IfErr result OutputFails }
+    ensures begun { IfErr result (λ _. AppendsBeginning (W.contents out.old) (W.contents out.new) line.now) }
 {
     match write_bytes(out, line.as_bytes()) {
         Ok(()) => Ok(()),

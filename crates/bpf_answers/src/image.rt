@@ -2,15 +2,16 @@
 
 ghost use Rattle.std.specs.Prelude.{◌≡◌, IfOk, IfErr, MatchResult};
 ghost use Rattle.bpf_places.specs.Opened.{opening, ReadsAt};
-ghost use Rattle.bpf_answers.specs.Loaded.{NoSpaceFor, ImageRefused, LoadsImage, ImageFails};
-ghost use Rattle.bpf_answers.specs.Answer.{Says};
+ghost use Rattle.bpf_answers.specs.Loaded.{NoSpaceFor, ImageRefused, LoadsImage, ImageFails, Tried};
+ghost use Rattle.bpf_insn.specs.Written.{AppendsBeginning};
+ghost use Rattle.bpf_answers.specs.Answer.{Says, text_of};
 ghost use Rattle.bpf_answers.specs.Answer.Answer.{NoImage};
 ghost use Rattle.bpf_answers.specs.Told.{OutputFails};
 
 use crate::failure::Failure;
 use crate::refusal::refuse_at;
 use bpf_insn::{DecodeError, Order, Program, decode, read_image};
-use bpf_places::Places;
+use bpf_places::{PlaceError, Places};
 use std::alloc::Global;
 use std::io::Write;
 
@@ -23,9 +24,12 @@ pub fn image_at<'a, P: Places>(
 ) -> Result<Result<Vec<u8>, DecodeError>, Failure<'a>>
     ensures ok { IfOk result (λ read. MatchResult read (λ v. ReadsAt (opening P.opens P.Reader.remaining) places.old name.entry.now v.items places.new) (NoSpaceFor (opening P.opens P.Reader.remaining) places.old name.entry.now places.new)) }
     ensures err { IfErr result (ImageFails (opening P.opens P.Reader.remaining) places.old name.entry.now places.new) }
+    ensures names { Tried (opening P.opens P.Reader.remaining) places.old name.entry.now places.new }
 {
-    let Ok(mut reader) = places.open(name) else {
-        return Err(Failure::CannotRead(name));
+    let mut reader = match places.open(name) {
+        Ok(reader) => reader,
+        Err(PlaceError::Refused) => return Err(Failure::CannotRead(name)),
+        Err(PlaceError::Memory) => return Err(Failure::NoMemory),
     };
     match read_image(alloc, &mut reader) {
         Ok(bytes) => Ok(Ok(bytes)),
@@ -43,6 +47,7 @@ pub fn program_at<'a, P: Places>(
 ) -> Result<Result<Program, DecodeError>, Failure<'a>>
     ensures ok { IfOk result (λ read. MatchResult read (LoadsImage (opening P.opens P.Reader.remaining) order places.old name.entry.now places.new) (ImageRefused (opening P.opens P.Reader.remaining) order places.old name.entry.now places.new)) }
     ensures err { IfErr result (ImageFails (opening P.opens P.Reader.remaining) places.old name.entry.now places.new) }
+    ensures names { Tried (opening P.opens P.Reader.remaining) places.old name.entry.now places.new }
 {
     match image_at(alloc, places, name)? {
         Ok(bytes) => Ok(decode(alloc, &bytes, order)),
@@ -50,7 +55,7 @@ pub fn program_at<'a, P: Places>(
     }
 }
 
-/// Prints why an image is refused.
+/// Prints why an image is refused; where that fails, standard output has a beginning of the line.
 pub fn refuse_image<'a, W: Write>(
     alloc: Global,
     out: &mut W,
@@ -58,6 +63,7 @@ pub fn refuse_image<'a, W: Write>(
 ) -> Result<u8, Failure<'a>>
     ensures ok { IfOk result (λ status. Says (NoImage error) status (W.contents out.old) (W.contents out.new)) }
     ensures err { IfErr result OutputFails }
+    ensures begun { IfErr result (λ _. AppendsBeginning (W.contents out.old) (W.contents out.new) (text_of (NoImage error))) }
 {
     let slot = u64::from(error.slot());
     refuse_at(alloc, out, "E", error.number(), " at slot ", slot)

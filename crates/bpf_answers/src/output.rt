@@ -1,16 +1,16 @@
 //! What is put at a name: the image of a program, the text of a certificate, other text.
 
-ghost use Rattle.std.specs.Prelude.{◌≡◌, ℕ, List, IfOk, IfErr, OnOk, OnErr, true, false};
+ghost use Rattle.std.specs.Prelude.{◌≡◌, ◌⊎◌, ℕ, List, IfOk, IfErr, OnOk, OnErr, true, false};
 ghost use Rattle.std.specs.Io.KnownBytes.{Appends};
 ghost use Rattle.bpf_insn.specs.Written.{AppendsBeginning};
 ghost use Rattle.bpf_places.specs.Made.{making};
-ghost use Rattle.bpf_answers.specs.declared.failure.Failure.TheVariants.{CannotWrite};
+ghost use Rattle.bpf_answers.specs.declared.failure.Failure.TheVariants.{CannotWrite, NoMemory};
 
 use crate::failure::{DONE, Failure};
 use bpf_cert::{Certificate, write};
 use bpf_insn::written::write_bytes;
 use bpf_insn::{Program, encode};
-use bpf_places::Places;
+use bpf_places::{PlaceError, Places};
 use std::io::{self, Write};
 
 /// What has bytes to be written.
@@ -54,17 +54,19 @@ impl Content for String {
     }
 }
 
-/// Puts content at a name, whole; where that fails, what stood there stays.
+/// Puts content at a name, whole; where that fails, what stood there stays. `NoMemory` where there is none to make it.
 pub fn put<'a, P: Places, C: Content>(
     places: &mut P,
     name: &'a str,
     content: &C,
 ) -> Result<u8, Failure<'a>>
     ensures ok { IfOk result (λ status. (status ≡ 0) × making P.creates P.ends P.Writer.contents places.old name.entry.now (C.bytes content.now) true places.new) }
-    ensures err { IfErr result (λ failure. (failure ≡ CannotWrite name.entry) × making P.creates P.ends P.Writer.contents places.old name.entry.now (C.bytes content.now) false places.new) }
+    ensures err { IfErr result (λ failure. ((failure ≡ CannotWrite name.entry) ⊎ (failure ≡ NoMemory)) × making P.creates P.ends P.Writer.contents places.old name.entry.now (C.bytes content.now) false places.new) }
 {
-    let Ok(mut writer) = places.create(name) else {
-        return Err(Failure::CannotWrite(name));
+    let mut writer = match places.create(name) {
+        Ok(writer) => writer,
+        Err(PlaceError::Refused) => return Err(Failure::CannotWrite(name)),
+        Err(PlaceError::Memory) => return Err(Failure::NoMemory),
     };
     if content.write_to(&mut writer).is_err() {
         places.discard(writer);

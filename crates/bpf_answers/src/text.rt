@@ -3,13 +3,14 @@
 ghost use Rattle.std.specs.Prelude.{◌≡◌, IfOk, IfErr};
 ghost use Rattle.std.specs.String.{string_bytes};
 ghost use Rattle.bpf_places.specs.Opened.{opening};
+ghost use Rattle.bpf_insn.specs.Written.{AppendsBeginning};
 ghost use Rattle.bpf_answers.specs.Answer.{Says, text_of};
 ghost use Rattle.bpf_answers.specs.Answer.Answer.{NoText};
-ghost use Rattle.bpf_answers.specs.Loaded.{ShortTextAt, TextFails};
+ghost use Rattle.bpf_answers.specs.Loaded.{ShortTextAt, TextFails, Tried};
 ghost use Rattle.bpf_answers.specs.Told.{OutputFails};
 
 use crate::failure::{Failure, REFUSED, say};
-use bpf_places::{Places, read_up_to};
+use bpf_places::{PlaceError, Places, read_up_to};
 use bpf_text::TextError;
 use std::alloc::{AllocError, Global};
 use std::io::Write;
@@ -25,9 +26,12 @@ pub fn text_at<'a, P: Places>(
 ) -> Result<String, Failure<'a>>
     ensures ok { IfOk result (λ text. ShortTextAt (opening P.opens P.Reader.remaining) places.old name.entry.now places.new (λ bytes. string_bytes text ≡ bytes)) }
     ensures err { IfErr result (TextFails (opening P.opens P.Reader.remaining) places.old name.entry.now places.new) }
+    ensures names { Tried (opening P.opens P.Reader.remaining) places.old name.entry.now places.new }
 {
-    let Ok(mut reader) = places.open(name) else {
-        return Err(Failure::CannotRead(name));
+    let mut reader = match places.open(name) {
+        Ok(reader) => reader,
+        Err(PlaceError::Refused) => return Err(Failure::CannotRead(name)),
+        Err(PlaceError::Memory) => return Err(Failure::NoMemory),
     };
     let Some(bytes) = read_up_to(alloc, &mut reader, MAX_TEXT)? else {
         return Err(Failure::CannotRead(name));
@@ -60,7 +64,7 @@ fn line_of(alloc: Global, error: TextError) -> Result<String, AllocError>
     }
 }
 
-/// Prints why a text is refused.
+/// Prints why a text is refused; where that fails, standard output has a beginning of the line.
 pub fn refuse_text<'a, W: Write>(
     alloc: Global,
     out: &mut W,
@@ -68,6 +72,7 @@ pub fn refuse_text<'a, W: Write>(
 ) -> Result<u8, Failure<'a>>
     ensures ok { IfOk result (λ status. Says (NoText error) status (W.contents out.old) (W.contents out.new)) }
     ensures err { IfErr result OutputFails }
+    ensures begun { IfErr result (λ _. AppendsBeginning (W.contents out.old) (W.contents out.new) (text_of (NoText error))) }
 {
     let line = line_of(alloc, error)?;
     say(out, line.as_str())?;

@@ -7,7 +7,7 @@ ghost use Rattle.bpf_answers.specs.Loaded.{ContextAt, ContextFails};
 use crate::context::ContextError;
 use crate::failure::Failure;
 use bpf_insn::MAX_CONTEXT;
-use bpf_places::{Places, read_up_to};
+use bpf_places::{PlaceError, Places, read_up_to};
 use std::alloc::Global;
 
 /// The context at a name.
@@ -19,8 +19,10 @@ pub fn context_at<'a, P: Places>(
     ensures ok { IfOk result (λ v. ContextAt (opening P.opens P.Reader.remaining) places.old name.entry.now places.new v.items) }
     ensures err { IfErr result (ContextFails (opening P.opens P.Reader.remaining) places.old name.entry.now places.new) }
 {
-    let Ok(mut reader) = places.open(name) else {
-        return Err(Failure::CannotRead(name));
+    let mut reader = match places.open(name) {
+        Ok(reader) => reader,
+        Err(PlaceError::Refused) => return Err(Failure::CannotRead(name)),
+        Err(PlaceError::Memory) => return Err(Failure::NoMemory),
     };
     let Some(bytes) = read_up_to(alloc, &mut reader, MAX_CONTEXT)? else {
         return Err(Failure::CannotRead(name));

@@ -10,10 +10,12 @@ use Rattle.bpf_check.specs.CheckedProgram.{CheckedProgram, IsCertifiedBy, checke
 use Rattle.bpf_check.specs.Verdicts.{Verified, program_in}
 use Rattle.bpf_check.proofs.CertificateFacts.{range_is_one, most_fits}
 use Rattle.bpf_places.specs.Opened.{Opening}
-use Rattle.bpf_answers.specs.Loaded.{LoadsImage}
+use Rattle.bpf_answers.specs.Loaded.{CertificateAt, LoadsImage}
 use Rattle.bpf_answers.specs.Answer.{Answer, Says}
 use Rattle.bpf_answers.specs.Answer.Answer.{Yes, NoImage, NoCertificate, NotCertified}
-use Rattle.bpf_command.specs.Printed.{JudgedSays, LoadedSays, YesSays, IsPromised}
+use Rattle.bpf_command.specs.declared.commands.judged.Wish.{Wish}
+use Rattle.bpf_command.specs.declared.commands.judged.Wish.TheVariants.{Promise, Run}
+use Rattle.bpf_command.specs.Printed.{JudgedSays, LoadedSays, WishSays, YesSays, IsPromised}
 
 -- ---- what a yes promises
 
@@ -52,5 +54,14 @@ loaded_says opening order old input certificate between new p image says none x 
 pub says_so : {E : Type 0} (result : Result ℕ E) (old new : Option (List ℕ)) (P Q : Answer → Type 0) → ((x : Answer) → P x → Q x) → IfOk result (λ status. (x : Answer) × Says x status old new × P x) → IfOk result (λ status. (x : Answer) × Says x status old new × Q x)
 says_so (Ok s) old new P Q f h = (h.0, h.1, f h.0 h.2)
 says_so (Err e) old new P Q f h = tt
+
+-- what is wanted of a checked program is said of the certificate
+pub granted : {S : Type 0} (opening : Opening S) (old : S) (certificate : List ℕ) (new : S) (p : Instructions) (c : CertificateView) (k : CheckedProgram)
+    → k ≡ checked p c → CertificateAt opening old certificate new c → IsCertifiedBy p c → (wish : Wish) (x : Answer) → WishSays wish k x → JudgedSays opening old certificate new p (WishSays wish) x
+granted opening old certificate new p c k same read by (Promise counted) (NoCertificate e) h = absurd h
+granted opening old certificate new p c k same read by (Run context) (NoCertificate e) h = absurd h
+granted opening old certificate new p c k same read by (Promise counted) (NotCertified r) h = absurd h
+granted opening old certificate new p c k same read by (Run context) (NotCertified r) h = absurd h
+granted opening old certificate new p c k same read by wish x h = (c, read, by, subst (λ q. WishSays wish q x) same h)
 
 -- ---- failures

@@ -1,18 +1,18 @@
 -- What is hardened, and what is put at the two names of the answer.
-use Rattle.std.specs.Prelude.{◌≡◌, ◌⊎◌, ◌<◌, ℕ, List, true, false, Option, Some, None, IsSomeAnd}
+use Rattle.std.specs.Prelude.{◌≡◌, ◌⊎◌, ◌<◌, ℕ, List, true, false, Option, Some, None, IsSomeAnd, ⊤}
 use Rattle.std.specs.Borrow.{Bor}
 use Rattle.bpf_insn.specs.Instruction.{Instructions, slots}
 use Rattle.bpf_insn.specs.Image.{IsProgram, image}
 use Rattle.bpf_harden_notes.specs.RefusalNumbers.{harden_slot}
 use Rattle.bpf_request.specs.declared.hardening.Hardening.{Hardening}
 use Rattle.bpf_places.specs.Opened.{Opening}
-use Rattle.bpf_answers.specs.Loaded.{ImageFails, ImageRefused, LoadsImage}
+use Rattle.bpf_answers.specs.Loaded.{ImageFails, ImageRefused, LoadsImage, Tried}
 use Rattle.bpf_places.specs.Made.{Making}
 use Rattle.bpf_answers.specs.Answer.{Answer}
 use Rattle.bpf_answers.specs.Answer.Answer.{NoImage, NotHardened, Written}
 use Rattle.bpf_answers.specs.Told.{OutputFails}
 use Rattle.bpf_answers.specs.declared.failure.Failure.{Failure}
-use Rattle.bpf_answers.specs.declared.failure.Failure.TheVariants.{CannotRead, CannotWrite}
+use Rattle.bpf_answers.specs.declared.failure.Failure.TheVariants.{CannotRead, CannotWrite, NoMemory}
 
 -- a name holds notes, if one is given
 abbrev pub NotesAt : {S : Type 0} → Making S → S → Option (Bor (List ℕ)) → S → Type 0
@@ -22,7 +22,12 @@ NotesAt making old (Some name) new = (text : List ℕ) × making old name.now te
 -- notes can't be put at their name
 abbrev pub NotesFail : {S : Type 0} → Making S → S → Option (Bor (List ℕ)) → S → Failure → Type 0
 NotesFail making old notes new (CannotWrite name) = IsSomeAnd notes (λ n. (name.now ≡ n.now) × ((text : List ℕ) × making old n.now text false new))
+NotesFail making old notes new NoMemory = ⊤
 NotesFail making old notes new failure = ⊥
+
+-- nothing came to stand at the notes' name
+abbrev pub NotesNotAt : {S : Type 0} → Making S → S → Option (Bor (List ℕ)) → S → Type 0
+NotesNotAt making old notes new = IsSomeAnd notes (λ n. (text : List ℕ) × making old n.now text false new)
 
 -- the image is a program's, and what was made of it is a program
 abbrev pub Hardens : {S : Type 0} → Opening S → S → Hardening → S → Instructions → Type 0
@@ -47,3 +52,12 @@ HardenFails {S} opening making old h new (CannotWrite name) =
     ⊎ ((between put : S) × (made : Instructions) × Hardens opening old h between made
     × making between h.output.now (image made.order made.list) true put × NotesFail making put h.notes new (CannotWrite name))
 HardenFails opening making old h new failure = OutputFails failure
+
+-- where that fails, the input was opened, or couldn't be, and nothing came to stand at OUT; or OUT stands, and nothing came to stand at
+-- the notes' name
+abbrev pub NotBothMade : {S : Type 0} → Opening S → Making S → S → Hardening → S → Type 0
+NotBothMade {S} opening making old h new =
+    Tried opening old h.input.now new
+    ⊎ ((between : S) × (made : Instructions) × Hardens opening old h between made × making between h.output.now (image made.order made.list) false new)
+    ⊎ ((between put : S) × (made : Instructions) × Hardens opening old h between made
+    × making between h.output.now (image made.order made.list) true put × NotesNotAt making put h.notes new)

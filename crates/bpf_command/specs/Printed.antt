@@ -23,7 +23,7 @@ use Rattle.bpf_answers.specs.Context.{context_in, max_context}
 use Rattle.bpf_answers.specs.declared.context.ContextError.{ContextError}
 use Rattle.bpf_answers.specs.declared.context.ContextError.TheVariants.{Memory as NoSpace}
 use Rattle.bpf_places.specs.Opened.{Opening}
-use Rattle.bpf_answers.specs.Loaded.{ImageRefused, LoadsImage, ImageFails, ShortTextAt, TextFails, CertificateAt, CertificateRefused, CertificateUnread, CertificateFails}
+use Rattle.bpf_answers.specs.Loaded.{ImageRefused, LoadsImage, ImageFails, ShortTextAt, TextFails, CertificateAt, CertificateRefused, CertificateUnread, CertificateFails, Tried}
 use Rattle.bpf_places.specs.Made.{Making}
 use Rattle.bpf_answers.specs.Answer.{Answer}
 use Rattle.bpf_answers.specs.Answer.Answer.{Yes, NoImage, NoText, NoCertificate, NotCertified, NotProposed, NoContext, Ends, Ran, Occur, Lists, Annotates, Written}
@@ -150,6 +150,11 @@ AsmFails {S} opening making order old input output new (CannotWrite name) =
     ⊎ ((name.now ≡ output) × ((between : S) × (p : Instructions) × LoadsText opening order old input between p × making between output (image p.order p.list) false new))
 AsmFails opening making order old input output new failure = OutputFails failure
 
+-- where that fails, the input was opened, or couldn't be, and nothing came to stand at OUT
+abbrev pub NotAssembled : {S : Type 0} → Opening S → Making S → Order → S → List ℕ → List ℕ → S → Type 0
+NotAssembled {S} opening making order old input output new =
+    Tried opening old input new ⊎ ((between : S) × (p : Instructions) × LoadsText opening order old input between p × making between output (image p.order p.list) false new)
+
 -- a certificate that the inferrer may propose for contexts of `least` to `most` bytes
 pub record IsProposal (least most : ℕ) (c : CertificateView) : Type 0 where
   pub version_is : c.version ≡ 2
@@ -172,6 +177,12 @@ InferFails {S} opening making order old input least most output new (CannotWrite
     × ((between : S) × (p : Instructions) × (c : CertificateView) × LoadsImage opening order old input between p × IsProposal least most c × making between output (certificate_text c) false new))
 InferFails opening making order old input least most output new failure = OutputFails failure
 
+-- where that fails, the input was opened, or couldn't be, and nothing came to stand at OUT
+abbrev pub NotInferred : {S : Type 0} → Opening S → Making S → Order → S → List ℕ → ℕ → ℕ → List ℕ → S → Type 0
+NotInferred {S} opening making order old input least most output new =
+    Tried opening old input new
+    ⊎ ((between : S) × (p : Instructions) × (c : CertificateView) × LoadsImage opening order old input between p × IsProposal least most c × making between output (certificate_text c) false new)
+
 -- the same certificate as version 2
 abbrev pub migrated : CertificateView → CertificateView
 migrated c = record c { version = 2 }
@@ -190,3 +201,9 @@ MigrateFails {S} opening making old certificate output new (CannotWrite name) =
     OutputFails (CannotWrite name)
     ⊎ ((name.now ≡ output) × ((between : S) × (c : CertificateView) × CertificateAt opening old certificate between c × making between output (certificate_text (migrated c)) false new))
 MigrateFails opening making old certificate output new failure = OutputFails failure
+
+-- where that fails, the certificate was opened, or couldn't be, and nothing came to stand at OUT
+abbrev pub NotMigrated : {S : Type 0} → Opening S → Making S → S → List ℕ → List ℕ → S → Type 0
+NotMigrated {S} opening making old certificate output new =
+    Tried opening old certificate new
+    ⊎ ((between : S) × (c : CertificateView) × CertificateAt opening old certificate between c × making between output (certificate_text (migrated c)) false new)

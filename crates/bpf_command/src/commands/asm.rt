@@ -3,8 +3,8 @@
 ghost use Rattle.std.specs.Prelude.{IfOk, IfErr};
 ghost use Rattle.bpf_places.specs.Made.{making};
 ghost use Rattle.bpf_places.specs.Opened.{opening};
-ghost use Rattle.bpf_answers.specs.Answer.{Answered};
-ghost use Rattle.bpf_command.specs.Printed.{AsmSays, AsmFails};
+ghost use Rattle.bpf_answers.specs.Answer.{Answered, Unfinished};
+ghost use Rattle.bpf_command.specs.Printed.{AsmSays, AsmFails, NotAssembled};
 
 use bpf_answers::{Failure, put, refuse_text, text_at};
 use bpf_insn::Order;
@@ -24,6 +24,8 @@ pub fn assembled<'a, P: Places, W: Write>(
 ) -> Result<u8, Failure<'a>>
     ensures ok { IfOk result (Answered (AsmSays (opening P.opens P.Reader.remaining) (making P.creates P.ends P.Writer.contents) order places.old input.entry.now output.entry.now places.new) (W.contents out.old) (W.contents out.new)) }
     ensures err { IfErr result (AsmFails (opening P.opens P.Reader.remaining) (making P.creates P.ends P.Writer.contents) order places.old input.entry.now output.entry.now places.new) }
+    ensures begun { IfErr result (λ _. Unfinished (AsmSays (opening P.opens P.Reader.remaining) (making P.creates P.ends P.Writer.contents) order places.old input.entry.now output.entry.now places.new) (W.contents out.old) (W.contents out.new)) }
+    ensures names { IfErr result (λ _. NotAssembled (opening P.opens P.Reader.remaining) (making P.creates P.ends P.Writer.contents) order places.old input.entry.now output.entry.now places.new) }
 {
     let text = text_at(alloc, places, input)?;
     match assemble(alloc, text.as_str(), order) {

@@ -2,7 +2,7 @@
 
 ghost use Rattle.std.specs.Prelude.{IfOk, IfErr};
 ghost use Rattle.bpf_places.specs.Opened.{opening};
-ghost use Rattle.bpf_answers.specs.Answer.{Answered};
+ghost use Rattle.bpf_answers.specs.Answer.{Answered, Unfinished};
 ghost use Rattle.bpf_command.specs.Printed.{CheckSays, LoadedFails};
 
 use crate::commands::judged::{Wish, judged};
@@ -26,6 +26,7 @@ pub fn checked<'a, P: Places, W: Write>(
 ) -> Result<u8, Failure<'a>>
     ensures ok { IfOk result (Answered (CheckSays (opening P.opens P.Reader.remaining) order places.old input.entry.now certificate.entry.now places.new counted) (W.contents out.old) (W.contents out.new)) }
     ensures err { IfErr result (LoadedFails (opening P.opens P.Reader.remaining) order places.old input.entry.now certificate.entry.now places.new) }
+    ensures begun { IfErr result (λ _. Unfinished (CheckSays (opening P.opens P.Reader.remaining) order places.old input.entry.now certificate.entry.now places.new counted) (W.contents out.old) (W.contents out.new)) }
 {
     image_is_injective();
     certified_is_safe();

@@ -1,8 +1,9 @@
 //! `bpf groups IN`.
 
+ghost use Rattle.bpf_insn.specs.Written.{AppendsBeginning};
 ghost use Rattle.std.specs.Prelude.{◌≡◌, IfOk, IfErr};
 ghost use Rattle.bpf_places.specs.Opened.{opening};
-ghost use Rattle.bpf_answers.specs.Answer.{Answered, Says, groups_line};
+ghost use Rattle.bpf_answers.specs.Answer.{Answered, Says, groups_line, Unfinished, text_of};
 ghost use Rattle.bpf_answers.specs.Answer.Answer.{Occur};
 ghost use Rattle.bpf_answers.specs.Loaded.{ImageFails};
 ghost use Rattle.bpf_command.specs.Printed.{GroupsSay, ImageSays};
@@ -34,6 +35,7 @@ fn line_of(groups: Groups) -> &'static str
 fn say_groups<'a, W: Write>(out: &mut W, groups: Groups) -> Result<u8, Failure<'a>>
     ensures ok { IfOk result (λ status. Says (Occur groups) status (W.contents out.old) (W.contents out.new)) }
     ensures err { IfErr result OutputFails }
+    ensures begun { IfErr result (λ _. AppendsBeginning (W.contents out.old) (W.contents out.new) (text_of (Occur groups))) }
 {
     say(out, line_of(groups))?;
     Ok(DONE)
@@ -49,6 +51,7 @@ pub fn grouped<'a, P: Places, W: Write>(
 ) -> Result<u8, Failure<'a>>
     ensures ok { IfOk result (Answered (ImageSays (opening P.opens P.Reader.remaining) order places.old input.entry.now places.new GroupsSay) (W.contents out.old) (W.contents out.new)) }
     ensures err { IfErr result (ImageFails (opening P.opens P.Reader.remaining) places.old input.entry.now places.new) }
+    ensures begun { IfErr result (λ _. Unfinished (ImageSays (opening P.opens P.Reader.remaining) order places.old input.entry.now places.new GroupsSay) (W.contents out.old) (W.contents out.new)) }
 {
     let bytes = match image_at(alloc, places, input)? {
         Ok(bytes) => bytes,

@@ -1,12 +1,13 @@
 //! `bpf harden IN LEN OUT`.
 
+ghost use Rattle.bpf_insn.specs.Written.{AppendsBeginning};
 ghost use Rattle.std.specs.Prelude.{◌≡◌, ◌<◌, IfOk, IfErr};
 ghost use Rattle.bpf_insn.specs.Instruction.{slots};
 ghost use Rattle.bpf_insn.specs.Image.{IsProgram};
 ghost use Rattle.bpf_harden_notes.specs.RefusalNumbers.{harden_slot};
-ghost use Rattle.bpf_answers.specs.Answer.{Answered, Says};
+ghost use Rattle.bpf_answers.specs.Answer.{Answered, Says, Unfinished, text_of as answer_text};
 ghost use Rattle.bpf_answers.specs.Answer.Answer.{NotHardened};
-ghost use Rattle.bpf_command.specs.Hardened.{HardenFails, HardenSays, NotesAt, NotesFail};
+ghost use Rattle.bpf_command.specs.Hardened.{HardenFails, HardenSays, NotesAt, NotesFail, NotBothMade, NotesNotAt};
 ghost use Rattle.bpf_places.specs.Made.{making};
 ghost use Rattle.bpf_places.specs.Opened.{opening};
 ghost use Rattle.bpf_answers.specs.Told.{OutputFails};
@@ -28,6 +29,7 @@ fn refuse_hardening<'a, W: Write>(
 ) -> Result<u8, Failure<'a>>
     ensures ok { IfOk result (λ status. Says (NotHardened error) status (W.contents out.old) (W.contents out.new)) }
     ensures err { IfErr result OutputFails }
+    ensures begun { IfErr result (λ _. AppendsBeginning (W.contents out.old) (W.contents out.new) (answer_text (NotHardened error))) }
 {
     let slot = u64::from(error.slot());
     refuse_at(alloc, out, "H", error.number(), " at slot ", slot)
@@ -71,6 +73,7 @@ fn put_notes<'a, P: Places>(
 ) -> Result<u8, Failure<'a>>
     ensures ok { IfOk result (λ status. (status ≡ 0) × NotesAt (making P.creates P.ends P.Writer.contents) places.old notes.entry places.new) }
     ensures err { IfErr result (NotesFail (making P.creates P.ends P.Writer.contents) places.old notes.entry places.new) }
+    ensures names { IfErr result (λ _. NotesNotAt (making P.creates P.ends P.Writer.contents) places.old notes.entry places.new) }
 {
     match notes {
         Some(name) => put(places, name, text),
@@ -87,6 +90,8 @@ pub fn hardened<'a, P: Places, W: Write>(
 ) -> Result<u8, Failure<'a>>
     ensures ok { IfOk result (Answered (HardenSays (opening P.opens P.Reader.remaining) (making P.creates P.ends P.Writer.contents) places.old asked.entry places.new) (W.contents out.old) (W.contents out.new)) }
     ensures err { IfErr result (HardenFails (opening P.opens P.Reader.remaining) (making P.creates P.ends P.Writer.contents) places.old asked.entry places.new) }
+    ensures begun { IfErr result (λ _. Unfinished (HardenSays (opening P.opens P.Reader.remaining) (making P.creates P.ends P.Writer.contents) places.old asked.entry places.new) (W.contents out.old) (W.contents out.new)) }
+    ensures names { IfErr result (λ _. NotBothMade (opening P.opens P.Reader.remaining) (making P.creates P.ends P.Writer.contents) places.old asked.entry places.new) }
 {
     let program = match program_at(alloc, places, asked.input, asked.order)? {
         Ok(program) => program,

@@ -1,15 +1,16 @@
 //! `bpf infer IN LEN OUT`, and the same with `--deep`.
 
+ghost use Rattle.bpf_insn.specs.Written.{AppendsBeginning};
 ghost use Rattle.std.specs.Prelude.{◌≡◌, ◌≤◌, ◌<◌, IfOk, IfErr};
 ghost use Rattle.std.specs.String.{string_bytes};
 ghost use Rattle.bpf_insn.specs.Instruction.{slots};
 ghost use Rattle.bpf_cert.specs.Limits.{IsCertificate};
 ghost use Rattle.bpf_infer_error.specs.RefusalNumbers.{infer_slot};
-ghost use Rattle.bpf_answers.specs.Answer.{Answered, Says, text_of};
+ghost use Rattle.bpf_answers.specs.Answer.{Answered, Says, text_of, Unfinished};
 ghost use Rattle.bpf_answers.specs.Answer.Answer.{NotProposed};
 ghost use Rattle.bpf_places.specs.Made.{making};
 ghost use Rattle.bpf_places.specs.Opened.{opening};
-ghost use Rattle.bpf_command.specs.Printed.{InferSays, InferFails};
+ghost use Rattle.bpf_command.specs.Printed.{InferSays, InferFails, NotInferred};
 ghost use Rattle.bpf_answers.specs.Told.{OutputFails};
 
 use crate::advice::{Sought, after_search};
@@ -46,6 +47,7 @@ fn refuse_inference<'a, W: Write>(
 ) -> Result<u8, Failure<'a>>
     ensures ok { IfOk result (λ status. Says (NotProposed error) status (W.contents out.old) (W.contents out.new)) }
     ensures err { IfErr result OutputFails }
+    ensures begun { IfErr result (λ _. AppendsBeginning (W.contents out.old) (W.contents out.new) (text_of (NotProposed error))) }
 {
     let line = line_of(alloc, error)?;
     say(out, line.as_str())?;
@@ -92,6 +94,8 @@ pub fn inferred<'a, P: Places, W: Write, H: Aside>(
 ) -> Result<u8, Failure<'a>>
     ensures ok { IfOk result (Answered (InferSays (opening P.opens P.Reader.remaining) (making P.creates P.ends P.Writer.contents) order places.old input.entry.now least most output.entry.now places.new) (W.contents out.old) (W.contents out.new)) }
     ensures err { IfErr result (InferFails (opening P.opens P.Reader.remaining) (making P.creates P.ends P.Writer.contents) order places.old input.entry.now least most output.entry.now places.new) }
+    ensures begun { IfErr result (λ _. Unfinished (InferSays (opening P.opens P.Reader.remaining) (making P.creates P.ends P.Writer.contents) order places.old input.entry.now least most output.entry.now places.new) (W.contents out.old) (W.contents out.new)) }
+    ensures names { IfErr result (λ _. NotInferred (opening P.opens P.Reader.remaining) (making P.creates P.ends P.Writer.contents) order places.old input.entry.now least most output.entry.now places.new) }
 {
     let program = match program_at(alloc, places, input, order)? {
         Ok(program) => program,

@@ -1,10 +1,11 @@
 //! A program and the certificate at a name: what `check` and `run-checked` have in common.
 
+ghost use Rattle.bpf_insn.specs.Written.{AppendsBeginning};
 ghost use Rattle.std.specs.Prelude.{◌≡◌, IfOk, IfErr, Some, None};
 ghost use Rattle.std.specs.String.{string_bytes};
 ghost use Rattle.bpf_check.specs.CheckedProgram.{work_of};
 ghost use Rattle.bpf_places.specs.Opened.{opening};
-ghost use Rattle.bpf_answers.specs.Answer.{Answered, Says, no_context_line, work_line, yes_line};
+ghost use Rattle.bpf_answers.specs.Answer.{Answered, Says, no_context_line, work_line, yes_line, Unfinished, text_of};
 ghost use Rattle.bpf_answers.specs.Answer.Answer.{Yes, NoContext, Ends};
 ghost use Rattle.bpf_answers.specs.Loaded.{CertificateFails};
 ghost use Rattle.bpf_command.specs.Printed.{JudgedSays, ResultSays, WishSays};
@@ -61,6 +62,7 @@ fn say_yes<'a, C: Code, W: Write>(
 ) -> Result<u8, Failure<'a>>
     ensures ok { IfOk result (λ status. Says (Yes checked.now.certificate.least checked.now.certificate.most checked.now.certificate.steps None) status (W.contents out.old) (W.contents out.new)) }
     ensures err { IfErr result OutputFails }
+    ensures begun { IfErr result (λ _. AppendsBeginning (W.contents out.old) (W.contents out.new) (text_of (Yes checked.now.certificate.least checked.now.certificate.most checked.now.certificate.steps None))) }
 {
     let line = line_of(alloc, checked.least(), checked.most(), checked.bound())?;
     say(out, line.as_str())?;
@@ -75,6 +77,7 @@ fn say_counted<'a, C: Code, W: Write>(
 ) -> Result<u8, Failure<'a>>
     ensures ok { IfOk result (λ status. Says (Yes checked.now.certificate.least checked.now.certificate.most checked.now.certificate.steps (Some (work_of checked.now.program checked.now.certificate))) status (W.contents out.old) (W.contents out.new)) }
     ensures err { IfErr result OutputFails }
+    ensures begun { IfErr result (λ _. AppendsBeginning (W.contents out.old) (W.contents out.new) (text_of (Yes checked.now.certificate.least checked.now.certificate.most checked.now.certificate.steps (Some (work_of checked.now.program checked.now.certificate))))) }
 {
     let mut text = line_of(alloc, checked.least(), checked.most(), checked.bound())?;
     let work = line_of_work(alloc, checked.work())?;
@@ -104,6 +107,7 @@ fn refuse_context<'a, W: Write>(
 ) -> Result<u8, Failure<'a>>
     ensures ok { IfOk result (λ status. Says (NoContext count least most) status (W.contents out.old) (W.contents out.new)) }
     ensures err { IfErr result OutputFails }
+    ensures begun { IfErr result (λ _. AppendsBeginning (W.contents out.old) (W.contents out.new) (text_of (NoContext count least most))) }
 {
     let line = line_of_context(alloc, count, least, most)?;
     say(out, line.as_str())?;
@@ -114,6 +118,7 @@ fn refuse_context<'a, W: Write>(
 fn say_result<'a, W: Write>(out: &mut W, value: u64) -> Result<u8, Failure<'a>>
     ensures ok { IfOk result (λ status. Says (Ends value) status (W.contents out.old) (W.contents out.new)) }
     ensures err { IfErr result OutputFails }
+    ensures begun { IfErr result (λ _. AppendsBeginning (W.contents out.old) (W.contents out.new) (text_of (Ends value))) }
 {
     let mut digits = Buffer::new();
     let mut line: ArrayString<32> = ArrayString::new();
@@ -133,6 +138,7 @@ fn run_on<'a, C: Code, W: Write>(
 ) -> Result<u8, Failure<'a>>
     ensures ok { IfOk result (Answered (ResultSays context.now checked.now) (W.contents out.old) (W.contents out.new)) }
     ensures err { IfErr result OutputFails }
+    ensures begun { IfErr result (λ _. Unfinished (ResultSays context.now checked.now) (W.contents out.old) (W.contents out.new)) }
 {
     let least = checked.least();
     let most = checked.most();
@@ -152,6 +158,7 @@ fn grant<'a, C: Code, W: Write>(
 ) -> Result<u8, Failure<'a>>
     ensures ok { IfOk result (Answered (WishSays wish.entry checked.now) (W.contents out.old) (W.contents out.new)) }
     ensures err { IfErr result OutputFails }
+    ensures begun { IfErr result (λ _. Unfinished (WishSays wish.entry checked.now) (W.contents out.old) (W.contents out.new)) }
 {
     match wish {
         Wish::Promise { counted: false } => say_yes(alloc, out, checked),
@@ -218,6 +225,7 @@ pub fn judged<'a, P: Places, C: Code, W: Write>(
 ) -> Result<u8, Failure<'a>>
     ensures ok { IfOk result (Answered (JudgedSays (opening P.opens P.Reader.remaining) places.old certificate.entry.now places.new (C.program program.now) (WishSays wish.entry)) (W.contents out.old) (W.contents out.new)) }
     ensures err { IfErr result (CertificateFails (opening P.opens P.Reader.remaining) places.old certificate.entry.now places.new) }
+    ensures begun { IfErr result (λ _. Unfinished (JudgedSays (opening P.opens P.Reader.remaining) places.old certificate.entry.now places.new (C.program program.now) (WishSays wish.entry)) (W.contents out.old) (W.contents out.new)) }
 {
     let certificate = match certificate_at(alloc, places, certificate)? {
         Ok(certificate) => certificate,

@@ -1,11 +1,12 @@
 //! `bpf run IN HEX --steps N`, and the same with `--context FILE` or `--contexts FILE` in place of HEX.
 
+ghost use Rattle.bpf_insn.specs.Written.{AppendsBeginning};
 ghost use Rattle.std.specs.Prelude.{◌≡◌, ◌≤◌, ℕ, List, Ok, IfOk, IfErr, length};
 ghost use Rattle.std.specs.String.{string_bytes};
 ghost use Rattle.bpf_answers.specs.Context.{context_in};
 ghost use Rattle.bpf_machine.specs.Answers.{IsRun};
 ghost use Rattle.bpf_places.specs.Opened.{opening};
-ghost use Rattle.bpf_answers.specs.Answer.{Answer, Answered, Says, status_of, text_of};
+ghost use Rattle.bpf_answers.specs.Answer.{Answer, Answered, Says, status_of, text_of, Unfinished};
 ghost use Rattle.bpf_answers.specs.Answer.Answer.{Ran};
 ghost use Rattle.bpf_answers.specs.Loaded.{ImageFails};
 ghost use Rattle.bpf_command.specs.Printed.{FailsWith, ImageSays, OutcomeSays};
@@ -55,6 +56,7 @@ fn say_outcome<'a, W: Write>(
 ) -> Result<u8, Failure<'a>>
     ensures ok { IfOk result (λ status. Says (Ran outcome) status (W.contents out.old) (W.contents out.new)) }
     ensures err { IfErr result OutputFails }
+    ensures begun { IfErr result (λ _. AppendsBeginning (W.contents out.old) (W.contents out.new) (text_of (Ran outcome))) }
 {
     let (line, status) = line_of(alloc, outcome)?;
     say(out, line.as_str())?;
@@ -91,6 +93,7 @@ fn run_image<'a, P: Places, W: Write, H: Aside>(
     requires { length context.now ≤ 4096 }
     ensures ok { IfOk result (Answered (ImageSays (opening P.opens P.Reader.remaining) order places.old input.entry.now places.new (OutcomeSays context.now steps)) (W.contents out.old) (W.contents out.new)) }
     ensures err { IfErr result (ImageFails (opening P.opens P.Reader.remaining) places.old input.entry.now places.new) }
+    ensures begun { IfErr result (λ _. Unfinished (ImageSays (opening P.opens P.Reader.remaining) order places.old input.entry.now places.new (OutcomeSays context.now steps)) (W.contents out.old) (W.contents out.new)) }
 {
     match program_at(alloc, places, input, order)? {
         Ok(program) => {

@@ -3,7 +3,7 @@
 ghost use Rattle.std.specs.Prelude.{◌≡◌, ℕ, List, Ok, IfOk, IfErr};
 ghost use Rattle.bpf_answers.specs.Context.{context_in};
 ghost use Rattle.bpf_places.specs.Opened.{opening};
-ghost use Rattle.bpf_answers.specs.Answer.{Answer, Answered, Says};
+ghost use Rattle.bpf_answers.specs.Answer.{Answer, Answered, Says, Unfinished};
 ghost use Rattle.bpf_command.specs.Given.{CheckedAtSays, CheckedEachFails, CheckedEachSays, CheckedFails, CheckedSays, FailsBehind};
 ghost use Rattle.bpf_command.specs.Printed.{RunCheckedSays, LoadedFails, FailsWith};
 
@@ -27,6 +27,7 @@ fn run_certified<'a, P: Places, W: Write>(
 ) -> Result<u8, Failure<'a>>
     ensures ok { IfOk result (Answered (RunCheckedSays (opening P.opens P.Reader.remaining) order places.old input.entry.now certificate.entry.now places.new context.now) (W.contents out.old) (W.contents out.new)) }
     ensures err { IfErr result (LoadedFails (opening P.opens P.Reader.remaining) order places.old input.entry.now certificate.entry.now places.new) }
+    ensures begun { IfErr result (λ _. Unfinished (RunCheckedSays (opening P.opens P.Reader.remaining) order places.old input.entry.now certificate.entry.now places.new context.now) (W.contents out.old) (W.contents out.new)) }
 {
     match program_at(alloc, places, input, order)? {
         Ok(program) => {

@@ -1,4 +1,4 @@
-use Rattle.std.proofs.Common.{rules, arith, ◌≡◌, ◌<◌, ◌≤◌, length, refl, inl, inr}
+use Rattle.std.proofs.Common.{rules, arith, ◌≡◌, ◌<◌, ◌≤◌, length, refl, inl, inr, Some}
 use Rattle.std.proofs.lemmas.Bool.{false≢true}
 use Rattle.std.specs.Io.KnownBytes.{Consumes, IsAtEnd}
 use Rattle.std.specs.Str.{IsUtf8}
@@ -7,8 +7,8 @@ use Rattle.bpf_places.proofs.ReadingLemmas.{at_end, some_is, too_many}
 use Rattle.bpf_answers.proofs.TextLemmas.{may_fail, short_text, no_text, long_text}
 use Rattle.bpf_answers.proofs.text.text_at.Goals as goal
 
-pub returns-in_default-2-clause-err : goal.returns-in_default-2-clause-err
-returns-in_default-2-clause-err g c =
+pub returns-in_default-clause-err : goal.returns-in_default-clause-err
+returns-in_default-clause-err g c =
     let known = g.P.Reader.Read.remaining c.in-Ok.reader in
     (refl, inl (inr (known, (c.in-Ok.reader, c.in-Ok.ensures, refl), may_fail known)))
 
@@ -38,3 +38,18 @@ returns-clause-ok g c =
     let short : length c.in-Some.bytes.items ≤ 16777216 = omega arith in
     let same : string_bytes c.in-Ok-from_utf8.text ≡ c.in-Some.bytes.items = search rules in
     (known, (c.in-Ok.reader, c.in-Ok.ensures, refl), short_text known c.in-Some.bytes.items (string_bytes c.in-Ok-from_utf8.text) short same (at_end known rest c.in-Some.bytes.items took (all short)))
+
+pub returns-in_err-bytes-clause-names : goal.returns-in_err-bytes-clause-names
+returns-in_err-bytes-clause-names g c = (Some (g.P.Reader.Read.remaining c.in-Ok.reader), (c.in-Ok.reader, c.in-Ok.ensures, refl))
+
+pub returns-in_default-clause-names : goal.returns-in_default-clause-names
+returns-in_default-clause-names g c = (Some (g.P.Reader.Read.remaining c.in-Ok.reader), (c.in-Ok.reader, c.in-Ok.ensures, refl))
+
+pub returns-then-len-gt-MAX_TEXT-clause-names : goal.returns-then-len-gt-MAX_TEXT-clause-names
+returns-then-len-gt-MAX_TEXT-clause-names g c = (Some (g.P.Reader.Read.remaining c.in-Ok.reader), (c.in-Ok.reader, c.in-Ok.ensures, refl))
+
+pub returns-in_default-from_utf8-clause-names : goal.returns-in_default-from_utf8-clause-names
+returns-in_default-from_utf8-clause-names g c = (Some (g.P.Reader.Read.remaining c.in-Ok.reader), (c.in-Ok.reader, c.in-Ok.ensures, refl))
+
+pub returns-clause-names : goal.returns-clause-names
+returns-clause-names g c = (Some (g.P.Reader.Read.remaining c.in-Ok.reader), (c.in-Ok.reader, c.in-Ok.ensures, refl))

@@ -4,8 +4,8 @@ use Rattle.bpf_answers.proofs.TextLemmas.{may_fail}
 use Rattle.bpf_places.proofs.ReadingLemmas.{at_end, some_is, too_many}
 use Rattle.bpf_answers.proofs.whole.context_at.Goals as goal
 
-pub returns-in_default-2-clause-err : goal.returns-in_default-2-clause-err
-returns-in_default-2-clause-err g c =
+pub returns-in_default-clause-err : goal.returns-in_default-clause-err
+returns-in_default-clause-err g c =
     let known = g.P.Reader.Read.remaining c.in-Ok.reader in
     (refl, inr (known, (c.in-Ok.reader, c.in-Ok.ensures, refl), may_fail known))
 

@@ -3,7 +3,8 @@ use Rattle.bpf_places.specs.Opened.{opening}
 use Rattle.bpf_answers.specs.Loaded.{LoadsImage}
 use Rattle.bpf_places.specs.Made.{making}
 use Rattle.bpf_command.specs.Printed.{InferSays, IsProposal}
-use Rattle.bpf_answers.proofs.MadeLemmas.{put_says}
+use Rattle.bpf_answers.proofs.MadeLemmas.{put_says, not_all_printed}
+use Rattle.bpf_answers.specs.Answer.Answer.{NoImage, NotProposed}
 use Rattle.bpf_command.proofs.commands.infer.inferred.Goals as goal
 
 pub returns-in-Ok-proposed-clause-ok : goal.returns-in-Ok-proposed-clause-ok
@@ -14,3 +15,9 @@ returns-in-Ok-proposed-clause-ok g c =
     let proposal : IsProposal c.args.least c.args.most c.in-Ok-proposed.certificate = search rules in
     put_says c.put.result _ _ (InferSays at puts c.args.order c.args.places.now c.args.input.now c.args.least c.args.most c.args.output.now c.put.new.places) c.put.ensures.ok
     (λ made. (c.program_at.new.places, c.in-Ok.program, c.in-Ok-proposed.certificate, image, proposal, made))
+
+pub returns-in-Err-clause-begun : goal.returns-in-Err-clause-begun
+returns-in-Err-clause-begun g c = not_all_printed c.refuse_image.result _ _ (NoImage c.in-Err.error) _ c.refuse_image.ensures.begun (search rules)
+
+pub returns-clause-begun : goal.returns-clause-begun
+returns-clause-begun g c = not_all_printed c.refuse_inference.result _ _ (NotProposed c.in-Err-proposed.error) _ c.refuse_inference.ensures.begun (search rules)

@@ -4,7 +4,8 @@ use Rattle.bpf_places.specs.Opened.{opening}
 use Rattle.bpf_answers.specs.Loaded.{CertificateAt}
 use Rattle.bpf_places.specs.Made.{making}
 use Rattle.bpf_command.specs.Printed.{MigrateSays, migrated}
-use Rattle.bpf_answers.proofs.MadeLemmas.{put_says}
+use Rattle.bpf_answers.proofs.MadeLemmas.{put_says, not_all_printed}
+use Rattle.bpf_answers.specs.Answer.Answer.{NoCertificate}
 use Rattle.bpf_command.proofs.commands.migrate.migrated.Goals as goal
 
 pub returns-in-Ok-migrate-clause-ok : goal.returns-in-Ok-migrate-clause-ok
@@ -15,3 +16,9 @@ returns-in-Ok-migrate-clause-ok g c =
     let same : c.in-Ok-migrate.migrated ≡ migrated c.in-Ok.certificate = c.in-Ok-migrate.ensures.ok in
     put_says c.put.result _ _ (MigrateSays at puts c.args.places.now c.args.certificate.now c.args.output.now c.put.new.places) c.put.ensures.ok
     (λ made. (c.certificate_at.new.places, c.in-Ok.certificate, read, subst (λ m. puts c.certificate_at.new.places c.args.output.now (certificate_text m) true c.put.new.places) same made))
+
+pub returns-in-Err-clause-begun : goal.returns-in-Err-clause-begun
+returns-in-Err-clause-begun g c = not_all_printed c.refuse_certificate.result _ _ (NoCertificate c.in-Err.error) _ c.refuse_certificate.ensures.begun (search rules)
+
+pub returns-clause-begun : goal.returns-clause-begun
+returns-clause-begun g c = not_all_printed c.refuse_certificate-in-Err-migrate.result _ _ (NoCertificate c.in-Err-migrate.error) _ c.refuse_certificate-in-Err-migrate.ensures.begun (search rules)
