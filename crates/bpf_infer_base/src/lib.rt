@@ -4,6 +4,7 @@
 #![tactic(auto)]
 
 mod counter;
+mod edges;
 mod flow;
 mod functions;
 mod graph;
@@ -21,7 +22,8 @@ mod watch;
 mod widen;
 
 pub use counter::Counter;
-pub use flow::{Flow, compared};
+pub use edges::{Edges, Stretch, Target, transfer_or_refuse};
+pub use flow::Flow;
 pub use functions::{Depths, depths_of};
 pub use graph::{Arc, Components, Graph, longest_ways, nodes_on_cycles, number_in};
 pub use joins::{join, join_register, join_slots};
