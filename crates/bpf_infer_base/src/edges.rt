@@ -63,6 +63,7 @@ impl<'a> Stretch<'a> {
 }
 
 /// Does the instruction at a slot, and follows its edges. Whether the next one is reached.
+#[inline]
 fn step<E: Edges>(
     slot: u32,
     insn: &Insn,
@@ -98,6 +99,7 @@ fn step<E: Edges>(
 
 /// The registers that a conditional jump compares; where there is but one, that one twice. On its edges nothing else of a
 /// state differs.
+#[inline]
 fn compared(insn: &Insn) -> (Reg, Reg) {
     let Insn::JumpIf {
         dst,
@@ -116,6 +118,7 @@ fn compared(insn: &Insn) -> (Reg, Reg) {
 
 /// Makes the state in front of the instruction at a slot the one behind it, as the checker does on contexts of at least so many
 /// bytes. Whether the next one may be reached. I4 where it is refused.
+#[inline]
 pub fn transfer_or_refuse(
     program: &Program,
     least: u32,

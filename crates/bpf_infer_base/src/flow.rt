@@ -24,6 +24,7 @@ fn target(slot: u32, distance: i32) -> u32 {
 
 impl Flow {
     /// Where the instruction at a slot leads.
+    #[inline]
     pub fn of(slot: u32, insn: &Insn) -> Flow {
         match *insn {
             Insn::Ja { off } => Flow::Jump(target(slot, off as i32)),

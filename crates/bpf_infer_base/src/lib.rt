@@ -3,6 +3,7 @@
 //! safe and to end.
 #![tactic(auto)]
 
+mod component_search;
 mod counter;
 mod edges;
 mod flow;
@@ -21,6 +22,7 @@ mod sketch;
 mod watch;
 mod widen;
 
+pub use component_search::ComponentSearch;
 pub use counter::Counter;
 pub use edges::{Edges, Stretch, Target, transfer_or_refuse};
 pub use flow::Flow;
