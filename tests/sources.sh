@@ -117,7 +117,7 @@ default_arms() {
 }
 
 # A match on instructions names each of them, so that a new one is thought of in every place; but for crates where some don't yet.
-unnamed='bpf_check bpf_explain_program bpf_explain_search bpf_harden_text bpf_infer_base bpf_infer_plain bpf_infer_states bpf_insn'
+unnamed='bpf_check bpf_explain_program bpf_explain_search bpf_harden_text bpf_insn'
 for crate in "$crates"/*/; do
     name=$(basename "$crate")
     case " $unnamed " in *" $name "*) continue ;; esac

@@ -1,6 +1,6 @@
 //! Where instructions lead.
 
-use bpf_insn::{Insn, MAX_SLOTS, Operand, Reg};
+use bpf_insn::{Insn, MAX_SLOTS};
 
 /// Where an instruction leads. Targets are slots.
 #[derive(Clone, Copy)]
@@ -24,6 +24,7 @@ fn target(slot: u32, distance: i32) -> u32 {
 
 impl Flow {
     /// Where the instruction at a slot leads.
+    #[inline]
     pub fn of(slot: u32, insn: &Insn) -> Flow {
         match *insn {
             Insn::Ja { off } => Flow::Jump(target(slot, off as i32)),
@@ -31,7 +32,16 @@ impl Flow {
             Insn::JumpIf { off, .. } => Flow::Branch(target(slot, off as i32)),
             Insn::CallLocal { off } => Flow::Call(target(slot, off)),
             Insn::Exit => Flow::Exit,
-            _ => Flow::Next,
+            Insn::Alu { .. }
+            | Insn::Neg { .. }
+            | Insn::MovSx { .. }
+            | Insn::End { .. }
+            | Insn::LoadImm64 { .. } => Flow::Next,
+            Insn::Load { .. }
+            | Insn::LoadSx { .. }
+            | Insn::Store { .. }
+            | Insn::StoreImm { .. }
+            | Insn::Atomic { .. } => Flow::Next,
         }
     }
 
@@ -41,20 +51,5 @@ impl Flow {
             Flow::Jump(target) | Flow::Branch(target) => Some(target),
             Flow::Next | Flow::Call(_) | Flow::Exit => None,
         }
-    }
-}
-
-/// The registers that a conditional jump compares; where there is but one, that one twice. On its edges nothing else of a
-/// state differs.
-pub fn compared(insn: &Insn) -> (Reg, Reg) {
-    match *insn {
-        Insn::JumpIf {
-            dst,
-            src: Operand::Reg(src),
-            off: _off,
-            ..
-        } => (dst, src),
-        Insn::JumpIf { dst, off: _off, .. } => (dst, dst),
-        _ => (Reg::R0, Reg::R0),
     }
 }

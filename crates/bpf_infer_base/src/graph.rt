@@ -1,6 +1,6 @@
-//! Graphs of labels; their strongly connected components, by Tarjan's algorithm (SIAM J. Comput. 1, 1972) with a path of its
-//! own in place of calls; and longest paths, by Bellman and Ford.
+//! Graphs of labels, their strongly connected components, and longest paths, by Bellman and Ford.
 
+use crate::component_search::ComponentSearch;
 use crate::lists::{get_or, put};
 use std::alloc::{AllocError, Global};
 
@@ -212,147 +212,33 @@ pub struct Components {
     count: usize,
 }
 
-/// A search by depth for components, with a path of its own.
-#[derive(Drop)]
-struct Finder<'a> {
-    graph: &'a Graph,
-    /// When each node was met, from 1 on; 0 if it wasn't.
-    order: Vec<usize>,
-    /// The lowest order of a node in the same component that is known to be reached from each.
-    low: Vec<usize>,
-    /// The number of the next arc of each.
-    cursors: Vec<usize>,
-    /// Those whose component isn't known yet.
-    open: Vec<usize>,
-    path: Vec<usize>,
-    is_closed: Vec<bool>,
-    numbers: Vec<usize>,
-    met: usize,
-    count: usize,
-}
-
-impl<'a> Finder<'a> {
-    /// No node is met yet.
-    fn new(alloc: Global, graph: &'a Graph) -> Result<Finder<'a>, AllocError> {
-        Ok(Finder {
-            graph,
-            order: vec![in alloc; 0; graph.count]?,
-            low: vec![in alloc; 0; graph.count]?,
-            cursors: vec![in alloc; 0; graph.count]?,
-            open: Vec::new(alloc),
-            path: Vec::new(alloc),
-            is_closed: vec![in alloc; false; graph.count]?,
-            numbers: vec![in alloc; 0; graph.count]?,
-            met: 0,
-            count: 0,
-        })
-    }
-
-    /// Takes note of a node that is met for the first time, and goes on from it.
-    fn meet(&mut self, node: usize) -> Result<(), AllocError> {
-        self.met = self.met.saturating_add(1);
-        put(&mut self.order, node, self.met);
-        put(&mut self.low, node, self.met);
-        put(&mut self.cursors, node, self.graph.start(node));
-        self.open.push(node)?;
-        self.path.push(node)?;
-        Ok(())
-    }
-
-    /// A node that was met at a time is reached from a node.
-    fn lower(&mut self, node: usize, order: usize) {
-        let low = number_in(&self.low, node).min(order);
-        put(&mut self.low, node, low);
-    }
-
-    /// Looks along an arc.
-    fn look(&mut self, node: usize, target: usize) -> Result<(), AllocError> {
-        let order = number_in(&self.order, target);
-        if order == 0 {
-            return self.meet(target);
-        }
-        if !get_or(&self.is_closed, target, true) {
-            self.lower(node, order);
-        }
-        Ok(())
-    }
-
-    /// Leaves a node: if nothing before it is reached from it, it ends a component.
-    fn leave(&mut self, node: usize) {
-        let low = number_in(&self.low, node);
-        if low == number_in(&self.order, node) {
-            self.close(node);
-        }
-        if let Some(before) = self.path.last() {
-            let before = *before;
-            self.lower(before, low);
-        }
-    }
-
-    /// Closes the component of the nodes that were met from a node on.
-    fn close(&mut self, node: usize) {
-        for _ in 0..self.open.len() {
-            let Some(other) = self.open.pop() else {
-                break;
-            };
-            put(&mut self.is_closed, other, true);
-            put(&mut self.numbers, other, self.count);
-            if other == node {
-                break;
-            }
-        }
-        self.count = self.count.saturating_add(1);
-    }
-
-    /// Goes on from the end of the path. False if there is none.
-    fn step(&mut self) -> Result<bool, AllocError> {
-        let Some(node) = self.path.last() else {
-            return Ok(false);
-        };
-        let node = *node;
-        let cursor = number_in(&self.cursors, node);
-        if cursor < self.graph.end(node) {
-            put(&mut self.cursors, node, cursor.saturating_add(1));
-            if let Some(arc) = self.graph.arcs.get(cursor) {
-                self.look(node, arc.to)?;
-            }
-        } else {
-            let _ = self.path.pop();
-            self.leave(node);
-        }
-        Ok(true)
-    }
-
-    /// Goes wherever a node leads. Each step takes an arc or leaves a node.
-    fn run(&mut self, node: usize) -> Result<(), AllocError> {
-        self.meet(node)?;
-        let steps = self.graph.count.saturating_add(self.graph.arcs.len());
-        for _ in 0..steps {
-            if !self.step()? {
-                break;
-            }
-        }
-        Ok(())
-    }
-
-    /// Goes over the whole graph.
-    fn run_all(&mut self) -> Result<(), AllocError> {
-        for node in 0..self.graph.count {
-            if number_in(&self.order, node) == 0 {
-                self.run(node)?;
-            }
-        }
-        Ok(())
-    }
-}
-
 impl Components {
     /// The components of a graph.
     pub fn of(alloc: Global, graph: &Graph) -> Result<Components, AllocError> {
-        let mut finder = Finder::new(alloc, graph)?;
-        finder.run_all()?;
-        let Finder { numbers, count, .. } = finder;
-        Ok(Components { numbers, count })
+        let mut components = Components {
+            numbers: vec![in alloc; 0; graph.count]?,
+            count: 0,
+        };
+        let mut search = ComponentSearch::new(alloc, graph)?;
+        for node in 0..graph.count {
+            search.begin(node)?;
+            components.add_from(&mut search)?;
+        }
+        Ok(components)
+    }
+
+    /// Adds the components that a search comes to.
+    fn add_from(&mut self, search: &mut ComponentSearch) -> Result<(), AllocError> {
+        for _ in 0..self.numbers.len() {
+            if !search.find()? {
+                break;
+            }
+            for node in search.found() {
+                put(&mut self.numbers, *node, self.count);
+            }
+            self.count = self.count.saturating_add(1);
+        }
+        Ok(())
     }
 
     /// How many there are.

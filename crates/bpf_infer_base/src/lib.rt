@@ -3,7 +3,9 @@
 //! safe and to end.
 #![tactic(auto)]
 
+mod component_search;
 mod counter;
+mod edges;
 mod flow;
 mod functions;
 mod graph;
@@ -20,8 +22,10 @@ mod sketch;
 mod watch;
 mod widen;
 
+pub use component_search::ComponentSearch;
 pub use counter::Counter;
-pub use flow::{Flow, compared};
+pub use edges::{Edges, Stretch, Target, transfer_or_refuse};
+pub use flow::Flow;
 pub use functions::{Depths, depths_of};
 pub use graph::{Arc, Components, Graph, longest_ways, nodes_on_cycles, number_in};
 pub use joins::{join, join_register, join_slots};

@@ -1,12 +1,13 @@
 //! Where a loop loses track of what its places held.
 
-use crate::flow::Flow;
+use crate::edges::{Edges, Stretch, Target};
 use crate::lists::get_or;
 use crate::places::{PLACES, place, tag_own};
 use crate::sketch::Loss;
 use bpf_insn::{AluOp, Insn, Operand, Program, Reg, Width};
 use bpf_num::Num;
-use bpf_state::{Place, RegState, SlotState, State, Tag, branch, leave, transfer};
+use bpf_state::{Place, RegState, SlotState, State, Tag, leave, transfer};
+use std::alloc::AllocError;
 
 /// By places, why each isn't followed; None of one that is.
 pub type Losses = [Option<Loss>; PLACES];
@@ -177,49 +178,41 @@ impl<'a> Tracker<'a> {
         }
     }
 
-    /// Follows the edges of an instruction. Whether the next one is reached.
-    fn follow(&mut self, slot: u32, insn: &Insn, state: &mut State) -> bool {
-        match Flow::of(slot, insn) {
-            Flow::Next => true,
-            Flow::Jump(target) => {
-                self.arrive(target, state);
-                false
-            }
-            Flow::Branch(target) => {
-                let mut taken = state.copy();
-                if branch(insn, true, &mut taken) {
-                    self.arrive(target, &taken);
-                }
-                branch(insn, false, state)
-            }
-            Flow::Call(_) => leave(state, Num::top()),
-            Flow::Exit => false,
-        }
+    /// Goes from a label to the slot where the next one stands, in the state at the label.
+    pub fn over(&mut self, label: u32, end: u32, state: &mut State) -> Result<(), AllocError> {
+        self.begin(state);
+        let stretch = Stretch {
+            program: self.program,
+            first: label,
+            end,
+            limit: self.program.slots(),
+        };
+        stretch.walk(state, self)?;
+        Ok(())
     }
+}
 
-    /// Does an instruction. Whether the next one is reached.
-    fn step(&mut self, slot: u32, insn: &Insn, state: &mut State) -> bool {
+impl<'a> Edges for Tracker<'a> {
+    type Stop = AllocError;
+
+    fn transfer(&mut self, slot: u32, insn: &Insn, state: &mut State) -> Result<bool, AllocError> {
         let doubt = doubt_at(slot, insn, state);
-        let order = self.program.order();
-        if !matches!(transfer(insn, self.least, order, state), Ok(true)) {
-            return false;
-        }
+        let goes_on = transfer(insn, self.least, self.program.order(), state).unwrap_or(false);
         if let Some(doubt) = doubt {
             self.note(doubt, state);
         }
-        self.follow(slot, insn, state)
+        Ok(goes_on)
     }
 
-    /// Goes from a label to the slot where the next one stands, in the state at the label.
-    pub fn over(&mut self, label: u32, end: u32, state: &mut State) {
-        self.begin(state);
-        for slot in label..end {
-            if let Some(insn) = self.program.at(slot) {
-                if !self.step(slot, insn, state) {
-                    return;
-                }
-            }
+    fn call(&mut self, _callee: u32, state: &mut State) -> Result<bool, AllocError> {
+        Ok(leave(state, Num::top()))
+    }
+
+    fn edge(&mut self, target: Target, state: &State) -> Result<(), AllocError> {
+        match target {
+            Target::Slot(slot) => self.arrive(slot, state),
+            Target::Caller | Target::Nowhere(_) => {}
         }
-        self.arrive(end, state);
+        Ok(())
     }
 }

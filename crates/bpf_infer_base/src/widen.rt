@@ -30,7 +30,17 @@ fn constant_in(insn: &Insn) -> Option<i64> {
         } => Some(imm as i64),
         Insn::StoreImm { imm, off: _off, .. } => Some(imm as i64),
         Insn::LoadImm64 { value, .. } => Some(value.cast_signed()),
-        _ => None,
+        Insn::Alu {
+            src: Operand::Reg(_reg),
+            ..
+        }
+        | Insn::JumpIf {
+            src: Operand::Reg(_reg),
+            ..
+        } => None,
+        Insn::Neg { .. } | Insn::MovSx { .. } | Insn::End { .. } => None,
+        Insn::Load { .. } | Insn::LoadSx { .. } | Insn::Store { .. } | Insn::Atomic { .. } => None,
+        Insn::Ja { .. } | Insn::JaLong { .. } | Insn::CallLocal { .. } | Insn::Exit => None,
     }
 }
 

@@ -87,7 +87,7 @@ fn losses_in(
     let mut room = State::blank();
     for label in &region.labels {
         if plan.load(*label, &mut room) {
-            tracker.over(plan.slot(*label), draft.end(number, *label), &mut room);
+            tracker.over(plan.slot(*label), draft.end(number, *label), &mut room)?;
         }
     }
     Ok(tracker.losses)

@@ -3,11 +3,12 @@
 use crate::draft::{Draft, Price};
 use bpf_cert::{Function, Label};
 use bpf_infer_base::{
-    Flow, PLACES, Span, compared, get_or, number_at, number_said, place, tag_own,
+    Edges, PLACES, Span, Stretch, Target, get_or, number_at, number_said, place, tag_own,
+    transfer_or_refuse,
 };
 use bpf_infer_error::{Condition, InferError};
 use bpf_insn::{Insn, Reg};
-use bpf_state::{RegState, State, Tag, branch, enter, leave, transfer};
+use bpf_state::{RegState, State, Tag, enter, leave};
 use std::alloc::{AllocError, Global};
 
 /// What a place holds at the end of a way. Its source is the place that held it at the start, less an offset.
@@ -90,10 +91,11 @@ impl Ways {
         Ok(())
     }
 
-    /// Takes in a way, and what is held at its end.
+    /// Takes in a way from a label, and what is held at its end.
     fn add(
         &mut self,
-        spot: Spot,
+        from: usize,
+        cost: i128,
         to: Option<(usize, &Label)>,
         state: &State,
     ) -> Result<(), AllocError> {
@@ -102,22 +104,14 @@ impl Ways {
             self.note(state, label)?;
         }
         self.list.push(Way {
-            from: spot.label,
+            from,
             to: to.map(|(number, _)| number),
-            cost: spot.cost,
+            cost,
             held_from,
             held_to: self.held.len(),
         })?;
         Ok(())
     }
-}
-
-/// Where a walk is: the number of the label before it, the slot, and the cost since the label, this instruction's included.
-#[derive(Clone, Copy)]
-struct Spot {
-    label: usize,
-    slot: u32,
-    cost: i128,
 }
 
 /// A walk over a function.
@@ -129,6 +123,9 @@ struct Walker<'a> {
     /// What is known to be the price of each function so far.
     prices: &'a [Price],
     ways: Ways,
+    /// The number of the label that the walk began at last, and the cost since then.
+    label: usize,
+    cost: i128,
 }
 
 /// Tags each number with its place.
@@ -149,7 +146,7 @@ impl<'a> Walker<'a> {
     }
 
     /// Ends a way at a label. I1 where the state does not lie in what the label says.
-    fn arrive(&mut self, spot: Spot, target: u32, state: &State) -> Result<(), InferError> {
+    fn arrive(&mut self, target: u32, state: &State) -> Result<(), InferError> {
         let Some(number) = self.draft.label_at(target) else {
             return Err(InferError::NoBudget { slot: target });
         };
@@ -159,17 +156,72 @@ impl<'a> Walker<'a> {
         if !state.entails_entries(&label.state) {
             return Err(self.unstable());
         }
-        self.ways.add(spot, Some((number, label)), state)?;
+        self.ways
+            .add(self.label, self.cost, Some((number, label)), state)?;
         Ok(())
     }
 
-    /// Calls a function. Whether it may return.
-    fn call(
-        &mut self,
-        spot: &mut Spot,
-        target: u32,
-        state: &mut State,
-    ) -> Result<bool, InferError> {
+    /// Ends a way at an EXIT. I1 where r0 is not what the function is said to return.
+    fn exit(&mut self, state: &State) -> Result<(), InferError> {
+        if !state.reg(Reg::R0).entails(RegState::Num(self.function.ret)) {
+            return Err(self.unstable());
+        }
+        self.ways.add(self.label, self.cost, None, state)?;
+        Ok(())
+    }
+
+    /// Goes from a label to the labels behind it. I4 (C11) at an instruction on the way that isn't reached.
+    fn walk(&mut self, number: usize, label: &Label, state: &mut State) -> Result<(), InferError> {
+        label.state.put_into(state);
+        if !state.tighten() {
+            return Err(self.unstable());
+        }
+        tag_all(state);
+        let stretch = Stretch {
+            program: self.draft.program,
+            first: label.slot,
+            end: self.draft.end(self.number, number),
+            limit: self.draft.program.slots(),
+        };
+        (self.label, self.cost) = (number, 0);
+        let reached = stretch.walk(state, self)?;
+        if reached < stretch.end {
+            return Err(falls_off(reached));
+        }
+        Ok(())
+    }
+
+    /// Goes from each of the function's labels to those behind it.
+    fn walk_all(&mut self) -> Result<(), InferError> {
+        let function = self.function;
+        let mut room = State::blank();
+        for number in 0..function.labels.len() {
+            if let Some(label) = function.labels.get(number) {
+                self.walk(number, label, &mut room)?;
+            }
+            self.ways.ends.push(self.ways.list.len())?;
+        }
+        Ok(())
+    }
+}
+
+/// I4 (C11) at a slot.
+fn falls_off(slot: u32) -> InferError {
+    InferError::Fault {
+        slot,
+        condition: Condition::FallsOff,
+    }
+}
+
+impl<'a> Edges for Walker<'a> {
+    type Stop = InferError;
+
+    fn transfer(&mut self, slot: u32, insn: &Insn, state: &mut State) -> Result<bool, InferError> {
+        self.cost = self.cost.saturating_add(1);
+        transfer_or_refuse(self.draft.program, self.draft.least, slot, insn, state)
+    }
+
+    fn call(&mut self, target: u32, state: &mut State) -> Result<bool, InferError> {
         let Some(number) = self.draft.function_at(target) else {
             return Err(InferError::NoBudget { slot: target });
         };
@@ -188,122 +240,16 @@ impl<'a> Walker<'a> {
         {
             return Err(self.unstable());
         }
-        spot.cost = spot.cost.saturating_add(price.greatest(state));
+        self.cost = self.cost.saturating_add(price.greatest(state));
         Ok(leave(state, callee.ret))
     }
 
-    /// Ends a way at an EXIT. I1 where r0 is not what the function is said to return.
-    fn exit(&mut self, spot: Spot, state: &State) -> Result<(), InferError> {
-        if !state.reg(Reg::R0).entails(RegState::Num(self.function.ret)) {
-            return Err(self.unstable());
+    fn edge(&mut self, target: Target, state: &State) -> Result<(), InferError> {
+        match target {
+            Target::Slot(slot) => self.arrive(slot, state),
+            Target::Caller => self.exit(state),
+            Target::Nowhere(slot) => Err(falls_off(slot)),
         }
-        self.ways.add(spot, None, state)?;
-        Ok(())
-    }
-
-    /// Follows the edges of an instruction. Whether the next one is reached.
-    fn follow(
-        &mut self,
-        spot: &mut Spot,
-        insn: &Insn,
-        state: &mut State,
-    ) -> Result<bool, InferError> {
-        match Flow::of(spot.slot, insn) {
-            Flow::Next => Ok(true),
-            Flow::Jump(target) => {
-                self.arrive(*spot, target, state)?;
-                Ok(false)
-            }
-            Flow::Branch(target) => {
-                let (a, b) = compared(insn);
-                let (held_a, held_b) = (state.reg(a), state.reg(b));
-                if branch(insn, true, state) {
-                    self.arrive(*spot, target, state)?;
-                    state.set_reg(a, held_a);
-                    state.set_reg(b, held_b);
-                }
-                Ok(branch(insn, false, state))
-            }
-            Flow::Call(target) => self.call(spot, target, state),
-            Flow::Exit => {
-                self.exit(*spot, state)?;
-                Ok(false)
-            }
-        }
-    }
-
-    /// Does an instruction. Whether the next one is reached.
-    fn step(
-        &mut self,
-        spot: &mut Spot,
-        insn: &Insn,
-        state: &mut State,
-    ) -> Result<bool, InferError> {
-        spot.cost = spot.cost.saturating_add(1);
-        match transfer(insn, self.draft.least, self.draft.program.order(), state) {
-            Ok(true) => self.follow(spot, insn, state),
-            Ok(false) => Ok(false),
-            Err(fault) => Err(InferError::Fault {
-                slot: spot.slot,
-                condition: Condition::State(fault),
-            }),
-        }
-    }
-
-    /// Goes on past the last slot before another label, if there is one.
-    fn fall(&mut self, spot: Spot, end: u32, state: &State) -> Result<(), InferError> {
-        if end >= self.draft.program.slots() {
-            return Err(InferError::Fault {
-                slot: spot.slot,
-                condition: Condition::FallsOff,
-            });
-        }
-        self.arrive(spot, end, state)
-    }
-
-    /// Goes from a label to the labels behind it. I4 (C11) at an instruction on the way that isn't reached.
-    fn walk(&mut self, number: usize, label: &Label, state: &mut State) -> Result<(), InferError> {
-        label.state.put_into(state);
-        if !state.tighten() {
-            return Err(self.unstable());
-        }
-        tag_all(state);
-        let end = self.draft.end(self.number, number);
-        let mut goes_on = true;
-        let mut spot = Spot {
-            label: number,
-            slot: label.slot,
-            cost: 0,
-        };
-        for slot in label.slot..end {
-            if let Some(insn) = self.draft.program.at(slot) {
-                if !goes_on {
-                    return Err(InferError::Fault {
-                        slot,
-                        condition: Condition::FallsOff,
-                    });
-                }
-                spot.slot = slot;
-                goes_on = self.step(&mut spot, insn, state)?;
-            }
-        }
-        if goes_on {
-            self.fall(spot, end, state)?;
-        }
-        Ok(())
-    }
-
-    /// Goes from each of the function's labels to those behind it.
-    fn walk_all(&mut self) -> Result<(), InferError> {
-        let function = self.function;
-        let mut room = State::blank();
-        for number in 0..function.labels.len() {
-            if let Some(label) = function.labels.get(number) {
-                self.walk(number, label, &mut room)?;
-            }
-            self.ways.ends.push(self.ways.list.len())?;
-        }
-        Ok(())
     }
 }
 
@@ -326,6 +272,8 @@ pub fn ways_of(
             held: Vec::new(alloc),
             ends: Vec::new(alloc),
         },
+        label: 0,
+        cost: 0,
     };
     walker.walk_all()?;
     Ok(walker.ways)

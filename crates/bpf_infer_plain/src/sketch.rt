@@ -94,7 +94,7 @@ fn losses_in(
     for block in found.head..found.last.saturating_add(1) {
         if rounds.load(block, &mut room) {
             let (label, end) = (walk.outline.label(block), walk.outline.end(block));
-            tracker.over(label, end, &mut room);
+            tracker.over(label, end, &mut room)?;
         }
     }
     Ok(tracker.losses)

@@ -1,10 +1,10 @@
 //! A walk over the instructions of a block.
 
-use bpf_infer_base::{Flow, Outline, Quest, compared};
+use bpf_infer_base::{Edges, Outline, Quest, Stretch, Target, transfer_or_refuse};
 use bpf_infer_error::{Condition, InferError};
 use bpf_insn::{Insn, Program};
 use bpf_num::Num;
-use bpf_state::{State, branch, leave, transfer};
+use bpf_state::{State, leave};
 use std::alloc::AllocError;
 
 /// An edge from one block to another, by their numbers.
@@ -51,23 +51,7 @@ impl<'a> Walked<'a> {
     }
 }
 
-/// Where a walk is: its block, the slot, and how many instructions were done, this one counted.
-#[derive(Clone, Copy)]
-struct Spot {
-    block: usize,
-    slot: u32,
-    done: i128,
-}
-
 impl<'a> Walked<'a> {
-    /// The edge from where a walk is to a slot.
-    fn edge_to(&self, spot: Spot, target: u32) -> Edge {
-        Edge {
-            from: spot.block,
-            to: self.outline.block_of(target),
-        }
-    }
-
     /// Goes over a block from the state at its label. The lowest slot of the block that isn't reached, else the end of the
     /// block. I4 at an instruction that is refused, or that can fall past the end of the program.
     pub fn over<V: Visitor>(
@@ -76,81 +60,60 @@ impl<'a> Walked<'a> {
         state: &mut State,
         visitor: &mut V,
     ) -> Result<u32, InferError> {
-        let end = self.outline.end(block);
-        let mut spot = Spot {
-            block,
-            slot: self.outline.label(block),
-            done: 0,
+        let stretch = Stretch {
+            program: self.program,
+            first: self.outline.label(block),
+            end: self.outline.end(block),
+            limit: self.program.slots(),
         };
-        for slot in self.outline.label(block)..end {
-            if let Some(insn) = self.program.at(slot) {
-                spot.slot = slot;
-                spot.done = spot.done.saturating_add(1);
-                if !self.step(spot, insn, state, visitor)? {
-                    return Ok(slot.saturating_add(1));
-                }
-            }
-        }
-        if end >= self.program.slots() {
-            return Err(InferError::Fault {
-                slot: spot.slot,
-                condition: Condition::FallsOff,
-            });
-        }
-        visitor.edge(self.edge_to(spot, end), spot.done, state)?;
-        Ok(end)
+        let mut walk = Walk {
+            walked: *self,
+            block,
+            done: 0,
+            visitor,
+        };
+        stretch.walk(state, &mut walk)
+    }
+}
+
+/// A walk over a block, by its number, on which so many instructions were done.
+#[derive(Drop)]
+struct Walk<'a, 'v, V: Visitor> {
+    walked: Walked<'a>,
+    block: usize,
+    done: i128,
+    visitor: &'v mut V,
+}
+
+impl<'a, 'v, V: Visitor> Edges for Walk<'a, 'v, V> {
+    type Stop = InferError;
+
+    fn transfer(&mut self, slot: u32, insn: &Insn, state: &mut State) -> Result<bool, InferError> {
+        self.done = self.done.saturating_add(1);
+        transfer_or_refuse(self.walked.program, self.walked.least, slot, insn, state)
     }
 
-    /// Does an instruction. Whether the next one is reached.
-    fn step<V: Visitor>(
-        &self,
-        spot: Spot,
-        insn: &Insn,
-        state: &mut State,
-        visitor: &mut V,
-    ) -> Result<bool, InferError> {
-        match transfer(insn, self.least, self.program.order(), state) {
-            Ok(true) => self.follow(spot, insn, state, visitor),
-            Ok(false) => Ok(false),
-            Err(fault) => Err(InferError::Fault {
-                slot: spot.slot,
-                condition: Condition::State(fault),
-            }),
-        }
+    fn call(&mut self, callee: u32, state: &mut State) -> Result<bool, InferError> {
+        let callee = self.walked.outline.block_of(callee);
+        self.visitor.call(callee, state)?;
+        Ok(leave(state, Num::top()))
     }
 
-    /// Follows the edges of an instruction. Whether the next one is reached.
-    fn follow<V: Visitor>(
-        &self,
-        spot: Spot,
-        insn: &Insn,
-        state: &mut State,
-        visitor: &mut V,
-    ) -> Result<bool, InferError> {
-        match Flow::of(spot.slot, insn) {
-            Flow::Next => Ok(true),
-            Flow::Jump(target) => {
-                visitor.edge(self.edge_to(spot, target), spot.done, state)?;
-                Ok(false)
+    fn edge(&mut self, target: Target, state: &State) -> Result<(), InferError> {
+        let from = self.block;
+        match target {
+            Target::Slot(slot) => {
+                let to = self.walked.outline.block_of(slot);
+                self.visitor.edge(Edge { from, to }, self.done, state)?;
             }
-            Flow::Branch(target) => {
-                let (a, b) = compared(insn);
-                let (held_a, held_b) = (state.reg(a), state.reg(b));
-                if branch(insn, true, state) {
-                    visitor.edge(self.edge_to(spot, target), spot.done, state)?;
-                    state.set_reg(a, held_a);
-                    state.set_reg(b, held_b);
-                }
-                Ok(branch(insn, false, state))
-            }
-            Flow::Call(target) => {
-                visitor.call(self.outline.block_of(target), state)?;
-                Ok(leave(state, Num::top()))
-            }
-            Flow::Exit => {
-                visitor.exit(spot.block, spot.done)?;
-                Ok(false)
+            Target::Caller => self.visitor.exit(from, self.done)?,
+            Target::Nowhere(slot) => {
+                return Err(InferError::Fault {
+                    slot,
+                    condition: Condition::FallsOff,
+                });
             }
         }
+        Ok(())
     }
 }

@@ -8,14 +8,15 @@ use bpf_state::RegState;
 
 /// The register whose pointer an instruction moves or reads and writes through.
 fn pointer_in(insn: &Insn) -> Option<Reg> {
-    match *insn {
-        Insn::Alu {
-            op: AluOp::Add | AluOp::Sub,
-            dst,
-            ..
-        } => Some(dst),
-        _ => Some(insn.access()?.base),
+    if let Insn::Alu {
+        op: AluOp::Add | AluOp::Sub,
+        dst,
+        ..
+    } = *insn
+    {
+        return Some(dst);
     }
+    Some(insn.access()?.base)
 }
 
 /// What an instruction does to a register.
@@ -29,17 +30,22 @@ enum Deed {
 
 /// What an instruction does to a register. A call leaves nothing in r0 to r5 that was there.
 fn deed_of(insn: &Insn, reg: Reg) -> Deed {
-    match *insn {
+    if matches!(*insn, Insn::CallLocal { .. }) && reg as u8 <= 5 {
+        return Deed::Sets;
+    }
+    if insn.register_written() != Some(reg) {
+        return Deed::Keeps;
+    }
+    let moves = matches!(
+        *insn,
         Insn::Alu {
             op: AluOp::Add | AluOp::Sub,
             width: Width::W64,
-            dst,
             src: Operand::Imm(_imm),
-        } if dst == reg => Deed::Moves,
-        Insn::CallLocal { off: _off } if reg as u8 <= 5 => Deed::Sets,
-        _ if insn.register_written() == Some(reg) => Deed::Sets,
-        _ => Deed::Keeps,
-    }
+            ..
+        }
+    );
+    if moves { Deed::Moves } else { Deed::Sets }
 }
 
 /// Whether instructions of a loop move a register by constants, and none sets it.

@@ -46,15 +46,16 @@ pub fn fill(state: &mut State, fills_slots: bool) -> bool {
 
 /// The register that held before an instruction what one holds after it.
 fn source(insn: &Insn, r: Reg) -> Reg {
-    match *insn {
-        Insn::Alu {
-            op: AluOp::Mov,
-            width: Width::W64,
-            dst,
-            src: Operand::Reg(src),
-        } => if dst == r { src } else { r },
-        _ => r,
+    if let Insn::Alu {
+        op: AluOp::Mov,
+        width: Width::W64,
+        dst,
+        src: Operand::Reg(src),
+    } = *insn
+    {
+        return if dst == r { src } else { r };
     }
+    r
 }
 
 /// The register at a label whose value is the base of the access at a slot behind it.
@@ -118,7 +119,9 @@ fn operands_of(insn: &Insn) -> [Option<Reg>; 2] {
         Insn::Store { src, off: _off, .. } => [Some(src), None],
         Insn::Atomic { src, off: _off, .. } => [Some(src), Some(Reg::R0)],
         Insn::Exit => [Some(Reg::R0), None],
-        _ => [None, None],
+        Insn::LoadImm64 { .. } | Insn::CallLocal { .. } => [None, None],
+        Insn::Load { .. } | Insn::LoadSx { .. } | Insn::StoreImm { .. } => [None, None],
+        Insn::Ja { .. } | Insn::JaLong { .. } => [None, None],
     }
 }
 

@@ -2,11 +2,11 @@
 
 use crate::region::Region;
 use crate::tolerant::go_on;
-use bpf_infer_base::{Flow, Outline, compared, get_or};
+use bpf_infer_base::{Edges, Outline, Stretch, Target, get_or};
 use bpf_infer_error::Condition;
 use bpf_insn::{Insn, Program};
 use bpf_num::Num;
-use bpf_state::{State, branch, leave, transfer};
+use bpf_state::{State, leave, transfer};
 use std::alloc::AllocError;
 
 /// What takes note of where a walk leads; of what it gives no body for, it takes none.
@@ -53,82 +53,62 @@ impl<'a> Task<'a> {
         state: &mut State,
         watcher: &mut W,
     ) -> Result<(), AllocError> {
-        let end = self.region.segment_end(label);
-        let mut last = self.region.slot(label);
-        for slot in last..end {
-            if let Some(insn) = self.program.at(slot) {
-                last = slot;
-                if !self.step(label, slot, insn, state, watcher)? {
-                    return Ok(());
-                }
-            }
-        }
-        if end < self.region.end() {
-            watcher.edge(label, label.saturating_add(1), state)?;
-        } else {
-            watcher.fault(last, Condition::FallsOff);
-        }
+        let stretch = Stretch {
+            program: self.program,
+            first: self.region.slot(label),
+            end: self.region.segment_end(label),
+            limit: self.region.end(),
+        };
+        let mut walk = Walk {
+            task: *self,
+            label,
+            watcher,
+        };
+        stretch.walk(state, &mut walk)?;
         Ok(())
     }
+}
 
-    /// Does an instruction. Whether the next one is reached.
-    fn step<W: Watcher>(
-        &self,
-        label: usize,
-        slot: u32,
-        insn: &Insn,
-        state: &mut State,
-        watcher: &mut W,
-    ) -> Result<bool, AllocError> {
-        watcher.before(slot, insn, state)?;
-        match transfer(insn, self.least, self.program.order(), state) {
-            Ok(true) => {}
-            Ok(false) => return Ok(false),
+/// A walk over the segment of a label.
+#[derive(Drop)]
+struct Walk<'a, 'w, W: Watcher> {
+    task: Task<'a>,
+    label: usize,
+    watcher: &'w mut W,
+}
+
+impl<'a, 'w, W: Watcher> Edges for Walk<'a, 'w, W> {
+    type Stop = AllocError;
+
+    fn transfer(&mut self, slot: u32, insn: &Insn, state: &mut State) -> Result<bool, AllocError> {
+        self.watcher.before(slot, insn, state)?;
+        match transfer(insn, self.task.least, self.task.program.order(), state) {
+            Ok(goes_on) => Ok(goes_on),
             Err(fault) => {
-                watcher.fault(slot, Condition::State(fault));
-                if self.stops {
-                    return Ok(false);
+                self.watcher.fault(slot, Condition::State(fault));
+                if !self.task.stops {
+                    go_on(insn, state);
                 }
-                go_on(insn, state);
+                Ok(!self.task.stops)
             }
         }
-        self.follow(label, slot, insn, state, watcher)
     }
 
-    /// Follows the edges of an instruction. Whether the next one is reached.
-    fn follow<W: Watcher>(
-        &self,
-        label: usize,
-        slot: u32,
-        insn: &Insn,
-        state: &mut State,
-        watcher: &mut W,
-    ) -> Result<bool, AllocError> {
-        match Flow::of(slot, insn) {
-            Flow::Next => Ok(true),
-            Flow::Jump(target) => {
-                watcher.edge(label, self.region.segment(target), state)?;
-                Ok(false)
+    fn call(&mut self, callee: u32, state: &mut State) -> Result<bool, AllocError> {
+        let callee = self.task.outline.function_of(callee) as usize;
+        self.watcher.call(callee, state)?;
+        Ok(leave(state, get_or(self.task.rets, callee, Num::top())))
+    }
+
+    fn edge(&mut self, target: Target, state: &State) -> Result<(), AllocError> {
+        match target {
+            Target::Slot(slot) => {
+                let to = self.task.region.segment(slot);
+                self.watcher.edge(self.label, to, state)?;
             }
-            Flow::Branch(target) => {
-                let (a, b) = compared(insn);
-                let (held_a, held_b) = (state.reg(a), state.reg(b));
-                if branch(insn, true, state) {
-                    watcher.edge(label, self.region.segment(target), state)?;
-                    state.set_reg(a, held_a);
-                    state.set_reg(b, held_b);
-                }
-                Ok(branch(insn, false, state))
-            }
-            Flow::Call(target) => {
-                let callee = self.outline.function_of(target) as usize;
-                watcher.call(callee, state)?;
-                Ok(leave(state, get_or(self.rets, callee, Num::top())))
-            }
-            Flow::Exit => {
-                watcher.exit(state);
-                Ok(false)
-            }
+            Target::Caller => self.watcher.exit(state),
+            Target::Nowhere(slot) => self.watcher.fault(slot, Condition::FallsOff),
         }
+        Ok(())
     }
 }

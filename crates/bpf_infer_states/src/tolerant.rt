@@ -113,7 +113,15 @@ fn value_after(insn: &Insn, state: &State) -> RegState
             off: _off,
             ..
         } => RegState::Num(any_number(Size::of_word(wide))),
-        _ => RegState::Num(Num::top()),
+        Insn::Neg { .. } | Insn::MovSx { .. } | Insn::End { .. } | Insn::LoadImm64 { .. } => {
+            RegState::Num(Num::top())
+        }
+        Insn::Store { .. } | Insn::StoreImm { .. } | Insn::CallLocal { .. } => {
+            RegState::Num(Num::top())
+        }
+        Insn::Ja { .. } | Insn::JaLong { .. } | Insn::JumpIf { .. } | Insn::Exit => {
+            RegState::Num(Num::top())
+        }
     }
 }
 
