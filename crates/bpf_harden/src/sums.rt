@@ -1,7 +1,7 @@
 //! Where the base of an access gets its offset: by a sum in front of it, of what is always the same and a number that isn't.
 
 use crate::mend::Mender;
-use bpf_harden_plan::{Early, Plan, Span};
+use bpf_harden_plan::{Early, Kind, Plan, Span};
 use bpf_insn::{AluOp, Insn, Operand, Reg, Width};
 
 /// How many instructions may lie between a sum and the access.
@@ -9,6 +9,9 @@ const FARTHEST: u32 = 16;
 
 /// The greatest offset in the base before the sum.
 const MOST_OFFSET: u64 = 8192;
+
+/// The offset that stands for a frame's end.
+const FRAME_END: i64 = 512;
 
 /// An access that is to be guarded, and what of it is tested.
 #[derive(Clone, Copy)]
@@ -36,7 +39,8 @@ impl<'a> Sums<'a> {
         let offset = i64::try_from(before.lo()).ok()?;
         let first = u64::try_from(offset.saturating_add(self.span.from)).ok()?;
         // Where the sum wraps, what is added is above the greatest, though the access may lie in its region.
-        if plan.early(slot).is_some() || added.hi() > u64::MAX - first {
+        let can_lie = offset.saturating_add(self.span.to) <= self.end(plan);
+        if !can_lie || plan.early(slot).is_some() || added.hi() > u64::MAX - first {
             return None;
         }
         Some((
@@ -47,6 +51,14 @@ impl<'a> Sums<'a> {
                 offset,
             },
         ))
+    }
+
+    /// The offset at which the region ends.
+    fn end(&self, plan: &Plan) -> i64 {
+        match self.mender.old.kind(self.access, self.base) {
+            Kind::Frame => FRAME_END,
+            Kind::Context | Kind::Number | Kind::Unknown => i64::from(plan.length),
+        }
     }
 
     /// The slot of the instruction that wrote the base last.
