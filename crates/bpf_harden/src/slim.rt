@@ -30,10 +30,10 @@ fn tests_low_behind(trial: &Trial, new: u32) -> bool {
     let next = new.saturating_add(1);
     let owner = trial.draft.owner(next);
     let is_same = owner.change == Some(Change::Guard) && owner.old == trial.draft.owner(new).old;
-    match trial.draft.program.at(next) {
-        Some(Insn::JumpIf { cond, .. }) => is_same && *cond == Cond::Lt,
-        _ => false,
-    }
+    let Some(Insn::JumpIf { cond, .. }) = trial.draft.program.at(next) else {
+        return false;
+    };
+    is_same && *cond == Cond::Lt
 }
 
 /// The guard without a test at a slot of the new text, if that never holds.

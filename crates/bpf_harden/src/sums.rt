@@ -3,15 +3,13 @@
 use crate::mend::Mender;
 use bpf_harden_plan::{Early, Kind, Plan, Span};
 use bpf_insn::{AluOp, Insn, Operand, Reg, Width};
+use bpf_state::FRAME_START;
 
 /// How many instructions may lie between a sum and the access.
 const FARTHEST: u32 = 16;
 
 /// The greatest offset in the base before the sum.
 const MOST_OFFSET: u64 = 8192;
-
-/// The offset that stands for a frame's end.
-const FRAME_END: i64 = 512;
 
 /// An access that is to be guarded, and what of it is tested.
 #[derive(Clone, Copy)]
@@ -56,7 +54,7 @@ impl<'a> Sums<'a> {
     /// The offset at which the region ends.
     fn end(&self, plan: &Plan) -> i64 {
         match self.mender.old.kind(self.access, self.base) {
-            Kind::Frame => FRAME_END,
+            Kind::Frame => 0i64.saturating_sub(FRAME_START),
             Kind::Context | Kind::Number | Kind::Unknown => i64::from(plan.length),
         }
     }
@@ -75,14 +73,19 @@ impl<'a> Sums<'a> {
 
     /// The register that is added to the base at a slot.
     fn added(&self, slot: u32) -> Option<Reg> {
-        match *self.mender.old.kept(slot)? {
-            Insn::Alu {
-                op: AluOp::Add,
-                width: Width::W64,
-                dst,
-                src: Operand::Reg(added),
-            } if dst == self.base && added != dst => Some(added),
-            _ => None,
+        let Insn::Alu {
+            op: AluOp::Add,
+            width: Width::W64,
+            dst,
+            src: Operand::Reg(added),
+        } = *self.mender.old.kept(slot)?
+        else {
+            return None;
+        };
+        if dst == self.base && added != dst {
+            Some(added)
+        } else {
+            None
         }
     }
 }
