@@ -14,7 +14,6 @@ import sys
 import tempfile
 import time
 
-BPF, EXAMPLES, SECONDS, SEED = sys.argv[1], pathlib.Path(sys.argv[2]), float(sys.argv[3]), int(sys.argv[4])
 INTERESTING = [0, 1, 2, 7, 8, 15, 16, 63, 64, 127, 128, 255, 256, 4095, 4096, 4097, 65535, 65536, 2**31 - 1, 2**31, 2**32 - 1, 2**32, 2**40, 2**40 + 1, 2**63 - 1, 2**63, 2**64 - 1, 2**64]
 
 SLOT = r'\d+'
@@ -37,8 +36,8 @@ class Wrong(Exception):
 
 
 class Runner:
-    def __init__(self, folder):
-        self.folder = folder
+    def __init__(self, command, folder):
+        self.command, self.folder = command, folder
         self.runs = 0
 
     def path(self, name):
@@ -55,7 +54,7 @@ class Runner:
 
     def bpf(self, *words):
         self.runs += 1
-        done = subprocess.run([BPF, *words], cwd=self.folder, capture_output=True, timeout=60)
+        done = subprocess.run([self.command, *words], cwd=self.folder, capture_output=True, timeout=60)
         out, err = done.stdout.decode('utf-8', 'replace'), done.stderr.decode('utf-8', 'replace')
         form = FORMS[words[0]].get(done.returncode)
         if form is not None:
@@ -204,15 +203,16 @@ def try_each_alteration(run, image, text):
 
 
 def main():
-    r = random.Random(SEED)
-    images = [p.read_bytes() for p in sorted(EXAMPLES.glob('*.img'))]
-    texts = [p.read_text() for p in sorted(EXAMPLES.glob('*.asm'))]
-    certificates = [p.read_text() for p in sorted(EXAMPLES.glob('*.cert'))]
+    command, examples, seconds, seed = sys.argv[1], pathlib.Path(sys.argv[2]), float(sys.argv[3]), int(sys.argv[4])
+    r = random.Random(seed)
+    images = [p.read_bytes() for p in sorted(examples.glob('*.img'))]
+    texts = [p.read_text() for p in sorted(examples.glob('*.asm'))]
+    certificates = [p.read_text() for p in sorted(examples.glob('*.cert'))]
     turns = 0
     with tempfile.TemporaryDirectory() as folder:
-        run = Runner(folder)
-        try_each_alteration(run, (EXAMPLES / 'smallest.img').read_bytes(), (EXAMPLES / 'smallest.cert').read_text())
-        end = time.time() + SECONDS
+        run = Runner(command, folder)
+        try_each_alteration(run, (examples / 'smallest.img').read_bytes(), (examples / 'smallest.cert').read_text())
+        end = time.time() + seconds
         while time.time() < end:
             turns += 1
             order = r.choice([[], [], ['--big']])
@@ -235,10 +235,11 @@ def main():
                 kept = tempfile.mkdtemp(prefix='bpf-fuzz-')
                 for entry in os.listdir(folder):
                     pathlib.Path(kept, entry).write_bytes(pathlib.Path(folder, entry).read_bytes())
-                print(f'fuzz: seed {SEED}, turn {turns}: {wrong}\nfuzz: files in {kept}')
+                print(f'fuzz: seed {seed}, turn {turns}: {wrong}\nfuzz: files in {kept}')
                 return 1
-    print(f'fuzz: seed {SEED}, {turns} turns, {run.runs} runs of the command, no wrong answer')
+    print(f'fuzz: seed {seed}, {turns} turns, {run.runs} runs of the command, no wrong answer')
     return 0
 
 
-sys.exit(main())
+if __name__ == '__main__':
+    sys.exit(main())

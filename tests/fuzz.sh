@@ -1,5 +1,11 @@
 #!/usr/bin/env bash
-# fuzz.sh SECONDS [SEED]: alters images, texts and certificates of examples/ and holds the command's answers to its word.
+# fuzz.sh SECONDS [SEED]: forces guards and counters on 10,000 programs and compares them with the old ones; then alters images, texts and
+# certificates of examples/ and holds the command's answers to its word.
 set -eu
 root=$(cd "$(dirname "${BASH_SOURCE[0]}")/.." && pwd)
-exec python3 "$root/tests/fuzz.py" "${BPF:-$root/bpf}" "$root/examples" "${1:?seconds}" "${2:-$(date +%s)}"
+bpf=${BPF:-$root/bpf}
+seed=${2:-$(date +%s)}
+forced=$root/crates/bpf_harden_tests/out/bpf_harden_tests
+[ -x "$forced" ] || (cd "$root/crates/bpf_harden_tests" && rt run </dev/null) >/dev/null
+python3 "$root/tests/forced.py" "$bpf" "$forced" 10000 "$seed"
+exec python3 "$root/tests/fuzz.py" "$bpf" "$root/examples" "${1:?seconds}" "$seed"

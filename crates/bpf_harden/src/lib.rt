@@ -3,11 +3,13 @@
 #![tactic(auto)]
 
 mod hardener;
+mod heads;
 mod judge;
 mod mend;
 mod record;
 mod rounds;
 mod slim;
+mod sums;
 mod wide;
 
 pub use bpf_harden_notes::{Change, FunctionNote, HardenError, Hardened, Note, Options};

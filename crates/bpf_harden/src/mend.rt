@@ -1,6 +1,7 @@
 //! What is changed where the new text is refused: all faults of a round together.
 
 use crate::judge::Trial;
+use crate::sums::Sums;
 use bpf_harden_notes::{Change, HardenError};
 use bpf_harden_plan::{Guard, Kind, Old, Plan, Span};
 use bpf_infer_error::Condition;
@@ -118,7 +119,23 @@ impl<'a> Mender<'a> {
             self.span(flaw.slot, access)
         };
         let is_exact = self.may_wrap(flaw.slot, access.base, span.from);
-        plan.set_guard(flaw.slot, Some(Guard::both(span, is_exact)));
+        let sum = Sums {
+            mender: *self,
+            access: flaw.slot,
+            base: access.base,
+            span,
+        };
+        let guard = match sum.early(plan) {
+            Some((slot, early)) => {
+                plan.set_early(slot, early);
+                Guard {
+                    early: true,
+                    ..Guard::both(span, false)
+                }
+            }
+            None => Guard::both(span, is_exact),
+        };
+        plan.set_guard(flaw.slot, Some(guard));
         true
     }
 
@@ -163,7 +180,7 @@ impl<'a> Mender<'a> {
     }
 
     /// What is known of a register in front of what stands in the place of an old instruction.
-    fn held(&self, slot: u32, r: Reg) -> RegState {
+    pub fn held(&self, slot: u32, r: Reg) -> RegState {
         match self.trial.draft.start(slot) {
             Some(new) => self.trial.survey.register(new, r),
             None => RegState::Any,

@@ -1,5 +1,6 @@
 //! Rounds: the new text is written and judged, and the plan mended by what is said of it, until it has a certificate.
 
+use crate::heads::heads_of;
 use crate::judge::{Trial, Verdict};
 use crate::mend::Mender;
 use crate::record::recorded;
@@ -8,7 +9,7 @@ use crate::wide::widen_all;
 use bpf_harden_notes::{HardenError, Hardened};
 use bpf_harden_plan::{Guard, Kind, Old, Plan, Rooms, Span};
 use bpf_harden_text::emitted;
-use bpf_infer_base::{Flow, Meter, Watch};
+use bpf_infer_base::{Flow, Meter, Watch, get_or, put};
 use bpf_insn::Reg;
 use std::alloc::Global;
 
@@ -22,6 +23,8 @@ struct Rounds<'a> {
     old: &'a Old<'a>,
     plan: Plan,
     is_widened: bool,
+    /// By the lowest slots of loops, at which heads their turns were counted first.
+    heads: Vec<Option<u32>>,
 }
 
 impl<'a> Rounds<'a> {
@@ -30,7 +33,7 @@ impl<'a> Rounds<'a> {
         let is_changed = match &trial.verdict {
             Verdict::Yes => true,
             Verdict::Faults => self.mend(trial)?,
-            Verdict::Uncounted(loops) => self.count(trial, loops) || self.share(trial, loops),
+            Verdict::Uncounted(loops) => self.count(trial, loops)? || self.share(trial, loops),
             Verdict::TooGreat => count_all(self.old, &mut self.plan),
         };
         if is_changed {
@@ -57,18 +60,37 @@ impl<'a> Rounds<'a> {
     }
 
     /// Makes operations wider, or else counts the turns of loops. Whether something was changed.
-    fn count(&mut self, trial: &Trial, loops: &[u32]) -> bool {
+    fn count(&mut self, trial: &Trial, loops: &[u32]) -> Result<bool, HardenError> {
         if !self.is_widened {
             self.is_widened = true;
             if widen_all(self.old, &mut self.plan, &trial.draft, &trial.survey) {
-                return true;
+                return Ok(true);
             }
         }
-        let mut is_changed = false;
+        let mut lowest = Vec::with_capacity(self.alloc, loops.len())?;
         for label in loops {
-            is_changed = self.plan.count(trial.draft.owner(*label).old) || is_changed;
+            lowest.push(trial.draft.owner(*label).old)?;
         }
-        is_changed
+        let heads = heads_of(self.alloc, self.old, &self.plan, &lowest)?;
+        let mut is_changed = false;
+        for (slot, head) in lowest.iter().zip(heads.iter()) {
+            is_changed = self.count_at(*slot, *head) || is_changed;
+        }
+        Ok(is_changed)
+    }
+
+    /// Counts the turns of a loop at its head; or at its lowest slot, where it is still not counted: then a loop around it was
+    /// taken for it. Whether something was changed.
+    fn count_at(&mut self, lowest: u32, head: u32) -> bool {
+        let tried = get_or(&self.heads, lowest as usize, None);
+        let next = if tried.is_some() { lowest } else { head };
+        if let Some(other) = tried {
+            if other != next {
+                self.plan.uncount(other);
+            }
+        }
+        put(&mut self.heads, lowest as usize, Some(next));
+        self.plan.count(next)
     }
 
     /// Counts the turns of all loops of a function together, where they jump into one another. Whether something was changed.
@@ -144,6 +166,7 @@ pub fn certified<W: Watch>(
         old,
         plan,
         is_widened: false,
+        heads: vec![in alloc; None; old.program.slots() as usize]?,
     };
     let trial = rounds.run(meter)?;
     let trial = rounds.trimmed(trial, meter)?;
@@ -190,11 +213,12 @@ pub fn guard_all(old: &Old, plan: &mut Plan) {
     }
 }
 
-/// H1 or H2 at the first access by a register of which nothing is known.
+/// H1 or H2 at the first access by a register that isn't known to hold a pointer of one kind. One that looks like a number may
+/// come from an instruction that reads such a register.
 fn first_unknown(old: &Old) -> Result<(), HardenError> {
     for slot in 0..old.program.slots() {
         if let Some(access) = old.kept(slot).and_then(|insn| insn.access()) {
-            if old.kind(slot, access.base) == Kind::Unknown {
+            if matches!(old.kind(slot, access.base), Kind::Unknown | Kind::Number) {
                 return Err(old.unknown_base(slot));
             }
         }

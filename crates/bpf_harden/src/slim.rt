@@ -25,6 +25,17 @@ fn register_bounds(trial: &Trial, new: u32, r: Reg) -> (u64, u64) {
     }
 }
 
+/// Whether the lower end is tested behind the test of the upper one. It isn't where no offset lies below it.
+fn tests_low_behind(trial: &Trial, new: u32) -> bool {
+    let next = new.saturating_add(1);
+    let owner = trial.draft.owner(next);
+    let is_same = owner.change == Some(Change::Guard) && owner.old == trial.draft.owner(new).old;
+    let Some(Insn::JumpIf { cond, .. }) = trial.draft.program.at(next) else {
+        return false;
+    };
+    is_same && *cond == Cond::Lt
+}
+
 /// The guard without a test at a slot of the new text, if that never holds.
 fn without(trial: &Trial, new: u32, guard: Guard) -> Guard {
     let Some(Insn::JumpIf { cond, dst, src, .. }) = trial.draft.program.at(new) else {
@@ -36,6 +47,7 @@ fn without(trial: &Trial, new: u32, guard: Guard) -> Guard {
     match cond {
         Cond::Gt if held.1 <= limit.0 => Guard {
             high: false,
+            low: guard.low && tests_low_behind(trial, new),
             ..guard
         },
         Cond::Lt if held.0 >= limit.1 => Guard {
@@ -46,16 +58,19 @@ fn without(trial: &Trial, new: u32, guard: Guard) -> Guard {
     }
 }
 
-/// Takes away the tests of guards that never hold. Whether there was one.
+/// Takes away the tests of guards that never hold. Whether there was one. Those against a packet's own end stay.
 pub fn slim(plan: &mut Plan, trial: &Trial) -> bool {
     let mut is_changed = false;
+    if plan.options.padded {
+        return false;
+    }
     for new in 0..trial.draft.program.slots() {
         let owner = trial.draft.owner(new);
         if owner.change == Some(Change::Guard) && plan.constant(owner.old).is_none() {
             if let Some(guard) = plan.guard(owner.old) {
                 let left = without(trial, new, guard);
                 if left.low != guard.low || left.high != guard.high {
-                    plan.set_guard(owner.old, Some(left));
+                    plan.set_guard(owner.old, left.kept());
                     is_changed = true;
                 }
             }

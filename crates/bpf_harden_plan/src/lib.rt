@@ -13,7 +13,7 @@ mod uses;
 pub use kinds::Kind;
 pub use live::Liveness;
 pub use old::{Old, refusal};
-pub use plan::{Guard, Plan, Span};
+pub use plan::{Early, Guard, Plan, Span};
 pub use registers::{BY_CHOICE, Registers};
 pub use rooms::{Room, Rooms};
 pub use uses::Uses;

@@ -168,6 +168,20 @@ impl<'a> Old<'a> {
         }
     }
 
+    /// The slot of the instruction that leads to this one alone, and to which nothing else leads.
+    pub fn preceding(&self, slot: u32) -> Option<u32> {
+        let near = slot.checked_sub(1)?;
+        let before = match self.program.at(near) {
+            Some(_) => near,
+            None => near.checked_sub(1)?,
+        };
+        if self.following(before) == Some(slot) {
+            Some(before)
+        } else {
+            None
+        }
+    }
+
     /// The kind of what a register holds before the instruction at a slot.
     pub fn kind(&self, slot: u32, r: Reg) -> Kind {
         Kind::of(self.survey.register(slot, r))

@@ -3,7 +3,7 @@
 use crate::old::Old;
 use bpf_harden_notes::Options;
 use bpf_infer_base::{get_or, put};
-use bpf_insn::{Access, Insn};
+use bpf_insn::{Access, Insn, Reg};
 use std::alloc::{AllocError, Global};
 
 /// Bytes beside a base, by displacements: from the first one to before the end.
@@ -44,6 +44,18 @@ pub struct Guard {
     pub low: bool,
     /// Whether the upper end is tested.
     pub high: bool,
+    /// Whether it is tested where the base gets its offset, by what is added there.
+    pub early: bool,
+}
+
+/// A test of what is added to the base of an access, where it is added. It tells of both registers.
+#[derive(Clone, Copy, Debug)]
+pub struct Early {
+    /// The slot of the access.
+    pub access: u32,
+    pub register: Reg,
+    /// The offset in the base before.
+    pub offset: i64,
 }
 
 impl Guard {
@@ -54,6 +66,16 @@ impl Guard {
             exact,
             low: true,
             high: true,
+            early: false,
+        }
+    }
+
+    /// Itself, or none where it tests nothing and the access needs nothing of it.
+    pub fn kept(self) -> Option<Guard> {
+        if self.exact || self.low || self.high {
+            Some(self)
+        } else {
+            None
         }
     }
 }
@@ -62,6 +84,7 @@ impl Guard {
 #[derive(Clone, Copy)]
 struct AtSlot {
     guard: Option<Guard>,
+    early: Option<Early>,
     /// The offset in the base of an access, where it is always the same.
     constant: Option<i64>,
     /// Whether a counter of turns stands in front.
@@ -89,6 +112,7 @@ impl AtSlot {
     /// Nothing.
     const NOTHING: AtSlot = AtSlot {
         guard: None,
+        early: None,
         constant: None,
         counts: false,
         widens: false,
@@ -170,6 +194,18 @@ impl Plan {
         self.put_at(slot, planned);
     }
 
+    /// The early test in front of the sum at a slot.
+    pub fn early(&self, slot: u32) -> Option<Early> {
+        self.at(slot).early
+    }
+
+    /// Puts an early test in front of the sum at a slot.
+    pub fn set_early(&mut self, slot: u32, early: Early) {
+        let mut planned = self.at(slot);
+        planned.early = Some(early);
+        self.put_at(slot, planned);
+    }
+
     /// The offset that the base of the access at a slot always has.
     pub fn constant(&self, slot: u32) -> Option<i64> {
         self.at(slot).constant
@@ -194,6 +230,13 @@ impl Plan {
         planned.counts = true;
         self.put_at(slot, planned);
         is_new
+    }
+
+    /// Takes the counter of turns in front of the instruction at a slot away.
+    pub fn uncount(&mut self, slot: u32) {
+        let mut planned = self.at(slot);
+        planned.counts = false;
+        self.put_at(slot, planned);
     }
 
     /// Whether the operation at a slot becomes a 64-bit one.

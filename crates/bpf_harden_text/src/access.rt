@@ -3,6 +3,7 @@
 use crate::edits::{loaded, with_base};
 use crate::parts::{add, add_constant, alu, constant, copy, displacement, fetch, is_near, keep};
 use crate::region::Region;
+use crate::share::{Made, Share, stores};
 use crate::writer::Writer;
 use bpf_harden_notes::{Change, HardenError};
 use bpf_harden_plan::{BY_CHOICE, Guard, Kind, Registers, Span};
@@ -59,13 +60,8 @@ impl Site {
     }
 
     /// Whether it reads its base as a value too.
-    fn reads_base_twice(&self) -> bool {
-        let base = self.access.base;
-        match self.insn {
-            Insn::Store { src, .. } => src == base,
-            Insn::Atomic { src, .. } => src == base || base == Reg::R0,
-            _ => false,
-        }
+    pub fn reads_base_twice(&self) -> bool {
+        stores(&self.insn, self.access.base)
     }
 
     /// The bytes that its guard tests: its own, and those of further accesses that surely follow.
@@ -110,7 +106,12 @@ impl Site {
 
     /// The displacement from the pointer that is made of the moved base.
     fn displacement(&self) -> i16 {
-        let left = self.off().saturating_sub(self.moved_by());
+        self.displacement_from(self.moved_by())
+    }
+
+    /// The displacement from a pointer that was made of the base, moved by so much.
+    pub fn displacement_from(&self, moved: i64) -> i16 {
+        let left = self.off().saturating_sub(moved);
         displacement(left.saturating_sub(self.region.origin))
     }
 }
@@ -128,7 +129,11 @@ impl<'a> Writer<'a> {
                 return Ok(true);
             }
         }
-        self.access_moved(site)?;
+        if let Some(made) = self.made_for(site) {
+            self.access_by(site, made)?;
+        } else {
+            self.access_moved(site)?;
+        }
         Ok(true)
     }
 
@@ -196,8 +201,10 @@ impl<'a> Writer<'a> {
 
     /// Puts an access at an offset that a register holds.
     fn access_moved(&mut self, site: &Site) -> Result<(), HardenError> {
-        let temp = self.temp(site)?;
+        let share = self.share(site);
+        let temp = self.temp(site, share)?;
         let pointer = temp.register;
+        self.forget_for(temp);
         if temp.way == Way::Saved {
             self.save(site, pointer)?;
         }
@@ -214,6 +221,13 @@ impl<'a> Writer<'a> {
             Way::InPlace => self.take_back(site)?,
             Way::Saved => self.restore(site, pointer)?,
         }
+        if let Share::Base | Share::By(_) = share {
+            self.made = Some(Made {
+                base: site.access.base,
+                pointer,
+                moved: site.moved_by(),
+            });
+        }
         Ok(())
     }
 
@@ -224,7 +238,7 @@ impl<'a> Writer<'a> {
         let Some(guard) = site.guard else {
             return Ok(());
         };
-        if guard.exact || site.region.end.is_some() {
+        if guard.exact || guard.early || site.region.end.is_some() {
             return Ok(());
         }
         let least = site.least();
@@ -299,6 +313,7 @@ impl<'a> Writer<'a> {
             return Ok(self.trap_if(site.slot, Cond::Gt, moved, Operand::Reg(r), Change::Guard)?);
         }
         let other = self.other_temp(site, moved)?;
+        self.forget_for(other);
         self.begin_other(site, other)?;
         self.add(site.slot, fetch(other.register, end), Change::Guard)?;
         let src = Operand::Reg(other.register);
@@ -312,6 +327,7 @@ impl<'a> Writer<'a> {
             return Ok(self.add(site.slot, add(pointer, r), Change::Address)?);
         }
         let other = self.other_temp(site, pointer)?;
+        self.forget_for(other);
         self.begin_other(site, other)?;
         self.add(
             site.slot,
@@ -340,7 +356,19 @@ impl<'a> Writer<'a> {
     // ---- registers
 
     /// The register in which the pointer of an access is made.
-    fn temp(&self, site: &Site) -> Result<Temp, HardenError> {
+    fn temp(&self, site: &Site, share: Share) -> Result<Temp, HardenError> {
+        let shared = match share {
+            Share::By(r) => Some(r),
+            Share::Base => Some(site.access.base),
+            Share::Alone if self.is_last_use(site) => Some(site.access.base),
+            Share::Alone => None,
+        };
+        if let Some(register) = shared {
+            return Ok(Temp {
+                register,
+                way: Way::Free,
+            });
+        }
         if let Some(register) = loaded(&site.insn) {
             return Ok(Temp {
                 register,
@@ -360,6 +388,14 @@ impl<'a> Writer<'a> {
             });
         }
         self.borrowed(site, site.access.base)
+    }
+
+    /// Whether an access needs its base no more than for this, and what is added to it is kept in a register.
+    fn is_last_use(&self, site: &Site) -> bool {
+        let base = site.access.base;
+        let live = self.old.live.after(site.slot, &site.insn);
+        let is_kept = matches!(site.region.base, Place::Register(_));
+        is_kept && !live.has(base) && !site.reads_base_twice()
     }
 
     /// A register for what is kept in the frame, another one than that of the pointer.
@@ -403,9 +439,16 @@ impl<'a> Writer<'a> {
     }
 
     /// Whether neither an access nor its function needs a register meanwhile.
-    fn is_spare(&self, site: &Site, r: Reg, but: Reg) -> bool {
+    pub fn is_spare(&self, site: &Site, r: Reg, but: Reg) -> bool {
         let taken = self.rooms.room(self.old.function(site.slot)).taken;
         r != but && !site.registers().has(r) && !taken.has(r)
+    }
+
+    /// A pointer that was made is gone where its register is used.
+    fn forget_for(&mut self, temp: Temp) {
+        if temp.way == Way::Free {
+            self.forget(temp.register);
+        }
     }
 
     /// Saves a register, if it is to be.

@@ -45,8 +45,14 @@ impl<'a> Writer<'a> {
 
     /// Puts what stands in the place of an old instruction.
     fn put_slot(&mut self, slot: u32, insn: &Insn) -> Result<(), HardenError> {
+        if self.old.outline.label(self.old.outline.block_of(slot)) == slot {
+            self.made = None;
+        }
         if let Some(counter) = self.rooms.counter(slot) {
             self.take_turn(slot, counter)?;
+        }
+        if let Some(early) = self.plan.early(slot) {
+            self.test_early(early)?;
         }
         let goes_on = match insn.access() {
             Some(access) => self.put_access(slot, insn, access)?,
@@ -55,11 +61,24 @@ impl<'a> Writer<'a> {
                 true
             }
         };
+        self.forget_behind(slot, insn);
         let next = slot.saturating_add(insn.slots());
         if goes_on && insn.goes_on() && self.kept(next).is_none() {
             self.trap(slot)?;
         }
         Ok(())
+    }
+
+    /// A pointer that was made is gone behind an instruction that writes one of its registers, or leads elsewhere.
+    fn forget_behind(&mut self, slot: u32, insn: &Insn) {
+        match Flow::of(slot, insn) {
+            Flow::Next => {
+                if let Some(r) = insn.register_written() {
+                    self.forget(r);
+                }
+            }
+            _ => self.made = None,
+        }
     }
 
     // ---- turns
@@ -70,8 +89,9 @@ impl<'a> Writer<'a> {
             return self.take_turn_in(slot, r);
         }
         let (r, saved) = self.turn_register(slot)?;
-        if let Some(place) = saved {
-            self.add(slot, keep(place, r), Change::Save)?;
+        match saved {
+            Some(place) => self.add(slot, keep(place, r), Change::Save)?,
+            None => self.forget(r),
         }
         self.add(slot, fetch(r, counter), Change::Turn)?;
         self.take_turn_in(slot, r)?;

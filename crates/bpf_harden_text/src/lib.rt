@@ -4,12 +4,14 @@
 
 mod access;
 mod draft;
+mod early;
 mod edits;
 mod emit;
 mod entry;
 mod parts;
 mod piece;
 mod region;
+mod share;
 mod writer;
 
 pub use draft::{Draft, Owner};

@@ -2,6 +2,7 @@
 
 use crate::parts::{JUMP, jump_if};
 use crate::piece::{Goal, Piece};
+use crate::share::Made;
 use bpf_harden_notes::Change;
 use bpf_harden_plan::{Old, Plan, Rooms};
 use bpf_infer_base::put;
@@ -25,6 +26,8 @@ pub struct Writer<'a> {
     pub traps: Vec<Option<u32>>,
     /// By functions' numbers, whether something leads to the trap.
     pub is_trapped: Vec<bool>,
+    /// The pointer that the next access may go by.
+    pub made: Option<Made>,
 }
 
 impl<'a> Writer<'a> {
@@ -45,6 +48,7 @@ impl<'a> Writer<'a> {
             entries: vec![in alloc; None; old.count()]?,
             traps: vec![in alloc; None; old.count()]?,
             is_trapped: vec![in alloc; false; old.count()]?,
+            made: None,
         })
     }
 

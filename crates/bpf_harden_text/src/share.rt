@@ -1,0 +1,164 @@
+//! Pointers that several accesses go by: those by one base that follow one another, with nothing that is tested in between.
+
+use crate::access::Site;
+use crate::edits::with_base;
+use crate::writer::Writer;
+use bpf_harden_notes::{Change, HardenError};
+use bpf_harden_plan::{BY_CHOICE, Registers};
+use bpf_insn::{Insn, Reg};
+use bpf_state::Place;
+
+/// How many instructions may lie between accesses that go by one pointer.
+const LONGEST_SHARE: u32 = 32;
+
+/// A pointer that was made of a base, and is there until one of both registers is written, or another instruction needs one.
+#[derive(Clone, Copy)]
+pub struct Made {
+    pub base: Reg,
+    pub pointer: Reg,
+    /// By how much the base was moved for it.
+    pub moved: i64,
+}
+
+/// Which register is to hold the pointer of an access and of further ones.
+#[derive(Clone, Copy)]
+pub enum Share {
+    /// No further one goes by it.
+    Alone,
+    /// This one, which no instruction in between needs.
+    By(Reg),
+    /// The base itself, which nothing reads but accesses, up to where it holds nothing more that is read.
+    Base,
+}
+
+/// What is found of the accesses by a base that follow one.
+#[derive(Clone, Copy)]
+struct Search {
+    /// The registers that nothing needs so far.
+    free: Registers,
+    /// The one that the pointer may be in.
+    found: Option<Reg>,
+    /// Whether there is a further access.
+    is_shared: bool,
+    /// Whether something else reads the base.
+    is_read: bool,
+}
+
+impl<'a> Writer<'a> {
+    /// A pointer that was made is gone where its register, or its base, is written.
+    pub fn forget(&mut self, written: Reg) {
+        if let Some(made) = self.made {
+            if made.pointer == written || made.base == written {
+                self.made = None;
+            }
+        }
+    }
+
+    /// The pointer of an access, where one was made already.
+    pub fn made_for(&self, site: &Site) -> Option<Made> {
+        match self.made {
+            Some(made) if made.base == site.access.base && site.guard.is_none() => Some(made),
+            _ => None,
+        }
+    }
+
+    /// Puts an access by a pointer that was made already.
+    pub fn access_by(&mut self, site: &Site, made: Made) -> Result<(), HardenError> {
+        let insn = with_base(&site.insn, made.pointer, site.displacement_from(made.moved));
+        self.add(site.slot, insn, Change::Access)?;
+        self.made = Some(made);
+        Ok(())
+    }
+
+    /// Which register is to hold the pointer of an access.
+    pub fn share(&self, site: &Site) -> Share {
+        let base = site.access.base;
+        let mut search = Search {
+            free: self.free_after(site),
+            found: None,
+            is_shared: false,
+            is_read: site.reads_base_twice() || !matches!(site.region.base, Place::Register(_)),
+        };
+        let mut slot = site.slot;
+        for _ in 0..LONGEST_SHARE {
+            let Some(next) = self.old.following(slot) else {
+                break;
+            };
+            let Some(insn) = self.plan.kept(self.old, next) else {
+                break;
+            };
+            self.look_at(&mut search, base, next, insn);
+            slot = next;
+            let is_written = insn.register_written() == Some(base);
+            let is_over = is_written || !self.old.live.after(slot, insn).has(base);
+            if is_over && search.is_shared && !search.is_read {
+                return Share::Base;
+            }
+            if is_over {
+                break;
+            }
+        }
+        match search.found {
+            Some(r) => Share::By(r),
+            None => Share::Alone,
+        }
+    }
+
+    /// The registers that hold nothing that is read behind an access, and that it doesn't fill.
+    fn free_after(&self, site: &Site) -> Registers {
+        let mut free = Registers::NONE;
+        let live = self.old.live.after(site.slot, &site.insn);
+        for r in BY_CHOICE {
+            if self.is_spare(site, r, site.access.base) && !live.has(r) {
+                free.add(r);
+            }
+        }
+        free
+    }
+
+    /// Takes note of an instruction that follows.
+    fn look_at(&self, search: &mut Search, base: Reg, slot: u32, insn: &Insn) {
+        let by_base = insn.access().is_some_and(|access| access.base == base);
+        if by_base && self.plan.guard(slot).is_none() && self.plan.constant(slot).is_none() {
+            search.is_shared = true;
+            if search.found.is_none() {
+                search.found = first_of(search.free);
+            }
+        } else {
+            search.is_read = search.is_read || reads(insn, base);
+        }
+        search.is_read = search.is_read || by_base && stores(insn, base);
+        if let Some(r) = insn.register_written() {
+            search.free.remove(r);
+        }
+    }
+}
+
+/// The first of some registers.
+fn first_of(registers: Registers) -> Option<Reg> {
+    for r in BY_CHOICE {
+        if registers.has(r) {
+            return Some(r);
+        }
+    }
+    None
+}
+
+/// Whether an instruction reads a register.
+fn reads(insn: &Insn, r: Reg) -> bool {
+    for read in insn.registers_read() {
+        if read == Some(r) {
+            return true;
+        }
+    }
+    false
+}
+
+/// Whether an access stores a register, or compares it.
+pub fn stores(insn: &Insn, r: Reg) -> bool {
+    match *insn {
+        Insn::Store { src, .. } => src == r,
+        Insn::Atomic { src, .. } => src == r || r == Reg::R0,
+        _ => false,
+    }
+}
