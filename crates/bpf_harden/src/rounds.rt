@@ -11,7 +11,7 @@ use bpf_harden_plan::{Guard, Kind, Old, Plan, Rooms, Span};
 use bpf_harden_text::emitted;
 use bpf_infer_base::{Flow, Meter, Watch, get_or, put};
 use bpf_insn::Reg;
-use std::alloc::Global;
+use std::alloc::{AllocError, Global};
 
 /// The most rounds. A round mends all faults or counts all loops of a depth, so few are needed.
 const ROUNDS: u32 = 48;
@@ -67,10 +67,7 @@ impl<'a> Rounds<'a> {
                 return Ok(true);
             }
         }
-        let mut lowest = Vec::with_capacity(self.alloc, loops.len())?;
-        for label in loops {
-            lowest.push(trial.draft.owner(*label).old)?;
-        }
+        let lowest = old_slots(self.alloc, trial, loops)?;
         let heads = heads_of(self.alloc, self.old, &self.plan, &lowest)?;
         let mut is_changed = false;
         for (slot, head) in lowest.iter().zip(heads.iter()) {
@@ -152,6 +149,15 @@ impl<'a> Rounds<'a> {
             _ => Ok(trial),
         }
     }
+}
+
+/// The old slots that labels of the new text belong to.
+fn old_slots(alloc: Global, trial: &Trial, labels: &[u32]) -> Result<Vec<u32>, AllocError> {
+    let mut slots = Vec::with_capacity(alloc, labels.len())?;
+    for label in labels {
+        slots.push(trial.draft.owner(*label).old)?;
+    }
+    Ok(slots)
 }
 
 /// A program rewritten under a plan until it has a certificate.
