@@ -24,7 +24,8 @@ enum bpf_answer {
     BPF_NO = 0,         /* refused, and the refusal says why */
     BPF_NO_MEMORY = -1, /* malloc gave none */
     BPF_BAD_CALL = -2,  /* an argument that no call takes: see each call */
-    BPF_TOO_SMALL = -3  /* the memory for the answer is too small */
+    BPF_TOO_SMALL = -3, /* the memory for the answer is too small */
+    BPF_TOO_LONG = -4   /* a run may take more instructions than are paid for */
 };
 
 /* The byte order of an image and of the memory that it runs on. */
@@ -76,6 +77,12 @@ size_t bpf_host_prepared_size(size_t image_len);
 int32_t bpf_host_prepare(const uint8_t *image, size_t image_len, uint32_t order, uint8_t *memory, size_t memory_len);
 int32_t bpf_host_run_checked(const uint8_t *memory, size_t memory_len, const uint8_t *context, size_t context_len,
                              uint64_t *value);
+size_t bpf_host_loaded_size(size_t image_len);
+int32_t bpf_host_load(const uint8_t *image, size_t image_len, uint32_t order, const uint8_t *certificate,
+                      size_t certificate_len, uint32_t limit, uint8_t *memory, size_t memory_len, struct bpf_verdict *verdict,
+                      struct bpf_refusal *refusal);
+int32_t bpf_host_run_loaded(const uint8_t *memory, size_t memory_len, const uint8_t *context, size_t context_len,
+                            uint64_t *value);
 int32_t bpf_host_run(const uint8_t *image, size_t image_len, uint32_t order, const uint8_t *context, size_t context_len,
                      uint64_t fuel, struct bpf_outcome *outcome);
 int32_t bpf_host_infer(const uint8_t *image, size_t image_len, uint32_t order, uint32_t least, uint32_t most, uint8_t *text,
@@ -151,6 +158,51 @@ static inline int32_t bpf_run_checked(const uint64_t *words, size_t words_len, c
     int32_t answer;
     if (!bpf_are_words(words, words_len) || !bpf_are_bytes(context, context_len)) return BPF_BAD_CALL;
     answer = bpf_host_run_checked((const uint8_t *)words, 8 * words_len, bpf_bytes(context), context_len, &value);
+    if (answer == BPF_YES && result) *result = value;
+    return answer;
+}
+
+/* How many words of memory the handle of an image of so many bytes takes; 0 where no image has that length. */
+static inline size_t bpf_loaded_size(size_t image_len) {
+    return bpf_host_loaded_size(image_len);
+}
+
+/* Judges an image by a certificate, and writes a handle for bpf_run_loaded, in words of the caller: bpf_verify and bpf_prepare in
+ * one call, on the same bytes. `limit` is the greatest bound that the caller pays for. What the words hold is the library's, and may
+ * be other in another version. They may be copied and moved. BPF_YES: the handle stands in the words, and *verdict is promised of
+ * the image. BPF_TOO_LONG: *verdict is promised, and its bound is above the limit. BPF_NO: *refusal says why, by E, K or C.
+ * BPF_NO_MEMORY. BPF_TOO_SMALL: there are fewer words than bpf_loaded_size(image_len), whatever the image holds. BPF_BAD_CALL,
+ * before all that: an order that isn't one, no bytes, no words, or words that lie in the image or the certificate. Only BPF_YES
+ * changes the words. */
+static inline int32_t bpf_load(const void *image, size_t image_len, uint32_t order, const void *certificate,
+                               size_t certificate_len, uint32_t limit, uint64_t *words, size_t words_len,
+                               struct bpf_verdict *verdict, struct bpf_refusal *refusal) {
+    size_t size = bpf_host_loaded_size(image_len), used = words_len < size ? words_len : size;
+    struct bpf_verdict promised = {0, 0, 0};
+    struct bpf_refusal why = {0, 0, 0, 0};
+    int32_t answer;
+    if (order > BPF_BIG || !bpf_are_bytes(image, image_len) || !bpf_are_bytes(certificate, certificate_len)) return BPF_BAD_CALL;
+    if (!bpf_are_words(words, words_len) || bpf_overlap(words, 8 * used, image, image_len)) return BPF_BAD_CALL;
+    if (bpf_overlap(words, 8 * used, certificate, certificate_len)) return BPF_BAD_CALL;
+    if (words_len < size) return BPF_TOO_SMALL;
+    answer = bpf_host_load(bpf_bytes(image), image_len, order, bpf_bytes(certificate), certificate_len, limit, (uint8_t *)words,
+                           8 * size, &promised, &why);
+    if ((answer == BPF_YES || answer == BPF_TOO_LONG) && verdict) *verdict = promised;
+    if (answer == BPF_NO && refusal) *refusal = why;
+    return answer;
+}
+
+/* Runs the program of a handle. BPF_YES: *result is what r0 holds at its end, which comes within the verdict's bound. BPF_BAD_CALL:
+ * no words, no bytes, or a context whose length isn't one of the verdict's; *result stays. Nothing is allocated.
+ *
+ * The caller's duty, which nobody looks at here: bpf_load said BPF_YES to these words, and they are as it left them. Where that
+ * isn't so, nothing is promised of what comes. */
+static inline int32_t bpf_run_loaded(const uint64_t *words, size_t words_len, const void *context, size_t context_len,
+                                     uint64_t *result) {
+    uint64_t value = 0;
+    int32_t answer;
+    if (!bpf_are_words(words, words_len) || !bpf_are_bytes(context, context_len)) return BPF_BAD_CALL;
+    answer = bpf_host_run_loaded((const uint8_t *)words, 8 * words_len, bpf_bytes(context), context_len, &value);
     if (answer == BPF_YES && result) *result = value;
     return answer;
 }

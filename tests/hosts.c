@@ -101,6 +101,27 @@ static void say_run(uint32_t order, const struct bytes *image, const struct byte
     }
 }
 
+/* A handle gives the same value, takes no context that is one byte beyond its range, and isn't written where the bound isn't paid for. */
+static void run_loaded(uint32_t order, const struct bytes *image, const struct bytes *certificate, const struct bytes *context,
+                       struct bpf_verdict v, uint64_t want) {
+    static const uint8_t beyond[4097];
+    size_t len = bpf_loaded_size(image->len);
+    struct bytes words = of_size(8 * len);
+    struct bpf_verdict told = {7, 7, 7};
+    uint64_t value = 7;
+    memset(words.at, 7, words.len);
+    if (bpf_load(image->at, image->len, order, certificate->at, certificate->len, v.bound - 1, (uint64_t *)words.at, len, &told, NULL) != BPF_TOO_LONG) abort();
+    for (size_t i = 0; i < words.len; i++)
+        if (words.at[i] != 7) abort();
+    if (memcmp(&told, &v, sizeof v)) abort();
+    if (bpf_load(image->at, image->len, order, certificate->at, certificate->len, v.bound, (uint64_t *)words.at, len, &told, NULL) != BPF_YES) abort();
+    if (memcmp(&told, &v, sizeof v)) abort();
+    if (bpf_run_loaded((uint64_t *)words.at, len, beyond, v.most + 1, &value) != BPF_BAD_CALL || value != 7) abort();
+    if (v.least && (bpf_run_loaded((uint64_t *)words.at, len, beyond, v.least - 1, &value) != BPF_BAD_CALL || value != 7)) abort();
+    if (bpf_run_loaded((uint64_t *)words.at, len, context->at, context->len, &value) != BPF_YES || value != want) abort();
+    free(words.at);
+}
+
 static void say_run_checked(uint32_t order, const struct bytes *image, const struct bytes *certificate,
                             const struct bytes *context) {
     struct bpf_verdict v;
@@ -121,6 +142,7 @@ static void say_run_checked(uint32_t order, const struct bytes *image, const str
     if (bpf_run_checked(p.words, p.len, context->at, context->len, &value) != BPF_YES) abort();
     printf("0 done %llu\n", (unsigned long long)value);
     free(p.words);
+    run_loaded(order, image, certificate, context, v, value);
 }
 
 /* The size is asked for first; then the text is written, and judged. */
@@ -269,6 +291,43 @@ static void bad_preparing(void) {
     WANTS(value, 0);
 }
 
+static void bad_loading(void) {
+    uint64_t words[12] = {7, 7, 7, 7, 7, 7, 7, 7, 7, 7, 7, 7};
+    size_t size = bpf_loaded_size(sizeof image);
+    struct bpf_verdict v = {7, 7, 7};
+    struct bpf_refusal why = {7, 7, 7, 7};
+    uint64_t value = 7;
+    WANTS(size > bpf_prepared_size(sizeof image) && size <= 12, 1);
+    WANTS(bpf_loaded_size(524296), 0);
+    WANTS(bpf_loaded_size(SIZE_MAX), 0);
+    WANTS(bpf_loaded_size(524288) > 0, 1);
+    WANTS(bpf_load(NULL, 16, BPF_LITTLE, CERTIFICATE, 9, words, 12, &v, &why), BPF_BAD_CALL);
+    WANTS(bpf_load(IMAGE, BPF_LITTLE, NULL, 9, 9, words, 12, &v, &why), BPF_BAD_CALL);
+    WANTS(bpf_load(IMAGE, 2, CERTIFICATE, 9, words, 12, &v, &why), BPF_BAD_CALL);
+    WANTS(bpf_load(IMAGE, 2, CERTIFICATE, 9, words, 1, &v, &why), BPF_BAD_CALL);
+    WANTS(bpf_load(IMAGE, BPF_LITTLE, CERTIFICATE, 9, NULL, 12, &v, &why), BPF_BAD_CALL);
+    WANTS(bpf_load(IMAGE, BPF_LITTLE, CERTIFICATE, 9, words, SIZE_MAX, &v, &why), BPF_BAD_CALL);
+    WANTS(bpf_load(words, 16, BPF_LITTLE, CERTIFICATE, 9, words, 12, &v, &why), BPF_BAD_CALL);
+    WANTS(bpf_load(IMAGE, BPF_LITTLE, words + 1, 16, 9, words, 12, &v, &why), BPF_BAD_CALL);
+    WANTS(bpf_load(IMAGE, BPF_LITTLE, CERTIFICATE, 9, words, size - 1, &v, &why), BPF_TOO_SMALL);
+    WANTS(v.least == 7 && why.kind == 7, 1);
+    WANTS(bpf_load(image, 12, BPF_LITTLE, CERTIFICATE, 9, words, 12, &v, &why), BPF_NO);
+    WANTS(why.kind == BPF_IMAGE && why.number == 1 && v.least == 7, 1);
+    WANTS(bpf_load(IMAGE, BPF_LITTLE, CERTIFICATE, 1, words, 12, &v, NULL), BPF_TOO_LONG);
+    WANTS(v.least == 0 && v.most == 0 && v.bound == 2, 1);
+    WANTS(bpf_load(IMAGE, BPF_LITTLE, CERTIFICATE, 1, words, 12, NULL, NULL), BPF_TOO_LONG);
+    for (int i = 0; i < 12; i++) WANTS(words[i], 7);
+    WANTS(bpf_load(IMAGE, BPF_LITTLE, CERTIFICATE, 2, words, 12, NULL, NULL), BPF_YES);
+    for (size_t i = size; i < 12; i++) WANTS(words[i], 7);
+    WANTS(bpf_run_loaded(NULL, 12, NULL, 0, &value), BPF_BAD_CALL);
+    WANTS(bpf_run_loaded(words, size, NULL, 1, &value), BPF_BAD_CALL);
+    WANTS(bpf_run_loaded(words, size, image, 1, &value), BPF_BAD_CALL);
+    WANTS(value, 7);
+    WANTS(bpf_run_loaded(words, size, NULL, 0, NULL), BPF_YES);
+    WANTS(bpf_run_loaded(words, 12, NULL, 0, &value), BPF_YES);
+    WANTS(value, 0);
+}
+
 static void bad_proposals(void) {
     char text[256] = "as it was";
     size_t wanted = 7;
@@ -308,6 +367,7 @@ static int bad(void) {
     bad_checks();
     bad_runs();
     bad_preparing();
+    bad_loading();
     bad_proposals();
     bad_texts();
     return wrong != 0;

@@ -12,7 +12,7 @@ enum { SLOTS = 65536 };
 struct job {
     uint8_t *image, *certificate;
     size_t image_len, certificate_len;
-    uint64_t *words;
+    uint64_t *words, *handle;
     struct bpf_verdict verdict;
     int wrong;
 };
@@ -21,6 +21,13 @@ static void *judge(void *at) {
     struct job *job = at;
     struct bpf_refusal why;
     job->wrong |= bpf_verify(job->image, job->image_len, BPF_LITTLE, job->certificate, job->certificate_len, &job->verdict, &why) != BPF_YES;
+    return NULL;
+}
+
+static void *load(void *at) {
+    struct job *job = at;
+    job->wrong |= bpf_load(job->image, job->image_len, BPF_LITTLE, job->certificate, job->certificate_len, UINT32_MAX, job->handle,
+                           bpf_loaded_size(job->image_len), NULL, NULL) != BPF_YES;
     return NULL;
 }
 
@@ -36,10 +43,11 @@ static void *run(void *at) {
     static const uint8_t context[4096];
     struct job *job = at;
     struct bpf_outcome outcome = {0, 0, 0, 0, 0};
-    uint64_t result = 0;
+    uint64_t result = 0, again = 0;
     size_t len = bpf_prepared_size(job->image_len);
     job->wrong |= bpf_prepare(job->image, job->image_len, BPF_LITTLE, job->words, len) != BPF_YES;
     job->wrong |= bpf_run_checked(job->words, len, context, job->verdict.least, &result) != BPF_YES;
+    job->wrong |= bpf_run_loaded(job->handle, bpf_loaded_size(job->image_len), context, job->verdict.least, &again) != BPF_YES || again != result;
     job->wrong |= bpf_run(job->image, job->image_len, BPF_LITTLE, context, job->verdict.least, 1000000, &outcome) != BPF_YES;
     job->wrong |= outcome.kind != BPF_DONE || outcome.value != result;
     return NULL;
@@ -54,11 +62,13 @@ static void in_thread(void *(*call)(void *), struct job *job, size_t stack) {
 
 static void try_all(struct job *job, const char *name) {
     job->words = malloc(8 * bpf_prepared_size(job->image_len));
-    if (!job->words) abort();
+    job->handle = malloc(8 * bpf_loaded_size(job->image_len));
+    if (!job->words || !job->handle) abort();
     in_thread(judge, job, JUDGING_STACK);
+    in_thread(load, job, JUDGING_STACK);
     in_thread(infer, job, INFERRING_STACK);
     in_thread(run, job, LITTLE_STACK);
-    free(job->words);
+    free(job->words), free(job->handle);
     if (!job->wrong) return;
     fprintf(stderr, "stack: %s: a wrong answer\n", name);
     exit(1);
@@ -77,7 +87,7 @@ static uint8_t *read_file(const char *name, size_t *len) {
 static void try_longest(void) {
     static uint8_t image[SLOTS * 8];
     static char certificate[] = "bpfcert 1 0 65536\nfn 0 1 *\nat 0 65536\nend\n";
-    struct job job = {image, (uint8_t *)certificate, sizeof image, sizeof certificate - 1, NULL, {0, 0, 0}, 0};
+    struct job job = {image, (uint8_t *)certificate, sizeof image, sizeof certificate - 1, NULL, NULL, {0, 0, 0}, 0};
     for (size_t slot = 0; slot < SLOTS; slot++) image[8 * slot] = slot + 1 < SLOTS ? 0xb7 : 0x95;
     try_all(&job, "the longest image");
 }

@@ -26,16 +26,16 @@ public:
      */
     Filter(const std::vector<std::uint8_t> &image, const std::vector<std::uint8_t> &certificate, bpf_order order, std::uint32_t greatest) {
         bpf_refusal why;
-        switch (bpf_verify(image.data(), image.size(), order, certificate.data(), certificate.size(), &verdict_, &why)) {
+        std::size_t size = bpf_loaded_size(image.size());
+        words_.resize(size + 1); /* some, also where no image has that length */
+        switch (bpf_load(image.data(), image.size(), order, certificate.data(), certificate.size(), greatest, words_.data(), size, &verdict_, &why)) {
         case BPF_YES: break;
         case BPF_NO: throw Refused(words_of(why));
-        default: throw std::bad_alloc();
-        }
-        if (verdict_.bound > greatest)
+        case BPF_TOO_LONG:
             throw Refused("a run may take " + std::to_string(verdict_.bound) + " instructions, and this host pays for " +
                           std::to_string(greatest) + " at most");
-        words_.resize(bpf_prepared_size(image.size()));
-        bpf_prepare(image.data(), image.size(), order, words_.data(), words_.size());
+        default: throw std::bad_alloc();
+        }
     }
 
     /* What is promised of the filter. */
@@ -43,9 +43,9 @@ public:
 
     /* What the filter says of a context. Throws std::length_error if its length isn't one of the verdict's. */
     std::uint64_t run(const std::uint8_t *context, std::size_t len) const {
-        if (len < verdict_.least || len > verdict_.most) throw std::length_error("a context of another length than was judged");
         std::uint64_t result = 0;
-        bpf_run_checked(words_.data(), words_.size(), context, len, &result);
+        if (bpf_run_loaded(words_.data(), words_.size(), context, len, &result) != BPF_YES)
+            throw std::length_error("a context of another length than was judged");
         return result;
     }
 

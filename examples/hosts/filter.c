@@ -72,34 +72,26 @@ static void say_refusal(const struct bpf_refusal *why) {
             why->kind == BPF_CERTIFICATE ? "line" : "slot", (unsigned long long)why->place, text);
 }
 
-/* Whether this host takes what was promised: a run isn't too long, and a block has room for a length. */
-static void take(const struct bpf_verdict *verdict) {
-    if (verdict->bound > GREATEST_BOUND) {
+/* Judges the image, and prepares its program. A block has to have room for a length. */
+static void load(struct filter *filter, const struct bytes *image, const struct bytes *certificate, uint32_t order) {
+    struct bpf_verdict *verdict = &filter->verdict;
+    struct bpf_refusal why;
+    filter->order = order;
+    filter->words_len = bpf_loaded_size(image->len);
+    filter->words = calloc(filter->words_len + 1, sizeof *filter->words); /* some, also where no image has that length */
+    if (!filter->words) fail("no memory for", "the program");
+    switch (bpf_load(image->at, image->len, order, certificate->at, certificate->len, GREATEST_BOUND, filter->words, filter->words_len, verdict, &why)) {
+    case BPF_YES: break;
+    case BPF_NO: say_refusal(&why); exit(1);
+    case BPF_TOO_LONG:
         fprintf(stderr, "filter: a run may take %u instructions, and this host pays for %d at most\n", (unsigned)verdict->bound, GREATEST_BOUND);
         exit(1);
+    case BPF_NO_MEMORY: fprintf(stderr, "filter: no memory\n"); exit(3);
+    default: fprintf(stderr, "filter: a bad call of bpf_load\n"); exit(3);
     }
     if (verdict->most < LENGTH_BYTES) {
         fprintf(stderr, "filter: a context of %u bytes has no room for the frame's length, %d bytes\n", (unsigned)verdict->most, LENGTH_BYTES);
         exit(1);
-    }
-}
-
-/* Judges the image, and prepares its program. */
-static void load(struct filter *filter, const struct bytes *image, const struct bytes *certificate, uint32_t order) {
-    struct bpf_refusal why;
-    switch (bpf_verify(image->at, image->len, order, certificate->at, certificate->len, &filter->verdict, &why)) {
-    case BPF_YES: take(&filter->verdict); break;
-    case BPF_NO: say_refusal(&why); exit(1);
-    case BPF_NO_MEMORY: fprintf(stderr, "filter: no memory\n"); exit(3);
-    default: fprintf(stderr, "filter: a bad call of bpf_verify\n"); exit(3);
-    }
-    filter->order = order;
-    filter->words_len = bpf_prepared_size(image->len);
-    filter->words = calloc(filter->words_len, sizeof *filter->words);
-    if (!filter->words) fail("no memory for", "the program");
-    if (bpf_prepare(image->at, image->len, order, filter->words, filter->words_len) != BPF_YES) {
-        fprintf(stderr, "filter: a bad call of bpf_prepare\n");
-        exit(3);
     }
 }
 
@@ -115,10 +107,10 @@ static size_t fill(struct filter *filter, const uint8_t *frame, size_t len) {
     return most;
 }
 
-/* What the filter says of a frame: other than 0 accepts it. The duties of bpf_run_checked are kept here. */
+/* What the filter says of a frame: other than 0 accepts it. Nothing changes the words behind bpf_load, as bpf_run_loaded wants. */
 static int accepts(struct filter *filter, const uint8_t *frame, size_t len) {
     uint64_t result = 0;
-    bpf_run_checked(filter->words, filter->words_len, filter->block, fill(filter, frame, len), &result);
+    bpf_run_loaded(filter->words, filter->words_len, filter->block, fill(filter, frame, len), &result);
     return result != 0;
 }
 

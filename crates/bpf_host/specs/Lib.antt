@@ -2,3 +2,4 @@ pub mod Texts
 pub mod Told
 pub mod Answers
 pub mod Prepared
+pub mod Loaded

@@ -20,6 +20,8 @@ pub(crate) const NO_MEMORY: i32 = -1;
 pub(crate) const BAD_CALL: i32 = -2;
 /// The memory for the answer is too small.
 pub(crate) const TOO_SMALL: i32 = -3;
+/// A run may take more instructions than are paid for.
+pub(crate) const TOO_LONG: i32 = -4;
 
 /// What is promised of an image: on every context of `least` to `most` bytes it ends within `bound` instructions.
 #[repr(C)]

@@ -10,10 +10,12 @@ ghost use Rattle.bpf_check.specs.Verdicts.{Verified, Promises, Certifies};
 ghost use Rattle.bpf_host.specs.Texts.{refusal_text};
 ghost use Rattle.bpf_host.specs.Told.{order_named, IsNumbered};
 ghost use Rattle.bpf_host.specs.Prepared.{IsPrepared};
+ghost use Rattle.bpf_host.specs.Loaded.{IsLoaded, HoldsLoaded, EndsAsLoaded, loaded_least, loaded_most};
 ghost use Rattle.bpf_host.specs.Answers.{IsRefusedAsTold, IsNoImage, RanImage, IsUnrun, MayRun, EndsAsPrepared, GivesProposal, WantsRoom, IsNotProposed};
 
 mod answers;
 mod checked;
+mod loaded;
 mod ordered;
 mod prepared;
 mod proposal;
@@ -22,11 +24,12 @@ mod texts;
 
 pub use answers::{BpfOutcome, BpfRefusal, BpfVerdict};
 use answers::{
-    BAD_CALL, DONE, NO_MEMORY, REFUSED, TOO_SMALL, of_outcome, of_verify, order_of, unrun,
+    BAD_CALL, DONE, NO_MEMORY, REFUSED, TOO_LONG, TOO_SMALL, of_outcome, of_verify, order_of, unrun,
 };
 use bpf_check::verify;
 use bpf_insn::{MAX_CONTEXT, MAX_IMAGE, ProgramView};
 use checked::end_of;
+use loaded::{end_of_loaded, handle_size, has_handle_room, put_loaded, takes};
 use prepared::{has_room, put, size_for};
 use proposal::{Unproposed, give, proposal};
 use runs::outcome_of;
@@ -160,6 +163,89 @@ pub extern "C" fn bpf_host_run_checked(memory: &[u8], context: &[u8], value: &mu
     ensures ends { EndsAsPrepared memory.now context.now value.new }
 {
     *value = end_of(memory, context);
+    DONE
+}
+
+/// How many words of eight bytes the handle of an image of `image_len` bytes takes; 0 where no image is as long.
+#[unsafe(no_mangle)]
+pub extern "C" fn bpf_host_loaded_size(image_len: usize) -> usize
+    ensures words { image_len ≤ 524288 → image_len % 8 ≡ 0 → 0 < image_len → 8 * result ≡ 40 + image_len }
+    ensures none { (524288 < image_len) ⊎ ((image_len ≡ 0) ⊎ (0 < image_len % 8)) → result ≡ 0 }
+{
+    if image_len == 0 || image_len > MAX_IMAGE || image_len % 8 != 0 {
+        return 0;
+    }
+    handle_size(image_len) / 8
+}
+
+/// Judges an image by a certificate, as `bpf_host_verify` does, and writes a handle for `bpf_host_run_loaded`, in `memory` of
+/// 8 times `bpf_host_loaded_size` bytes. 1: `memory` is the handle, and `verdict` is what is promised. 0: the image is
+/// refused, and `refusal` says why. -1: memory ran out while the certificate was read. -2: the order is neither 0 nor 1.
+/// -3: the memory has another size. -4: the bound is above `limit`, and `verdict` is what is promised. What isn't answered
+/// stays as it was, and but for 1 so does the memory.
+#[unsafe(no_mangle)]
+pub extern "C" fn bpf_host_load(
+    alloc: Global,
+    image: &[u8],
+    order: u32,
+    certificate: &[u8],
+    limit: u32,
+    memory: &mut [u8],
+    verdict: &mut BpfVerdict,
+    refusal: &mut BpfRefusal,
+) -> i32
+    ensures loaded { result ≡ pos 1 → IsLoaded (order_named order) image.now verdict.new.least verdict.new.most verdict.new.bound memory.new }
+    ensures yes { (result ≡ pos 1) ⊎ (result ≡ negsuc 3) → Verified (order_named order) image.now verdict.new.least verdict.new.most verdict.new.bound }
+    ensures promised { (result ≡ pos 1) ⊎ (result ≡ negsuc 3) → Promises (order_named order) image.now certificate.now verdict.new.least verdict.new.most verdict.new.bound }
+    ensures paid { result ≡ pos 1 → verdict.new.bound ≤ limit }
+    ensures long { result ≡ negsuc 3 → limit < verdict.new.bound }
+    ensures no { result ≡ pos 0 → IsRefusedAsTold (order_named order) image.now certificate.now refusal.new }
+    ensures memory { result ≡ negsuc 0 → (is : List Instruction) × IsImageOfProgram (order_named order) image.now is }
+    ensures call { (result ≡ negsuc 1) ↔ (1 < order) }
+    ensures small { result ≡ negsuc 2 → length memory.old ≢ 40 + length image.now }
+    ensures size { result ≡ pos 1 → length memory.old ≡ 40 + length image.now }
+    ensures answers { (result ≡ pos 1) ⊎ (result ≡ pos 0) ⊎ (result ≡ negsuc 0) ⊎ (result ≡ negsuc 1) ⊎ (result ≡ negsuc 2) ⊎ (result ≡ negsuc 3) }
+    ensures memory_kept { (result ≡ pos 1) ⊎ (memory.new ≡ memory.old) }
+    ensures verdict_kept { (result ≡ pos 1) ⊎ (result ≡ negsuc 3) ⊎ (verdict.new ≡ verdict.old) }
+    ensures refusal_kept { (result ≡ pos 0) ⊎ (refusal.new ≡ refusal.old) }
+{
+    let Some(byte_order) = order_of(u64::from(order)) else {
+        return BAD_CALL;
+    };
+    let mut promised = BpfVerdict {
+        least: 0,
+        most: 0,
+        bound: 0,
+    };
+    let answer = bpf_host_verify(alloc, image, order, certificate, &mut promised, refusal);
+    if answer != DONE {
+        return answer;
+    }
+    if !has_handle_room(memory, image.len()) {
+        return TOO_SMALL;
+    }
+    *verdict = promised;
+    if promised.bound > limit {
+        return TOO_LONG;
+    }
+    put_loaded(image, byte_order, promised, memory);
+    DONE
+}
+
+/// Runs the program of a handle that `bpf_host_load` wrote. 1: it ended with `value`, within the handle's bound. -2: the
+/// context's length is out of the handle's range, and `value` stays as it was. It takes no memory.
+#[unsafe(no_mangle)]
+pub extern "C" fn bpf_host_run_loaded(memory: &[u8], context: &[u8], value: &mut u64) -> i32
+    requires { HoldsLoaded memory.now }
+    ensures ends { result ≡ pos 1 → EndsAsLoaded memory.now context.now value.new }
+    ensures call { (result ≡ negsuc 1) ↔ ((length context.now < loaded_least memory.now) ⊎ (loaded_most memory.now < length context.now)) }
+    ensures answers { (result ≡ pos 1) ⊎ (result ≡ negsuc 1) }
+    ensures kept { (result ≡ pos 1) ⊎ (value.new ≡ value.old) }
+{
+    if !takes(memory, context.len()) {
+        return BAD_CALL;
+    }
+    *value = end_of_loaded(memory, context);
     DONE
 }
 

@@ -31,24 +31,20 @@ pub struct Refusal {
 
 #[link(name = "bpf_host", kind = "static")]
 unsafe extern "C" {
-    fn bpf_host_verify(
+    fn bpf_host_loaded_size(image_len: usize) -> usize;
+    fn bpf_host_load(
         image: *const u8,
         image_len: usize,
         order: u32,
         certificate: *const u8,
         certificate_len: usize,
+        limit: u32,
+        memory: *mut c_void,
+        memory_len: usize,
         verdict: &mut Verdict,
         refusal: &mut Refusal,
     ) -> i32;
-    fn bpf_host_prepared_size(image_len: usize) -> usize;
-    fn bpf_host_prepare(
-        image: *const u8,
-        image_len: usize,
-        order: u32,
-        memory: *mut c_void,
-        memory_len: usize,
-    ) -> i32;
-    fn bpf_host_run_checked(
+    fn bpf_host_run_loaded(
         memory: *const c_void,
         memory_len: usize,
         context: *const u8,
@@ -118,43 +114,32 @@ impl Filter {
         greatest: u32,
     ) -> Result<Filter, LoadError> {
         let (mut verdict, mut refusal) = (Verdict::default(), Refusal::default());
-        // SAFETY: the pointers and lengths are those of slices.
+        // SAFETY: a number goes in and a number comes back.
+        let mut words = vec![0u64; unsafe { bpf_host_loaded_size(image.len()) }];
+        // SAFETY: the pointers and lengths are those of slices and of a vector's words.
         let answer = unsafe {
-            bpf_host_verify(
+            bpf_host_load(
                 image.as_ptr(),
                 image.len(),
                 order as u32,
                 certificate.as_ptr(),
                 certificate.len(),
+                greatest,
+                words.as_mut_ptr().cast(),
+                8 * words.len(),
                 &mut verdict,
                 &mut refusal,
             )
         };
         match answer {
-            1 if verdict.bound > greatest => Err(LoadError::TooLong {
+            1 => Ok(Filter { verdict, words }),
+            0 => Err(LoadError::Refused(refusal)),
+            -4 => Err(LoadError::TooLong {
                 bound: verdict.bound,
                 greatest,
             }),
-            1 => Filter::prepared(image, order, verdict).ok_or(LoadError::NoMemory),
-            0 => Err(LoadError::Refused(refusal)),
             _ => Err(LoadError::NoMemory),
         }
-    }
-
-    fn prepared(image: &[u8], order: Order, verdict: Verdict) -> Option<Filter> {
-        // SAFETY: a number goes in and a number comes back.
-        let mut words = vec![0u64; unsafe { bpf_host_prepared_size(image.len()) }];
-        // SAFETY: the pointers and lengths are those of a slice and of a vector's words.
-        let answer = unsafe {
-            bpf_host_prepare(
-                image.as_ptr(),
-                image.len(),
-                order as u32,
-                words.as_mut_ptr().cast(),
-                8 * words.len(),
-            )
-        };
-        (answer == 1).then_some(Filter { verdict, words })
     }
 
     /// What is promised of the filter.
@@ -164,14 +149,10 @@ impl Filter {
 
     /// What the filter says of a context; None if its length isn't one of the verdict's.
     pub fn run(&self, context: &[u8]) -> Option<u64> {
-        if !(self.verdict.least as usize..=self.verdict.most as usize).contains(&context.len()) {
-            return None;
-        }
         let mut value = 0;
-        // SAFETY: the words are those that were prepared of the image that was judged, and the context's length is one of the
-        // verdict's.
+        // SAFETY: the words are the handle that a load wrote.
         let answer = unsafe {
-            bpf_host_run_checked(
+            bpf_host_run_loaded(
                 self.words.as_ptr().cast(),
                 8 * self.words.len(),
                 context.as_ptr(),
