@@ -1,12 +1,14 @@
 -- Taking lines from a text, and the answers to them.
-use Rattle.std.proofs.Common.{◌≡◌, ◌≢◌, ◌==◌, ℕ, ◌+◌, ◌<◌, true, false, List, [], ◌∷◌, ◌++◌, length, max, nat_lt, Option, Some, None, IfSome, Ok, Err, suc, refl, sym, ap, ap₂, subst, ◌∙◌, append-nil, append_assoc, length-append, arith}
+use Rattle.std.proofs.Common.{◌≡◌, ◌≢◌, ◌==◌, ℕ, ◌+◌, ◌<◌, true, false, List, [], ◌∷◌, ◌++◌, length, max, nat_lt, Option, Some, None, IfSome, Ok, Err, inl, inr, suc, refl, sym, ap, ap₂, subst, ◌∙◌, append-nil, append_assoc, length-append, arith}
 use Rattle.std.specs.Prelude.{⊤}
 use Rattle.std.proofs.lemmas.Grind.{flat_map-append}
 use Rattle.std.proofs.lemmas.List.Elements.{All-append, All-cons, All-head, All-nil, All-tail}
 use Rattle.std.proofs.KnownBytes.{Appends-nil, Appends-trans}
 use Rattle.std.specs.Io.KnownBytes.{Appends, Consumes, IsAtEnd}
 use Rattle.bpf_lines.specs.Taken.{IsOneLine}
-use Rattle.bpf_answers.specs.Answer.{Answer, Says, status_of, text_of}
+use Rattle.bpf_answers.specs.Answer.{Answer, Says, Unfinished, status_of, text_of}
+use Rattle.bpf_answers.specs.Each.{LinesLeft}
+use Rattle.bpf_answers.proofs.MadeLemmas.{keeps}
 use Rattle.bpf_answers.specs.Lines.{BegunLines, FirstRefused, LineSays, LinesSay, NextLine, Spelled, Turns, RefusedLine, lines_in, line_context, max_line, onto, texts_of, worst}
 use Rattle.bpf_answers.specs.declared.context.ContextError.{ContextError}
 use Rattle.bpf_answers.specs.declared.context.ContextError.TheVariants.{TooLong}
@@ -200,3 +202,32 @@ begun says known rest before after status count h = (h.answers, h.printed, some_
 pub refused_line : (says : List ℕ → Answer → Type 0) (known rest before after : Option (List ℕ)) (status count : ℕ) (error : ContextError) → SoFar says known rest before after status count → IfSome rest (λ text. FirstRefused text error)
     → (answers : List Answer) × Appends before after (texts_of answers) × IfSome known (λ text. RefusedLine says text answers error (count + 1))
 refused_line says known rest before after status count error h bad = (h.answers, h.printed, line_refused known rest says h.answers count error h.count_is h.split bad)
+
+-- what is left where nothing is printed behind the answers
+pub lines_left : (says : List ℕ → Answer → Type 0) (known rest before after : Option (List ℕ)) (status count : ℕ) → SoFar says known rest before after status count → LinesLeft says known before after
+lines_left says known rest before after status count h = record {
+  answers = h.answers;
+  between = after;
+  printed = h.printed;
+  said = some_said known rest says h.answers h.split;
+  next = inl (keeps after);
+}
+
+next_left : (says : List ℕ → Answer → Type 0) (known rest new mid after : Option (List ℕ)) (answers : List Answer) (line context : List ℕ)
+    → Split known rest says answers → NextLine rest new line → line_context line ≡ Ok context → Unfinished (says context) mid after
+    → Unfinished (λ answer. IfSome known (λ text. BegunLines says text (answers ++ answer ∷ []))) mid after
+next_left says known rest new mid after answers line context h next spelled (inl kept) = inl kept
+next_left says known rest new mid after answers line context h next spelled (inr (answer, begun, said)) =
+    let one : LineSays says line answer = record { context = context; spelled = spelled; said = said } in
+    inr (answer, begun, some_said known new says (answers ++ answer ∷ []) (split_more known rest new says answers line answer h next one))
+
+-- what is left where the answer to the next line fails
+pub line_left : (says : List ℕ → Answer → Type 0) (known rest new before mid after : Option (List ℕ)) (status count : ℕ) (line context : List ℕ)
+    → SoFar says known rest before mid status count → NextLine rest new line → line_context line ≡ Ok context → Unfinished (says context) mid after → LinesLeft says known before after
+line_left says known rest new before mid after status count line context h next spelled left = record {
+  answers = h.answers;
+  between = mid;
+  printed = h.printed;
+  said = some_said known rest says h.answers h.split;
+  next = next_left says known rest new mid after h.answers line context h.split next spelled left;
+}

@@ -31,7 +31,8 @@ pub on_failure : {A E : Type 0} (result : Result A E) (P : Type 0) → P → IfE
 on_failure (Ok x) P h = tt
 on_failure (Err e) P h = h
 
-keeps : (known : Option (List ℕ)) → Keeps known known
+-- nothing was printed
+pub keeps : (known : Option (List ℕ)) → Keeps known known
 keeps None = tt
 keeps (Some xs) = refl
 

@@ -1,8 +1,8 @@
 -- The answers to the contexts at a name, one a line.
-use Rattle.std.specs.Prelude.{◌≡◌, ◌⊎◌, ℕ, List, Option, Some, None, IfSome}
-use Rattle.std.specs.Io.KnownBytes.{Appends}
+use Rattle.std.specs.Prelude.{◌≡◌, ◌⊎◌, ◌++◌, ℕ, List, [], ◌∷◌, Option, Some, None, IfSome}
+use Rattle.std.specs.Io.KnownBytes.{Appends, Keeps}
 use Rattle.bpf_places.specs.Opened.{Opening}
-use Rattle.bpf_answers.specs.Answer.{Answer}
+use Rattle.bpf_answers.specs.Answer.{Answer, Unfinished}
 use Rattle.bpf_answers.specs.Lines.{AllAnswered, BegunLines, RefusedLine, texts_of}
 use Rattle.bpf_answers.specs.Told.{OutputFails}
 use Rattle.bpf_answers.specs.declared.failure.Failure.{Failure}
@@ -29,3 +29,17 @@ FailsAt opening old contexts new says before after (CannotRead name) =
 FailsAt opening old contexts new says before after (BadLine error number) =
     (known : Option (List ℕ)) × opening old contexts (Some known) new × LinesFail says known before after contexts (BadLine error number)
 FailsAt opening old contexts new says before after failure = OutputFails failure
+
+-- the first lines of a text, as far as it is known, were answered, and perhaps a beginning was printed of the answer to the next one
+pub record LinesLeft (says : List ℕ → Answer → Type 0) (known before after : Option (List ℕ)) : Type 0 where
+  pub answers : List Answer
+  pub between : Option (List ℕ)
+  pub printed : Appends before between (texts_of answers)
+  pub said : IfSome known (λ text. BegunLines says text answers)
+  pub next : Unfinished (λ answer. IfSome known (λ text. BegunLines says text (answers ++ answer ∷ []))) between after
+
+-- where that fails, the name couldn't be opened and nothing was printed, or the first of its lines were answered
+abbrev pub LeftAt : {S : Type 0} → Opening S → S → List ℕ → S → (List ℕ → Answer → Type 0) → Option (List ℕ) → Option (List ℕ) → Type 0
+LeftAt opening old contexts new says before after =
+    (opening old contexts None new × Keeps before after)
+    ⊎ ((known : Option (List ℕ)) × opening old contexts (Some known) new × LinesLeft says known before after)

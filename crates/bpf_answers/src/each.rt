@@ -3,7 +3,7 @@
 ghost use Rattle.std.specs.Prelude.{◌≡◌, ◌≤◌, IfOk, IfErr, length};
 ghost use Rattle.bpf_places.specs.Opened.{opening};
 ghost use Rattle.bpf_answers.specs.Lines.{AllAnswered, Spelled, Turns};
-ghost use Rattle.bpf_answers.specs.Each.{AnswersAt, FailsAt, LinesFail};
+ghost use Rattle.bpf_answers.specs.Each.{AnswersAt, FailsAt, LeftAt, LinesFail, LinesLeft};
 
 use crate::context::ContextError;
 use crate::failure::{DONE, Failure};
@@ -17,13 +17,14 @@ use std::io::{Read, Write};
 /// What answers contexts.
 pub trait Runner {
     ghost use Rattle.std.specs.Prelude.{◌≤◌, ℕ, List, IfOk, IfErr, length};
-    ghost use Rattle.bpf_answers.specs.Answer.{Answer, Answered};
+    ghost use Rattle.bpf_answers.specs.Answer.{Answer, Answered, Unfinished};
     ghost use Rattle.bpf_answers.specs.Told.{OutputFails};
 
     /// What is answered to a context.
     ghost says: { Self → List ℕ → Answer → Type 0 };
 
-    /// Prints the answer to a context in a line, and gives its status.
+    /// Prints the answer to a context in a line, and gives its status. Where that fails, standard output has at most a beginning
+    /// of the line.
     fn answer<'a, W: Write>(
         &self,
         alloc: Global,
@@ -32,7 +33,8 @@ pub trait Runner {
     ) -> Result<u8, Failure<'a>>
         requires { length context.now ≤ 4096 }
         ensures ok { IfOk result (Answered (says self.now context.now) (W.contents out.old) (W.contents out.new)) }
-        ensures err { IfErr result OutputFails };
+        ensures err { IfErr result OutputFails }
+        ensures begun { IfErr result (λ _. Unfinished (says self.now context.now) (W.contents out.old) (W.contents out.new)) };
 }
 
 /// What is found of the next context.
@@ -94,6 +96,7 @@ fn answer_lines<'a, R: Read + Drop, Q: Runner, W: Write>(
 ) -> Result<u8, Failure<'a>>
     ensures ok { IfOk result (AllAnswered (Q.says runner.now) lines.old (W.contents out.old) (W.contents out.new)) }
     ensures err { IfErr result (LinesFail (Q.says runner.now) lines.old (W.contents out.old) (W.contents out.new) name.entry.now) }
+    ensures begun { IfErr result (λ _. LinesLeft (Q.says runner.now) lines.old (W.contents out.old) (W.contents out.new)) }
 {
     let mut line: ArrayVec<u8, 8192> = ArrayVec::new();
     let mut buffer = [0; MAX_CONTEXT];
@@ -115,8 +118,8 @@ fn answer_lines<'a, R: Read + Drop, Q: Runner, W: Write>(
     Err(Failure::NoMemory)
 }
 
-/// Answers each context of the lines at a name, and gives the greatest of the statuses. A line that is refused ends it, and
-/// what was answered before stands.
+/// Answers each context of the lines at a name, and gives the greatest of the statuses. A line that is refused ends it, and so
+/// does whatever else fails; what was answered before stands.
 pub fn answered<'a, P: Places, Q: Runner, W: Write>(
     alloc: Global,
     places: &mut P,
@@ -126,6 +129,7 @@ pub fn answered<'a, P: Places, Q: Runner, W: Write>(
 ) -> Result<u8, Failure<'a>>
     ensures ok { IfOk result (AnswersAt (opening P.opens P.Reader.remaining) places.old name.entry.now places.new (Q.says runner.now) (W.contents out.old) (W.contents out.new)) }
     ensures err { IfErr result (FailsAt (opening P.opens P.Reader.remaining) places.old name.entry.now places.new (Q.says runner.now) (W.contents out.old) (W.contents out.new)) }
+    ensures begun { IfErr result (λ _. LeftAt (opening P.opens P.Reader.remaining) places.old name.entry.now places.new (Q.says runner.now) (W.contents out.old) (W.contents out.new)) }
 {
     let reader = match places.open(name) {
         Ok(reader) => reader,

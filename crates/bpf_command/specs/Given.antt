@@ -7,8 +7,9 @@ use Rattle.bpf_check.specs.CheckedProgram.{IsCertifiedBy, checked}
 use Rattle.bpf_answers.specs.Context.{context_in, max_context}
 use Rattle.bpf_places.specs.Opened.{Opening, Unreadable}
 use Rattle.bpf_answers.specs.Loaded.{LoadsImage, ImageFails, CertificateAt, CertificateFails, ContextAt, ContextFails}
-use Rattle.bpf_answers.specs.Answer.{Answer, Answered, Says}
-use Rattle.bpf_answers.specs.Each.{AnswersAt, FailsAt}
+use Rattle.std.specs.Io.KnownBytes.{Keeps}
+use Rattle.bpf_answers.specs.Answer.{Answer, Answered, Says, Unfinished}
+use Rattle.bpf_answers.specs.Each.{AnswersAt, FailsAt, LeftAt}
 use Rattle.bpf_command.specs.Printed.{FailsWith, ImageSays, JudgedSays, LoadedFails, OutcomeSays, ResultSays, RunCheckedSays}
 use Rattle.bpf_answers.specs.Told.{OutputFails}
 use Rattle.bpf_answers.specs.declared.context.ContextError.TheVariants.{TooLong}
@@ -107,3 +108,46 @@ CheckedFails opening order old input certificate (Bytes name) new before after f
 CheckedFails opening order old input certificate (Lines name) new before after failure = CheckedEachFails opening order old input certificate name.now new before after failure
 CheckedFails opening order old input certificate Nothing new before after failure = (failure ≡ NoContext) × (new ≡ old)
 CheckedFails opening order old input certificate Several new before after failure = (failure ≡ ContextTwice) × (new ≡ old)
+
+-- ---- what stands on standard output where that fails
+
+-- what is answered on the context that the word spells
+abbrev pub OnWord : List ℕ → (List ℕ → Answer → Type 0) → Answer → Type 0
+OnWord hex says answer = (context : List ℕ) × (context_in hex ≡ Ok context) × says context answer
+
+-- what is answered on the context at a name
+abbrev pub OnNamed : {S : Type 0} → Opening S → S → List ℕ → (S → List ℕ → Answer → Type 0) → Answer → Type 0
+OnNamed {S} opening old name says answer = (context : List ℕ) × (between : S) × ContextAt opening old name between context × says between context answer
+
+-- nothing, a beginning of the image's refusal, or the answers to the first lines
+abbrev pub RunEachLeaves : {S : Type 0} → Opening S → Order → S → List ℕ → List ℕ → ℕ → S → Option (List ℕ) → Option (List ℕ) → Type 0
+RunEachLeaves {S} opening order old input contexts fuel new before after =
+    Unfinished (ImageSays opening order old input new (λ p x. ⊥)) before after
+    ⊎ ((between : S) × (p : Instructions) × LoadsImage opening order old input between p × LeftAt opening between contexts new (λ context. OutcomeSays context fuel p) before after)
+
+abbrev pub JudgedEachLeaves : {S : Type 0} → Opening S → S → List ℕ → List ℕ → S → Instructions → Option (List ℕ) → Option (List ℕ) → Type 0
+JudgedEachLeaves {S} opening old certificate contexts new p before after =
+    Unfinished (JudgedSays opening old certificate new p (λ k x. ⊥)) before after
+    ⊎ ((between : S) × (c : CertificateView) × CertificateAt opening old certificate between c × IsCertifiedBy p c
+    × LeftAt opening between contexts new (λ context. ResultSays context (checked p c)) before after)
+
+abbrev pub CheckedEachLeaves : {S : Type 0} → Opening S → Order → S → List ℕ → List ℕ → List ℕ → S → Option (List ℕ) → Option (List ℕ) → Type 0
+CheckedEachLeaves {S} opening order old input certificate contexts new before after =
+    Unfinished (ImageSays opening order old input new (λ p x. ⊥)) before after
+    ⊎ ((between : S) × (p : Instructions) × LoadsImage opening order old input between p × JudgedEachLeaves opening between certificate contexts new p before after)
+
+abbrev pub RunLeaves : {S : Type 0} → Opening S → Order → S → List ℕ → Contexts → ℕ → S → Option (List ℕ) → Option (List ℕ) → Type 0
+RunLeaves opening order old input (Word hex) fuel new = Unfinished (OnWord hex.now (λ context. ImageSays opening order old input new (OutcomeSays context fuel)))
+RunLeaves opening order old input (Bytes name) fuel new =
+    Unfinished (OnNamed opening old name.now (λ between context. ImageSays opening order between input new (OutcomeSays context fuel)))
+RunLeaves opening order old input (Lines name) fuel new = RunEachLeaves opening order old input name.now fuel new
+RunLeaves opening order old input Nothing fuel new = Keeps
+RunLeaves opening order old input Several fuel new = Keeps
+
+abbrev pub CheckedLeaves : {S : Type 0} → Opening S → Order → S → List ℕ → List ℕ → Contexts → S → Option (List ℕ) → Option (List ℕ) → Type 0
+CheckedLeaves opening order old input certificate (Word hex) new = Unfinished (OnWord hex.now (RunCheckedSays opening order old input certificate new))
+CheckedLeaves opening order old input certificate (Bytes name) new =
+    Unfinished (OnNamed opening old name.now (λ between. RunCheckedSays opening order between input certificate new))
+CheckedLeaves opening order old input certificate (Lines name) new = CheckedEachLeaves opening order old input certificate name.now new
+CheckedLeaves opening order old input certificate Nothing new = Keeps
+CheckedLeaves opening order old input certificate Several new = Keeps

@@ -9,7 +9,7 @@ ghost use Rattle.bpf_answers.specs.Answer.{Answered, Says, no_context_line, work
 ghost use Rattle.bpf_answers.specs.Answer.Answer.{Yes, NoContext, Ends};
 ghost use Rattle.bpf_answers.specs.Loaded.{CertificateFails};
 ghost use Rattle.bpf_command.specs.Printed.{JudgedSays, ResultSays, WishSays};
-ghost use Rattle.bpf_command.specs.Given.{JudgedEachFails, JudgedEachSays};
+ghost use Rattle.bpf_command.specs.Given.{JudgedEachFails, JudgedEachLeaves, JudgedEachSays};
 ghost use Rattle.bpf_answers.specs.Told.{OutputFails};
 
 use arrayvec::ArrayString;
@@ -200,6 +200,7 @@ pub fn judged_each<'a, P: Places, C: Code, W: Write>(
 ) -> Result<u8, Failure<'a>>
     ensures ok { IfOk result (JudgedEachSays (opening P.opens P.Reader.remaining) places.old certificate.entry.now contexts.entry.now places.new (C.program program.now) (W.contents out.old) (W.contents out.new)) }
     ensures err { IfErr result (JudgedEachFails (opening P.opens P.Reader.remaining) places.old certificate.entry.now contexts.entry.now places.new (C.program program.now) (W.contents out.old) (W.contents out.new)) }
+    ensures begun { IfErr result (λ _. JudgedEachLeaves (opening P.opens P.Reader.remaining) places.old certificate.entry.now contexts.entry.now places.new (C.program program.now) (W.contents out.old) (W.contents out.new)) }
 {
     let certificate = match certificate_at(alloc, places, certificate)? {
         Ok(certificate) => certificate,

@@ -10,7 +10,7 @@ ghost use Rattle.bpf_answers.specs.Answer.{Answer, Answered, Says, status_of, te
 ghost use Rattle.bpf_answers.specs.Answer.Answer.{Ran};
 ghost use Rattle.bpf_answers.specs.Loaded.{ImageFails};
 ghost use Rattle.bpf_command.specs.Printed.{FailsWith, ImageSays, OutcomeSays};
-ghost use Rattle.bpf_command.specs.Given.{FailsBehind, RunAtSays, RunEachFails, RunEachSays, RunFails, RunSays};
+ghost use Rattle.bpf_command.specs.Given.{FailsBehind, OnNamed, OnWord, RunAtSays, RunEachFails, RunEachLeaves, RunEachSays, RunFails, RunLeaves, RunSays};
 ghost use Rattle.bpf_answers.specs.Told.{OutputFails};
 
 use crate::aside::Aside;
@@ -118,6 +118,7 @@ fn ran<'a, P: Places, W: Write, H: Aside>(
 ) -> Result<u8, Failure<'a>>
     ensures ok { IfOk result (λ status. (answer : Answer) × (context : List ℕ) × (context_in hex.entry.now ≡ Ok context) × Says answer status (W.contents out.old) (W.contents out.new) × ImageSays (opening P.opens P.Reader.remaining) order places.old input.entry.now places.new (OutcomeSays context steps) answer) }
     ensures err { IfErr result (FailsWith places.old places.new hex.entry.now (ImageFails (opening P.opens P.Reader.remaining) places.old input.entry.now places.new)) }
+    ensures begun { IfErr result (λ _. Unfinished (OnWord hex.entry.now (λ context. ImageSays (opening P.opens P.Reader.remaining) order places.old input.entry.now places.new (OutcomeSays context steps))) (W.contents out.old) (W.contents out.new)) }
 {
     let context = match context_of(alloc, hex) {
         Ok(context) => context,
@@ -139,6 +140,7 @@ fn ran_at<'a, P: Places, W: Write, H: Aside>(
 ) -> Result<u8, Failure<'a>>
     ensures ok { IfOk result (λ status. RunAtSays (opening P.opens P.Reader.remaining) order places.old input.entry.now context.entry.now steps places.new (W.contents out.old) (W.contents out.new) status) }
     ensures err { IfErr result (FailsBehind (opening P.opens P.Reader.remaining) places.old context.entry.now places.new (λ between. ImageFails (opening P.opens P.Reader.remaining) between input.entry.now places.new)) }
+    ensures begun { IfErr result (λ _. Unfinished (OnNamed (opening P.opens P.Reader.remaining) places.old context.entry.now (λ between context. ImageSays (opening P.opens P.Reader.remaining) order between input.entry.now places.new (OutcomeSays context steps))) (W.contents out.old) (W.contents out.new)) }
 {
     let context = context_at(alloc, places, context)?;
     run_image(alloc, places, out, trace, input, &context, steps, order)
@@ -181,6 +183,7 @@ fn ran_each<'a, P: Places, W: Write, H: Aside>(
 ) -> Result<u8, Failure<'a>>
     ensures ok { IfOk result (RunEachSays (opening P.opens P.Reader.remaining) order places.old input.entry.now contexts.entry.now steps places.new (W.contents out.old) (W.contents out.new)) }
     ensures err { IfErr result (RunEachFails (opening P.opens P.Reader.remaining) order places.old input.entry.now contexts.entry.now steps places.new (W.contents out.old) (W.contents out.new)) }
+    ensures begun { IfErr result (λ _. RunEachLeaves (opening P.opens P.Reader.remaining) order places.old input.entry.now contexts.entry.now steps places.new (W.contents out.old) (W.contents out.new)) }
 {
     let program = match program_at(alloc, places, input, order)? {
         Ok(program) => program,
@@ -207,6 +210,7 @@ pub fn ran_on<'a, P: Places, W: Write, H: Aside>(
 ) -> Result<u8, Failure<'a>>
     ensures ok { IfOk result (RunSays (opening P.opens P.Reader.remaining) order places.old input.entry.now contexts.entry steps places.new (W.contents out.old) (W.contents out.new)) }
     ensures err { IfErr result (RunFails (opening P.opens P.Reader.remaining) order places.old input.entry.now contexts.entry steps places.new (W.contents out.old) (W.contents out.new)) }
+    ensures begun { IfErr result (λ _. RunLeaves (opening P.opens P.Reader.remaining) order places.old input.entry.now contexts.entry steps places.new (W.contents out.old) (W.contents out.new)) }
 {
     match contexts {
         Contexts::Word(hex) => ran(alloc, places, out, trace, input, hex, steps, order),

@@ -4,7 +4,7 @@ ghost use Rattle.std.specs.Prelude.{◌≡◌, ℕ, List, Ok, IfOk, IfErr};
 ghost use Rattle.bpf_answers.specs.Context.{context_in};
 ghost use Rattle.bpf_places.specs.Opened.{opening};
 ghost use Rattle.bpf_answers.specs.Answer.{Answer, Answered, Says, Unfinished};
-ghost use Rattle.bpf_command.specs.Given.{CheckedAtSays, CheckedEachFails, CheckedEachSays, CheckedFails, CheckedSays, FailsBehind};
+ghost use Rattle.bpf_command.specs.Given.{CheckedAtSays, CheckedEachFails, CheckedEachLeaves, CheckedEachSays, CheckedFails, CheckedLeaves, CheckedSays, FailsBehind, OnNamed, OnWord};
 ghost use Rattle.bpf_command.specs.Printed.{RunCheckedSays, LoadedFails, FailsWith};
 
 use crate::commands::judged::{Wish, judged, judged_each};
@@ -51,6 +51,7 @@ fn ran_checked<'a, P: Places, W: Write>(
 ) -> Result<u8, Failure<'a>>
     ensures ok { IfOk result (λ status. (answer : Answer) × (context : List ℕ) × (context_in hex.entry.now ≡ Ok context) × Says answer status (W.contents out.old) (W.contents out.new) × RunCheckedSays (opening P.opens P.Reader.remaining) order places.old input.entry.now certificate.entry.now places.new context answer) }
     ensures err { IfErr result (FailsWith places.old places.new hex.entry.now (LoadedFails (opening P.opens P.Reader.remaining) order places.old input.entry.now certificate.entry.now places.new)) }
+    ensures begun { IfErr result (λ _. Unfinished (OnWord hex.entry.now (RunCheckedSays (opening P.opens P.Reader.remaining) order places.old input.entry.now certificate.entry.now places.new)) (W.contents out.old) (W.contents out.new)) }
 {
     let context = match context_of(alloc, hex) {
         Ok(context) => context,
@@ -71,6 +72,7 @@ fn ran_checked_at<'a, P: Places, W: Write>(
 ) -> Result<u8, Failure<'a>>
     ensures ok { IfOk result (CheckedAtSays (opening P.opens P.Reader.remaining) order places.old input.entry.now certificate.entry.now context.entry.now places.new (W.contents out.old) (W.contents out.new)) }
     ensures err { IfErr result (FailsBehind (opening P.opens P.Reader.remaining) places.old context.entry.now places.new (λ between. LoadedFails (opening P.opens P.Reader.remaining) order between input.entry.now certificate.entry.now places.new)) }
+    ensures begun { IfErr result (λ _. Unfinished (OnNamed (opening P.opens P.Reader.remaining) places.old context.entry.now (λ between. RunCheckedSays (opening P.opens P.Reader.remaining) order between input.entry.now certificate.entry.now places.new)) (W.contents out.old) (W.contents out.new)) }
 {
     let context = context_at(alloc, places, context)?;
     run_certified(alloc, places, out, input, certificate, &context, order)
@@ -88,6 +90,7 @@ fn ran_checked_each<'a, P: Places, W: Write>(
 ) -> Result<u8, Failure<'a>>
     ensures ok { IfOk result (CheckedEachSays (opening P.opens P.Reader.remaining) order places.old input.entry.now certificate.entry.now contexts.entry.now places.new (W.contents out.old) (W.contents out.new)) }
     ensures err { IfErr result (CheckedEachFails (opening P.opens P.Reader.remaining) order places.old input.entry.now certificate.entry.now contexts.entry.now places.new (W.contents out.old) (W.contents out.new)) }
+    ensures begun { IfErr result (λ _. CheckedEachLeaves (opening P.opens P.Reader.remaining) order places.old input.entry.now certificate.entry.now contexts.entry.now places.new (W.contents out.old) (W.contents out.new)) }
 {
     match program_at(alloc, places, input, order)? {
         Ok(program) => judged_each(alloc, places, out, &program, certificate, contexts),
@@ -107,6 +110,7 @@ pub fn ran_checked_on<'a, P: Places, W: Write>(
 ) -> Result<u8, Failure<'a>>
     ensures ok { IfOk result (CheckedSays (opening P.opens P.Reader.remaining) order places.old input.entry.now certificate.entry.now contexts.entry places.new (W.contents out.old) (W.contents out.new)) }
     ensures err { IfErr result (CheckedFails (opening P.opens P.Reader.remaining) order places.old input.entry.now certificate.entry.now contexts.entry places.new (W.contents out.old) (W.contents out.new)) }
+    ensures begun { IfErr result (λ _. CheckedLeaves (opening P.opens P.Reader.remaining) order places.old input.entry.now certificate.entry.now contexts.entry places.new (W.contents out.old) (W.contents out.new)) }
 {
     match contexts {
         Contexts::Word(hex) => ran_checked(alloc, places, out, input, certificate, hex, order),
