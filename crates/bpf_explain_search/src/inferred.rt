@@ -8,7 +8,7 @@ ghost use Rattle.bpf_infer_error.specs.declared.error.InferError.TheVariants.{Me
 
 use crate::obstacles::{write_no_budget, write_obstacle};
 use bpf_cert::Certificate;
-use bpf_check::{Cause, Refusal, cause_of, check};
+use bpf_check::{Cause, Refusal, cause_of, check, jump_target};
 use bpf_explain_page::{Page, Tell};
 use bpf_explain_program::{
     Shown, Spelled, source_at, tell_glimpse, tell_reason, tell_shown, tell_sketch,
@@ -17,7 +17,7 @@ use bpf_explain_program::{
 use bpf_infer::{
     Condition, InferError, Obstacle, Quest, Sketch, Stop, Watch, infer, search_or_stop, sketch_of,
 };
-use bpf_insn::{Code, Insn, Program};
+use bpf_insn::{Code, Insn, MAX_SLOTS, Program};
 use std::alloc::Global;
 use std::fmt;
 use std::io::{self, Write};
@@ -128,6 +128,38 @@ fn write_reason<W: Tell>(out: &mut W, program: &Program, stop: &Stop, effort: Ef
     }
 }
 
+/// Whether an instruction at a slot or behind it leads back to the slot or in front of it.
+fn is_in_loop(program: &Program, slot: u32) -> bool {
+    for from in slot..program.slots().min(MAX_SLOTS as u32) {
+        if let Some(insn) = program.at(from) {
+            if jump_target(from, insn).is_some_and(|to| to <= slot) {
+                return true;
+            }
+        }
+    }
+    false
+}
+
+/// Tells of which round the states are. The plain inferrer ends where an instruction is refused, in whichever round of a loop that is; the deep
+/// search goes on until its states settle.
+fn write_round<W: Tell>(out: &mut W, program: &Program, stop: &Stop, effort: Effort) {
+    if let (
+        Effort::Plain,
+        InferError::Fault {
+            slot,
+            condition: Condition::State(_),
+        },
+    ) = (effort, stop.error)
+    {
+        if is_in_loop(program, slot) {
+            write!(
+                out,
+                "the states are those of the round in which slot {slot} was refused: the loop around it may know less\n"
+            );
+        }
+    }
+}
+
 /// Whether an instruction leads back, or calls a function.
 fn leads_back(insn: &Insn) -> bool {
     match *insn {
@@ -228,6 +260,7 @@ fn write_stop<W: Tell>(
     };
     write_states(out, program, stop, shown, lines);
     write_reason(out, program, stop, effort);
+    write_round(out, program, stop, effort);
     let has_states = stop.sketch.certificate.is_some();
     if effort == Effort::Plain && has_states && may_be_found(program, stop.error) {
         write!(out, "or try --deep: it searches longer, and finds more\n");

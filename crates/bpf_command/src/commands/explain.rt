@@ -255,8 +255,8 @@ fn found_of<W: Write, H: Watch>(
     requires order { wanted.least ≤ wanted.most }
     requires short { wanted.most ≤ 4096 }
     ensures version { IfOk result (λ told. IfOk told (λ c. c.version ≡ 2)) }
-    ensures least { IfOk result (λ told. IfOk told (λ c. c.least ≡ wanted.least)) }
-    ensures most { IfOk result (λ told. IfOk told (λ c. c.most ≡ wanted.most)) }
+    ensures least { IfOk result (λ told. IfOk told (λ c. c.least ≡ wanted.entry.least)) }
+    ensures most { IfOk result (λ told. IfOk told (λ c. c.most ≡ wanted.entry.most)) }
     ensures certificate { IfOk result (λ told. IfOk told (λ c. IsCertificate c)) }
     ensures slot { IfOk result (λ told. IfErr told (λ e. infer_slot e < slots program.now.list)) }
 {
@@ -281,7 +281,7 @@ fn say_inferred<'a, W: Write, H: Watch>(
     program: &Program,
     wanted: Wanted<'_>,
 ) -> Result<u8, Failure<'a>>
-    ensures ok { IfOk result (Answers (SoughtSays wanted.least wanted.most program.now)) }
+    ensures ok { IfOk result (Answers (SoughtSays wanted.entry.least wanted.entry.most program.now)) }
     ensures err { IfErr result OutputFails }
 {
     // `respond` has seen that the lengths are in order, and the words' parser that they are at most the greatest.
@@ -309,7 +309,7 @@ fn explained_inferred<'a, P: Places, W: Write, H: Watch>(
     wanted: Wanted<'_>,
     order: Order,
 ) -> Result<u8, Failure<'a>>
-    ensures ok { IfOk result (Answers (ImageSays (opening P.opens P.Reader.remaining) order places.old input.entry.now places.new (SoughtSays wanted.least wanted.most))) }
+    ensures ok { IfOk result (Answers (ImageSays (opening P.opens P.Reader.remaining) order places.old input.entry.now places.new (SoughtSays wanted.entry.least wanted.entry.most))) }
     ensures err { IfErr result (ImageFails (opening P.opens P.Reader.remaining) places.old input.entry.now places.new) }
 {
     let bytes = match image_at(alloc, places, input)? {
