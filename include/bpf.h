@@ -17,6 +17,9 @@
 extern "C" {
 #endif
 
+/* The version of this header, 0.1.0, as one number: 10,000 times its first part, 100 times its second, and its third, together. */
+#define BPF_HOST_VERSION 100
+
 /* ---- what the calls answer */
 
 enum bpf_answer {
@@ -71,6 +74,7 @@ struct bpf_outcome {
 
 /* ---- the library's functions; call those below them */
 
+uint32_t bpf_host_version(void);
 int32_t bpf_host_verify(const uint8_t *image, size_t image_len, uint32_t order, const uint8_t *certificate,
                         size_t certificate_len, struct bpf_verdict *verdict, struct bpf_refusal *refusal);
 size_t bpf_host_prepared_size(size_t image_len);
@@ -114,6 +118,11 @@ static inline int bpf_are_words(const uint64_t *words, size_t words_len) {
 }
 
 /* ---- the calls */
+
+/* The version of the library that is linked, as one number like BPF_HOST_VERSION, which it is where header and library belong together. */
+static inline uint32_t bpf_version(void) {
+    return bpf_host_version();
+}
 
 /* Whether a certificate certifies an image. BPF_YES: *verdict is promised of the image, whoever made the certificate. BPF_NO:
  * *refusal says why, by E, K or C. BPF_NO_MEMORY. BPF_BAD_CALL: an order that isn't one, or no bytes. */

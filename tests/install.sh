@@ -175,6 +175,11 @@ done <"$dir/said"
 for path in bin/bpf bin/bpf-cc lib/libbpf_host.a lib/pkgconfig/bpf_host.pc include/bpf.h include/bpf/filter.h share/man/man1/bpf.1 share/doc/bpf/GUIDE.md; do
     grep -qx "$dir/real/$path" "$dir/said" || complains "$path isn't said"
 done
+version=$(sed -n 's/^Version: //p' "$dir/real/lib/pkgconfig/bpf_host.pc")
+for named in "CHANGELOG.md:## $version, " "examples/hosts/bpf-host/Cargo.toml:version = \"$version\""; do
+    [[ "$(grep -m 1 -e '^## ' -e '^version = ' "$root/${named%%:*}")" == "${named#*:}"* ]] || complains "${named%%:*} has another version than $version"
+done
+[ "$("$dir/real/bin/bpf" --version 2>&1)" = "bpf $version" ] || complains "bpf --version isn't $version"
 cat >"$dir/host.c" <<'HOST'
 #include <bpf.h>
 #include <stdio.h>
@@ -198,6 +203,7 @@ int main(int count, char **words) {
     struct bpf_refusal refusal;
     size_t image_len = count > 2 ? bytes_of(words[1], image, sizeof image) : 0;
     size_t certificate_len = count > 2 ? bytes_of(words[2], certificate, sizeof certificate) : 0;
+    if (bpf_version() != BPF_HOST_VERSION) return 2;
     if (bpf_verify(image, image_len, BPF_LITTLE, certificate, certificate_len, &verdict, &refusal) != BPF_YES) return 1;
     return printf("%u %u %u\n", (unsigned)verdict.least, (unsigned)verdict.most, (unsigned)verdict.bound) < 0;
 }

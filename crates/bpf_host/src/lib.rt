@@ -36,6 +36,17 @@ use runs::outcome_of;
 use std::alloc::Global;
 use texts::{give_beginning, text_of};
 
+/// Version 0.1.0.
+const VERSION: u32 = 100;
+
+/// The library's version as one number: 10,000 times its first part, 100 times its second, and its third, together.
+#[unsafe(no_mangle)]
+pub extern "C" fn bpf_host_version() -> u32
+    ensures { result ≡ 100 }
+{
+    VERSION
+}
+
 /// Whether a certificate certifies an image in a byte order, 0 little-endian or 1 big-endian. 1: yes, and `verdict` is what
 /// is promised. 0: no, and `refusal` says why. -1: memory ran out while the certificate was read. -2: the order is neither 0
 /// nor 1. What isn't answered stays as it was.
