@@ -13,16 +13,21 @@ use Rattle.bpf_cert.specs.Certificates.{Spells}
 use Rattle.bpf_infer_error.specs.RefusalNumbers.{infer_slot}
 use Rattle.bpf_infer_error.specs.declared.error.InferError.{InferError}
 use Rattle.bpf_infer_error.specs.declared.error.InferError.TheVariants.{Memory as OutOfMemory}
+use Rattle.bpf_harden_notes.specs.RefusalNumbers.{harden_slot}
+use Rattle.bpf_harden_notes.specs.declared.error.HardenError.{HardenError}
+use Rattle.bpf_harden_notes.specs.declared.error.HardenError.TheVariants.{Memory as NoRoomLeft}
 use Rattle.bpf_check.specs.Verdicts.{Verified, IsRefusedBy, IsUnread, program_in}
 use Rattle.bpf_check.specs.declared.verifier.VerifyError.{VerifyError}
 use Rattle.bpf_machine.specs.Answers.{IsRun}
 use Rattle.bpf_machine.specs.declared.outcome.Outcome.{Outcome}
-use Rattle.bpf_host.specs.Told.{TellsRefusal, TellsImage, TellsInference, TellsOutcome, TellsUnrun}
+use Rattle.bpf_host.specs.Told.{TellsRefusal, TellsImage, TellsInference, TellsHardening, TellsOutcome, TellsUnrun}
 use Rattle.bpf_host.specs.Prepared.{IsPrepared}
 use Rattle.bpf_host.specs.declared.answers.BpfRefusal.{BpfRefusal}
 use Rattle.bpf_host.specs.declared.answers.BpfOutcome.{BpfOutcome}
 use Rattle.bpf_host.specs.declared.proposal.Unproposed.{Unproposed}
 use Rattle.bpf_host.specs.declared.proposal.Unproposed.TheVariants.{Memory as NoMemory, Refused}
+use Rattle.bpf_host.specs.declared.hardening.Unhardened.{Unhardened}
+use Rattle.bpf_host.specs.declared.hardening.Unhardened.TheVariants.{Memory as Spent, Refused as Told}
 
 -- ---- checks
 
@@ -119,3 +124,37 @@ IsNotProposed order image told = ((e : DecodeError) × IsRefused order image e �
 abbrev pub IsToldUnproposed : Order → List ℕ → Unproposed → Type 0
 IsToldUnproposed order image NoMemory = Unit {0}
 IsToldUnproposed order image (Refused told) = IsNotProposed order image told
+
+-- ---- hardened images
+
+-- bytes are the image of a program
+pub record IsProgramsImage (bytes : List ℕ) : Type 0 where
+  pub order : Order
+  pub program : List Insn
+  pub is_image : IsImageOfProgram order bytes program
+
+-- memory was given a program's image of so many bytes, and is behind that as it was
+abbrev pub GivesImage : ℕ → List ℕ → List ℕ → Type 0
+GivesImage count old new = (bytes : List ℕ) × IsProgramsImage bytes × (count ≡ length bytes) × (new ≡ bytes ++ drop count old)
+
+-- there is such an image of so many bytes, for which memory is too small
+abbrev pub WantsImageRoom : ℕ → List ℕ → Type 0
+WantsImageRoom count old = (bytes : List ℕ) × IsProgramsImage bytes × (count ≡ length bytes) × (length old < count)
+
+-- the program of an image isn't hardened, as is told; that memory ran out is no refusal
+pub record IsUnhardened (order : Order) (image : List ℕ) (told : BpfRefusal) : Type 0 where
+  pub program : List Insn
+  pub is_image : IsImageOfProgram order image program
+  pub error : HardenError
+  pub inside : harden_slot error < slots program
+  pub other : error ≢ NoRoomLeft
+  pub tells : TellsHardening error told
+
+-- the image is refused, or its program isn't hardened, as is told
+abbrev pub IsNotHardened : Order → List ℕ → BpfRefusal → Type 0
+IsNotHardened order image told = ((e : DecodeError) × IsRefused order image e × TellsImage e told) ⊎ IsUnhardened order image told
+
+-- a refusal is told; where memory ran out there is nothing to tell
+abbrev pub IsToldUnhardened : Order → List ℕ → Unhardened → Type 0
+IsToldUnhardened order image Spent = Unit {0}
+IsToldUnhardened order image (Told told) = IsNotHardened order image told

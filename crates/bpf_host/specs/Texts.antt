@@ -54,6 +54,23 @@ inference_texts =
     codes "out of memory" ∷
     []
 
+-- H1 to H12: a hardening
+abbrev pub hardening_texts : List (List ℕ)
+hardening_texts =
+    codes "access by an argument that may be a frame pointer" ∷
+    codes "instruction reads what isn't of the same kind on each way" ∷
+    codes "no room in the registers and the frame of the function" ∷
+    codes "the hardened program would have more than 65,536 slots" ∷
+    codes "recursion by the call" ∷
+    codes "no argument left for the context in the function" ∷
+    codes "instruction can't be hardened" ∷
+    codes "no budget for the label" ∷
+    codes "the jump would lead too far" ∷
+    codes "states of the function aren't stable" ∷
+    codes "a block has at least the eight bytes of its length" ∷
+    codes "out of memory" ∷
+    []
+
 -- F1 to F9: a run
 abbrev pub fault_texts : List (List ℕ)
 fault_texts =
@@ -75,10 +92,10 @@ text_in (text ∷ texts) zero = []
 text_in (text ∷ texts) (suc zero) = text
 text_in (text ∷ texts) (suc (suc n)) = text_in texts (suc n)
 
--- the kind is the letter C, E, F, I or K; nothing where there is no such refusal
+-- the kind is the letter C, E, F, H, I or K; nothing where there is no such refusal
 abbrev pub texts_of : ℕ → List (List ℕ)
 texts_of kind =
-    if kind == 67 then check_texts else if kind == 69 then image_texts else if kind == 70 then fault_texts
+    if kind == 67 then check_texts else if kind == 69 then image_texts else if kind == 70 then fault_texts else if kind == 72 then hardening_texts
     else if kind == 73 then inference_texts else if kind == 75 then certificate_texts else []
 
 abbrev pub refusal_text : (kind number : ℕ) → List ℕ

@@ -10,6 +10,9 @@ use Rattle.bpf_cert.specs.declared.error.CertError.{CertError}
 use Rattle.bpf_infer_error.specs.RefusalNumbers.{condition_number, infer_number, infer_slot}
 use Rattle.bpf_infer_error.specs.declared.error.InferError.{InferError}
 use Rattle.bpf_infer_error.specs.declared.error.InferError.TheVariants.{Unstable, NoBudget, Recursion, Fault as Refused, Memory}
+use Rattle.bpf_harden_notes.specs.RefusalNumbers.{harden_number, harden_slot}
+use Rattle.bpf_harden_notes.specs.declared.error.HardenError.{HardenError}
+use Rattle.bpf_harden_notes.specs.declared.error.HardenError.TheVariants.{Fault as Unmended}
 use Rattle.bpf_check.specs.RefusalNumbers.{refusal_number as check_number, refusal_slot}
 use Rattle.bpf_check.specs.declared.refusal.Refusal.{Refusal}
 use Rattle.bpf_check.specs.declared.verifier.VerifyError.{VerifyError}
@@ -48,6 +51,15 @@ condition_of Memory = 0
 abbrev pub TellsInference : InferError → BpfRefusal → Type 0
 TellsInference e r = r ≡ record { kind = 73; number = infer_number e; place = infer_slot e; condition = condition_of e }
 
+-- the number of the checker's condition that no hardening mends
+abbrev pub unhardened_condition : HardenError → ℕ
+unhardened_condition (Unmended slot condition) = condition_number condition
+unhardened_condition error = 0
+
+-- of a hardening: H (72), its number, its slot and the condition
+abbrev pub TellsHardening : HardenError → BpfRefusal → Type 0
+TellsHardening e r = r ≡ record { kind = 72; number = harden_number e; place = harden_slot e; condition = unhardened_condition e }
+
 -- whichever it is
 abbrev pub TellsRefusal : VerifyError → BpfRefusal → Type 0
 TellsRefusal (InImage e) r = TellsImage e r
@@ -64,9 +76,9 @@ TellsOutcome OutOfFuel o = o ≡ record { kind = 2; number = 0; slot = 0; value 
 abbrev pub TellsUnrun : DecodeError → BpfOutcome → Type 0
 TellsUnrun e o = o ≡ record { kind = 3; number = decode_number e; slot = decode_slot e; value = 0; steps = 0 }
 
--- how many refusals or faults of a kind there are: C1 to C13, E1 to E10, F1 to F9, I1 to I5 and K1 to K5
+-- how many refusals or faults of a kind there are: C1 to C13, E1 to E10, F1 to F9, H1 to H12, I1 to I5 and K1 to K5
 abbrev pub greatest_number : ℕ → ℕ
-greatest_number kind = if kind == 67 then 13 else if kind == 69 then 10 else if kind == 70 then 9 else if kind == 73 then 5 else if kind == 75 then 5 else 0
+greatest_number kind = if kind == 67 then 13 else if kind == 69 then 10 else if kind == 70 then 9 else if kind == 72 then 12 else if kind == 73 then 5 else if kind == 75 then 5 else 0
 
 abbrev pub IsNumbered : ℕ → ℕ → Type 0
 IsNumbered kind number = (1 ≤ number) × (number ≤ greatest_number kind)

@@ -2,10 +2,11 @@
 
 ghost use Rattle.std.specs.Prelude.{◌≡◌, ◌<◌, ◌≤◌, IfSome, IfNone};
 ghost use Rattle.bpf_check.specs.Verdicts.{IsUnread};
-ghost use Rattle.bpf_host.specs.Told.{TellsRefusal, order_named, TellsImage, TellsCertificate, TellsCheck, TellsInference, TellsOutcome, TellsUnrun, condition_of};
+ghost use Rattle.bpf_host.specs.Told.{TellsRefusal, order_named, TellsImage, TellsCertificate, TellsCheck, TellsInference, TellsHardening, TellsOutcome, TellsUnrun, condition_of, unhardened_condition};
 
 use bpf_cert::CertError;
 use bpf_check::{Refusal, VerifyError};
+use bpf_harden::HardenError;
 use bpf_infer::InferError;
 use bpf_insn::{DecodeError, Order};
 use bpf_machine::Outcome;
@@ -157,6 +158,32 @@ pub(crate) fn of_inference(error: InferError) -> BpfRefusal
         number: u32::from(error.number()),
         place: u64::from(error.slot()),
         condition: condition_of(&error),
+    }
+}
+
+/// The condition of the checker that an instruction fails, which no hardening mends.
+fn unhardened_condition(error: &HardenError) -> u64
+    ensures { result ≡ unhardened_condition error.now }
+{
+    match *error {
+        HardenError::Fault { condition, .. } => u64::from(condition.number()),
+        HardenError::FramePointer { .. } | HardenError::MixedKinds { .. } => 0,
+        HardenError::FullFrame { .. } | HardenError::TooLong { .. } => 0,
+        HardenError::Recursion { .. } | HardenError::FiveArguments { .. } => 0,
+        HardenError::NoBudget { .. } | HardenError::FarJump { .. } => 0,
+        HardenError::Unstable { .. } | HardenError::ShortBlock | HardenError::Memory => 0,
+    }
+}
+
+/// Why a program isn't hardened.
+pub(crate) fn of_hardening(error: HardenError) -> BpfRefusal
+    ensures { TellsHardening error result }
+{
+    BpfRefusal {
+        kind: letter(b'H'),
+        number: u32::from(error.number()),
+        place: u64::from(error.slot()),
+        condition: unhardened_condition(&error),
     }
 }
 

@@ -11,10 +11,11 @@ ghost use Rattle.bpf_host.specs.Texts.{refusal_text};
 ghost use Rattle.bpf_host.specs.Told.{order_named, IsNumbered};
 ghost use Rattle.bpf_host.specs.Prepared.{IsPrepared};
 ghost use Rattle.bpf_host.specs.Loaded.{IsLoaded, HoldsLoaded, EndsAsLoaded, loaded_least, loaded_most};
-ghost use Rattle.bpf_host.specs.Answers.{IsRefusedAsTold, IsNoImage, RanImage, IsUnrun, MayRun, EndsAsPrepared, GivesProposal, WantsRoom, IsNotProposed};
+ghost use Rattle.bpf_host.specs.Answers.{IsRefusedAsTold, IsNoImage, RanImage, IsUnrun, MayRun, EndsAsPrepared, GivesProposal, WantsRoom, IsNotProposed, GivesImage, WantsImageRoom, IsNotHardened};
 
 mod answers;
 mod checked;
+mod hardening;
 mod loaded;
 mod ordered;
 mod prepared;
@@ -27,11 +28,13 @@ use answers::{
     BAD_CALL, DONE, NO_MEMORY, REFUSED, TOO_LONG, TOO_SMALL, of_outcome, of_verify, order_of, unrun,
 };
 use bpf_check::verify;
+use bpf_harden::Options;
 use bpf_insn::{MAX_CONTEXT, MAX_IMAGE, ProgramView};
 use checked::end_of;
+use hardening::{Unhardened, hardened};
 use loaded::{end_of_loaded, handle_size, has_handle_room, put_loaded, takes};
 use prepared::{has_room, put, size_for};
-use proposal::{Unproposed, give, proposal};
+use proposal::{Unproposed, Wanted, give, proposal};
 use runs::outcome_of;
 use std::alloc::Global;
 use texts::{give_beginning, text_of};
@@ -271,6 +274,7 @@ pub extern "C" fn bpf_host_infer(
     order: u32,
     least: u32,
     most: u32,
+    deep: u32,
     text: &mut [u8],
     wanted: &mut usize,
     refusal: &mut BpfRefusal,
@@ -278,7 +282,7 @@ pub extern "C" fn bpf_host_infer(
     ensures given { result ≡ pos 1 → GivesProposal least most wanted.new text.old text.new }
     ensures small { result ≡ negsuc 2 → WantsRoom least most wanted.new text.old }
     ensures refused { result ≡ pos 0 → IsNotProposed (order_named order) image.now refusal.new }
-    ensures call { (result ≡ negsuc 1) ↔ ((1 < order) ⊎ ((most < least) ⊎ (4096 < most))) }
+    ensures call { (result ≡ negsuc 1) ↔ ((1 < order) ⊎ ((most < least) ⊎ ((4096 < most) ⊎ (1 < deep)))) }
     ensures answers { (result ≡ pos 1) ⊎ (result ≡ pos 0) ⊎ (result ≡ negsuc 0) ⊎ (result ≡ negsuc 1) ⊎ (result ≡ negsuc 2) }
     ensures text_kept { (result ≡ pos 1) ⊎ (text.new ≡ text.old) }
     ensures wanted_kept { (result ≡ pos 1) ⊎ (result ≡ negsuc 2) ⊎ (wanted.new ≡ wanted.old) }
@@ -287,13 +291,67 @@ pub extern "C" fn bpf_host_infer(
     let Some(order) = order_of(u64::from(order)) else {
         return BAD_CALL;
     };
-    if least > most || most > MAX_CONTEXT as u32 {
+    if least > most || most > MAX_CONTEXT as u32 || deep > 1 {
         return BAD_CALL;
     }
-    match proposal(alloc, image, order, least, most) {
+    let wanted_of = Wanted {
+        least,
+        most,
+        deep: deep == 1,
+    };
+    match proposal(alloc, image, order, wanted_of) {
         Ok(words) => give(&words, text, wanted),
         Err(Unproposed::Memory) => NO_MEMORY,
         Err(Unproposed::Refused(told)) => {
+            *refusal = told;
+            REFUSED
+        }
+    }
+}
+/// Hardens an image for contexts of exactly `size` bytes: loops that nothing counts turn at most `turns` times, and where a
+/// trap ends the program, r0 is `otherwise`. With `padded` 1 the context is a block: eight bytes that say how long the packet is,
+/// the packet, and padding. 1: the new image stands in the first `wanted` bytes of `text`. 0: the image is refused, or its
+/// program isn't hardened, and `refusal` says why. -1: memory ran out. -2: the order or `padded` is neither 0 nor 1, or
+/// `size` is above 4,096. -3: `text` has less than `wanted` bytes. What isn't answered stays as it was. Nobody relies on it:
+/// a certificate of the new image has to be found and judged.
+#[unsafe(no_mangle)]
+pub extern "C" fn bpf_host_harden(
+    alloc: Global,
+    image: &[u8],
+    order: u32,
+    size: u32,
+    turns: u32,
+    otherwise: u64,
+    padded: u32,
+    text: &mut [u8],
+    wanted: &mut usize,
+    refusal: &mut BpfRefusal,
+) -> i32
+    ensures given { result ≡ pos 1 → GivesImage wanted.new text.old text.new }
+    ensures small { result ≡ negsuc 2 → WantsImageRoom wanted.new text.old }
+    ensures refused { result ≡ pos 0 → IsNotHardened (order_named order) image.now refusal.new }
+    ensures call { (result ≡ negsuc 1) ↔ ((1 < order) ⊎ ((4096 < size) ⊎ (1 < padded))) }
+    ensures answers { (result ≡ pos 1) ⊎ (result ≡ pos 0) ⊎ (result ≡ negsuc 0) ⊎ (result ≡ negsuc 1) ⊎ (result ≡ negsuc 2) }
+    ensures text_kept { (result ≡ pos 1) ⊎ (text.new ≡ text.old) }
+    ensures wanted_kept { (result ≡ pos 1) ⊎ (result ≡ negsuc 2) ⊎ (wanted.new ≡ wanted.old) }
+    ensures refusal_kept { (result ≡ pos 0) ⊎ (refusal.new ≡ refusal.old) }
+{
+    let Some(order) = order_of(u64::from(order)) else {
+        return BAD_CALL;
+    };
+    if size > MAX_CONTEXT as u32 || padded > 1 {
+        return BAD_CALL;
+    }
+    let options = Options {
+        turns,
+        otherwise,
+        padded: padded == 1,
+        everywhere: false,
+    };
+    match hardened(alloc, image, order, size, &options) {
+        Ok(bytes) => give(&bytes, text, wanted),
+        Err(Unhardened::Memory) => NO_MEMORY,
+        Err(Unhardened::Refused(told)) => {
             *refusal = told;
             REFUSED
         }

@@ -2,12 +2,15 @@
 
 ghost use Rattle.std.specs.Prelude.{◌≡◌, ◌≤◌, ◌<◌, ◌++◌, ◌⊎◌, IfOk, IfErr, IfSome, length, drop, pos, negsuc};
 ghost use Rattle.bpf_cert.specs.Spelling.{certificate_text};
+ghost use Rattle.bpf_cert.specs.Limits.{IsCertificate};
+ghost use Rattle.bpf_insn.specs.Instruction.{slots};
+ghost use Rattle.bpf_infer_error.specs.RefusalNumbers.{infer_slot};
 ghost use Rattle.bpf_host.specs.Answers.{IsProposal, IsToldUnproposed};
 
 use crate::answers::{BpfRefusal, DONE, TOO_SMALL, of_image, of_inference};
 use bpf_cert::{Certificate, write};
-use bpf_infer::{InferError, infer};
-use bpf_insn::{DecodeError, Order, decode};
+use bpf_infer::{InferError, Unwatched, infer, search};
+use bpf_insn::{DecodeError, Order, Program, decode};
 use std::alloc::Global;
 
 /// Why there is no proposal.
@@ -30,17 +33,42 @@ fn text_of(alloc: Global, certificate: &Certificate) -> Option<Vec<u8>>
     }
 }
 
-/// The text of a certificate that is proposed for the program of an image, on contexts of `least` to `most` bytes.
+/// The contexts for which a certificate is sought: of `least` to `most` bytes; and whether it is sought deeply.
+#[derive(Clone, Copy)]
+pub(crate) struct Wanted {
+    pub(crate) least: u32,
+    pub(crate) most: u32,
+    pub(crate) deep: bool,
+}
+
+/// The certificate that a search finds for a program.
+fn found(alloc: Global, program: &Program, wanted: Wanted) -> Result<Certificate, InferError>
+    requires order { wanted.least ≤ wanted.most }
+    requires short { wanted.most ≤ 4096 }
+    ensures version { IfOk result (λ c. c.version ≡ 2) }
+    ensures least { IfOk result (λ c. c.least ≡ wanted.least) }
+    ensures most { IfOk result (λ c. c.most ≡ wanted.most) }
+    ensures certificate { IfOk result (λ c. IsCertificate c) }
+    ensures slot { IfErr result (λ e. infer_slot e < slots program.now.list) }
+{
+    let (least, most) = (wanted.least, wanted.most);
+    if wanted.deep {
+        search(alloc, program, least, most, &mut Unwatched)
+    } else {
+        infer(alloc, program, least, most)
+    }
+}
+
+/// The text of a certificate that is proposed for the program of an image.
 pub(crate) fn proposal(
     alloc: Global,
     image: &[u8],
     order: Order,
-    least: u32,
-    most: u32,
+    wanted: Wanted,
 ) -> Result<Vec<u8>, Unproposed>
-    requires order { least ≤ most }
-    requires short { most ≤ 4096 }
-    ensures ok { IfOk result (λ text. IsProposal least most text.items) }
+    requires order { wanted.least ≤ wanted.most }
+    requires short { wanted.most ≤ 4096 }
+    ensures ok { IfOk result (λ text. IsProposal wanted.least wanted.most text.items) }
     ensures err { IfErr result (IsToldUnproposed order image.now) }
 {
     let program = match decode(alloc, image, order) {
@@ -48,7 +76,7 @@ pub(crate) fn proposal(
         Err(DecodeError::Memory) => return Err(Unproposed::Memory),
         Err(error) => return Err(Unproposed::Refused(of_image(error))),
     };
-    let certificate = match infer(alloc, &program, least, most) {
+    let certificate = match found(alloc, &program, wanted) {
         Ok(certificate) => certificate,
         Err(InferError::Memory) => return Err(Unproposed::Memory),
         Err(error) => return Err(Unproposed::Refused(of_inference(error))),

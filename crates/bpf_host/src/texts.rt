@@ -1,7 +1,7 @@
 //! What the refusals and faults say, in words.
 
 ghost use Rattle.std.specs.Prelude.{◌≡◌, ◌<◌, ◌≤◌, ◌↔◌, ◌++◌, [], IsSome, IfSome, MatchOption, length, take, drop};
-ghost use Rattle.bpf_host.specs.Texts.{text_in, image_texts, certificate_texts, check_texts, inference_texts, fault_texts, refusal_text};
+ghost use Rattle.bpf_host.specs.Texts.{text_in, image_texts, certificate_texts, check_texts, inference_texts, hardening_texts, fault_texts, refusal_text};
 ghost use Rattle.bpf_host.specs.Told.{IsNumbered};
 
 /// E: an image.
@@ -81,6 +81,29 @@ fn of_inference(number: u32) -> Option<&'static [u8]>
     }
 }
 
+/// H: a hardening.
+fn of_hardening(number: u32) -> Option<&'static [u8]>
+    ensures numbered { IsSome result ↔ ((1 ≤ number) × (number ≤ 12)) }
+    ensures said { IfSome result (λ words. 0 < length words.now) }
+    ensures words { MatchOption result (text_in hardening_texts number ≡ []) (λ words. words.now ≡ text_in hardening_texts number) }
+{
+    match number {
+        1 => Some(b"access by an argument that may be a frame pointer"),
+        2 => Some(b"instruction reads what isn't of the same kind on each way"),
+        3 => Some(b"no room in the registers and the frame of the function"),
+        4 => Some(b"the hardened program would have more than 65,536 slots"),
+        5 => Some(b"recursion by the call"),
+        6 => Some(b"no argument left for the context in the function"),
+        7 => Some(b"instruction can't be hardened"),
+        8 => Some(b"no budget for the label"),
+        9 => Some(b"the jump would lead too far"),
+        10 => Some(b"states of the function aren't stable"),
+        11 => Some(b"a block has at least the eight bytes of its length"),
+        12 => Some(b"out of memory"),
+        _ => None,
+    }
+}
+
 /// F: a run.
 fn of_fault(number: u32) -> Option<&'static [u8]>
     ensures numbered { IsSome result ↔ ((1 ≤ number) × (number ≤ 9)) }
@@ -111,6 +134,7 @@ pub(crate) fn text_of(kind: u32, number: u32) -> Option<&'static [u8]>
         67 => of_check(number),
         69 => of_image(number),
         70 => of_fault(number),
+        72 => of_hardening(number),
         73 => of_inference(number),
         75 => of_certificate(number),
         _ => None,
