@@ -1,5 +1,5 @@
 -- What the command answers to its words, whatever they ask for.
-use Rattle.std.specs.Prelude.{◌≡◌, ◌≢◌, ◌⊎◌, ◌&&◌, List, [], ℕ, Option, Some, None, nat_lt, codes, option_map, unwrap_or, if◌then◌else◌}
+use Rattle.std.specs.Prelude.{◌≡◌, ◌≢◌, ◌⊎◌, ◌&&◌, ⊤, List, [], ℕ, Option, Some, None, nat_lt, codes, option_map, unwrap_or, if◌then◌else◌}
 use Rattle.std.specs.Option.{option_or}
 use Rattle.std.specs.Borrow.{Bor}
 use Rattle.std.specs.Io.KnownBytes.{Keeps}
@@ -8,10 +8,10 @@ use Rattle.bpf_request.specs.CommandLine.{IsAsked, bpf, faults_in, name_of}
 use Rattle.bpf_places.specs.Opened.{Opening}
 use Rattle.bpf_places.specs.Made.{Making}
 use Rattle.bpf_answers.specs.Loaded.{ImageFails}
-use Rattle.bpf_answers.specs.Answer.{Answered}
-use Rattle.bpf_command.specs.Printed.{LoadedFails, ImageSays, GroupsSay, ListSays, notes_of, AsmSays, AsmFails, InferSays, InferFails, MigrateSays, MigrateFails, CheckSays}
-use Rattle.bpf_command.specs.Hardened.{HardenFails, HardenSays}
-use Rattle.bpf_command.specs.Given.{CheckedFails, CheckedSays, RunFails, RunSays}
+use Rattle.bpf_answers.specs.Answer.{Answered, Unfinished}
+use Rattle.bpf_command.specs.Printed.{LoadedFails, ImageSays, GroupsSay, ListSays, notes_of, AsmSays, AsmFails, NotAssembled, InferSays, InferFails, NotInferred, MigrateSays, MigrateFails, NotMigrated, CheckSays}
+use Rattle.bpf_command.specs.Hardened.{HardenFails, HardenSays, NotBothMade}
+use Rattle.bpf_command.specs.Given.{CheckedFails, CheckedLeaves, CheckedSays, RunFails, RunLeaves, RunSays}
 use Rattle.bpf_command.specs.Explained.{ExplainWithFails, ExplainWithSays}
 use Rattle.bpf_answers.specs.Told.{IsTold}
 use Rattle.std.specs.Str.{bytes_eq}
@@ -109,17 +109,46 @@ Misses o m old new before after (Explain input subject lines order) = ExplainWit
 Misses o m old new before after (Harden h) = HardenFails o m old h new
 Misses o m old new before after (Migrate certificate output) = MigrateFails o m old certificate.now output.now new
 
--- A request is in conflict, before any name is opened; or something of it failed.
+-- What stands on standard output where a request without a conflict failed: nothing new, or a beginning of its answer; behind the answers to
+-- the lines before, where contexts are in lines. Of the words of `explain` nothing is said.
+abbrev pub Leaves : {S : Type 0} → Opening S → Making S → S → S → Option (List ℕ) → Option (List ℕ) → Request → Type 0
+Leaves o m old new before after (Groups input order) = Unfinished (ImageSays o order old input.now new GroupsSay) before after
+Leaves o m old new before after (Asm input output order) = Unfinished (AsmSays o m order old input.now output.now new) before after
+Leaves o m old new before after (ListOf input slots bytes order) = Unfinished (ImageSays o order old input.now new (ListSays (notes_of slots bytes))) before after
+Leaves o m old new before after (Run input contexts steps trace order) = RunLeaves o order old input.now contexts steps new before after
+Leaves o m old new before after (Check input certificate work order) = Unfinished (CheckSays o order old input.now certificate.now new work) before after
+Leaves o m old new before after (RunChecked input certificate contexts order) = CheckedLeaves o order old input.now certificate.now contexts new before after
+Leaves o m old new before after (Infer input least most deep output order) = Unfinished (InferSays o m order old input.now least most output.now new) before after
+Leaves o m old new before after (Explain input subject lines order) = ⊤
+Leaves o m old new before after (Harden h) = Unfinished (HardenSays o m old h new) before after
+Leaves o m old new before after (Migrate certificate output) = Unfinished (MigrateSays o m old certificate.now output.now new) before after
+
+-- What stands at the names of a request that makes one, where it failed.
+abbrev pub NotMade : {S : Type 0} → Opening S → Making S → S → S → Request → Type 0
+NotMade o m old new (Groups input order) = ⊤
+NotMade o m old new (Asm input output order) = NotAssembled o m order old input.now output.now new
+NotMade o m old new (ListOf input slots bytes order) = ⊤
+NotMade o m old new (Run input contexts steps trace order) = ⊤
+NotMade o m old new (Check input certificate work order) = ⊤
+NotMade o m old new (RunChecked input certificate contexts order) = ⊤
+NotMade o m old new (Infer input least most deep output order) = NotInferred o m order old input.now least most output.now new
+NotMade o m old new (Explain input subject lines order) = ⊤
+NotMade o m old new (Harden h) = NotBothMade o m old h new
+NotMade o m old new (Migrate certificate output) = NotMigrated o m old certificate.now output.now new
+
+-- A request is in conflict, before any name is opened or anything is printed; or something of it failed.
 abbrev pub Fails : {S : Type 0} → Opening S → Making S → S → S → Option (List ℕ) → Option (List ℕ) → Request → Failure → Type 0
-Fails o m old new before after request failure = ((conflict_of request ≡ Some failure) × (new ≡ old)) ⊎ ((conflict_of request ≡ None) × Misses o m old new before after request failure)
+Fails o m old new before after request failure =
+    ((conflict_of request ≡ Some failure) × (new ≡ old) × Keeps before after)
+    ⊎ ((conflict_of request ≡ None) × Misses o m old new before after request failure × Leaves o m old new before after request × NotMade o m old new request)
 
 -- ---- the answer and its status
 
 -- Of words with nothing wrong in them, what they ask for is done, with its status, or it fails, which is told with its status; words
--- with something wrong have status 2; or there is no memory for the words, which is told.
-abbrev pub Responds : (Request → ℕ → Type 0) → (Request → Failure → Type 0) → List Text → ℕ → Option (List ℕ) → Option (List ℕ) → Type 0
-Responds does fails words status old new =
+-- with something wrong have status 2; or there is no memory for the words, which is told. In the last two nothing is touched.
+abbrev pub Responds : (Request → ℕ → Type 0) → (Request → Failure → Type 0) → Type 0 → List Text → ℕ → Option (List ℕ) → Option (List ℕ) → Type 0
+Responds does fails untouched words status old new =
     ((request : Request) × (faults_in words ≡ []) × IsAsked (subcommand_of bpf words) request × (conflict_of request ≡ None) × does request status × Keeps old new)
     ⊎ ((request : Request) × (failure : Failure) × (faults_in words ≡ []) × IsAsked (subcommand_of bpf words) request × fails request failure × IsTold failure status old new)
-    ⊎ IsTold NoMemory status old new
-    ⊎ ((faults_in words ≢ []) × (status ≡ 2))
+    ⊎ (IsTold NoMemory status old new × untouched)
+    ⊎ ((faults_in words ≢ []) × (status ≡ 2) × untouched)

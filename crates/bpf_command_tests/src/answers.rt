@@ -281,11 +281,11 @@ fn names_want_memory(rt: HostRuntime) -> Result<(), Fail> {
 #[test]
 fn standard_output_fails(rt: HostRuntime) -> Result<(), Fail> {
     for row in commands() {
-        if !row.told.is_empty() {
+        if let Some(beginning) = row.told.get(..3) {
             let mut shelf = shelf(rt.alloc(), None)?;
             let got = answer_to(rt.alloc(), &mut shelf, row.words, 3)?;
             let line = "cannot write standard output\n";
-            assert_answer(&rt, row.words, &got, 3, &row.told[..3], line);
+            assert_answer(&rt, row.words, &got, 3, beginning, line);
         }
     }
     Ok(())

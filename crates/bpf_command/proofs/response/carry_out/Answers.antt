@@ -14,3 +14,9 @@ returns-in-RunChecked-clause-ok g c = rw c.in-RunChecked.is c.ran_checked_on.ens
 
 pub returns-in-RunChecked-clause-err : goal.returns-in-RunChecked-clause-err
 returns-in-RunChecked-clause-err g c = rw c.in-RunChecked.is c.ran_checked_on.ensures.err
+
+pub returns-in-Run-clause-begun : goal.returns-in-Run-clause-begun
+returns-in-Run-clause-begun g c = rw c.in-Run.is c.ran_on.ensures.begun
+
+pub returns-in-RunChecked-clause-begun : goal.returns-in-RunChecked-clause-begun
+returns-in-RunChecked-clause-begun g c = rw c.in-RunChecked.is c.ran_checked_on.ensures.begun

@@ -2,6 +2,7 @@ use Rattle.std.proofs.Common.{◌≡◌, ◌≢◌, [], ◌∷◌, subst, refl, 
 use Rattle.clap.specs.Words.{HasKind, Kinds, kind_of}
 use Rattle.clap.specs.declared.error.Error.{Error}
 use Rattle.clap.specs.declared.error.ErrorKind.TheVariants.{OutOfMemory}
+use Rattle.bpf_answers.proofs.MadeLemmas.{keeps}
 use Rattle.bpf_command.proofs.response.respond.Goals as goal
 
 abbrev IsThere : Kinds → Type 0
@@ -17,4 +18,4 @@ at_fault (k ∷ ks) e h other = λ is. subst IsThere is tt
 pub returns-in-Err-2 : goal.returns-in-Err-2
 returns-in-Err-2 g c =
     let other : kind_of c.in-Err-2.error ≢ OutOfMemory = search rules in
-    inr (inr (inr (at_fault _ c.in-Err-2.error c.in-Err-2.ensures.judged other, refl)))
+    inr (inr (inr (at_fault _ c.in-Err-2.error c.in-Err-2.ensures.judged other, refl, (refl, keeps _))))

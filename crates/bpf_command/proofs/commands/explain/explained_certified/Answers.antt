@@ -11,7 +11,7 @@ pub returns-in-Err-clause-ok : goal.returns-in-Err-clause-ok
 returns-in-Err-clause-ok g c =
     let at = opening g.P.Places.opens g.P.Reader.Read.remaining in
     let none : NoSpaceFor at c.args.places.now c.args.input.now c.image_at.new.places c.in-Err.error = rw c.in-Err.is at c.in_ok-bytes.ensures.ok in
-    printed_so c.refuse.result (NoImage c.in-Err.error) _ _ (LoadedSays at c.args.order c.args.places.now c.args.input.now c.args.certificate.now c.image_at.new.places (λ bytes. YesSays false)) (inl none) c.refuse.ensures.ok
+    printed_so c.refuse_image.result (NoImage c.in-Err.error) _ _ (LoadedSays at c.args.order c.args.places.now c.args.input.now c.args.certificate.now c.image_at.new.places (λ bytes. YesSays false)) (inl none) c.refuse_image.ensures.ok
 
 pub returns-in-Ok-of-clause-ok : goal.returns-in-Ok-of-clause-ok
 returns-in-Ok-of-clause-ok g c =

@@ -13,7 +13,7 @@ pub returns-in-Err-clause-ok : goal.returns-in-Err-clause-ok
 returns-in-Err-clause-ok g c =
     let at = opening g.P.Places.opens g.P.Reader.Read.remaining in
     let none : NoSpaceFor at c.args.places.now c.args.input.now c.image_at.new.places c.in-Err.error = rw c.in-Err.is at c.in_ok-bytes.ensures.ok in
-    printed_so c.refuse.result (NoImage c.in-Err.error) _ _ (ImageSays at c.args.order c.args.places.now c.args.input.now c.image_at.new.places (SoughtSays c.args.wanted.least c.args.wanted.most)) (inl none) c.refuse.ensures.ok
+    printed_so c.refuse_image.result (NoImage c.in-Err.error) _ _ (ImageSays at c.args.order c.args.places.now c.args.input.now c.image_at.new.places (SoughtSays c.args.wanted.least c.args.wanted.most)) (inl none) c.refuse_image.ensures.ok
 
 pub returns-in-Ok-decode-clause-ok : goal.returns-in-Ok-decode-clause-ok
 returns-in-Ok-decode-clause-ok g c =
@@ -29,7 +29,7 @@ returns-in-Err-Memory-clause-ok g c =
     let at = opening g.P.Places.opens g.P.Reader.Read.remaining in
     let same : c.in-Ok.bytes.items ≡ c.deref.result.now = search rules in
     let read = read_of at (λ v. v.items) c.args.places.now c.args.input.now c.image_at.new.places c.in_ok-bytes.field-0 c.in-Ok.bytes c.deref.result.now c.in-Ok.is same c.in_ok-bytes.ensures.ok in
-    printed_so c.refuse-in-Err-Memory.result (NoImage Memory) _ _ (ImageSays at c.args.order c.args.places.now c.args.input.now c.image_at.new.places (SoughtSays c.args.wanted.least c.args.wanted.most)) (inl ((read.known, read.opened), refl)) c.refuse-in-Err-Memory.ensures.ok
+    printed_so c.refuse_image-in-Err-Memory.result (NoImage Memory) _ _ (ImageSays at c.args.order c.args.places.now c.args.input.now c.image_at.new.places (SoughtSays c.args.wanted.least c.args.wanted.most)) (inl ((read.known, read.opened), refl)) c.refuse_image-in-Err-Memory.ensures.ok
 
 pub returns : goal.returns
 returns g c =

@@ -19,7 +19,7 @@ returns-in-Err-Memory-clause-ok g c =
     let at = opening g.P.Places.opens g.P.Reader.Read.remaining in
     let p = g.C.Code.program c.args.program.now in
     let refused : CertificateRefused at c.args.places.now c.args.certificate.now c.certificate_kept.new.places Memory = search rules in
-    printed_so c.refuse_text.result (NoCertificate Memory) _ _ (JudgedSays at c.args.places.now c.args.certificate.now c.certificate_kept.new.places p (YesSays false)) refused c.refuse_text.ensures.ok
+    printed_so c.refuse_certificate.result (NoCertificate Memory) _ _ (JudgedSays at c.args.places.now c.args.certificate.now c.certificate_kept.new.places p (YesSays false)) refused c.refuse_certificate.ensures.ok
 
 pub returns-in-Err-clause-ok : goal.returns-in-Err-clause-ok
 returns-in-Err-clause-ok g c =

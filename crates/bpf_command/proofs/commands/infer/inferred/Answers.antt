@@ -1,9 +1,11 @@
-use Rattle.std.proofs.Common.{rules}
+use Rattle.std.proofs.Common.{◌<◌, inr, rules}
+use Rattle.bpf_insn.specs.Instruction.{slots}
+use Rattle.bpf_infer_error.specs.RefusalNumbers.{infer_slot}
 use Rattle.bpf_places.specs.Opened.{opening}
 use Rattle.bpf_answers.specs.Loaded.{LoadsImage}
 use Rattle.bpf_places.specs.Made.{making}
 use Rattle.bpf_command.specs.Printed.{InferSays, IsProposal}
-use Rattle.bpf_answers.proofs.MadeLemmas.{put_says, not_all_printed}
+use Rattle.bpf_answers.proofs.MadeLemmas.{on_failure, put_says, not_all_printed}
 use Rattle.bpf_answers.specs.Answer.Answer.{NoImage, NotProposed}
 use Rattle.bpf_command.proofs.commands.infer.inferred.Goals as goal
 
@@ -19,5 +21,8 @@ returns-in-Ok-proposed-clause-ok g c =
 pub returns-in-Err-clause-begun : goal.returns-in-Err-clause-begun
 returns-in-Err-clause-begun g c = not_all_printed c.refuse_image.result _ _ (NoImage c.in-Err.error) _ c.refuse_image.ensures.begun (search rules)
 
-pub returns-clause-begun : goal.returns-clause-begun
-returns-clause-begun g c = not_all_printed c.refuse_inference.result _ _ (NotProposed c.in-Err-proposed.error) _ c.refuse_inference.ensures.begun (search rules)
+pub returns-in_err-status-in-Err-proposed-clause-begun : goal.returns-in_err-status-in-Err-proposed-clause-begun
+returns-in_err-status-in-Err-proposed-clause-begun g c =
+    let slot : infer_slot c.in-Err-proposed.error < slots c.in-Ok.program.list = search rules in
+    let image : LoadsImage (opening g.P.Places.opens g.P.Reader.Read.remaining) c.args.order c.args.places.now c.args.input.now c.program_at.new.places c.in-Ok.program = search rules in
+    on_failure c.from_residual-in_err-status-in-Err-proposed.result _ (inr (NotProposed c.in-Err-proposed.error, c.in_err-status-in-Err-proposed.ensures.begun, (c.in-Ok.program, image, slot)))
