@@ -39,6 +39,7 @@ enum bpf_kind {
     BPF_CHECK = 'C',       /* the certificate doesn't certify the program */
     BPF_IMAGE = 'E',       /* the bytes are no image */
     BPF_FAULT = 'F',       /* an instruction that the machine can't do */
+    BPF_HARDENING = 'H',   /* the program isn't hardened */
     BPF_INFERENCE = 'I',   /* no certificate is proposed */
     BPF_CERTIFICATE = 'K'  /* the text is no certificate */
 };
@@ -54,7 +55,7 @@ struct bpf_refusal {
     uint32_t kind;      /* enum bpf_kind, but BPF_FAULT */
     uint32_t number;    /* from 1 */
     uint64_t place;     /* the slot, from 0; of BPF_CERTIFICATE the line, from 1 */
-    uint64_t condition; /* of I4: the number of the checker's condition, 3 to 12; else 0 */
+    uint64_t condition; /* of I4 and H7: the number of the checker's condition, 3 to 12; else 0 */
 };
 
 enum bpf_end {
@@ -89,8 +90,10 @@ int32_t bpf_host_run_loaded(const uint8_t *memory, size_t memory_len, const uint
                             uint64_t *value);
 int32_t bpf_host_run(const uint8_t *image, size_t image_len, uint32_t order, const uint8_t *context, size_t context_len,
                      uint64_t fuel, struct bpf_outcome *outcome);
-int32_t bpf_host_infer(const uint8_t *image, size_t image_len, uint32_t order, uint32_t least, uint32_t most, uint8_t *text,
-                       size_t text_len, size_t *wanted, struct bpf_refusal *refusal);
+int32_t bpf_host_infer(const uint8_t *image, size_t image_len, uint32_t order, uint32_t least, uint32_t most, uint32_t deep,
+                       uint8_t *text, size_t text_len, size_t *wanted, struct bpf_refusal *refusal);
+int32_t bpf_host_harden(const uint8_t *image, size_t image_len, uint32_t order, uint32_t size, uint32_t turns, uint64_t otherwise,
+                        uint32_t padded, uint8_t *text, size_t text_len, size_t *wanted, struct bpf_refusal *refusal);
 size_t bpf_host_refusal_text(uint32_t kind, uint32_t number, uint8_t *text, size_t text_len);
 
 /* ---- bytes, as C hands them over */
@@ -229,19 +232,50 @@ static inline int32_t bpf_run(const void *image, size_t image_len, uint32_t orde
     return answer;
 }
 
-/* Proposes a certificate for an image, on contexts of `least` to `most` bytes. BPF_YES: its text stands in the first *wanted
+/* Proposes a certificate for an image, on contexts of `least` to `most` bytes; with `deep` 1 it is sought longer, and found for more
+ * programs, as by `infer --deep`; else 0. BPF_YES: its text stands in the first *wanted
  * bytes of `text`. BPF_TOO_SMALL: it has *wanted bytes, and `text`, which may be null with the length 0, is as it was. BPF_NO:
- * none is proposed, and *refusal says why, by E or I. BPF_NO_MEMORY. BPF_BAD_CALL: an order that isn't one, `least` above `most`,
- * `most` above 4,096, no bytes, or a text that lies in the image. Nobody relies on a proposal: bpf_verify judges it. */
-static inline int32_t bpf_infer(const void *image, size_t image_len, uint32_t order, uint32_t least, uint32_t most, char *text,
-                                size_t text_len, size_t *wanted, struct bpf_refusal *refusal) {
+ * none is proposed, and *refusal says why, by E or I. BPF_NO_MEMORY. BPF_BAD_CALL: an order or `deep` that isn't one, `least` above
+ * `most`, `most` above 4,096, no bytes, or a text that lies in the image. Nobody relies on a proposal: bpf_verify judges it. */
+static inline int32_t bpf_infer(const void *image, size_t image_len, uint32_t order, uint32_t least, uint32_t most, uint32_t deep,
+                                char *text, size_t text_len, size_t *wanted, struct bpf_refusal *refusal) {
     struct bpf_refusal why = {0, 0, 0, 0};
     size_t count = 0;
     uint8_t none = 0;
     int32_t answer;
     if (!bpf_are_bytes(image, image_len) || !bpf_are_bytes(text, text_len)) return BPF_BAD_CALL;
     if (bpf_overlap(text, text_len, image, image_len)) return BPF_BAD_CALL;
-    answer = bpf_host_infer(bpf_bytes(image), image_len, order, least, most, text ? (uint8_t *)text : &none, text_len, &count, &why);
+    answer = bpf_host_infer(bpf_bytes(image), image_len, order, least, most, deep, text ? (uint8_t *)text : &none, text_len, &count,
+                            &why);
+    if ((answer == BPF_YES || answer == BPF_TOO_SMALL) && wanted) *wanted = count;
+    if (answer == BPF_NO && refusal) *refusal = why;
+    return answer;
+}
+
+/* What is asked of a hardening, as the options of `bpf harden`. */
+struct bpf_hardening {
+    uint32_t turns;     /* how often a loop that nothing counts may turn */
+    uint32_t padded;    /* 1: the context is a block of a packet's length in eight bytes, the packet and padding; else 0 */
+    uint64_t otherwise; /* r0 where a trap ends the program */
+};
+
+/* Hardens an image for contexts of exactly `size` bytes, so that bpf_infer with `deep` may find a certificate for it; `asked` may be
+ * null: 65,536 turns, no blocks, 0 otherwise. BPF_YES: the new image stands in the first *wanted bytes of `hardened`. BPF_TOO_SMALL:
+ * it has *wanted bytes, at most 524,288, and `hardened`, which may be null with the length 0, is as it was. BPF_NO: *refusal says why, by
+ * E or H. BPF_NO_MEMORY. BPF_BAD_CALL: an order or `padded` that isn't one, `size` above 4,096, no bytes, or `hardened` lies in the
+ * image. Nobody relies on it: a certificate of the new image is found by bpf_infer, and judged by bpf_load or bpf_verify. */
+static inline int32_t bpf_harden(const void *image, size_t image_len, uint32_t order, uint32_t size, const struct bpf_hardening *asked,
+                                 void *hardened, size_t hardened_len, size_t *wanted, struct bpf_refusal *refusal) {
+    struct bpf_hardening usual = {65536, 0, 0};
+    struct bpf_refusal why = {0, 0, 0, 0};
+    size_t count = 0;
+    uint8_t none = 0;
+    int32_t answer;
+    if (!bpf_are_bytes(image, image_len) || !bpf_are_bytes(hardened, hardened_len)) return BPF_BAD_CALL;
+    if (bpf_overlap(hardened, hardened_len, image, image_len)) return BPF_BAD_CALL;
+    if (!asked) asked = &usual;
+    answer = bpf_host_harden(bpf_bytes(image), image_len, order, size, asked->turns, asked->otherwise, asked->padded,
+                             hardened ? (uint8_t *)hardened : &none, hardened_len, &count, &why);
     if ((answer == BPF_YES || answer == BPF_TOO_SMALL) && wanted) *wanted = count;
     if (answer == BPF_NO && refusal) *refusal = why;
     return answer;

@@ -151,15 +151,15 @@ static void say_infer(uint32_t order, const struct bytes *image, uint32_t least,
     struct bpf_refusal why;
     struct bytes text;
     FILE *file;
-    switch (bpf_infer(image->at, image->len, order, least, most, NULL, 0, &wanted, &why)) {
+    switch (bpf_infer(image->at, image->len, order, least, most, 0, NULL, 0, &wanted, &why)) {
     case BPF_NO: say_refusal(&why); return;
     case BPF_BAD_CALL: puts("2 most below least"); return;
     case BPF_TOO_SMALL: break;
     default: abort();
     }
     text = of_size(wanted);
-    if (bpf_infer(image->at, image->len, order, least, most, (char *)text.at, wanted - 1, &again, &why) != BPF_TOO_SMALL) abort();
-    if (bpf_infer(image->at, image->len, order, least, most, (char *)text.at, wanted, &again, &why) != BPF_YES) abort();
+    if (bpf_infer(image->at, image->len, order, least, most, 0, (char *)text.at, wanted - 1, &again, &why) != BPF_TOO_SMALL) abort();
+    if (bpf_infer(image->at, image->len, order, least, most, 0, (char *)text.at, wanted, &again, &why) != BPF_YES) abort();
     file = fopen(out, "wb");
     if (!file || again != wanted || fwrite(text.at, 1, wanted, file) != wanted) abort();
     fclose(file);
@@ -201,7 +201,7 @@ static int table(void) {
 
 static int texts(void) {
     char text[128];
-    for (const char *kind = "CEFIK"; *kind; kind++)
+    for (const char *kind = "CEFHIK"; *kind; kind++)
         for (uint32_t n = 1; bpf_refusal_text((uint32_t)*kind, n, text, sizeof text); n++) printf("%c%u %s\n", *kind, n, text);
     return 0;
 }
@@ -332,23 +332,24 @@ static void bad_proposals(void) {
     char text[256] = "as it was";
     size_t wanted = 7;
     struct bpf_refusal why = {7, 7, 7, 7};
-    WANTS(bpf_infer(NULL, 16, BPF_LITTLE, 0, 0, text, 256, &wanted, &why), BPF_BAD_CALL);
-    WANTS(bpf_infer(IMAGE, 2, 0, 0, text, 256, &wanted, &why), BPF_BAD_CALL);
-    WANTS(bpf_infer(IMAGE, BPF_LITTLE, 1, 0, text, 256, &wanted, &why), BPF_BAD_CALL);
-    WANTS(bpf_infer(IMAGE, BPF_LITTLE, 0, 4097, text, 256, &wanted, &why), BPF_BAD_CALL);
-    WANTS(bpf_infer(IMAGE, BPF_LITTLE, 0, 0, NULL, 256, &wanted, &why), BPF_BAD_CALL);
-    WANTS(bpf_infer(text, 16, BPF_LITTLE, 0, 0, text, 256, &wanted, &why), BPF_BAD_CALL);
+    WANTS(bpf_infer(NULL, 16, BPF_LITTLE, 0, 0, 0, text, 256, &wanted, &why), BPF_BAD_CALL);
+    WANTS(bpf_infer(IMAGE, 2, 0, 0, 0, text, 256, &wanted, &why), BPF_BAD_CALL);
+    WANTS(bpf_infer(IMAGE, BPF_LITTLE, 1, 0, 0, text, 256, &wanted, &why), BPF_BAD_CALL);
+    WANTS(bpf_infer(IMAGE, BPF_LITTLE, 0, 4097, 0, text, 256, &wanted, &why), BPF_BAD_CALL);
+    WANTS(bpf_infer(IMAGE, BPF_LITTLE, 0, 0, 2, text, 256, &wanted, &why), BPF_BAD_CALL);
+    WANTS(bpf_infer(IMAGE, BPF_LITTLE, 0, 0, 0, NULL, 256, &wanted, &why), BPF_BAD_CALL);
+    WANTS(bpf_infer(text, 16, BPF_LITTLE, 0, 0, 0, text, 256, &wanted, &why), BPF_BAD_CALL);
     WANTS(wanted == 7 && why.kind == 7 && !strcmp(text, "as it was"), 1);
-    WANTS(bpf_infer(IMAGE, BPF_LITTLE, 0, 0, text, 3, &wanted, &why), BPF_TOO_SMALL);
+    WANTS(bpf_infer(IMAGE, BPF_LITTLE, 0, 0, 0, text, 3, &wanted, &why), BPF_TOO_SMALL);
     WANTS(wanted > 7 && wanted < 256 && !strcmp(text, "as it was"), 1);
-    WANTS(bpf_infer(IMAGE, BPF_LITTLE, 0, 0, text, 256, NULL, NULL), BPF_YES);
+    WANTS(bpf_infer(IMAGE, BPF_LITTLE, 0, 0, 0, text, 256, NULL, NULL), BPF_YES);
     WANTS(bpf_verify(IMAGE, BPF_LITTLE, text, wanted, NULL, NULL), BPF_YES);
 }
 
 static void bad_texts(void) {
-    static const struct { char kind; uint32_t count; } kinds[] = {{'C', 13}, {'E', 10}, {'F', 9}, {'I', 5}, {'K', 5}};
+    static const struct { char kind; uint32_t count; } kinds[] = {{'C', 13}, {'E', 10}, {'F', 9}, {'H', 12}, {'I', 5}, {'K', 5}};
     char text[128] = "as it was";
-    for (int i = 0; i < 5; i++) {
+    for (int i = 0; i < 6; i++) {
         WANTS(bpf_refusal_text((uint32_t)kinds[i].kind, 0, text, sizeof text), 0);
         for (uint32_t n = 1; n <= kinds[i].count; n++) {
             size_t len = bpf_refusal_text((uint32_t)kinds[i].kind, n, text, sizeof text);
@@ -428,7 +429,7 @@ static int memory(char **word) {
     for (granted = 0; answer == BPF_NO_MEMORY; granted++) {
         size_t wanted = 7;
         growths = granted;
-        answer = bpf_infer(program.at, program.len, BPF_LITTLE, 16, 16, proposal, sizeof proposal, &wanted, NULL);
+        answer = bpf_infer(program.at, program.len, BPF_LITTLE, 16, 16, 0, proposal, sizeof proposal, &wanted, NULL);
         growths = -1;
         WANTS((answer == BPF_YES) == (wanted != 7) && (answer == BPF_YES) == (proposal[0] != 0), 1);
     }

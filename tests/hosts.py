@@ -186,10 +186,10 @@ def errors_of(crate, file):
 
 
 def texts():
-    """What hosts are told of a refusal is what the crates' errors say. I4 is told apart from the condition that it names, and faults
+    """What hosts are told of a refusal is what the crates' errors say. I4 and H7 are told apart from the condition that they name, and faults
     where the crate has texts for them."""
     done = subprocess.run([HOSTS, 'texts'], capture_output=True, text=True, timeout=60, check=True)
-    told = {'C': [], 'E': [], 'F': [], 'I': [], 'K': []}
+    told = {'C': [], 'E': [], 'F': [], 'H': [], 'I': [], 'K': []}
     for line in done.stdout.splitlines():
         number, _, text = line.partition(' ')
         told[number[0]].append(text)
@@ -197,15 +197,18 @@ def texts():
     image, inference = errors_of('bpf_insn', 'refusal.rt'), errors_of('bpf_infer_error', 'error.rt')
     of_slot, of_image = image[:6], image[10:]
     inference[3] = told['I'][3]
+    hardening = errors_of('bpf_harden_notes', 'error.rt')
+    hardening[6] = told['H'][6]
     want = {
         'C': errors_of('bpf_check', 'refusal.rt')[:13],
         'E': [of_image[0], *of_slot, *of_image[2:]],
         'F': errors_of('bpf_semantics', 'reason.rt') or told['F'],
+        'H': hardening,
         'I': inference,
         'K': errors_of('bpf_cert', 'error.rt'),
     }
     assert told == want, (told, want)
-    assert [len(it) for it in told.values()] == [13, 10, 9, 5, 5], told
+    assert [len(it) for it in told.values()] == [13, 10, 9, 12, 5, 5], told
 
 
 def frames_of(data):

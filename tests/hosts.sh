@@ -2,7 +2,7 @@
 # hosts.sh: installs into a folder of its own, builds hosts against what stands there, the C ones with the sanitizers of cc, and holds
 # their answers to the command's: a table with every kind of refusal, calls that no caller should make, memory
 # that is refused, two threads, and a million runs. So are the wrappers for C++ and, where cargo is there, for Rust; threads have the stacks that
-# docs/HOSTS.md says are enough. Then the commands that the documents show are run with what was installed.
+# docs/HOSTS.md says are enough; what it hardens is what the command hardens. Then the commands that the documents show are run with what was installed.
 set -eu
 root=$(cd "$(dirname "${BASH_SOURCE[0]}")/.." && pwd)
 dir=$(mktemp -d)
@@ -27,6 +27,21 @@ build=("${CC:-cc}" -g -O1 -Wall -Wextra -Wpedantic -Werror -fsanitize=address,un
 "$dir/wrapper" "$root/examples/c/port.img" "$root/examples/c/port.cert"
 # Stacks are those of a host without sanitizers.
 "${CC:-cc}" -std=gnu11 -O2 -Wall -Wextra -Wpedantic -Werror "$root/tests/stack.c" -o "$dir/stack" $flags -lpthread
+# What the library hardens is what the command hardens, and so is its certificate.
+"${build[@]}" -std=c11 "$root/tests/hardened.c" -o "$dir/hardened" $flags
+"$dir/hardened" bad
+hardens() {
+    local image=$1 size=$2 padded=$3 words=()
+    ((padded == 0)) || words=(--padded)
+    "$dir/hardened" "$image" little "$size" "$padded" "$dir/new.img" "$dir/new.cert" >"$dir/said"
+    "$dir/bin/bpf" harden "${words[@]}" "$image" "$size" "$dir/their.img"
+    "$dir/bin/bpf" infer --deep "$dir/their.img" "$size" "$dir/their.cert"
+    cmp "$dir/new.img" "$dir/their.img" && cmp "$dir/new.cert" "$dir/their.cert"
+    [[ $("$dir/bin/bpf" check "$dir/new.img" "$dir/new.cert") == "yes length $size $(cat "$dir/said")" ]]
+}
+hardens "$root/examples/checksum.img" 15 0
+hardens "$root/examples/first-byte.img" 64 0
+hardens "$root/examples/first-byte.img" 64 1
 pairs=()
 for image in "$root"/examples/c/*.img; do
     pairs+=("$image" "${image%.img}.cert")

@@ -35,7 +35,7 @@ static void *infer(void *at) {
     struct job *job = at;
     struct bpf_refusal why;
     size_t wanted;
-    job->wrong |= bpf_infer(job->image, job->image_len, BPF_LITTLE, job->verdict.least, job->verdict.most, NULL, 0, &wanted, &why) == BPF_BAD_CALL;
+    job->wrong |= bpf_infer(job->image, job->image_len, BPF_LITTLE, job->verdict.least, job->verdict.most, 0, NULL, 0, &wanted, &why) == BPF_BAD_CALL;
     return NULL;
 }
 
