@@ -1,12 +1,12 @@
 /* stack.c IMAGE CERTIFICATE..: each call in a thread with the stack that docs/HOSTS.md says is enough: 16 KB for preparing and running, 64 KB for
- * judging, 128 KB for inferring. Beside the images that are named one of the greatest length is tried. */
+ * judging, 128 KB for inferring, 256 KB for hardening and for searching deeply. Beside the images that are named one of the greatest length is tried. */
 #include <bpf.h>
 #include <pthread.h>
 #include <stdio.h>
 #include <stdlib.h>
 #include <string.h>
 
-enum { LITTLE_STACK = 16 << 10, JUDGING_STACK = 64 << 10, INFERRING_STACK = 128 << 10 };
+enum { LITTLE_STACK = 16 << 10, JUDGING_STACK = 64 << 10, INFERRING_STACK = 128 << 10, HARDENING_STACK = 256 << 10 };
 enum { SLOTS = 65536 };
 
 struct job {
@@ -39,6 +39,15 @@ static void *infer(void *at) {
     return NULL;
 }
 
+static void *harden(void *at) {
+    struct job *job = at;
+    struct bpf_refusal why;
+    size_t wanted;
+    job->wrong |= bpf_harden(job->image, job->image_len, BPF_LITTLE, job->verdict.least, NULL, NULL, 0, &wanted, &why) == BPF_BAD_CALL;
+    job->wrong |= bpf_infer(job->image, job->image_len, BPF_LITTLE, job->verdict.least, job->verdict.most, 1, NULL, 0, &wanted, &why) == BPF_BAD_CALL;
+    return NULL;
+}
+
 static void *run(void *at) {
     static const uint8_t context[4096];
     struct job *job = at;
@@ -67,6 +76,7 @@ static void try_all(struct job *job, const char *name) {
     in_thread(judge, job, JUDGING_STACK);
     in_thread(load, job, JUDGING_STACK);
     in_thread(infer, job, INFERRING_STACK);
+    in_thread(harden, job, HARDENING_STACK);
     in_thread(run, job, LITTLE_STACK);
     free(job->words), free(job->handle);
     if (!job->wrong) return;
