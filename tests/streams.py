@@ -202,7 +202,9 @@ def try_terminal():
         looks += len(labels)
     require('both streams on a terminal', on_terminal(explained, 200, both=True), (shown_of(labels, 200) + whole.decode(), 0))
     require('no terminal', answer(explained, CLOCK_STEP_MS=1000), (0, whole, b''))
-    require('a plain search', on_terminal('infer nest.img 0 OUT', 1000)[0], '')
+    # (a plain search shows no line of its own; its refusal is followed by the line that helps)
+    helps = 'try --deep, or `bpf harden nest.img 0 NEW`; `bpf explain nest.img --infer 0` tells why'
+    require('a plain search', on_terminal('infer nest.img 0 OUT', 1000)[0].splitlines(), [helps])
     return looks
 
 
