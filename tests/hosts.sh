@@ -39,7 +39,8 @@ hardens() {
     cmp "$dir/new.img" "$dir/their.img" && cmp "$dir/new.cert" "$dir/their.cert"
     [[ $("$dir/bin/bpf" check "$dir/new.img" "$dir/new.cert") == "yes length $size $(cat "$dir/said")" ]]
 }
-hardens "$root/examples/checksum.img" 15 0
+"$dir/bin/bpf" asm "$root/examples/checksum.asm" "$dir/checksum.img"
+hardens "$dir/checksum.img" 15 0
 hardens "$root/examples/first-byte.img" 64 0
 hardens "$root/examples/first-byte.img" 64 1
 pairs=()

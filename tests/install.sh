@@ -179,7 +179,7 @@ version=$(sed -n 's/^Version: //p' "$dir/real/lib/pkgconfig/bpf_host.pc")
 for named in "CHANGELOG.md:## $version, " "examples/hosts/bpf-host/Cargo.toml:version = \"$version\""; do
     [[ "$(grep -m 1 -e '^## ' -e '^version = ' "$root/${named%%:*}")" == "${named#*:}"* ]] || complains "${named%%:*} has another version than $version"
 done
-[ "$("$dir/real/bin/bpf" --version 2>&1)" = "bpf $version" ] || complains "bpf --version isn't $version"
+[ "$("$dir/real/bin/bpf" --version 2>&1 | head -n 1)" = "bpf $version" ] || complains "bpf --version isn't $version"
 cat >"$dir/host.c" <<'HOST'
 #include <bpf.h>
 #include <stdio.h>
