@@ -1,6 +1,6 @@
 /* hosts.c: a host that is looked at by hosts.py. `table` answers lines of standard input as the command answers its words,
  * each with the command's status in front; `bad` makes the calls that no caller should; `memory` refuses each growth of memory in
- * turn; `threads` judges and runs in two threads; `many` runs one prepared program a million times. */
+ * turn; `threads` judges and runs in eight threads; `many` runs one prepared program a million times. */
 #include <bpf.h>
 #include <pthread.h>
 #include <stdio.h>
@@ -441,7 +441,6 @@ static int memory(char **word) {
 /* ---- threads, and many runs */
 
 static struct bytes shared_image, shared_certificate;
-
 /* The sum of a checksum's context, by the library and by hand. */
 static void *judge_and_run(void *arg) {
     long *bad_ones = arg;
@@ -462,14 +461,15 @@ static void *judge_and_run(void *arg) {
 }
 
 static int threads(char **word) {
-    pthread_t thread[2];
-    long bad_ones[2] = {0, 0};
+    enum { THREADS = 8 };
+    pthread_t thread[THREADS];
+    long bad_ones[THREADS] = {0}, all = 0;
     shared_image = read_file(word[0]), shared_certificate = read_file(word[1]);
-    for (int i = 0; i < 2; i++)
+    for (int i = 0; i < THREADS; i++)
         if (pthread_create(&thread[i], NULL, judge_and_run, &bad_ones[i])) abort();
-    for (int i = 0; i < 2; i++) pthread_join(thread[i], NULL);
+    for (int i = 0; i < THREADS; i++) pthread_join(thread[i], NULL), all += bad_ones[i];
     free(shared_image.at), free(shared_certificate.at);
-    return bad_ones[0] + bad_ones[1] != 0;
+    return all != 0;
 }
 
 static int many(char **word) {

@@ -276,6 +276,6 @@ for words in [['bad'], ['memory', checksum, FOLDER / 'sum.cert'], ['threads', ch
     assert done.returncode == 0 and not done.stderr, (words, done)
 texts()
 print('each refusal says to hosts what the crates say of it')
-print('bad calls, refused memory, two threads and a million runs: as they should be')
+print('bad calls, refused memory, eight threads and a million runs: as they should be')
 filters()
 print('the filters in C and Rust answer as the command on each frame')

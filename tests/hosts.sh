@@ -1,7 +1,7 @@
 #!/usr/bin/env bash
 # hosts.sh: installs into a folder of its own, builds hosts against what stands there, the C ones with the sanitizers of cc, and holds
 # their answers to the command's: a table with every kind of refusal, calls that no caller should make, memory
-# that is refused, two threads, and a million runs. So are the wrappers for C++ and, where cargo is there, for Rust; threads have the stacks that
+# that is refused, eight threads, and a million runs. So are the wrappers for C++ and, where cargo is there, for Rust; threads have the stacks that
 # docs/HOSTS.md says are enough; what it hardens is what the command hardens. Then the commands that the documents show are run with what was installed.
 set -eu
 root=$(cd "$(dirname "${BASH_SOURCE[0]}")/.." && pwd)
