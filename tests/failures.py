@@ -34,6 +34,7 @@ COMMANDS = [
     ('list --slots --bytes fetch.img', [E9]),
     ('infer checksum.img 16 OUT', [E9, I5]),
     ('infer checksum.img 15 OUT', [E9, I5]),
+    ('infer --deep checksum.img 15 OUT', [E9, I5]),
     ('harden first-byte.img 1 OUT', [E9, H12]),
     ('harden checksum.img 15 OUT', [E9, H12]),
     ('check countdown.img countdown.cert', [E9, K4]),

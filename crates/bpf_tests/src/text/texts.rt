@@ -106,7 +106,7 @@ fn answer_to(alloc: Global, text: &str) -> Result<u32, TextError> {
     Ok(program.slots())
 }
 
-/// Memory may be refused at any allocation (`rt try --test --fail-alloc N`): then it is A7, and no other answer.
+/// Each text has its answer, or where memory ran out A7 at line 0; allocations are refused in turn by `tests/failures.sh`.
 #[test]
 fn want_of_memory_is_a7(rt: HostRuntime) {
     for (text, want) in &ANSWERS {
