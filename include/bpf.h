@@ -5,7 +5,8 @@
  * The functions of this header look at what can be wrong with pointers and lengths, and hand the rest to the library, whose
  * own functions (bpf_host_..) take no pointer that is null. None keeps what it was given, or changes anything but what the
  * answer says; none has state, so any number of threads may call at once, each with memory of its own for the answers.
- * What isn't wanted of an answer may be null. A null pointer is bytes only with the length 0.
+ * What isn't wanted of an answer may be null. A null pointer is bytes only with the length 0. An answer that shares a byte with what
+ * the call reads, or with the words or the text that it writes, is BPF_BAD_CALL; the two calls that run prepared words don't look at that.
  */
 #ifndef BPF_HOST_H
 #define BPF_HOST_H
@@ -94,6 +95,14 @@ int32_t bpf_host_infer(const uint8_t *image, size_t image_len, uint32_t order, u
                        uint8_t *text, size_t text_len, size_t *wanted, struct bpf_refusal *refusal);
 int32_t bpf_host_harden(const uint8_t *image, size_t image_len, uint32_t order, uint32_t size, uint32_t turns, uint64_t otherwise,
                         uint32_t padded, uint8_t *text, size_t text_len, size_t *wanted, struct bpf_refusal *refusal);
+int32_t bpf_host_explain(const uint8_t *image, size_t image_len, uint32_t order, const uint8_t *certificate, size_t certificate_len,
+                         uint32_t aspect, uint32_t slot, const uint8_t *lines, size_t lines_len, uint8_t *text, size_t text_len,
+                         size_t *wanted, struct bpf_refusal *refusal);
+int32_t bpf_host_explain_search(const uint8_t *image, size_t image_len, uint32_t order, uint32_t least, uint32_t most, uint32_t deep,
+                                uint32_t aspect, uint32_t slot, const uint8_t *lines, size_t lines_len, uint8_t *text, size_t text_len,
+                                size_t *wanted, struct bpf_refusal *refusal);
+int32_t bpf_host_explain_image(const uint8_t *image, size_t image_len, uint32_t order, uint32_t graph, uint8_t *text, size_t text_len,
+                               size_t *wanted, struct bpf_refusal *refusal);
 size_t bpf_host_refusal_text(uint32_t kind, uint32_t number, uint8_t *text, size_t text_len);
 
 /* ---- bytes, as C hands them over */
@@ -115,9 +124,24 @@ static inline int bpf_overlap(const void *out, size_t out_len, const void *in, s
     return out_len && in_len && (o < i ? i - o < out_len : o - i < in_len);
 }
 
-/* Whether memory is that of so many words: there, aligned, and no larger than an object. */
-static inline int bpf_are_words(const uint64_t *words, size_t words_len) {
-    return words && (uintptr_t)words % sizeof(uint64_t) == 0 && words_len <= (size_t)PTRDIFF_MAX / sizeof(uint64_t);
+/* Whether an answer may be written: it isn't wanted, or it shares no byte with either memory. */
+static inline int bpf_is_apart(const void *answer, size_t answer_len, const void *one, size_t one_len, const void *two, size_t two_len) {
+    return !answer || !(bpf_overlap(answer, answer_len, one, one_len) || bpf_overlap(answer, answer_len, two, two_len));
+}
+
+/* Whether a text, and what is told beside it, share no byte with memory that is read, nor that with the text. */
+static inline int bpf_may_tell(const void *text, size_t text_len, const size_t *wanted, const struct bpf_refusal *refusal, const void *in,
+                               size_t in_len) {
+    return !bpf_overlap(text, text_len, in, in_len) && bpf_is_apart(wanted, sizeof *wanted, in, in_len, text, text_len) &&
+           bpf_is_apart(refusal, sizeof *refusal, in, in_len, text, text_len);
+}
+
+/* How many words stand in front of the image in a prepared program, and in a handle. */
+enum { BPF_PREPARED_HEAD = 2, BPF_LOADED_HEAD = 5 };
+
+/* Whether memory is that of so many words, `least` of them or more: there, aligned, and no larger than an object. */
+static inline int bpf_are_words(const uint64_t *words, size_t words_len, size_t least) {
+    return words && (uintptr_t)words % sizeof(uint64_t) == 0 && words_len - least <= (size_t)PTRDIFF_MAX / sizeof(uint64_t) - least;
 }
 
 /* ---- the calls */
@@ -128,13 +152,15 @@ static inline uint32_t bpf_version(void) {
 }
 
 /* Whether a certificate certifies an image. BPF_YES: *verdict is promised of the image, whoever made the certificate. BPF_NO:
- * *refusal says why, by E, K or C. BPF_NO_MEMORY. BPF_BAD_CALL: an order that isn't one, or no bytes. */
+ * *refusal says why, by E, K or C. BPF_NO_MEMORY. BPF_BAD_CALL: an order that isn't one, no bytes, or an answer that lies in them. */
 static inline int32_t bpf_verify(const void *image, size_t image_len, uint32_t order, const void *certificate,
                                  size_t certificate_len, struct bpf_verdict *verdict, struct bpf_refusal *refusal) {
     struct bpf_verdict promised = {0, 0, 0};
     struct bpf_refusal why = {0, 0, 0, 0};
     int32_t answer;
     if (!bpf_are_bytes(image, image_len) || !bpf_are_bytes(certificate, certificate_len)) return BPF_BAD_CALL;
+    if (!bpf_is_apart(verdict, sizeof *verdict, image, image_len, certificate, certificate_len)) return BPF_BAD_CALL;
+    if (!bpf_is_apart(refusal, sizeof *refusal, image, image_len, certificate, certificate_len)) return BPF_BAD_CALL;
     answer = bpf_host_verify(bpf_bytes(image), image_len, order, bpf_bytes(certificate), certificate_len, &promised, &why);
     if (answer == BPF_YES && verdict) *verdict = promised;
     if (answer == BPF_NO && refusal) *refusal = why;
@@ -146,20 +172,20 @@ static inline size_t bpf_prepared_size(size_t image_len) {
     return bpf_host_prepared_size(image_len);
 }
 
-/* Prepares the program of an image for bpf_run_checked, in words of the caller; what they hold is the library's, and may be
- * other in another version. It may be copied and moved. BPF_YES. BPF_NO: the image is refused (bpf_verify says why).
+/* Prepares the program of an image for bpf_run_checked, in words of the caller; what they hold is the library's, and another version
+ * doesn't run it. It may be copied and moved. BPF_YES. BPF_NO: the image is refused (bpf_verify says why).
  * BPF_TOO_SMALL: there are fewer words than bpf_prepared_size(image_len), whatever the image holds. BPF_BAD_CALL, before both: an
  * order that isn't one, no bytes, no words, or words that lie in the image. Only BPF_YES changes the words. Nothing is allocated. */
 static inline int32_t bpf_prepare(const void *image, size_t image_len, uint32_t order, uint64_t *words, size_t words_len) {
     size_t size = bpf_host_prepared_size(image_len), used = words_len < size ? words_len : size;
-    if (order > BPF_BIG || !bpf_are_bytes(image, image_len) || !bpf_are_words(words, words_len)) return BPF_BAD_CALL;
+    if (order > BPF_BIG || !bpf_are_bytes(image, image_len) || !bpf_are_words(words, words_len, 0)) return BPF_BAD_CALL;
     if (bpf_overlap(words, 8 * used, image, image_len)) return BPF_BAD_CALL;
     if (words_len < size) return BPF_TOO_SMALL;
     return bpf_host_prepare(bpf_bytes(image), image_len, order, (uint8_t *)words, 8 * size);
 }
 
-/* Runs a prepared program, without a test that could fail: BPF_YES, and *result is what r0 holds at its end, which comes
- * within the verdict's bound. Nothing is allocated. BPF_BAD_CALL: no words or no bytes.
+/* Runs a prepared program: BPF_YES, and *result is what r0 holds at its end, which comes within the verdict's bound. Nothing is
+ * allocated. BPF_BAD_CALL: no words, no bytes, or words that another version prepared; *result stays.
  *
  * The caller's duty, which nobody looks at here: bpf_prepare said BPF_YES to these words, and they are as it left them; bpf_verify
  * said BPF_YES to the same image in the same order; and context_len is from `least` to `most` of that verdict. Where one isn't
@@ -168,7 +194,7 @@ static inline int32_t bpf_run_checked(const uint64_t *words, size_t words_len, c
                                       uint64_t *result) {
     uint64_t value = 0;
     int32_t answer;
-    if (!bpf_are_words(words, words_len) || !bpf_are_bytes(context, context_len)) return BPF_BAD_CALL;
+    if (!bpf_are_words(words, words_len, BPF_PREPARED_HEAD) || !bpf_are_bytes(context, context_len)) return BPF_BAD_CALL;
     answer = bpf_host_run_checked((const uint8_t *)words, 8 * words_len, bpf_bytes(context), context_len, &value);
     if (answer == BPF_YES && result) *result = value;
     return answer;
@@ -180,12 +206,12 @@ static inline size_t bpf_loaded_size(size_t image_len) {
 }
 
 /* Judges an image by a certificate, and writes a handle for bpf_run_loaded, in words of the caller: bpf_verify and bpf_prepare in
- * one call, on the same bytes. `limit` is the greatest bound that the caller pays for. What the words hold is the library's, and may
- * be other in another version. They may be copied and moved. BPF_YES: the handle stands in the words, and *verdict is promised of
+ * one call, on the same bytes. `limit` is the greatest bound that the caller pays for. What the words hold is the library's, and
+ * another version doesn't run it. They may be copied and moved. BPF_YES: the handle stands in the words, and *verdict is promised of
  * the image. BPF_TOO_LONG: *verdict is promised, and its bound is above the limit. BPF_NO: *refusal says why, by E, K or C.
  * BPF_NO_MEMORY. BPF_TOO_SMALL: there are fewer words than bpf_loaded_size(image_len), whatever the image holds. BPF_BAD_CALL,
- * before all that: an order that isn't one, no bytes, no words, or words that lie in the image or the certificate. Only BPF_YES
- * changes the words. */
+ * before all that: an order that isn't one, no bytes, no words, words that lie in the image or the certificate, or an answer that
+ * lies in one of the three. Only BPF_YES changes the words. */
 static inline int32_t bpf_load(const void *image, size_t image_len, uint32_t order, const void *certificate,
                                size_t certificate_len, uint32_t limit, uint64_t *words, size_t words_len,
                                struct bpf_verdict *verdict, struct bpf_refusal *refusal) {
@@ -194,8 +220,12 @@ static inline int32_t bpf_load(const void *image, size_t image_len, uint32_t ord
     struct bpf_refusal why = {0, 0, 0, 0};
     int32_t answer;
     if (order > BPF_BIG || !bpf_are_bytes(image, image_len) || !bpf_are_bytes(certificate, certificate_len)) return BPF_BAD_CALL;
-    if (!bpf_are_words(words, words_len) || bpf_overlap(words, 8 * used, image, image_len)) return BPF_BAD_CALL;
+    if (!bpf_are_words(words, words_len, 0) || bpf_overlap(words, 8 * used, image, image_len)) return BPF_BAD_CALL;
     if (bpf_overlap(words, 8 * used, certificate, certificate_len)) return BPF_BAD_CALL;
+    if (!bpf_is_apart(verdict, sizeof *verdict, image, image_len, certificate, certificate_len)) return BPF_BAD_CALL;
+    if (!bpf_is_apart(refusal, sizeof *refusal, image, image_len, certificate, certificate_len)) return BPF_BAD_CALL;
+    if (!bpf_is_apart(verdict, sizeof *verdict, words, 8 * used, NULL, 0)) return BPF_BAD_CALL;
+    if (!bpf_is_apart(refusal, sizeof *refusal, words, 8 * used, NULL, 0)) return BPF_BAD_CALL;
     if (words_len < size) return BPF_TOO_SMALL;
     answer = bpf_host_load(bpf_bytes(image), image_len, order, bpf_bytes(certificate), certificate_len, limit, (uint8_t *)words,
                            8 * size, &promised, &why);
@@ -205,7 +235,8 @@ static inline int32_t bpf_load(const void *image, size_t image_len, uint32_t ord
 }
 
 /* Runs the program of a handle. BPF_YES: *result is what r0 holds at its end, which comes within the verdict's bound. BPF_BAD_CALL:
- * no words, no bytes, or a context whose length isn't one of the verdict's; *result stays. Nothing is allocated.
+ * no words, no bytes, words that another version loaded, or a context whose length isn't one of the verdict's; *result stays. Nothing
+ * is allocated.
  *
  * The caller's duty, which nobody looks at here: bpf_load said BPF_YES to these words, and they are as it left them. Where that
  * isn't so, nothing is promised of what comes. */
@@ -213,20 +244,21 @@ static inline int32_t bpf_run_loaded(const uint64_t *words, size_t words_len, co
                                      uint64_t *result) {
     uint64_t value = 0;
     int32_t answer;
-    if (!bpf_are_words(words, words_len) || !bpf_are_bytes(context, context_len)) return BPF_BAD_CALL;
+    if (!bpf_are_words(words, words_len, BPF_LOADED_HEAD) || !bpf_are_bytes(context, context_len)) return BPF_BAD_CALL;
     answer = bpf_host_run_loaded((const uint8_t *)words, 8 * words_len, bpf_bytes(context), context_len, &value);
     if (answer == BPF_YES && result) *result = value;
     return answer;
 }
 
 /* Runs an image that nobody verified, on the exact machine, for at most `fuel` instructions. BPF_YES: it ran, and *outcome says
- * how that ended. BPF_NO: the image is refused, as *outcome says. BPF_BAD_CALL: an order that isn't one, no bytes, or a context
- * of more than 4,096; *outcome stays. Nothing is allocated. */
+ * how that ended. BPF_NO: the image is refused, as *outcome says. BPF_BAD_CALL: an order that isn't one, no bytes, a context
+ * of more than 4,096, or an outcome that lies in them; *outcome stays. Nothing is allocated. */
 static inline int32_t bpf_run(const void *image, size_t image_len, uint32_t order, const void *context, size_t context_len,
                               uint64_t fuel, struct bpf_outcome *outcome) {
     struct bpf_outcome end = {0, 0, 0, 0, 0};
     int32_t answer;
     if (!bpf_are_bytes(image, image_len) || !bpf_are_bytes(context, context_len)) return BPF_BAD_CALL;
+    if (!bpf_is_apart(outcome, sizeof *outcome, image, image_len, context, context_len)) return BPF_BAD_CALL;
     answer = bpf_host_run(bpf_bytes(image), image_len, order, bpf_bytes(context), context_len, fuel, &end);
     if (answer != BPF_BAD_CALL && outcome) *outcome = end;
     return answer;
@@ -236,7 +268,8 @@ static inline int32_t bpf_run(const void *image, size_t image_len, uint32_t orde
  * programs, as by `infer --deep`; else 0. BPF_YES: its text stands in the first *wanted
  * bytes of `text`. BPF_TOO_SMALL: it has *wanted bytes, and `text`, which may be null with the length 0, is as it was. BPF_NO:
  * none is proposed, and *refusal says why, by E or I. BPF_NO_MEMORY. BPF_BAD_CALL: an order or `deep` that isn't one, `least` above
- * `most`, `most` above 4,096, no bytes, or a text that lies in the image. Nobody relies on a proposal: bpf_verify judges it. */
+ * `most`, `most` above 4,096, no bytes, a text that lies in the image, or an answer that lies in either. Nobody relies on a proposal:
+ * bpf_verify judges it. */
 static inline int32_t bpf_infer(const void *image, size_t image_len, uint32_t order, uint32_t least, uint32_t most, uint32_t deep,
                                 char *text, size_t text_len, size_t *wanted, struct bpf_refusal *refusal) {
     struct bpf_refusal why = {0, 0, 0, 0};
@@ -244,7 +277,7 @@ static inline int32_t bpf_infer(const void *image, size_t image_len, uint32_t or
     uint8_t none = 0;
     int32_t answer;
     if (!bpf_are_bytes(image, image_len) || !bpf_are_bytes(text, text_len)) return BPF_BAD_CALL;
-    if (bpf_overlap(text, text_len, image, image_len)) return BPF_BAD_CALL;
+    if (!bpf_may_tell(text, text_len, wanted, refusal, image, image_len)) return BPF_BAD_CALL;
     answer = bpf_host_infer(bpf_bytes(image), image_len, order, least, most, deep, text ? (uint8_t *)text : &none, text_len, &count,
                             &why);
     if ((answer == BPF_YES || answer == BPF_TOO_SMALL) && wanted) *wanted = count;
@@ -262,8 +295,9 @@ struct bpf_hardening {
 /* Hardens an image for contexts of exactly `size` bytes, so that bpf_infer with `deep` may find a certificate for it; `asked` may be
  * null: 65,536 turns, no blocks, 0 otherwise. BPF_YES: the new image stands in the first *wanted bytes of `hardened`. BPF_TOO_SMALL:
  * it has *wanted bytes, at most 524,288, and `hardened`, which may be null with the length 0, is as it was. BPF_NO: *refusal says why, by
- * E or H. BPF_NO_MEMORY. BPF_BAD_CALL: an order or `padded` that isn't one, `size` above 4,096, no bytes, or `hardened` lies in the
- * image. Nobody relies on it: a certificate of the new image is found by bpf_infer, and judged by bpf_load or bpf_verify. */
+ * E or H. BPF_NO_MEMORY. BPF_BAD_CALL: an order or `padded` that isn't one, `size` above 4,096, no bytes, `hardened` lies in the
+ * image, or an answer in either. Nobody relies on it: a certificate of the new image is found by bpf_infer, and judged by bpf_load or
+ * bpf_verify. */
 static inline int32_t bpf_harden(const void *image, size_t image_len, uint32_t order, uint32_t size, const struct bpf_hardening *asked,
                                  void *hardened, size_t hardened_len, size_t *wanted, struct bpf_refusal *refusal) {
     struct bpf_hardening usual = {65536, 0, 0};
@@ -272,11 +306,92 @@ static inline int32_t bpf_harden(const void *image, size_t image_len, uint32_t o
     uint8_t none = 0;
     int32_t answer;
     if (!bpf_are_bytes(image, image_len) || !bpf_are_bytes(hardened, hardened_len)) return BPF_BAD_CALL;
-    if (bpf_overlap(hardened, hardened_len, image, image_len)) return BPF_BAD_CALL;
+    if (!bpf_may_tell(hardened, hardened_len, wanted, refusal, image, image_len)) return BPF_BAD_CALL;
     if (!asked) asked = &usual;
     answer = bpf_host_harden(bpf_bytes(image), image_len, order, size, asked->turns, asked->otherwise, asked->padded,
                              hardened ? (uint8_t *)hardened : &none, hardened_len, &count, &why);
     if ((answer == BPF_YES || answer == BPF_TOO_SMALL) && wanted) *wanted = count;
+    if (answer == BPF_NO && refusal) *refusal = why;
+    return answer;
+}
+
+/* What is shown of a program, as by the options of `bpf explain`. */
+enum bpf_aspect {
+    BPF_LISTING = 0, /* each instruction with what is known there, and the answer */
+    BPF_SLOT = 1,    /* one instruction with the whole states before and behind it, --slot */
+    BPF_GRAPH = 2    /* the control-flow graph as DOT text, --dot */
+};
+
+struct bpf_shown {
+    uint32_t aspect;   /* enum bpf_aspect */
+    uint32_t slot;     /* of BPF_SLOT: the instruction's */
+    const void *lines; /* --lines: the lines of the source by slots, as bpf-cc writes them; null with the length 0 where there are none */
+    size_t lines_len;
+};
+
+/* Explains an image with a certificate: the words of `bpf explain IN CERT`, byte for byte. `shown` may be null: the listing without lines
+ * of the source. BPF_YES: they stand in the first *wanted bytes of `text`, and the certificate certifies the image. BPF_NO: they stand
+ * there, and it doesn't: *refusal says why, by E, K or C. BPF_TOO_SMALL: there are *wanted bytes of them, and `text`, which may be null
+ * with the length 0, is as it was. BPF_NO_MEMORY. BPF_BAD_CALL: an order or an aspect that isn't one, no bytes, lines that are no such table, a text
+ * that lies in what is read, or an answer in either or in the other one. Words are for people, and may be other in another version. */
+static inline int32_t bpf_explain(const void *image, size_t image_len, uint32_t order, const void *certificate, size_t certificate_len,
+                                  const struct bpf_shown *shown, char *text, size_t text_len, size_t *wanted,
+                                  struct bpf_refusal *refusal) {
+    struct bpf_shown usual = {BPF_LISTING, 0, NULL, 0};
+    struct bpf_refusal why = {0, 0, 0, 0};
+    size_t count = 0;
+    uint8_t none = 0;
+    int32_t answer;
+    if (!shown) shown = &usual;
+    if (!bpf_are_bytes(image, image_len) || !bpf_are_bytes(certificate, certificate_len)) return BPF_BAD_CALL;
+    if (!bpf_are_bytes(shown->lines, shown->lines_len) || !bpf_are_bytes(text, text_len)) return BPF_BAD_CALL;
+    if (!bpf_may_tell(text, text_len, wanted, refusal, image, image_len)) return BPF_BAD_CALL;
+    if (!bpf_may_tell(text, text_len, wanted, refusal, certificate, certificate_len)) return BPF_BAD_CALL;
+    if (!bpf_may_tell(text, text_len, wanted, refusal, shown->lines, shown->lines_len)) return BPF_BAD_CALL;
+    if (refusal && !bpf_is_apart(wanted, sizeof *wanted, refusal, sizeof *refusal, NULL, 0)) return BPF_BAD_CALL;
+    answer = bpf_host_explain(bpf_bytes(image), image_len, order, bpf_bytes(certificate), certificate_len, shown->aspect, shown->slot,
+                              bpf_bytes(shown->lines), shown->lines_len, text ? (uint8_t *)text : &none, text_len, &count, &why);
+    if ((answer == BPF_YES || answer == BPF_NO || answer == BPF_TOO_SMALL) && wanted) *wanted = count;
+    if (answer == BPF_NO && refusal) *refusal = why;
+    return answer;
+}
+
+/* Explains what a search finds for an image on contexts of `least` to `most` bytes, the deep one where `deep` is 1, or else 0: the words
+ * of `bpf explain IN --infer`. The answers are those of bpf_explain: BPF_YES where it finds a certificate which certifies the image,
+ * BPF_NO where it doesn't, by E, I or C. BPF_BAD_CALL also: lengths or `deep` as of bpf_infer. */
+static inline int32_t bpf_explain_search(const void *image, size_t image_len, uint32_t order, uint32_t least, uint32_t most,
+                                         uint32_t deep, const struct bpf_shown *shown, char *text, size_t text_len, size_t *wanted,
+                                         struct bpf_refusal *refusal) {
+    struct bpf_shown usual = {BPF_LISTING, 0, NULL, 0};
+    struct bpf_refusal why = {0, 0, 0, 0};
+    size_t count = 0;
+    uint8_t none = 0;
+    int32_t answer;
+    if (!shown) shown = &usual;
+    if (!bpf_are_bytes(image, image_len) || !bpf_are_bytes(shown->lines, shown->lines_len)) return BPF_BAD_CALL;
+    if (!bpf_are_bytes(text, text_len) || !bpf_may_tell(text, text_len, wanted, refusal, image, image_len)) return BPF_BAD_CALL;
+    if (!bpf_may_tell(text, text_len, wanted, refusal, shown->lines, shown->lines_len)) return BPF_BAD_CALL;
+    if (refusal && !bpf_is_apart(wanted, sizeof *wanted, refusal, sizeof *refusal, NULL, 0)) return BPF_BAD_CALL;
+    answer = bpf_host_explain_search(bpf_bytes(image), image_len, order, least, most, deep, shown->aspect, shown->slot,
+                                     bpf_bytes(shown->lines), shown->lines_len, text ? (uint8_t *)text : &none, text_len, &count, &why);
+    if ((answer == BPF_YES || answer == BPF_NO || answer == BPF_TOO_SMALL) && wanted) *wanted = count;
+    if (answer == BPF_NO && refusal) *refusal = why;
+    return answer;
+}
+
+/* Explains an image by itself: the words of `bpf explain IN`, or with `graph` 1, else 0, those of `bpf explain IN --dot`. The answers are
+ * those of bpf_explain: BPF_YES of an image, BPF_NO of bytes that are none, by E. */
+static inline int32_t bpf_explain_image(const void *image, size_t image_len, uint32_t order, uint32_t graph, char *text,
+                                        size_t text_len, size_t *wanted, struct bpf_refusal *refusal) {
+    struct bpf_refusal why = {0, 0, 0, 0};
+    size_t count = 0;
+    uint8_t none = 0;
+    int32_t answer;
+    if (!bpf_are_bytes(image, image_len) || !bpf_are_bytes(text, text_len)) return BPF_BAD_CALL;
+    if (!bpf_may_tell(text, text_len, wanted, refusal, image, image_len)) return BPF_BAD_CALL;
+    if (refusal && !bpf_is_apart(wanted, sizeof *wanted, refusal, sizeof *refusal, NULL, 0)) return BPF_BAD_CALL;
+    answer = bpf_host_explain_image(bpf_bytes(image), image_len, order, graph, text ? (uint8_t *)text : &none, text_len, &count, &why);
+    if ((answer == BPF_YES || answer == BPF_NO || answer == BPF_TOO_SMALL) && wanted) *wanted = count;
     if (answer == BPF_NO && refusal) *refusal = why;
     return answer;
 }

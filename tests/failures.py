@@ -16,6 +16,8 @@ OLD = b'what stood here before\n'
 E9, K4, A7, I5, H12 = 'no E9 at slot 0\n', 'no K4 at line 0\n', 'no A7 at line 0\n', 'no I5 at slot 0\n', 'no H12 at slot 0\n'
 # Of an explanation: of a text behind its first reading, and of a search, whose words stand behind what was found out before it.
 A7_TOLD, I5_TOLD = 'A7: out of memory\n', 'no certificate: I5, memory ran out\n'
+# What the line of an answer takes as it grows, in bytes: half a frame of a program.
+LINE = 256
 # Calls that no command makes alone, and their refusals.
 CALLS = {
     'assemble': {'A7 at line 0'},
@@ -143,11 +145,12 @@ def straight(count):
 
 
 def takes_no_memory(name, small, large):
-    """Between the last read and the first write the command grows memory as often for a small program as for a large one."""
-    if small.status or large.status or small.counts[1] != large.counts[1]:
+    """Between the last read and the first write the command grows memory as often for a small program as for a large one, and asks for no
+    more than LINE bytes."""
+    if small.status or large.status or small.counts[1] != large.counts[1] or max(small.counts[2], large.counts[2]) > LINE:
         print(f'failures: {name} takes memory\n  small {small}, {small.counts}\n  large {large}, {large.counts}')
         sys.exit(1)
-    print(f'{name}: {small.counts[1]} allocations behind the last read, for the answer\'s line, whatever the program')
+    print(f'{name}: {small.counts[1]} allocations of {large.counts[2]} bytes behind the last read, for the answer\'s line, whatever the program')
 
 
 def show_no_memory():
@@ -209,11 +212,11 @@ def try_memory(words, refusals, right):
 
 def try_streams(words, right):
     """Each read or write fails, and each is shortened."""
-    for n in range(1, right.counts[2] + 1):
+    for n in range(1, right.counts[3] + 1):
         got = Answer(words, REFUSE_IO=n)
         if got.told() != right.told() and not is_failure(got, right) or not whole_or_old(got, right):
             wrong('read or write', n, got, right)
-    for n in range(1, right.counts[3] + 1):
+    for n in range(1, right.counts[4] + 1):
         got = Answer(words, SHORT_IO=n)
         if got.told() != right.told() or got.left:
             wrong('short read or write', n, got, right)
@@ -235,7 +238,7 @@ def main():
         right = Answer(words)
         try_memory(words, refusals, right)
         try_streams(words, right)
-        allocs, _, io, short = right.counts
+        allocs, _, _, io, short = right.counts
         for name, count in zip(totals, (allocs, io, short)):
             totals[name] += count
         print(f'{line}: {allocs} allocations, {io} reads and writes, {short} of several bytes', flush=True)

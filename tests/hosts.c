@@ -167,9 +167,75 @@ static void say_infer(uint32_t order, const struct bytes *image, uint32_t least,
     puts("0 ");
 }
 
+/* Its words go to a file. The size is asked for first; then they are written, with a byte too few and with just enough room. */
+typedef int32_t explains(const void *of, char *text, size_t text_len, size_t *wanted, struct bpf_refusal *why);
+
+static void say_explained(explains *call, const void *of, const char *out) {
+    size_t wanted = 0, again = 0;
+    struct bpf_refusal why = {7, 7, 7, 7};
+    struct bytes text;
+    FILE *file;
+    int32_t answer;
+    if (call(of, NULL, 0, &wanted, &why) != BPF_TOO_SMALL || !wanted) abort();
+    text = of_size(wanted);
+    if (call(of, (char *)text.at, wanted - 1, &again, &why) != BPF_TOO_SMALL || again != wanted || why.kind != 7) abort();
+    answer = call(of, (char *)text.at, wanted, &again, &why);
+    file = fopen(out, "wb");
+    if (!file || again != wanted || fwrite(text.at, 1, wanted, file) != wanted) abort();
+    fclose(file);
+    free(text.at);
+    if ((answer == BPF_NO) != (why.kind != 7) || (answer != BPF_YES && answer != BPF_NO)) abort();
+    puts(answer == BPF_YES ? "0 " : "1 ");
+}
+
+/* What is explained, and how. */
+struct question {
+    uint32_t order, least, most, deep;
+    struct bytes image, certificate;
+    struct bpf_shown shown;
+};
+
+static int32_t of_certificate(const void *of, char *text, size_t text_len, size_t *wanted, struct bpf_refusal *why) {
+    const struct question *q = of;
+    return bpf_explain(q->image.at, q->image.len, q->order, q->certificate.at, q->certificate.len, &q->shown, text, text_len, wanted, why);
+}
+
+static int32_t of_search(const void *of, char *text, size_t text_len, size_t *wanted, struct bpf_refusal *why) {
+    const struct question *q = of;
+    return bpf_explain_search(q->image.at, q->image.len, q->order, q->least, q->most, q->deep, &q->shown, text, text_len, wanted, why);
+}
+
+static int32_t of_image(const void *of, char *text, size_t text_len, size_t *wanted, struct bpf_refusal *why) {
+    const struct question *q = of;
+    return bpf_explain_image(q->image.at, q->image.len, q->order, q->shown.aspect == BPF_GRAPH, text, text_len, wanted, why);
+}
+
+/* explain ORDER IMAGE ASPECT SLOT LINES OUT [CERTIFICATE | LEAST MOST DEEP]; `none` for no lines. */
+static void say_explain(uint32_t order, char **word) {
+    struct bytes lines = {NULL, 0};
+    struct question q = {order, 0, 0, 0, read_file(word[0]), {NULL, 0}, {(uint32_t)atol(word[1]), (uint32_t)atol(word[2]), NULL, 0}};
+    if (strcmp(word[3], "none")) lines = read_file(word[3]);
+    q.shown.lines = lines.at, q.shown.lines_len = lines.len;
+    if (!word[5]) {
+        say_explained(of_image, &q, word[4]);
+    } else if (!word[6]) {
+        q.certificate = read_file(word[5]);
+        say_explained(of_certificate, &q, word[4]);
+    } else {
+        q.least = (uint32_t)atol(word[5]), q.most = (uint32_t)atol(word[6]), q.deep = (uint32_t)atol(word[7]);
+        say_explained(of_search, &q, word[4]);
+    }
+    free(q.image.at), free(q.certificate.at), free(lines.at);
+}
+
 static void answer(char **word) {
     uint32_t order = strcmp(word[1], "big") ? BPF_LITTLE : BPF_BIG;
-    struct bytes image = read_file(word[2]), second = {NULL, 0}, third = {NULL, 0};
+    struct bytes image = {NULL, 0}, second = {NULL, 0}, third = {NULL, 0};
+    if (!strcmp(word[0], "explain")) {
+        say_explain(order, word + 2);
+        return;
+    }
+    image = read_file(word[2]);
     if (!strcmp(word[0], "check")) {
         second = read_file(word[3]);
         say_check(order, &image, &second);
@@ -189,9 +255,9 @@ static void answer(char **word) {
 static int table(void) {
     static char line[1 << 14];
     while (fgets(line, sizeof line, stdin)) {
-        char *word[8] = {0};
+        char *word[12] = {0};
         int count = 0;
-        for (char *at = strtok(line, " \n"); at && count < 8; at = strtok(NULL, " \n")) word[count++] = at;
+        for (char *at = strtok(line, " \n"); at && count < 11; at = strtok(NULL, " \n")) word[count++] = at;
         answer(word);
     }
     return 0;
@@ -328,6 +394,81 @@ static void bad_loading(void) {
     WANTS(value, 0);
 }
 
+/* What another version prepared or loaded isn't run, whatever else stands there, nor what none prepared. */
+static void other_versions(void) {
+    uint64_t words[12], value = 7;
+    size_t prepared = bpf_prepared_size(sizeof image), loaded = bpf_loaded_size(sizeof image);
+    WANTS(bpf_version(), BPF_HOST_VERSION);
+    WANTS(bpf_prepare(IMAGE, BPF_BIG, words, 12), BPF_YES);
+    WANTS(words[1], 2 * BPF_HOST_VERSION + BPF_BIG);
+    WANTS(bpf_prepare(IMAGE, BPF_LITTLE, words, 12), BPF_YES);
+    WANTS(words[1], 2 * BPF_HOST_VERSION + BPF_LITTLE);
+    for (uint64_t version = 0; version < 300; version++) {
+        words[1] = version;
+        WANTS(bpf_run_checked(words, prepared, NULL, 0, &value), version / 2 == BPF_HOST_VERSION ? BPF_YES : BPF_BAD_CALL);
+    }
+    WANTS(value, 0);
+    value = 7;
+    words[1] = (uint64_t)1 << 32 | 2 * BPF_HOST_VERSION;
+    WANTS(bpf_run_checked(words, prepared, NULL, 0, &value), BPF_BAD_CALL);
+    WANTS(bpf_load(IMAGE, BPF_LITTLE, CERTIFICATE, 9, words, 12, NULL, NULL), BPF_YES);
+    words[4] -= 2;
+    WANTS(bpf_run_loaded(words, loaded, NULL, 0, &value), BPF_BAD_CALL);
+    memset(words, 0, sizeof words);
+    WANTS(bpf_run_checked(words, 12, NULL, 0, &value), BPF_BAD_CALL);
+    WANTS(bpf_run_loaded(words, 12, NULL, 0, &value), BPF_BAD_CALL);
+    WANTS(bpf_run_checked(words, 1, NULL, 0, &value), BPF_BAD_CALL);
+    WANTS(bpf_run_loaded(words, 4, NULL, 0, &value), BPF_BAD_CALL);
+    WANTS(bpf_run_checked(words, 0, NULL, 0, &value), BPF_BAD_CALL);
+    WANTS(bpf_run_loaded(words, 0, NULL, 0, &value), BPF_BAD_CALL);
+    WANTS(value, 7);
+}
+
+static void bad_explanations(void) {
+    const struct bpf_shown fourth = {3, 0, NULL, 0}, no_table = {BPF_LISTING, 0, "no table\n", 9}, null = {BPF_LISTING, 0, NULL, 9};
+    const struct bpf_shown table = {BPF_LISTING, 0, "0 zero.c:1 return 0;\n", 21};
+    char text[1024] = "as it was";
+    size_t wanted = 7, again = 7;
+    struct bpf_refusal why = {7, 7, 7, 7};
+    union {
+        size_t wanted;
+        struct bpf_refusal why;
+    } both;
+    WANTS(bpf_explain(NULL, 16, BPF_LITTLE, CERTIFICATE, NULL, text, 1024, &wanted, &why), BPF_BAD_CALL);
+    WANTS(bpf_explain(IMAGE, 2, CERTIFICATE, NULL, text, 1024, &wanted, &why), BPF_BAD_CALL);
+    WANTS(bpf_explain(IMAGE, BPF_LITTLE, NULL, 9, NULL, text, 1024, &wanted, &why), BPF_BAD_CALL);
+    WANTS(bpf_explain(IMAGE, BPF_LITTLE, CERTIFICATE, NULL, NULL, 9, &wanted, &why), BPF_BAD_CALL);
+    WANTS(bpf_explain(IMAGE, BPF_LITTLE, CERTIFICATE, &fourth, text, 1024, &wanted, &why), BPF_BAD_CALL);
+    WANTS(bpf_explain(IMAGE, BPF_LITTLE, CERTIFICATE, &no_table, text, 1024, &wanted, &why), BPF_BAD_CALL);
+    WANTS(bpf_explain(IMAGE, BPF_LITTLE, CERTIFICATE, &null, text, 1024, &wanted, &why), BPF_BAD_CALL);
+    WANTS(bpf_explain(text, 16, BPF_LITTLE, CERTIFICATE, NULL, text, 1024, &wanted, &why), BPF_BAD_CALL);
+    WANTS(bpf_explain(IMAGE, BPF_LITTLE, text + 1023, 9, NULL, text, 1024, &wanted, &why), BPF_BAD_CALL);
+    WANTS(bpf_explain(IMAGE, BPF_LITTLE, CERTIFICATE, &(const struct bpf_shown){0, 0, text, 9}, text, 1024, &wanted, &why), BPF_BAD_CALL);
+    WANTS(bpf_explain(IMAGE, BPF_LITTLE, CERTIFICATE, NULL, text, 1024, (void *)text, &why), BPF_BAD_CALL);
+    WANTS(bpf_explain(IMAGE, BPF_LITTLE, CERTIFICATE, NULL, text, 1024, &wanted, (void *)text), BPF_BAD_CALL);
+    WANTS(bpf_explain(IMAGE, BPF_LITTLE, CERTIFICATE, NULL, text, 1024, &both.wanted, &both.why), BPF_BAD_CALL);
+    WANTS(bpf_explain_search(IMAGE, 2, 0, 0, 0, NULL, text, 1024, &wanted, &why), BPF_BAD_CALL);
+    WANTS(bpf_explain_search(IMAGE, BPF_LITTLE, 1, 0, 0, NULL, text, 1024, &wanted, &why), BPF_BAD_CALL);
+    WANTS(bpf_explain_search(IMAGE, BPF_LITTLE, 0, 4097, 0, NULL, text, 1024, &wanted, &why), BPF_BAD_CALL);
+    WANTS(bpf_explain_search(IMAGE, BPF_LITTLE, 0, 0, 2, NULL, text, 1024, &wanted, &why), BPF_BAD_CALL);
+    WANTS(bpf_explain_search(IMAGE, BPF_LITTLE, 0, 0, 0, &fourth, text, 1024, &wanted, &why), BPF_BAD_CALL);
+    WANTS(bpf_explain_search(IMAGE, BPF_LITTLE, 0, 0, 0, NULL, text, 1024, (void *)text, &why), BPF_BAD_CALL);
+    WANTS(bpf_explain_image(IMAGE, 2, 0, text, 1024, &wanted, &why), BPF_BAD_CALL);
+    WANTS(bpf_explain_image(IMAGE, BPF_LITTLE, 2, text, 1024, &wanted, &why), BPF_BAD_CALL);
+    WANTS(bpf_explain_image(text, 16, BPF_LITTLE, 0, text, 1024, &wanted, &why), BPF_BAD_CALL);
+    WANTS(bpf_explain_image(IMAGE, BPF_LITTLE, 0, text, 1024, &both.wanted, &both.why), BPF_BAD_CALL);
+    WANTS(wanted == 7 && why.kind == 7 && !strcmp(text, "as it was"), 1);
+    WANTS(bpf_explain(IMAGE, BPF_LITTLE, CERTIFICATE, NULL, text, 3, &wanted, &why), BPF_TOO_SMALL);
+    WANTS(wanted > 7 && wanted < 1024 && why.kind == 7 && !strcmp(text, "as it was"), 1);
+    WANTS(bpf_explain(IMAGE, BPF_LITTLE, CERTIFICATE, &table, text, 1024, &again, NULL), BPF_YES);
+    WANTS(again > wanted, 1);
+    WANTS(bpf_explain(IMAGE, BPF_LITTLE, NULL, 0, NULL, text, 1024, NULL, &why), BPF_NO);
+    WANTS(why.kind == BPF_CERTIFICATE && why.number == 1, 1);
+    WANTS(bpf_explain_image(image, 15, BPF_LITTLE, 0, text, 1024, NULL, &why), BPF_NO);
+    WANTS(why.kind == BPF_IMAGE && why.number == 1, 1);
+    WANTS(bpf_explain_search(IMAGE, BPF_LITTLE, 0, 0, 1, NULL, text, 1024, NULL, NULL), BPF_YES);
+}
+
 static void bad_proposals(void) {
     char text[256] = "as it was";
     size_t wanted = 7;
@@ -344,6 +485,44 @@ static void bad_proposals(void) {
     WANTS(wanted > 7 && wanted < 256 && !strcmp(text, "as it was"), 1);
     WANTS(bpf_infer(IMAGE, BPF_LITTLE, 0, 0, 0, text, 256, NULL, NULL), BPF_YES);
     WANTS(bpf_verify(IMAGE, BPF_LITTLE, text, wanted, NULL, NULL), BPF_YES);
+}
+
+/* Answers that lie in what a call reads, or in other memory that it writes; one byte is enough, and nothing is written then. */
+static void bad_answers(void) {
+    static const char kept[] = "bpfcert 1 0 2\nfn 0 1 *\nat 0 2\nend\n";
+    struct bytes all = of_size(512), before = of_size(512);
+    uint8_t *own = all.at, *proof = all.at + 64, *room = all.at + 128; /* an image, a certificate, and memory for answers */
+    size_t proof_len = sizeof kept - 1, words_len = bpf_loaded_size(16), wanted = 7;
+    struct bpf_refusal why;
+    memset(own, 7, all.len), memcpy(own, image, 16), memcpy(proof, kept, proof_len), memcpy(before.at, own, all.len);
+#define OWN own, 16, BPF_LITTLE
+#define PROOF proof, proof_len
+    WANTS(bpf_verify(OWN, PROOF, (void *)(own + 12), NULL), BPF_BAD_CALL);
+    WANTS(bpf_verify(OWN, PROOF, (void *)(proof - 8), NULL), BPF_BAD_CALL);
+    WANTS(bpf_verify(OWN, PROOF, NULL, (void *)own), BPF_BAD_CALL);
+    WANTS(bpf_verify(OWN, PROOF, NULL, (void *)(proof + 32)), BPF_BAD_CALL);
+    WANTS(bpf_load(OWN, PROOF, 9, (void *)room, words_len, (void *)(own + 4), NULL), BPF_BAD_CALL);
+    WANTS(bpf_load(OWN, PROOF, 9, (void *)room, words_len, NULL, (void *)(proof - 16)), BPF_BAD_CALL);
+    WANTS(bpf_load(OWN, PROOF, 9, (void *)room, words_len, (void *)(room + 8 * words_len - 4), NULL), BPF_BAD_CALL);
+    WANTS(bpf_load(OWN, PROOF, 9, (void *)room, words_len, NULL, (void *)(room + 8 * words_len - 8)), BPF_BAD_CALL);
+    WANTS(bpf_load(OWN, PROOF, 9, (void *)room, 1, NULL, (void *)room), BPF_BAD_CALL);
+    WANTS(bpf_run(OWN, PROOF, 9, (void *)(own + 8)), BPF_BAD_CALL);
+    WANTS(bpf_run(OWN, PROOF, 9, (void *)proof), BPF_BAD_CALL);
+    WANTS(bpf_infer(OWN, 0, 0, 0, (char *)room, 64, (void *)own, NULL), BPF_BAD_CALL);
+    WANTS(bpf_infer(OWN, 0, 0, 0, (char *)room, 64, (void *)(room + 56), NULL), BPF_BAD_CALL);
+    WANTS(bpf_infer(OWN, 0, 0, 0, (char *)room, 64, NULL, (void *)(own + 8)), BPF_BAD_CALL);
+    WANTS(bpf_infer(OWN, 0, 0, 0, (char *)room, 64, NULL, (void *)(room - 16)), BPF_BAD_CALL);
+    WANTS(bpf_harden(OWN, 0, NULL, room, 16, (void *)own, NULL), BPF_BAD_CALL);
+    WANTS(bpf_harden(OWN, 0, NULL, room, 16, (void *)(room + 8), NULL), BPF_BAD_CALL);
+    WANTS(bpf_harden(OWN, 0, NULL, room, 16, NULL, (void *)own), BPF_BAD_CALL);
+    WANTS(bpf_harden(OWN, 0, NULL, room, 16, NULL, (void *)(room - 16)), BPF_BAD_CALL);
+    WANTS(memcmp(own, before.at, all.len), 0);
+    /* Behind all that is written there is room for them. */
+    WANTS(bpf_harden(OWN, 0, NULL, room, 16, (void *)(room + 16), NULL), BPF_YES);
+    WANTS(*(size_t *)(void *)(room + 16), 16);
+    WANTS(bpf_load(OWN, PROOF, 9, (void *)room, 20, (void *)(room + 8 * words_len), &why), BPF_YES);
+    WANTS(bpf_infer(OWN, 0, 0, 0, NULL, 0, &wanted, &why), BPF_TOO_SMALL);
+    free(all.at), free(before.at);
 }
 
 static void bad_texts(void) {
@@ -369,7 +548,10 @@ static int bad(void) {
     bad_runs();
     bad_preparing();
     bad_loading();
+    other_versions();
+    bad_explanations();
     bad_proposals();
+    bad_answers();
     bad_texts();
     return wrong != 0;
 }

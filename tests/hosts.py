@@ -1,6 +1,7 @@
 """hosts.py BPF EXAMPLES FOLDER: holds what FOLDER/hosts (hosts.c), filter_c and filter_rs answer to what the command answers."""
 import pathlib
 import re
+import resource
 import struct
 import subprocess
 import sys
@@ -115,7 +116,7 @@ class Table:
     """Lines for hosts, and the command's answers to the same."""
 
     def __init__(self):
-        self.lines, self.wants = [], []
+        self.lines, self.wants, self.words = [], [], {}
 
     def add(self, want, *words):
         self.lines.append(' '.join(map(str, words)))
@@ -135,6 +136,22 @@ class Table:
         self.add(bpf('infer', *big(order), image, least, there, '--most', most), 'infer', order, image, least, most, here)
         return here, there
 
+    def explain(self, order, image, certificate=None, search=None, slot=None, graph=False, lines=None):
+        """Explains an image alone, with a certificate, or by a search, which is least, most and deep; the words go to a file, and the command's are kept."""
+        here, words, question = FOLDER / f'{len(self.lines)}.words', [], []
+        if certificate:
+            words, question = [certificate], [certificate]
+        if search:
+            least, most, deep = search
+            words = ['--infer', least, '--most', most, *(['--deep'] if deep else [])]
+            question = [least, most, int(deep)]
+        words += ['--dot'] if graph else ['--slot', slot] if slot is not None else []
+        words += ['--lines', lines] if lines else []
+        done = subprocess.run([BPF, 'explain', *big(order), image, *map(str, words)], capture_output=True, timeout=60)
+        aspect = 2 if graph else 1 if slot is not None else 0
+        self.words[here] = done.stdout
+        self.add((done.returncode, ''), 'explain', order, image, aspect, slot or 0, lines or 'none', here, *question)
+
     def compare(self):
         done = subprocess.run([HOSTS, 'table'], input='\n'.join(self.lines) + '\n', capture_output=True, text=True, timeout=120)
         assert done.returncode == 0 and not done.stderr, (done.returncode, done.stderr)
@@ -144,6 +161,8 @@ class Table:
         assert len(got) == len(wants) and not wrong, wrong[:5]
         seen = {kind for line in got for kind in re.findall(r'(?:no|fault) ([A-Z]\d+)', line)}
         assert KINDS <= seen, sorted(KINDS - seen)
+        for here, words in self.words.items():
+            assert words and here.read_bytes() == words, (here, self.lines[int(here.stem)])
         return len(got)
 
 
@@ -170,6 +189,31 @@ def fill(table):
         for order in ['little', 'big']:
             table.check(order, image[order], made(f'{name}.cert', certificate.encode()))
             table.run_checked(order, image[order], FOLDER / f'{name}.cert', 'none')
+    for name in NO_IMAGES:
+        table.explain('little', images[name]['little'])
+        table.explain('big', images[name]['big'], certificates[0])
+        table.explain('little', images[name]['little'], search=(0, 0, True))
+    for name, (text, certificate) in CERTIFIED.items():
+        for order in ['little', 'big']:
+            image = {'order': order, 'image': FOLDER / f'{name}.{order}.img', 'certificate': FOLDER / f'{name}.cert'}
+            table.explain(**image)
+            table.explain(**image, slot=1)
+            table.explain(**image, graph=True)
+    for name in [*(f'{name}.text' for name in TEXTS), *(path.stem for path in EXAMPLES.glob('*.img'))]:
+        for order in ['little', 'big']:
+            image = images[name][order]
+            table.explain(order, image)
+            table.explain(order, image, graph=True)
+            for search in [(0, 0, False), (0, 0, True), (16, 64, False), (16, 64, True)]:
+                table.explain(order, image, search=search)
+                table.explain(order, image, search=search, slot=0)
+                table.explain(order, image, search=search, graph=True)
+    lines = made('source.lines', ''.join(f'{slot} port.c:{slot + 1} line {slot};\n' for slot in range(40)).encode())
+    for path in sorted((EXAMPLES / 'c').glob('*.img')):
+        for keys in [{'certificate': path.with_suffix('.cert')}, {'search': (128, 128, True)}, {'search': (8, 8, True)}]:
+            table.explain('little', path, **keys, lines=lines)
+            table.explain('little', path, **keys, slot=9, lines=lines)
+            table.explain('little', path, **keys, graph=True)
     for order, image, here, there in proposals:
         if there.exists():
             table.check(order, image, there)
@@ -183,6 +227,12 @@ def errors_of(crate, file):
     source = (EXAMPLES.parent / 'crates' / crate / 'src' / file).read_text()
     texts = re.findall(r'#\[error\("([^"]*)"\)\]', source)
     return [re.sub('^line {line}', 'the line', re.sub(' at (slot {slot}|line {line})', '', text)) for text in texts]
+
+
+def conditions():
+    """The words of C1 to C13, of which C3 to C7 are an instruction's faults on a state, as the sources have them."""
+    others, faults = [re.findall('=> "([^"]*)"', (EXAMPLES.parent / 'crates/bpf_state/src' / file).read_text()) for file in ('condition.rt', 'fault.rt')]
+    return others[:2] + faults + others[2:]
 
 
 def texts():
@@ -200,7 +250,7 @@ def texts():
     hardening = errors_of('bpf_harden_notes', 'error.rt')
     hardening[6] = told['H'][6]
     want = {
-        'C': errors_of('bpf_check', 'refusal.rt')[:13],
+        'C': conditions(),
         'E': [of_image[0], *of_slot, *of_image[2:]],
         'F': errors_of('bpf_semantics', 'reason.rt') or told['F'],
         'H': hardening,
@@ -209,6 +259,49 @@ def texts():
     }
     assert told == want, (told, want)
     assert [len(it) for it in told.values()] == [13, 10, 9, 12, 5, 5], told
+
+
+def told(words, limit=None, **env):
+    """What FOLDER/memory (memory.c) tells of each call, within a limit of memory in bytes: its answer and what it wrote; None where it didn't get to main."""
+    def limited():
+        if limit:
+            resource.setrlimit(resource.RLIMIT_AS, (limit, limit))
+    done = subprocess.run(words, capture_output=True, text=True, timeout=100, preexec_fn=limited, env=env)
+    begun, _, lines = done.stdout.partition('begun\n')
+    if limit and done.returncode and not done.stdout:
+        return None
+    assert done.returncode == 0 and begun == '', (words, limit, done.returncode, done.stdout, done.stderr)
+    return dict(line.split(' ', 1) for line in lines.splitlines())
+
+
+def allocators():
+    """With a host's own allocator, linked in or preloaded, each call answers as with the C library's, and keeps no block where a growth is refused."""
+    port = [EXAMPLES / 'c/port.img', EXAMPLES / 'c/port.cert', '128', '128']
+    usual = told([FOLDER / 'memory', *port])
+    assert len(usual) == 9 and all(it.startswith('1 ') for it in usual.values()), usual
+    assert told([FOLDER / 'memory_own', *port]) == usual
+    assert told([FOLDER / 'memory', *port], LD_PRELOAD=str(FOLDER / 'allocator.so')) == usual
+    assert told([FOLDER / 'memory_own', 'refuse', *port]).keys() == {f'{name}:' for name in usual}
+
+
+def limits():
+    """Within a limit of memory each call has its answer or none: then nothing is written. A deep search that has too little leaves the plain one's."""
+    lines = ['r0 = *(u8 *)(r1 + 0)', *(line for i in range(4000) for line in [f'if r0 > {i % 200} goto +1', 'r0 += 1', 'r0 &= 255']), 'exit']
+    image, certificate = assembled('branches', '\n'.join(lines) + '\n')['little'], FOLDER / 'branches.cert'
+    assert bpf('infer', image, 16, certificate)[0] == 0
+    words = [FOLDER / 'memory', image, certificate, '16', '16']
+    usual, nothing, seen = told(words), '-1 7 ', set()
+    for megabytes in range(4, 64):
+        found = told(words, megabytes << 20)
+        if found is None:
+            continue
+        none = {answer for answer in found.values() if answer.startswith(nothing)}
+        assert len(none) <= 1, found
+        for name, answer in found.items():
+            whole = [usual[name], usual[{'search': 'infer', 'explain_search': 'explain_infer'}.get(name, name)]]
+            assert answer in none or answer in whole, (megabytes, name, answer, whole)
+            seen.add((name, answer in none))
+    assert len(seen) == 2 * len(usual), sorted(seen)
 
 
 def frames_of(data):
@@ -268,12 +361,15 @@ proposals = fill(table)
 count = table.compare()
 for order, image, here, there in proposals:
     assert here.exists() == there.exists() and (not there.exists() or here.read_bytes() == there.read_bytes()), (order, image)
-print(f'{count} answers are the command\'s, of each kind of refusal that bytes can have but I1')
+print(f'{count} answers are the command\'s, of each kind of refusal that bytes can have but I1, and so are the words of {len(table.words)} explanations')
 checksum = assembled('sum', (EXAMPLES / 'checksum.asm').read_text())['little']
 assert bpf('infer', checksum, 16, FOLDER / 'sum.cert')[0] == 0
 for words in [['bad'], ['memory', checksum, FOLDER / 'sum.cert'], ['threads', checksum, FOLDER / 'sum.cert'], ['many', EXAMPLES / 'first-byte.img', EXAMPLES / 'first-byte.cert']]:
     done = subprocess.run([HOSTS, *words], capture_output=True, text=True, timeout=100)
     assert done.returncode == 0 and not done.stderr, (words, done)
+allocators()
+limits()
+print("a host's own allocator, and limits of memory: the same answers, or none")
 texts()
 print('each refusal says to hosts what the crates say of it')
 print('bad calls, refused memory, eight threads and a million runs: as they should be')

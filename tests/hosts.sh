@@ -1,7 +1,7 @@
 #!/usr/bin/env bash
 # hosts.sh: installs into a folder of its own, builds hosts against what stands there, the C ones with the sanitizers of cc, and holds
 # their answers to the command's: a table with every kind of refusal, calls that no caller should make, memory
-# that is refused, eight threads, and a million runs. So are the wrappers for C++ and, where cargo is there, for Rust; threads have the stacks that
+# that is refused, an allocator of the host's own, limits of memory, eight threads, and a million runs. So are the wrappers for C++ and, where cargo is there, for Rust; threads have the stacks that
 # docs/HOSTS.md says are enough; what it hardens is what the command hardens. Then the commands that the documents show are run with what was installed.
 set -eu
 root=$(cd "$(dirname "${BASH_SOURCE[0]}")/.." && pwd)
@@ -27,6 +27,12 @@ build=("${CC:-cc}" -g -O1 -Wall -Wextra -Wpedantic -Werror -fsanitize=address,un
 "$dir/wrapper" "$root/examples/c/port.img" "$root/examples/c/port.cert"
 # Stacks are those of a host without sanitizers.
 "${CC:-cc}" -std=gnu11 -O2 -Wall -Wextra -Wpedantic -Werror "$root/tests/stack.c" -o "$dir/stack" $flags -lpthread
+# Calls that take memory, with an allocator of the host's own, linked in and preloaded.
+plain=("${CC:-cc}" -std=gnu11 -g -O1 -Wall -Wextra -Wpedantic -Werror)
+"${plain[@]}" -fno-builtin -c "$root/tests/allocator.c" -o "$dir/allocator.o"
+"${plain[@]}" -fno-builtin -shared -fPIC "$root/tests/allocator.c" -o "$dir/allocator.so"
+"${plain[@]}" "$root/tests/memory.c" -o "$dir/memory" $flags
+"${plain[@]}" "$root/tests/memory.c" "$dir/allocator.o" -o "$dir/memory_own" $flags
 # What the library hardens is what the command hardens, and so is its certificate.
 "${build[@]}" -std=c11 "$root/tests/hardened.c" -o "$dir/hardened" $flags
 "$dir/hardened" bad

@@ -305,6 +305,16 @@ def long_names_beside_what_is_left():
 # ---- words
 
 @case
+def control_characters_in_names():
+    """They are told by their bytes, so that a terminal does nothing and a line stays one; other letters are as they are."""
+    name = 'a\x1b[1m\nb\tc\x7fd\x9be\u00e9'
+    told = 'a\\x1b[1m\\x0ab\\x09c\\x7fd\\xc2\\x9be\u00e9'
+    done = subprocess.run([BPF, 'list', name], capture_output=True, timeout=60, check=False)
+    require('list of a name with control characters', (done.returncode, done.stdout, done.stderr), (3, b'', f'cannot read {told}\n'.encode()))
+    require('asm onto such a name', asm('no/' + name), (3, b'', f'cannot write no/{told}\n'.encode()))
+
+
+@case
 def words_that_arent_utf_8():
     write(b'b\xffd')
     for words in ([b'groups', b'b\xffd'], [b'asm', b'a.asm', b'\xe2\x82'], [b'\x80'], [b'run', b'a.asm', b'none', b'--steps', b'\xc0\x80']):

@@ -7,8 +7,8 @@
  *   ERR_LEFT=N       the same of standard error
  *   NARROW=N         a write to standard output moves at most N bytes
  *   CLOCK_STEP_MS=N  the monotonic clock stands at 0, and goes on by N milliseconds at each look
- *   COUNT_FILE=NAME  at the end a line "ALLOCS AFTER IO SHORT" is written there: all growths, those between the last
- *                    read and the first write, all reads and writes, those of several bytes
+ *   COUNT_FILE=NAME  at the end a line "ALLOCS AFTER BYTES IO SHORT" is written there: all growths, those between the
+ *                    last read and the first write, the bytes these asked for, all reads and writes, those of several bytes
  *
  * Counting begins at main, so what the loader does isn't seen. */
 #define _GNU_SOURCE
@@ -29,7 +29,7 @@ extern void *__libc_malloc(size_t);
 extern void *__libc_calloc(size_t, size_t);
 extern void *__libc_realloc(void *, size_t);
 
-static long allocs, after, io, several, wrote;
+static long allocs, after, bytes, io, several, wrote;
 static long fail_alloc, fail_io, short_io, narrow;
 /* of standard output and standard error; -1 where there is no limit */
 static long left[3] = {-1, -1, -1};
@@ -55,24 +55,24 @@ __attribute__((constructor)) static void begin(void) {
 
 __attribute__((destructor)) static void end(void) {
     const char *name = getenv("COUNT_FILE");
-    char line[96];
+    char line[128];
     int file, length;
     on = 0;
     if (!name || (file = open(name, O_WRONLY | O_CREAT | O_TRUNC, 0644)) < 0) return;
-    length = snprintf(line, sizeof line, "%ld %ld %ld %ld\n", allocs, after, io, several);
+    length = snprintf(line, sizeof line, "%ld %ld %ld %ld %ld\n", allocs, after, bytes, io, several);
     if (write(file, line, length) != length) _exit(99);
     close(file);
 }
 
-static int refused(void) {
+static int refused(size_t n) {
     if (!on) return 0;
-    if (!wrote) after++;
+    if (!wrote) after++, bytes += (long)n;
     return ++allocs == fail_alloc;
 }
 
-void *malloc(size_t n) { return refused() ? (errno = ENOMEM, NULL) : __libc_malloc(n); }
-void *calloc(size_t n, size_t m) { return refused() ? (errno = ENOMEM, NULL) : __libc_calloc(n, m); }
-void *realloc(void *p, size_t n) { return refused() ? (errno = ENOMEM, NULL) : __libc_realloc(p, n); }
+void *malloc(size_t n) { return refused(n) ? (errno = ENOMEM, NULL) : __libc_malloc(n); }
+void *calloc(size_t n, size_t m) { return refused(n * m) ? (errno = ENOMEM, NULL) : __libc_calloc(n, m); }
+void *realloc(void *p, size_t n) { return refused(n) ? (errno = ENOMEM, NULL) : __libc_realloc(p, n); }
 
 /* -1: fail; else how many bytes to ask for. */
 static ssize_t asked(size_t n) {
@@ -96,7 +96,7 @@ ssize_t read(int fd, void *to, size_t n) {
     static ssize_t (*real)(int, void *, size_t);
     ssize_t count = asked(n);
     if (!real) *(void **)&real = dlsym(RTLD_NEXT, "read");
-    if (on) after = 0;
+    if (on) after = bytes = 0;
     return count < 0 ? (errno = EIO, -1) : real(fd, to, (size_t)count);
 }
 

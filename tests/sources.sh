@@ -1,7 +1,7 @@
 #!/bin/sh
 # The checker counts all its work: its Rust sources make one `Work`, and call neither `transfer`, `entails`, `entails_entries` nor
 # `covers`, which count nothing. And what takes no memory names no allocator. Contracts (`requires`, `ensures`, `ghost`), comments and
-# strings aren't looked at.
+# strings aren't looked at. In contracts and definitions limits stand by name.
 cd "$(dirname "$0")/../crates/bpf_check/src" || exit 1
 
 # The code of the files without contracts, comments and what stands in quotes. Strings go before comments, since `//` may stand in one.
@@ -117,7 +117,7 @@ default_arms() {
 }
 
 # A match on instructions names each of them, so that a new one is thought of in every place; but for crates where some don't yet.
-unnamed='bpf_check bpf_explain_program bpf_explain_search bpf_harden_text bpf_insn'
+unnamed='bpf_insn'
 for crate in "$crates"/*/; do
     name=$(basename "$crate")
     case " $unnamed " in *" $name "*) continue ;; esac
@@ -129,10 +129,43 @@ for crate in "$crates"/*/; do
         failed=1
     fi
 done
+# A limit stands by name where it is believed, in definitions and clauses: its number stands where the name is defined, and nowhere else;
+# but for the clauses of crates where some still have numbers.
+limits='4096|512|65535|65536|1048576|1099511627776|2 \^ (20|40)'
+defined='bpf_insn/specs/Limits|bpf_cert/specs/Limits|bpf_state/specs/Transfer|bpf_request/specs/CommandLine'
+numbered='bpf_check bpf_explain_program bpf_explain_search bpf_flat bpf_host bpf_machine'
+# The lines of definitions, without comments and strings; the lines of contracts and ghost items, up to the brace that closes them.
+definitions() {
+    awk '{ line = $0; gsub(/"[^"]*"/, "", line); sub(/(^|[[:space:]])--([[:space:]].*|$)/, "", line); print FILENAME ":" FNR ": " line }' "$@"
+}
+clauses() {
+    awk '
+        FNR == 1 { open_braces = 0 }
+        open_braces > 0 || /^[[:space:]]*(requires|ensures|ghost)[[:space:]]/ {
+            print FILENAME ":" FNR ": " $0
+            open_braces += gsub(/[{]/, "{") - gsub(/[}]/, "}")
+        }
+    ' "$@"
+}
+for crate in "$crates"/*/; do
+    crate=${crate%/}
+    specs=$([ ! -d "$crate/specs" ] || find "$crate/specs" -name '*.antt' | sort)
+    sources=$(find "$crate/src" -name '*.rt' | sort)
+    case " $numbered " in *" $(basename "$crate") "*) sources= ;; esac
+    bare=$({
+        [ -z "$specs" ] || definitions $specs
+        [ -z "$sources" ] || clauses $sources
+    } | grep -vE "/($defined)\.antt:[0-9]+: [a-z_]+ = (pos \()?($limits)\)?\$" | grep -E "(^|[^[:alnum:]_])($limits)([^[:alnum:]_]|\$)")
+    if [ -n "$bare" ]; then
+        echo "these clauses and definitions have a limit's number in place of its name:"
+        echo "$bare"
+        failed=1
+    fi
+done
 # The command's version names the kit that it was proved with last. A newer kit is a note, and no failure: a change of the kit changes no source.
 kit=$(rt version)
 if ! grep -qF "\\n$kit\";" "$crates/bpf_request/src/commands.rt"; then
     echo "note: the version in bpf_request doesn't name this kit, $kit"
 fi
-[ "$failed" -eq 0 ] && echo "the checker makes one Work, and all its work is counted; what takes no memory names no allocator"
+[ "$failed" -eq 0 ] && echo "the checker makes one Work, and all its work is counted; what takes no memory names no allocator; limits stand by name"
 exit "$failed"

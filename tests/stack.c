@@ -1,12 +1,13 @@
 /* stack.c IMAGE CERTIFICATE..: each call in a thread with the stack that docs/HOSTS.md says is enough: 16 KB for preparing and running, 64 KB for
- * judging, 128 KB for inferring, 256 KB for hardening and for searching deeply. Beside the images that are named one of the greatest length is tried. */
+ * judging, 128 KB for inferring, 256 KB for hardening and for searching deeply, 512 KB for explaining. Beside the images that are named one of the
+ * greatest length is tried. */
 #include <bpf.h>
 #include <pthread.h>
 #include <stdio.h>
 #include <stdlib.h>
 #include <string.h>
 
-enum { LITTLE_STACK = 16 << 10, JUDGING_STACK = 64 << 10, INFERRING_STACK = 128 << 10, HARDENING_STACK = 256 << 10 };
+enum { LITTLE_STACK = 16 << 10, JUDGING_STACK = 64 << 10, INFERRING_STACK = 128 << 10, HARDENING_STACK = 256 << 10, EXPLAINING_STACK = 512 << 10 };
 enum { SLOTS = 65536 };
 
 struct job {
@@ -48,6 +49,33 @@ static void *harden(void *at) {
     return NULL;
 }
 
+static void *explain(void *at) {
+    struct job *job = at;
+    struct bpf_refusal why;
+    size_t wanted;
+    for (uint32_t aspect = BPF_LISTING; aspect <= BPF_GRAPH; aspect++) {
+        const struct bpf_shown shown = {aspect, 0, NULL, 0};
+        job->wrong |= bpf_explain(job->image, job->image_len, BPF_LITTLE, job->certificate, job->certificate_len, &shown, NULL, 0, &wanted, &why) != BPF_TOO_SMALL;
+        job->wrong |= bpf_explain_search(job->image, job->image_len, BPF_LITTLE, job->verdict.least, job->verdict.most, 0, &shown, NULL, 0, &wanted, &why) != BPF_TOO_SMALL;
+    }
+    job->wrong |= bpf_explain(job->image, job->image_len, BPF_LITTLE, "bpfcert", 7, NULL, NULL, 0, &wanted, &why) != BPF_TOO_SMALL;
+    job->wrong |= bpf_explain_image(job->image, job->image_len, BPF_LITTLE, 0, NULL, 0, &wanted, &why) != BPF_TOO_SMALL;
+    job->wrong |= bpf_explain_image(job->image, job->image_len - 1, BPF_LITTLE, 0, NULL, 0, &wanted, &why) != BPF_TOO_SMALL;
+    return NULL;
+}
+
+static void *explain_deeply(void *at) {
+    struct job *job = at;
+    struct bpf_refusal why;
+    size_t wanted;
+    for (uint32_t aspect = BPF_LISTING; aspect <= BPF_GRAPH; aspect++) {
+        const struct bpf_shown shown = {aspect, 0, NULL, 0};
+        job->wrong |= bpf_explain_search(job->image, job->image_len, BPF_LITTLE, job->verdict.least, job->verdict.most, 1, &shown, NULL, 0, &wanted, &why) != BPF_TOO_SMALL;
+        job->wrong |= bpf_explain_search(job->image, job->image_len, BPF_LITTLE, 0, 0, 1, &shown, NULL, 0, &wanted, &why) != BPF_TOO_SMALL;
+    }
+    return NULL;
+}
+
 static void *run(void *at) {
     static const uint8_t context[4096];
     struct job *job = at;
@@ -77,6 +105,8 @@ static void try_all(struct job *job, const char *name) {
     in_thread(load, job, JUDGING_STACK);
     in_thread(infer, job, INFERRING_STACK);
     in_thread(harden, job, HARDENING_STACK);
+    in_thread(explain, job, EXPLAINING_STACK);
+    in_thread(explain_deeply, job, EXPLAINING_STACK);
     in_thread(run, job, LITTLE_STACK);
     free(job->words), free(job->handle);
     if (!job->wrong) return;

@@ -45,5 +45,8 @@ int main(int, char **argv) {
     want(refuses(image, certificate, 10, "a run may take "), "a bound above the host's");
     want(refuses(image, {}, 1000, "refused by K1 at line 1: "), "no certificate");
     want(refuses({0, 0, 0, 0, 0, 0, 0, 0}, certificate, 1000, "refused by E2 at slot 0: "), "no image");
+    want(bpf::explain(image, {}, BPF_LITTLE).compare(0, 15, "K1 at line 1: t") == 0, "why no certificate is none");
+    const std::string known = bpf::explain(image, certificate, BPF_LITTLE);
+    want(known.find("\naccepted: at most ") != std::string::npos && known.back() == '\n', "what is known");
     return 0;
 }

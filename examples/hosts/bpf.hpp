@@ -61,6 +61,20 @@ private:
     std::vector<std::uint64_t> words_;
 };
 
+/* What is known of an image under a certificate, or why one of the two is refused: the words of `bpf explain`. Throws std::bad_alloc. */
+inline std::string explain(const std::vector<std::uint8_t> &image, const std::vector<std::uint8_t> &certificate, bpf_order order) {
+    std::string text;
+    for (;;) {
+        std::size_t wanted = 0;
+        switch (bpf_explain(image.data(), image.size(), order, certificate.data(), certificate.size(), nullptr, &text[0], text.size(), &wanted, nullptr)) {
+        case BPF_YES:
+        case BPF_NO: return text;
+        case BPF_TOO_SMALL: text.resize(wanted); break;
+        default: throw std::bad_alloc();
+        }
+    }
+}
+
 } // namespace bpf
 
 #endif

@@ -3,3 +3,4 @@ pub mod LoadedLemmas
 pub mod TextLemmas
 pub mod MadeLemmas
 pub mod LinesLemmas
+pub mod OpenedLemmas

@@ -2,12 +2,10 @@
 use Rattle.std.specs.Prelude.{ℕ, List, [], length, Result, Ok, Err, nat_lt, codes, if◌then◌else◌}
 use Rattle.std.specs.Str.{bytes_eq}
 use Rattle.hex.specs.Hex.{decode_of}
+use Rattle.bpf_insn.specs.Limits.{max_context}
 use Rattle.hex.specs.declared.error.FromHexError.{FromHexError}
 use Rattle.bpf_answers.specs.declared.context.ContextError.{ContextError}
 use Rattle.bpf_answers.specs.declared.context.ContextError.TheVariants.{BadHex, TooLong}
-
-abbrev pub max_context : ℕ
-max_context = 4096
 
 abbrev pub short_context : Result (List ℕ) FromHexError → Result (List ℕ) ContextError
 short_context (Ok bytes) = if nat_lt max_context (length bytes) then Err TooLong else Ok bytes

@@ -1,6 +1,7 @@
 -- The contexts in the lines of a text, and the answers to them.
-use Rattle.std.specs.Prelude.{◌≡◌, ℕ, ◌+◌, ◌≤◌, ◌==◌, List, [], ◌∷◌, ◌++◌, length, take, max, flat_map, nat_lt, Option, Some, None, IfSome, Result, Ok, Err, ⊤, if◌then◌else◌}
+use Rattle.std.specs.Prelude.{◌≡◌, ℕ, ◌+◌, ◌*◌, ◌≤◌, ◌==◌, List, [], ◌∷◌, ◌++◌, length, take, max, flat_map, nat_lt, Option, Some, None, IfSome, Result, Ok, Err, ⊤, if◌then◌else◌}
 use Rattle.std.specs.Io.KnownBytes.{Appends}
+use Rattle.bpf_insn.specs.Limits.{max_context}
 use Rattle.bpf_answers.specs.Context.{context_in}
 use Rattle.bpf_answers.specs.Answer.{Answer, status_of, text_of}
 use Rattle.bpf_answers.specs.declared.context.ContextError.{ContextError}
@@ -30,7 +31,7 @@ NextLine (Some text) (Some rest) line = lines_in text ≡ line ∷ lines_in rest
 
 -- two letters for each byte of the longest context
 abbrev pub max_line : ℕ
-max_line = 8192
+max_line = 2 * max_context
 
 -- the context of a line; a line of more letters than that is too long, whatever they are
 abbrev pub line_context : List ℕ → Result (List ℕ) ContextError
@@ -45,7 +46,7 @@ pub record FirstRefused (text : List ℕ) (error : ContextError) : Type 0 where
 
 -- the line's context stands at the front of the buffer, or why it has none
 abbrev pub Spelled : List ℕ → List ℕ → Turn → Type 0
-Spelled line buffer (Context count) = (count ≤ 4096) × (line_context line ≡ Ok (take count buffer))
+Spelled line buffer (Context count) = (count ≤ max_context) × (line_context line ≡ Ok (take count buffer))
 Spelled line buffer End = ⊥
 Spelled line buffer (Refused error) = line_context line ≡ Err error
 Spelled line buffer Failed = ⊥

@@ -1,5 +1,5 @@
 -- What stands at names: the image of a program, a text, a certificate, a context.
-use Rattle.std.specs.Prelude.{◌≡◌, ◌⊎◌, ◌<◌, ◌≤◌, length, ℕ, Bool, true, false, List, Option, Some, None, IfSome}
+use Rattle.std.specs.Prelude.{◌≡◌, ◌⊎◌, ◌<◌, ◌≤◌, length, ℕ, Bool, true, false, List, [], ◌∷◌, Option, Some, None, IfSome}
 use Rattle.bpf_insn.specs.Instruction.{Instructions}
 use Rattle.bpf_insn.specs.Laws.{IsImageOfProgram}
 use Rattle.bpf_insn.specs.Refusal.{IsRefused}
@@ -13,7 +13,7 @@ use Rattle.bpf_cert.specs.declared.error.CertError.{CertError}
 use Rattle.bpf_cert.specs.declared.error.CertError.TheVariants as errors
 use Rattle.std.specs.Str.{IsUtf8}
 use Rattle.bpf_places.specs.Opened.{Opening, ReadsAt, Unreadable}
-use Rattle.bpf_answers.specs.Context.{max_context}
+use Rattle.bpf_insn.specs.Limits.{max_context}
 use Rattle.bpf_answers.specs.Told.{OutputFails}
 use Rattle.bpf_answers.specs.declared.context.ContextError.TheVariants.{TooLong}
 use Rattle.bpf_answers.specs.declared.failure.Failure.{Failure}
@@ -22,6 +22,11 @@ use Rattle.bpf_answers.specs.declared.failure.Failure.TheVariants.{CannotRead, B
 -- the name was opened, or couldn't be
 abbrev pub Tried : {S : Type 0} → Opening S → S → List ℕ → S → Type 0
 Tried opening old name new = (known : Option (Option (List ℕ))) × opening old name known new
+
+-- Of these names the first were opened, or couldn't be, in this order; the others weren't touched.
+abbrev pub OpensFirst : {S : Type 0} → Opening S → List (List ℕ) → S → S → Type 0
+OpensFirst opening [] old new = new ≡ old
+OpensFirst {S} opening (name ∷ names) old new = (new ≡ old) ⊎ ((between : S) × Tried opening old name between × OpensFirst opening names between new)
 
 -- ---- images
 

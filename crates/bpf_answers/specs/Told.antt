@@ -1,7 +1,8 @@
 -- The line of a failure, and its status.
-use Rattle.std.specs.Prelude.{◌≡◌, ◌⊎◌, ◌++◌, ℕ, List, Option, codes, decimal, ⊤}
+use Rattle.std.specs.Prelude.{◌≡◌, ◌⊎◌, ◌++◌, ℕ, List, Option, codes, decimal, false, ⊤}
 use Rattle.std.specs.Io.KnownBytes.{Appends}
 use Rattle.bpf_insn.specs.Written.{AppendsBeginning}
+use Rattle.bpf_escape.specs.Escaped.{escaped}
 use Rattle.bpf_answers.specs.declared.context.ContextError.{ContextError}
 use Rattle.bpf_answers.specs.declared.context.ContextError.TheVariants.{BadHex, TooLong, Memory}
 use Rattle.bpf_answers.specs.declared.failure.Failure.{Failure}
@@ -18,9 +19,15 @@ line_text BadHex = codes "bad hex at line "
 line_text TooLong = codes "context too long at line "
 line_text Memory = codes "no memory at line "
 
+-- what a failure is of: a name, whose control characters are told, or the number of a line
+abbrev pub told_of : Failure → List ℕ → List ℕ
+told_of (CannotRead name) what = escaped false what
+told_of (CannotWrite name) what = escaped false what
+told_of failure what = what
+
 abbrev pub failure_text : Failure → List ℕ
-failure_text (CannotRead name) = codes "cannot read " ++ name.now
-failure_text (CannotWrite name) = codes "cannot write " ++ name.now
+failure_text (CannotRead name) = codes "cannot read " ++ escaped false name.now
+failure_text (CannotWrite name) = codes "cannot write " ++ escaped false name.now
 failure_text NoMemory = codes "no memory"
 failure_text (BadContext error) = context_text error
 failure_text (BadLine error line) = line_text error ++ decimal line

@@ -4,7 +4,6 @@ ghost use Rattle.std.specs.Prelude.{◌≡◌, IfOk, IfErr, MatchResult};
 ghost use Rattle.bpf_insn.specs.Written.{AppendsBeginning};
 ghost use Rattle.bpf_answers.specs.Answer.{Says, text_of};
 ghost use Rattle.bpf_answers.specs.Answer.Answer.{NoCertificate, NotCertified};
-ghost use Rattle.bpf_places.specs.Opened.{opening};
 ghost use Rattle.bpf_answers.specs.Loaded.{CertificateAt, CertificateRefused, CertificateFails, Tried};
 ghost use Rattle.bpf_answers.specs.Told.{OutputFails};
 
@@ -22,9 +21,10 @@ pub fn certificate_at<'a, P: Places>(
     places: &mut P,
     name: &'a str,
 ) -> Result<Result<Certificate, CertError>, Failure<'a>>
-    ensures ok { IfOk result (λ read. MatchResult read (CertificateAt (opening P.opens P.Reader.remaining) places.old name.entry.now places.new) (CertificateRefused (opening P.opens P.Reader.remaining) places.old name.entry.now places.new)) }
-    ensures err { IfErr result (CertificateFails (opening P.opens P.Reader.remaining) places.old name.entry.now places.new) }
-    ensures names { Tried (opening P.opens P.Reader.remaining) places.old name.entry.now places.new }
+    ensures ok { IfOk result (λ read. MatchResult read (CertificateAt P.opens places.old name.entry.now places.new)
+        (CertificateRefused P.opens places.old name.entry.now places.new)) }
+    ensures err { IfErr result (CertificateFails P.opens places.old name.entry.now places.new) }
+    ensures names { Tried P.opens places.old name.entry.now places.new }
 {
     let reader = match places.open(name) {
         Ok(reader) => reader,

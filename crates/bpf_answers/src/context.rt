@@ -1,7 +1,8 @@
 //! Contexts as words of the command line.
 
 ghost use Rattle.std.specs.Prelude.{◌≡◌, ◌⊎◌, ◌≤◌, IfOk, IfErr, Ok, Err, length};
-ghost use Rattle.bpf_answers.specs.Context.{context_in, max_context};
+ghost use Rattle.bpf_answers.specs.Context.{context_in};
+ghost use Rattle.bpf_insn.specs.Limits.{max_context};
 ghost use Rattle.bpf_answers.specs.declared.context.ContextError.TheVariants.{Memory};
 
 use bpf_insn::MAX_CONTEXT;

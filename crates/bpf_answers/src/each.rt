@@ -1,8 +1,9 @@
 //! Contexts at a name, one a line, and the answer to each.
 
 ghost use Rattle.std.specs.Prelude.{◌≡◌, ◌≤◌, IfOk, IfErr, length};
-ghost use Rattle.bpf_places.specs.Opened.{opening};
-ghost use Rattle.bpf_answers.specs.Lines.{AllAnswered, Spelled, Turns};
+ghost use Rattle.bpf_insn.specs.Limits.{max_context};
+ghost use Rattle.bpf_answers.specs.Lines.{AllAnswered, Spelled, Turns, max_line};
+ghost use Rattle.bpf_answers.specs.Loaded.{Tried};
 ghost use Rattle.bpf_answers.specs.Each.{AnswersAt, FailsAt, LeftAt, LinesFail, LinesLeft};
 
 use crate::context::ContextError;
@@ -31,7 +32,7 @@ pub trait Runner {
         out: &mut W,
         context: &[u8],
     ) -> Result<u8, Failure<'a>>
-        requires { length context.now ≤ 4096 }
+        requires { length context.now ≤ max_context }
         ensures ok { IfOk result (Answered (says self.now context.now) (W.contents out.old) (W.contents out.new)) }
         ensures err { IfErr result OutputFails }
         ensures begun { IfErr result (λ _. Unfinished (says self.now context.now) (W.contents out.old) (W.contents out.new)) };
@@ -52,8 +53,8 @@ pub enum Turn {
 
 /// Puts the context that a line spells at the front of the buffer.
 fn put_context(line: &[u8], buffer: &mut [u8]) -> Turn
-    requires short { length line.now ≤ 8192 }
-    requires room { length buffer.old ≡ 4096 }
+    requires short { length line.now ≤ max_line }
+    requires room { length buffer.old ≡ max_context }
     ensures { Spelled line.now buffer.new result }
 {
     if line == b"none".as_slice() {
@@ -72,7 +73,7 @@ fn next_context<R: Read + Drop>(
     line: &mut ArrayVec<u8, 8192>,
     buffer: &mut [u8],
 ) -> Turn
-    requires { length buffer.old ≡ 4096 }
+    requires { length buffer.old ≡ max_context }
     ensures { Turns lines.old lines.new buffer.new result }
 {
     line.clear();
@@ -127,9 +128,11 @@ pub fn answered<'a, P: Places, Q: Runner, W: Write>(
     runner: &Q,
     name: &'a str,
 ) -> Result<u8, Failure<'a>>
-    ensures ok { IfOk result (AnswersAt (opening P.opens P.Reader.remaining) places.old name.entry.now places.new (Q.says runner.now) (W.contents out.old) (W.contents out.new)) }
-    ensures err { IfErr result (FailsAt (opening P.opens P.Reader.remaining) places.old name.entry.now places.new (Q.says runner.now) (W.contents out.old) (W.contents out.new)) }
-    ensures begun { IfErr result (λ _. LeftAt (opening P.opens P.Reader.remaining) places.old name.entry.now places.new (Q.says runner.now) (W.contents out.old) (W.contents out.new)) }
+    ensures ok { IfOk result (AnswersAt P.opens places.old name.entry.now places.new (Q.says runner.now) (W.contents out.old) (W.contents out.new)) }
+    ensures err { IfErr result (FailsAt P.opens places.old name.entry.now places.new (Q.says runner.now) (W.contents out.old) (W.contents out.new)) }
+    ensures begun { IfErr result (λ _. LeftAt P.opens places.old name.entry.now places.new (Q.says runner.now)
+        (W.contents out.old) (W.contents out.new)) }
+    ensures names { Tried P.opens places.old name.entry.now places.new }
 {
     let reader = match places.open(name) {
         Ok(reader) => reader,

@@ -2,10 +2,11 @@
 
 ghost use Rattle.std.specs.Prelude.{◌≡◌, ◌++◌, IfErr, OnOk, OnErr};
 ghost use Rattle.bpf_insn.specs.Written.{AppendsBeginning};
-ghost use Rattle.bpf_answers.specs.Told.{OutputFails, failure_line, failure_text, line_text, status_of_context, status_of_failure};
+ghost use Rattle.bpf_answers.specs.Told.{OutputFails, failure_line, failure_text, told_of, line_text, status_of_context, status_of_failure};
 ghost use Rattle.std.specs.Io.KnownBytes.{Appends};
 
 use crate::context::ContextError;
+use bpf_escape::write_escaped;
 use bpf_insn::written::write_bytes;
 use itoa::Buffer;
 use std::alloc::AllocError;
@@ -83,7 +84,7 @@ impl<'a> Failure<'a> {
 
     /// What the failure is, and the name or the number of the line that it is of.
     fn text(self, buffer: &'a mut Buffer) -> (&'static str, &'a str)
-        ensures { result.0.now ++ result.1.now ≡ failure_text self.entry }
+        ensures { result.0.now ++ told_of self.entry result.1.now ≡ failure_text self.entry }
     {
         match self {
             Failure::CannotRead(name) => ("cannot read ", name),
@@ -125,6 +126,23 @@ pub fn say<'a, W: Write>(out: &mut W, line: &str) -> Result<(), Failure<'a>>
     }
 }
 
+/// Writes what a failure is of: control characters of a name by their bytes.
+fn write_what<W: Write>(err: &mut W, failure: Failure<'_>, what: &[u8]) -> io::Result<()>
+    ensures ok { OnOk result (Appends (W.contents err.old) (W.contents err.new) (told_of failure.entry what.now)) }
+    ensures err { OnErr result (AppendsBeginning (W.contents err.old) (W.contents err.new) (told_of failure.entry what.now)) }
+{
+    match failure {
+        Failure::CannotRead(_) | Failure::CannotWrite(_) => write_escaped(err, what, false),
+        Failure::BadContext(_) | Failure::BadLine { .. } | Failure::NoMemory => {
+            write_bytes(err, what)
+        }
+        Failure::NoContext | Failure::ContextTwice | Failure::MostBelowLeast => {
+            write_bytes(err, what)
+        }
+        Failure::InputTwice | Failure::NotTogether | Failure::NotUtf8 => write_bytes(err, what),
+    }
+}
+
 /// Tells a failure on standard error in a line. Takes no memory.
 pub fn tell<W: Write>(failure: Failure<'_>, err: &mut W) -> io::Result<()>
     ensures ok { OnOk result (Appends (W.contents err.old) (W.contents err.new) (failure_line failure.entry)) }
@@ -133,6 +151,6 @@ pub fn tell<W: Write>(failure: Failure<'_>, err: &mut W) -> io::Result<()>
     let mut buffer = Buffer::new();
     let (text, name) = failure.text(&mut buffer);
     write_bytes(err, text.as_bytes())?;
-    write_bytes(err, name.as_bytes())?;
+    write_what(err, failure, name.as_bytes())?;
     write_bytes(err, b"\n")
 }

@@ -1,7 +1,7 @@
 //! Images at a name, and why they are refused.
 
 ghost use Rattle.std.specs.Prelude.{◌≡◌, IfOk, IfErr, MatchResult};
-ghost use Rattle.bpf_places.specs.Opened.{opening, ReadsAt};
+ghost use Rattle.bpf_places.specs.Opened.{ReadsAt};
 ghost use Rattle.bpf_answers.specs.Loaded.{NoSpaceFor, ImageRefused, LoadsImage, ImageFails, Tried};
 ghost use Rattle.bpf_insn.specs.Written.{AppendsBeginning};
 ghost use Rattle.bpf_answers.specs.Answer.{Says, text_of};
@@ -22,9 +22,10 @@ pub fn image_at<'a, P: Places>(
     places: &mut P,
     name: &'a str,
 ) -> Result<Result<Vec<u8>, DecodeError>, Failure<'a>>
-    ensures ok { IfOk result (λ read. MatchResult read (λ v. ReadsAt (opening P.opens P.Reader.remaining) places.old name.entry.now v.items places.new) (NoSpaceFor (opening P.opens P.Reader.remaining) places.old name.entry.now places.new)) }
-    ensures err { IfErr result (ImageFails (opening P.opens P.Reader.remaining) places.old name.entry.now places.new) }
-    ensures names { Tried (opening P.opens P.Reader.remaining) places.old name.entry.now places.new }
+    ensures ok { IfOk result (λ read. MatchResult read (λ v. ReadsAt P.opens places.old name.entry.now v.items places.new)
+        (NoSpaceFor P.opens places.old name.entry.now places.new)) }
+    ensures err { IfErr result (ImageFails P.opens places.old name.entry.now places.new) }
+    ensures names { Tried P.opens places.old name.entry.now places.new }
 {
     let mut reader = match places.open(name) {
         Ok(reader) => reader,
@@ -45,9 +46,10 @@ pub fn program_at<'a, P: Places>(
     name: &'a str,
     order: Order,
 ) -> Result<Result<Program, DecodeError>, Failure<'a>>
-    ensures ok { IfOk result (λ read. MatchResult read (LoadsImage (opening P.opens P.Reader.remaining) order places.old name.entry.now places.new) (ImageRefused (opening P.opens P.Reader.remaining) order places.old name.entry.now places.new)) }
-    ensures err { IfErr result (ImageFails (opening P.opens P.Reader.remaining) places.old name.entry.now places.new) }
-    ensures names { Tried (opening P.opens P.Reader.remaining) places.old name.entry.now places.new }
+    ensures ok { IfOk result (λ read. MatchResult read (LoadsImage P.opens order places.old name.entry.now places.new)
+        (ImageRefused P.opens order places.old name.entry.now places.new)) }
+    ensures err { IfErr result (ImageFails P.opens places.old name.entry.now places.new) }
+    ensures names { Tried P.opens places.old name.entry.now places.new }
 {
     match image_at(alloc, places, name)? {
         Ok(bytes) => Ok(decode(alloc, &bytes, order)),

@@ -60,8 +60,10 @@ pub fn put<'a, P: Places, C: Content>(
     name: &'a str,
     content: &C,
 ) -> Result<u8, Failure<'a>>
-    ensures ok { IfOk result (λ status. (status ≡ 0) × making P.creates P.ends P.Writer.contents places.old name.entry.now (C.bytes content.now) true places.new) }
-    ensures err { IfErr result (λ failure. ((failure ≡ CannotWrite name.entry) ⊎ (failure ≡ NoMemory)) × making P.creates P.ends P.Writer.contents places.old name.entry.now (C.bytes content.now) false places.new) }
+    ensures ok { IfOk result (λ status. (status ≡ 0) × making P.creates P.ends P.Writer.contents places.old name.entry.now (C.bytes content.now) true
+        places.new) }
+    ensures err { IfErr result (λ failure. ((failure ≡ CannotWrite name.entry) ⊎ (failure ≡ NoMemory)) × making P.creates P.ends P.Writer.contents
+        places.old name.entry.now (C.bytes content.now) false places.new) }
 {
     let mut writer = match places.create(name) {
         Ok(writer) => writer,

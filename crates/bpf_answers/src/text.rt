@@ -2,7 +2,6 @@
 
 ghost use Rattle.std.specs.Prelude.{◌≡◌, IfOk, IfErr};
 ghost use Rattle.std.specs.String.{string_bytes};
-ghost use Rattle.bpf_places.specs.Opened.{opening};
 ghost use Rattle.bpf_insn.specs.Written.{AppendsBeginning};
 ghost use Rattle.bpf_answers.specs.Answer.{Says, text_of};
 ghost use Rattle.bpf_answers.specs.Answer.Answer.{NoText};
@@ -24,9 +23,9 @@ pub fn text_at<'a, P: Places>(
     places: &mut P,
     name: &'a str,
 ) -> Result<String, Failure<'a>>
-    ensures ok { IfOk result (λ text. ShortTextAt (opening P.opens P.Reader.remaining) places.old name.entry.now places.new (λ bytes. string_bytes text ≡ bytes)) }
-    ensures err { IfErr result (TextFails (opening P.opens P.Reader.remaining) places.old name.entry.now places.new) }
-    ensures names { Tried (opening P.opens P.Reader.remaining) places.old name.entry.now places.new }
+    ensures ok { IfOk result (λ text. ShortTextAt P.opens places.old name.entry.now places.new (λ bytes. string_bytes text ≡ bytes)) }
+    ensures err { IfErr result (TextFails P.opens places.old name.entry.now places.new) }
+    ensures names { Tried P.opens places.old name.entry.now places.new }
 {
     let mut reader = match places.open(name) {
         Ok(reader) => reader,

@@ -1,8 +1,7 @@
 //! The context that all bytes at a name are.
 
 ghost use Rattle.std.specs.Prelude.{IfOk, IfErr};
-ghost use Rattle.bpf_places.specs.Opened.{opening};
-ghost use Rattle.bpf_answers.specs.Loaded.{ContextAt, ContextFails};
+ghost use Rattle.bpf_answers.specs.Loaded.{ContextAt, ContextFails, Tried};
 
 use crate::context::ContextError;
 use crate::failure::Failure;
@@ -16,8 +15,9 @@ pub fn context_at<'a, P: Places>(
     places: &mut P,
     name: &'a str,
 ) -> Result<Vec<u8>, Failure<'a>>
-    ensures ok { IfOk result (λ v. ContextAt (opening P.opens P.Reader.remaining) places.old name.entry.now places.new v.items) }
-    ensures err { IfErr result (ContextFails (opening P.opens P.Reader.remaining) places.old name.entry.now places.new) }
+    ensures ok { IfOk result (λ v. ContextAt P.opens places.old name.entry.now places.new v.items) }
+    ensures err { IfErr result (ContextFails P.opens places.old name.entry.now places.new) }
+    ensures names { Tried P.opens places.old name.entry.now places.new }
 {
     let mut reader = match places.open(name) {
         Ok(reader) => reader,

@@ -6,7 +6,8 @@ use Rattle.std.proofs.lemmas.Bool.{leb-true}
 use Rattle.std.proofs.lemmas.Int.{ints}
 use Rattle.bpf_cert.specs.Numeral.{SignedDigits, is_numeral, is_plain, number, is_plain_signed}
 use Rattle.bpf_cert.specs.Line.{PlaceText, Content, Number, is_content}
-use Rattle.bpf_cert.specs.Faults.{is_int_range, is_canonical_content, is_limited_content}
+use Rattle.bpf_cert.specs.Faults.{is_canonical_content, is_limited_content}
+use Rattle.bpf_cert.specs.Limits.{is_int_range}
 use Rattle.bpf_cert.specs.code.Findings.{tested, found, valued}
 use Rattle.bpf_cert.specs.Reading.{◌>>=◌, or_else, pointer_in, bytes_in, number_in, content_in}
 use Rattle.bpf_cert.specs.code.Seen.{capped_signed}

@@ -5,7 +5,8 @@ use Rattle.std.specs.List.{list_all, slice_split}
 use Rattle.std.specs.Str.{bytes_eq}
 use Rattle.bpf_cert.specs.Numeral.{is_plain, number, is_from_to}
 use Rattle.bpf_cert.specs.Line.{Line, PlaceText, Number, Content, Term, Lengths}
-use Rattle.bpf_cert.specs.Faults.{is_canonical, is_limited, comes_after, place_before, last_first, last_slot, is_function, ends_bare, is_canonical_number, is_limited_number, is_canonical_content, is_limited_content, is_plain_place, is_limited_place, is_rising, is_limited_term}
+use Rattle.bpf_cert.specs.Faults.{is_canonical, is_limited, comes_after, place_before, last_first, last_slot, is_function, ends_bare, is_canonical_number, is_limited_number, is_canonical_content, is_limited_content, is_plain_place, is_limited_place, is_limited_term}
+use Rattle.bpf_cert.specs.Limits.{is_rising}
 use Rattle.bpf_cert.specs.Reading.{number_in, content_in, header_in, function_in, label_in, entry_in, end_in, line_in, line_of_fields}
 use Rattle.bpf_cert.specs.code.Findings.{tested, found, joined, valued}
 use Rattle.bpf_cert.specs.code.TermSums.{terms_in, are_canonical_terms, are_limited_terms, is_plain_term, term_before}

@@ -3,7 +3,7 @@ use Rattle.std.proofs.Common.{◌≡◌, ℕ, ◌≤◌, Bool, true, List, [], �
 use Rattle.std.specs.List.{list_all}
 use Rattle.std.proofs.lemmas.List.{take_all}
 use Rattle.std.proofs.lemmas.List.Folds.{list_all-map, list_all_at}
-use Rattle.bpf_cert.specs.Faults.{is_rising}
+use Rattle.bpf_cert.specs.Limits.{is_rising}
 
 pub rising_short : {A : Type 0} (before : A → A → Bool) (xs : List A) → length xs ≤ 1 → is_rising before xs ≡ true
 rising_short before [] few = refl

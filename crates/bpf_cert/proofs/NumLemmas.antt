@@ -5,7 +5,8 @@ use Rattle.std.proofs.lemmas.Bool.{leb-true, ltb-true, ltb-false}
 use Rattle.std.proofs.lemmas.Int.{ints}
 use Rattle.bpf_cert.specs.Numeral.{SignedDigits, is_numeral, is_plain, number, signed_number, is_plain_signed, digits_of_int}
 use Rattle.bpf_cert.specs.Line.{Part}
-use Rattle.bpf_cert.specs.Faults.{is_range, is_bits, is_int_range, is_limited_part}
+use Rattle.bpf_cert.specs.Faults.{is_limited_part}
+use Rattle.bpf_cert.specs.Limits.{is_range, is_bits, is_int_range}
 use Rattle.bpf_cert.specs.code.Findings.{tested, found, valued}
 use Rattle.bpf_cert.specs.Spelling.{unsigned_parts, signed_parts, bits_parts}
 use Rattle.bpf_cert.specs.code.Seen.{is_canonical_part, capped_signed}

@@ -4,7 +4,8 @@ use Rattle.std.specs.Prelude.{◌&&◌, OnOk}
 use Rattle.std.specs.List.{list_all}
 use Rattle.std.proofs.lemmas.Bool.{leb-true, le-leb, ltb-true, ltb-false}
 use Rattle.bpf_cert.specs.Line.{Part, Number, is_part}
-use Rattle.bpf_cert.specs.Faults.{is_rising, part_before, part_rank, is_limited_part, is_plain_part, is_top, is_canonical_number, is_limited_number}
+use Rattle.bpf_cert.specs.Faults.{part_before, part_rank, is_limited_part, is_plain_part, is_top, is_canonical_number, is_limited_number}
+use Rattle.bpf_cert.specs.Limits.{is_rising}
 use Rattle.bpf_cert.specs.code.Findings.{tested, found, joined, valued}
 use Rattle.bpf_cert.specs.Spelling.{unsigned_parts, signed_parts, bits_parts, number_of, of_parts}
 use Rattle.bpf_cert.specs.code.Seen.{is_canonical_part}

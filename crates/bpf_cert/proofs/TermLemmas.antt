@@ -9,7 +9,8 @@ use Rattle.std.specs.Str.{bytes_eq}
 use Rattle.bpf_cert.specs.Numeral.{is_from_to}
 use Rattle.bpf_cert.specs.Numeral.{is_numeral, is_plain, number}
 use Rattle.bpf_cert.specs.Line.{PlaceText, Measure, Term, is_place, is_measure, is_term}
-use Rattle.bpf_cert.specs.Faults.{is_rising, place_before, line_place, comes_after, is_plain_place, is_plain_measure, is_limited_place, is_limited_measure, is_limited_term}
+use Rattle.bpf_cert.specs.Faults.{place_before, line_place, comes_after, is_plain_place, is_plain_measure, is_limited_place, is_limited_measure, is_limited_term}
+use Rattle.bpf_cert.specs.Limits.{is_rising}
 use Rattle.bpf_cert.specs.Limits as limits
 use Rattle.bpf_cert.specs.code.Findings.{tested, found, joined, valued}
 use Rattle.bpf_cert.specs.Spelling.{term_of, spelled_place}

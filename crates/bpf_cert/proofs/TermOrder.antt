@@ -8,8 +8,7 @@ use Rattle.bpf_state.specs.declared.known.Place.{Place}
 use Rattle.bpf_state.specs.declared.known.Place.TheVariants as place
 use Rattle.bpf_cert.specs.Numeral.{number, is_from_to}
 use Rattle.bpf_cert.specs.Faults as faults
-use Rattle.bpf_cert.specs.Faults.{is_rising}
-use Rattle.bpf_cert.specs.Limits.{place_before, place_measured, term_before, is_limited_place, is_limited_measure, is_limited_term}
+use Rattle.bpf_cert.specs.Limits.{is_rising, place_before, place_measured, term_before, is_limited_place, is_limited_measure, is_limited_term}
 use Rattle.bpf_cert.specs.Spelling.{spelled_place, measure_of, term_of}
 use Rattle.bpf_cert.specs.declared.certificate.Measure.{Measure}
 use Rattle.bpf_cert.specs.declared.certificate.Measure.TheVariants as measure

@@ -2,20 +2,20 @@
 --   syntax           the line has no form, or may not stand there
 --   not canonical    it says what another spelling or another order says
 --   limit            it goes past a limit
--- A line of more than 256 bytes is past a limit, and nothing else is said of it.
-use Rattle.std.specs.Prelude.{ℕ, ◌+◌, ◌-◌, ◌^◌, Bool, true, false, not, ◌&&◌, List, [], ◌∷◌, length, count_by, ℤ, pos, neg_ℤ, int_le, Option, Some, None, Result, Ok, Err, nat_lt, nat_le, ◌==◌, bit_and, if◌then◌else◌}
+-- A line of more than `max_line_bytes` bytes is past a limit, and nothing else is said of it.
+use Rattle.std.specs.Prelude.{ℕ, ◌+◌, ◌-◌, ◌^◌, Bool, true, false, not, ◌&&◌, List, [], ◌∷◌, length, count_by, pos, neg_ℤ, Option, Some, None, Result, Ok, Err, nat_lt, nat_le, ◌==◌, if◌then◌else◌}
 use Rattle.std.specs.List.{list_all, slice_split}
-use Rattle.bpf_cert.specs.Numeral.{number as value, is_plain, signed_number as int_value, is_plain_signed, is_from_to, int_eq}
+use Rattle.bpf_cert.specs.Numeral.{number as value, is_plain, signed_number as int_value, is_plain_signed, int_eq}
 use Rattle.bpf_cert.specs.Line.{Part, Number, Content, PlaceText, Measure, Term, Lengths, Line}
 use Rattle.bpf_cert.specs.Reading.{line_in}
+use Rattle.bpf_cert.specs.Limits.{Numbered, numbered_before, is_rising, max_functions, max_labels, max_terms, is_slot_number, is_depth, is_steps, is_base, is_weight, is_length, is_mask, is_place_number, is_measured, is_range, is_signed_range, is_pointer_range, is_bits}
+use Rattle.bpf_cert.specs.Limits.Numbered.{Register, Slot}
 use Rattle.bpf_cert.specs.declared.error.CertError.{CertError}
 use Rattle.bpf_cert.specs.declared.error.CertError.TheVariants as errors
 
--- each comes before the next
-abbrev pub is_rising : {A : Type 0} → (A → A → Bool) → List A → Bool
-is_rising before [] = true
-is_rising before (x ∷ []) = true
-is_rising before (x ∷ y ∷ ys) = before x y && is_rising before (y ∷ ys)
+-- the most bytes of a line
+abbrev pub max_line_bytes : ℕ
+max_line_bytes = 256
 
 -- Canonical: no needless zero, no `-0`, no part that is top, no `any`, no `b0`, parts and places in order and none twice.
 
@@ -48,12 +48,13 @@ is_canonical_content (Content.frame lo hi) = is_plain_signed lo && is_plain_sign
 is_canonical_content (Content.bytes mask) = is_plain mask && not (value mask == 0)
 is_canonical_content Content.any = false
 
--- registers come before slots
+-- the place by its number
+abbrev pub text_numbered : PlaceText → Numbered
+text_numbered (PlaceText.register i) = Register (value i)
+text_numbered (PlaceText.slot k) = Slot (value k)
+
 abbrev pub place_before : PlaceText → PlaceText → Bool
-place_before (PlaceText.register i) (PlaceText.register j) = nat_lt (value i) (value j)
-place_before (PlaceText.register i) (PlaceText.slot k) = true
-place_before (PlaceText.slot k) (PlaceText.register i) = false
-place_before (PlaceText.slot j) (PlaceText.slot k) = nat_lt (value j) (value k)
+place_before p q = numbered_before (text_numbered p) (text_numbered q)
 
 abbrev pub is_plain_place : PlaceText → Bool
 is_plain_place (PlaceText.register i) = is_plain i
@@ -83,25 +84,11 @@ is_canonical (Line.label at base terms) = is_plain at && is_plain base
 is_canonical (Line.entry p c) = is_plain_place p && is_canonical_content c
 is_canonical Line.end = true
 
--- Limits of the numbers in a line
-
-abbrev pub is_range : ℕ → ℕ → Bool
-is_range lo hi = nat_le hi (2 ^ 64 - 1) && nat_le lo hi
-
-abbrev pub is_int_range : ℤ → ℤ → ℤ → ℤ → Bool
-is_int_range low high lo hi = int_le low lo && int_le hi high && int_le lo hi
-
--- pointer bounds are -2^31 to 2^31
-abbrev pub is_pointer_range : ℤ → ℤ → Bool
-is_pointer_range lo hi = is_int_range (neg_ℤ (pos (2 ^ 31))) (pos (2 ^ 31)) lo hi
-
--- value and mask share no bit
-abbrev pub is_bits : ℕ → ℕ → Bool
-is_bits v m = nat_lt v (2 ^ 64) && nat_lt m (2 ^ 64) && (bit_and v m == 0)
+-- The numbers in a line keep the limits of a certificate's.
 
 abbrev pub is_limited_part : Part → Bool
 is_limited_part (Part.unsigned lo hi) = is_range (value lo) (value hi)
-is_limited_part (Part.signed lo hi) = is_int_range (neg_ℤ (pos (2 ^ 63))) (pos (2 ^ 63 - 1)) (int_value lo) (int_value hi)
+is_limited_part (Part.signed lo hi) = is_signed_range (int_value lo) (int_value hi)
 is_limited_part (Part.bits v m) = is_bits (value v) (value m)
 
 abbrev pub is_limited_number : Number → Bool
@@ -112,30 +99,28 @@ abbrev pub is_limited_content : Content → Bool
 is_limited_content (Content.number n) = is_limited_number n
 is_limited_content (Content.context lo hi) = is_pointer_range (int_value lo) (int_value hi)
 is_limited_content (Content.frame lo hi) = is_pointer_range (int_value lo) (int_value hi)
-is_limited_content (Content.bytes mask) = nat_le (value mask) 254
+is_limited_content (Content.bytes mask) = is_mask (value mask)
 is_limited_content Content.any = true
 
 abbrev pub is_limited_place : PlaceText → Bool
-is_limited_place (PlaceText.register i) = nat_le (value i) 9
-is_limited_place (PlaceText.slot k) = is_from_to 1 64 (value k)
+is_limited_place p = is_place_number (text_numbered p)
 
 abbrev pub is_limited_measure : Measure → Bool
-is_limited_measure (Measure.down p) = is_limited_place p
-is_limited_measure (Measure.up limit p) = nat_lt (value limit) (2 ^ 64) && is_limited_place p
+is_limited_measure (Measure.down p) = is_measured None (text_numbered p)
+is_limited_measure (Measure.up limit p) = is_measured (Some (value limit)) (text_numbered p)
 
 abbrev pub is_limited_term : Term → Bool
-is_limited_term t = is_from_to 1 (2 ^ 20) (value t.weight) && is_limited_measure t.measure
+is_limited_term t = is_weight (value t.weight) && is_limited_measure t.measure
 
--- a context has at most 4,096 bytes
 abbrev pub are_limited_lengths : Lengths → Bool
-are_limited_lengths (Lengths.one len) = nat_le (value len) 4096
-are_limited_lengths (Lengths.range least most) = nat_le (value least) (value most) && nat_le (value most) 4096
+are_limited_lengths (Lengths.one len) = is_length (value len)
+are_limited_lengths (Lengths.range least most) = nat_le (value least) (value most) && is_length (value most)
 
 abbrev pub is_limited : Line → Bool
-is_limited (Line.header lengths steps) = are_limited_lengths lengths && is_from_to 1 (2 ^ 32 - 1) (value steps)
-is_limited (Line.function first depth ret) = nat_le (value first) 65535 && is_from_to 1 8 (value depth) && is_limited_number ret
-is_limited (Line.label at base terms) = nat_le (value at) 65535 && nat_le (value base) (2 ^ 40)
-    && nat_le (length terms) 4 && list_all is_limited_term terms
+is_limited (Line.header lengths steps) = are_limited_lengths lengths && is_steps (value steps)
+is_limited (Line.function first depth ret) = is_slot_number (value first) && is_depth (value depth) && is_limited_number ret
+is_limited (Line.label at base terms) = is_slot_number (value at) && is_base (value base)
+    && nat_le (length terms) max_terms && list_all is_limited_term terms
 is_limited (Line.entry p c) = is_limited_place p && is_limited_content c
 is_limited Line.end = true
 
@@ -208,17 +193,17 @@ abbrev pub ends_bare : List Line → Bool
 ends_bare [] = false
 ends_bare (l ∷ before) = is_function l
 
--- at most 256 functions and 65,536 labels, a label in each function, and one function at least
+-- functions and labels within their limits, a label in each function, and one function at least
 abbrev pub has_room : List Line → Line → Bool
 has_room before (Line.header lengths steps) = true
-has_room before (Line.function first depth ret) = nat_lt (count_by is_function before) 256 && not (ends_bare before)
-has_room before (Line.label at base terms) = nat_lt (count_by is_label before) 65536
+has_room before (Line.function first depth ret) = nat_lt (count_by is_function before) max_functions && not (ends_bare before)
+has_room before (Line.label at base terms) = nat_lt (count_by is_label before) max_labels
 has_room before (Line.entry p c) = true
 has_room before Line.end = nat_lt 0 (count_by is_function before) && not (ends_bare before)
 
 -- The line n behind the lines before it: its form, or what is wrong with it.
 unfoldable pub judged : ℕ → List Line → List ℕ → Result Line CertError
-judged n before text = if nat_lt 256 (length text) then Err (errors.Limit n) else by_form (line_in text)
+judged n before text = if nat_lt max_line_bytes (length text) then Err (errors.Limit n) else by_form (line_in text)
   where
     by_form : Option Line → Result Line CertError
     by_form None = Err (errors.Syntax n)
@@ -241,7 +226,7 @@ is_ended _ = false
 
 -- the bytes behind the last line end, in line n
 unfoldable pub rest_fault : Ending → ℕ → List Line → List ℕ → Option CertError
-rest_fault e n before rest = if is_ended before then after_end e rest else if nat_lt 256 (length rest) then Some (errors.Limit n) else cut_line e
+rest_fault e n before rest = if is_ended before then after_end e rest else if nat_lt max_line_bytes (length rest) then Some (errors.Limit n) else cut_line e
   where
     cut_line : Ending → Option CertError
     cut_line complete = Some (errors.Syntax n)

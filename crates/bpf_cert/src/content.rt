@@ -4,7 +4,8 @@ ghost use Rattle.std.specs.Prelude.{◌≡◌, true, List, ℕ, [], option_map, 
 ghost use Rattle.bpf_cert.specs.Numeral.{is_numeral};
 ghost use Rattle.bpf_cert.specs.Line.{PlaceText, Content, is_content};
 ghost use Rattle.bpf_cert.specs.Reading.{pointer_in, bytes_in, number_in, content_in};
-ghost use Rattle.bpf_cert.specs.Faults.{is_pointer_range, is_canonical_content, is_limited_content};
+ghost use Rattle.bpf_cert.specs.Faults.{is_canonical_content, is_limited_content};
+ghost use Rattle.bpf_cert.specs.Limits.{is_pointer_range};
 ghost use Rattle.bpf_cert.specs.code.Findings.{found, valued};
 ghost use Rattle.bpf_cert.specs.Spelling.{content_of};
 ghost use Rattle.bpf_cert.specs.code.Seen.{signed_seen, place_seen, pointer_seen};

@@ -2,10 +2,9 @@
 
 ghost use Rattle.std.specs.Prelude.{◌≡◌, ◌≤◌, ◌+◌, map, sum_by, is_none, nat_le, true};
 ghost use Rattle.std.specs.List.{list_all};
-ghost use Rattle.bpf_cert.specs.Faults.{is_rising, is_pointer_range};
 ghost use Rattle.bpf_cert.specs.View.{function_view, label_view, certificate_of};
 ghost use Rattle.bpf_cert.specs.Limits as limits;
-ghost use Rattle.bpf_cert.specs.Limits.{label_count};
+ghost use Rattle.bpf_cert.specs.Limits.{is_rising, is_pointer_range, label_count, max_labels};
 ghost use Rattle.bpf_insn.specs.Instruction.{register_number};
 
 use crate::certificate::{Function, Label, Measure, Term};
@@ -345,7 +344,7 @@ fn are_limited_functions(functions: &[Function]) -> bool
 
 // At most 65,536 labels in all functions.
 fn has_few_labels(functions: &[Function]) -> bool
-    ensures { result ≡ nat_le (sum_by label_count (map function_view functions.now)) 65536 }
+    ensures { result ≡ nat_le (sum_by label_count (map function_view functions.now)) max_labels }
 {
     let mut room = MAX_LABELS;
     for function in functions {

@@ -4,7 +4,8 @@ ghost use Rattle.std.specs.Prelude.{◌≡◌, ◌^◌, ◌-◌, ◌==◌, ◌&&
 ghost use Rattle.bpf_cert.specs.Numeral.{is_numeral, is_plain, is_plain_signed};
 ghost use Rattle.bpf_cert.specs.Line.{Part, Number, is_part};
 ghost use Rattle.bpf_cert.specs.Reading.{number_in};
-ghost use Rattle.bpf_cert.specs.Faults.{is_range, is_bits, is_int_range, is_limited_part, part_rank, is_canonical_number, is_limited_number};
+ghost use Rattle.bpf_cert.specs.Faults.{is_limited_part, part_rank, is_canonical_number, is_limited_number};
+ghost use Rattle.bpf_cert.specs.Limits.{is_range, is_bits, is_int_range};
 ghost use Rattle.bpf_cert.specs.code.Findings.{tested, found, valued};
 ghost use Rattle.bpf_cert.specs.Spelling.{unsigned_parts, signed_parts, bits_parts, number_of};
 ghost use Rattle.bpf_cert.specs.code.Seen.{signed_seen, part_seen, is_canonical_part, capped_signed};

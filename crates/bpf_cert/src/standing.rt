@@ -3,6 +3,7 @@
 ghost use Rattle.std.specs.Prelude.{◌≡◌, List, option_map, nat_lt, not, count_by, true, ◌&&◌, [], ◌∷◌, Some, Ok, IfOk};
 ghost use Rattle.bpf_cert.specs.Line.{Line};
 ghost use Rattle.bpf_cert.specs.Faults.{comes_after, place_before, is_canonical, is_limited, is_function, ends_bare};
+ghost use Rattle.bpf_cert.specs.Limits.{max_functions};
 ghost use Rattle.bpf_cert.specs.Numeral.{is_numeral};
 ghost use Rattle.bpf_insn.specs.Instruction.{register_number};
 ghost use Rattle.bpf_cert.specs.Reading.{header_in, function_in, label_in, entry_in, end_in, line_in};
@@ -364,7 +365,7 @@ impl Standing {
 
     // Room for a function, and the last one has a label.
     fn has_room_for_function(self) -> bool
-        ensures { (before : List Line) → Stands before self → result ≡ (nat_lt (count_by is_function before) 256 && not (ends_bare before)) }
+        ensures { (before : List Line) → Stands before self → result ≡ (nat_lt (count_by is_function before) max_functions && not (ends_bare before)) }
     {
         match self.stage {
             Stage::Function => false,

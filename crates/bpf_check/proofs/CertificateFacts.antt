@@ -7,11 +7,10 @@ use Rattle.std.proofs.lemmas.Bool.Decides.{nat_tests}
 use Rattle.std.proofs.lemmas.Option.{none-some, same_Some}
 use Rattle.std.proofs.lemmas.List.Folds.{list_all-map}
 use Rattle.std.proofs.lemmas.List.{at_drop_more}
-use Rattle.bpf_cert.specs.Faults.{is_rising}
+use Rattle.bpf_cert.specs.Limits.{is_rising, IsCertificate, is_limited_header, slot_before, is_canonical_function, is_limited_function, is_limited_label}
 use Rattle.bpf_cert.specs.declared.certificate.Function.{Function}
 use Rattle.bpf_cert.specs.declared.certificate.Label.{Label}
 use Rattle.bpf_cert.specs.View.{LabelView, FunctionView, CertificateView, function_view, label_view, header_of}
-use Rattle.bpf_cert.specs.Limits.{IsCertificate, is_limited_header, slot_before, is_canonical_function, is_limited_function, is_limited_label}
 use Rattle.bpf_safety.specs.Labels.{labels, label_at, last_from, function_at, function_from, first_with}
 use Rattle.bpf_check.specs.code.Search.{rises, last_up_to, with_key}
 use Rattle.bpf_check.proofs.SearchLemmas.{first_is_last, first_with-append, first_with-append_some, first_with_passes, list_all-append, list_all_get}

@@ -1,7 +1,7 @@
 -- Edges, from the state before an instruction and from the one after it.
-use Rattle.std.proofs.Common.{◌≡◌, ℕ, ◌+◌, ◌<◌, Bool, true, false, ◌||◌, cond, List, [], ◌∷◌, ◌++◌, length, get_or, Option, Some, None, refl, sym, ap, subst, ◌∙◌, rules}
+use Rattle.std.proofs.Common.{◌≡◌, ℕ, ℤ, ◌+◌, ◌<◌, Bool, true, false, ◌||◌, cond, List, [], ◌∷◌, ◌++◌, length, get_or, Option, Some, None, refl, sym, ap, ap₂, subst, ◌∙◌, rules}
 use Rattle.std.specs.List.{list_any}
-use Rattle.std.specs.Prelude.{count_by}
+use Rattle.std.specs.Prelude.{count_by, option_and_then}
 use Rattle.std.proofs.lemmas.List.Sums.{sum_by-append}
 use Rattle.bpf_state.specs.Work.{Counts}
 use Rattle.bpf_state.specs.Answer.{edge_told}
@@ -15,16 +15,19 @@ use Rattle.bpf_state.specs.State.{AbstractState, IsPlace}
 use Rattle.bpf_state.specs.declared.known.Place.{Place}
 use Rattle.bpf_state.specs.declared.known.Place.TheVariants.{Register, Slot}
 use Rattle.bpf_state.specs.Transfer.{after}
+use Rattle.bpf_state.specs.Fault.{some_passes}
 use Rattle.bpf_cert.specs.declared.certificate.Term.{Term}
 use Rattle.bpf_cert.specs.declared.certificate.Measure.{Measure}
 use Rattle.bpf_cert.specs.declared.certificate.Measure.TheVariants.{Down, Up}
 use Rattle.bpf_cert.specs.View.{LabelView, CertificateView}
 use Rattle.bpf_cert.specs.Limits.{is_limited_term, is_limited_label}
 use Rattle.bpf_check.proofs.BudgetLemmas.{limited_here}
-use Rattle.bpf_safety.specs.Budget.{place_of}
+use Rattle.bpf_safety.specs.Labels.{label_at}
+use Rattle.bpf_safety.specs.Budget.{budget, least_slack, place_of}
+use Rattle.bpf_check.specs.code.Slack.{at_label}
 use Rattle.bpf_safety.specs.Flow.{Arrival, next_state}
-use Rattle.bpf_safety.specs.Flaw.{Edge, edge_to, edges}
-use Rattle.bpf_check.specs.code.Edges.{visit, next_of, edges_of}
+use Rattle.bpf_safety.specs.Flaw.{Edge, edge_to, edges, is_negative_if}
+use Rattle.bpf_check.specs.code.Edges.{visit, next_of, edges_of, slack_to, slack_from, unpaid_from}
 
 pub list_any-append : {A : Type 0} (p : A → Bool) (xs ys : List A) → list_any p (xs ++ ys) ≡ (list_any p xs || list_any p ys)
 list_any-append p [] ys = refl
@@ -33,6 +36,33 @@ list_any-append p (x ∷ xs) ys = or_step (p x) (list_any-append p xs ys)
     or_step : (b : Bool) → list_any p (xs ++ ys) ≡ (list_any p xs || list_any p ys) → (b || list_any p (xs ++ ys)) ≡ ((b || list_any p xs) || list_any p ys)
     or_step true e = refl
     or_step false e = e
+
+or_false : (b : Bool) → (b || false) ≡ b
+or_false true = refl
+or_false false = refl
+
+-- what holds of the jump's live edge, or of the one to the next instruction
+pub both_any : (p : Edge → Bool) (jump : List Edge) (slot count to : ℕ) (o : Option AbstractState) (s : AbstractState) (goes a b : Bool) → goes ≡ true → edge_told goes s ≡ o → to ≡ slot + count → a ≡ list_any p jump → b ≡ p (record { slot = to; state = s }) → (a || b) ≡ list_any p (jump ++ edge_to (Some (slot + count)) o)
+both_any p jump slot count to o s goes a b is_true told at first second =
+    let there : Some s ≡ o = sym (ap (λ g. edge_told g s) is_true) ∙ told in
+    ap₂ (λ x y. x || y) first (second ∙ ap (λ n. p (record { slot = n; state = s })) at ∙ sym (or_false (p (record { slot = slot + count; state = s }))))
+    ∙ ap (λ q. list_any p jump || list_any p (edge_to (Some (slot + count)) q)) there
+    ∙ sym (list_any-append p jump (edge_to (Some (slot + count)) o))
+
+pub none_any : (p : Edge → Bool) (jump : List Edge) (to : ℕ) (o : Option AbstractState) (s : AbstractState) (goes a b : Bool) → goes ≡ false → edge_told goes s ≡ o → a ≡ list_any p jump → b ≡ false → (a || b) ≡ list_any p (jump ++ edge_to (Some to) o)
+none_any p jump to o s goes a b is_false told first second =
+    let there : None ≡ o = sym (ap (λ g. edge_told g s) is_false) ∙ told in
+    ap₂ (λ x y. x || y) first second
+    ∙ ap (λ q. list_any p jump || list_any p (edge_to (Some to) q)) there
+    ∙ sym (list_any-append p jump (edge_to (Some to) o))
+
+-- an edge is unpaid where what is left is below 0
+negative_if : (old : LabelView) (cost : Option ℤ) (s : AbstractState) (o : Option LabelView) → is_negative_if (slack_to old cost s o) ≡ some_passes (λ new. is_negative_if (option_and_then (λ spent. least_slack (budget old) (at_label old) spent s (budget new)) cost)) o
+negative_if old cost s None = refl
+negative_if old cost s (Some new) = refl
+
+pub unpaid_is : (c : CertificateView) (old : LabelView) (cost left : Option ℤ) (e : Edge) → left ≡ slack_from c old cost e → is_negative_if left ≡ unpaid_from c old cost e
+unpaid_is c old cost left e same = ap is_negative_if same ∙ negative_if old cost e.state (label_at c e.slot)
 
 -- the comparisons on both
 both_counted : (p : Edge → Bool) (jump : List Edge) (slot : ℕ) (o : Option AbstractState) (s : AbstractState) → Some s ≡ o → count_by p jump + count_by p (record { slot = slot; state = s } ∷ []) ≡ count_by p (jump ++ edge_to (Some slot) o)

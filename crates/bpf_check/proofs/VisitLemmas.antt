@@ -1,5 +1,5 @@
 -- What a visit finds of an instruction that a state reaches.
-use Rattle.std.proofs.Common.{◌≡◌, ℕ, List, [], count_by, ◌+◌, ◌*◌, ◌^◌, ◌≤◌, Bool, true, false, ◌&&◌, ◌||◌, Option, Some, None, refl, sym, ap, ap₂, ◌∙◌, arith, ℤ}
+use Rattle.std.proofs.Common.{◌≡◌, ℕ, List, [], count_by, ◌+◌, ◌*◌, ◌^◌, ◌≤◌, Bool, true, false, ◌&&◌, ◌||◌, Option, Some, None, refl, sym, ap, ap₂, subst, ◌∙◌, arith, ℤ}
 use Rattle.std.specs.Prelude.{if◌then◌else◌, is_none, option_map, is_some, IfSome, Ok, Err, ◌==◌}
 use Rattle.std.specs.List.{list_any}
 use Rattle.std.proofs.lemmas.Option.{IfSome_then}
@@ -12,17 +12,20 @@ use Rattle.bpf_state.specs.State.{AbstractState}
 use Rattle.bpf_state.specs.Fault.{fault_of}
 use Rattle.bpf_state.specs.Transfer.{after, transfer, Faulty, Dead, Live, live, unless}
 use Rattle.bpf_state.specs.Work.{Counts, counted, with_transfer}
-use Rattle.bpf_state.specs.Answer.{fault_number, outcome_told, edge_told}
+use Rattle.bpf_state.specs.Answer.{outcome_told, edge_told}
+use Rattle.bpf_state.specs.Condition.{fault_number}
 use Rattle.bpf_cert.specs.View.{CertificateView, label_view}
 use Rattle.bpf_safety.specs.Flow.{Arrival, Visit, sound_arrival, next_state, cost_after}
 use Rattle.bpf_safety.specs.Work.{leads_into_label, edges_from, one_if, enters_label, returns_result}
-use Rattle.bpf_safety.specs.Flaw.{Edge, edges, is_refused_by, is_unpaid, enters_wrongly, returns_wrongly, exits_unpaid, is_not_entailed, is_over_budget}
+use Rattle.bpf_safety.specs.Flaw.{Edge, edges, is_negative_if, is_refused_by, is_unpaid, enters_wrongly, returns_wrongly, exits_unpaid, is_not_entailed, is_over_budget}
 use Rattle.bpf_check.specs.code.Slack.{IsWithin}
 use Rattle.bpf_check.specs.code.Arrivals.{arrival_of, IsReaching}
 use Rattle.bpf_check.specs.code.Edges.{visit, next_of, edges_of, unpaid_from}
-use Rattle.bpf_check.specs.code.Visits.{IsJudgment, visit_with}
+use Rattle.bpf_check.specs.code.Visits.{IsJudgment, judged_of, visit_with}
 use Rattle.bpf_check.specs.code.Counting.{counted_times, compared, worked_at}
 use Rattle.bpf_check.specs.declared.arrival.Here.{Here}
+use Rattle.bpf_check.specs.declared.judge.JudgedEdge.{JudgedEdge}
+use Rattle.bpf_check.specs.declared.visit.Judged.{Judged}
 use Rattle.bpf_check.proofs.CountLemmas.{times_more}
 use Rattle.bpf_check.proofs.EdgeLemmas.{edges_live, edges_dead, next_live, next_dead}
 use Rattle.bpf_check.proofs.PassLemmas.{one_slot}
@@ -82,6 +85,15 @@ dead_judged p c slot i s h s' t aside alive enters returns exits cost dead told 
       over_budget = ex ∙ ap (λ o. exits_unpaid (visit slot i) (arrival_of s h) o i) spent ∙ sym (ap (λ es. list_any (is_unpaid c (visit slot i) (arrival_of s h)) es || exits_unpaid (visit slot i) (arrival_of s h) (cost_after c slot i (arrival_of s h)) i) no_edge);
       past_end = and_false (slot + slot_count i == slots p.list) ∙ ap (λ o. (slot + slot_count i == slots p.list) && is_some o) (sym no_next);
     }
+
+-- where no edge is live, the entry, the result and the exit are left
+none_live : (cost left : Option ℤ) (alive enters returns : Bool) (next : JudgedEdge) → next.is_refused ≡ false → next.slack ≡ None → ◌≡◌ {A = Judged} (record { not_entailed = enters || returns; over_budget = is_negative_if left; past_end = false }) (judged_of (record { cost = cost; is_alive = alive; jump = None; next = next; enters_wrongly = enters; returns_wrongly = returns; left_at_exit = left; past_end = false }))
+none_live cost left alive enters returns next refused slack = sym (ap₂ (λ b o. record { not_entailed = (b || enters) || returns; over_budget = is_negative_if (option_map (λ s. s.left) o) || is_negative_if left; past_end = false }) refused slack)
+
+pub dead_seen : (p : Instructions) (c : CertificateView) (slot : ℕ) (i : Insn) (s : AbstractState) (h : Here) (s' t aside : AbstractState) (alive enters returns : Bool) (left cost : Option ℤ) (next : JudgedEdge) → next.is_refused ≡ false → next.slack ≡ None → alive ≡ false → outcome_told (Ok alive) s' ≡ transfer p.order i c.least s → cost ≡ cost_after c slot i (arrival_of s h) → enters ≡ enters_wrongly c (visit slot i) (arrival_of s h) → returns ≡ returns_wrongly c (visit slot i) (arrival_of s h) i → is_negative_if left ≡ exits_unpaid (visit slot i) (arrival_of s h) cost i → IsJudgment p c slot i (arrival_of s h) (record { state = t; aside = aside; here = None }) (judged_of (record { cost = cost; is_alive = alive; jump = None; next = next; enters_wrongly = enters; returns_wrongly = returns; left_at_exit = left; past_end = false }))
+dead_seen p c slot i s h s' t aside alive enters returns left cost next refused slack dead told spent en re ex =
+    subst (IsJudgment p c slot i (arrival_of s h) (record { state = t; aside = aside; here = None })) (none_live cost left alive enters returns next refused slack)
+    (dead_judged p c slot i s h s' t aside alive enters returns (is_negative_if left) cost dead told spent en re ex)
 
 -- what both ends of a live state share
 record IsShared (p : Instructions) (c : CertificateView) (slot : ℕ) (i : Insn) (s : AbstractState) (h : Here) (s' : AbstractState) (refused unpaid enters returns exits : Bool) (cost : Option ℤ) : Type 0 where

@@ -1,6 +1,7 @@
 -- What is answered of an image and a certificate's text.
 use Rattle.std.specs.Prelude.{◌≡◌, ◌≤◌, ℕ, List}
 use Rattle.bpf_insn.specs.Instruction.{Instructions}
+use Rattle.bpf_insn.specs.Limits.{max_context}
 use Rattle.bpf_insn.specs.Laws.{IsImageOfProgram}
 use Rattle.bpf_insn.specs.Refusal.{IsRefused}
 use Rattle.bpf_insn.specs.declared.order.Order.{Order}
@@ -25,7 +26,7 @@ pub record Verified (order : Order) (bytes : List ℕ) (least most bound : ℕ) 
   pub is_image : IsImageOfProgram order bytes program
   pub only : (other : List Insn) → IsImageOfProgram order bytes other → other ≡ program
   pub range : least ≤ most
-  pub short : most ≤ 4096
+  pub short : most ≤ max_context
   pub safe : IsSafe (program_in order program) least most bound
   pub flat : IsFlatSafe (program_in order program) least most
 

@@ -6,7 +6,7 @@ ghost use Rattle.bpf_num.specs.Interval.{Interval, IsInterval};
 ghost use Rattle.bpf_state.specs.State.{IsPlace, tag};
 ghost use Rattle.bpf_cert.specs.View.{label_view};
 ghost use Rattle.bpf_cert.specs.Limits.{is_limited_label, is_limited_term};
-ghost use Rattle.bpf_safety.specs.Budget.{budget, place_of, unsigned_bounds, measured, term_value, least_at_ends, greatest_at_ends, each_term, sum_if, bounds, shares, share_of, free_part, greatest_budget, least_budget, least_slack};
+ghost use Rattle.bpf_safety.specs.Budget.{budget, place_of, unsigned_bounds, measured, term_value, least_at_ends, greatest_at_ends, each_term, sum_if, bounds, shares, share_of, free_part, greatest_budget, least_budget};
 ghost use Rattle.bpf_safety.specs.Flow.{label_state};
 ghost use Rattle.bpf_check.specs.code.Slack.{at_label, kept_of, free_of, IsWithin};
 
@@ -264,29 +264,11 @@ pub fn base_left(old: u64, cost: i128, new: u64) -> i128
 }
 
 /// What is left of a base and what old terms keep, after what new terms take beside.
-fn slack_of(base: i128, kept: i128, free: i128) -> i128
+pub fn slack_of(base: i128, kept: i128, free: i128) -> i128
     requires base { IsWithin (2 ^ 113) base }
     requires kept { IsWithin (2 ^ 93) kept }
     requires free { IsWithin (2 ^ 93) free }
     ensures { result ≡ (base +ℤ kept) -ℤ free }
 {
     base + kept - free
-}
-
-/// The least that is left of an old label's budget after a cost and a new label's budget, on an edge between them.
-pub fn least_slack(old: &Label, cost: i128, edge: &State, new: &Label) -> Option<i128>
-    requires old { IsTrue (is_limited_label (label_view old.now)) }
-    requires alive { IsSome (label_state (label_view old.now)) }
-    requires new { IsTrue (is_limited_label (label_view new.now)) }
-    requires cost { IsWithin (2 ^ 112) cost }
-    ensures { result ≡ least_slack (budget (label_view old.now)) (at_label (label_view old.now)) cost edge.now (budget (label_view new.now)) }
-{
-    let Some(kept) = kept(old, edge, new) else {
-        return None;
-    };
-    let Some(free) = free(edge, new) else {
-        return None;
-    };
-    let base = base_left(old.budget.base, cost, new.budget.base);
-    Some(slack_of(base, kept, free))
 }

@@ -1,79 +1,117 @@
 //! What is judged with a state: where it leads to, and whether that is paid.
 
-ghost use Rattle.std.specs.Prelude.{◌≡◌, ◌+◌, ◌*◌, ◌^◌, ◌≤◌, ◌∷◌, [], count_by, IfSome, IsSome, IsTrue, option_and_then};
+ghost use Rattle.std.specs.Prelude.{◌≡◌, ◌+◌, ◌*◌, ◌^◌, ◌≤◌, ◌||◌, ◌∷◌, [], true, false, count_by, IfSome, IsSome, IsTrue, None, option_map, option_and_then, option_copied};
 ghost use Rattle.std.specs.List.{list_any};
 ghost use Rattle.bpf_cert.specs.View.{CertificateView, label_view};
 ghost use Rattle.bpf_cert.specs.Limits.{is_limited_label};
 ghost use Rattle.bpf_state.specs.State.{AbstractState};
 ghost use Rattle.bpf_state.specs.Answer.{edge_told};
-ghost use Rattle.bpf_safety.specs.Budget.{budget, least_slack};
-ghost use Rattle.bpf_safety.specs.Flow.{Arrival, label_state};
+ghost use Rattle.bpf_state.specs.Fault.{some_passes};
+ghost use Rattle.bpf_safety.specs.Labels.{label_at};
+ghost use Rattle.bpf_safety.specs.Flow.{Arrival, label_state, jump_target};
 ghost use Rattle.bpf_safety.specs.Flaw.{is_negative_if, is_refused_by, enters_wrongly, returns_wrongly, exits_unpaid};
-ghost use Rattle.bpf_check.specs.code.Slack.{at_label, IsWithin};
+ghost use Rattle.bpf_check.specs.code.Slack.{IsWithin};
 ghost use Rattle.bpf_check.specs.code.Arrivals.{arrival_of, IsReaching};
 ghost use Rattle.bpf_safety.specs.Work.{leads_into_label, one_if, enters_label, returns_result};
-ghost use Rattle.bpf_check.specs.code.Edges.{unpaid_from, next_of, edges_of};
+ghost use Rattle.bpf_check.specs.code.Edges.{slack_from, slack_to, unpaid_from, left_at_exit, next_of, edges_of, is_unpaid, has_refused, has_unpaid};
 ghost use Rattle.bpf_check.specs.code.Sites.{IsSpot, IsSite, visit_at, jump_edge};
 ghost use Rattle.bpf_check.specs.code.Counting.{compared};
 
 use crate::arrival::Here;
-use crate::budget::{least_budget, least_slack};
+use crate::budget::least_budget;
 use crate::site::{Site, Spot};
+use crate::spending::{Slack, slack_on};
 use bpf_cert::Label;
 use bpf_insn::Insn;
 use bpf_state::{State, Work, branch, enter, leave};
 
-/// Whether the budget at an old label doesn't cover a cost and the budget at a new one, on an edge between them.
-fn is_unpaid(old: &Label, cost: Option<i128>, edge: &State, new: &Label) -> bool
-    requires old { IsTrue (is_limited_label (label_view old.now)) }
-    requires alive { IsSome (label_state (label_view old.now)) }
-    requires new { IsTrue (is_limited_label (label_view new.now)) }
-    requires cost { IfSome cost (λ z. IsWithin (2 ^ 112) z) }
-    ensures { result ≡ is_negative_if (option_and_then (λ spent. least_slack (budget (label_view old.now)) (at_label (label_view old.now)) spent edge.now (budget (label_view new.now))) cost) }
-{
-    let Some(spent) = cost else {
-        return false;
-    };
-    match least_slack(old, spent, edge, new) {
-        Some(slack) => slack < 0,
-        None => false,
+/// An edge of an instruction without fault: where it leads, and what is judged there.
+#[derive(Clone, Copy)]
+pub struct JudgedEdge<'a> {
+    /// The slot at its end.
+    pub to: u32,
+    /// Whether a state goes along it. Nothing is judged where none does.
+    pub is_live: bool,
+    /// The label that stands at its end.
+    pub label: Option<&'a Label>,
+    /// Whether that label doesn't take the state.
+    pub is_refused: bool,
+    /// What is left of the budget at that label, if it is known.
+    pub slack: Option<Slack>,
+}
+
+impl<'a> JudgedEdge<'a> {
+    /// An edge that no state goes along.
+    pub fn dead(to: &Spot<'a>) -> JudgedEdge<'a>
+        ensures to { result.to ≡ to.now.slot }
+        ensures live { result.is_live ≡ false }
+        ensures label { result.label ≡ to.now.label }
+        ensures refused { result.is_refused ≡ false }
+        ensures slack { result.slack ≡ None }
+    {
+        JudgedEdge {
+            to: to.slot,
+            is_live: false,
+            label: to.label,
+            is_refused: false,
+            slack: None,
+        }
+    }
+
+    /// Whether the budgets at its ends don't cover the cost.
+    pub fn is_unpaid(&self) -> bool
+        ensures { result ≡ is_unpaid self.now }
+    {
+        match self.slack {
+            Some(slack) => slack.left < 0,
+            None => false,
+        }
     }
 }
 
-/// What is wrong with an edge.
-#[derive(Clone, Copy)]
-pub struct EdgeFlaws {
-    /// The label at its end doesn't take its state.
-    pub refused: bool,
-    /// The budgets at its ends don't cover the cost.
-    pub unpaid: bool,
+/// What is left of the budget at an old label after a cost, on an edge into a new one, if there is one and the cost is known.
+fn slack_into(old: &Label, cost: Option<i128>, edge: &State, new: Option<&Label>) -> Option<Slack>
+    requires old { IsTrue (is_limited_label (label_view old.now)) }
+    requires alive { IsSome (label_state (label_view old.now)) }
+    requires new { IfSome new (λ l. IsTrue (is_limited_label (label_view l.now))) }
+    requires cost { IfSome cost (λ z. IsWithin (2 ^ 112) z) }
+    ensures { option_map (λ s. s.left) result ≡ slack_to (label_view old.now) cost edge.now (option_map label_view (option_copied new.entry)) }
+{
+    let (Some(spent), Some(new)) = (cost, new) else {
+        return None;
+    };
+    slack_on(old, spent, edge, new)
 }
 
 /// Judges a live edge to a slot.
-pub fn judge_edge(
-    to: &Spot,
+pub fn judge_edge<'a>(
+    to: &Spot<'a>,
     state: &State,
     old: &Label,
     cost: Option<i128>,
     work: &mut Work,
-) -> EdgeFlaws
+) -> JudgedEdge<'a>
     requires limited { IfSome to.now.label (λ l. IsTrue (is_limited_label (label_view l.now))) }
     requires old { IsTrue (is_limited_label (label_view old.now)) }
     requires alive { IsSome (label_state (label_view old.now)) }
     requires cost { IfSome cost (λ z. IsWithin (2 ^ 112) z) }
-    ensures refused { (c : CertificateView) → IsSpot c to.now → result.refused ≡ is_refused_by c (record { slot = to.now.slot; state = state.now }) }
-    ensures unpaid { (c : CertificateView) → IsSpot c to.now → result.unpaid ≡ unpaid_from c (label_view old.now) cost (record { slot = to.now.slot; state = state.now }) }
+    ensures to { result.to ≡ to.now.slot }
+    ensures live { result.is_live ≡ true }
+    ensures label { result.label ≡ to.now.label }
+    ensures refused { (c : CertificateView) → IsSpot c to.now → result.is_refused ≡ is_refused_by c (record { slot = to.now.slot; state = state.now }) }
+    ensures slack { (c : CertificateView) → IsSpot c to.now → option_map (λ s. s.left) result.slack ≡ slack_from c (label_view old.now) cost (record { slot = to.now.slot; state = state.now }) }
     ensures work { (c : CertificateView) → IsSpot c to.now → work.new ≡ compared (count_by (leads_into_label c) (record { slot = to.now.slot; state = state.now } ∷ [])) work.old }
 {
-    match to.label {
-        Some(label) => EdgeFlaws {
-            refused: !work.entails_label_counted(state, &label.state),
-            unpaid: is_unpaid(old, cost, state, label),
-        },
-        None => EdgeFlaws {
-            refused: false,
-            unpaid: false,
-        },
+    let is_refused = match to.label {
+        Some(label) => !work.entails_label_counted(state, &label.state),
+        None => false,
+    };
+    JudgedEdge {
+        to: to.slot,
+        is_live: true,
+        label: to.label,
+        is_refused,
+        slack: slack_into(old, cost, state, to.label),
     }
 }
 
@@ -111,56 +149,55 @@ pub fn returns_wrongly(site: &Site, state: &State, work: &mut Work) -> bool
     }
 }
 
-/// Whether the budget at the last label doesn't cover the cost at EXIT.
-pub fn exits_unpaid(site: &Site, here: &Here, cost: Option<i128>) -> bool
+/// What is left of the budget at the last label after the cost at EXIT, if both are known; None of other instructions.
+pub fn left_at_exit(site: &Site, here: &Here, cost: Option<i128>) -> Option<i128>
     requires valid { IsReaching site.now.here.slot here.now }
     requires cost { IfSome cost (λ z. IsWithin (2 ^ 112) z) }
-    ensures { (s : AbstractState) → result ≡ exits_unpaid (visit_at site.now) (arrival_of s here.now) cost site.now.insn }
+    ensures value { (s : AbstractState) → result ≡ left_at_exit (arrival_of s here.now) cost site.now.insn }
+    ensures unpaid { (s : AbstractState) → is_negative_if result ≡ exits_unpaid (visit_at site.now) (arrival_of s here.now) cost site.now.insn }
 {
     let Insn::Exit = site.insn else {
-        return false;
+        return None;
     };
     let Some(spent) = cost else {
-        return false;
+        return None;
     };
     match least_budget(here.label) {
-        Some(least) => least - spent < 0,
-        None => false,
+        Some(least) => Some(least - spent),
+        None => None,
     }
 }
 
-/// Judges the edge of a jump, if it has a live one. The state is the one after the instruction.
-pub fn judge_jump(
-    site: &Site,
+/// Judges the edge of a jump, if it has one, live or dead. The state is the one after the instruction, and aside is then the one on
+/// the edge where a test holds.
+pub fn judge_jump<'a>(
+    site: &Site<'a>,
     state: &State,
     aside: &mut State,
     old: &Label,
     cost: Option<i128>,
     work: &mut Work,
-) -> EdgeFlaws
+) -> Option<JudgedEdge<'a>>
     requires site { IsSite site.now }
     requires old { IsTrue (is_limited_label (label_view old.now)) }
     requires alive { IsSome (label_state (label_view old.now)) }
     requires cost { IfSome cost (λ z. IsWithin (2 ^ 112) z) }
-    ensures refused { result.refused ≡ list_any (is_refused_by site.now.certificate.now) (jump_edge site.now state.now) }
-    ensures unpaid { result.unpaid ≡ list_any (unpaid_from site.now.certificate.now (label_view old.now) cost) (jump_edge site.now state.now) }
+    ensures to { option_map (λ e. e.to) result ≡ jump_target site.now.here.slot site.now.insn }
+    ensures refused { has_refused result ≡ list_any (is_refused_by site.now.certificate.now) (jump_edge site.now state.now) }
+    ensures unpaid { has_unpaid result ≡ list_any (unpaid_from site.now.certificate.now (label_view old.now) cost) (jump_edge site.now state.now) }
     ensures work { work.new ≡ compared (count_by (leads_into_label site.now.certificate.now) (jump_edge site.now state.now)) work.old }
 {
-    let none = EdgeFlaws {
-        refused: false,
-        unpaid: false,
-    };
     let Some(to) = site.jump else {
-        return none;
+        return None;
     };
     let Insn::JumpIf { .. } = site.insn else {
-        return judge_edge(&to, state, old, cost, work);
+        return Some(judge_edge(&to, state, old, cost, work));
     };
     aside.copy_from(state);
     if branch(&site.insn, true, aside) {
-        judge_edge(&to, aside, old, cost, work)
+        Some(judge_edge(&to, aside, old, cost, work))
     } else {
-        none
+        Some(JudgedEdge::dead(&to))
     }
 }
 
@@ -175,37 +212,48 @@ pub fn go_to_next(site: &Site, state: &mut State) -> bool
             Some(callee) => leave(state, callee.function.ret),
             None => false,
         },
-        _ => site.insn.goes_on(),
+        Insn::Ja { off: _off } => false,
+        Insn::JaLong { off: _off } => false,
+        Insn::Exit => false,
+        Insn::Alu { .. } => true,
+        Insn::Neg { .. } => true,
+        Insn::MovSx { .. } => true,
+        Insn::End { .. } => true,
+        Insn::LoadImm64 { value: _value, .. } => true,
+        Insn::Load { off: _off, .. } => true,
+        Insn::LoadSx { off: _off, .. } => true,
+        Insn::Store { off: _off, .. } => true,
+        Insn::StoreImm { off: _off, .. } => true,
+        Insn::Atomic { off: _off, .. } => true,
     }
 }
 
-/// Judges the live edges of an instruction, and makes the state after it the one on its edge to the next one. False if
-/// that edge is dead or isn't there.
-pub fn judge_edges(
-    site: &Site,
+/// Judges the edges of an instruction: of its jump, if it is one, and to the next instruction. Makes the state after it the one on
+/// its edge to the next one, if a state goes along that.
+pub fn judge_edges<'a>(
+    site: &Site<'a>,
     state: &mut State,
     aside: &mut State,
     old: &Label,
     cost: Option<i128>,
     work: &mut Work,
-) -> (EdgeFlaws, bool)
+) -> (Option<JudgedEdge<'a>>, JudgedEdge<'a>)
     requires site { IsSite site.now }
     requires old { IsTrue (is_limited_label (label_view old.now)) }
     requires alive { IsSome (label_state (label_view old.now)) }
     requires cost { IfSome cost (λ z. IsWithin (2 ^ 112) z) }
-    ensures refused { result.0.refused ≡ list_any (is_refused_by site.now.certificate.now) (edges_of site.now.certificate.now site.now.here.slot site.now.insn state.old) }
-    ensures unpaid { result.0.unpaid ≡ list_any (unpaid_from site.now.certificate.now (label_view old.now) cost) (edges_of site.now.certificate.now site.now.here.slot site.now.insn state.old) }
-    ensures goes { edge_told result.1 state.new ≡ next_of site.now.certificate.now site.now.here.slot site.now.insn state.old }
+    ensures jump { option_map (λ e. e.to) result.0 ≡ jump_target site.now.here.slot site.now.insn }
+    ensures next { result.1.to ≡ site.now.next.slot }
+    ensures label { result.1.label ≡ site.now.next.label }
+    ensures refused { (has_refused result.0 || result.1.is_refused) ≡ list_any (is_refused_by site.now.certificate.now) (edges_of site.now.certificate.now site.now.here.slot site.now.insn state.old) }
+    ensures unpaid { (has_unpaid result.0 || is_unpaid result.1) ≡ list_any (unpaid_from site.now.certificate.now (label_view old.now) cost) (edges_of site.now.certificate.now site.now.here.slot site.now.insn state.old) }
+    ensures goes { edge_told result.1.is_live state.new ≡ next_of site.now.certificate.now site.now.here.slot site.now.insn state.old }
     ensures work { work.new ≡ compared (count_by (leads_into_label site.now.certificate.now) (edges_of site.now.certificate.now site.now.here.slot site.now.insn state.old)) work.old }
 {
     let jump = judge_jump(site, state, aside, old, cost, work);
     if !go_to_next(site, state) {
-        return (jump, false);
+        return (jump, JudgedEdge::dead(&site.next));
     }
     let next = judge_edge(&site.next, state, old, cost, work);
-    let both = EdgeFlaws {
-        refused: jump.refused || next.refused,
-        unpaid: jump.unpaid || next.unpaid,
-    };
-    (both, true)
+    (jump, next)
 }

@@ -1,9 +1,8 @@
 //! Which function and which label of a certificate stand at a slot, and up to where no other begins behind it.
 
 ghost use Rattle.std.specs.Prelude.{◌≡◌, ◌==◌, ◌≤◌, ◌<◌, ℕ, map, option_map, option_copied, IfSome, IsTrue, None};
-ghost use Rattle.bpf_cert.specs.Faults.{is_rising};
 ghost use Rattle.bpf_cert.specs.View.{label_view, function_view};
-ghost use Rattle.bpf_cert.specs.Limits.{slot_before, first_before, is_limited_label, is_limited_function};
+ghost use Rattle.bpf_cert.specs.Limits.{is_rising, slot_before, first_before, is_limited_label, is_limited_function};
 ghost use Rattle.bpf_safety.specs.Labels.{first_with, label_at, function_at, function_from};
 ghost use Rattle.bpf_check.specs.code.Search.{rises, last_up_to};
 ghost use Rattle.bpf_check.specs.LabelIndex.{are_in_place};

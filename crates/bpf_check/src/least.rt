@@ -1,18 +1,19 @@
 //! The least of refusals.
 
 ghost use Rattle.std.specs.Prelude.{◌≡◌, ℕ, ◌⊎◌, List, ◌++◌, Option, option_map};
-ghost use Rattle.bpf_safety.specs.Flaw.{at, number_if};
+ghost use Rattle.bpf_safety.specs.Flaw.{at, fails};
 ghost use Rattle.bpf_check.specs.code.Least.{IsAtMost, IsLeastIn};
-ghost use Rattle.bpf_check.specs.RefusalNumbers.{cause_number, flaw_of};
+ghost use Rattle.bpf_check.specs.RefusalNumbers.{flaw_of};
 
-use crate::refusal::{Cause, Refusal};
+use crate::refusal::Refusal;
+use bpf_state::Condition;
 
 /// The refusal for a condition at a slot, if it fails.
-pub fn refused_if(fails: bool, slot: u32, cause: Cause) -> Option<Refusal>
-    ensures { IsLeastIn (at slot (number_if (cause_number cause) fails)) (option_map flaw_of result) }
+pub fn refused_if(is_failed: bool, slot: u32, condition: Condition) -> Option<Refusal>
+    ensures { IsLeastIn (at slot (fails condition is_failed)) (option_map flaw_of result) }
 {
-    if fails {
-        Some(Refusal { slot, cause })
+    if is_failed {
+        Some(Refusal { slot, condition })
     } else {
         None
     }

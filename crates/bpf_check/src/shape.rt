@@ -13,10 +13,10 @@ use crate::budget::{bounds, bounds_said};
 use crate::index::Index;
 use crate::labels::function_at;
 use crate::least::{lesser, refused_if};
-use crate::refusal::{Cause, Refusal};
+use crate::refusal::Refusal;
 use bpf_cert::{Function, Label, Measure, Term};
 use bpf_insn::Code;
-use bpf_state::State;
+use bpf_state::{Condition, State};
 
 /// In a label's state the number that a term counts up may be above its limit.
 fn is_bad_limit(tight: Option<&State>, term: &Term) -> bool
@@ -106,9 +106,9 @@ fn flaw_of_label<C: Code>(
     let is_misplaced = program.insn(label.slot).is_none();
     let is_bad = has_bad_term(label, tight);
     let is_misshapen = is_misshapen(certificate, function, label, tight);
-    let misplaced = refused_if(is_misplaced, label.slot, Cause::MisplacedLabel);
-    let bad = refused_if(is_bad, label.slot, Cause::OverBudget);
-    let misshapen = refused_if(is_misshapen, label.slot, Cause::Misshapen);
+    let misplaced = refused_if(is_misplaced, label.slot, Condition::MisplacedLabel);
+    let bad = refused_if(is_bad, label.slot, Condition::OverBudget);
+    let misshapen = refused_if(is_misshapen, label.slot, Condition::Misshapen);
     lesser(lesser(misplaced, bad), misshapen)
 }
 
@@ -160,7 +160,11 @@ fn flaw_of_function<C: Code>(
     requires { IsTrue (is_limited_function (function_view function.now)) }
     ensures { IsLeastIn (function_flaws (C.program program.now) certificate.now (function_view function.now)) (option_map flaw_of result) }
 {
-    let misshapen = refused_if(!is_first_label(function), function.first, Cause::Misshapen);
+    let misshapen = refused_if(
+        !is_first_label(function),
+        function.first,
+        Condition::Misshapen,
+    );
     lesser(
         misshapen,
         flaw_of_labels(program, certificate, function, room),

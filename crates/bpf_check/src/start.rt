@@ -3,10 +3,11 @@
 ghost use Rattle.std.specs.Prelude.{◌≡◌, ◌++◌, map, not, option_map};
 ghost use Rattle.bpf_cert.specs.View.{function_view};
 ghost use Rattle.bpf_state.specs.State.{first_state};
+ghost use Rattle.bpf_state.specs.declared.condition.Condition.TheVariants.{Misshapen, OverBudget};
 ghost use Rattle.bpf_state.specs.Fault.{some_passes};
 ghost use Rattle.bpf_state.specs.Entails.{state_entails};
 ghost use Rattle.bpf_safety.specs.Labels.{label_at};
-ghost use Rattle.bpf_safety.specs.Flaw.{at, number_if, begins_elsewhere, begins_wrongly, starts_over_budget};
+ghost use Rattle.bpf_safety.specs.Flaw.{at, fails, begins_elsewhere, begins_wrongly, starts_over_budget};
 ghost use Rattle.bpf_safety.specs.Work.{compared_at_start};
 ghost use Rattle.bpf_check.specs.code.Counting.{compared};
 ghost use Rattle.bpf_check.specs.code.Least.{IsLeastIn};
@@ -16,9 +17,9 @@ use crate::budget::greatest_budget;
 use crate::index::Index;
 use crate::labels::label_at;
 use crate::least::{lesser, refused_if};
-use crate::refusal::{Cause, Refusal};
+use crate::refusal::Refusal;
 use bpf_cert::Function;
-use bpf_state::{State, Work};
+use bpf_state::{Condition, State, Work};
 
 /// No function begins at slot 0.
 pub fn begins_elsewhere(functions: &[Function]) -> bool
@@ -72,10 +73,10 @@ pub fn starts_over_budget(certificate: &Index) -> bool
 
 /// The least flaw at the start: C9 or C13 at slot 0.
 pub fn start_flaw(certificate: &Index, work: &mut Work) -> Option<Refusal>
-    ensures refusal { IsLeastIn (at 0 (number_if 13 (begins_wrongly certificate.now) ++ number_if 9 (starts_over_budget certificate.now))) (option_map flaw_of result) }
+    ensures refusal { IsLeastIn (at 0 (fails Misshapen (begins_wrongly certificate.now) ++ fails OverBudget (starts_over_budget certificate.now))) (option_map flaw_of result) }
     ensures work { work.new ≡ compared (compared_at_start certificate.now) work.old }
 {
-    let misshapen = refused_if(begins_wrongly(certificate, work), 0, Cause::Misshapen);
-    let over = refused_if(starts_over_budget(certificate), 0, Cause::OverBudget);
+    let misshapen = refused_if(begins_wrongly(certificate, work), 0, Condition::Misshapen);
+    let over = refused_if(starts_over_budget(certificate), 0, Condition::OverBudget);
     lesser(misshapen, over)
 }

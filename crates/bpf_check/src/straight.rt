@@ -18,9 +18,8 @@ use crate::index::Index;
 use crate::least::refused_if;
 use crate::refusal::Refusal;
 use crate::site::Spot;
-use crate::visit::cause_of;
 use bpf_insn::{Code, Insn};
-use bpf_state::Work;
+use bpf_state::{Condition, Work};
 
 /// A step of straight code: an instruction, with its slot, the next one, and what reaches it.
 #[derive(Clone, Copy)]
@@ -123,7 +122,7 @@ pub fn visit_straight<'a, P: Code>(
         &mut walk.state,
     ) {
         Ok(alive) => alive,
-        Err(fault) => return refused_if(true, step.slot, cause_of(fault)),
+        Err(fault) => return refused_if(true, step.slot, Condition::State(fault)),
     };
     if !alive {
         return None;

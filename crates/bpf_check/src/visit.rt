@@ -1,30 +1,32 @@
 //! Visits: each instruction with what reaches it.
 
-ghost use Rattle.std.specs.Prelude.{◌≡◌, ℕ, ◌+◌, ◌≤◌, List, ◌++◌, option_map, IfSome, IfOk, IfErr, IsTrue, Some, None};
+ghost use Rattle.std.specs.Prelude.{◌≡◌, ℕ, ◌+◌, ◌≤◌, List, ◌++◌, option_map, is_some, if◌then◌else◌, IfSome, IfOk, IfErr, IsTrue, Some, None};
 ghost use Rattle.bpf_cert.specs.View.{CertificateView, label_view};
 ghost use Rattle.bpf_cert.specs.Limits.{is_limited_label};
 ghost use Rattle.bpf_insn.specs.Instruction.{slot_count};
 ghost use Rattle.bpf_state.specs.Fault.{fault_of};
-ghost use Rattle.bpf_state.specs.Answer.{fault_number};
-ghost use Rattle.bpf_safety.specs.Flow.{arrives};
-ghost use Rattle.bpf_safety.specs.Flaw.{at, number_if, numbers_of_visit};
+ghost use Rattle.bpf_state.specs.declared.condition.Condition.TheVariants.{NoLabel, NotEntailed, OverBudget, NoDeeper, FallsOff, LeavesFunction};
+ghost use Rattle.bpf_state.specs.Condition.{fault_number};
+ghost use Rattle.bpf_safety.specs.Flow.{arrives, cost_after, jump_target};
+ghost use Rattle.bpf_safety.specs.Flaw.{at, fails, is_negative_if, numbers_of_visit};
 ghost use Rattle.bpf_check.specs.code.Least.{IsLeastIn};
-ghost use Rattle.bpf_check.specs.RefusalNumbers.{cause_number, flaw_of};
+ghost use Rattle.bpf_check.specs.RefusalNumbers.{flaw_of};
 ghost use Rattle.bpf_check.specs.code.Arrivals.{arrival_of, walk_of, IsReaching};
-ghost use Rattle.bpf_check.specs.code.Visits.{IsJudgment, numbers_with, passed_with, never_reached, visit_of, visit_with};
+ghost use Rattle.bpf_check.specs.code.Edges.{left_at_exit};
+ghost use Rattle.bpf_check.specs.code.Visits.{IsJudgment, judged_of, numbers_with, passed_with, never_reached, visit_of, visit_with};
 ghost use Rattle.bpf_check.specs.code.Counting.{worked_at};
 ghost use Rattle.bpf_check.specs.code.Sites.{IsSpot, IsSite};
 
 use crate::arrival::{Here, Walk, cost_after, start_at};
 use crate::edge::{calls_no_deeper, lacks_label, leaves_function};
-use crate::judge::{enters_wrongly, exits_unpaid, judge_edges, returns_wrongly};
+use crate::judge::{JudgedEdge, enters_wrongly, judge_edges, left_at_exit, returns_wrongly};
 use crate::least::{lesser, refused_if};
-use crate::refusal::{Cause, Refusal};
+use crate::refusal::Refusal;
 use crate::site::{Site, Spot};
 use bpf_insn::Code;
-use bpf_state::{StateFault, Work};
+use bpf_state::{Condition, StateFault, Work};
 
-/// What is found of an instruction that a state reaches.
+/// Which conditions on the state fail at an instruction without fault.
 #[derive(Clone, Copy)]
 pub struct Judged {
     pub not_entailed: bool,
@@ -32,24 +34,79 @@ pub struct Judged {
     pub past_end: bool,
 }
 
-/// Judges an instruction that a state reaches, and makes the walk what goes on from it: C3 to C7 if it isn't allowed there.
+/// What is seen of an instruction without fault that a state reaches. Which conditions fail follows from it.
+#[derive(Clone, Copy)]
+pub struct Seen<'a> {
+    /// The cost since the label before, the instruction counted, if it is known.
+    pub cost: Option<i128>,
+    /// Whether the state after the instruction has a member. Where it has none, no edge is live.
+    pub is_alive: bool,
+    /// The edge of its jump, if it is one and the state after it has a member.
+    pub jump: Option<JudgedEdge<'a>>,
+    /// The edge to the next instruction, a dead one where it doesn't go on there.
+    pub next: JudgedEdge<'a>,
+    /// Whether the label at a callee's entry doesn't take the state there.
+    pub enters_wrongly: bool,
+    /// Whether the result at EXIT doesn't lie in what the function returns.
+    pub returns_wrongly: bool,
+    /// What is left of the budget after EXIT, if it is known.
+    pub left_at_exit: Option<i128>,
+    /// Whether the edge to the next instruction is live, and leads past the program's end.
+    pub past_end: bool,
+}
+
+/// Whether a budget that is known is below 0.
+fn is_negative(left: Option<i128>) -> bool
+    ensures { result ≡ is_negative_if left }
+{
+    match left {
+        Some(left) => left < 0,
+        None => false,
+    }
+}
+
+impl<'a> Seen<'a> {
+    /// Which conditions fail.
+    pub fn judged(&self) -> Judged
+        ensures { result ≡ judged_of self.now }
+    {
+        let (jump_refused, jump_unpaid) = match &self.jump {
+            Some(jump) => (jump.is_refused, jump.is_unpaid()),
+            None => (false, false),
+        };
+        let refused = jump_refused | self.next.is_refused;
+        let unpaid = jump_unpaid | self.next.is_unpaid();
+        Judged {
+            not_entailed: refused | self.enters_wrongly | self.returns_wrongly,
+            over_budget: unpaid | is_negative(self.left_at_exit),
+            past_end: self.past_end,
+        }
+    }
+}
+
+/// Judges an instruction that a state reaches, and makes the walk what goes on from it: C3 to C7 if it isn't allowed there. Behind a
+/// conditional jump, the state aside is the one on the edge where the test holds, if that is live.
 pub fn judge<'a, P: Code>(
     program: &P,
     site: &Site<'a>,
     here: Here<'a>,
     walk: &mut Walk<'a>,
     work: &mut Work,
-) -> Result<Judged, StateFault>
+) -> Result<Seen<'a>, StateFault>
     requires site { IsSite site.now }
     requires valid { IsReaching site.now.here.slot here }
-    ensures ok { IfOk result (λ j. IsJudgment (P.program program.now) site.now.certificate.now site.now.here.slot site.now.insn (arrival_of walk.old.state here.entry) walk.new j) }
+    ensures ok { IfOk result (λ s. IsJudgment (P.program program.now) site.now.certificate.now site.now.here.slot site.now.insn (arrival_of walk.old.state here.entry) walk.new (judged_of s)) }
+    ensures cost { IfOk result (λ s. s.cost ≡ cost_after site.now.certificate.now site.now.here.slot site.now.insn (arrival_of walk.old.state here.entry)) }
+    ensures left { IfOk result (λ s. s.left_at_exit ≡ left_at_exit (arrival_of walk.old.state here.entry) s.cost site.now.insn) }
+    ensures next { IfOk result (λ s. (s.next.to ≡ site.now.next.slot) × (s.next.label ≡ site.now.next.label) × (s.next.is_live ≡ is_some walk.new.here)) }
+    ensures jump { IfOk result (λ s. option_map (λ e. e.to) s.jump ≡ (if s.is_alive then jump_target site.now.here.slot site.now.insn else None)) }
     ensures err { IfErr result (λ e. fault_of site.now.certificate.now.least walk.old.state site.now.insn ≡ Some (fault_number e)) }
     ensures stops { IfErr result (λ e. walk.new.here ≡ None) }
     ensures work { work.new ≡ worked_at (P.program program.now) site.now.certificate.now (visit_with site.now.here.slot site.now.insn (Some (arrival_of walk.old.state here.entry))) work.old }
 {
     let last = site.next.slot == program.slots();
     let cost = cost_after(site, &here, &walk.state);
-    let exits = exits_unpaid(site, &here, cost);
+    let exits = left_at_exit(site, &here, cost);
     let enters = enters_wrongly(site, &walk.state, &mut walk.aside, work);
     let returns = returns_wrongly(site, &walk.state, work);
     walk.here = None;
@@ -62,14 +119,20 @@ pub fn judge<'a, P: Code>(
         Ok(alive) => alive,
         Err(fault) => return Err(fault),
     };
+    let stopped = Seen {
+        cost,
+        is_alive: alive,
+        jump: None,
+        next: JudgedEdge::dead(&site.next),
+        enters_wrongly: enters,
+        returns_wrongly: returns,
+        left_at_exit: exits,
+        past_end: false,
+    };
     if !alive {
-        return Ok(Judged {
-            not_entailed: enters | returns,
-            over_budget: exits,
-            past_end: false,
-        });
+        return Ok(stopped);
     }
-    let (flaws, goes) = judge_edges(
+    let (jump, next) = judge_edges(
         site,
         &mut walk.state,
         &mut walk.aside,
@@ -77,35 +140,23 @@ pub fn judge<'a, P: Code>(
         cost,
         work,
     );
-    if !goes {
-        return Ok(Judged {
-            not_entailed: flaws.refused | enters | returns,
-            over_budget: flaws.unpaid | exits,
-            past_end: false,
+    if !next.is_live {
+        return Ok(Seen {
+            jump,
+            next,
+            ..stopped
         });
     }
     walk.here = Some(Here {
         label: here.label,
         cost,
     });
-    Ok(Judged {
-        not_entailed: flaws.refused | enters | returns,
-        over_budget: flaws.unpaid | exits,
+    Ok(Seen {
+        jump,
+        next,
         past_end: last,
+        ..stopped
     })
-}
-
-/// The cause that a fault of registers and memory is, C3 to C7.
-pub fn cause_of(fault: StateFault) -> Cause
-    ensures { cause_number result ≡ fault_number fault }
-{
-    match fault {
-        StateFault::UnsetRegister => Cause::UnsetRegister,
-        StateFault::WrongKinds => Cause::WrongKinds,
-        StateFault::OutOfBounds => Cause::OutOfBounds,
-        StateFault::UnsetByte => Cause::UnsetByte,
-        StateFault::Protected => Cause::Protected,
-    }
 }
 
 /// Visits an instruction with what reaches it, as far as a state is judged, and makes the walk what goes on from it.
@@ -126,22 +177,22 @@ fn visit_arrival<'a, P: Code>(
         return None;
     };
     match judge(program, site, here, walk, work) {
-        Err(fault) => refused_if(true, site.here.slot, cause_of(fault)),
-        Ok(judged) => flaw_of_state(site.here.slot, judged),
+        Err(fault) => refused_if(true, site.here.slot, Condition::State(fault)),
+        Ok(seen) => flaw_of_state(site.here.slot, seen.judged()),
     }
 }
 
 /// The least refusal of what is found with a state. Mostly there is none, so that is looked at first.
 fn flaw_of_state(slot: u32, judged: Judged) -> Option<Refusal>
-    ensures { IsLeastIn (at slot (number_if 8 judged.not_entailed) ++ at slot (number_if 9 judged.over_budget) ++ at slot (number_if 11 judged.past_end)) (option_map flaw_of result) }
+    ensures { IsLeastIn (at slot (fails NotEntailed judged.not_entailed) ++ at slot (fails OverBudget judged.over_budget) ++ at slot (fails FallsOff judged.past_end)) (option_map flaw_of result) }
 {
     let is_flawed = judged.not_entailed | judged.over_budget | judged.past_end;
     if !is_flawed {
         return None;
     }
-    let state = refused_if(judged.not_entailed, slot, Cause::NotEntailed);
-    let budget = refused_if(judged.over_budget, slot, Cause::OverBudget);
-    let end = refused_if(judged.past_end, slot, Cause::FallsOff);
+    let state = refused_if(judged.not_entailed, slot, Condition::NotEntailed);
+    let budget = refused_if(judged.over_budget, slot, Condition::OverBudget);
+    let end = refused_if(judged.past_end, slot, Condition::FallsOff);
     lesser(lesser(state, budget), end)
 }
 
@@ -161,16 +212,16 @@ struct Shape {
 /// The least refusal of an instruction, from the least of what is found with a state. Mostly no other condition fails, so
 /// that is looked at first.
 fn flaw_with(slot: u32, shape: Shape, refusal: Option<Refusal>) -> Option<Refusal>
-    ensures { (xs : List (ℕ × ℕ)) → IsLeastIn xs (option_map flaw_of refusal) → IsLeastIn (at slot (number_if 1 shape.lacks_label) ++ xs ++ at slot (number_if 10 shape.no_deeper) ++ at slot (number_if 11 shape.never) ++ at slot (number_if 12 shape.leaves)) (option_map flaw_of result) }
+    ensures { (xs : List (ℕ × ℕ)) → IsLeastIn xs (option_map flaw_of refusal) → IsLeastIn (at slot (fails NoLabel shape.lacks_label) ++ xs ++ at slot (fails NoDeeper shape.no_deeper) ++ at slot (fails FallsOff shape.never) ++ at slot (fails LeavesFunction shape.leaves)) (option_map flaw_of result) }
 {
     let is_flawed = shape.lacks_label | shape.no_deeper | shape.never | shape.leaves;
     if !is_flawed {
         return refusal;
     }
-    let label = refused_if(shape.lacks_label, slot, Cause::NoLabel);
-    let depth = refused_if(shape.no_deeper, slot, Cause::NoDeeper);
-    let never = refused_if(shape.never, slot, Cause::FallsOff);
-    let elsewhere = refused_if(shape.leaves, slot, Cause::LeavesFunction);
+    let label = refused_if(shape.lacks_label, slot, Condition::NoLabel);
+    let depth = refused_if(shape.no_deeper, slot, Condition::NoDeeper);
+    let never = refused_if(shape.never, slot, Condition::FallsOff);
+    let elsewhere = refused_if(shape.leaves, slot, Condition::LeavesFunction);
     lesser(
         lesser(lesser(lesser(label, refusal), depth), never),
         elsewhere,

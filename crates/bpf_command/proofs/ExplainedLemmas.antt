@@ -5,7 +5,7 @@ use Rattle.bpf_insn.specs.declared.order.Order.{Order}
 use Rattle.bpf_cert.specs.View.{CertificateView}
 use Rattle.bpf_check.specs.CheckedProgram.{CheckedProgram}
 use Rattle.bpf_places.specs.Opened.{Opening, Unreadable}
-use Rattle.bpf_answers.specs.Loaded.{LoadsImage, CertificateAt, TextAt, TextFails}
+use Rattle.bpf_answers.specs.Loaded.{LoadsImage, CertificateAt, TextAt, TextFails, Tried}
 use Rattle.bpf_answers.specs.Answer.{Answer, Says, status_of}
 use Rattle.bpf_answers.specs.Answer.Answer.{Yes, NoImage, NotCertified, Written}
 use Rattle.bpf_command.specs.Printed.{ImageSays, IsProposal, JudgedSays, LoadedSays, YesSays}
@@ -13,7 +13,7 @@ use Rattle.std.specs.Borrow.{Bor}
 use Rattle.bpf_request.specs.declared.subject.Subject.{Subject}
 use Rattle.bpf_answers.specs.declared.failure.Failure.{Failure}
 use Rattle.bpf_answers.specs.declared.failure.Failure.TheVariants.{CannotRead}
-use Rattle.bpf_command.specs.Explained.{Answers, ExplainFails, ExplainSays, ExplainWithFails, ExplainWithSays, JudgesOf, LinesAt, LinesFail, Opens, SoughtSays}
+use Rattle.bpf_command.specs.Explained.{Answers, ExplainFails, ExplainSays, ExplainWithFails, ExplainWithSays, JudgesOf, LinesAt, LinesFail, SoughtSays}
 use Rattle.bpf_command.proofs.JudgedLemmas.{loaded_says}
 
 -- an answer that was printed has its status
@@ -73,7 +73,7 @@ pub with_lines_fails : {S : Type 0} (result : Result ℕ Failure) (o : Opening S
 with_lines_fails (Ok s) o order old input subject lines between new read h = tt
 with_lines_fails (Err e) o order old input subject lines between new read h = inr (between, read, h)
 
-tried : {S : Type 0} {P : List ℕ → Type 0} (o : Opening S) (old : S) (name : List ℕ) (new : S) → Unreadable o old name new ⊎ TextAt o old name new P → Opens o old name new
+tried : {S : Type 0} {P : List ℕ → Type 0} (o : Opening S) (old : S) (name : List ℕ) (new : S) → Unreadable o old name new ⊎ TextAt o old name new P → Tried o old name new
 tried o old name new (inl (inl h)) = (None, h)
 tried o old name new (inl (inr h)) = (Some h.0, h.1)
 tried o old name new (inr h) = (Some h.0, h.1)

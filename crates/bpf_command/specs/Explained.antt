@@ -13,7 +13,7 @@ use Rattle.bpf_check.specs.declared.refusal.Refusal.{Refusal}
 use Rattle.bpf_check.specs.RefusalNumbers.{refusal_slot, refusal_number}
 use Rattle.bpf_infer_error.specs.RefusalNumbers.{infer_slot}
 use Rattle.bpf_places.specs.Opened.{Opening}
-use Rattle.bpf_answers.specs.Loaded.{ImageFails, ShortTextAt, TextFails}
+use Rattle.bpf_answers.specs.Loaded.{ImageFails, ShortTextAt, TextFails, Tried}
 use Rattle.bpf_answers.specs.Answer.{Answer, status_of}
 use Rattle.bpf_answers.specs.Answer.Answer.{NoText, NotCertified, NotProposed, Lists, Written}
 use Rattle.bpf_answers.specs.Told.{OutputFails}
@@ -68,16 +68,12 @@ ExplainFails o order old input (Misfit clash) new = λ failure. (failure ≡ Not
 
 -- ---- with the lines of the source at a name, which is opened first
 
--- the name is opened, or can't be
-abbrev pub Opens : {S : Type 0} → Opening S → S → List ℕ → S → Type 0
-Opens opening old name new = (known : Option (Option (List ℕ))) × opening old name known new
-
 abbrev pub LinesAt : {S : Type 0} → Opening S → S → Option (Bor (List ℕ)) → S → Type 0
 LinesAt opening old None new = new ≡ old
-LinesAt opening old (Some lines) new = Opens opening old lines.now new
+LinesAt opening old (Some lines) new = Tried opening old lines.now new
 
 abbrev pub LinesFail : {S : Type 0} → Opening S → S → Option (Bor (List ℕ)) → S → Failure → Type 0
-LinesFail opening old (Some lines) new (CannotRead name) = (name.now ≡ lines.now) × Opens opening old lines.now new
+LinesFail opening old (Some lines) new (CannotRead name) = (name.now ≡ lines.now) × Tried opening old lines.now new
 LinesFail opening old lines new failure = OutputFails failure
 
 abbrev pub ExplainWithSays : {S : Type 0} → Opening S → Order → S → List ℕ → Subject → Option (Bor (List ℕ)) → S → ℕ → Type 0

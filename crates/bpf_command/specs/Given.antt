@@ -4,7 +4,7 @@ use Rattle.bpf_insn.specs.Instruction.{Instructions}
 use Rattle.bpf_insn.specs.declared.order.Order.{Order}
 use Rattle.bpf_cert.specs.View.{CertificateView}
 use Rattle.bpf_check.specs.CheckedProgram.{IsCertifiedBy, checked}
-use Rattle.bpf_answers.specs.Context.{context_in, max_context}
+use Rattle.bpf_answers.specs.Context.{context_in}
 use Rattle.bpf_places.specs.Opened.{Opening, Unreadable}
 use Rattle.bpf_answers.specs.Loaded.{LoadsImage, ImageFails, CertificateAt, CertificateFails, ContextAt, ContextFails}
 use Rattle.std.specs.Io.KnownBytes.{Keeps}

@@ -19,7 +19,8 @@ use Rattle.bpf_check.specs.RefusalNumbers.{refusal_slot, refusal_number}
 use Rattle.bpf_flat.specs.Runs.{RunsTo}
 use Rattle.bpf_check.specs.Verdicts.{Verified}
 use Rattle.bpf_infer_error.specs.RefusalNumbers.{infer_slot}
-use Rattle.bpf_answers.specs.Context.{context_in, max_context}
+use Rattle.bpf_answers.specs.Context.{context_in}
+use Rattle.bpf_insn.specs.Limits.{max_context}
 use Rattle.bpf_answers.specs.declared.context.ContextError.{ContextError}
 use Rattle.bpf_answers.specs.declared.context.ContextError.TheVariants.{Memory as NoSpace}
 use Rattle.bpf_places.specs.Opened.{Opening}

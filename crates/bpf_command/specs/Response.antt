@@ -1,5 +1,5 @@
 -- What the command answers to its words, whatever they ask for.
-use Rattle.std.specs.Prelude.{◌≡◌, ◌≢◌, ◌⊎◌, ◌&&◌, ⊤, List, [], ℕ, Option, Some, None, nat_lt, codes, option_map, unwrap_or, if◌then◌else◌}
+use Rattle.std.specs.Prelude.{◌≡◌, ◌≢◌, ◌⊎◌, ◌&&◌, ⊤, List, [], ◌∷◌, ℕ, Option, Some, None, nat_lt, codes, option_map, unwrap_or, if◌then◌else◌}
 use Rattle.std.specs.Option.{option_or}
 use Rattle.std.specs.Borrow.{Bor}
 use Rattle.std.specs.Io.KnownBytes.{Keeps}
@@ -7,11 +7,12 @@ use Rattle.clap.specs.Words.{Text, subcommand_of}
 use Rattle.bpf_request.specs.CommandLine.{IsAsked, bpf, faults_in, name_of}
 use Rattle.bpf_places.specs.Opened.{Opening}
 use Rattle.bpf_places.specs.Made.{Making}
-use Rattle.bpf_answers.specs.Loaded.{ImageFails}
+use Rattle.bpf_answers.specs.Loaded.{ImageFails, OpensFirst}
 use Rattle.bpf_answers.specs.Answer.{Answered, Unfinished}
 use Rattle.bpf_command.specs.Printed.{LoadedFails, ImageSays, GroupsSay, ListSays, notes_of, AsmSays, AsmFails, NotAssembled, InferSays, InferFails, NotInferred, MigrateSays, MigrateFails, NotMigrated, CheckSays}
 use Rattle.bpf_command.specs.Hardened.{HardenFails, HardenSays, NotBothMade}
 use Rattle.bpf_command.specs.Given.{CheckedFails, CheckedLeaves, CheckedSays, RunFails, RunLeaves, RunSays}
+use Rattle.bpf_command.specs.Names.{behind_lines, names_checked, names_explained, names_run}
 use Rattle.bpf_command.specs.Explained.{ExplainWithFails, ExplainWithSays}
 use Rattle.bpf_answers.specs.Told.{IsTold}
 use Rattle.std.specs.Str.{bytes_eq}
@@ -123,16 +124,16 @@ Leaves o m old new before after (Explain input subject lines order) = ⊤
 Leaves o m old new before after (Harden h) = Unfinished (HardenSays o m old h new) before after
 Leaves o m old new before after (Migrate certificate output) = Unfinished (MigrateSays o m old certificate.now output.now new) before after
 
--- What stands at the names of a request that makes one, where it failed.
+-- What was done at the names of a request that failed: those that it reads were opened in their order, up to one; what it makes isn't there.
 abbrev pub NotMade : {S : Type 0} → Opening S → Making S → S → S → Request → Type 0
-NotMade o m old new (Groups input order) = ⊤
+NotMade o m old new (Groups input order) = OpensFirst o (input.now ∷ []) old new
 NotMade o m old new (Asm input output order) = NotAssembled o m order old input.now output.now new
-NotMade o m old new (ListOf input slots bytes order) = ⊤
-NotMade o m old new (Run input contexts steps trace order) = ⊤
-NotMade o m old new (Check input certificate work order) = ⊤
-NotMade o m old new (RunChecked input certificate contexts order) = ⊤
+NotMade o m old new (ListOf input slots bytes order) = OpensFirst o (input.now ∷ []) old new
+NotMade o m old new (Run input contexts steps trace order) = OpensFirst o (names_run input.now contexts) old new
+NotMade o m old new (Check input certificate work order) = OpensFirst o (input.now ∷ certificate.now ∷ []) old new
+NotMade o m old new (RunChecked input certificate contexts order) = OpensFirst o (names_checked input.now certificate.now contexts) old new
 NotMade o m old new (Infer input least most deep output order) = NotInferred o m order old input.now least most output.now new
-NotMade o m old new (Explain input subject lines order) = ⊤
+NotMade o m old new (Explain input subject lines order) = OpensFirst o (behind_lines lines (names_explained input.now subject)) old new
 NotMade o m old new (Harden h) = NotBothMade o m old h new
 NotMade o m old new (Migrate certificate output) = NotMigrated o m old certificate.now output.now new
 

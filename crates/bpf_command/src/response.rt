@@ -3,7 +3,6 @@
 ghost use Rattle.std.specs.Prelude.{◌≡◌, IfOk, IfErr, None, map};
 ghost use Rattle.std.specs.Io.KnownBytes.{Keeps};
 ghost use Rattle.std.specs.String.{string_bytes};
-ghost use Rattle.bpf_places.specs.Opened.{opening};
 ghost use Rattle.bpf_places.specs.Made.{making};
 ghost use Rattle.bpf_command.specs.Response.{Does, Fails, Leaves, Misses, NotMade, Responds, conflict_of, conflict_with, misplaced, misplaced_in, name_given, out_of_order, thrice, twice, written_twice};
 ghost use Rattle.bpf_answers.specs.Told.{IsTold};
@@ -154,10 +153,13 @@ fn carry_out<'a, P: Places, W: Write, H: Aside>(
     out: &mut W,
     aside: &mut H,
 ) -> Result<u8, Failure<'a>>
-    ensures ok { IfOk result (Does (opening P.opens P.Reader.remaining) (making P.creates P.ends P.Writer.contents) places.old places.new (W.contents out.old) (W.contents out.new) request.entry) }
-    ensures err { IfErr result (Misses (opening P.opens P.Reader.remaining) (making P.creates P.ends P.Writer.contents) places.old places.new (W.contents out.old) (W.contents out.new) request.entry) }
-    ensures begun { IfErr result (λ _. Leaves (opening P.opens P.Reader.remaining) (making P.creates P.ends P.Writer.contents) places.old places.new (W.contents out.old) (W.contents out.new) request.entry) }
-    ensures names { IfErr result (λ _. NotMade (opening P.opens P.Reader.remaining) (making P.creates P.ends P.Writer.contents) places.old places.new request.entry) }
+    ensures ok { IfOk result (Does P.opens (making P.creates P.ends P.Writer.contents) places.old places.new
+        (W.contents out.old) (W.contents out.new) request.entry) }
+    ensures err { IfErr result (Misses P.opens (making P.creates P.ends P.Writer.contents) places.old places.new
+        (W.contents out.old) (W.contents out.new) request.entry) }
+    ensures begun { IfErr result (λ _. Leaves P.opens (making P.creates P.ends P.Writer.contents) places.old places.new
+        (W.contents out.old) (W.contents out.new) request.entry) }
+    ensures names { IfErr result (λ _. NotMade P.opens (making P.creates P.ends P.Writer.contents) places.old places.new request.entry) }
 {
     match request {
         Request::Groups { input, order } => grouped(alloc, places, out, input, order),
@@ -229,8 +231,10 @@ fn perform<'a, P: Places, W: Write, H: Aside>(
     out: &mut W,
     aside: &mut H,
 ) -> Result<u8, Failure<'a>>
-    ensures ok { IfOk result (λ status. (conflict_of request.entry ≡ None) × Does (opening P.opens P.Reader.remaining) (making P.creates P.ends P.Writer.contents) places.old places.new (W.contents out.old) (W.contents out.new) request.entry status) }
-    ensures err { IfErr result (Fails (opening P.opens P.Reader.remaining) (making P.creates P.ends P.Writer.contents) places.old places.new (W.contents out.old) (W.contents out.new) request.entry) }
+    ensures ok { IfOk result (λ status. (conflict_of request.entry ≡ None) × Does P.opens (making P.creates P.ends P.Writer.contents) places.old
+        places.new (W.contents out.old) (W.contents out.new) request.entry status) }
+    ensures err { IfErr result (Fails P.opens (making P.creates P.ends P.Writer.contents) places.old places.new
+        (W.contents out.old) (W.contents out.new) request.entry) }
 {
     match conflict_in(request) {
         Some(conflict) => Err(conflict),
@@ -259,7 +263,10 @@ pub fn respond<P: Places, W: Write, E: Write, H: Aside>(
     err: &mut E,
     aside: &mut H,
 ) -> u8
-    ensures { Responds (Does (opening P.opens P.Reader.remaining) (making P.creates P.ends P.Writer.contents) places.old places.new (W.contents out.old) (W.contents out.new)) (Fails (opening P.opens P.Reader.remaining) (making P.creates P.ends P.Writer.contents) places.old places.new (W.contents out.old) (W.contents out.new)) ((places.new ≡ places.old) × Keeps (W.contents out.old) (W.contents out.new)) (map (λ s. string_bytes s) words.now) result (E.contents err.old) (E.contents err.new) }
+    ensures { Responds (Does P.opens (making P.creates P.ends P.Writer.contents) places.old places.new (W.contents out.old) (W.contents out.new))
+        (Fails P.opens (making P.creates P.ends P.Writer.contents) places.old places.new (W.contents out.old) (W.contents out.new))
+        ((places.new ≡ places.old) × Keeps (W.contents out.old) (W.contents out.new)) (map (λ s. string_bytes s) words.now) result
+        (E.contents err.old) (E.contents err.new) }
 {
     let request = match request_of(alloc, words) {
         Ok(request) => request,

@@ -3,7 +3,6 @@
 #![tactic(auto)]
 
 mod certificate;
-mod form;
 mod image;
 mod text;
 mod texts;

@@ -4,50 +4,22 @@ ghost use Rattle.std.specs.Prelude.{List, IfOk, IsTrue};
 ghost use Rattle.bpf_insn.specs.declared.instruction.Insn.{Insn};
 ghost use Rattle.bpf_text.specs.Assembly.{Assembles};
 
-use crate::form::{Excess, FORMS, Form, Reading, is_name, skip_blanks, word_in};
 use crate::texts::parted;
 use bpf_explain_page::{Count, Page, Tell};
 use bpf_insn::{BuildError, Order};
-use bpf_text::{TextError, assemble};
+use bpf_text::{
+    Item, LineFault, Range, Stop, TextError, assemble, code_at, endings_of, first_token,
+    label_name, line_stop, range_behind, target_name,
+};
 use std::alloc::{AllocError, Global};
 use std::collections::BTreeMap;
 use std::fmt;
 use std::io::{self, Write};
 use std::str::from_utf8;
 
-/// The line with a number, counted from 1.
-fn line_at(text: &[u8], number: usize) -> &[u8] {
-    let mut rest = text;
-    for _ in 1..number {
-        match parted(rest, b'\n') {
-            (_, Some(more)) => rest = more,
-            (_, None) => return &[],
-        }
-    }
-    parted(rest, b'\n').0
-}
-
 /// A line without its comment.
 fn code_of(line: &[u8]) -> &[u8] {
     parted(line, b';').0
-}
-
-/// Whether a text is a label's name, with nothing but blanks about it.
-fn is_label(text: &[u8]) -> bool {
-    let (word, rest) = word_in(text);
-    is_name(word) && skip_blanks(rest).is_empty()
-}
-
-/// What stands behind the labels of a line.
-fn behind_labels(code: &[u8]) -> &[u8] {
-    let mut rest = code;
-    for _ in 0..code.len() {
-        match parted(rest, b':') {
-            (label, Some(more)) if is_label(label) => rest = more,
-            _ => break,
-        }
-    }
-    rest
 }
 
 // ---- words
@@ -66,14 +38,24 @@ impl<'a> fmt::Display for Word<'a> {
     }
 }
 
-/// What stands in front: a word, or one mark.
-fn front_of(text: &[u8]) -> &[u8] {
-    let (word, _) = word_in(text);
-    if word.is_empty() {
-        text.get(..1).unwrap_or(&[])
-    } else {
-        word
+/// The word or mark in front of a text; empty where there is none.
+fn token_of(text: &[u8]) -> &[u8] {
+    match first_token(text) {
+        Some((token, _)) => token,
+        None => &[],
     }
+}
+
+/// The last token of a front, each of whose tokens stands behind a blank.
+fn last_token(front: &[u8]) -> &[u8] {
+    let mut rest = front;
+    for _ in 0..front.len() {
+        match parted(rest, b' ') {
+            (_, Some(more)) => rest = more,
+            (_, None) => break,
+        }
+    }
+    rest
 }
 
 /// The column of what stands from here on, counted from 1.
@@ -81,74 +63,91 @@ fn column_of(line: &[u8], rest: &[u8]) -> usize {
     line.len().saturating_sub(rest.len()).saturating_add(1)
 }
 
-// ---- A1 and A2
-
-/// How far a line follows the form that it follows farthest; whether to the end.
-fn farthest(code: &[u8]) -> (Reading<'_>, bool) {
-    let mut best = Reading::new(code);
-    for form in &FORMS {
-        let (reading, is_whole) = Reading::new(code).follow(form);
-        if is_whole {
-            return (reading, true);
-        }
-        if skip_blanks(reading.rest).len() < skip_blanks(best.rest).len() {
-            best = reading;
+/// A line without the blanks at its end.
+fn without_blanks(line: &[u8]) -> &[u8] {
+    let mut rest = line;
+    for _ in 0..line.len() {
+        match rest {
+            [front @ .., b' ' | b'\t' | b'\r'] => rest = front,
+            _ => break,
         }
     }
-    (best, false)
+    rest
 }
 
-/// Whether a line follows a form until so many bytes are left.
-fn follows(code: &[u8], form: &Form, left: usize) -> bool {
-    let (reading, _) = Reading::new(code).follow(form);
-    skip_blanks(reading.rest).len() == left
-}
-
-/// The forms that a line follows as far as any.
-fn tell_forms<W: Tell>(out: &mut W, code: &[u8], left: usize) {
-    let mut comma = "forms that begin so: ";
-    for form in &FORMS {
-        if follows(code, form, left) {
-            let text = form.text;
-            write!(out, "{comma}{text}");
-            comma = ", ";
-        }
-    }
-    write!(out, "\n");
-}
+// ---- A1
 
 /// Whether a comment of another language stands here.
 fn is_comment(rest: &[u8]) -> bool {
     rest.starts_with(b"//") || rest.starts_with(b"#")
 }
 
-/// A line that follows no form to its end.
-fn tell_place<W: Tell>(out: &mut W, line: &[u8], code: &[u8]) {
-    let (reading, _) = farthest(code);
-    let rest = skip_blanks(reading.rest);
-    let column = column_of(line, rest);
-    if rest.is_empty() {
-        write!(out, ", column {column}: the line ends here\n");
-    } else {
-        let word = Word(front_of(rest));
-        write!(out, ", column {column}: {word} can't stand here\n");
-    }
-    if is_comment(rest) {
-        return write!(out, "a comment begins with `;`\n");
-    }
-    tell_forms(out, code, rest.len());
-}
-
 /// What stands in front of a colon behind the labels of a line, where it begins no instruction.
-fn no_label(code: &[u8]) -> Option<&[u8]> {
-    let (front, behind) = parted(code, b':');
-    let (reading, _) = farthest(code);
-    let is_begun = skip_blanks(reading.rest).len() < skip_blanks(code).len();
-    if behind.is_none() || is_begun || is_comment(front) {
+fn no_label<'a>(stop: &Stop<'a>) -> Option<&'a [u8]> {
+    let (front, behind) = parted(stop.rest, b':');
+    if behind.is_none() || !stop.front.is_empty() || is_comment(front) {
         None
     } else {
         Some(front)
     }
+}
+
+/// Whether the name of a label begins one of some endings.
+fn has_name(endings: &[(Item, &'static str)]) -> bool {
+    for (item, _) in endings {
+        if matches!(*item, Item::Name) {
+            return true;
+        }
+    }
+    false
+}
+
+/// Whether an ending is told beside the one in front of it: of those that begin with one item the first is; where a name may
+/// stand any word is one, and is told as such.
+fn is_told(item: Item, before: Item, is_name: bool) -> bool {
+    match item {
+        Item::Mark => true,
+        Item::End => false,
+        Item::Sign | Item::Name => item as u8 != before as u8,
+        _ => !is_name && item as u8 != before as u8,
+    }
+}
+
+/// How a line may go on from where it stops.
+fn tell_endings<'a, W: Tell>(alloc: Global, out: &mut W, stop: &Stop<'a>) {
+    let Ok(endings) = endings_of(alloc, stop.fault, &stop.front) else {
+        return;
+    };
+    let is_name = has_name(&endings);
+    let mut comma = "the line may go on so: ";
+    let mut before = Item::End;
+    for (item, ending) in &endings {
+        if is_told(*item, before, is_name) {
+            write!(out, "{comma}{ending}");
+            comma = ", ";
+        }
+        before = *item;
+    }
+    match endings.first() {
+        Some((Item::End, _)) if endings.len() == 1 => write!(out, "the line must end here\n"),
+        Some((Item::End, _)) => write!(out, ", or end here\n"),
+        _ => write!(out, "\n"),
+    }
+}
+
+/// Where a line leaves all forms.
+fn tell_place<'a, W: Tell>(alloc: Global, out: &mut W, line: &[u8], stop: &Stop<'a>) {
+    let column = column_of(line, stop.rest);
+    let word = Word(token_of(stop.rest));
+    if stop.rest.is_empty() {
+        write!(out, ", column {column}: the line ends here\n");
+    } else {
+        write!(out, ", column {column}: {word} can't stand here\n");
+    }
+    if is_comment(stop.rest) {
+        return write!(out, "a comment begins with `;`\n");
+    }
+    tell_endings(alloc, out, stop);
 }
 
 /// What should be a label.
@@ -160,43 +159,79 @@ fn tell_no_label<W: Tell>(out: &mut W, column: usize, text: &[u8]) {
     );
 }
 
-/// A1: where a line leaves all forms, or what in it is no label.
-fn tell_form<W: Tell>(out: &mut W, text: &[u8], number: usize) {
-    write!(out, "A1 at line {number}");
-    let line = code_of(line_at(text, number));
-    let code = skip_blanks(behind_labels(line));
-    match no_label(code) {
-        Some(front) => tell_no_label(out, column_of(line, code), front),
-        None => tell_place(out, line, code),
+// ---- A2
+
+/// The numbers of a range.
+fn range_text(range: Range) -> &'static str {
+    match range {
+        Range::Bits16 => "a number here is -32768 to 32767",
+        Range::Bits32 => "a number here is -2147483648 to 2147483647",
+        Range::Bits64 => {
+            "a constant is -2147483648 to 2147483647, with `ll` behind it 0 to 18446744073709551615"
+        }
     }
 }
 
-/// A number that is out of its range, and the range.
-fn tell_excess<'a, W: Tell>(out: &mut W, code: &[u8], excess: Excess<'a>) {
-    let column = column_of(code, excess.rest);
-    let (sign, digits) = match excess.rest {
-        [b'-' | b'+', digits @ ..] => (excess.rest.first().copied(), digits),
-        _ => (None, excess.rest),
+/// A number behind a front that is out of its range.
+fn tell_excess<'a, W: Tell>(
+    alloc: Global,
+    out: &mut W,
+    line: &[u8],
+    stop: &Stop<'a>,
+    number: &[u8],
+) {
+    let column = column_of(line, stop.rest);
+    let sign = if last_token(&stop.front) == b"-".as_slice() {
+        "minus "
+    } else {
+        ""
     };
-    let minus = match sign {
-        Some(b'-') => "minus ",
-        _ => "",
-    };
-    let (word, range) = (Word(front_of(skip_blanks(digits))), excess.range.text());
-    write!(
-        out,
-        ", column {column}: {minus}{word} is out of its range: {range}\n"
-    );
+    let number = Word(number);
+    write!(out, ", column {column}: {sign}{number} is out of its range");
+    match range_behind(alloc, &stop.front) {
+        Ok(range) => {
+            let text = range_text(range);
+            write!(out, ": {text}\n");
+        }
+        Err(_) => write!(out, "\n"),
+    }
 }
 
-/// A2: which number is out of its range.
-fn tell_range<W: Tell>(out: &mut W, text: &[u8], number: usize) {
-    write!(out, "A2 at line {number}");
-    let code = code_of(line_at(text, number));
-    let (reading, _) = farthest(behind_labels(code));
-    match reading.excess {
-        Some(excess) => tell_excess(out, code, excess),
-        None => write!(out, ": a number is out of its range\n"),
+/// Which number is out of its range: the next one; or the last one, for the lack of an `ll` or for the one that stands there.
+fn tell_number<'a, W: Tell>(alloc: Global, out: &mut W, line: &[u8], stop: &Stop<'a>) {
+    let token = token_of(stop.rest);
+    let range = range_text(Range::Bits64);
+    if token.is_empty() {
+        let number = last_token(&stop.front);
+        let column = column_of(without_blanks(line), number);
+        let number = Word(number);
+        write!(
+            out,
+            ", column {column}: {number} is out of its range: {range}\n"
+        );
+    } else if token == b"ll".as_slice() {
+        let column = column_of(line, stop.rest);
+        write!(
+            out,
+            ", column {column}: the number before `ll` is out of its range: {range}\n"
+        );
+    } else {
+        tell_excess(alloc, out, line, stop, token);
+    }
+}
+
+/// A1: where a line leaves all forms, or what in it is no label. A2: which number is out of its range.
+fn tell_line<W: Tell>(alloc: Global, out: &mut W, text: &[u8], number: usize) {
+    let line = code_at(text, number);
+    let Ok(Some(stop)) = line_stop(alloc, line) else {
+        return write!(out, ": memory ran out\n");
+    };
+    match (stop.fault, no_label(&stop)) {
+        (LineFault::OutOfRange, _) => tell_number(alloc, out, line, &stop),
+        (LineFault::NoForm, Some(front)) => {
+            tell_no_label(out, column_of(line, stop.rest), front);
+        }
+        (LineFault::NoForm, None) => tell_place(alloc, out, line, &stop),
     }
 }
 
@@ -213,7 +248,9 @@ fn note_labels<'a>(
         let (front, Some(more)) = parted(rest, b':') else {
             break;
         };
-        labels.entry(word_in(front).0)?.or_insert(number);
+        if let Some(name) = label_name(front) {
+            labels.entry(name)?.or_insert(number);
+        }
         rest = more;
     }
     Ok(())
@@ -242,14 +279,15 @@ fn second_label(
     number: usize,
 ) -> Result<Option<(&[u8], usize)>, AllocError> {
     let labels = labels_above(alloc, text, number)?;
-    let mut rest = code_of(line_at(text, number));
+    let mut rest = code_at(text, number);
     for _ in 0..rest.len() {
         let (front, Some(more)) = parted(rest, b':') else {
             break;
         };
-        let name = word_in(front).0;
-        if let Some(above) = labels.get(name) {
-            return Ok(Some((name, *above)));
+        if let Some(name) = label_name(front) {
+            if let Some(above) = labels.get(name) {
+                return Ok(Some((name, *above)));
+            }
         }
         rest = more;
     }
@@ -269,28 +307,9 @@ fn tell_second<W: Tell>(alloc: Global, out: &mut W, text: &[u8], number: usize) 
     }
 }
 
-/// The last word of a line.
-fn last_word(code: &[u8]) -> &[u8] {
-    let mut last: &[u8] = &[];
-    let mut rest = code;
-    for _ in 0..code.len() {
-        let (word, more) = word_in(rest);
-        if word.is_empty() {
-            match skip_blanks(rest).split_first() {
-                Some((_, more)) => rest = more,
-                None => break,
-            }
-        } else {
-            last = word;
-            rest = more;
-        }
-    }
-    last
-}
-
 /// A4 and A5: what is wrong with the label that a jump names.
 fn tell_target<W: Tell>(out: &mut W, text: &[u8], number: usize, cause: u8, words: &str) {
-    let word = Word(last_word(code_of(line_at(text, number))));
+    let word = Word(target_name(code_at(text, number)).unwrap_or(&[]));
     write!(out, "A{cause} at line {number}: the label {word} {words}\n");
 }
 
@@ -315,8 +334,14 @@ fn tell_program<W: Tell>(out: &mut W, number: usize, error: BuildError) {
 /// Tells a refusal.
 fn tell_error<W: Tell>(alloc: Global, out: &mut W, text: &[u8], error: TextError) {
     match error {
-        TextError::Form { line } => tell_form(out, text, line),
-        TextError::Range { line } => tell_range(out, text, line),
+        TextError::Form { line } => {
+            write!(out, "A1 at line {line}");
+            tell_line(alloc, out, text, line);
+        }
+        TextError::Range { line } => {
+            write!(out, "A2 at line {line}");
+            tell_line(alloc, out, text, line);
+        }
         TextError::DefinedAgain { line } => tell_second(alloc, out, text, line),
         TextError::Undefined { line } => tell_target(out, text, line, 4, "isn't defined"),
         TextError::TooFar { line } => tell_target(
@@ -365,8 +390,8 @@ fn tell_text<W: Tell>(alloc: Global, out: &mut W, bytes: &[u8]) -> bool
     }
 }
 
-/// Tells in words why bytes are refused as a program's text (A1 to A7): the column, the word at fault, and the forms that begin
-/// so; of a program, how many slots it has. True if it is a program's text; false also of bytes that aren't UTF-8. A fault of
+/// Tells in words why bytes are refused as a program's text (A1 to A7): the column, the word at fault, and how the line may go
+/// on from there; of a program, how many slots it has. True if it is a program's text; false also of bytes that aren't UTF-8. A fault of
 /// the writer, or a write of no bytes, ends it.
 pub fn explain_text<W: Write>(alloc: Global, bytes: &[u8], out: &mut W) -> io::Result<bool>
     ensures { IfOk result (λ told. IsTrue told → ((is : List Insn) × Assembles bytes.now is)) }

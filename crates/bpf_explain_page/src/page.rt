@@ -1,6 +1,7 @@
 //! What is told goes out in pieces of 4,096 bytes.
 
 use crate::quoted::Quoted;
+use bpf_escape::Escaped;
 use bpf_insn::written::Pending;
 use std::fmt::Display;
 use std::io::{self, ErrorKind, Write};
@@ -34,7 +35,7 @@ impl<'a, W: Write> Write for Pieces<'a, W> {
 
 /// Where an explanation is told.
 pub trait Tell {
-    /// Tells a text: what `write!` calls.
+    /// Tells a text: what `write!` calls. Control characters in it, but for tabs and ends of lines, are told by their bytes.
     fn write_fmt<D: Display + Drop>(&mut self, text: D);
 
     /// What follows stands between quotes in DOT, or no longer does.
@@ -81,9 +82,10 @@ impl<'a, W: Write> Tell for Page<'a, W> {
             return;
         }
         let result = if self.is_quoted {
-            Quoted::new(&mut self.pieces).write_fmt(text)
+            let mut quoted = Quoted::new(&mut self.pieces);
+            Escaped::new(&mut quoted).write_fmt(text)
         } else {
-            self.pieces.write_fmt(text)
+            Escaped::new(&mut self.pieces).write_fmt(text)
         };
         if let Err(error) = result {
             self.fault = Some(error);

@@ -16,7 +16,21 @@ fn tell_suspect<W: Tell>(out: &mut W, slot: u32, insn: &Insn) {
             out,
             "slot {slot} loads a 64-bit 0: mostly an address that a lost relocation left out\n"
         ),
-        _ => {}
+        Insn::CallLocal { off: _off } => {}
+        Insn::LoadImm64 { value: _value, .. } => {}
+        Insn::Alu { .. }
+        | Insn::Neg { .. }
+        | Insn::MovSx { .. }
+        | Insn::End { .. }
+        | Insn::Load { .. }
+        | Insn::LoadSx { .. }
+        | Insn::Store { .. }
+        | Insn::StoreImm { .. }
+        | Insn::Atomic { .. }
+        | Insn::Ja { .. }
+        | Insn::JaLong { .. }
+        | Insn::JumpIf { .. }
+        | Insn::Exit => {}
     }
 }
 

@@ -1,27 +1,14 @@
 //! Which conditions fail.
 
-use bpf_check::Cause;
+use bpf_state::Condition;
 
-/// All conditions, by their numbers.
-pub const CAUSES: [Cause; 13] = [
-    Cause::NoLabel,
-    Cause::MisplacedLabel,
-    Cause::UnsetRegister,
-    Cause::WrongKinds,
-    Cause::OutOfBounds,
-    Cause::UnsetByte,
-    Cause::Protected,
-    Cause::NotEntailed,
-    Cause::OverBudget,
-    Cause::NoDeeper,
-    Cause::FallsOff,
-    Cause::LeavesFunction,
-    Cause::Misshapen,
-];
+/// How many conditions there are: C1 to C13.
+pub const CONDITIONS: u32 = 13;
 
 /// The conditions that fail.
 #[derive(Clone, Copy, PartialEq, Eq)]
 pub struct Flaws {
+    /// Each at its number.
     held: [bool; 14],
 }
 
@@ -30,26 +17,26 @@ impl Flaws {
     pub const NONE: Flaws = Flaws { held: [false; 14] };
 
     /// Adds a condition if it fails.
-    pub fn add_if(&mut self, fails: bool, cause: Cause) {
+    pub fn add_if(&mut self, fails: bool, condition: Condition) {
         if fails {
-            if let Some(place) = self.held.get_mut(usize::from(cause.number())) {
+            if let Some(place) = self.held.get_mut(usize::from(condition.number())) {
                 *place = true;
             }
         }
     }
 
     /// Whether a condition fails.
-    pub fn has(&self, cause: Cause) -> bool {
+    pub fn has(&self, condition: Condition) -> bool {
         self.held
-            .get(usize::from(cause.number()))
+            .get(usize::from(condition.number()))
             .copied()
             .unwrap_or(false)
     }
 
     /// Adds the conditions that others hold.
     pub fn add_all(&mut self, others: &Flaws) {
-        for cause in CAUSES {
-            self.add_if(others.has(cause), cause);
+        for (place, fails) in self.held.iter_mut().zip(others.held.iter()) {
+            *place |= *fails;
         }
     }
 

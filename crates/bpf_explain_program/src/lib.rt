@@ -3,6 +3,7 @@
 #![tactic(auto)]
 
 mod alone;
+mod control;
 mod effects;
 mod flaws;
 mod graph;
@@ -23,6 +24,7 @@ mod whole;
 mod words;
 
 pub use alone::write_alone;
+pub use control::Control;
 pub use graph::{dot_plain, tell_sketched_dot};
 pub use known::{Name, Spelled};
 pub use listing::write_padded;

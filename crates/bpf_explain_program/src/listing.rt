@@ -1,13 +1,14 @@
 //! The lines of a listing.
 
+use crate::control::Control;
 use crate::effects::{places_compared, places_written, slots_touched};
 use crate::known::{Known, Name, Number, Written, spelling_of};
 use crate::places::{
     PLACES, PlaceSet, changes, content, is_same, is_unknown, place_at, take_all, take_over,
 };
-use crate::sight::{Edge, Outcome, Sight, total_of};
+use crate::sight::{Outcome, Sight};
 use bpf_cert::{Function, Label, Measure};
-use bpf_check::Index;
+use bpf_check::{Index, JudgedEdge};
 use bpf_explain_page::{Count, Tell};
 use bpf_insn::Insn;
 use bpf_state::{Place, State};
@@ -135,14 +136,14 @@ fn note_read<W: Tell>(out: &mut W, state: &State, shown: &mut State, place: Plac
 
 /// Tells what is known of the registers that are read.
 fn note_registers<'a, W: Tell>(out: &mut W, sight: &Sight<'a>, shown: &mut State) {
-    for reg in sight.insn.registers_read().into_iter().flatten() {
+    for reg in sight.site.insn.registers_read().into_iter().flatten() {
         note_read(out, &sight.before, shown, Place::Register(reg));
     }
 }
 
 /// Tells what is known of the slots that are read.
 fn note_slots<'a, W: Tell>(out: &mut W, sight: &Sight<'a>, shown: &mut State) {
-    let Some(access) = sight.insn.access() else {
+    let Some(access) = sight.site.insn.access() else {
         return;
     };
     if !access.reads {
@@ -179,11 +180,12 @@ fn write_cost<'a, W: Tell>(out: &mut W, sight: &Sight<'a>) {
 
 /// Tells what is known of the places that an instruction changes.
 fn note_written<'a, W: Tell>(out: &mut W, sight: &Sight<'a>, shown: &mut State) {
-    let after = match sight.insn {
-        Insn::CallLocal { .. } if sight.goes_on => sight.next_state(),
-        _ => &sight.after,
+    let after = if sight.goes_on {
+        &sight.behind
+    } else {
+        sight.after()
     };
-    let written = places_written(&sight.insn, &sight.before);
+    let written = places_written(&sight.site.insn, &sight.before);
     let changed = changes(&sight.before, after, written);
     take_all(shown, after, changed);
     note_changes(out, changed, after, "becomes");
@@ -203,7 +205,7 @@ fn write_notes<'a, W: Tell>(out: &mut W, sight: &Sight<'a>, shown: &mut State) {
 
 /// The line of an instruction.
 pub fn write_instruction<'a, W: Tell>(out: &mut W, sight: &Sight<'a>, shown: &mut State) {
-    write_padded(out, sight.slot, &sight.insn);
+    write_padded(out, sight.site.here.slot, &sight.site.insn);
     match sight.outcome {
         Outcome::Unreached => write!(out, "; no state is known here"),
         _ => write_notes(out, sight, shown),
@@ -219,14 +221,14 @@ fn have_terms(old: &Label, new: &Label) -> bool {
 }
 
 /// `; slack 0: base 23, cost 1, base there 2, kept 0, taken 20`
-fn write_slack<'a, W: Tell>(out: &mut W, sight: &Sight<'a>, edge: Edge<'a>, new: &Label) {
+fn write_slack<'a, W: Tell>(out: &mut W, sight: &Sight<'a>, edge: JudgedEdge<'a>, new: &Label) {
     let Some(here) = sight.here else {
         return;
     };
     let (Some(slack), Some(cost)) = (edge.slack, sight.cost) else {
         return write!(out, "; the slack isn't known");
     };
-    let total = total_of(slack);
+    let total = slack.left;
     let (base, there) = (here.label.budget.base, new.budget.base);
     if have_terms(here.label, new) {
         let (kept, taken) = (slack.kept, slack.free);
@@ -246,7 +248,7 @@ fn write_slack<'a, W: Tell>(out: &mut W, sight: &Sight<'a>, edge: Edge<'a>, new:
 fn write_edge<'a, W: Tell>(
     out: &mut W,
     sight: &Sight<'a>,
-    edge: Edge<'a>,
+    edge: JudgedEdge<'a>,
     state: &State,
     more: PlaceSet,
     condition: &str,
@@ -267,27 +269,26 @@ fn write_edge<'a, W: Tell>(
 
 /// The places of which more is known on an edge than behind the instruction.
 fn known_more<'a>(sight: &Sight<'a>, state: &State) -> PlaceSet {
-    changes(&sight.after, state, places_compared(&sight.insn))
+    changes(&sight.before, state, places_compared(&sight.site.insn))
 }
 
 /// The line of the edge along a jump.
-fn write_jump<'a, W: Tell>(out: &mut W, sight: &Sight<'a>, edge: Edge<'a>) {
-    let condition = match sight.insn {
-        Insn::JumpIf { .. } => " if so",
-        _ => "",
-    };
+fn write_jump<'a, W: Tell>(out: &mut W, sight: &Sight<'a>, edge: JudgedEdge<'a>) {
+    let condition = sight.control().if_so();
     let state = sight.jump_state();
     let more = known_more(sight, state);
     write_edge(out, sight, edge, state, more, condition);
 }
 
 /// The line of the edge to the next instruction, if it says more than that it is there.
-fn write_next<'a, W: Tell>(out: &mut W, sight: &Sight<'a>, edge: Edge<'a>, shown: &mut State) {
-    let condition = match sight.insn {
-        Insn::JumpIf { .. } => " if not",
-        _ => "",
-    };
-    let state = sight.next_state();
+fn write_next<'a, W: Tell>(
+    out: &mut W,
+    sight: &Sight<'a>,
+    edge: JudgedEdge<'a>,
+    shown: &mut State,
+) {
+    let condition = sight.control().if_not();
+    let state = &sight.behind;
     let more = known_more(sight, state);
     if edge.is_live && edge.label.is_none() && more.is_empty() {
         return;
@@ -298,10 +299,10 @@ fn write_next<'a, W: Tell>(out: &mut W, sight: &Sight<'a>, edge: Edge<'a>, shown
 
 /// The line of an EXIT: what is left of the budget.
 fn write_exit<'a, W: Tell>(out: &mut W, sight: &Sight<'a>) {
-    let (Some(least), Some(cost)) = (sight.least_budget, sight.cost) else {
+    let (Some(slack), Some(cost)) = (sight.left_at_exit, sight.cost) else {
         return;
     };
-    let slack = least.saturating_sub(cost);
+    let least = slack.saturating_add(cost);
     write!(
         out,
         "       out; slack {slack}: budget at least {least}, cost {cost}\n"
@@ -310,7 +311,7 @@ fn write_exit<'a, W: Tell>(out: &mut W, sight: &Sight<'a>) {
 
 /// The lines of an instruction's edges.
 pub fn write_edges<'a, W: Tell>(out: &mut W, sight: &Sight<'a>, shown: &mut State) {
-    if let (Insn::Exit, Outcome::Done) = (sight.insn, sight.outcome) {
+    if let (Control::Exit, Outcome::Done) = (sight.control(), sight.outcome) {
         if sight.has_budgets {
             write_exit(out, sight);
         }

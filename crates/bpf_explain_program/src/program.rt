@@ -41,7 +41,7 @@ fn tell_program<C: Code, W: Tell>(
     report: &mut Report<'_>,
     out: &mut W,
 ) -> u32 {
-    let mut sight = Sight::new(report.has_budgets());
+    let mut sight = Sight::new(&*certificate, report.has_budgets());
     let mut walk = Walk::new();
     let mut here = Spot::of(&*certificate, 0);
     'visits: for _ in 0..65_536u32 {

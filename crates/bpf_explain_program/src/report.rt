@@ -1,7 +1,7 @@
 //! The flaws at a slot, told in the order of their numbers.
 
 use crate::effects::unknown_register;
-use crate::flaws::{CAUSES, Flaws};
+use crate::flaws::{CONDITIONS, Flaws};
 use crate::known::Spelled;
 use crate::listing::{write_edges, write_function, write_instruction, write_label};
 use crate::sight::{Outcome, Sight};
@@ -14,10 +14,10 @@ use crate::words::{
     Handings, Silence, tell, tell_function, tell_handed, tell_label, tell_silence, tell_start,
 };
 use bpf_cert::{Function, Label};
-use bpf_check::{Cause, Index, Refusal};
+use bpf_check::{Index, Refusal};
 use bpf_explain_page::Tell;
 use bpf_insn::Code;
-use bpf_state::State;
+use bpf_state::{Condition, State, StateFault};
 
 /// What is written of a program.
 #[derive(Clone, Copy, PartialEq, Eq)]
@@ -82,7 +82,7 @@ impl Found {
     /// Whether the one flaw is that no state reaches the instruction.
     fn is_quiet<'a>(&self, sight: &Sight<'a>) -> bool {
         let mut silent = Flaws::NONE;
-        silent.add_if(true, Cause::FallsOff);
+        silent.add_if(true, Condition::FallsOff);
         sight.is_never && self.start.is_empty() && self.standing.is_empty() && self.visit == silent
     }
 }
@@ -111,14 +111,20 @@ impl<'t> Report<'t> {
     }
 
     /// What a flaw's line begins with.
-    fn begin<'a, W: Tell>(&self, out: &mut W, cause: Cause, slot: u32, sight: Option<&Sight<'a>>) {
-        let number = cause.number();
+    fn begin<'a, W: Tell>(
+        &self,
+        out: &mut W,
+        condition: Condition,
+        slot: u32,
+        sight: Option<&Sight<'a>>,
+    ) {
+        let number = condition.number();
         if let View::Listing | View::Sketch(..) = self.view {
             return write!(out, "     ! C{number}: ");
         }
         match sight {
             Some(sight) => {
-                let text = Spelled(sight.insn);
+                let text = Spelled(sight.site.insn);
                 write!(out, "C{number} at slot {slot}, {text}: ");
             }
             None => write!(out, "C{number} at slot {slot}: "),
@@ -132,14 +138,14 @@ impl<'t> Report<'t> {
         program: &C,
         certificate: &Index,
         sight: &Sight<'a>,
-        cause: Cause,
+        condition: Condition,
     ) {
-        self.begin(out, cause, sight.slot, Some(sight));
-        match cause {
-            Cause::FallsOff if sight.is_never => tell_silence(out, self.silence),
-            _ => tell(out, program, certificate, sight, cause),
+        self.begin(out, condition, sight.site.here.slot, Some(sight));
+        match condition {
+            Condition::FallsOff if sight.is_never => tell_silence(out, self.silence),
+            _ => tell(out, program, certificate, sight, condition),
         }
-        if cause == Cause::UnsetRegister {
+        if condition == Condition::State(StateFault::UnsetRegister) {
             self.tell_cause(out, program, certificate, sight);
         }
         self.end_visit(out);
@@ -170,7 +176,7 @@ impl<'t> Report<'t> {
         certificate: &Index,
         sight: &Sight<'a>,
     ) {
-        let Some(reg) = unknown_register(&sight.insn, &sight.before) else {
+        let Some(reg) = unknown_register(&sight.site.insn, &sight.before) else {
             return;
         };
         let handings = match self.handings.take() {
@@ -182,9 +188,15 @@ impl<'t> Report<'t> {
     }
 
     /// Tells that the first slot of a function, which is at a slot, has no label.
-    fn tell_shape<W: Tell>(&self, out: &mut W, function: &Function, slot: u32, cause: Cause) {
-        if cause == Cause::Misshapen && lacks_first_label(function, slot) {
-            self.begin(out, cause, slot, None);
+    fn tell_shape<W: Tell>(
+        &self,
+        out: &mut W,
+        function: &Function,
+        slot: u32,
+        condition: Condition,
+    ) {
+        if condition == Condition::Misshapen && lacks_first_label(function, slot) {
+            self.begin(out, condition, slot, None);
             tell_function(out, function);
             write!(out, "\n");
         }
@@ -198,15 +210,15 @@ impl<'t> Report<'t> {
         certificate: &Index,
         function: &Function,
         label: &Label,
-        cause: Cause,
+        condition: Condition,
     ) {
         let found = label_flaws(program, certificate, function, label, &mut self.room);
-        if !found.flaws.has(cause) {
+        if !found.flaws.has(condition) {
             return;
         }
-        self.begin(out, cause, label.slot, None);
+        self.begin(out, condition, label.slot, None);
         let bad = found.bad;
-        tell_label(out, program, certificate, function, label, cause, bad);
+        tell_label(out, program, certificate, function, label, condition, bad);
         write!(out, "\n");
     }
 
@@ -217,20 +229,26 @@ impl<'t> Report<'t> {
         program: &C,
         certificate: &Index,
         slot: u32,
-        cause: Cause,
+        condition: Condition,
     ) {
         for function in functions_about(certificate, slot) {
-            self.tell_shape(out, function, slot, cause);
+            self.tell_shape(out, function, slot, condition);
             if let Some(label) = label_in(function, slot) {
-                self.tell_in_label(out, program, certificate, function, label, cause);
+                self.tell_in_label(out, program, certificate, function, label, condition);
             }
         }
     }
 
     /// Tells a flaw of a certificate's beginning.
-    fn tell_at_start<W: Tell>(&self, out: &mut W, certificate: &Index, slot: u32, cause: Cause) {
-        self.begin(out, cause, slot, None);
-        tell_start(out, certificate, cause);
+    fn tell_at_start<W: Tell>(
+        &self,
+        out: &mut W,
+        certificate: &Index,
+        slot: u32,
+        condition: Condition,
+    ) {
+        self.begin(out, condition, slot, None);
+        tell_start(out, certificate, condition);
         write!(out, "\n");
     }
 
@@ -248,17 +266,20 @@ impl<'t> Report<'t> {
             return;
         }
         self.tell_quiet(out);
-        for cause in CAUSES {
-            if found.start.has(cause) {
-                self.tell_at_start(out, certificate, slot, cause);
+        for number in 1..=CONDITIONS {
+            let Some(condition) = Condition::numbered(number) else {
+                continue;
+            };
+            if found.start.has(condition) {
+                self.tell_at_start(out, certificate, slot, condition);
             }
             if let Some(sight) = sight {
-                if found.visit.has(cause) {
-                    self.tell_visit(out, program, certificate, sight, cause);
+                if found.visit.has(condition) {
+                    self.tell_visit(out, program, certificate, sight, condition);
                 }
             }
-            if found.standing.has(cause) {
-                self.tell_standing(out, program, certificate, slot, cause);
+            if found.standing.has(condition) {
+                self.tell_standing(out, program, certificate, slot, condition);
             }
         }
     }
@@ -365,8 +386,8 @@ impl<'t> Report<'t> {
 
     /// The lines of an instruction, with those of what stands at its slot.
     fn write_lines<'a, W: Tell>(&mut self, out: &mut W, certificate: &Index, sight: &Sight<'a>) {
-        self.write_standing(out, certificate, sight.slot);
-        if sight.label.is_some() {
+        self.write_standing(out, certificate, sight.site.here.slot);
+        if sight.site.here.label.is_some() {
             self.shown.copy_from(&sight.before);
         }
         self.write_source(out);
@@ -377,12 +398,14 @@ impl<'t> Report<'t> {
     /// Notes why no state goes on, if none does.
     fn note_silence<'a>(&mut self, sight: &Sight<'a>) {
         match sight.outcome {
-            Outcome::Refused(_) => self.silence = Silence::Refused(sight.slot),
-            Outcome::Unreached if !sight.is_never => self.silence = Silence::Refused(sight.slot),
+            Outcome::Refused(_) => self.silence = Silence::Refused(sight.site.here.slot),
+            Outcome::Unreached if !sight.is_never => self.silence = Silence::Refused(
+                sight.site.here.slot,
+            ),
             Outcome::Unreached => {}
             Outcome::Done | Outcome::Dead => {
                 if !sight.goes_on {
-                    self.silence = Silence::Ends(sight.slot);
+                    self.silence = Silence::Ends(sight.site.here.slot);
                 }
             }
         }
@@ -396,7 +419,7 @@ impl<'t> Report<'t> {
         certificate: &Index,
         sight: &Sight<'a>,
     ) {
-        let slot = sight.slot;
+        let slot = sight.site.here.slot;
         let found = self.found_at(program, certificate, slot, Some(sight));
         if found.is_quiet(sight) && self.view != View::Slot(slot) {
             if self.view == View::List {
@@ -414,10 +437,10 @@ impl<'t> Report<'t> {
         program: &C,
         certificate: &Index,
         sight: &Sight<'a>,
-        cause: Cause,
+        condition: Condition,
     ) {
-        if sight.flaws.has(cause) {
-            self.tell_visit(out, program, certificate, sight, cause);
+        if sight.flaws.has(condition) {
+            self.tell_visit(out, program, certificate, sight, condition);
         }
     }
 
@@ -442,18 +465,18 @@ impl<'t> Report<'t> {
                 self.tell_flaws(out, program, certificate, sight);
             }
             View::List => self.tell_flaws(out, program, certificate, sight),
-            View::Glimpse(slot) if slot == sight.slot => self.write_alone(out, sight),
-            View::Slot(slot) if slot == sight.slot => {
+            View::Glimpse(slot) if slot == sight.site.here.slot => self.write_alone(out, sight),
+            View::Slot(slot) if slot == sight.site.here.slot => {
                 self.write_alone(out, sight);
                 self.tell_flaws(out, program, certificate, sight);
             }
-            View::Sketch(Some(flaw)) if flaw.slot == sight.slot => {
+            View::Sketch(Some(flaw)) if flaw.slot == sight.site.here.slot => {
                 self.write_lines(out, certificate, sight);
-                self.tell_one(out, program, certificate, sight, flaw.cause);
+                self.tell_one(out, program, certificate, sight, flaw.condition);
             }
             View::Sketch(..) => self.write_lines(out, certificate, sight),
-            View::Reason(flaw) if flaw.slot == sight.slot => {
-                self.tell_one(out, program, certificate, sight, flaw.cause);
+            View::Reason(flaw) if flaw.slot == sight.site.here.slot => {
+                self.tell_one(out, program, certificate, sight, flaw.condition);
             }
             View::Slot(_) | View::Glimpse(_) | View::Reason(..) => {}
         }
@@ -467,7 +490,7 @@ impl<'t> Report<'t> {
         certificate: &Index,
         sight: &Sight<'a>,
     ) {
-        self.has_new_line = self.lines.go_to(sight.slot);
+        self.has_new_line = self.lines.go_to(sight.site.here.slot);
         self.show(out, program, certificate, sight);
         self.note_silence(sight);
     }

@@ -1,10 +1,10 @@
 //! What the pass sees at an instruction.
 
+use crate::control::Control;
 use crate::flaws::Flaws;
-use bpf_cert::Label;
-use bpf_check::{Here, Slack};
+use bpf_check::{Here, Index, JudgedEdge, Seen, Site, Spot};
 use bpf_insn::Insn;
-use bpf_state::{State, StateFault, Work};
+use bpf_state::{Condition, State, StateFault, Work};
 
 /// What became of an instruction.
 #[derive(Clone, Copy)]
@@ -19,85 +19,65 @@ pub enum Outcome {
     Done,
 }
 
-/// An edge of an instruction that is done.
-#[derive(Clone, Copy)]
-pub struct Edge<'a> {
-    pub to: u32,
-    /// Whether a state goes along it.
-    pub is_live: bool,
-    /// The label that stands at its end.
-    pub label: Option<&'a Label>,
-    /// What is left of the budget at a label; None where that isn't known.
-    pub slack: Option<Slack>,
-}
-
 /// What the pass sees at an instruction.
 #[derive(Drop)]
 pub struct Sight<'a> {
     /// Whether budgets are told.
     pub has_budgets: bool,
-    pub slot: u32,
-    pub insn: Insn,
-    /// The label that stands here.
-    pub label: Option<&'a Label>,
+    /// The instruction, with what the certificate says of its slot and of those that it leads to.
+    pub site: Site<'a>,
     /// The last label and the cost since, in front of the instruction.
     pub here: Option<Here<'a>>,
     pub outcome: Outcome,
     /// The cost since the last label, this instruction counted; None where a callee's isn't known.
     pub cost: Option<i128>,
-    /// The least that the last label's budget is, at an EXIT.
-    pub least_budget: Option<i128>,
-    pub jump: Option<Edge<'a>>,
-    pub next: Option<Edge<'a>>,
+    /// What is left of the last label's budget behind an EXIT.
+    pub left_at_exit: Option<i128>,
+    pub jump: Option<JudgedEdge<'a>>,
+    pub next: Option<JudgedEdge<'a>>,
     /// Whether a state goes on to the next instruction.
     pub goes_on: bool,
     pub flaws: Flaws,
     /// Whether no state reaches the instruction, and none is missing for another flaw.
     pub is_never: bool,
-    /// The states in front of the instruction and behind it.
+    /// The state in front of the instruction.
     pub before: State,
-    pub after: State,
+    /// The state on the edge to the next instruction; where there is none, the one behind the instruction.
+    pub behind: State,
     /// The state where a conditional jump is taken.
     pub if_so: State,
-    /// The state where a conditional jump isn't taken, or behind a call.
-    pub if_not: State,
     pub work: Work,
 }
 
 impl<'a> Sight<'a> {
     /// Nothing is seen yet.
-    pub fn new(has_budgets: bool) -> Self {
+    pub fn new(certificate: &'a Index<'a>, has_budgets: bool) -> Self {
         Sight {
             has_budgets,
-            slot: 0,
-            insn: Insn::Exit,
-            label: None,
+            site: Site::of(certificate, Spot::of(certificate, 0), Insn::Exit),
             here: None,
             outcome: Outcome::Unreached,
             cost: None,
-            least_budget: None,
+            left_at_exit: None,
             jump: None,
             next: None,
             goes_on: false,
             flaws: Flaws::NONE,
             is_never: false,
             before: State::blank(),
-            after: State::blank(),
+            behind: State::blank(),
             if_so: State::blank(),
-            if_not: State::blank(),
             work: Work::new(),
         }
     }
 
     /// Turns to an instruction of which nothing is seen yet.
-    pub fn turn_to(&mut self, slot: u32, insn: Insn, label: Option<&'a Label>) {
-        self.slot = slot;
-        self.insn = insn;
-        self.label = label;
+    pub fn turn_to(&mut self, site: Site<'a>) {
+        self.site = site;
         self.here = None;
         self.outcome = Outcome::Unreached;
         self.cost = None;
-        self.least_budget = None;
+        self.left_at_exit = None;
         self.jump = None;
         self.next = None;
         self.goes_on = false;
@@ -105,27 +85,46 @@ impl<'a> Sight<'a> {
         self.is_never = false;
     }
 
+    /// Takes note of what is seen of an instruction without fault.
+    pub fn note(&mut self, seen: Seen<'a>) {
+        let judged = seen.judged();
+        self.flaws
+            .add_if(judged.not_entailed, Condition::NotEntailed);
+        self.flaws.add_if(judged.over_budget, Condition::OverBudget);
+        self.flaws.add_if(judged.past_end, Condition::FallsOff);
+        self.cost = seen.cost;
+        if !seen.is_alive {
+            self.outcome = Outcome::Dead;
+            return;
+        }
+        self.outcome = Outcome::Done;
+        self.left_at_exit = seen.left_at_exit;
+        self.jump = seen.jump;
+        self.goes_on = seen.next.is_live;
+        // Of the edges to the next instruction, a dead one is shown beside a jump alone.
+        if seen.next.is_live || self.control() == Control::Test {
+            self.next = Some(seen.next);
+        }
+    }
+
+    /// How the instruction goes on.
+    pub fn control(&self) -> Control {
+        Control::of(&self.site.insn)
+    }
+
+    /// The state behind the instruction, in front of its edges. Tests and calls leave the state as it was.
+    pub fn after(&self) -> &State {
+        match self.control() {
+            Control::Test | Control::Call => &self.before,
+            Control::Next | Control::Jump | Control::Exit => &self.behind,
+        }
+    }
+
     /// The state on the edge of a jump.
     pub fn jump_state(&self) -> &State {
-        match self.insn {
-            Insn::JumpIf { .. } => &self.if_so,
-            _ => &self.after,
+        match self.control() {
+            Control::Test => &self.if_so,
+            Control::Next | Control::Jump | Control::Call | Control::Exit => &self.behind,
         }
     }
-
-    /// The state on the edge to the next instruction.
-    pub fn next_state(&self) -> &State {
-        match self.insn {
-            Insn::JumpIf { .. } | Insn::CallLocal { .. } => &self.if_not,
-            _ => &self.after,
-        }
-    }
-}
-
-/// What is left on an edge.
-pub fn total_of(slack: Slack) -> i128 {
-    slack
-        .base
-        .saturating_add(slack.kept)
-        .saturating_sub(slack.free)
 }

@@ -6,11 +6,11 @@ ghost use Rattle.bpf_state.specs.State.{tightened};
 use crate::flaws::Flaws;
 use bpf_cert::{Function, Label, Term, is_limited_term};
 use bpf_check::{
-    Cause, Index, begins_elsewhere, function_at, is_bad_term, is_first_label, is_outside, label_at,
+    Index, begins_elsewhere, function_at, is_bad_term, is_first_label, is_outside, label_at,
     starts_over_budget,
 };
 use bpf_insn::Code;
-use bpf_state::State;
+use bpf_state::{Condition, State};
 use std::slice;
 
 /// What is wrong with a label.
@@ -86,9 +86,12 @@ fn flaws_with<C: Code>(
     let bad = bad_term(label, tight);
     let is_misshapen = is_outside(certificate, function, label) || tight.is_none();
     let mut flaws = Flaws::NONE;
-    flaws.add_if(program.insn(label.slot).is_none(), Cause::MisplacedLabel);
-    flaws.add_if(bad.is_some(), Cause::OverBudget);
-    flaws.add_if(is_misshapen, Cause::Misshapen);
+    flaws.add_if(
+        program.insn(label.slot).is_none(),
+        Condition::MisplacedLabel,
+    );
+    flaws.add_if(bad.is_some(), Condition::OverBudget);
+    flaws.add_if(is_misshapen, Condition::Misshapen);
     LabelFlaws { flaws, bad }
 }
 
@@ -122,7 +125,7 @@ pub fn standing_flaws<C: Code>(
 ) -> Flaws {
     let mut flaws = Flaws::NONE;
     for function in functions_about(certificate, slot) {
-        flaws.add_if(lacks_first_label(function, slot), Cause::Misshapen);
+        flaws.add_if(lacks_first_label(function, slot), Condition::Misshapen);
         if let Some(label) = label_in(function, slot) {
             let found = label_flaws(program, certificate, function, label, room);
             flaws.add_all(&found.flaws);
@@ -141,8 +144,8 @@ pub fn start_flaws(certificate: &Index) -> Flaws {
     };
     let mut flaws = Flaws::NONE;
     let is_elsewhere = begins_elsewhere(certificate.functions());
-    flaws.add_if(is_elsewhere || is_outside, Cause::Misshapen);
-    flaws.add_if(starts_over_budget(certificate), Cause::OverBudget);
+    flaws.add_if(is_elsewhere || is_outside, Condition::Misshapen);
+    flaws.add_if(starts_over_budget(certificate), Condition::OverBudget);
     flaws
 }
 

@@ -247,16 +247,26 @@ impl Trail {
             } => self.operate(slot, op, width, dst, src),
             Insn::LoadImm64 { dst, value } => self.load_constant(slot, dst, value),
             Insn::CallLocal { off: _off } => self.forget_called(slot),
-            Insn::JumpIf { cond, .. } if is_order(cond) => {
-                for reg in insn.registers_read().into_iter().flatten() {
-                    self.test(slot, reg);
+            Insn::JumpIf { cond, .. } => {
+                if is_order(cond) {
+                    for reg in insn.registers_read().into_iter().flatten() {
+                        self.test(slot, reg);
+                    }
                 }
             }
-            _ => {
+            Insn::Neg { .. }
+            | Insn::MovSx { .. }
+            | Insn::End { .. }
+            | Insn::Load { .. }
+            | Insn::LoadSx { .. }
+            | Insn::Store { .. }
+            | Insn::StoreImm { .. }
+            | Insn::Atomic { .. } => {
                 if let Some(reg) = insn.register_written() {
                     self.set(reg, Held::of(value_at(slot, reg)));
                 }
             }
+            Insn::Ja { .. } | Insn::JaLong { .. } | Insn::Exit => {}
         }
     }
 

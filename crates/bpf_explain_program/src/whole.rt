@@ -2,11 +2,10 @@
 
 use crate::known::{Known, Name, Spelled};
 use crate::places::{PLACES, content, is_unknown, place_at, tag_at};
-use crate::sight::{Edge, Outcome, Sight};
+use crate::sight::{Outcome, Sight};
 use bpf_cert::Label;
-use bpf_check::{Here, place_of};
+use bpf_check::{Here, JudgedEdge, place_of};
 use bpf_explain_page::Tell;
-use bpf_insn::Insn;
 use bpf_state::{State, Tag};
 
 /// `, which is r6 of slot 1 - 1`
@@ -40,7 +39,7 @@ fn write_state<W: Tell>(out: &mut W, label: Option<&Label>, state: &State) {
 fn write_edge<'a, W: Tell>(
     out: &mut W,
     label: &Label,
-    edge: Edge<'a>,
+    edge: JudgedEdge<'a>,
     state: &State,
     condition: &str,
 ) {
@@ -54,15 +53,12 @@ fn write_edge<'a, W: Tell>(
 
 /// The states behind an instruction, on each of its edges.
 fn write_behind<'a, W: Tell>(out: &mut W, label: &Label, sight: &Sight<'a>) {
-    let (so, not) = match sight.insn {
-        Insn::JumpIf { .. } => (" if so", " if not"),
-        _ => ("", ""),
-    };
+    let control = sight.control();
     if let Some(edge) = sight.jump {
-        write_edge(out, label, edge, sight.jump_state(), so);
+        write_edge(out, label, edge, sight.jump_state(), control.if_so());
     }
     if let Some(edge) = sight.next {
-        write_edge(out, label, edge, sight.next_state(), not);
+        write_edge(out, label, edge, &sight.behind, control.if_not());
     }
 }
 
@@ -90,8 +86,8 @@ fn write_outcome<'a, W: Tell>(out: &mut W, label: &Label, sight: &Sight<'a>) {
 
 /// Writes an instruction, the state in front of it, and those behind it.
 pub fn write_whole<'a, W: Tell>(out: &mut W, sight: &Sight<'a>) {
-    let slot = sight.slot;
-    let text = Spelled(sight.insn);
+    let slot = sight.site.here.slot;
+    let text = Spelled(sight.site.insn);
     write!(out, "slot {slot}: {text}\n");
     match sight.here {
         Some(here) => {

@@ -10,10 +10,10 @@ mod shape;
 
 use crate::known::Name;
 use crate::sight::Sight;
-use bpf_check::{Cause, Index};
+use bpf_check::Index;
 use bpf_explain_page::Tell;
 use bpf_insn::{Code, Reg};
-use bpf_state::Place;
+use bpf_state::{Condition, Place, StateFault};
 pub use labels::{tell_function, tell_label, tell_start};
 pub use origins::{Handings, tell_handed};
 pub use shape::{Silence, tell_silence};
@@ -29,21 +29,26 @@ pub fn tell<'a, W: Tell, C: Code>(
     program: &C,
     certificate: &Index,
     sight: &Sight<'a>,
-    cause: Cause,
+    condition: Condition,
 ) {
-    match cause {
-        Cause::NoLabel => shape::tell_missing_label(out, sight),
-        Cause::UnsetRegister => kinds::tell_unknown(out, sight),
-        Cause::WrongKinds => kinds::tell_kinds(out, program, sight),
-        Cause::OutOfBounds => memory::tell_bounds(out, program, certificate, sight),
-        Cause::UnsetByte => memory::tell_unknown_bytes(out, sight),
-        Cause::Protected => memory::tell_protected(out, sight),
-        Cause::NotEntailed => edges::tell_difference(out, certificate, sight),
-        Cause::OverBudget => budget::tell_unpaid(out, sight),
-        Cause::NoDeeper => shape::tell_depth(out, certificate, sight),
-        Cause::FallsOff => shape::tell_end(out),
-        Cause::LeavesFunction => shape::tell_leaving(out, program, certificate, sight),
+    match condition {
+        Condition::NoLabel => shape::tell_missing_label(out, sight),
+        Condition::State(StateFault::UnsetRegister) => kinds::tell_unknown(out, sight),
+        Condition::State(StateFault::WrongKinds) => kinds::tell_kinds(out, program, sight),
+        Condition::State(StateFault::OutOfBounds) => memory::tell_bounds(
+            out,
+            program,
+            certificate,
+            sight,
+        ),
+        Condition::State(StateFault::UnsetByte) => memory::tell_unknown_bytes(out, sight),
+        Condition::State(StateFault::Protected) => memory::tell_protected(out, sight),
+        Condition::NotEntailed => edges::tell_difference(out, sight),
+        Condition::OverBudget => budget::tell_unpaid(out, sight),
+        Condition::NoDeeper => shape::tell_depth(out, sight),
+        Condition::FallsOff => shape::tell_end(out),
+        Condition::LeavesFunction => shape::tell_leaving(out, program, sight),
         // These aren't found at instructions.
-        Cause::MisplacedLabel | Cause::Misshapen => {}
+        Condition::MisplacedLabel | Condition::Misshapen => {}
     }
 }

@@ -8,10 +8,10 @@ ghost use Rattle.bpf_infer_error.specs.declared.error.InferError.TheVariants.{Me
 
 use crate::obstacles::{write_no_budget, write_obstacle};
 use bpf_cert::Certificate;
-use bpf_check::{Cause, Refusal, cause_of, check, jump_target};
+use bpf_check::{Refusal, check, jump_target};
 use bpf_explain_page::{Page, Tell};
 use bpf_explain_program::{
-    Shown, Spelled, source_at, tell_glimpse, tell_reason, tell_shown, tell_sketch,
+    Control, Shown, Spelled, source_at, tell_glimpse, tell_reason, tell_shown, tell_sketch,
     tell_sketched_dot, tell_unreached,
 };
 use bpf_infer::{
@@ -162,10 +162,7 @@ fn write_round<W: Tell>(out: &mut W, program: &Program, stop: &Stop, effort: Eff
 
 /// Whether an instruction leads back, or calls a function.
 fn leads_back(insn: &Insn) -> bool {
-    match *insn {
-        Insn::CallLocal { off: _off } => true,
-        _ => insn.distance().is_some_and(|off| off < 0),
-    }
+    Control::of(insn) == Control::Call || insn.distance().is_some_and(|off| off < 0)
 }
 
 /// Whether a program has a loop or calls a function: elsewhere both searches know the same.
@@ -199,15 +196,16 @@ pub fn may_be_found(program: &Program, error: InferError) -> bool {
 
 /// The flaw that the checker would name, where a refusal says so.
 fn flaw_of(error: InferError) -> Option<Refusal> {
-    let InferError::Fault { slot, condition } = error else {
-        return None;
-    };
-    let cause = match condition {
-        Condition::State(fault) => cause_of(fault),
-        Condition::FallsOff => Cause::FallsOff,
-        Condition::LeavesFunction => Cause::LeavesFunction,
-    };
-    Some(Refusal { slot, cause })
+    match error {
+        InferError::Fault { slot, condition } => Some(Refusal {
+            slot,
+            condition: condition.of_checker(),
+        }),
+        InferError::Unstable { .. }
+        | InferError::NoBudget { .. }
+        | InferError::Recursion { .. }
+        | InferError::Memory => None,
+    }
 }
 
 /// Tells what is shown of the states that a search has.

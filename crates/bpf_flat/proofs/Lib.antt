@@ -5,6 +5,5 @@ pub mod CallLemmas
 pub mod MoveLemmas
 pub mod FlowLemmas
 pub mod PlaceLemmas
-pub mod ClassLemmas
 pub mod StepLemmas
 pub mod RunLemmas

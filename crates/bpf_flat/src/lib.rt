@@ -1,7 +1,6 @@
 //! The flat machine (RFC 9669, sections 4 and 5) for programs whose runs are known to end: plain numbers, and no test that could fail.
 #![tactic(auto)]
 
-mod class;
 mod dispatch;
 mod frames;
 mod machine;

@@ -2,6 +2,7 @@
 
 ghost use Rattle.std.specs.Prelude.{◌<◌, ◌≤◌, IfOk, IfErr};
 ghost use Rattle.bpf_insn.specs.Instruction.{slots};
+ghost use Rattle.bpf_insn.specs.Limits.{max_context};
 ghost use Rattle.bpf_harden_notes.specs.RefusalNumbers.{harden_slot};
 
 use crate::judge::{Verdict, verdict_of};
@@ -86,7 +87,7 @@ fn hardened(
     length: u32,
     options: &Options,
 ) -> Result<Hardened, HardenError>
-    requires { length ≤ 4096 }
+    requires { length ≤ max_context }
 {
     let is_asked = options.padded || options.everywhere;
     if !is_asked && infer(alloc, program, length, length).is_ok() {
@@ -127,7 +128,7 @@ pub fn harden(
     length: u32,
     options: &Options,
 ) -> Result<Hardened, HardenError>
-    requires { length ≤ 4096 }
+    requires { length ≤ max_context }
     ensures slot { IfErr result (λ e. harden_slot e < slots program.now.list) }
 {
     match hardened(alloc, program, length, options) {

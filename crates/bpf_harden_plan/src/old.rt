@@ -7,7 +7,7 @@ use crate::live::Liveness;
 use crate::registers::Registers;
 use crate::uses::Uses;
 use bpf_harden_notes::HardenError;
-use bpf_infer_base::{Flow, Meter, Outline, Quest, Watch, get_or};
+use bpf_infer_base::{Cfg, Flow, Meter, Quest, Watch, get_or};
 use bpf_infer_error::InferError;
 use bpf_infer_states::{Survey, surveyed};
 use bpf_insn::{Insn, Program, Reg};
@@ -17,7 +17,7 @@ use std::alloc::{AllocError, Global};
 #[derive(Drop)]
 pub struct Old<'a> {
     pub program: &'a Program,
-    pub outline: Outline,
+    pub cfg: Cfg,
     pub survey: Survey,
     pub live: Liveness,
     /// By the functions' numbers.
@@ -48,13 +48,13 @@ impl<'a> Old<'a> {
             Ok(survey) => survey,
             Err(error) => return Err(refusal(error)),
         };
-        let outline = match Outline::of(alloc, quest.program) {
-            Ok(outline) => outline,
+        let cfg = match Cfg::of(alloc, quest.program) {
+            Ok(cfg) => cfg,
             Err(error) => return Err(refusal(error)),
         };
         let mut old = Old {
             program: quest.program,
-            outline,
+            cfg,
             survey,
             live: Liveness::of(alloc, quest.program)?,
             uses: Vec::new(alloc),
@@ -68,18 +68,18 @@ impl<'a> Old<'a> {
 
     /// How many functions there are.
     pub fn count(&self) -> usize {
-        self.outline.function_count()
+        self.cfg.function_count()
     }
 
     /// The number of the function that a slot is in.
     pub fn function(&self, slot: u32) -> usize {
-        self.outline.function_of(slot) as usize
+        self.cfg.function_of(slot) as usize
     }
 
     /// The first slot of a function; of the one after the last, how many slots there are.
     pub fn first(&self, function: usize) -> u32 {
         if function < self.count() {
-            self.outline.label(self.outline.first_block(function))
+            self.cfg.label(self.cfg.first_block(function))
         } else {
             self.program.slots()
         }
@@ -161,7 +161,7 @@ impl<'a> Old<'a> {
     pub fn following(&self, slot: u32) -> Option<u32> {
         let insn = self.kept(slot)?;
         let next = slot.saturating_add(insn.slots());
-        let is_alone = self.outline.block_of(next) == self.outline.block_of(slot);
+        let is_alone = self.cfg.block_of(next) == self.cfg.block_of(slot);
         match Flow::of(slot, insn) {
             Flow::Next if is_alone && self.kept(next).is_some() => Some(next),
             _ => None,

@@ -8,6 +8,7 @@
 #![tactic(auto)]
 
 ghost use Rattle.std.specs.Prelude.{◌≤◌, IfSome, length};
+ghost use Rattle.bpf_insn.specs.Limits.{max_context};
 
 use bpf_harden::{Options, harden};
 use bpf_insn::{MAX_CONTEXT, Order, Program, decode};
@@ -100,7 +101,7 @@ impl Pair {
 
     /// Writes what both end with on a context.
     fn tell(&self, out: &mut impl Write, context: &[u8]) -> io::Result<()>
-        requires { length context.now ≤ 4096 }
+        requires { length context.now ≤ max_context }
     {
         write!(out, " ")?;
         tell_end(out, run(&self.old, context, STEPS))?;
@@ -133,7 +134,7 @@ fn tell_refusal(out: &mut impl Write, refusal: Refusal) -> io::Result<()> {
 
 /// The bytes of a context, or none where it isn't one.
 fn context_of(alloc: Global, word: &str) -> Option<Vec<u8>>
-    ensures { IfSome result (λ context. length context.items ≤ 4096) }
+    ensures { IfSome result (λ context. length context.items ≤ max_context) }
 {
     let text = if word == "none" { "" } else { word };
     match hex::decode(alloc, text) {

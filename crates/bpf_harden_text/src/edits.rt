@@ -39,7 +39,16 @@ pub fn with_base(insn: &Insn, base: Reg, off: i16) -> Insn {
             off,
             src,
         },
-        _ => *insn,
+        Insn::Alu { .. }
+        | Insn::Neg { .. }
+        | Insn::MovSx { .. }
+        | Insn::End { .. }
+        | Insn::LoadImm64 { .. }
+        | Insn::Ja { .. }
+        | Insn::JaLong { .. }
+        | Insn::JumpIf { .. }
+        | Insn::CallLocal { .. }
+        | Insn::Exit => *insn,
     }
 }
 
@@ -47,7 +56,19 @@ pub fn with_base(insn: &Insn, base: Reg, off: i16) -> Insn {
 pub fn loaded(insn: &Insn) -> Option<Reg> {
     match *insn {
         Insn::Load { dst, .. } | Insn::LoadSx { dst, .. } => Some(dst),
-        _ => None,
+        Insn::Alu { .. }
+        | Insn::Neg { .. }
+        | Insn::MovSx { .. }
+        | Insn::End { .. }
+        | Insn::LoadImm64 { .. }
+        | Insn::Store { .. }
+        | Insn::StoreImm { .. }
+        | Insn::Atomic { .. }
+        | Insn::Ja { .. }
+        | Insn::JaLong { .. }
+        | Insn::JumpIf { .. }
+        | Insn::CallLocal { .. }
+        | Insn::Exit => None,
     }
 }
 
@@ -60,7 +81,20 @@ pub fn widened(insn: &Insn) -> Insn {
             dst,
             src,
         },
-        _ => *insn,
+        Insn::Neg { .. }
+        | Insn::MovSx { .. }
+        | Insn::End { .. }
+        | Insn::LoadImm64 { .. }
+        | Insn::Load { .. }
+        | Insn::LoadSx { .. }
+        | Insn::Store { .. }
+        | Insn::StoreImm { .. }
+        | Insn::Atomic { .. }
+        | Insn::Ja { .. }
+        | Insn::JaLong { .. }
+        | Insn::JumpIf { .. }
+        | Insn::CallLocal { .. }
+        | Insn::Exit => *insn,
     }
 }
 
@@ -77,7 +111,18 @@ pub fn takes_frame_pointer(insn: &Insn) -> bool {
     match *insn {
         Insn::Alu { src, .. } | Insn::JumpIf { src, .. } => src == Operand::Reg(Reg::R10),
         Insn::Store { src, .. } => src == Reg::R10,
-        _ => false,
+        Insn::Neg { .. }
+        | Insn::MovSx { .. }
+        | Insn::End { .. }
+        | Insn::LoadImm64 { .. }
+        | Insn::Load { .. }
+        | Insn::LoadSx { .. }
+        | Insn::StoreImm { .. }
+        | Insn::Atomic { .. }
+        | Insn::Ja { .. }
+        | Insn::JaLong { .. }
+        | Insn::CallLocal { .. }
+        | Insn::Exit => false,
     }
 }
 
@@ -119,6 +164,18 @@ pub fn with_offset(insn: &Insn) -> Insn {
             off,
             imm: FRAME_END,
         },
-        _ => *insn,
+        Insn::Neg { .. }
+        | Insn::MovSx { .. }
+        | Insn::End { .. }
+        | Insn::LoadImm64 { .. }
+        | Insn::Load { .. }
+        | Insn::LoadSx { .. }
+        | Insn::Store { .. }
+        | Insn::StoreImm { .. }
+        | Insn::Atomic { .. }
+        | Insn::Ja { .. }
+        | Insn::JaLong { .. }
+        | Insn::CallLocal { .. }
+        | Insn::Exit => *insn,
     }
 }

@@ -45,7 +45,7 @@ impl<'a> Writer<'a> {
 
     /// Puts what stands in the place of an old instruction.
     fn put_slot(&mut self, slot: u32, insn: &Insn) -> Result<(), HardenError> {
-        if self.old.outline.label(self.old.outline.block_of(slot)) == slot {
+        if self.old.cfg.label(self.old.cfg.block_of(slot)) == slot {
             self.made = None;
         }
         if let Some(counter) = self.rooms.counter(slot) {

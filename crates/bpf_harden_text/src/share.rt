@@ -159,6 +159,18 @@ pub fn stores(insn: &Insn, r: Reg) -> bool {
     match *insn {
         Insn::Store { src, .. } => src == r,
         Insn::Atomic { src, .. } => src == r || r == Reg::R0,
-        _ => false,
+        Insn::Alu { .. }
+        | Insn::Neg { .. }
+        | Insn::MovSx { .. }
+        | Insn::End { .. }
+        | Insn::LoadImm64 { .. }
+        | Insn::Load { .. }
+        | Insn::LoadSx { .. }
+        | Insn::StoreImm { .. }
+        | Insn::Ja { .. }
+        | Insn::JaLong { .. }
+        | Insn::JumpIf { .. }
+        | Insn::CallLocal { .. }
+        | Insn::Exit => false,
     }
 }

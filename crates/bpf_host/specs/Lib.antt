@@ -3,3 +3,4 @@ pub mod Told
 pub mod Answers
 pub mod Prepared
 pub mod Loaded
+pub mod Explained

@@ -3,7 +3,7 @@ use Rattle.std.specs.Prelude.{◌≡◌, ◌≤◌, ◌<◌, ◌^◌, ◌+◌, �
 use Rattle.byteorder.specs.Endian.{little_number}
 use Rattle.bpf_insn.specs.declared.order.Order.{Order}
 use Rattle.bpf_check.specs.Verdicts.{Verified}
-use Rattle.bpf_host.specs.Prepared.{IsPrepared}
+use Rattle.bpf_host.specs.Prepared.{IsPrepared, IsMarked}
 use Rattle.bpf_host.specs.Answers.{EndsOn}
 
 -- the numbers of a handle, each of eight bytes: how many bytes a context has at least and at most, and how many instructions a run takes
@@ -27,6 +27,10 @@ pub record IsLoaded (order : Order) (image : List ℕ) (least most bound : ℕ) 
   pub fits : 40 + length image ≤ length memory
   pub numbers : HasRange least most bound memory
   pub is_prepared : IsPrepared order image (drop 24 memory)
+
+-- this version's mark stands in a handle
+abbrev pub IsMarkedHandle : List ℕ → Type 0
+IsMarkedHandle memory = IsMarked (drop 24 memory)
 
 -- What the caller's duty is: memory is as a load left it, so its numbers are those of a verdict on its image.
 pub record HoldsLoaded (memory : List ℕ) : Type 0 where

@@ -1,5 +1,8 @@
 -- What the refusals and faults say, by their numbers: the texts of the crates' own errors, without the slot or the line, which stand apart.
 use Rattle.std.specs.Prelude.{◌==◌, if◌then◌else◌, ℕ, zero, suc, List, [], ◌∷◌, codes}
+use Rattle.bpf_state.specs.declared.fault.StateFault.TheVariants.{UnsetRegister, WrongKinds, OutOfBounds, UnsetByte, Protected}
+use Rattle.bpf_state.specs.declared.condition.Condition.TheVariants.{NoLabel, MisplacedLabel, State, NotEntailed, OverBudget, NoDeeper, FallsOff, LeavesFunction, Misshapen}
+use Rattle.bpf_state.specs.Condition.{condition_text}
 
 -- E1 to E10: an image
 abbrev pub image_texts : List (List ℕ)
@@ -29,19 +32,19 @@ certificate_texts =
 -- C1 to C13: a program by its certificate
 abbrev pub check_texts : List (List ℕ)
 check_texts =
-    codes "no label stands at the jump's target" ∷
-    codes "the label is at no instruction's first slot" ∷
-    codes "a register is read that may be uninitialised" ∷
-    codes "the kinds of operands or slots are wrong" ∷
-    codes "an access or a pointer may leave its bounds" ∷
-    codes "a stack byte is read that may be uninitialised" ∷
-    codes "the context or r10 is written" ∷
-    codes "a state doesn't entail what is claimed where it leads to" ∷
-    codes "the budget doesn't cover the cost" ∷
-    codes "the callee's depth isn't below its caller's" ∷
-    codes "the program's end can be passed, or nothing leads here" ∷
-    codes "the function is left otherwise than by an exit" ∷
-    codes "the functions and labels don't fit, or the start doesn't" ∷
+    condition_text NoLabel ∷
+    condition_text MisplacedLabel ∷
+    condition_text (State UnsetRegister) ∷
+    condition_text (State WrongKinds) ∷
+    condition_text (State OutOfBounds) ∷
+    condition_text (State UnsetByte) ∷
+    condition_text (State Protected) ∷
+    condition_text NotEntailed ∷
+    condition_text OverBudget ∷
+    condition_text NoDeeper ∷
+    condition_text FallsOff ∷
+    condition_text LeavesFunction ∷
+    condition_text Misshapen ∷
     []
 
 -- I1 to I5: an inference

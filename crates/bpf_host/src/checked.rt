@@ -1,6 +1,8 @@
 //! Runs of prepared programs.
 
+ghost use Rattle.std.specs.Prelude.{◌≤◌, ◌↔◌, IsSome, IfSome, length};
 ghost use Rattle.bpf_host.specs.Answers.{IsVerifiedFor, MayRun, EndsAsVerified, EndsAsPrepared};
+ghost use Rattle.bpf_host.specs.Prepared.{IsMarked};
 ghost use Rattle.bpf_host.specs.Told.{order_named};
 
 use crate::ordered::Ordered;
@@ -32,11 +34,13 @@ fn end_of_image(image: &[u8], order: Order, context: &[u8]) -> u64
     }
 }
 
-/// The number with which a prepared program ends on a context.
-pub(crate) fn end_of(memory: &[u8], context: &[u8]) -> u64
-    requires { MayRun memory.now context.now }
-    ensures { EndsAsPrepared memory.now context.now result }
+/// The number with which a prepared program ends on a context; None where another version prepared it.
+pub(crate) fn end_of(memory: &[u8], context: &[u8]) -> Option<u64>
+    requires head { 16 ≤ length memory.now }
+    requires may { IsMarked memory.now → MayRun memory.now context.now }
+    ensures ends { IfSome result (EndsAsPrepared memory.now context.now) }
+    ensures known { IsSome result ↔ IsMarked memory.now }
 {
-    let found = found_in(memory);
-    end_of_image(found.image, found.order, context)
+    let found = found_in(memory)?;
+    Some(end_of_image(found.image, found.order, context))
 }

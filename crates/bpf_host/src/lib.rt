@@ -9,12 +9,14 @@ ghost use Rattle.bpf_cert.specs.View.{CertificateView};
 ghost use Rattle.bpf_check.specs.Verdicts.{Verified, Promises, Certifies};
 ghost use Rattle.bpf_host.specs.Texts.{refusal_text};
 ghost use Rattle.bpf_host.specs.Told.{order_named, IsNumbered};
-ghost use Rattle.bpf_host.specs.Prepared.{IsPrepared};
-ghost use Rattle.bpf_host.specs.Loaded.{IsLoaded, HoldsLoaded, EndsAsLoaded, loaded_least, loaded_most};
+ghost use Rattle.bpf_host.specs.Prepared.{IsPrepared, IsMarked, version};
+ghost use Rattle.bpf_host.specs.Loaded.{IsLoaded, IsMarkedHandle, HoldsLoaded, EndsAsLoaded, loaded_least, loaded_most};
 ghost use Rattle.bpf_host.specs.Answers.{IsRefusedAsTold, IsNoImage, RanImage, IsUnrun, MayRun, EndsAsPrepared, GivesProposal, WantsRoom, IsNotProposed, GivesImage, WantsImageRoom, IsNotHardened};
 
 mod answers;
 mod checked;
+mod explaining;
+mod explanation;
 mod hardening;
 mod loaded;
 mod ordered;
@@ -31,6 +33,7 @@ use bpf_check::verify;
 use bpf_harden::Options;
 use bpf_insn::{MAX_CONTEXT, MAX_IMAGE, ProgramView};
 use checked::end_of;
+pub use explaining::{bpf_host_explain, bpf_host_explain_image, bpf_host_explain_search};
 use hardening::{Unhardened, hardened};
 use loaded::{end_of_loaded, handle_size, has_handle_room, put_loaded, takes};
 use prepared::{has_room, put, size_for};
@@ -45,7 +48,7 @@ const VERSION: u32 = 100;
 /// The library's version as one number: 10,000 times its first part, 100 times its second, and its third, together.
 #[unsafe(no_mangle)]
 pub extern "C" fn bpf_host_version() -> u32
-    ensures { result ≡ 100 }
+    ensures { result ≡ version }
 {
     VERSION
 }
@@ -168,15 +171,21 @@ pub extern "C" fn bpf_host_prepare(image: &[u8], order: u32, memory: &mut [u8]) 
     DONE
 }
 
-/// Runs a prepared program whose image `bpf_host_verify` says yes to, on a context of a length within that verdict: it ends
-/// with `value`, within the bound, and the answer is 1. It takes no memory.
+/// Runs a prepared program whose image `bpf_host_verify` says yes to, on a context of a length within that verdict. 1: it ended
+/// with `value`, within the bound. -2: another version prepared it, and `value` stays as it was. It takes no memory.
 #[unsafe(no_mangle)]
 pub extern "C" fn bpf_host_run_checked(memory: &[u8], context: &[u8], value: &mut u64) -> i32
-    requires { MayRun memory.now context.now }
-    ensures always { result ≡ pos 1 }
-    ensures ends { EndsAsPrepared memory.now context.now value.new }
+    requires head { 16 ≤ length memory.now }
+    requires may { IsMarked memory.now → MayRun memory.now context.now }
+    ensures ends { result ≡ pos 1 → EndsAsPrepared memory.now context.now value.new }
+    ensures runs { (result ≡ pos 1) ↔ IsMarked memory.now }
+    ensures answers { (result ≡ pos 1) ⊎ (result ≡ negsuc 1) }
+    ensures kept { (result ≡ pos 1) ⊎ (value.new ≡ value.old) }
 {
-    *value = end_of(memory, context);
+    let Some(end) = end_of(memory, context) else {
+        return BAD_CALL;
+    };
+    *value = end;
     DONE
 }
 
@@ -214,6 +223,8 @@ pub extern "C" fn bpf_host_load(
     ensures paid { result ≡ pos 1 → verdict.new.bound ≤ limit }
     ensures long { result ≡ negsuc 3 → limit < verdict.new.bound }
     ensures no { result ≡ pos 0 → IsRefusedAsTold (order_named order) image.now certificate.now refusal.new }
+    ensures accepts { (c : CertificateView) → order ≤ 1 → length memory.old ≡ 40 + length image.now → Certifies (order_named order) image.now certificate.now c → c.steps ≤ limit → ((result ≡ pos 1) × (verdict.new.least ≡ c.least) × (verdict.new.most ≡ c.most) × (verdict.new.bound ≡ c.steps)) ⊎ (result ≡ negsuc 0) }
+    ensures unpaid { (c : CertificateView) → order ≤ 1 → length memory.old ≡ 40 + length image.now → Certifies (order_named order) image.now certificate.now c → limit < c.steps → ((result ≡ negsuc 3) × (verdict.new.least ≡ c.least) × (verdict.new.most ≡ c.most) × (verdict.new.bound ≡ c.steps)) ⊎ (result ≡ negsuc 0) }
     ensures memory { result ≡ negsuc 0 → (is : List Instruction) × IsImageOfProgram (order_named order) image.now is }
     ensures call { (result ≡ negsuc 1) ↔ (1 < order) }
     ensures small { result ≡ negsuc 2 → length memory.old ≢ 40 + length image.now }
@@ -246,20 +257,24 @@ pub extern "C" fn bpf_host_load(
     DONE
 }
 
-/// Runs the program of a handle that `bpf_host_load` wrote. 1: it ended with `value`, within the handle's bound. -2: the
-/// context's length is out of the handle's range, and `value` stays as it was. It takes no memory.
+/// Runs the program of a handle that `bpf_host_load` wrote. 1: it ended with `value`, within the handle's bound. -2: another
+/// version wrote it, or the context's length is out of the handle's range; `value` stays as it was. It takes no memory.
 #[unsafe(no_mangle)]
 pub extern "C" fn bpf_host_run_loaded(memory: &[u8], context: &[u8], value: &mut u64) -> i32
-    requires { HoldsLoaded memory.now }
+    requires head { 40 ≤ length memory.now }
+    requires holds { IsMarkedHandle memory.now → HoldsLoaded memory.now }
     ensures ends { result ≡ pos 1 → EndsAsLoaded memory.now context.now value.new }
-    ensures call { (result ≡ negsuc 1) ↔ ((length context.now < loaded_least memory.now) ⊎ (loaded_most memory.now < length context.now)) }
+    ensures runs { (result ≡ pos 1) ↔ (IsMarkedHandle memory.now × (loaded_least memory.now ≤ length context.now) × (length context.now ≤ loaded_most memory.now)) }
     ensures answers { (result ≡ pos 1) ⊎ (result ≡ negsuc 1) }
     ensures kept { (result ≡ pos 1) ⊎ (value.new ≡ value.old) }
 {
     if !takes(memory, context.len()) {
         return BAD_CALL;
     }
-    *value = end_of_loaded(memory, context);
+    let Some(number) = end_of_loaded(memory, context) else {
+        return BAD_CALL;
+    };
+    *value = number;
     DONE
 }
 

@@ -1,8 +1,8 @@
 //! Handles: a verdict's numbers in front of the prepared program that it is about, in memory that the caller gives.
 
-ghost use Rattle.std.specs.Prelude.{◌≡◌, ◌≤◌, ◌+◌, ◌↔◌, IsTrue, length, drop};
+ghost use Rattle.std.specs.Prelude.{◌≡◌, ◌≤◌, ◌+◌, ◌↔◌, IsTrue, IsSome, IfSome, length, drop};
 ghost use Rattle.bpf_host.specs.Answers.{MayRun, EndsAsPrepared};
-ghost use Rattle.bpf_host.specs.Loaded.{IsLoaded, HasRange, loaded_least, loaded_most};
+ghost use Rattle.bpf_host.specs.Loaded.{IsLoaded, IsMarkedHandle, HasRange, loaded_least, loaded_most};
 
 use crate::answers::BpfVerdict;
 use crate::checked::end_of;
@@ -60,11 +60,12 @@ pub(crate) fn takes(memory: &[u8], len: usize) -> bool
     LittleEndian::read_u64(memory) <= len && len <= LittleEndian::read_u64(&memory[8..])
 }
 
-/// The number with which the program of a handle ends on a context.
-pub(crate) fn end_of_loaded(memory: &[u8], context: &[u8]) -> u64
-    requires long { 24 ≤ length memory.now }
-    requires may { MayRun (drop 24 memory.now) context.now }
-    ensures { EndsAsPrepared (drop 24 memory.now) context.now result }
+/// The number with which the program of a handle ends on a context; None where another version wrote the handle.
+pub(crate) fn end_of_loaded(memory: &[u8], context: &[u8]) -> Option<u64>
+    requires head { 40 ≤ length memory.now }
+    requires may { IsMarkedHandle memory.now → MayRun (drop 24 memory.now) context.now }
+    ensures ends { IfSome result (EndsAsPrepared (drop 24 memory.now) context.now) }
+    ensures known { IsSome result ↔ IsMarkedHandle memory.now }
 {
     end_of(&memory[RANGE..], context)
 }

@@ -4,6 +4,8 @@ ghost use Rattle.std.specs.Prelude.{◌≡◌, ◌<◌, ◌≤◌, ◌↔◌, �
 ghost use Rattle.bpf_host.specs.Texts.{text_in, image_texts, certificate_texts, check_texts, inference_texts, hardening_texts, fault_texts, refusal_text};
 ghost use Rattle.bpf_host.specs.Told.{IsNumbered};
 
+use bpf_state::Condition;
+
 /// E: an image.
 fn of_image(number: u32) -> Option<&'static [u8]>
     ensures numbered { IsSome result ↔ ((1 ≤ number) × (number ≤ 10)) }
@@ -47,21 +49,9 @@ fn of_check(number: u32) -> Option<&'static [u8]>
     ensures said { IfSome result (λ words. 0 < length words.now) }
     ensures words { MatchOption result (text_in check_texts number ≡ []) (λ words. words.now ≡ text_in check_texts number) }
 {
-    match number {
-        1 => Some(b"no label stands at the jump's target"),
-        2 => Some(b"the label is at no instruction's first slot"),
-        3 => Some(b"a register is read that may be uninitialised"),
-        4 => Some(b"the kinds of operands or slots are wrong"),
-        5 => Some(b"an access or a pointer may leave its bounds"),
-        6 => Some(b"a stack byte is read that may be uninitialised"),
-        7 => Some(b"the context or r10 is written"),
-        8 => Some(b"a state doesn't entail what is claimed where it leads to"),
-        9 => Some(b"the budget doesn't cover the cost"),
-        10 => Some(b"the callee's depth isn't below its caller's"),
-        11 => Some(b"the program's end can be passed, or nothing leads here"),
-        12 => Some(b"the function is left otherwise than by an exit"),
-        13 => Some(b"the functions and labels don't fit, or the start doesn't"),
-        _ => None,
+    match Condition::numbered(number) {
+        Some(condition) => Some(condition.text().as_bytes()),
+        None => None,
     }
 }
 

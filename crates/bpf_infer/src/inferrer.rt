@@ -2,6 +2,7 @@
 
 ghost use Rattle.std.specs.Prelude.{◌≡◌, ◌<◌, ◌≤◌, IfOk, IfErr};
 ghost use Rattle.bpf_insn.specs.Instruction.{slots};
+ghost use Rattle.bpf_insn.specs.Limits.{max_context};
 ghost use Rattle.bpf_infer_error.specs.RefusalNumbers.{infer_slot};
 ghost use Rattle.bpf_cert.specs.Limits.{IsCertificate};
 
@@ -42,7 +43,7 @@ pub fn infer(
     most: u32,
 ) -> Result<Certificate, InferError>
     requires order { least ≤ most }
-    requires short { most ≤ 4096 }
+    requires short { most ≤ max_context }
     ensures version { IfOk result (λ c. c.version ≡ 2) }
     ensures least { IfOk result (λ c. c.least ≡ least) }
     ensures most { IfOk result (λ c. c.most ≡ most) }
@@ -91,7 +92,7 @@ pub fn search_or_stop<W: Watch>(
     watch: &mut W,
 ) -> Result<Certificate, Stop>
     requires order { least ≤ most }
-    requires short { most ≤ 4096 }
+    requires short { most ≤ max_context }
     ensures version { IfOk result (λ c. c.version ≡ 2) }
     ensures least { IfOk result (λ c. c.least ≡ least) }
     ensures most { IfOk result (λ c. c.most ≡ most) }
@@ -136,7 +137,7 @@ pub fn search<W: Watch>(
     watch: &mut W,
 ) -> Result<Certificate, InferError>
     requires order { least ≤ most }
-    requires short { most ≤ 4096 }
+    requires short { most ≤ max_context }
     ensures version { IfOk result (λ c. c.version ≡ 2) }
     ensures least { IfOk result (λ c. c.least ≡ least) }
     ensures most { IfOk result (λ c. c.most ≡ most) }

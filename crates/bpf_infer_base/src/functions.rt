@@ -1,9 +1,9 @@
 //! The call graph of a program: how deep its calls go, and whether one leads back.
 
+use crate::cfg::Cfg;
 use crate::flow::Flow;
 use crate::graph::{Arc, Components, Graph};
 use crate::lists::get_or;
-use crate::outline::Outline;
 use bpf_cert::{MAX_DEPTH, MAX_FUNCTIONS};
 use bpf_infer_error::{Condition, InferError};
 use bpf_insn::{Insn, Program};
@@ -23,7 +23,7 @@ impl Call {
         Arc {
             from: self.caller as usize,
             to: self.callee as usize,
-            way: 0,
+            path: 0,
         }
     }
 }
@@ -32,15 +32,15 @@ impl Call {
 pub type Depths = [u32; MAX_FUNCTIONS];
 
 /// The calls of a program, by their slots.
-fn calls_of(alloc: Global, program: &Program, outline: &Outline) -> Result<Vec<Call>, AllocError> {
+fn calls_of(alloc: Global, program: &Program, cfg: &Cfg) -> Result<Vec<Call>, AllocError> {
     let mut calls = Vec::new(alloc);
     for slot in 0..program.slots() {
         if let Some(insn) = program.at(slot) {
             if let Flow::Call(target) = Flow::of(slot, insn) {
                 calls.push(Call {
                     slot,
-                    caller: outline.function_of(slot),
-                    callee: outline.function_of(target),
+                    caller: cfg.function_of(slot),
+                    callee: cfg.function_of(target),
                 })?;
             }
         }
@@ -51,21 +51,17 @@ fn calls_of(alloc: Global, program: &Program, outline: &Outline) -> Result<Vec<C
 // ---- recursion
 
 /// The functions and the calls between them. Calls rise by their slots, and so by the functions that they stand in.
-fn graph_of(alloc: Global, outline: &Outline, calls: &[Call]) -> Result<Graph, AllocError> {
+fn graph_of(alloc: Global, cfg: &Cfg, calls: &[Call]) -> Result<Graph, AllocError> {
     let mut arcs = Vec::with_capacity(alloc, calls.len())?;
     for call in calls {
         arcs.push(call.arc())?;
     }
-    Graph::of(alloc, outline.function_count(), arcs)
+    Graph::of(alloc, cfg.function_count(), arcs)
 }
 
 /// The slot of the lowest call that leads back to its function: one within a component.
-fn first_recursion(
-    alloc: Global,
-    outline: &Outline,
-    calls: &[Call],
-) -> Result<Option<u32>, AllocError> {
-    let components = Components::of(alloc, &graph_of(alloc, outline, calls)?)?;
+fn first_recursion(alloc: Global, cfg: &Cfg, calls: &[Call]) -> Result<Option<u32>, AllocError> {
+    let components = Components::of(alloc, &graph_of(alloc, cfg, calls)?)?;
     for call in calls {
         if components.contains(&call.arc()) {
             return Ok(Some(call.slot));
@@ -86,10 +82,10 @@ fn deepen(depths: &mut Depths, calls: &[Call]) {
 }
 
 /// The first slot of the lowest function that is too deep.
-fn first_too_deep(depths: &Depths, outline: &Outline) -> Option<u32> {
-    for function in 0..outline.function_count() {
+fn first_too_deep(depths: &Depths, cfg: &Cfg) -> Option<u32> {
+    for function in 0..cfg.function_count() {
         if get_or(depths, function, 0) > MAX_DEPTH {
-            return Some(outline.label(outline.first_block(function)));
+            return Some(cfg.label(cfg.first_block(function)));
         }
     }
     None
@@ -97,39 +93,35 @@ fn first_too_deep(depths: &Depths, outline: &Outline) -> Option<u32> {
 
 /// The depth of each function: 1 plus the greatest depth of those that it calls. I3 at the lowest call of a recursion;
 /// I2 at the first slot of the lowest function with a depth above 8.
-fn depths_by_calls(
-    alloc: Global,
-    program: &Program,
-    outline: &Outline,
-) -> Result<Depths, InferError> {
-    let calls = calls_of(alloc, program, outline)?;
+fn depths_by_calls(alloc: Global, program: &Program, cfg: &Cfg) -> Result<Depths, InferError> {
+    let calls = calls_of(alloc, program, cfg)?;
     let mut depths = [1; MAX_FUNCTIONS];
     for _ in 0..MAX_DEPTH {
         deepen(&mut depths, &calls);
     }
-    let Some(slot) = first_too_deep(&depths, outline) else {
+    let Some(slot) = first_too_deep(&depths, cfg) else {
         return Ok(depths);
     };
-    match first_recursion(alloc, outline, &calls)? {
+    match first_recursion(alloc, cfg, &calls)? {
         Some(slot) => Err(InferError::Recursion { slot }),
         None => Err(InferError::NoBudget { slot }),
     }
 }
 
 /// Whether the instruction at a slot jumps out of its function, or goes on into the next one.
-fn leaves_function(program: &Program, outline: &Outline, slot: u32, insn: &Insn) -> bool {
-    let function = outline.function_of(slot);
+fn leaves_function(program: &Program, cfg: &Cfg, slot: u32, insn: &Insn) -> bool {
+    let function = cfg.function_of(slot);
     let target = Flow::of(slot, insn).jump().unwrap_or(slot);
     let next = slot.saturating_add(insn.slots());
     let goes_on = insn.goes_on() && next < program.slots();
-    outline.function_of(target) != function || goes_on && outline.function_of(next) != function
+    cfg.function_of(target) != function || goes_on && cfg.function_of(next) != function
 }
 
 /// I4 (C12) at the lowest instruction that jumps out of its function, or goes on into the next one.
-fn check_bounds(program: &Program, outline: &Outline) -> Result<(), InferError> {
+fn check_bounds(program: &Program, cfg: &Cfg) -> Result<(), InferError> {
     for slot in 0..program.slots() {
         if let Some(insn) = program.at(slot) {
-            if leaves_function(program, outline, slot, insn) {
+            if leaves_function(program, cfg, slot, insn) {
                 return Err(InferError::Fault {
                     slot,
                     condition: Condition::LeavesFunction,
@@ -142,12 +134,8 @@ fn check_bounds(program: &Program, outline: &Outline) -> Result<(), InferError> 
 
 /// The depth of each function of a program whose jumps stay in their functions. I3 at the lowest call of a recursion; I2 at
 /// the first slot of the lowest function with a depth above 8; I4 (C12) at the lowest instruction that leaves its function.
-pub fn depths_of(
-    alloc: Global,
-    program: &Program,
-    outline: &Outline,
-) -> Result<Depths, InferError> {
-    let depths = depths_by_calls(alloc, program, outline)?;
-    check_bounds(program, outline)?;
+pub fn depths_of(alloc: Global, program: &Program, cfg: &Cfg) -> Result<Depths, InferError> {
+    let depths = depths_by_calls(alloc, program, cfg)?;
+    check_bounds(program, cfg)?;
     Ok(depths)
 }

@@ -4,12 +4,12 @@ use crate::component_search::ComponentSearch;
 use crate::lists::{get_or, put};
 use std::alloc::{AllocError, Global};
 
-/// An edge between two nodes, with the number of the way that it stands for.
+/// An edge between two nodes, with the number of the path that it stands for.
 #[derive(Clone, Copy)]
 pub struct Arc {
     pub from: usize,
     pub to: usize,
-    pub way: usize,
+    pub path: usize,
 }
 
 /// The number at an index of a list, 0 past its end.
@@ -54,7 +54,7 @@ fn turned(alloc: Global, arcs: &[Arc]) -> Result<Vec<Arc>, AllocError> {
         others.push(Arc {
             from: arc.to,
             to: arc.from,
-            way: arc.way,
+            path: arc.path,
         })?;
     }
     Ok(others)
@@ -117,7 +117,7 @@ impl Graph {
         Graph::of(alloc, self.count, arcs)
     }
 
-    /// Which nodes a node leads to, itself where it lies on a cycle, on ways that meet no barred node. A barred node counts
+    /// Which nodes a node leads to, itself where it lies on a cycle, on paths that meet no barred node. A barred node counts
     /// as one of them.
     pub fn reached(
         &self,
@@ -134,7 +134,7 @@ impl Graph {
         Ok(growth.is_met)
     }
 
-    /// Arcs that lead from all nodes with a way to node 0 towards it: each leads to node 0 or to where one before it leaves.
+    /// Arcs that lead from all nodes with a path to node 0 towards it: each leads to node 0 or to where one before it leaves.
     pub fn tree_to_first(&self, alloc: Global) -> Result<Vec<Arc>, AllocError> {
         let reversed = self.reversed(alloc)?;
         reversed.turned_tree(alloc)
@@ -291,7 +291,7 @@ pub fn nodes_on_cycles(alloc: Global, graph: &Graph) -> Result<usize, AllocError
     Ok(count)
 }
 
-// ---- longest ways
+// ---- longest paths
 
 /// Raises what stands at the nodes to what the arcs from them give: their lengths and what stands at their ends. Whether
 /// anything rose.
@@ -309,9 +309,9 @@ fn raise(graph: &Graph, lengths: &[i128], heights: &mut Vec<i128>) -> bool {
     has_risen
 }
 
-/// The length of the longest way from each node, with the heights at which ways may end, by the lengths of the arcs; None
+/// The length of the longest path from each node, with the heights at which paths may end, by the lengths of the arcs; None
 /// if that isn't found in so many passes, as where a cycle has a length above 0.
-pub fn longest_ways(
+pub fn longest_paths(
     graph: &Graph,
     lengths: &[i128],
     mut heights: Vec<i128>,

@@ -3,6 +3,7 @@
 //! safe and to end.
 #![tactic(auto)]
 
+mod cfg;
 mod component_search;
 mod counter;
 mod edges;
@@ -14,7 +15,6 @@ mod lines;
 mod lists;
 mod losses;
 mod meter;
-mod outline;
 mod places;
 mod proposal;
 mod quest;
@@ -22,18 +22,18 @@ mod sketch;
 mod watch;
 mod widen;
 
+pub use cfg::Cfg;
 pub use component_search::ComponentSearch;
 pub use counter::Counter;
 pub use edges::{Edges, Stretch, Target, transfer_or_refuse};
 pub use flow::Flow;
 pub use functions::{Depths, depths_of};
-pub use graph::{Arc, Components, Graph, longest_ways, nodes_on_cycles, number_in};
+pub use graph::{Arc, Components, Graph, longest_paths, nodes_on_cycles, number_in};
 pub use joins::{join, join_register, join_slots};
 pub use lines::{Line, Span};
 pub use lists::{get_or, put, vacant};
 pub use losses::{Losses, Tracker};
 pub use meter::{DEEP_WORK, LABEL_WORK, MOST_ENTRIES, Meter, PLAIN_WORK, edge_work};
-pub use outline::Outline;
 pub use places::{
     PLACES, REGISTERS, number_at, number_said, place, places_known, pointer_said, tag_own,
 };

@@ -13,7 +13,7 @@ struct Settling {
     /// By components.
     nodes: Vec<usize>,
     components: Components,
-    /// By ways, what the base at the start has to pay beside the one at the end.
+    /// By paths, what the base at the start has to pay beside the one at the end.
     lengths: Vec<i128>,
     /// Whether labels outside loops take over terms of those behind them.
     lifts: bool,
@@ -25,12 +25,12 @@ impl Settling {
         number_in(&self.nodes, index)
     }
 
-    /// What the ways from a label have to be paid with.
+    /// What the paths from a label have to be paid with.
     fn base_of(&self, plan: &Plan, label: usize) -> i128 {
         let mut base = 0i128;
-        for number in plan.ways.first(label)..plan.ways.first(label.saturating_add(1)) {
-            if let Some(way) = plan.ways.at(number) {
-                let behind = match way.to {
+        for number in plan.paths.first(label)..plan.paths.first(label.saturating_add(1)) {
+            if let Some(path) = plan.paths.at(number) {
+                let behind = match path.to {
                     Some(to) => plan.base(to),
                     None => 0,
                 };
@@ -41,23 +41,23 @@ impl Settling {
         base
     }
 
-    /// Measures the ways from a label.
+    /// Measures the paths from a label.
     fn measure(&mut self, plan: &Plan, label: usize) {
-        for number in plan.ways.first(label)..plan.ways.first(label.saturating_add(1)) {
-            if let Some(way) = plan.ways.at(number) {
-                put(&mut self.lengths, number, plan.length(way));
+        for number in plan.paths.first(label)..plan.paths.first(label.saturating_add(1)) {
+            if let Some(path) = plan.paths.at(number) {
+                put(&mut self.lengths, number, plan.length(path));
             }
         }
     }
 
-    /// Measures the ways from the labels of a component.
+    /// Measures the paths from the labels of a component.
     fn measure_all(&mut self, plan: &Plan, start: usize, end: usize) {
         for index in start..end {
             self.measure(plan, self.node(index));
         }
     }
 
-    /// Raises the bases of a component to what its ways ask for. Whether any rose.
+    /// Raises the bases of a component to what its paths ask for. Whether any rose.
     fn pass(&self, plan: &mut Plan, start: usize, end: usize) -> bool {
         let mut has_risen = false;
         for index in start..end {
@@ -177,11 +177,11 @@ fn take_in(plan: &Plan, parts: &mut Parts, taken: Part) {
     }
 }
 
-/// Takes in the terms at the end of a way, at the places where they come from.
+/// Takes in the terms at the end of a path, at the places where they come from.
 fn take_all(plan: &Plan, number: usize, to: usize, label: usize, parts: &mut Parts) {
     for part in plan.parts(to) {
         if let Some(part) = part {
-            if let Some(Tag { term, .. }) = plan.ways.source(number, part.counter.number()) {
+            if let Some(Tag { term, .. }) = plan.paths.source(number, part.counter.number()) {
                 let counter = counter_in(part.counter, term as usize);
                 if is_countable(plan, label, counter) {
                     take_in(
@@ -201,9 +201,9 @@ fn take_all(plan: &Plan, number: usize, to: usize, label: usize, parts: &mut Par
 /// The terms of the labels behind a label, at the places where they come from.
 fn lifted_to(plan: &Plan, label: usize) -> Parts {
     let mut parts = [None; MAX_TERMS];
-    for number in plan.ways.first(label)..plan.ways.first(label.saturating_add(1)) {
-        if let Some(way) = plan.ways.at(number) {
-            if let Some(to) = way.to {
+    for number in plan.paths.first(label)..plan.paths.first(label.saturating_add(1)) {
+        if let Some(path) = plan.paths.at(number) {
+            if let Some(to) = path.to {
                 take_all(plan, number, to, label, &mut parts);
             }
         }
@@ -222,7 +222,7 @@ pub fn settle_bases(
     let mut settling = Settling {
         nodes: components.nodes(alloc)?,
         components,
-        lengths: vec![in alloc; 0; plan.ways.count()]?,
+        lengths: vec![in alloc; 0; plan.paths.count()]?,
         lifts,
     };
     settling.settle_all(plan)

@@ -1,16 +1,16 @@
-//! What may count the rounds of a region.
+//! What may count the rounds of a component.
 
+use crate::components::Component;
 use crate::plan::Plan;
-use crate::regions::Region;
 use bpf_infer_base::{
-    Arc, Counter, Graph, PLACES, get_or, longest_ways, nodes_on_cycles, number_in, put,
+    Arc, Counter, Graph, PLACES, get_or, longest_paths, nodes_on_cycles, number_in, put,
 };
 use std::alloc::{AllocError, Global};
 
-/// The most passes over a region for a counter that rises and falls on ways round.
+/// The most passes over a component for a counter that rises and falls on cycles.
 const PASSES: usize = 64;
 
-/// A counter of a region: a place at each label, whose number falls on ways round, or rises up to a limit.
+/// A counter of a component: a place at each label, whose number falls on cycles, or rises up to a limit.
 #[derive(Drop)]
 pub struct Candidate {
     /// By nodes.
@@ -47,10 +47,10 @@ impl Candidate {
 // ---- following a place backwards
 
 /// The place that holds the counter at the start of an arc.
-fn place_before(plan: &Plan, region: &Region, places: &[usize], arc: &Arc) -> Option<usize> {
-    let tag = plan.ways.source(arc.way, number_in(places, arc.to))?;
+fn place_before(plan: &Plan, component: &Component, places: &[usize], arc: &Arc) -> Option<usize> {
+    let tag = plan.paths.source(arc.path, number_in(places, arc.to))?;
     let number = tag.term as usize;
-    if plan.is_counted(region.label(arc.from), number) {
+    if plan.is_counted(component.label(arc.from), number) {
         None
     } else {
         Some(number)
@@ -62,12 +62,12 @@ fn place_before(plan: &Plan, region: &Region, places: &[usize], arc: &Arc) -> Op
 fn places_of(
     alloc: Global,
     plan: &Plan,
-    region: &Region,
+    component: &Component,
     number: usize,
 ) -> Result<Option<Vec<usize>>, AllocError> {
-    let mut places = vec![in alloc; number; region.labels.len()]?;
-    for arc in &region.tree {
-        let Some(before) = place_before(plan, region, &places, arc) else {
+    let mut places = vec![in alloc; number; component.labels.len()]?;
+    for arc in &component.tree {
+        let Some(before) = place_before(plan, component, &places, arc) else {
             return Ok(None);
         };
         put(&mut places, arc.from, before);
@@ -77,7 +77,7 @@ fn places_of(
 
 /// How much the counter grows on an arc.
 fn growth(plan: &Plan, places: &[usize], arc: &Arc) -> Option<i128> {
-    let tag = plan.ways.source(arc.way, number_in(places, arc.to))?;
+    let tag = plan.paths.source(arc.path, number_in(places, arc.to))?;
     if tag.term as usize == number_in(places, arc.from) {
         Some(tag.offset as i128)
     } else {
@@ -89,11 +89,11 @@ fn growth(plan: &Plan, places: &[usize], arc: &Arc) -> Option<i128> {
 fn growths(
     alloc: Global,
     plan: &Plan,
-    region: &Region,
+    component: &Component,
     places: &[usize],
 ) -> Result<Option<Vec<i128>>, AllocError> {
-    let mut list = Vec::with_capacity(alloc, region.graph.arcs().len())?;
-    for arc in region.graph.arcs() {
+    let mut list = Vec::with_capacity(alloc, component.graph.arcs().len())?;
+    for arc in component.graph.arcs() {
         let Some(growth) = growth(plan, places, arc) else {
             return Ok(None);
         };
@@ -132,13 +132,13 @@ fn level(graph: &Graph, heights: &[i128], changes: &mut Vec<i128>) {
     }
 }
 
-/// Changes such that none is above 0, and the sums on ways round are the same. False if a way round has a sum above 0.
+/// Changes such that none is above 0, and the sums on cycles are the same. False if a cycle has a sum above 0.
 fn even_out(alloc: Global, graph: &Graph, changes: &mut Vec<i128>) -> Result<bool, AllocError> {
     if never_grows(changes) {
         return Ok(true);
     }
     let heights = vec![in alloc; 0; graph.count()]?;
-    match longest_ways(graph, changes, heights, PASSES) {
+    match longest_paths(graph, changes, heights, PASSES) {
         Some(heights) => {
             level(graph, &heights, changes);
             Ok(true)
@@ -147,12 +147,12 @@ fn even_out(alloc: Global, graph: &Graph, changes: &mut Vec<i128>) -> Result<boo
     }
 }
 
-/// The least and the greatest number in the place of a counter at the labels of a region.
-fn span_over(plan: &Plan, region: &Region, places: &[usize]) -> (u64, u64) {
+/// The least and the greatest number in the place of a counter at the labels of a component.
+fn span_over(plan: &Plan, component: &Component, places: &[usize]) -> (u64, u64) {
     let mut least = u64::MAX;
     let mut most = 0;
-    for node in 0..region.labels.len() {
-        let span = plan.span(region.label(node), number_in(places, node));
+    for node in 0..component.labels.len() {
+        let span = plan.span(component.label(node), number_in(places, node));
         least = least.min(span.lo);
         most = most.max(span.hi);
     }
@@ -171,11 +171,11 @@ fn least_step(changes: &[i128]) -> Option<i128> {
     step
 }
 
-/// The counter of places that falls, or rises, if no way round turns it and some way changes it.
+/// The counter of places that falls, or rises, if no cycle turns it and some path changes it.
 fn candidate_of(
     alloc: Global,
     plan: &Plan,
-    region: &Region,
+    component: &Component,
     places: &[usize],
     changes: &[i128],
     rises: bool,
@@ -184,13 +184,13 @@ fn candidate_of(
     if rises {
         turned(&mut changes);
     }
-    if !even_out(alloc, &region.graph, &mut changes)? {
+    if !even_out(alloc, &component.graph, &mut changes)? {
         return Ok(None);
     }
     let Some(step) = least_step(&changes) else {
         return Ok(None);
     };
-    let (least, most) = span_over(plan, region, places);
+    let (least, most) = span_over(plan, component, places);
     let (limit, range) = if rises {
         (Some(most), most.saturating_sub(least))
     } else {
@@ -209,35 +209,35 @@ fn candidate_of(
 fn add_candidates(
     alloc: Global,
     plan: &Plan,
-    region: &Region,
+    component: &Component,
     number: usize,
     list: &mut Vec<Candidate>,
 ) -> Result<(), AllocError> {
-    let Some(places) = places_of(alloc, plan, region, number)? else {
+    let Some(places) = places_of(alloc, plan, component, number)? else {
         return Ok(());
     };
-    let Some(changes) = growths(alloc, plan, region, &places)? else {
+    let Some(changes) = growths(alloc, plan, component, &places)? else {
         return Ok(());
     };
     for rises in [false, true] {
-        if let Some(found) = candidate_of(alloc, plan, region, &places, &changes, rises)? {
+        if let Some(found) = candidate_of(alloc, plan, component, &places, &changes, rises)? {
             list.push(found)?;
         }
     }
     Ok(())
 }
 
-/// All that may count the rounds of a region.
+/// All that may count the rounds of a component.
 pub fn candidates_of(
     alloc: Global,
     plan: &Plan,
-    region: &Region,
+    component: &Component,
 ) -> Result<Vec<Candidate>, AllocError> {
     let mut list = Vec::new(alloc);
-    let first = region.label(0);
+    let first = component.label(0);
     for number in 0..PLACES {
         if plan.is_number(first, number) && !plan.is_counted(first, number) {
-            add_candidates(alloc, plan, region, number, &mut list)?;
+            add_candidates(alloc, plan, component, number, &mut list)?;
         }
     }
     Ok(list)
@@ -245,7 +245,7 @@ pub fn candidates_of(
 
 // ---- choosing
 
-/// The arcs on which what was left doesn't fall, by their numbers in the region.
+/// The arcs on which what was left doesn't fall, by their numbers in the component.
 pub fn without_strict(
     alloc: Global,
     left: &[usize],
@@ -260,15 +260,19 @@ pub fn without_strict(
     Ok(list)
 }
 
-/// The graph of some arcs of a region.
-pub fn graph_of(alloc: Global, region: &Region, numbers: &[usize]) -> Result<Graph, AllocError> {
+/// The graph of some arcs of a component.
+pub fn graph_of(
+    alloc: Global,
+    component: &Component,
+    numbers: &[usize],
+) -> Result<Graph, AllocError> {
     let mut arcs = Vec::with_capacity(alloc, numbers.len())?;
     for number in numbers {
-        if let Some(arc) = region.graph.arcs().get(*number) {
+        if let Some(arc) = component.graph.arcs().get(*number) {
             arcs.push(*arc)?;
         }
     }
-    Graph::of(alloc, region.graph.count(), arcs)
+    Graph::of(alloc, component.graph.count(), arcs)
 }
 
 /// A candidate by its number, and how many labels stay on cycles.
@@ -283,7 +287,7 @@ pub struct Choice {
 /// ones.
 pub fn choose(
     alloc: Global,
-    region: &Region,
+    component: &Component,
     candidates: &[Candidate],
     left: &[usize],
 ) -> Result<Option<Choice>, AllocError> {
@@ -293,7 +297,7 @@ pub fn choose(
             let numbers = without_strict(alloc, left, candidate)?;
             let choice = Choice {
                 number,
-                cyclic: nodes_on_cycles(alloc, &graph_of(alloc, region, &numbers)?)?,
+                cyclic: nodes_on_cycles(alloc, &graph_of(alloc, component, &numbers)?)?,
                 range: candidate.range,
             };
             let is_better = match best {

@@ -4,14 +4,14 @@
 
 mod bases;
 mod candidates;
+mod components;
 mod draft;
 mod groups;
 mod loops;
+mod paths;
 mod plan;
 mod ranking;
-mod regions;
 mod trials;
-mod ways;
 mod weights;
 
 pub use loops::uncounted;

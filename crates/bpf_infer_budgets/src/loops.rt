@@ -2,8 +2,8 @@
 
 use crate::draft::{Draft, Price, labels_by_slots};
 use crate::groups::{Groups, arcs_of};
+use crate::paths::paths_of;
 use crate::plan::Plan;
-use crate::ways::ways_of;
 use bpf_cert::Function;
 use bpf_infer_base::{Meter, Quest, Watch};
 use bpf_infer_error::InferError;
@@ -22,8 +22,8 @@ fn add_uncounted<W: Watch>(
     };
     // What a call costs counts nothing.
     let prices = vec![in alloc; Price::NONE; draft.functions.len()]?;
-    let ways = ways_of(alloc, draft, number, function, &prices)?;
-    let mut plan = Plan::new(alloc, function, &ways)?;
+    let paths = paths_of(alloc, draft, number, function, &prices)?;
+    let mut plan = Plan::new(alloc, function, &paths)?;
     let graph = arcs_of(alloc, &plan)?;
     let groups = Groups::of(alloc, &mut plan, &graph, meter)?;
     for label in &groups.all_uncounted {

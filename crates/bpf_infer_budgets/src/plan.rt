@@ -1,7 +1,7 @@
-//! The budgets of a function's labels while they are looked for, and what they leave ways to pay.
+//! The budgets of a function's labels while they are looked for, and what they leave paths to pay.
 
 use crate::draft::{Price, span_at};
-use crate::ways::{Way, Ways};
+use crate::paths::{Path, Paths};
 use bpf_cert::{Function, MAX_TERMS};
 use bpf_infer_base::{Counter, Line, Span, get_or, number_said, pointer_said, put};
 use bpf_state::{State, Tag};
@@ -21,7 +21,7 @@ pub type Parts = [Option<Part>; MAX_TERMS];
 #[derive(Drop)]
 pub struct Plan<'a> {
     pub function: &'a Function,
-    pub ways: &'a Ways,
+    pub paths: &'a Paths,
     /// By labels.
     parts: Vec<Parts>,
     /// How often what is counted is counted.
@@ -47,12 +47,12 @@ impl<'a> Plan<'a> {
     pub fn new(
         alloc: Global,
         function: &'a Function,
-        ways: &'a Ways,
+        paths: &'a Paths,
     ) -> Result<Plan<'a>, AllocError> {
         let count = function.labels.len();
         Ok(Plan {
             function,
-            ways,
+            paths,
             parts: vec![in alloc; [None; MAX_TERMS]; count]?,
             weights: Vec::new(alloc),
             bases: vec![in alloc; 0; count]?,
@@ -163,67 +163,67 @@ impl<'a> Plan<'a> {
         Line::of(part.counter, self.weight(part.weight))
     }
 
-    // ---- what a way has to pay beside bases
+    // ---- what a path has to pay beside bases
 
-    /// How much of an old term's place the new terms on a way take, less what the old one gives, at the greatest.
-    fn taken(&self, way: &Way, old: Part, parts: &Parts) -> i128 {
+    /// How much of an old term's place the new terms on a path take, less what the old one gives, at the greatest.
+    fn taken(&self, path: &Path, old: Part, parts: &Parts) -> i128 {
         let mut line = Line::ZERO.minus(self.line(old));
         for part in parts {
             if let Some(part) = part {
-                if let Some(tag) = self.source(way, *part) {
+                if let Some(tag) = self.source(path, *part) {
                     if tag.term as usize == old.counter.number() {
                         line = line.plus(self.line(*part).moved(tag.offset));
                     }
                 }
             }
         }
-        line.greatest(self.span(way.from, old.counter.number()))
+        line.greatest(self.span(path.from, old.counter.number()))
     }
 
     /// Where a new term's place comes from, if that is the place of an old term.
-    fn source(&self, way: &Way, part: Part) -> Option<Tag> {
-        let held = self.ways.held(way, part.counter.number())?;
+    fn source(&self, path: &Path, part: Part) -> Option<Tag> {
+        let held = self.paths.held(path, part.counter.number())?;
         let tag = held.source?;
-        if self.is_counted(way.from, tag.term as usize) {
+        if self.is_counted(path.from, tag.term as usize) {
             Some(tag)
         } else {
             None
         }
     }
 
-    /// What a new term takes on a way beside the old places, at the greatest.
-    fn free(&self, way: &Way, part: Part) -> i128 {
-        if self.source(way, part).is_some() {
+    /// What a new term takes on a path beside the old places, at the greatest.
+    fn free(&self, path: &Path, part: Part) -> i128 {
+        if self.source(path, part).is_some() {
             return 0;
         }
-        match self.ways.held(way, part.counter.number()) {
+        match self.paths.held(path, part.counter.number()) {
             Some(held) => self.line(part).greatest(held.span),
             None => self.line(part).greatest(Span::ALL),
         }
     }
 
     /// As `taken` for all old terms together.
-    fn taken_by_all(&self, way: &Way, parts: &Parts) -> i128 {
+    fn taken_by_all(&self, path: &Path, parts: &Parts) -> i128 {
         let mut sum = 0i128;
-        for old in self.parts(way.from) {
+        for old in self.parts(path.from) {
             if let Some(old) = old {
-                sum = sum.saturating_add(self.taken(way, old, parts));
+                sum = sum.saturating_add(self.taken(path, old, parts));
             }
         }
         sum
     }
 
-    /// What the base at the start of a way has to pay beside the one at its end: its cost, and what terms take more than
+    /// What the base at the start of a path has to pay beside the one at its end: its cost, and what terms take more than
     /// terms give.
-    pub fn length(&self, way: &Way) -> i128 {
-        let parts = match way.to {
+    pub fn length(&self, path: &Path) -> i128 {
+        let parts = match path.to {
             Some(to) => self.parts(to),
             None => [None; MAX_TERMS],
         };
-        let mut sum = way.cost.saturating_add(self.taken_by_all(way, &parts));
+        let mut sum = path.cost.saturating_add(self.taken_by_all(path, &parts));
         for part in parts {
             if let Some(part) = part {
-                sum = sum.saturating_add(self.free(way, part));
+                sum = sum.saturating_add(self.free(path, part));
             }
         }
         sum

@@ -6,9 +6,9 @@ ghost use Rattle.std.specs.Prelude.{◌≤◌};
 use crate::bases::settle_bases;
 use crate::draft::{Draft, Price, labels_by_slots};
 use crate::groups::{Groups, Uncounted, arcs_of};
+use crate::paths::paths_of;
 use crate::plan::Plan;
 use crate::trials::trials_of;
-use crate::ways::ways_of;
 use crate::weights::weigh;
 use arrayvec::ArrayVec;
 use bpf_cert::{Budget, Function};
@@ -42,7 +42,7 @@ fn budgets_of(alloc: Global, plan: &Plan) -> Result<Vec<Budget>, AllocError> {
     Ok(budgets)
 }
 
-/// I2 at the lowest label of a region without a counter.
+/// I2 at the lowest label of a component without a counter.
 fn stop_at(
     alloc: Global,
     draft: Draft,
@@ -50,8 +50,8 @@ fn stop_at(
     plan: &Plan,
     uncounted: Uncounted,
 ) -> Result<Stop, AllocError> {
-    let obstacle = match &uncounted.region {
-        Some(region) => Obstacle::NoCounter(trials_of(alloc, draft, number, plan, region)?),
+    let obstacle = match &uncounted.component {
+        Some(component) => Obstacle::NoCounter(trials_of(alloc, draft, number, plan, component)?),
         None => Obstacle::Over(Limit::Terms),
     };
     Ok(Stop::no_budget(plan.slot(uncounted.label), obstacle))
@@ -71,7 +71,7 @@ fn rank<W: Watch>(
         return Err(stop_at(alloc, draft, number, plan, uncounted)?);
     }
     for group in groups.list.iter().rev() {
-        meter.tell(group.region.labels.len(), 0);
+        meter.tell(group.component.labels.len(), 0);
         weigh(alloc, plan, group)?;
     }
     settle_bases(alloc, plan, &graph, number > 0)
@@ -96,8 +96,8 @@ impl Ranking {
         let Some(function) = draft.functions.get(number) else {
             return Ok(());
         };
-        let ways = ways_of(alloc, draft, number, function, &self.prices)?;
-        let mut plan = Plan::new(alloc, function, &ways)?;
+        let paths = paths_of(alloc, draft, number, function, &self.prices)?;
+        let mut plan = Plan::new(alloc, function, &paths)?;
         rank(alloc, draft, number, &mut plan, meter)?;
         put(&mut self.prices, number, plan.price());
         put(&mut self.budgets, number, budgets_of(alloc, &plan)?);

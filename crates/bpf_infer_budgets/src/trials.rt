@@ -1,13 +1,13 @@
-//! Why nothing counts the rounds of a region.
+//! Why nothing counts the rounds of a component.
 
+use crate::components::Component;
 use crate::draft::Draft;
 use crate::plan::Plan;
-use crate::regions::Region;
 use bpf_infer_base::{Loss, Losses, Move, PLACES, Tracker, Trial, get_or, place, put};
 use bpf_state::State;
 use std::alloc::{AllocError, Global};
 
-/// By how much a place has moved on ways, at the least and at the most.
+/// By how much a place has moved on paths, at the least and at the most.
 #[derive(Clone, Copy)]
 struct Span {
     least: i64,
@@ -29,7 +29,7 @@ impl Span {
         }
     }
 
-    /// As on either of two ways.
+    /// As on either of two paths.
     fn or(self, other: Option<Span>) -> Span {
         match other {
             Some(other) => Span {
@@ -41,18 +41,18 @@ impl Span {
     }
 }
 
-/// How a place moves from the first label of a region to itself, past rounds of inner loops; None if it isn't followed.
+/// How a place moves from the first label of a component to itself, past rounds of inner loops; None if it isn't followed.
 fn round_of(
     alloc: Global,
     plan: &Plan,
-    region: &Region,
+    component: &Component,
     number: usize,
 ) -> Result<Option<Span>, AllocError> {
-    let mut spans = vec![in alloc; None; region.labels.len()]?;
+    let mut spans = vec![in alloc; None; component.labels.len()]?;
     put(&mut spans, 0, Some(Span::NONE));
     let mut around = None;
-    for arc in region.graph.arcs() {
-        let Some(tag) = plan.ways.source(arc.way, number) else {
+    for arc in component.graph.arcs() {
+        let Some(tag) = plan.paths.source(arc.path, number) else {
             return Ok(None);
         };
         if tag.term as usize != number {
@@ -71,21 +71,21 @@ fn round_of(
     Ok(around)
 }
 
-/// By places, why each isn't followed through a region.
+/// By places, why each isn't followed through a component.
 fn losses_in(
     alloc: Global,
     draft: Draft,
     number: usize,
     plan: &Plan,
-    region: &Region,
+    component: &Component,
 ) -> Result<Losses, AllocError> {
     let mut slots = Vec::new(alloc);
-    for label in &region.labels {
+    for label in &component.labels {
         slots.push(plan.slot(*label))?;
     }
     let mut tracker = Tracker::new(draft.program, draft.least, &slots);
     let mut room = State::blank();
-    for label in &region.labels {
+    for label in &component.labels {
         if plan.load(*label, &mut room) {
             tracker.over(plan.slot(*label), draft.end(number, *label), &mut room)?;
         }
@@ -93,20 +93,20 @@ fn losses_in(
     Ok(tracker.losses)
 }
 
-/// What a place does in a round of a region, if it holds a number at the first label, or a pointer that is changed.
+/// What a place does in a round of a component, if it holds a number at the first label, or a pointer that is changed.
 fn move_of(
     alloc: Global,
     plan: &Plan,
-    region: &Region,
+    component: &Component,
     number: usize,
     loss: Option<Loss>,
 ) -> Result<Option<Move>, AllocError> {
-    let first = region.label(0);
+    let first = component.label(0);
     if !plan.is_number(first, number) {
         let is_moved = loss.is_some() && plan.is_pointer(first, number);
         return Ok(if is_moved { Some(Move::Pointer) } else { None });
     }
-    match round_of(alloc, plan, region, number)? {
+    match round_of(alloc, plan, component, number)? {
         Some(span) => Ok(Some(Move::By {
             least: span.least,
             greatest: span.greatest,
@@ -115,22 +115,22 @@ fn move_of(
     }
 }
 
-/// The places that were tried as counters of a region, with what they do in a round.
+/// The places that were tried as counters of a component, with what they do in a round.
 pub fn trials_of(
     alloc: Global,
     draft: Draft,
     number: usize,
     plan: &Plan,
-    region: &Region,
+    component: &Component,
 ) -> Result<Vec<Trial>, AllocError> {
-    let losses = losses_in(alloc, draft, number, plan, region)?;
+    let losses = losses_in(alloc, draft, number, plan, component)?;
     let mut trials = Vec::new(alloc);
     for number in 0..PLACES {
-        if plan.is_counted(region.label(0), number) {
+        if plan.is_counted(component.label(0), number) {
             continue;
         }
         let loss = get_or(&losses, number, None);
-        if let Some(moves) = move_of(alloc, plan, region, number, loss)? {
+        if let Some(moves) = move_of(alloc, plan, component, number, loss)? {
             trials.push(Trial {
                 place: place(number),
                 moves,

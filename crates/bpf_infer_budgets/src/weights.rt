@@ -4,13 +4,13 @@ use crate::candidates::graph_of;
 use crate::groups::{Counted, Group};
 use crate::plan::Plan;
 use bpf_cert::MAX_WEIGHT;
-use bpf_infer_base::{Graph, Limit, Obstacle, Stop, get_or, longest_ways, put};
+use bpf_infer_base::{Graph, Limit, Obstacle, Stop, get_or, longest_paths, put};
 use std::alloc::{AllocError, Global};
 
-/// The most labels of a region whose weights are made least.
+/// The most labels of a component whose weights are made least.
 const FEW_LABELS: usize = 64;
 
-/// The most passes over a region.
+/// The most passes over a component.
 pub const MOST_PASSES: usize = 1024;
 
 /// How often a number from 1 to the greatest weight may be halved.
@@ -20,8 +20,8 @@ const HALVINGS: usize = 20;
 fn lengths_of(alloc: Global, plan: &Plan, graph: &Graph) -> Result<Vec<i128>, AllocError> {
     let mut lengths = Vec::with_capacity(alloc, graph.arcs().len())?;
     for arc in graph.arcs() {
-        let length = match plan.ways.at(arc.way) {
-            Some(way) => plan.length(way),
+        let length = match plan.paths.at(arc.path) {
+            Some(path) => plan.length(path),
             None => 0,
         };
         lengths.push(length)?;
@@ -40,7 +40,7 @@ fn add_changes(sums: &mut Vec<i128>, counted: &Counted, weight: i128) {
 
 /// By arcs, how much the counters of a group grow together: 0 or less.
 fn changes_of(alloc: Global, group: &Group) -> Result<Vec<i128>, AllocError> {
-    let mut sums = vec![in alloc; 0; group.region.graph.arcs().len()]?;
+    let mut sums = vec![in alloc; 0; group.component.graph.arcs().len()]?;
     for counted in &group.counters {
         add_changes(&mut sums, counted, 1);
     }
@@ -80,7 +80,7 @@ impl Split {
     /// The arcs of a group and their lengths, apart by whether something falls on them.
     fn of(alloc: Global, group: &Group, lengths: &[i128]) -> Result<Split, AllocError> {
         let changes = changes_of(alloc, group)?;
-        let graph = &group.region.graph;
+        let graph = &group.component.graph;
         let mut split = Split {
             left: Vec::new(alloc),
             lengths: Vec::new(alloc),
@@ -114,7 +114,7 @@ fn passes_over(count: usize) -> usize {
     count.saturating_add(2).min(MOST_PASSES)
 }
 
-/// A weight with which a step pays the longest way to it, and the way of the step. None if there is no longest one.
+/// A weight with which a step pays the longest path to it, and the path of the step. None if there is no longest one.
 fn weight_of(alloc: Global, group: &Group, lengths: &[i128]) -> Result<Option<i128>, AllocError> {
     let Split {
         left,
@@ -122,8 +122,8 @@ fn weight_of(alloc: Global, group: &Group, lengths: &[i128]) -> Result<Option<i1
         heights,
         step,
     } = Split::of(alloc, group, lengths)?;
-    let graph = graph_of(alloc, &group.region, &left)?;
-    let Some(heights) = longest_ways(&graph, &lengths, heights, passes_over(graph.count())) else {
+    let graph = graph_of(alloc, &group.component, &left)?;
+    let Some(heights) = longest_paths(&graph, &lengths, heights, passes_over(graph.count())) else {
         return Ok(None);
     };
     let rounded = greatest_of(&heights).saturating_add(step.saturating_sub(1));
@@ -132,7 +132,7 @@ fn weight_of(alloc: Global, group: &Group, lengths: &[i128]) -> Result<Option<i1
 
 // ---- the least weights
 
-/// Whether no way round costs more than the counters pay.
+/// Whether no cycle costs more than the counters pay.
 fn is_paid(
     alloc: Global,
     plan: &Plan,
@@ -143,12 +143,12 @@ fn is_paid(
     for counted in &group.counters {
         add_changes(&mut sums, counted, plan.weight(counted.weight));
     }
-    let graph = &group.region.graph;
+    let graph = &group.component.graph;
     let heights = vec![in alloc; 0; graph.count()]?;
-    Ok(longest_ways(graph, &sums, heights, passes_over(graph.count())).is_some())
+    Ok(longest_paths(graph, &sums, heights, passes_over(graph.count())).is_some())
 }
 
-/// Makes a weight the least with which ways round are paid.
+/// Makes a weight the least with which cycles are paid.
 fn lower(
     alloc: Global,
     plan: &mut Plan,
@@ -177,8 +177,8 @@ fn lower(
 /// Gives the counters of a group their weights; those of inner groups have theirs. I2 at the lowest label of a group with
 /// a weight above 2^20.
 pub fn weigh(alloc: Global, plan: &mut Plan, group: &Group) -> Result<(), Stop> {
-    let lengths = lengths_of(alloc, plan, &group.region.graph)?;
-    let slot = plan.slot(group.region.label(0));
+    let lengths = lengths_of(alloc, plan, &group.component.graph)?;
+    let slot = plan.slot(group.component.label(0));
     let Some(weight) = weight_of(alloc, group, &lengths)? else {
         return Err(Stop::no_budget(slot, Obstacle::Over(Limit::Passes)));
     };
@@ -189,7 +189,7 @@ pub fn weigh(alloc: Global, plan: &mut Plan, group: &Group) -> Result<(), Stop> 
     for counted in &group.counters {
         plan.set_weight(counted.weight, weight);
     }
-    if group.region.labels.len() <= FEW_LABELS {
+    if group.component.labels.len() <= FEW_LABELS {
         for counted in &group.counters {
             lower(alloc, plan, group, &lengths, counted.weight)?;
         }

@@ -1,16 +1,21 @@
 -- The numbers of refusals, and the slots that they name.
 use Rattle.std.specs.Prelude.{ℕ, ◌-◌, min}
-use Rattle.bpf_state.specs.Answer.{fault_number}
+use Rattle.bpf_state.specs.declared.condition.Condition.{Condition as CheckerCondition}
+use Rattle.bpf_state.specs.declared.condition.Condition.TheVariants.{State as OfState, FallsOff as PassesEnd, LeavesFunction as IsLeft}
+use Rattle.bpf_state.specs.Condition.{condition_number as checker_number}
 use Rattle.bpf_infer_error.specs.declared.condition.Condition.{Condition}
 use Rattle.bpf_infer_error.specs.declared.condition.Condition.TheVariants.{State, FallsOff, LeavesFunction}
 use Rattle.bpf_infer_error.specs.declared.error.InferError.{InferError}
 use Rattle.bpf_infer_error.specs.declared.error.InferError.TheVariants.{Unstable, NoBudget, Recursion, Fault, Memory}
 
--- the checker's number of a condition
+-- a condition among all of the checker's, and its number there
+abbrev pub of_checker : Condition → CheckerCondition
+of_checker (State fault) = OfState fault
+of_checker FallsOff = PassesEnd
+of_checker LeavesFunction = IsLeft
+
 abbrev pub condition_number : Condition → ℕ
-condition_number (State fault) = fault_number fault
-condition_number FallsOff = 11
-condition_number LeavesFunction = 12
+condition_number condition = checker_number (of_checker condition)
 
 abbrev pub infer_number : InferError → ℕ
 infer_number (Unstable slot) = 1

@@ -12,18 +12,18 @@ use std::alloc::{AllocError, Global};
 /// What the place of an edge's target holds: an offset more than the place of the label before did, or any number of
 /// some.
 #[derive(Clone, Copy)]
-enum Held {
+enum Counted {
     Moved(i64),
     Within(Span),
 }
 
 /// An edge into a label, or an exit, with its cost since the label before.
 #[derive(Clone, Copy)]
-struct Way {
+struct Path {
     from: usize,
     to: Option<usize>,
     cost: i128,
-    held: Held,
+    held: Counted,
 }
 
 /// The budget at a label.
@@ -35,9 +35,9 @@ pub struct Plan {
     weight: i128,
     /// What the counter's place holds.
     span: Span,
-    /// The numbers of the ways from here on.
-    ways_from: usize,
-    ways_to: usize,
+    /// The numbers of the paths from here on.
+    paths_from: usize,
+    paths_to: usize,
 }
 
 impl Plan {
@@ -45,8 +45,8 @@ impl Plan {
         base: 0,
         weight: 1,
         span: Span::ALL,
-        ways_from: 0,
-        ways_to: 0,
+        paths_from: 0,
+        paths_to: 0,
     };
 }
 
@@ -55,20 +55,20 @@ impl Plan {
 pub struct Budgets {
     loops: Loops,
     plans: Vec<Plan>,
-    ways: Vec<Way>,
+    paths: Vec<Path>,
     /// What the calls since the label may cost.
     called: i128,
 }
 
 impl Visitor for Budgets {
     fn edge(&mut self, edge: Edge, done: i128, state: &State) -> Result<(), AllocError> {
-        let way = Way {
+        let path = Path {
             from: edge.from,
             to: Some(edge.to),
             cost: done.saturating_add(self.called),
             held: self.held_at(edge.to, state),
         };
-        self.ways.push(way)?;
+        self.paths.push(path)?;
         Ok(())
     }
 
@@ -78,13 +78,13 @@ impl Visitor for Budgets {
     }
 
     fn exit(&mut self, from: usize, done: i128) -> Result<(), AllocError> {
-        let way = Way {
+        let path = Path {
             from,
             to: None,
             cost: done.saturating_add(self.called),
-            held: Held::Moved(0),
+            held: Counted::Moved(0),
         };
-        self.ways.push(way)?;
+        self.paths.push(path)?;
         Ok(())
     }
 }
@@ -119,13 +119,13 @@ impl Budgets {
     }
 
     /// What the place of a label's counter holds in a state on the way to it.
-    fn held_at(&self, block: usize, state: &State) -> Held {
+    fn held_at(&self, block: usize, state: &State) -> Counted {
         let Some(counter) = self.loops.counter_at(block) else {
-            return Held::Moved(0);
+            return Counted::Moved(0);
         };
         match state.tag(place(counter.number())) {
-            Some(tag) => Held::Moved(tag.offset),
-            None => Held::Within(Span::of(state, counter.number())),
+            Some(tag) => Counted::Moved(tag.offset),
+            None => Counted::Within(Span::of(state, counter.number())),
         }
     }
 
@@ -141,7 +141,7 @@ impl Budgets {
         }
     }
 
-    // ---- the ways from each label
+    // ---- the paths from each label
 
     /// Tags the counter at a label. What it holds.
     fn tag_counter(&self, block: usize, state: &mut State) -> Span {
@@ -152,7 +152,7 @@ impl Budgets {
         Span::of(state, counter.number())
     }
 
-    /// Goes over a block, and takes note of its ways and of what its counter holds.
+    /// Goes over a block, and takes note of its paths and of what its counter holds.
     fn walk_over(
         &mut self,
         walk: &Walked,
@@ -164,13 +164,13 @@ impl Budgets {
             return Ok(());
         }
         let span = self.tag_counter(block, state);
-        let ways_from = self.ways.len();
+        let paths_from = self.paths.len();
         self.called = 0;
         walk.over(block, state, self)?;
         let plan = Plan {
             span,
-            ways_from,
-            ways_to: self.ways.len(),
+            paths_from,
+            paths_to: self.paths.len(),
             ..Plan::NONE
         };
         put(&mut self.plans, block, plan);
@@ -194,15 +194,15 @@ impl Budgets {
 
     // ---- weights
 
-    /// The greatest cost of a way from the head of a loop to itself.
+    /// The greatest cost of a path from the head of a loop to itself.
     fn cost_around(&self, alloc: Global, found: Loop) -> Result<i128, AllocError> {
         let count = found.last.saturating_sub(found.head).saturating_add(1);
         let mut costs = vec![in alloc; None; count]?;
         put(&mut costs, 0, Some(0i128));
         let mut around = 0;
-        for number in self.plan(found.head).ways_from..self.plan(found.last).ways_to {
-            if let Some(way) = self.ways.get(number) {
-                around = around.max(follow(&mut costs, found, way));
+        for number in self.plan(found.head).paths_from..self.plan(found.last).paths_to {
+            if let Some(path) = self.paths.get(number) {
+                around = around.max(follow(&mut costs, found, path));
             }
         }
         Ok(around)
@@ -219,7 +219,7 @@ impl Budgets {
         let weight = self.cost_around(alloc, found)?.max(1);
         if weight > MAX_WEIGHT as i128 {
             return Err(InferError::NoBudget {
-                slot: walk.outline.label(head),
+                slot: walk.cfg.label(head),
             });
         }
         let plan = self.plan(head);
@@ -243,46 +243,46 @@ impl Budgets {
 
     // ---- bases
 
-    /// The least base that pays a way.
-    fn price(&self, way: &Way) -> i128 {
-        let own = self.line_at(way.from);
-        let span = self.plan(way.from).span;
-        let (base, line) = match way.to {
+    /// The least base that pays a path.
+    fn price(&self, path: &Path) -> i128 {
+        let own = self.line_at(path.from);
+        let span = self.plan(path.from).span;
+        let (base, line) = match path.to {
             Some(to) => (self.plan(to).base, self.line_at(to)),
             None => (0, Line::ZERO),
         };
-        let varying = match way.held {
-            Held::Moved(offset) => line.moved(offset).minus(own).greatest(span),
-            Held::Within(held) => {
+        let varying = match path.held {
+            Counted::Moved(offset) => line.moved(offset).minus(own).greatest(span),
+            Counted::Within(held) => {
                 let least = Line::ZERO.minus(own).greatest(span);
                 line.greatest(held).saturating_add(least)
             }
         };
-        way.cost.saturating_add(base).saturating_add(varying)
+        path.cost.saturating_add(base).saturating_add(varying)
     }
 
-    /// The least base that pays the ways from a label, of those that lead back only if wanted. I2 above 2^40.
+    /// The least base that pays the paths from a label, of those that lead back only if wanted. I2 above 2^40.
     fn pay(&mut self, walk: &Walked, block: usize, pays_back: bool) -> Result<(), InferError> {
         let plan = self.plan(block);
         let mut base = 0;
-        for number in plan.ways_from..plan.ways_to {
-            if let Some(way) = self.ways.get(number) {
-                let leads_back = way.to.is_some_and(|to| to <= way.from);
+        for number in plan.paths_from..plan.paths_to {
+            if let Some(path) = self.paths.get(number) {
+                let leads_back = path.to.is_some_and(|to| to <= path.from);
                 if pays_back || !leads_back {
-                    base = base.max(self.price(way));
+                    base = base.max(self.price(path));
                 }
             }
         }
         if base > MAX_BASE as i128 {
             return Err(InferError::NoBudget {
-                slot: walk.outline.label(block),
+                slot: walk.cfg.label(block),
             });
         }
         put(&mut self.plans, block, Plan { base, ..plan });
         Ok(())
     }
 
-    /// Pays the ways from the labels of a loop, those back to its head too.
+    /// Pays the paths from the labels of a loop, those back to its head too.
     fn pay_back(&mut self, walk: &Walked, found: Loop) -> Result<(), InferError> {
         for block in (found.head.saturating_add(1)..found.last.saturating_add(1)).rev() {
             self.pay(walk, block, true)?;
@@ -290,7 +290,7 @@ impl Budgets {
         Ok(())
     }
 
-    /// From the highest label on; the ways in a loop are paid once its head is.
+    /// From the highest label on; the paths in a loop are paid once its head is.
     fn pay_all(&mut self, walk: &Walked, first: usize, end: usize) -> Result<(), InferError> {
         for block in (first..end).rev() {
             self.pay(walk, block, false)?;
@@ -313,8 +313,8 @@ impl Budgets {
         rounds: &Rounds,
         function: usize,
     ) -> Result<(), InferError> {
-        let first = walk.outline.first_block(function);
-        let end = walk.outline.first_block(function.saturating_add(1));
+        let first = walk.cfg.first_block(function);
+        let end = walk.cfg.first_block(function.saturating_add(1));
         self.walk_over_all(walk, rounds, first, end)?;
         self.weigh_all(alloc, walk, first, end)?;
         self.pay_all(walk, first, end)
@@ -329,7 +329,7 @@ impl Budgets {
         depths: &Depths,
         depth: u32,
     ) -> Result<(), InferError> {
-        for function in 0..walk.outline.function_count() {
+        for function in 0..walk.cfg.function_count() {
             if get_or(depths, function, 0) == depth {
                 self.plan_function(alloc, walk, rounds, function)?;
             }
@@ -338,16 +338,16 @@ impl Budgets {
     }
 }
 
-/// Goes on along a way. The cost of the way around the loop, or 0 if it isn't at the head again.
-fn follow(costs: &mut Vec<Option<i128>>, found: Loop, way: &Way) -> i128 {
-    let Some(to) = way.to else {
+/// Goes on along a path. The cost of the path around the loop, or 0 if it isn't at the head again.
+fn follow(costs: &mut Vec<Option<i128>>, found: Loop, path: &Path) -> i128 {
+    let Some(to) = path.to else {
         return 0;
     };
-    let here = way.from.saturating_sub(found.head);
+    let here = path.from.saturating_sub(found.head);
     let Some(Some(cost)) = costs.get(here) else {
         return 0;
     };
-    let cost = cost.saturating_add(way.cost);
+    let cost = cost.saturating_add(path.cost);
     if to == found.head {
         return cost;
     }
@@ -369,8 +369,8 @@ pub fn budgets_of(
 ) -> Result<Budgets, InferError> {
     let mut budgets = Budgets {
         loops,
-        plans: vec![in alloc; Plan::NONE; walk.outline.block_count()]?,
-        ways: Vec::new(alloc),
+        plans: vec![in alloc; Plan::NONE; walk.cfg.block_count()]?,
+        paths: Vec::new(alloc),
         called: 0,
     };
     for depth in 1..9 {

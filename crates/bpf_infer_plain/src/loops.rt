@@ -248,7 +248,7 @@ fn counter_of(
     match search.counter(rounds, &around) {
         Some(counter) => Ok(Some(counter)),
         None => Err(InferError::NoBudget {
-            slot: walk.outline.label(found.head),
+            slot: walk.cfg.label(found.head),
         }),
     }
 }
@@ -258,7 +258,7 @@ fn counter_of(
 pub fn loops_of(alloc: Global, walk: &Walked, rounds: &Rounds) -> Result<Loops, InferError> {
     if let Some((open, _)) = first_crossing(rounds) {
         return Err(InferError::NoBudget {
-            slot: walk.outline.label(open.head),
+            slot: walk.cfg.label(open.head),
         });
     }
     let mut loops = Loops {

@@ -1,6 +1,7 @@
 //! The plain search: one counter for each loop.
 
 ghost use Rattle.std.specs.Prelude.{◌≤◌};
+ghost use Rattle.bpf_insn.specs.Limits.{max_context};
 
 use crate::budgets::{Budgets, budgets_of};
 use crate::loops::loops_of;
@@ -8,7 +9,7 @@ use crate::rounds::{functions_of, states_of};
 use crate::walk::Walked;
 use arrayvec::ArrayVec;
 use bpf_cert::{Budget, Function};
-use bpf_infer_base::{Meter, Outline, PLAIN_WORK, Proposal, Quest, Watch, depths_of};
+use bpf_infer_base::{Cfg, Meter, PLAIN_WORK, Proposal, Quest, Watch, depths_of};
 use bpf_infer_error::InferError;
 use std::alloc::Global;
 
@@ -26,16 +27,16 @@ fn budget_of(budgets: &Budgets, block: usize) -> Budget {
 }
 
 /// Gives a function's labels their budgets.
-fn put_budgets(outline: &Outline, budgets: &Budgets, function: &mut Function) {
+fn put_budgets(cfg: &Cfg, budgets: &Budgets, function: &mut Function) {
     for label in function.labels.iter_mut() {
-        label.budget = budget_of(budgets, outline.block_of(label.slot));
+        label.budget = budget_of(budgets, cfg.block_of(label.slot));
     }
 }
 
 /// Gives the labels of all functions their budgets.
-fn put_all(outline: &Outline, budgets: &Budgets, functions: &mut Vec<Function>) {
+fn put_all(cfg: &Cfg, budgets: &Budgets, functions: &mut Vec<Function>) {
     for function in functions.iter_mut() {
-        put_budgets(outline, budgets, function);
+        put_budgets(cfg, budgets, function);
     }
 }
 
@@ -48,11 +49,11 @@ pub fn plain_proposal<W: Watch>(
     watch: &mut W,
 ) -> Result<Proposal, InferError>
     requires order { quest.least ≤ quest.most }
-    requires short { quest.most ≤ 4096 }
+    requires short { quest.most ≤ max_context }
 {
-    let outline = Outline::of(alloc, quest.program)?;
-    let depths = depths_of(alloc, quest.program, &outline)?;
-    let walk = Walked::new(quest, &outline);
+    let cfg = Cfg::of(alloc, quest.program)?;
+    let depths = depths_of(alloc, quest.program, &cfg)?;
+    let walk = Walked::new(quest, &cfg);
     let start = quest.start();
     let mut rounds = states_of(
         alloc,
@@ -67,7 +68,7 @@ pub fn plain_proposal<W: Watch>(
     let Ok(steps) = steps else {
         return Err(InferError::NoBudget { slot: 0 });
     };
-    let mut functions = functions_of(alloc, &outline, &mut rounds, &depths)?;
-    put_all(&outline, &budgets, &mut functions);
+    let mut functions = functions_of(alloc, &cfg, &mut rounds, &depths)?;
+    put_all(&cfg, &budgets, &mut functions);
     Ok(Proposal { steps, functions })
 }

@@ -4,7 +4,7 @@ use crate::walk::{Edge, Visitor, Walked};
 use arrayvec::ArrayVec;
 use bpf_cert::{Budget, Function, Label};
 use bpf_infer_base::{
-    Depths, LABEL_WORK, Limit, MOST_ENTRIES, Meter, Outline, Stops, Watch, edge_work, get_or, join,
+    Cfg, Depths, LABEL_WORK, Limit, MOST_ENTRIES, Meter, Stops, Watch, edge_work, get_or, join,
     number_said, places_known, pointer_said, put, vacant,
 };
 use bpf_infer_error::{Condition, InferError};
@@ -56,7 +56,7 @@ fn add_back(backs: &mut Vec<Option<usize>>, edge: Edge) {
 /// I1 at a function's first slot.
 fn unstable(walk: &Walked, function: usize) -> InferError {
     InferError::Unstable {
-        slot: walk.outline.label(walk.outline.first_block(function)),
+        slot: walk.cfg.label(walk.cfg.first_block(function)),
     }
 }
 
@@ -78,7 +78,7 @@ impl Visitor for Rounds {
 impl Rounds {
     /// No state is reached yet.
     pub fn new(alloc: Global, walk: &Walked) -> Result<Rounds, AllocError> {
-        let count = walk.outline.block_count();
+        let count = walk.cfg.block_count();
         Ok(Rounds {
             states: vacant(alloc, count)?,
             backs: vec![in alloc; None; count]?,
@@ -188,10 +188,7 @@ impl Rounds {
         room: &mut State,
     ) -> Result<(), InferError> {
         put(&mut self.changed, block, false);
-        let slots = walk
-            .outline
-            .end(block)
-            .saturating_sub(walk.outline.label(block));
+        let slots = walk.cfg.end(block).saturating_sub(walk.cfg.label(block));
         self.work = self
             .work
             .saturating_add(slots as usize)
@@ -199,7 +196,7 @@ impl Rounds {
         let reached = if self.load(block, room) {
             walk.over(block, room, self)?
         } else {
-            walk.outline.label(block)
+            walk.cfg.label(block)
         };
         put(&mut self.reached, block, reached);
         Ok(())
@@ -236,8 +233,8 @@ impl Rounds {
         meter: &mut Meter<'_, W>,
     ) -> Result<(), InferError> {
         self.has_changed = false;
-        let end = walk.outline.first_block(function.saturating_add(1));
-        for block in walk.outline.first_block(function)..end {
+        let end = walk.cfg.first_block(function.saturating_add(1));
+        for block in walk.cfg.first_block(function)..end {
             if get_or(&self.changed, block, false) {
                 self.walk_over(walk, block, room)?;
                 self.tell(walk, function, meter)?;
@@ -283,7 +280,7 @@ impl Rounds {
         depth: u32,
         meter: &mut Meter<'_, W>,
     ) -> Result<(), InferError> {
-        for function in 0..walk.outline.function_count() {
+        for function in 0..walk.cfg.function_count() {
             if get_or(depths, function, 0) == depth {
                 self.settle(walk, function, meter)?;
             }
@@ -295,9 +292,9 @@ impl Rounds {
     fn check_reached(&self, walk: &Walked) -> Result<(), InferError> {
         for block in 0..self.reached.len() {
             let reached = get_or(&self.reached, block, 0);
-            if reached < walk.outline.end(block) {
+            if reached < walk.cfg.end(block) {
                 return Err(InferError::Fault {
-                    slot: reached.max(walk.outline.label(block)),
+                    slot: reached.max(walk.cfg.label(block)),
                     condition: Condition::FallsOff,
                 });
             }
@@ -329,16 +326,16 @@ pub fn states_of<W: Watch>(
 /// The labels of a function that were reached, each with a budget of 0; their states are taken.
 fn labels_of(
     alloc: Global,
-    outline: &Outline,
+    cfg: &Cfg,
     rounds: &mut Rounds,
     number: usize,
 ) -> Result<Vec<Label>, AllocError> {
     let mut labels = Vec::new(alloc);
-    let end = outline.first_block(number.saturating_add(1));
-    for block in outline.first_block(number)..end {
+    let end = cfg.first_block(number.saturating_add(1));
+    for block in cfg.first_block(number)..end {
         if let Some(Some(state)) = rounds.states.get_mut(block).map(|held| held.take()) {
             labels.push(Label {
-                slot: outline.label(block),
+                slot: cfg.label(block),
                 state,
                 budget: Budget {
                     base: 0,
@@ -353,16 +350,16 @@ fn labels_of(
 /// The functions that were reached, with their labels; the states are taken.
 pub fn functions_of(
     alloc: Global,
-    outline: &Outline,
+    cfg: &Cfg,
     rounds: &mut Rounds,
     depths: &Depths,
 ) -> Result<Vec<Function>, AllocError> {
     let mut functions = Vec::new(alloc);
-    for number in 0..outline.function_count() {
-        let labels = labels_of(alloc, outline, rounds, number)?;
+    for number in 0..cfg.function_count() {
+        let labels = labels_of(alloc, cfg, rounds, number)?;
         if !labels.is_empty() {
             functions.push(Function {
-                first: outline.label(outline.first_block(number)),
+                first: cfg.label(cfg.first_block(number)),
                 depth: get_or(depths, number, 0),
                 ret: Num::top(),
                 labels,

@@ -1,6 +1,7 @@
 //! What the inferrer has when it stops, for who explains it.
 
 ghost use Rattle.std.specs.Prelude.{◌≤◌};
+ghost use Rattle.bpf_insn.specs.Limits.{max_context};
 
 use crate::loops::{Loop, Moves, Search, first_crossing, loop_from, searched};
 use crate::rounds::{Rounds, functions_of};
@@ -8,8 +9,8 @@ use crate::tangles::tangle_of;
 use crate::walk::Walked;
 use crate::walkers::walker_at;
 use bpf_infer_base::{
-    Depths, Loss, Losses, Meter, Move, Obstacle, Outline, PLACES, PLAIN_WORK, Quest, Sketch,
-    Tracker, Trial, Unwatched, depths_of, get_or, place,
+    Cfg, Depths, Loss, Losses, Meter, Move, Obstacle, PLACES, PLAIN_WORK, Quest, Sketch, Tracker,
+    Trial, Unwatched, depths_of, get_or, place,
 };
 use bpf_infer_error::{Condition, InferError};
 use bpf_state::{State, StateFault};
@@ -87,13 +88,13 @@ fn losses_in(
 ) -> Result<Losses, AllocError> {
     let mut labels = Vec::new(alloc);
     for block in found.head..found.last.saturating_add(1) {
-        labels.push(walk.outline.label(block))?;
+        labels.push(walk.cfg.label(block))?;
     }
     let mut tracker = Tracker::new(walk.program, walk.least, &labels);
     let mut room = State::blank();
     for block in found.head..found.last.saturating_add(1) {
         if rounds.load(block, &mut room) {
-            let (label, end) = (walk.outline.label(block), walk.outline.end(block));
+            let (label, end) = (walk.cfg.label(block), walk.cfg.end(block));
             tracker.over(label, end, &mut room)?;
         }
     }
@@ -151,11 +152,9 @@ fn obstacle_at(
         let tangle = tangle_of(alloc, walk, rounds, outer, inner)?;
         return Ok(Obstacle::Tangled(tangle));
     }
-    let block = walk.outline.block_of(slot);
+    let block = walk.cfg.block_of(slot);
     match loop_from(rounds, block) {
-        Some(found) if walk.outline.label(block) == slot => {
-            obstacle_in(alloc, walk, rounds, found)
-        }
+        Some(found) if walk.cfg.label(block) == slot => { obstacle_in(alloc, walk, rounds, found) }
         _ => Ok(Obstacle::Limit),
     }
 }
@@ -188,14 +187,14 @@ fn obstacle_of(
 /// `plain_proposal` where that stops before it has states, and I5 if memory runs out.
 pub fn sketch_of(alloc: Global, quest: Quest<'_>, error: InferError) -> Result<Sketch, InferError>
     requires order { quest.least ≤ quest.most }
-    requires short { quest.most ≤ 4096 }
+    requires short { quest.most ≤ max_context }
 {
-    let outline = Outline::of(alloc, quest.program)?;
-    let depths = depths_of(alloc, quest.program, &outline)?;
-    let walk = Walked::new(quest, &outline);
+    let cfg = Cfg::of(alloc, quest.program)?;
+    let depths = depths_of(alloc, quest.program, &cfg)?;
+    let walk = Walked::new(quest, &cfg);
     let start = quest.start();
     let mut rounds = rounds_so_far(alloc, &walk, &depths, &start)?;
     let obstacle = obstacle_of(alloc, &walk, &rounds, error)?;
-    let functions = functions_of(alloc, &outline, &mut rounds, &depths)?;
+    let functions = functions_of(alloc, &cfg, &mut rounds, &depths)?;
     Ok(Sketch::of(quest.least, quest.most, functions, obstacle))
 }

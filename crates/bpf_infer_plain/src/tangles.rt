@@ -19,7 +19,7 @@ impl Visitor for Arcs {
         self.list.push(Arc {
             from: edge.from,
             to: edge.to,
-            way: 0,
+            path: 0,
         })?;
         Ok(())
     }
@@ -30,7 +30,7 @@ fn graph_of(alloc: Global, walk: &Walked, rounds: &Rounds) -> Result<Graph, Allo
     let mut arcs = Arcs {
         list: Vec::new(alloc),
     };
-    let count = walk.outline.block_count();
+    let count = walk.cfg.block_count();
     let mut room = State::blank();
     for block in 0..count {
         if rounds.load(block, &mut room) {
@@ -45,9 +45,9 @@ fn graph_of(alloc: Global, walk: &Walked, rounds: &Rounds) -> Result<Graph, Allo
 
 /// The slot of the last jump that leads back to a loop's head.
 fn way_back(walk: &Walked, found: Loop) -> u32 {
-    let head = walk.outline.label(found.head);
-    let mut last = walk.outline.label(found.last);
-    for slot in last..walk.outline.end(found.last) {
+    let head = walk.cfg.label(found.head);
+    let mut last = walk.cfg.label(found.last);
+    for slot in last..walk.cfg.end(found.last) {
         if let Some(insn) = walk.program.at(slot) {
             if Flow::of(slot, insn).jump() == Some(head) {
                 last = slot;
@@ -74,7 +74,7 @@ pub fn tangle_of(
     let within = graph.reached(alloc, inner.head, Some(outer.head))?;
     let beyond = graph.reached(alloc, inner.head, None)?;
     let is_inner = get_or(&within, inner.head, false) && get_or(&beyond, outer.head, false);
-    let to = walk.outline.label(inner.head);
+    let to = walk.cfg.label(inner.head);
     if is_inner && from <= back {
         Ok(Tangle::Nested { inner: to })
     } else {

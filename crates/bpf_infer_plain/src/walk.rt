@@ -1,6 +1,6 @@
 //! A walk over the instructions of a block.
 
-use bpf_infer_base::{Edges, Outline, Quest, Stretch, Target, transfer_or_refuse};
+use bpf_infer_base::{Cfg, Edges, Quest, Stretch, Target, transfer_or_refuse};
 use bpf_infer_error::{Condition, InferError};
 use bpf_insn::{Insn, Program};
 use bpf_num::Num;
@@ -34,17 +34,17 @@ pub trait Visitor {
 #[derive(Clone, Copy)]
 pub struct Walked<'a> {
     pub program: &'a Program,
-    pub outline: &'a Outline,
+    pub cfg: &'a Cfg,
     pub least: u32,
     pub most: u32,
 }
 
 impl<'a> Walked<'a> {
-    /// The program of a quest, by its outline.
-    pub fn new(quest: Quest<'a>, outline: &'a Outline) -> Self {
+    /// The program of a quest, by its cfg.
+    pub fn new(quest: Quest<'a>, cfg: &'a Cfg) -> Self {
         Walked {
             program: quest.program,
-            outline,
+            cfg,
             least: quest.least,
             most: quest.most,
         }
@@ -62,8 +62,8 @@ impl<'a> Walked<'a> {
     ) -> Result<u32, InferError> {
         let stretch = Stretch {
             program: self.program,
-            first: self.outline.label(block),
-            end: self.outline.end(block),
+            first: self.cfg.label(block),
+            end: self.cfg.end(block),
             limit: self.program.slots(),
         };
         let mut walk = Walk {
@@ -94,7 +94,7 @@ impl<'a, 'v, V: Visitor> Edges for Walk<'a, 'v, V> {
     }
 
     fn call(&mut self, callee: u32, state: &mut State) -> Result<bool, InferError> {
-        let callee = self.walked.outline.block_of(callee);
+        let callee = self.walked.cfg.block_of(callee);
         self.visitor.call(callee, state)?;
         Ok(leave(state, Num::top()))
     }
@@ -103,7 +103,7 @@ impl<'a, 'v, V: Visitor> Edges for Walk<'a, 'v, V> {
         let from = self.block;
         match target {
             Target::Slot(slot) => {
-                let to = self.walked.outline.block_of(slot);
+                let to = self.walked.cfg.block_of(slot);
                 self.visitor.edge(Edge { from, to }, self.done, state)?;
             }
             Target::Caller => self.visitor.exit(from, self.done)?,

@@ -51,7 +51,7 @@ fn deed_of(insn: &Insn, reg: Reg) -> Deed {
 /// Whether instructions of a loop move a register by constants, and none sets it.
 fn moves(walk: &Walked, found: Loop, reg: Reg) -> bool {
     let mut is_moved = false;
-    for slot in walk.outline.label(found.head)..walk.outline.end(found.last) {
+    for slot in walk.cfg.label(found.head)..walk.cfg.end(found.last) {
         if let Some(insn) = walk.program.at(slot) {
             match deed_of(insn, reg) {
                 Deed::Keeps => {}
@@ -90,9 +90,9 @@ fn loop_around(rounds: &Rounds, block: usize) -> Option<Loop> {
 /// nothing else to it; and the slot of the loop.
 pub fn walker_at(walk: &Walked, rounds: &Rounds, slot: u32) -> Option<(Reg, u32)> {
     let reg = pointer_in(walk.program.at(slot)?)?;
-    let found = loop_around(rounds, walk.outline.block_of(slot))?;
+    let found = loop_around(rounds, walk.cfg.block_of(slot))?;
     if is_wide(rounds, found.head, reg) && moves(walk, found, reg) {
-        Some((reg, walk.outline.label(found.head)))
+        Some((reg, walk.cfg.label(found.head)))
     } else {
         None
     }

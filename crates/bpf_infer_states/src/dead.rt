@@ -3,11 +3,11 @@
 //! nothing leads to at all the one of the code in front of it; the search for a fixpoint joins them with what else
 //! arrives. Where an instruction is at fault then, the states that lead to it are changed.
 
+use crate::blocks::graph_of;
 use crate::judge::{Fault, Report, walk_all};
-use crate::region::graph_of;
 use crate::repair::{change_kinds, fill};
-use crate::sums::{Held, held, take_in_at};
-use crate::task::{Task, Watcher};
+use crate::sums::{LabelState, held, take_in_at};
+use crate::task::{Task, Visitor};
 use bpf_infer_base::{Flow, get_or, put, vacant};
 use bpf_infer_error::Condition;
 use bpf_insn::Insn;
@@ -20,7 +20,7 @@ pub struct Seeds {
     alloc: Global,
     first: u32,
     /// By slots from the function's first on.
-    states: Vec<Held>,
+    states: Vec<LabelState>,
     /// Where states are changed.
     room: Box<State>,
 }
@@ -129,16 +129,16 @@ impl Seeds {
         fault: u32,
         fills_slots: bool,
     ) -> Result<bool, AllocError> {
-        let region = task.region;
-        let graph = graph_of(self.alloc, task.program, region)?;
-        let target = region.segment(fault);
+        let blocks = task.blocks;
+        let graph = graph_of(self.alloc, task.program, blocks)?;
+        let target = blocks.block_of(fault);
         let before = graph
             .reversed(self.alloc)?
             .reached(self.alloc, target, None)?;
         let mut is_filled = false;
-        for label in 0..region.labels() {
+        for label in 0..blocks.labels() {
             if label == target || get_or(&before, label, false) {
-                is_filled = self.fill(region.slot(label), fills_slots)? || is_filled;
+                is_filled = self.fill(blocks.slot(label), fills_slots)? || is_filled;
             }
         }
         Ok(is_filled)
@@ -146,7 +146,7 @@ impl Seeds {
 
     /// Changes the state for the label before a slot so that the instruction there takes its kinds. Whether that is a change.
     fn change_kinds(&mut self, task: Task, slot: u32) -> Result<bool, AllocError> {
-        let label = task.region.slot(task.region.segment(slot));
+        let label = task.blocks.slot(task.blocks.block_of(slot));
         let index = self.index(label);
         let Some(state) = held(&self.states, index) else {
             return Ok(false);
@@ -192,7 +192,7 @@ struct Seeker<'a> {
     waiting: Vec<u32>,
 }
 
-impl<'a> Watcher for Seeker<'a> {
+impl<'a> Visitor for Seeker<'a> {
     fn before(&mut self, slot: u32, insn: &Insn, state: &State) -> Result<(), AllocError> {
         let next = slot.saturating_add(insn.slots());
         if self.is_dead(next) {
@@ -212,13 +212,13 @@ impl<'a> Watcher for Seeker<'a> {
 impl<'a> Seeker<'a> {
     /// Whether an instruction of the function stands at a slot and isn't reached.
     fn is_dead(&self, slot: u32) -> bool {
-        let region = self.task.region;
-        slot < region.end() && self.task.program.at(slot).is_some() && !self.report.is_reached(slot)
+        let blocks = self.task.blocks;
+        slot < blocks.end() && self.task.program.at(slot).is_some() && !self.report.is_reached(slot)
     }
 
     /// Takes note that a slot is led to, if it is dead, for the first time.
     fn lead_to(&mut self, slot: u32) -> Result<(), AllocError> {
-        let index = self.task.region.index(slot);
+        let index = self.task.blocks.index(slot);
         if self.is_dead(slot) && !get_or(&self.is_led_to, index, true) {
             put(&mut self.is_led_to, index, true);
             self.waiting.push(slot)?;
@@ -254,7 +254,7 @@ impl<'a> Seeker<'a> {
 
     /// Takes note of what the slots that were found lead to.
     fn lead_from_all(&mut self) -> Result<(), AllocError> {
-        for slot in self.task.region.first()..self.task.region.end() {
+        for slot in self.task.blocks.first()..self.task.blocks.end() {
             if self.found.at(slot).is_some() {
                 self.lead_from(slot)?;
             }
@@ -264,10 +264,10 @@ impl<'a> Seeker<'a> {
 
     /// Dead code to which nothing leads takes the state behind the jump or EXIT before it, else the last one that was found.
     fn seek_roots(&mut self) -> Result<(), AllocError> {
-        let region = self.task.region;
-        let mut last = region.first();
-        for slot in region.first()..region.end() {
-            if self.is_dead(slot) && !get_or(&self.is_led_to, region.index(slot), true) {
+        let blocks = self.task.blocks;
+        let mut last = blocks.first();
+        for slot in blocks.first()..blocks.end() {
+            if self.is_dead(slot) && !get_or(&self.is_led_to, blocks.index(slot), true) {
                 self.found.take(slot, &mut self.behind);
                 if self.found.at(slot).is_none() {
                     self.found.repeat(last, slot)?;
@@ -286,11 +286,11 @@ impl<'a> Seeker<'a> {
 pub fn add_seeds(
     alloc: Global,
     task: Task,
-    states: &[Held],
+    states: &[LabelState],
     report: &Report,
     seeds: &mut Seeds,
 ) -> Result<(), AllocError> {
-    let (first, slots) = (task.region.first(), task.region.slots());
+    let (first, slots) = (task.blocks.first(), task.blocks.slots());
     let mut seeker = Seeker {
         task,
         report,

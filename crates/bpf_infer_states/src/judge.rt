@@ -1,7 +1,7 @@
 //! What the states of a function's labels say of its instructions.
 
-use crate::sums::{Held, load};
-use crate::task::{Task, Watcher};
+use crate::sums::{LabelState, load};
+use crate::task::{Task, Visitor};
 use bpf_infer_base::{get_or, join, put};
 use bpf_infer_error::{Condition, InferError};
 use bpf_insn::{Insn, Reg};
@@ -41,7 +41,7 @@ pub struct Entry {
     pub state: Box<State>,
 }
 
-/// What a walk over all segments of a function saw.
+/// What a walk over all blocks of a function saw.
 #[derive(Drop)]
 pub struct Report {
     alloc: Global,
@@ -56,7 +56,7 @@ pub struct Report {
     pub exit: Option<Num>,
 }
 
-impl Watcher for Report {
+impl Visitor for Report {
     fn before(&mut self, slot: u32, _insn: &Insn, _state: &State) -> Result<(), AllocError> {
         let place = slot.saturating_sub(self.first) as usize;
         put(&mut self.reached, place, true);
@@ -98,12 +98,12 @@ impl Watcher for Report {
 }
 
 impl Report {
-    /// Goes over all segments from the states of their labels.
-    pub fn of(alloc: Global, task: Task, states: &[Held]) -> Result<Report, AllocError> {
+    /// Goes over all blocks from the states of their labels.
+    pub fn of(alloc: Global, task: Task, states: &[LabelState]) -> Result<Report, AllocError> {
         let mut report = Report {
             alloc,
-            first: task.region.first(),
-            reached: vec![in alloc; false; task.region.slots()]?,
+            first: task.blocks.first(),
+            reached: vec![in alloc; false; task.blocks.slots()]?,
             fault: None,
             entries: Vec::new(alloc),
             exit: None,
@@ -120,7 +120,7 @@ impl Report {
 
     /// The lowest instruction that isn't reached.
     pub fn unreached(&self, task: Task) -> Option<u32> {
-        for slot in task.region.first()..task.region.end() {
+        for slot in task.blocks.first()..task.blocks.end() {
             if task.program.at(slot).is_some() && !self.is_reached(slot) {
                 return Some(slot);
             }
@@ -129,16 +129,16 @@ impl Report {
     }
 }
 
-/// Goes over all segments from the states of their labels.
-pub fn walk_all<W: Watcher>(
+/// Goes over all blocks from the states of their labels.
+pub fn walk_all<W: Visitor>(
     task: Task,
-    states: &[Held],
-    watcher: &mut W,
+    states: &[LabelState],
+    visitor: &mut W,
 ) -> Result<(), AllocError> {
     let mut room = State::blank();
-    for label in 0..task.region.labels() {
+    for label in 0..task.blocks.labels() {
         if load(states, label, &mut room) {
-            task.walk(label, &mut room, watcher)?;
+            task.walk(label, &mut room, visitor)?;
         }
     }
     Ok(())

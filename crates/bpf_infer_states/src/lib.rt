@@ -2,11 +2,11 @@
 //! gets labels of its own. It makes no claim but to be safe and to end: who proposes what it finds puts it to the test.
 #![tactic(auto)]
 
+mod blocks;
 mod dead;
 mod judge;
-mod least;
+mod liveness;
 mod nest;
-mod region;
 mod repair;
 mod settle;
 mod states;

@@ -2,8 +2,8 @@
 //! of a loop is widened with thresholds until it stands, and then narrowed; loops inside are settled anew in each turn.
 
 use crate::nest::{Loop, Nest};
-use crate::sums::{Held, Sums, held, load};
-use crate::task::{Task, Watcher};
+use crate::sums::{LabelState, Sums, held, load};
+use crate::task::{Task, Visitor};
 use crate::thresholds::{Reach, Thresholds};
 use bpf_infer_base::{LABEL_WORK, Limit, MOST_ENTRIES, Meter, Watch, get_or, put, vacant};
 use bpf_insn::Insn;
@@ -22,10 +22,10 @@ const LEARNED_TURNS: u32 = 3;
 /// The most times that a loop is narrowed.
 const NARROWINGS: u32 = 3;
 
-/// The most segments of a function that are gone over before bounds are moved to extremes at once.
+/// The most blocks of a function that are gone over before bounds are moved to extremes at once.
 const MOST_PATIENCE: usize = 2_000_000;
 
-/// How many segments are gone over in a function of so many labels before that.
+/// How many blocks are gone over in a function of so many labels before that.
 fn patience_for(labels: usize) -> usize {
     labels
         .saturating_mul(400)
@@ -57,7 +57,7 @@ struct Active {
     may_narrow: bool,
     turns: u32,
     narrowed: u32,
-    before: Held,
+    before: LabelState,
     thresholds: Thresholds,
 }
 
@@ -79,16 +79,16 @@ pub struct Settler<'a> {
     nest: &'a Nest,
     sums: Sums,
     /// By labels.
-    states: Vec<Held>,
+    states: Vec<LabelState>,
     /// By loops, how often the head's state changed.
     changes: Vec<u32>,
     active: Vec<Active>,
-    /// Where segments are gone over.
+    /// Where blocks are gone over.
     room: Option<Box<State>>,
     /// Where states of heads are compared and joined.
     old: Box<State>,
     new: Box<State>,
-    /// How many segments may be gone over before bounds are moved to extremes at once.
+    /// How many blocks may be gone over before bounds are moved to extremes at once.
     patience: usize,
     /// The work since it was last told, in slots.
     work: usize,
@@ -96,7 +96,7 @@ pub struct Settler<'a> {
     is_late: bool,
 }
 
-impl<'a> Watcher for Settler<'a> {
+impl<'a> Visitor for Settler<'a> {
     fn before(&mut self, _slot: u32, insn: &Insn, state: &State) -> Result<(), AllocError> {
         if !matches!(insn, Insn::JumpIf { .. }) {
             return Ok(());
@@ -147,7 +147,7 @@ impl<'a> Settler<'a> {
     pub fn settle<W: Watch>(
         mut self,
         meter: &mut Meter<'_, W>,
-    ) -> Result<Result<Vec<Held>, Limit>, AllocError> {
+    ) -> Result<Result<Vec<LabelState>, Limit>, AllocError> {
         let mut place = 0;
         for _ in 0..meter.most() {
             match self.step(place)? {
@@ -198,7 +198,7 @@ impl<'a> Settler<'a> {
         self.walk(label)
     }
 
-    /// Goes over a label's segment, if the label has a state.
+    /// Goes over a label's block, if the label has a state.
     fn walk(&mut self, label: usize) -> Result<(), AllocError> {
         self.patience = self.patience.saturating_sub(1);
         self.work = self.work.saturating_add(LABEL_WORK);
@@ -209,9 +209,9 @@ impl<'a> Settler<'a> {
         if load(&self.states, label, &mut *room) {
             let task = self.task;
             let slots = task
-                .region
-                .segment_end(label)
-                .saturating_sub(task.region.slot(label));
+                .blocks
+                .block_end(label)
+                .saturating_sub(task.blocks.slot(label));
             self.work = self.work.saturating_add(slots as usize);
             task.walk(label, &mut *room, self)?;
         }
@@ -271,8 +271,8 @@ impl<'a> Settler<'a> {
         thresholds.add_length(self.task.most)?;
         for place in found.head..found.end {
             let label = self.nest.label(place);
-            let region = self.task.region;
-            for slot in region.slot(label)..region.segment_end(label) {
+            let blocks = self.task.blocks;
+            for slot in blocks.slot(label)..blocks.block_end(label) {
                 if let Some(insn) = self.task.program.at(slot) {
                     thresholds.add_constant(insn)?;
                 }

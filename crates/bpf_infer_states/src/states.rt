@@ -3,16 +3,16 @@
 mod outcome;
 mod surveys;
 
+use crate::blocks::{Blocks, graph_of};
 use crate::dead::{Seeds, add_seeds};
 use crate::judge::Report;
 use crate::nest::Nest;
-use crate::region::{Region, graph_of};
 use crate::settle::Settler;
-use crate::sums::{Held, held, take_in_at};
+use crate::sums::{LabelState, held, take_in_at};
 use crate::task::Task;
 use arrayvec::ArrayVec;
 use bpf_cert::{Budget, Label};
-use bpf_infer_base::{Depths, Limit, Meter, Outline, Quest, Stop, Watch, get_or, put, vacant};
+use bpf_infer_base::{Cfg, Depths, Limit, Meter, Quest, Stop, Watch, get_or, put, vacant};
 use bpf_insn::Program;
 use bpf_num::Num;
 use bpf_state::{Entries, State};
@@ -33,8 +33,8 @@ const MOST_PASSES: u32 = 11;
 #[derive(Drop)]
 struct Judged {
     entry: Entries,
-    region: Region,
-    states: Vec<Held>,
+    blocks: Blocks,
+    states: Vec<LabelState>,
     report: Report,
     /// The lowest slot that isn't reached.
     unreached: Option<u32>,
@@ -47,7 +47,7 @@ impl Judged {
         for label in 0..self.states.len() {
             if let Some(Some(state)) = self.states.get_mut(label).map(|held| held.take()) {
                 labels.push(Label {
-                    slot: self.region.slot(label),
+                    slot: self.blocks.slot(label),
                     state,
                     budget: Budget {
                         base: 0,
@@ -65,7 +65,7 @@ impl Judged {
 struct Analysis<'a> {
     alloc: Global,
     quest: Quest<'a>,
-    outline: &'a Outline,
+    cfg: &'a Cfg,
     /// Whether walks end at faults, and dead code stays dead.
     stops: bool,
     /// The first slots, and at the end how many slots there are.
@@ -75,15 +75,15 @@ struct Analysis<'a> {
     /// Whether what each returns changed since all were judged.
     is_changed: Vec<bool>,
     /// The states that each begins in.
-    entries: Vec<Held>,
+    entries: Vec<LabelState>,
     judged: Vec<Option<Judged>>,
 }
 
 /// The first slot of each function, and how many slots there are.
-fn firsts_of(alloc: Global, program: &Program, outline: &Outline) -> Result<Vec<u32>, AllocError> {
+fn firsts_of(alloc: Global, program: &Program, cfg: &Cfg) -> Result<Vec<u32>, AllocError> {
     let mut firsts = Vec::new(alloc);
-    for function in 0..outline.function_count() {
-        firsts.push(outline.label(outline.first_block(function)))?;
+    for function in 0..cfg.function_count() {
+        firsts.push(cfg.label(cfg.first_block(function)))?;
     }
     firsts.push(program.slots())?;
     Ok(firsts)
@@ -99,15 +99,15 @@ impl<'a> Analysis<'a> {
     fn new(
         alloc: Global,
         quest: Quest<'a>,
-        outline: &'a Outline,
+        cfg: &'a Cfg,
         stops: bool,
     ) -> Result<Analysis<'a>, AllocError> {
-        let firsts = firsts_of(alloc, quest.program, outline)?;
-        let count = outline.function_count();
+        let firsts = firsts_of(alloc, quest.program, cfg)?;
+        let count = cfg.function_count();
         Ok(Analysis {
             alloc,
             quest,
-            outline,
+            cfg,
             stops,
             firsts,
             rets: vec![in alloc; Num::top(); count]?,
@@ -123,11 +123,11 @@ impl<'a> Analysis<'a> {
     }
 
     /// What a walk over a function is given.
-    fn task<'b>(&'b self, region: &'b Region) -> Task<'b> {
+    fn task<'b>(&'b self, blocks: &'b Blocks) -> Task<'b> {
         Task {
             program: self.quest.program,
-            outline: self.outline,
-            region,
+            cfg: self.cfg,
+            blocks,
             least: self.quest.least,
             most: self.quest.most,
             rets: &self.rets,
@@ -164,7 +164,7 @@ impl<'a> Analysis<'a> {
     /// Adds labels for what isn't reached; where all is, changes the states of those that were added, if something is wrong.
     /// Whether there was anything to do.
     fn improve(&self, judged: &Judged, seeds: &mut Seeds) -> Result<bool, AllocError> {
-        let task = self.task(&judged.region);
+        let task = self.task(&judged.blocks);
         if judged.unreached.is_some() {
             add_seeds(self.alloc, task, &judged.states, &judged.report, seeds)?;
             return Ok(true);
@@ -185,14 +185,14 @@ impl<'a> Analysis<'a> {
         meter: &mut Meter<'_, W>,
     ) -> Result<Judged, Stop> {
         let extra = seeds.slots()?;
-        let region = Region::of(self.alloc, self.quest.program, first, end, &extra)?;
-        let states = self.states_of(&region, entry, seeds, meter)?;
-        let task = self.task(&region);
+        let blocks = Blocks::of(self.alloc, self.quest.program, first, end, &extra)?;
+        let states = self.states_of(&blocks, entry, seeds, meter)?;
+        let task = self.task(&blocks);
         let report = Report::of(self.alloc, task, &states)?;
         let unreached = report.unreached(task);
         Ok(Judged {
             entry: Entries::of(self.alloc, entry)?,
-            region,
+            blocks,
             states,
             report,
             unreached,
@@ -202,27 +202,27 @@ impl<'a> Analysis<'a> {
     /// The states of a function's labels. I1 at its first slot if they don't settle.
     fn states_of<W: Watch>(
         &self,
-        region: &Region,
+        blocks: &Blocks,
         entry: &State,
         seeds: &Seeds,
         meter: &mut Meter<'_, W>,
-    ) -> Result<Vec<Held>, Stop> {
-        let graph = graph_of(self.alloc, self.quest.program, region)?;
-        let Some(nest) = Nest::of(self.alloc, &graph, region.labels())? else {
-            return Err(Stop::unstable(region.first(), Limit::Depth));
+    ) -> Result<Vec<LabelState>, Stop> {
+        let graph = graph_of(self.alloc, self.quest.program, blocks)?;
+        let Some(nest) = Nest::of(self.alloc, &graph, blocks.labels())? else {
+            return Err(Stop::unstable(blocks.first(), Limit::Depth));
         };
-        let mut settler = Settler::new(self.alloc, self.task(region), &nest)?;
+        let mut settler = Settler::new(self.alloc, self.task(blocks), &nest)?;
         settler.seed(0, entry)?;
         let mut room = State::blank();
-        for label in 0..region.labels() {
-            if let Some(state) = seeds.at(region.slot(label)) {
+        for label in 0..blocks.labels() {
+            if let Some(state) = seeds.at(blocks.slot(label)) {
                 state.put_into(&mut room);
                 settler.seed(label, &room)?;
             }
         }
         match settler.settle(meter)? {
             Ok(states) => Ok(states),
-            Err(limit) => Err(Stop::unstable(region.first(), limit)),
+            Err(limit) => Err(Stop::unstable(blocks.first(), limit)),
         }
     }
 

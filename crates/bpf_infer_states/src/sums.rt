@@ -6,10 +6,10 @@ use bpf_state::{Entries, State};
 use std::alloc::{AllocError, Global};
 
 /// What is known where a label is reached; None where it isn't. Entries take memory for what is known alone.
-pub type Held = Option<Entries>;
+pub type LabelState = Option<Entries>;
 
 /// What is known at an index of a list.
-pub fn held(states: &[Held], index: usize) -> Option<&Entries> {
+pub fn held(states: &[LabelState], index: usize) -> Option<&Entries> {
     match states.get(index) {
         Some(Some(state)) => Some(state),
         _ => None,
@@ -17,7 +17,7 @@ pub fn held(states: &[Held], index: usize) -> Option<&Entries> {
 }
 
 /// Makes a state the one at an index of a list, with its numbers tightened. False if there is none.
-pub fn load(states: &[Held], index: usize, room: &mut State) -> bool {
+pub fn load(states: &[LabelState], index: usize, room: &mut State) -> bool {
     match states.get(index) {
         Some(Some(state)) => {
             state.put_into(room);
@@ -31,7 +31,7 @@ pub fn load(states: &[Held], index: usize, room: &mut State) -> bool {
 pub fn take_in(
     alloc: Global,
     room: &mut State,
-    sum: &mut Held,
+    sum: &mut LabelState,
     state: &State,
 ) -> Result<bool, AllocError> {
     let is_first = match sum {
@@ -57,7 +57,7 @@ pub fn take_in(
 pub fn take_in_at(
     alloc: Global,
     room: &mut State,
-    states: &mut Vec<Held>,
+    states: &mut Vec<LabelState>,
     index: usize,
     state: &State,
 ) -> Result<bool, AllocError> {
@@ -73,7 +73,7 @@ pub struct Sums {
     alloc: Global,
     /// By labels, the place of the first of its sums; at the end how many there are. A label in k loops has k + 1.
     starts: Vec<usize>,
-    sums: Vec<Held>,
+    sums: Vec<LabelState>,
     /// By sums, how many entries each had when it began, and all of them together.
     counts: Vec<u8>,
     kept: usize,
@@ -160,7 +160,7 @@ impl Sums {
     }
 
     /// What arrives at a label.
-    pub fn total(&mut self, label: usize) -> Result<Held, AllocError> {
+    pub fn total(&mut self, label: usize) -> Result<LabelState, AllocError> {
         let mut total = None;
         for index in self.start(label)..self.end(label) {
             if let Some(state) = held(&self.sums, index) {
@@ -181,7 +181,7 @@ impl Sums {
     }
 
     /// What arrives at a label from outside of loops; it is forgotten.
-    pub fn take(&mut self, label: usize) -> Held {
+    pub fn take(&mut self, label: usize) -> LabelState {
         let index = self.start(label);
         self.sums.get_mut(index)?.take()
     }

@@ -1,8 +1,8 @@
-//! Walks over segments, which go on behind faults or stop there.
+//! Walks over blocks, which go on behind faults or stop there.
 
-use crate::region::Region;
+use crate::blocks::Blocks;
 use crate::tolerant::go_on;
-use bpf_infer_base::{Edges, Outline, Stretch, Target, get_or};
+use bpf_infer_base::{Cfg, Edges, Stretch, Target, get_or};
 use bpf_infer_error::Condition;
 use bpf_insn::{Insn, Program};
 use bpf_num::Num;
@@ -10,7 +10,7 @@ use bpf_state::{State, leave, transfer};
 use std::alloc::AllocError;
 
 /// What takes note of where a walk leads; of what it gives no body for, it takes none.
-pub trait Watcher {
+pub trait Visitor {
     /// An instruction is reached in a state.
     fn before(&mut self, slot: u32, insn: &Insn, state: &State) -> Result<(), AllocError>;
 
@@ -35,8 +35,8 @@ pub trait Watcher {
 #[derive(Clone, Copy)]
 pub struct Task<'a> {
     pub program: &'a Program,
-    pub outline: &'a Outline,
-    pub region: &'a Region,
+    pub cfg: &'a Cfg,
+    pub blocks: &'a Blocks,
     pub least: u32,
     pub most: u32,
     /// By the functions' numbers, what each returns.
@@ -46,46 +46,46 @@ pub struct Task<'a> {
 }
 
 impl<'a> Task<'a> {
-    /// Goes over a label's segment from the state at the label.
-    pub fn walk<W: Watcher>(
+    /// Goes over a label's block from the state at the label.
+    pub fn walk<W: Visitor>(
         &self,
         label: usize,
         state: &mut State,
-        watcher: &mut W,
+        visitor: &mut W,
     ) -> Result<(), AllocError> {
         let stretch = Stretch {
             program: self.program,
-            first: self.region.slot(label),
-            end: self.region.segment_end(label),
-            limit: self.region.end(),
+            first: self.blocks.slot(label),
+            end: self.blocks.block_end(label),
+            limit: self.blocks.end(),
         };
         let mut walk = Walk {
             task: *self,
             label,
-            watcher,
+            visitor,
         };
         stretch.walk(state, &mut walk)?;
         Ok(())
     }
 }
 
-/// A walk over the segment of a label.
+/// A walk over the block of a label.
 #[derive(Drop)]
-struct Walk<'a, 'w, W: Watcher> {
+struct Walk<'a, 'w, W: Visitor> {
     task: Task<'a>,
     label: usize,
-    watcher: &'w mut W,
+    visitor: &'w mut W,
 }
 
-impl<'a, 'w, W: Watcher> Edges for Walk<'a, 'w, W> {
+impl<'a, 'w, W: Visitor> Edges for Walk<'a, 'w, W> {
     type Stop = AllocError;
 
     fn transfer(&mut self, slot: u32, insn: &Insn, state: &mut State) -> Result<bool, AllocError> {
-        self.watcher.before(slot, insn, state)?;
+        self.visitor.before(slot, insn, state)?;
         match transfer(insn, self.task.least, self.task.program.order(), state) {
             Ok(goes_on) => Ok(goes_on),
             Err(fault) => {
-                self.watcher.fault(slot, Condition::State(fault));
+                self.visitor.fault(slot, Condition::State(fault));
                 if !self.task.stops {
                     go_on(insn, state);
                 }
@@ -95,19 +95,19 @@ impl<'a, 'w, W: Watcher> Edges for Walk<'a, 'w, W> {
     }
 
     fn call(&mut self, callee: u32, state: &mut State) -> Result<bool, AllocError> {
-        let callee = self.task.outline.function_of(callee) as usize;
-        self.watcher.call(callee, state)?;
+        let callee = self.task.cfg.function_of(callee) as usize;
+        self.visitor.call(callee, state)?;
         Ok(leave(state, get_or(self.task.rets, callee, Num::top())))
     }
 
     fn edge(&mut self, target: Target, state: &State) -> Result<(), AllocError> {
         match target {
             Target::Slot(slot) => {
-                let to = self.task.region.segment(slot);
-                self.watcher.edge(self.label, to, state)?;
+                let to = self.task.blocks.block_of(slot);
+                self.visitor.edge(self.label, to, state)?;
             }
-            Target::Caller => self.watcher.exit(state),
-            Target::Nowhere(slot) => self.watcher.fault(slot, Condition::FallsOff),
+            Target::Caller => self.visitor.exit(state),
+            Target::Nowhere(slot) => self.visitor.fault(slot, Condition::FallsOff),
         }
         Ok(())
     }

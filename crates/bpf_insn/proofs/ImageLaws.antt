@@ -3,7 +3,8 @@ use Rattle.std.proofs.Common.{◌≡◌, ℕ, ◌+◌, ◌*◌, ◌-◌, ◌<◌
 use Rattle.std.specs.Prelude.{Option, Some, None}
 use Rattle.std.proofs.lemmas.List.{append_assoc, append-nil, length-append, take-append-drop, length-drop, length-take}
 use Rattle.bpf_insn.specs.Instruction.{layout, slots, slot_count, FailsFirst, EachSlot}
-use Rattle.bpf_insn.specs.Image.{image, instruction_bytes, HasEncoding, AllHaveEncoding, HasTarget, IsImage, IsProgram, max_slots}
+use Rattle.bpf_insn.specs.Image.{image, instruction_bytes, HasEncoding, AllHaveEncoding, HasTarget, IsImage, IsProgram}
+use Rattle.bpf_insn.specs.Limits.{max_slots}
 use Rattle.bpf_insn.specs.Refusal.{refusal_here, IsRefused, BeginsAt, IsBadLength}
 use Rattle.bpf_insn.specs.Refusal.IsRefused.{bad_length, bad_slot, bad_target}
 use Rattle.bpf_insn.specs.code.Decoding.{insn_in_bytes}

@@ -15,5 +15,6 @@ pub mod WriteLemmas
 pub mod LayoutLemmas
 pub mod LimitLemmas
 pub mod OpcodeLemmas
+pub mod ClassLemmas
 pub mod CodedLemmas
 pub mod ByteLemmas

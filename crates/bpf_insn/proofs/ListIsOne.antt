@@ -5,7 +5,8 @@ use Rattle.std.specs.Int.{w16, w32}
 use Rattle.std.proofs.lemmas.Int.{ints}
 use Rattle.std.proofs.lemmas.Bool.{cases_lt}
 use Rattle.bpf_insn.specs.Instruction.{layout, insn_in, slots, distance, target, EachSlot, FailsFirst}
-use Rattle.bpf_insn.specs.Image.{OperandFits, HasEncoding, IsProgram, HasTarget, LeadsInside, max_slots}
+use Rattle.bpf_insn.specs.Image.{OperandFits, HasEncoding, IsProgram, HasTarget, LeadsInside}
+use Rattle.bpf_insn.specs.Limits.{max_slots}
 use Rattle.bpf_insn.specs.Refusal.{IsNoProgram, IsBadCount}
 use Rattle.bpf_insn.specs.Refusal.IsNoProgram.{bad_count, no_encoding, no_target}
 use Rattle.bpf_insn.specs.Laws.{ListIsOneOfBoth}

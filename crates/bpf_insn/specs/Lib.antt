@@ -1,6 +1,8 @@
 -- Definitions, in the order in which they read best.
 -- the byte order, and all that depends on it
 pub mod Order
+-- the greatest sizes
+pub mod Limits
 -- what an instruction is made of: sizes, registers, slots, groups, distances
 pub mod Instruction
 -- arithmetic and comparisons as formulas on integers

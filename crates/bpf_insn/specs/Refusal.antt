@@ -7,7 +7,8 @@ use Rattle.std.specs.List.{list_any, list_all}
 use Rattle.bpf_insn.specs.Order.{number_of, dst_in, src_in}
 use Rattle.bpf_insn.specs.Instruction.{layout, slots, FailsFirst}
 use Rattle.bpf_insn.specs.declared.fields.Fields.{Fields}
-use Rattle.bpf_insn.specs.Image.{image, HasEncoding, AllHaveEncoding, HasTarget, max_slots}
+use Rattle.bpf_insn.specs.Image.{image, HasEncoding, AllHaveEncoding, HasTarget}
+use Rattle.bpf_insn.specs.Limits.{max_slots}
 use Rattle.bpf_insn.specs.declared.order.Order.{Order}
 use Rattle.bpf_insn.specs.declared.instruction.Insn.{Insn}
 use Rattle.bpf_insn.specs.declared.refusal.SlotFault.{SlotFault}

@@ -1,4 +1,4 @@
-//! The instruction that begins at a slot of an image.
+//! The instruction that begins at a slot of an image (RFC 9669, sections 3.1 and 3.2).
 
 ghost use Rattle.std.specs.Prelude.{◌≡◌, ◌≤◌, ◌<◌, length, slice_index};
 ghost use Rattle.bpf_insn.specs.code.Form.{reach_in, reached};

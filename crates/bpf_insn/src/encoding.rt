@@ -1,4 +1,4 @@
-//! Images of programs.
+//! Images of programs: their slots as bytes (RFC 9669, section 3).
 
 ghost use Rattle.std.specs.Prelude.{◌≡◌, ℕ, OnOk, OnErr, length, ◌∷◌, [], ◌++◌, ◌/◌, ◌^◌};
 ghost use Rattle.std.specs.Io.KnownBytes.{Appends};

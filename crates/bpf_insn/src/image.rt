@@ -1,4 +1,4 @@
-//! From an image to a program.
+//! From an image to a program (RFC 9669, section 3).
 
 ghost use Rattle.std.specs.Prelude.{◌≡◌, ◌⊎◌, ◌≤◌, ◌/◌, List, ℕ, IfOk, IfErr, IfSome, MatchResult, Some, take, length};
 ghost use Rattle.std.specs.Io.KnownBytes.{Consumes};

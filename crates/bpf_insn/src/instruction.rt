@@ -372,11 +372,12 @@ impl Insn {
 
 ghost use Rattle.std.specs.Prelude.{◌≡◌, ◌≤◌};
 ghost use Rattle.bpf_insn.specs.Instruction.{target};
+ghost use Rattle.bpf_insn.specs.Limits.{max_slots};
 
 /// The slot at a distance from the one after the slot, if it isn't negative (RFC 9669, section 4.3).
 #[inline(always)]
 pub fn target(slot: u32, distance: i32) -> Option<u32>
-    requires { slot ≤ 65536 }
+    requires { slot ≤ max_slots }
     ensures { result ≡ target slot distance }
 {
     let to = i64::from(slot) + 1 + i64::from(distance);

@@ -1,8 +1,9 @@
-//! Instructions laid out by slots, and the targets of their jumps.
+//! Instructions laid out by slots (RFC 9669, section 3), and the targets of their jumps (section 4.3).
 
 ghost use Rattle.std.specs.Prelude.{◌≡◌, ◌↔◌, ◌<◌, ◌≤◌, List, Option, IsTrue, IfSome, IfNone, is_some, option_and_then, length};
 ghost use Rattle.bpf_insn.specs.Instruction.{insn_in, distance, EachSlot, FailsFirst};
-ghost use Rattle.bpf_insn.specs.Image.{LeadsInside, HasTarget, max_slots};
+ghost use Rattle.bpf_insn.specs.Image.{LeadsInside, HasTarget};
+ghost use Rattle.bpf_insn.specs.Limits.{max_slots};
 ghost use Rattle.bpf_insn.specs.declared.instruction.Insn.{Insn};
 
 use crate::instruction::Insn;

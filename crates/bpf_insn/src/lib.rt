@@ -3,6 +3,7 @@
 
 mod arithmetic;
 mod bytes;
+mod class;
 mod code;
 mod coded;
 mod decoding;
@@ -28,6 +29,7 @@ mod view;
 pub mod written;
 
 pub use arithmetic::{extended, low_half};
+pub use class::Class;
 pub use code::Code;
 pub use coded::Coded;
 pub use effects::Access;

@@ -1,4 +1,4 @@
-//! Numbers in bytes, in a byte order.
+//! Numbers in bytes, in a byte order (RFC 9669, section 3.1).
 
 ghost use Rattle.std.specs.Prelude.{◌≡◌, ◌<◌, ◌≤◌, ◌^◌, ◌++◌, length, drop};
 ghost use Rattle.bpf_insn.specs.Order.{number_of, bytes_of};

@@ -1,4 +1,4 @@
-//! Why no instruction begins at a slot of an image.
+//! Why no instruction begins at a slot of an image (RFC 9669, sections 3 to 5: opcodes, and fields that must be zero).
 
 ghost use Rattle.std.specs.Prelude.{◌≡◌, ◌≤◌, length, option_map, None, true};
 ghost use Rattle.bpf_insn.specs.code.Form.{uses_of, is_other_zero};

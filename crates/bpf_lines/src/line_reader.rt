@@ -6,6 +6,9 @@ use arrayvec::ArrayVec;
 use std::io::Read;
 use std::marker::Model;
 
+/// How many bytes are read at a time.
+const BUFFERED: usize = 4_096;
+
 /// The reader failed.
 #[derive(Clone, Copy)]
 pub struct ReadFault;
@@ -28,7 +31,7 @@ pub enum Stop {
 #[derive(Drop)]
 pub struct LineReader<R: Read + Drop> {
     reader: R,
-    buffer: [u8; 4096],
+    buffer: [u8; BUFFERED],
     at: usize,
     end: usize,
 }
@@ -36,12 +39,13 @@ pub struct LineReader<R: Read + Drop> {
 impl<R: Read + Drop> Model for LineReader<R> {
     ghost use Rattle.std.specs.Prelude.{◌≤◌, List, ℕ, Option};
     ghost use Rattle.bpf_lines.specs.Taken.{unread};
+    ghost use Rattle.bpf_lines.specs.declared.line_reader.TheConstants.{BUFFERED};
 
     ghost Value = { Option (List ℕ) };
 
     ghost view = { λ s. unread (R.remaining s.reader) s.buffer s.at s.end };
 
-    ghost invariant = { λ s. (s.at ≤ s.end) × (s.end ≤ 4096) };
+    ghost invariant = { λ s. (s.at ≤ s.end) × (s.end ≤ BUFFERED) };
 }
 
 impl<R: Read + Drop> LineReader<R> {
@@ -53,7 +57,7 @@ impl<R: Read + Drop> LineReader<R> {
     {
         LineReader {
             reader,
-            buffer: [0; 4096],
+            buffer: [0; BUFFERED],
             at: 0,
             end: 0,
         }

@@ -5,3 +5,4 @@ pub mod StepLemmas
 pub mod RunLemmas
 pub mod RegisterLemmas
 pub mod NextLemmas
+pub mod StandingLemmas

@@ -3,4 +3,5 @@ pub mod PackedStack
 pub mod PackedRegisters
 pub mod Frames
 pub mod Locations
+pub mod Standing
 pub mod Stored

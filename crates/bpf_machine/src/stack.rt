@@ -3,7 +3,7 @@
 ghost use Rattle.std.specs.Prelude.{◌≡◌, ◌==◌, ◌+◌, ◌^◌, ◌%◌, ◌<◌, ◌≤◌, IfOk, IfErr, IfSome, take, drop, option_map, get_or, slice_set, replicate, [], ◌∷◌, Some, None, if◌then◌else◌};
 ghost use Rattle.bpf_insn.specs.Order.{number_of, bytes_of};
 ghost use Rattle.bpf_insn.specs.Instruction.{byte_count};
-ghost use Rattle.bpf_semantics.specs.State.{Cell, cell, empty_stack};
+ghost use Rattle.bpf_semantics.specs.State.{Cell, cell, empty_stack, frame_bytes, max_frames};
 ghost use Rattle.bpf_semantics.specs.State.Cell.{Byte};
 ghost use Rattle.bpf_semantics.specs.Memory.{bytes_in, pointer_in, with_bytes, with_parts};
 ghost use Rattle.bpf_semantics.specs.Stuck.{first_unreadable};
@@ -97,7 +97,7 @@ impl Stack {
     /// The byte of a number at an address; else why it can't be read.
     #[inline(always)]
     fn byte(&self, at: usize) -> Result<u8, Reason>
-        requires { at < 512 }
+        requires { at < frame_bytes }
         ensures ok { IfOk result (λ b. cell self.now at ≡ Some (Byte b)) }
         ensures err { IfErr result (λ reason. first_unreadable (cell self.now at ∷ []) ≡ Some reason) }
     {
@@ -113,7 +113,7 @@ impl Stack {
     /// The bytes of a number at an address, at the front of eight; else why the first that can't be read can't.
     #[inline(always)]
     fn bytes(&self, at: usize, count: usize) -> Result<[u8; 8], Reason>
-        requires inside { at + count ≤ 512 }
+        requires inside { at + count ≤ frame_bytes }
         requires few { count ≤ 8 }
         ensures ok { IfOk result (λ bytes. bytes_in (take count (drop at self.now)) ≡ Some (take count bytes)) }
         ensures err { IfErr result (λ reason. first_unreadable (take count (drop at self.now)) ≡ Some reason) }
@@ -132,7 +132,7 @@ impl Stack {
     /// The number in the bytes at an address; else why the first that can't be read can't.
     #[inline(always)]
     pub(crate) fn number(&self, order: Order, at: usize, size: Size) -> Result<u64, Reason>
-        requires { at + byte_count size ≤ 512 }
+        requires { at + byte_count size ≤ frame_bytes }
         ensures ok { IfOk result (λ x. option_map (number_of order (byte_count size)) (bytes_in (take (byte_count size) (drop at self.now))) ≡ Some x) }
         ensures err { IfErr result (λ reason. first_unreadable (take (byte_count size) (drop at self.now)) ≡ Some reason) }
         ensures fits { IfOk result (λ x. x < 256 ^ byte_count size) }
@@ -146,7 +146,7 @@ impl Stack {
     /// The number in the bytes at an address, where they lie in one slot and are all a number's.
     #[inline(always)]
     pub(crate) fn number_in_slot(&self, order: Order, at: usize, size: Size) -> Option<u64>
-        requires { at + byte_count size ≤ 512 }
+        requires { at + byte_count size ≤ frame_bytes }
         ensures number { IfSome result (λ x. option_map (number_of order (byte_count size)) (bytes_in (take (byte_count size) (drop at self.now))) ≡ Some x) }
         ensures fits { IfSome result (λ x. x < 256 ^ byte_count size) }
     {
@@ -165,7 +165,7 @@ impl Stack {
     /// The number in the bytes at an address, byte by byte; else why the first that can't be read can't.
     #[inline(never)]
     fn number_by_bytes(&self, order: Order, at: usize, size: Size) -> Result<u64, Reason>
-        requires { at + byte_count size ≤ 512 }
+        requires { at + byte_count size ≤ frame_bytes }
         ensures ok { IfOk result (λ x. option_map (number_of order (byte_count size)) (bytes_in (take (byte_count size) (drop at self.now))) ≡ Some x) }
         ensures err { IfErr result (λ reason. first_unreadable (take (byte_count size) (drop at self.now)) ≡ Some reason) }
         ensures fits { IfOk result (λ x. x < 256 ^ byte_count size) }
@@ -179,7 +179,7 @@ impl Stack {
     /// The pointer that the slot at an address holds, if it is a slot and holds one.
     #[inline(always)]
     pub(crate) fn pointer(&self, at: usize) -> Option<Value>
-        requires { at < 512 }
+        requires { at < frame_bytes }
         ensures { result ≡ (if at % 8 == 0 then pointer_in (cell self.now at) else None) }
     {
         if at % 8 != 0 || self.masks[at / 8] % 2 == 1 {
@@ -197,7 +197,7 @@ impl Stack {
     /// Writes a byte of a number. A pointer that the slot held is gone.
     #[inline(always)]
     fn store_byte(&mut self, at: usize, byte: u8)
-        requires { at < 512 }
+        requires { at < frame_bytes }
         ensures { self.new ≡ with_bytes (byte ∷ []) at self.old }
     {
         self.bytes[at] = byte;
@@ -208,7 +208,7 @@ impl Stack {
     /// Writes the lowest bytes of a number, byte by byte. Pointers that the slots held are gone.
     #[inline(never)]
     fn store_by_bytes(&mut self, order: Order, at: usize, size: Size, x: u64)
-        requires { at + byte_count size ≤ 512 }
+        requires { at + byte_count size ≤ frame_bytes }
         ensures { self.new ≡ with_bytes (bytes_of order (byte_count size) x) at self.old }
     {
         let mut bytes = [0; 8];
@@ -222,7 +222,7 @@ impl Stack {
     /// Writes the lowest bytes of a number to a slot. A pointer that it held is gone.
     #[inline(always)]
     fn store_in_slot(&mut self, order: Order, at: usize, size: Size, x: u64)
-        requires inside { at < 512 }
+        requires inside { at < frame_bytes }
         requires slot { at % 8 + byte_count size ≤ 8 }
         ensures { self.new ≡ with_bytes (bytes_of order (byte_count size) x) at self.old }
     {
@@ -234,7 +234,7 @@ impl Stack {
     /// Writes the lowest bytes of a number at an address. Pointers that the slots held are gone.
     #[inline(always)]
     pub(crate) fn store_number(&mut self, order: Order, at: usize, size: Size, x: u64)
-        requires { at + byte_count size ≤ 512 }
+        requires { at + byte_count size ≤ frame_bytes }
         ensures { self.new ≡ with_bytes (bytes_of order (byte_count size) x) at self.old }
     {
         if at % 8 + usize::from(size.bytes()) <= 8 {
@@ -247,7 +247,7 @@ impl Stack {
     /// Makes the slot at an address a pointer's.
     #[inline(always)]
     pub(crate) fn store_pointer(&mut self, at: usize, region: Region, off: i64)
-        requires inside { at + 8 ≤ 512 }
+        requires inside { at + 8 ≤ frame_bytes }
         requires slot { at % 8 ≡ 0 }
         ensures { self.new ≡ with_parts region off at self.old }
     {
@@ -273,14 +273,15 @@ impl Model for Stacks {
     ghost view = { λ s. s.by_depth };
 
     ghost use Rattle.std.specs.Prelude.{◌≡◌, length};
+    ghost use Rattle.bpf_semantics.specs.State.{max_frames};
 
-    ghost invariant = { λ s. length s.by_depth ≡ 8 };
+    ghost invariant = { λ s. length s.by_depth ≡ max_frames };
 }
 
 impl Stacks {
     /// Stacks that hold nothing.
     pub(crate) fn new() -> Self
-        ensures { result ≡ replicate 8 empty_stack }
+        ensures { result ≡ replicate max_frames empty_stack }
     {
         Stacks {
             by_depth: [
@@ -298,7 +299,7 @@ impl Stacks {
 
     /// Makes the stack at a depth uninitialised.
     pub(crate) fn clear(&mut self, depth: usize)
-        requires { depth < 8 }
+        requires { depth < max_frames }
         ensures { self.new ≡ slice_set self.old depth empty_stack }
     {
         self.by_depth[depth].clear();
@@ -313,8 +314,8 @@ impl Stacks {
         at: usize,
         size: Size,
     ) -> Result<u64, Reason>
-        requires live { depth < 8 }
-        requires inside { at + byte_count size ≤ 512 }
+        requires live { depth < max_frames }
+        requires inside { at + byte_count size ≤ frame_bytes }
         ensures ok { IfOk result (λ x. option_map (number_of order (byte_count size)) (bytes_in (take (byte_count size) (drop at (get_or self.now depth empty_stack)))) ≡ Some x) }
         ensures err { IfErr result (λ reason. first_unreadable (take (byte_count size) (drop at (get_or self.now depth empty_stack))) ≡ Some reason) }
         ensures fits { IfOk result (λ x. x < 256 ^ byte_count size) }
@@ -331,8 +332,8 @@ impl Stacks {
         at: usize,
         size: Size,
     ) -> Option<u64>
-        requires live { depth < 8 }
-        requires inside { at + byte_count size ≤ 512 }
+        requires live { depth < max_frames }
+        requires inside { at + byte_count size ≤ frame_bytes }
         ensures { IfSome result (λ x. option_map (number_of order (byte_count size)) (bytes_in (take (byte_count size) (drop at (get_or self.now depth empty_stack)))) ≡ Some x) }
     {
         self.by_depth[depth].number_in_slot(order, at, size)
@@ -341,8 +342,8 @@ impl Stacks {
     /// The pointer that the slot at an address holds, if it is a slot and holds one.
     #[inline(always)]
     pub(crate) fn pointer(&self, depth: usize, at: usize) -> Option<Value>
-        requires live { depth < 8 }
-        requires inside { at < 512 }
+        requires live { depth < max_frames }
+        requires inside { at < frame_bytes }
         ensures { result ≡ (if at % 8 == 0 then pointer_in (cell (get_or self.now depth empty_stack) at) else None) }
     {
         self.by_depth[depth].pointer(at)
@@ -351,8 +352,8 @@ impl Stacks {
     /// Writes the lowest bytes of a number at an address.
     #[inline(always)]
     pub(crate) fn store_number(&mut self, depth: usize, order: Order, at: usize, size: Size, x: u64)
-        requires live { depth < 8 }
-        requires inside { at + byte_count size ≤ 512 }
+        requires live { depth < max_frames }
+        requires inside { at + byte_count size ≤ frame_bytes }
         ensures { self.new ≡ slice_set self.old depth (with_bytes (bytes_of order (byte_count size) x) at (get_or self.old depth empty_stack)) }
     {
         self.by_depth[depth].store_number(order, at, size, x);
@@ -361,8 +362,8 @@ impl Stacks {
     /// Makes the slot at an address a pointer's.
     #[inline(always)]
     pub(crate) fn store_pointer(&mut self, depth: usize, at: usize, region: Region, off: i64)
-        requires live { depth < 8 }
-        requires inside { at + 8 ≤ 512 }
+        requires live { depth < max_frames }
+        requires inside { at + 8 ≤ frame_bytes }
         requires slot { at % 8 ≡ 0 }
         ensures { self.new ≡ slice_set self.old depth (with_parts region off at (get_or self.old depth empty_stack)) }
     {

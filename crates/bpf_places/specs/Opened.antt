@@ -1,5 +1,5 @@
 -- What opening a name gives, and what is read there.
-use Rattle.std.specs.Prelude.{◌≡◌, ◌⊎◌, ℕ, List, Option, Some, None, IfSome}
+use Rattle.std.specs.Prelude.{◌⊎◌, ℕ, List, Option, Some, None, IfSome}
 use Rattle.std.specs.Io.{StartsWith}
 use Rattle.bpf_insn.specs.Reading.{ReadsImage}
 
@@ -11,11 +11,6 @@ Fails known = (given : List ℕ) × IfSome known (λ bytes. StartsWith bytes giv
 -- to the places after it.
 abbrev pub Opening : Type 0 → Type 1
 Opening S = S → List ℕ → Option (Option (List ℕ)) → S → Type 0
-
--- the same, by what is said of readers
-abbrev pub opening : {S R : Type 0} → (S → List ℕ → Option R → S → Type 0) → (R → Option (List ℕ)) → S → List ℕ → Option (Option (List ℕ)) → S → Type 0
-opening opens remaining old name None new = opens old name None new
-opening {S} {R} opens remaining old name (Some known) new = (reader : R) × opens old name (Some reader) new × (known ≡ remaining reader)
 
 -- an image is read at the name: all its bytes, or the first of too many
 pub record ReadsAt {S : Type 0} (opening : Opening S) (old : S) (name bytes : List ℕ) (new : S) : Type 0 where

@@ -1,6 +1,6 @@
 //! What the command reads and writes, by name.
 
-ghost use Rattle.std.specs.Prelude.{◌≡◌, ℕ, Bool, List, [], Option, ⊤, IfOk, IfSome, is_ok, false};
+ghost use Rattle.std.specs.Prelude.{◌≡◌, ℕ, Bool, List, [], Option, ⊤, IfOk, IfSome, is_ok, option_map, false};
 ghost use Rattle.std.specs.Result.{result_ok};
 
 use crate::error::PlaceError;
@@ -12,8 +12,9 @@ pub trait Places {
 
     type Writer: Write + Drop;
 
-    /// What opening a name gives, None where it fails, and the places after it. Of files nothing is known.
-    ghost opens: { Self → List ℕ → Option Self.Reader → Self → Type 0 } = { λ _ _ _ _. ⊤ };
+    /// What opening a name gives, the bytes of its reader as far as they are known, or None where it fails; and the places after it. Of
+    /// files nothing is known.
+    ghost opens: { Self → List ℕ → Option (Option (List ℕ)) → Self → Type 0 } = { λ _ _ _ _. ⊤ };
 
     /// What making a stream for a name gives, None where it fails, and the places after it.
     ghost creates: { Self → List ℕ → Option Self.Writer → Self → Type 0 } = { λ _ _ _ _. ⊤ };
@@ -23,7 +24,7 @@ pub trait Places {
 
     /// What stands at the name. `Memory` where there is none to open it, `Refused` where it can't be opened for another cause.
     fn open(&mut self, name: &str) -> Result<Self::Reader, PlaceError>
-        ensures { opens self.old name.now (result_ok result) self.new };
+        ensures { opens self.old name.now (option_map Self.Reader.remaining (result_ok result)) self.new };
 
     /// An empty stream whose bytes stand at the name once it is finished. `Memory` where there is none to make it, `Refused` where it
     /// can't be made for another cause.

@@ -8,6 +8,7 @@ use Rattle.clap.specs.declared.builder.command.Command.{Command}
 use Rattle.clap.specs.declared.builder.command.Command.TheViews.{out-Command}
 use Rattle.clap.specs.declared.builder.value_parser.ValueParser.TheVariants as parser
 use Rattle.clap.specs.declared.builder.action.ArgAction.TheVariants.{SetTrue}
+use Rattle.bpf_insn.specs.Limits.{max_context, greatest_slot}
 use Rattle.bpf_insn.specs.declared.order.Order.{Order}
 use Rattle.bpf_insn.specs.declared.order.Order.TheVariants.{Little, Big}
 use Rattle.bpf_request.specs.declared.contexts.Contexts.{Contexts}
@@ -92,13 +93,13 @@ run_checked_places = with_rule (with_rule (new_app (codes "run-checked")) (place
 abbrev pub run_checked : App
 run_checked = with_rule (with_contexts run_checked_places) big
 
--- the required word `LEN`, a number up to 4096
+-- the required word `LEN`, a number up to the most bytes of a context
 abbrev pub context_length : Rule
-context_length = record (new_rule (codes "LEN")) { parser = Some (parser.Signed (pos 0) (pos 4096)); required = true }
+context_length = record (new_rule (codes "LEN")) { parser = Some (parser.Signed (pos 0) (pos max_context)); required = true }
 
--- the option `--most`, with a number up to 4096
+-- the option `--most`, with such a number
 abbrev pub most : Rule
-most = record (new_rule (codes "most")) { long = Some (codes "most"); value_names = 1; parser = Some (parser.Signed (pos 0) (pos 4096)) }
+most = record (new_rule (codes "most")) { long = Some (codes "most"); value_names = 1; parser = Some (parser.Signed (pos 0) (pos max_context)) }
 
 abbrev pub infer_places : App
 infer_places = with_rule (with_rule (with_rule (new_app (codes "infer")) (place (codes "IN"))) context_length) (place (codes "OUT"))
@@ -123,13 +124,13 @@ harden = with_rule (with_rule (with_rule (with_rule (with_rule harden_places tur
 abbrev pub migrate : App
 migrate = with_rule (with_rule (new_app (codes "migrate")) (place (codes "CERT"))) (place (codes "OUT"))
 
--- the option `--infer`, with a number up to 4096
+-- the option `--infer`, with such a number
 abbrev pub inferred : Rule
-inferred = record (new_rule (codes "infer")) { long = Some (codes "infer"); value_names = 1; parser = Some (parser.Signed (pos 0) (pos 4096)) }
+inferred = record (new_rule (codes "infer")) { long = Some (codes "infer"); value_names = 1; parser = Some (parser.Signed (pos 0) (pos max_context)) }
 
--- the option `--slot`, with a number up to 65535
+-- the option `--slot`, with a number up to the greatest slot
 abbrev pub one_slot : Rule
-one_slot = record (new_rule (codes "slot")) { long = Some (codes "slot"); value_names = 1; parser = Some (parser.Signed (pos 0) (pos 65535)) }
+one_slot = record (new_rule (codes "slot")) { long = Some (codes "slot"); value_names = 1; parser = Some (parser.Signed (pos 0) (pos greatest_slot)) }
 
 abbrev pub explain_places : App
 explain_places = with_rule (with_rule (new_app (codes "explain")) (place (codes "IN"))) (new_rule (codes "CERT"))
@@ -201,16 +202,16 @@ name_of Several = []
 
 -- At most one of CERT, `--infer` and `--text` is given, `--most` and `--deep` with `--infer` alone, `--slot` with CERT or `--infer`, and `--dot` with
 -- neither `--text` nor `--slot`: which of this isn't so.
-abbrev pub Clashes : Option Text → (least most slot : Option ℕ) → (text dot deep : Bool) → Clash → Type 0
-Clashes certificate least most slot text dot deep CertificateInfer = (is_some certificate && is_some least) ≡ true
-Clashes certificate least most slot text dot deep TextCertificate = (text && is_some certificate) ≡ true
-Clashes certificate least most slot text dot deep TextInfer = (text && is_some least) ≡ true
-Clashes certificate least most slot text dot deep TextSlot = (text && is_some slot) ≡ true
-Clashes certificate least most slot text dot deep TextDot = (text && dot) ≡ true
-Clashes certificate least most slot text dot deep SlotDot = (is_some slot && dot) ≡ true
-Clashes certificate least most slot text dot deep SlotAlone = (is_some slot && is_none certificate && is_none least) ≡ true
-Clashes certificate least most slot text dot deep MostAlone = (is_some most && is_none least) ≡ true
-Clashes certificate least most slot text dot deep DeepAlone = (deep && is_none least) ≡ true
+abbrev pub Clashes : Option Text → (least greatest slot : Option ℕ) → (text dot deep : Bool) → Clash → Type 0
+Clashes certificate least _ _ _ _ _ CertificateInfer = (is_some certificate && is_some least) ≡ true
+Clashes certificate _ _ _ text _ _ TextCertificate = (text && is_some certificate) ≡ true
+Clashes _ least _ _ text _ _ TextInfer = (text && is_some least) ≡ true
+Clashes _ _ _ slot text _ _ TextSlot = (text && is_some slot) ≡ true
+Clashes _ _ _ _ text dot _ TextDot = (text && dot) ≡ true
+Clashes _ _ _ slot _ dot _ SlotDot = (is_some slot && dot) ≡ true
+Clashes certificate least _ slot _ _ _ SlotAlone = (is_some slot && is_none certificate && is_none least) ≡ true
+Clashes _ least greatest _ _ _ _ MostAlone = (is_some greatest && is_none least) ≡ true
+Clashes _ least _ _ _ _ deep DeepAlone = (deep && is_none least) ≡ true
 
 -- by the slot, and whether a graph is wanted
 abbrev pub GivesAspect : (slot : Option ℕ) → (dot : Bool) → Aspect → Type 0
@@ -251,11 +252,15 @@ IsSubject rows subject =
     × IsNumber (one_of (codes "slot") rows) slot × IsFlag (one_of (codes "text") rows) text × IsFlag (one_of (codes "dot") rows) dot × IsFlag (one_of (codes "deep") rows) deep
     × GivesSubject (first_of (codes "CERT") rows) least most slot text dot deep subject
 
+-- how often a loop that gets a counter may turn, where nothing else is said
+abbrev pub usual_turns : ℕ
+usual_turns = 65536
+
 -- what is to be hardened, how, and where the answer goes
 abbrev pub IsHardening : List Row → Hardening → Type 0
 IsHardening rows h =
     IsInput rows h.input.now h.order × IsCount 32 0 (one_of (codes "LEN") rows) h.length × (h.output.now ≡ word_of (codes "OUT") rows)
-    × IsCount 32 65536 (one_of (codes "turns") rows) h.turns × IsCount 64 0 (one_of (codes "otherwise") rows) h.otherwise
+    × IsCount 32 usual_turns (one_of (codes "turns") rows) h.turns × IsCount 64 0 (one_of (codes "otherwise") rows) h.otherwise
     × IsFlag (one_of (codes "padded") rows) h.padded × (option_map (λ s. s.now) h.notes ≡ first_of (codes "notes") rows)
 
 -- the request of a subcommand with these matches

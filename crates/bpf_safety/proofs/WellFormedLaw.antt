@@ -19,8 +19,7 @@ use Rattle.bpf_cert.specs.declared.certificate.Measure.TheVariants.{Down, Up}
 use Rattle.bpf_cert.specs.declared.certificate.Term.{Term}
 use Rattle.bpf_cert.specs.View.{LabelView, FunctionView, CertificateView, header_of}
 use Rattle.bpf_cert.specs.Numeral.{is_from_to}
-use Rattle.bpf_cert.specs.Faults.{is_rising, is_range, is_int_range, is_bits}
-use Rattle.bpf_cert.specs.Limits.{IsCertificate, is_limited_header, is_version, is_canonical, is_canonical_function, first_before, is_limited, is_limited_function, is_limited_label, is_limited_term, is_limited_measure, is_limited_place, is_limited_state, has_shape, is_limited_pointer, is_limited_register, is_limited_slot, is_limited_num, label_count, place_measured}
+use Rattle.bpf_cert.specs.Limits.{is_rising, is_range, is_int_range, is_bits, IsCertificate, is_limited_header, is_version, is_canonical, is_canonical_function, first_before, is_limited, is_limited_function, is_limited_label, is_limited_term, is_limited_measure, is_limited_place, is_limited_state, has_shape, is_limited_pointer, is_limited_register, is_limited_slot, is_limited_num, label_count, place_measured}
 use Rattle.bpf_safety.specs.Budget.{place_of}
 use Rattle.bpf_safety.specs.Labels.{labels, label_at}
 use Rattle.bpf_safety.proofs.Basics.{some_is}

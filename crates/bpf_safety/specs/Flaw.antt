@@ -9,6 +9,9 @@ use Rattle.bpf_insn.specs.Instruction.{Instructions, slots, slot_count, insn_at,
 use Rattle.bpf_state.specs.declared.known.RegState.TheVariants.{Num}
 use Rattle.bpf_state.specs.State.{AbstractState, register, first_state, callee_state, tightened}
 use Rattle.bpf_state.specs.Fault.{fault_of, some_passes}
+use Rattle.bpf_state.specs.declared.condition.Condition.{Condition}
+use Rattle.bpf_state.specs.declared.condition.Condition.TheVariants.{NoLabel, MisplacedLabel, NotEntailed, OverBudget, NoDeeper, FallsOff, LeavesFunction, Misshapen}
+use Rattle.bpf_state.specs.Condition.{condition_number}
 use Rattle.bpf_state.specs.Entails.{state_entails, register_entails}
 use Rattle.bpf_cert.specs.declared.certificate.Measure.{Measure}
 use Rattle.bpf_cert.specs.declared.certificate.Term.{Term}
@@ -18,9 +21,13 @@ use Rattle.bpf_cert.specs.declared.certificate.Measure.TheVariants.{Up}
 use Rattle.bpf_safety.specs.Budget.{budget, bounds, greatest_budget, least_budget, least_slack}
 use Rattle.bpf_safety.specs.Flow.{Arrival, Visit, visits, sound_arrival, callee, cost_after, jump_target, jump_state, next_state}
 
--- a number in a list if its condition holds
+-- a number in a list if a test holds
 abbrev pub number_if : ℕ → Bool → List ℕ
 number_if n test = if test then n ∷ [] else []
+
+-- the number of a condition in a list, if the condition fails
+abbrev pub fails : Condition → Bool → List ℕ
+fails condition test = number_if (condition_number condition) test
 
 -- two numbers differ, or the first isn't there
 abbrev pub is_not : Option ℕ → ℕ → Bool
@@ -58,13 +65,13 @@ is_unpaid c v a e =
     is_negative_if (option_and_then (λ cost. least_slack (budget a.label) a.at_label cost e.state (budget l)) (cost_after c v.slot v.insn a)))
     (label_at c e.slot)
 
--- ---- conditions on an instruction, by number
+-- ---- conditions on an instruction
 
--- 1: no label stands at a jump's target
+-- C1: no label stands at a jump's target
 abbrev pub lacks_label : CertificateView → Visit → Bool
 lacks_label c v = some_passes (λ t. is_none (label_at c t)) (jump_target v.slot v.insn)
 
--- 3 to 7: registers and memory
+-- C3 to C7: registers and memory, by number
 abbrev pub fault_at : CertificateView → Visit → List ℕ
 fault_at c v = option_to_list (option_and_then (λ a. fault_of c.least a.state v.insn) v.arrival)
 
@@ -78,7 +85,7 @@ abbrev pub returns_wrongly : CertificateView → Visit → Arrival → Insn → 
 returns_wrongly c v a Exit = some_passes (λ f. not (register_entails (register a.state R0) (Num f.ret))) (function_at c v.slot)
 returns_wrongly c v a _ = false
 
--- 8: a state doesn't lie where it leads to
+-- C8: a state doesn't lie where it leads to
 abbrev pub is_not_entailed : Instructions → CertificateView → Visit → Arrival → Bool
 is_not_entailed p c v a =
     list_any (is_refused_by c) (edges p c v a) || enters_wrongly c v a || returns_wrongly c v a v.insn
@@ -89,12 +96,12 @@ exits_unpaid v a cost Exit =
     is_negative_if (option_and_then (λ spent. option_map (λ b. b -ℤ spent) (least_budget (budget a.label) a.at_label)) cost)
 exits_unpaid v a cost _ = false
 
--- 9: an edge or EXIT isn't paid
+-- C9: an edge or EXIT isn't paid
 abbrev pub is_over_budget : Instructions → CertificateView → Visit → Arrival → Bool
 is_over_budget p c v a =
     list_any (is_unpaid c v a) (edges p c v a) || exits_unpaid v a (cost_after c v.slot v.insn a) v.insn
 
--- 10: a callee's depth isn't below its caller's
+-- C10: a callee's depth isn't below its caller's
 abbrev pub calls_no_deeper : CertificateView → Visit → Bool
 calls_no_deeper c v =
     some_passes (λ f. some_passes (λ g. nat_le f.depth g.depth) (callee c v.slot v.insn)) (function_at c v.slot)
@@ -108,11 +115,11 @@ abbrev pub falls_past_end : Instructions → CertificateView → Visit → Arriv
 falls_past_end p c v a =
     v.slot + slot_count v.insn == slots p.list && is_some (next_state p c v.slot v.insn a.state)
 
--- 11: no state reaches the instruction
+-- C11: no state reaches the instruction
 abbrev pub is_never_reached : CertificateView → Visit → Bool
 is_never_reached c v = is_none v.arrival && not (has_refused_label c v)
 
--- 12: a jump or the next instruction lies in another function, or no function begins where a call leads to
+-- C12: a jump or the next instruction lies in another function, or no function begins where a call leads to
 abbrev pub leaves_for : CertificateView → FunctionView → Option ℕ → Bool
 leaves_for c f to = some_passes (λ t. is_not (option_map (λ g. g.first) (function_at c t)) f.first) to
 
@@ -134,12 +141,12 @@ leaves_function p c v =
 abbrev pub numbers_of_arrival : Instructions → CertificateView → Visit → Option Arrival → List ℕ
 numbers_of_arrival p c v None = []
 numbers_of_arrival p c v (Some a) =
-    number_if 8 (is_not_entailed p c v a) ++ number_if 9 (is_over_budget p c v a) ++ number_if 11 (falls_past_end p c v a)
+    fails NotEntailed (is_not_entailed p c v a) ++ fails OverBudget (is_over_budget p c v a) ++ fails FallsOff (falls_past_end p c v a)
 
 abbrev pub numbers_of_visit : Instructions → CertificateView → Visit → List ℕ
 numbers_of_visit p c v =
-    number_if 1 (lacks_label c v) ++ fault_at c v ++ numbers_of_arrival p c v (sound_arrival c v.insn v.arrival)
-    ++ number_if 10 (calls_no_deeper c v) ++ number_if 11 (is_never_reached c v) ++ number_if 12 (leaves_function p c v)
+    fails NoLabel (lacks_label c v) ++ fault_at c v ++ numbers_of_arrival p c v (sound_arrival c v.insn v.arrival)
+    ++ fails NoDeeper (calls_no_deeper c v) ++ fails FallsOff (is_never_reached c v) ++ fails LeavesFunction (leaves_function p c v)
 
 -- ---- conditions on a label
 
@@ -165,9 +172,9 @@ is_outside c f l = is_not (option_map (λ g. g.first) (function_at c l.slot)) f.
 
 abbrev pub numbers_of_label : Instructions → CertificateView → FunctionView → LabelView → List ℕ
 numbers_of_label p c f l =
-    number_if 2 (is_none (insn_at p.list l.slot))
-    ++ number_if 9 (list_any (is_bad_term l) l.terms)
-    ++ number_if 13 (is_outside c f l || is_none (tightened l.state))
+    fails MisplacedLabel (is_none (insn_at p.list l.slot))
+    ++ fails OverBudget (list_any (is_bad_term l) l.terms)
+    ++ fails Misshapen (is_outside c f l || is_none (tightened l.state))
 
 -- ---- conditions on the whole
 
@@ -191,10 +198,10 @@ at slot (n ∷ ns) = (slot, n) ∷ at slot ns
 
 abbrev pub function_flaws : Instructions → CertificateView → FunctionView → List (ℕ × ℕ)
 function_flaws p c f =
-    at f.first (number_if 13 (not (is_first_label f))) ++ flat_map (λ l. at l.slot (numbers_of_label p c f l)) f.labels
+    at f.first (fails Misshapen (not (is_first_label f))) ++ flat_map (λ l. at l.slot (numbers_of_label p c f l)) f.labels
 
 abbrev pub flaws : Instructions → CertificateView → List (ℕ × ℕ)
 flaws p c =
-    at 0 (number_if 13 (begins_wrongly c) ++ number_if 9 (starts_over_budget c))
+    at 0 (fails Misshapen (begins_wrongly c) ++ fails OverBudget (starts_over_budget c))
     ++ flat_map (λ v. at v.slot (numbers_of_visit p c v)) (visits p c)
     ++ flat_map (function_flaws p c) c.functions

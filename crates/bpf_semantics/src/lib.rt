@@ -1,4 +1,4 @@
-//! The machine that runs programs: what its states are, what a step does, when it is stuck, and their laws.
+//! The machine that runs programs (RFC 9669, sections 4 and 5): what its states are, what a step does, when it is stuck, and their laws.
 #![tactic(auto)]
 
 mod flat_laws;

@@ -1,4 +1,4 @@
-//! Why an instruction can't be done.
+//! Why an instruction can't be done: what RFC 9669 leaves undefined, and what this machine has no memory for.
 
 use thiserror::Error;
 

@@ -2,7 +2,7 @@
 
 ghost use Rattle.std.specs.Prelude.{◌≡◌, ◌<◌, Some};
 ghost use Rattle.bpf_insn.specs.Instruction.{target};
-ghost use Rattle.bpf_insn.specs.Image.{max_slots};
+ghost use Rattle.bpf_insn.specs.Limits.{max_slots};
 ghost use Rattle.bpf_semantics.specs.Targets.{LeadsToSlot};
 
 /// The slot at a distance from the next one, where it is known to be one of a program's (RFC 9669, section 4.3).

@@ -1,4 +1,4 @@
-//! What the machine's registers hold.
+//! What the machine's registers hold (RFC 9669, sections 2.1 and 4).
 
 /// A region of memory: the context, or the stack frame at a depth from 0 to 7.
 #[derive(Clone, Copy, Debug, PartialEq, Eq)]

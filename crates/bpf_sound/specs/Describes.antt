@@ -38,7 +38,7 @@ DescribesRegister depth (Ptr p) v = PointsInto (region_of depth p.area) p.lo p.h
 
 -- the cell of byte i of a slot
 abbrev pub slot_cell : machine.State → ℕ → ℕ → Option Cell
-slot_cell m k i = get_or m.top.stack (512 - 8 * k + i) None
+slot_cell m k i = get_or m.top.stack (machine.frame_bytes - 8 * k + i) None
 
 -- the eight cells are the parts, in order, of a pointer into a region, with an offset from lo to hi
 abbrev pub IsSpilled : Region → ℤ → ℤ → (ℕ → Option Cell) → Type 0

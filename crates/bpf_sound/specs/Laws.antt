@@ -9,6 +9,7 @@ use Rattle.bpf_semantics.specs.declared.reason.Reason.{Reason}
 use Rattle.bpf_semantics.specs.declared.reason.Reason.TheVariants.{TooManyFrames}
 use Rattle.bpf_insn.specs.Instruction.{Instructions, insn_at}
 use Rattle.bpf_insn.specs.Image.{HasEncoding}
+use Rattle.bpf_insn.specs.Limits.{max_context}
 use Rattle.bpf_semantics.specs.State as machine
 use Rattle.bpf_semantics.specs.Step.{Step, test_of_values, operand, ◌>>=◌}
 use Rattle.bpf_semantics.specs.Stuck.{reason_of}
@@ -102,10 +103,10 @@ WaitingFramesStay =
 abbrev pub StartDescribes : Type 0
 StartDescribes =
     (order : Order) (least most : ℕ) (context : List ℕ) (x : List ℕ)
-    → LengthWithin least most context → most ≤ 4096 → Describes order least most x (first_state least most) (machine.start context)
+    → LengthWithin least most context → most ≤ max_context → Describes order least most x (first_state least most) (machine.start context)
 
 abbrev pub StartIsAbstract : Type 0
-StartIsAbstract = (least most : ℕ) → least ≤ most → most ≤ 4096 → IsAbstract (first_state least most)
+StartIsAbstract = (least most : ℕ) → least ≤ most → most ≤ max_context → IsAbstract (first_state least most)
 
 abbrev pub TightenedDescribes : Type 0
 TightenedDescribes =

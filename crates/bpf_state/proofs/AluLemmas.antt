@@ -25,7 +25,7 @@ use Rattle.bpf_state.specs.declared.known.Tag.{Tag}
 use Rattle.bpf_state.specs.State.{AbstractState, register, put_register, same_area}
 use Rattle.bpf_state.specs.Fault.{operand, difference, some_passes, leaves_bounds, alu_of_kinds, reads_any}
 use Rattle.bpf_state.specs.Transfer.{Outcome, Faulty, live, unless, transfer, alu_tag}
-use Rattle.bpf_state.specs.Answer.{fault_number}
+use Rattle.bpf_state.specs.Condition.{fault_number}
 use Rattle.bpf_state.specs.code.Results.{Known, judged_result, numbers_result, result_of, written}
 
 -- the code holds sums of 64-bit numbers in 128 bits

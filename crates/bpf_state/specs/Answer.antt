@@ -1,16 +1,9 @@
 -- What the calls that change a state answer, against the definitions.
 use Rattle.std.specs.Prelude.{◌≡◌, ℕ, Bool, true, false, List, Option, Some, None, Result, Ok, Err, if◌then◌else◌}
 use Rattle.bpf_state.specs.declared.fault.StateFault.{StateFault}
-use Rattle.bpf_state.specs.declared.fault.StateFault.TheVariants.{UnsetRegister, WrongKinds, OutOfBounds, UnsetByte, Protected}
 use Rattle.bpf_state.specs.State.{AbstractState, no_tags}
+use Rattle.bpf_state.specs.Condition.{fault_number}
 use Rattle.bpf_state.specs.Transfer.{Outcome, Faulty, Dead, Live}
-
-abbrev pub fault_number : StateFault → ℕ
-fault_number UnsetRegister = 3
-fault_number WrongKinds = 4
-fault_number OutOfBounds = 5
-fault_number UnsetByte = 6
-fault_number Protected = 7
 
 -- the outcome that an answer tells together with the state that it leaves
 abbrev pub outcome_told : Result Bool StateFault → AbstractState → Outcome

@@ -21,10 +21,12 @@ use Rattle.bpf_num.specs.Interval.{unsigned_top}
 use Rattle.bpf_num.specs.SignedInterval.{signed_interval, signed_sub}
 use Rattle.bpf_num.specs.Number.{Number, number, constant, tighten}
 use Rattle.bpf_num.specs.Operation.{num_alu}
+use Rattle.bpf_state.specs.declared.fault.StateFault.TheVariants.{UnsetRegister, WrongKinds, OutOfBounds, UnsetByte, Protected}
 use Rattle.bpf_state.specs.declared.known.RegState.{RegState}
 use Rattle.bpf_state.specs.declared.known.RegState.TheVariants.{Any, Num, Ptr}
 use Rattle.bpf_state.specs.declared.known.Pointer.{Pointer}
 use Rattle.bpf_state.specs.State.{AbstractState, register, same_area}
+use Rattle.bpf_state.specs.Condition.{fault_number}
 use Rattle.bpf_state.specs.Access.{Span, span_of, is_slot, is_inside, touches, touched_bytes, is_pointer_slot, are_known_bytes, any_slot}
 
 -- the second operand: a constant, sign-extended, or what is known of a register
@@ -89,7 +91,7 @@ can_test _ _ _ _ = false
 
 -- ---- the conditions
 
--- 3: a register that is read may be uninitialised
+-- C3: a register that is read may be uninitialised
 abbrev pub reads_any : AbstractState → Insn → Bool
 reads_any s i = list_any (λ r. is_any (register s r)) (registers_read i)
 
@@ -137,7 +139,7 @@ reads_part s i =
     reads_memory i
     && on_span s i (λ p. not (loads_slot i p) && any_slot (λ k held. touches p k && is_pointer_slot held) 1 s.slots)
 
--- 4: the kinds of operands or of slots are wrong
+-- C4: the kinds of operands or of slots are wrong
 abbrev pub has_wrong_kinds : AbstractState → Insn → Bool
 has_wrong_kinds s i = not (have_right_kinds s i) || reads_part s i
 
@@ -152,26 +154,26 @@ makes_far_pointer s (Alu op width dst src) =
     some_passes leaves_bounds (option_and_then (λ r. r) (alu_of_kinds width op (register s dst) (operand s src)))
 makes_far_pointer s _ = false
 
--- 5: an access may leave the shortest context or the frame, or a pointer its bounds
+-- C5: an access may leave the shortest context or the frame, or a pointer its bounds
 abbrev pub is_out_of_bounds : ℕ → AbstractState → Insn → Bool
 is_out_of_bounds least s i = makes_far_pointer s i || on_span s i (λ p. not (is_inside least p))
 
--- 6: a byte that may be read isn't known as initialised
+-- C6: a byte that may be read isn't known as initialised
 abbrev pub reads_unknown_byte : AbstractState → Insn → Bool
 reads_unknown_byte s i =
     reads_memory i
     && on_span s i (λ p. any_slot (λ k held. touches p k && not (are_known_bytes (touched_bytes p k) held)) 1 s.slots)
 
--- 7: the context or r10 is to be written
+-- C7: the context or r10 is to be written
 abbrev pub writes_protected : AbstractState → Insn → Bool
 writes_protected s i = writes_frame_pointer i || (writes_memory i && on_span s i (λ p. not p.in_frame))
 
 -- the lowest number whose condition holds; `least` is the least length of the context
 abbrev pub fault_of : ℕ → AbstractState → Insn → Option ℕ
 fault_of least s i =
-    if reads_any s i then Some 3
-    else if has_wrong_kinds s i then Some 4
-    else if is_out_of_bounds least s i then Some 5
-    else if reads_unknown_byte s i then Some 6
-    else if writes_protected s i then Some 7
+    if reads_any s i then Some (fault_number UnsetRegister)
+    else if has_wrong_kinds s i then Some (fault_number WrongKinds)
+    else if is_out_of_bounds least s i then Some (fault_number OutOfBounds)
+    else if reads_unknown_byte s i then Some (fault_number UnsetByte)
+    else if writes_protected s i then Some (fault_number Protected)
     else None

@@ -5,6 +5,8 @@ pub mod State
 pub mod Held
 -- which bytes an access may touch
 pub mod Access
+-- the conditions of the checker, by number and in words
+pub mod Condition
 -- why an instruction is refused
 pub mod Fault
 -- the state after each instruction

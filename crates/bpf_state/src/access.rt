@@ -2,12 +2,14 @@
 
 use crate::fault::StateFault;
 use crate::known::{FRAME_START, RegState};
-use bpf_insn::{FRAME_BYTES, Size};
+use crate::state::State;
+use bpf_insn::{Access, FRAME_BYTES, Size};
 use std::marker::Model;
 
-/// The bytes of an access: where its first byte may lie at the lowest and at the highest, and their number.
+/// The bytes that an access may touch, in the frame, from -512 to -1, or in the context, from 0 on: where its first byte may lie at the
+/// lowest and at the highest, and their number.
 #[derive(Clone, Copy)]
-pub(crate) struct Reach {
+pub struct Reach {
     in_frame: bool,
     lowest: i128,
     highest: i128,
@@ -30,10 +32,10 @@ impl Model for Reach {
 ghost use Rattle.std.specs.Prelude.{◌≡◌, ◌<◌, ◌^◌, ◌≤ℤ◌, ◌+ℤ◌, ◌-ℤ◌, pos, neg_ℤ, suc, IsTrue, true, Some, MatchResult};
 ghost use Rattle.bpf_state.specs.Fault.{is_pointer};
 ghost use Rattle.bpf_insn.specs.Instruction.{byte_count};
-ghost use Rattle.bpf_state.specs.Access.{span_at, span_end, is_known, is_slot, is_inside, slot_number, first_byte, offset_in_slot, touched_bytes};
-ghost use Rattle.bpf_state.specs.State.{IsRegister};
+ghost use Rattle.bpf_state.specs.Access.{span_at, span_from, span_end, is_known, is_slot, is_inside, slot_number, first_byte, offset_in_slot, touched_bytes};
+ghost use Rattle.bpf_state.specs.State.{IsRegister, register};
 ghost use Rattle.bpf_state.specs.code.Parts.{IsSpan, AreTouched, base_fault, depth_of};
-ghost use Rattle.bpf_state.specs.Answer.{fault_number};
+ghost use Rattle.bpf_state.specs.Condition.{fault_number};
 
 impl Reach {
     /// The reach of an access at an offset from a value, or why that is no pointer.
@@ -81,14 +83,33 @@ impl Reach {
         let _count = self.count;
     }
 
-    pub(crate) fn in_frame(self) -> bool
+    /// The reach of an access in a state; None if its base is no pointer.
+    pub fn of_access(access: Access, state: &State) -> Option<Self>
+        ensures { result ≡ span_from access (register state.now access.base) }
+    {
+        let base = state.reg(access.base);
+        match base {
+            RegState::Ptr(_) => Some(Reach::of(base, access.off, access.size)),
+            RegState::Any | RegState::Num(_) => None,
+        }
+    }
+
+    /// Whether the access is one to the frame, and not to the context.
+    pub fn in_frame(self) -> bool
         ensures { result ≡ self.in_frame }
     {
         self.in_frame
     }
 
+    /// The first byte that may be touched.
+    pub fn first(self) -> i128
+        ensures { result ≡ self.lowest }
+    {
+        self.lowest
+    }
+
     /// The end of the bytes that may be touched.
-    fn end(self) -> i128
+    pub fn end(self) -> i128
         ensures { result ≡ span_end self }
     {
         self.highest + self.count as i128
@@ -119,7 +140,7 @@ impl Reach {
     }
 
     /// The indices of the slots that may be touched among all 64: the first, and the end of these.
-    pub(crate) fn slots(self) -> (usize, usize)
+    pub fn slots(self) -> (usize, usize)
         ensures { AreTouched self result.0 result.1 }
     {
         if !self.in_frame {
@@ -140,7 +161,7 @@ impl Reach {
     }
 
     /// The mask of the bytes that may be touched of the slot at a place.
-    pub(crate) fn mask(self, index: usize) -> u8
+    pub fn mask(self, index: usize) -> u8
         requires { index < 64 }
         ensures { result ≡ touched_bytes self (suc index) }
     {

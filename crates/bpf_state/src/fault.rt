@@ -1,27 +1,23 @@
 //! Why an instruction is refused.
 
 ghost use Rattle.std.specs.Prelude.{◌≡◌};
-ghost use Rattle.bpf_state.specs.Answer.{fault_number};
+ghost use Rattle.bpf_state.specs.Condition.{fault_number, fault_text};
 
 use thiserror::Error;
 
 /// Why an instruction is refused in an abstract state.
 #[derive(Clone, Copy, Debug, PartialEq, Eq, Error)]
+#[error("{}", self.text())]
 pub enum StateFault {
     /// C3: a register that is read may be uninitialised.
-    #[error("register may be uninitialised")]
     UnsetRegister,
     /// C4: an operand, or a stack slot that is read, is of a kind that the instruction doesn't take.
-    #[error("operand or stack slot of a wrong kind")]
     WrongKinds,
     /// C5: an access may leave the context or the frame, or a pointer's offset leaves -2^31 to 2^31.
-    #[error("access or pointer may be out of bounds")]
     OutOfBounds,
     /// C6: a stack byte that may be read isn't known as initialised.
-    #[error("stack byte may be uninitialised")]
     UnsetByte,
     /// C7: the context or r10 is to be written.
-    #[error("write to the context or to r10")]
     Protected,
 }
 
@@ -36,6 +32,19 @@ impl StateFault {
             StateFault::OutOfBounds => 5,
             StateFault::UnsetByte => 6,
             StateFault::Protected => 7,
+        }
+    }
+
+    /// What is told of the refusal, without the slot.
+    pub fn text(&self) -> &'static str
+        ensures { result.now ≡ fault_text self.now }
+    {
+        match self {
+            StateFault::UnsetRegister => "a register is read that may be uninitialised",
+            StateFault::WrongKinds => "the kinds of operands or slots are wrong",
+            StateFault::OutOfBounds => "an access or a pointer may leave its bounds",
+            StateFault::UnsetByte => "a stack byte is read that may be uninitialised",
+            StateFault::Protected => "the context or r10 is written",
         }
     }
 }

@@ -4,6 +4,7 @@
 mod access;
 mod branches;
 mod calls;
+pub mod condition;
 mod entailment;
 mod entries;
 pub mod fault;
@@ -18,8 +19,10 @@ mod tightening;
 mod transfers;
 mod work;
 
+pub use access::Reach;
 pub use branches::branch;
 pub use calls::{enter, leave};
+pub use condition::Condition;
 pub use entries::Entries;
 pub use fault::StateFault;
 pub use known::{Area, FARTHEST, FRAME_START, Place, Pointer, RegState, SlotState, Tag};

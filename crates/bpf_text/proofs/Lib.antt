@@ -26,3 +26,7 @@ pub mod AnnotatedLemmas
 pub mod AnnotatedReadLemmas
 pub mod TextsRead
 pub mod JudgedLemmas
+pub mod EndingLemmas
+pub mod FormEndingLemmas
+pub mod StopLemmas
+pub mod LabelLemmas

@@ -88,7 +88,7 @@ label_of : {o : Option (List ℕ × List ℕ)} {p : ReadTokens (List ℕ)} → S
 label_of {o = None} {p = p} same = ap (λ z. z >>= λ w. cond (is_name w.0) (if_nothing w.0 w.1) None) same.is
 label_of {o = Some x} {p = p} same = ap (λ z. cond (is_name x.0) z None) (nothing_left x.0 x.1) ∙ ap (λ z. z >>= λ w. cond (is_name w.0) (if_nothing w.0 w.1) None) same.is
 
-label_same : (part : List ℕ) → label_in part ≡ label_t (tokens part)
+pub label_same : (part : List ℕ) → label_in part ≡ label_t (tokens part)
 unfolding label_in label_t
 label_same part = label_of (word_same part)
 

@@ -19,7 +19,7 @@ use Rattle.bpf_text.specs.declared.spelling.Swap.{Swap}
 use Rattle.bpf_text.specs.declared.spelling.Keyword.{Keyword}
 use Rattle.bpf_text.specs.declared.spelling.Keyword.TheVariants as keyword
 use Rattle.bpf_text.specs.Parts.{registers, operations, conditions, modifications, extensions, swaps, memories, keywords, register_spelling, swap_spelling, memory_text, keyword_text}
-use Rattle.bpf_text.specs.declared.statement.MemoryOperand.{MemoryOperand}
+use Rattle.bpf_text.specs.declared.statement.memory.MemoryOperand.{MemoryOperand}
 use Rattle.bpf_text.specs.declared.statement.Jump.{Jump}
 use Rattle.bpf_text.specs.declared.statement.Jump.TheVariants.{Goto as ToSlot, GotoLong as FarToSlot, Call as CallSlot, If as OnTest}
 use Rattle.bpf_text.specs.code.WordReading.{◌>>=◌, skip_blanks, behind, unsigned_in, with_sign_of, number_behind, number_in, signed_behind, signed_in}

@@ -11,6 +11,8 @@ pub mod Statements
 pub mod Grammar
 -- what a text says, line by line
 pub mod Sources
+-- where a line that is refused leaves the language
+pub mod Stop
 -- which program a text assembles to, or why none
 pub mod Assembly
 -- the listing of a program

@@ -3,6 +3,7 @@ pub mod Puts
 pub mod WordReading
 pub mod StatementReading
 pub mod LineReading
+pub mod Endings
 pub mod Seen
 pub mod SourceSeen
 pub mod Chains

@@ -3,6 +3,7 @@
 ghost use Rattle.std.specs.Prelude.{◌≡◌, ℕ, ◌+◌, ◌<◌, ◌≤◌, option_map, OnOk, map, ◌++◌, length, Ok, Some};
 ghost use Rattle.bpf_text.specs.code.WordReading.{skip_blanks};
 ghost use Rattle.bpf_text.specs.Sources.{before};
+ghost use Rattle.bpf_text.specs.Stop.{IsUnlabelled};
 ghost use Rattle.bpf_text.specs.code.LineReading.{behind_it, label_in, labels_in, last_part, parts_of, labels_at, said_in, line_in};
 ghost use Rattle.bpf_text.specs.code.Seen.{line_seen, label_seen, size_left};
 
@@ -91,6 +92,23 @@ fn behind_labels(line: &[u8]) -> Option<&[u8]>
             return Some(rest);
         };
         label_name(part)?;
+        rest = more;
+    }
+}
+
+/// What stands behind the labels that a line begins with, each with its colon.
+pub fn unlabelled(line: &[u8]) -> &[u8]
+    ensures { IsUnlabelled line.now result.now }
+{
+    let mut rest = line;
+    'labels: loop {
+        let (part, more) = cut(rest, b':');
+        let Some(more) = more else {
+            return rest;
+        };
+        let Some(_) = label_name(part) else {
+            return rest;
+        };
         rest = more;
     }
 }

@@ -1,22 +1,21 @@
 //! The statement of a line.
 
-ghost use Rattle.std.specs.Prelude.{◌≡◌, ℕ, option_map};
+mod memory;
+
+ghost use Rattle.std.specs.Prelude.{◌≡◌, option_map};
 ghost use Rattle.bpf_text.specs.Statements.{seen, plain};
 ghost use Rattle.bpf_text.specs.Numerals.{fits_16, fits_32, fits_wide};
-ghost use Rattle.bpf_text.specs.code.StatementReading.{same_width, any_register_in, register_in, operand_in, wide_if, constant_in, negative_in, extension_in, swap_in, memory_operand_in, load_in, assigned_in, operation_in, assignment_in, unsigned_size, store_in, wide_of, change_in, exchange_in, atomic_in, name_in, target_in, test_in, branch_in, plainly, keyword_in, statement_in, whole_statement};
-ghost use Rattle.bpf_text.specs.Statements.{is_extension, load_of, store_of, jump_by};
+ghost use Rattle.bpf_text.specs.code.StatementReading.{same_width, register_in, operand_in, constant_in, negative_in, extension_in, swap_in, assigned_in, assignment_in, name_in, target_in, test_in, branch_in, plainly, keyword_in, statement_in, whole_statement};
+ghost use Rattle.bpf_text.specs.Statements.{is_extension, jump_by};
 ghost use Rattle.bpf_text.specs.Characters.{is_name};
 
-use crate::lookup::{any_register, extension_bits, keyword_named, memory, register_named, swap};
-use crate::spelling::{
-    CONDITIONS, Keyword, MODIFICATIONS, Memory, OPERATIONS, Register, Spelled, Swap,
-};
+use crate::lookup::{any_register, extension_bits, keyword_named, register_named, swap};
+use crate::spelling::{CONDITIONS, Keyword, OPERATIONS, Register, Spelled, Swap};
+use crate::statement::memory::{atomic, load, store};
 use crate::token::{
     behind, behind_mark, first_spelled, is_digit, number, signed, skip_blanks, unsigned, word,
 };
-use bpf_insn::{
-    AluOp, AtomicOp, Cond, EndBits, EndKind, Insn, Modify, Operand, Reg, SignBits, Size, Width,
-};
+use bpf_insn::{AluOp, Cond, Insn, Operand, Reg, SignBits, Width};
 
 /// A jump or call, without its target.
 #[derive(Clone, Copy)]
@@ -35,9 +34,9 @@ pub enum Statement<'a> {
 }
 
 /// What is read, None where a number is out of its range; and the text behind it.
-type Read<'a, T> = Option<(Option<T>, &'a [u8])>;
+pub type Read<'a, T> = Option<(Option<T>, &'a [u8])>;
 
-fn fits_16(number: i128) -> Option<i16>
+pub fn fits_16(number: i128) -> Option<i16>
     ensures { result ≡ fits_16 number }
 {
     if number >= -32_768 && number <= 32_767 {
@@ -77,7 +76,7 @@ fn same_width(left: Width, right: Width) -> bool
 }
 
 #[tactic(auto, unfolding(crate::specs::code::StatementReading::register_in))]
-fn register(width: Width, text: &[u8]) -> Option<(Reg, &[u8])>
+pub fn register(width: Width, text: &[u8]) -> Option<(Reg, &[u8])>
     ensures { option_map (λ x. (x.0, x.1.now)) result ≡ register_in width text.now }
 {
     let (found, rest) = any_register(text)?;
@@ -89,7 +88,7 @@ fn register(width: Width, text: &[u8]) -> Option<(Reg, &[u8])>
 }
 
 #[tactic(auto, unfolding(crate::specs::code::StatementReading::operand_in))]
-fn operand(width: Width, text: &[u8]) -> Read<'_, Operand>
+pub fn operand(width: Width, text: &[u8]) -> Read<'_, Operand>
     ensures { option_map (λ x. (x.0, x.1.now)) result ≡ operand_in width text.now }
 {
     if let Some((reg, rest)) = register(width, text) {
@@ -174,64 +173,6 @@ fn extension(width: Width, dst: Reg, text: &[u8]) -> Read<'_, Insn>
     }
 }
 
-/// A memory operand: `*(u8 *)(r1 + 0)`. The offset is None where it is out of its range.
-#[derive(Clone, Copy)]
-pub struct MemoryOperand {
-    pub memory: Memory,
-    pub base: Reg,
-    pub off: Option<i16>,
-}
-
-#[tactic(auto, unfolding(crate::specs::code::StatementReading::memory_operand_in))]
-fn read_memory_operand(text: &[u8]) -> Option<(MemoryOperand, &[u8])>
-    ensures { option_map (λ x. (x.0, x.1.now)) result ≡ memory_operand_in text.now }
-{
-    let (memory, rest) = memory(behind(text, "*(")?)?;
-    let (base, rest) = register(Width::W64, behind(rest, "*)(")?)?;
-    let (off, rest) = signed(rest)?;
-    let rest = behind_mark(rest, b')')?;
-    let at = MemoryOperand {
-        memory,
-        base,
-        off: fits_16(off),
-    };
-    Some((at, rest))
-}
-
-fn load_of(at: MemoryOperand, dst: Reg) -> Option<Insn>
-    ensures { result ≡ option_map (load_of at.memory dst at.base) at.off }
-{
-    let off = at.off?;
-    let src = at.base;
-    Some(match at.memory {
-        Memory::Unsigned(size) => Insn::Load {
-            size,
-            dst,
-            src,
-            off,
-        },
-        Memory::Signed(size) => Insn::LoadSx {
-            size,
-            dst,
-            src,
-            off,
-        },
-    })
-}
-
-#[tactic(auto, unfolding(crate::specs::code::StatementReading::load_in))]
-fn load(width: Width, dst: Reg, text: &[u8]) -> Read<'_, Insn>
-    ensures { option_map (λ x. (x.0, x.1.now)) result ≡ load_in width dst text.now }
-{
-    match width {
-        Width::W32 => None,
-        Width::W64 => {
-            let (at, rest) = read_memory_operand(text)?;
-            Some((load_of(at, dst), rest))
-        }
-    }
-}
-
 #[tactic(auto, unfolding(crate::specs::code::StatementReading::swap_in))]
 fn byte_swap(width: Width, dst: Reg, swap: Swap, text: &[u8]) -> Read<'_, Insn>
     ensures { option_map (λ x. (x.0, x.1.now)) result ≡ swap_in width dst swap text.now }
@@ -307,108 +248,6 @@ fn assignment(width: Width, dst: Reg, text: &[u8]) -> Read<'_, Insn>
     }
     let (src, rest) = operand(width, rest)?;
     Some((operation_of(op, width, dst, src), rest))
-}
-
-fn unsigned_size(memory: Memory) -> Option<Size>
-    ensures { result ≡ unsigned_size memory }
-{
-    match memory {
-        Memory::Unsigned(size) => Some(size),
-        Memory::Signed(_) => None,
-    }
-}
-
-fn store_of(size: Size, dst: Reg, off: Option<i16>, src: Option<Operand>) -> Option<Insn>
-    ensures { result ≡ store_of size dst off src }
-{
-    let off = off?;
-    Some(match src? {
-        Operand::Reg(src) => Insn::Store {
-            size,
-            dst,
-            off,
-            src,
-        },
-        Operand::Imm(imm) => Insn::StoreImm {
-            size,
-            dst,
-            off,
-            imm,
-        },
-    })
-}
-
-#[tactic(auto, unfolding(crate::specs::code::StatementReading::store_in))]
-fn store(text: &[u8]) -> Read<'_, Insn>
-    ensures { option_map (λ x. (x.0, x.1.now)) result ≡ store_in text.now }
-{
-    let (at, rest) = read_memory_operand(text)?;
-    let size = unsigned_size(at.memory)?;
-    let (src, rest) = operand(Width::W64, behind_mark(rest, b'=')?)?;
-    Some((store_of(size, at.base, at.off, src), rest))
-}
-
-/// Whether an atomic operation on it is one of 64 bits, if there is one.
-fn wide_of(memory: Memory) -> Option<bool>
-    ensures { result ≡ wide_of memory }
-{
-    match memory {
-        Memory::Unsigned(Size::W) => Some(false),
-        Memory::Unsigned(Size::DW) => Some(true),
-        Memory::Unsigned(Size::B | Size::H) => None,
-        Memory::Signed(_) => None,
-    }
-}
-
-fn atomic_of(wide: bool, op: AtomicOp, at: MemoryOperand, src: Reg) -> Option<Insn>
-    ensures { result ≡ option_map (λ off. Insn.Atomic wide op at.base off src) at.off }
-{
-    Some(Insn::Atomic {
-        wide,
-        op,
-        dst: at.base,
-        off: at.off?,
-        src,
-    })
-}
-
-#[tactic(auto, unfolding(crate::specs::code::StatementReading::change_in))]
-fn change(fetch: bool, text: &[u8]) -> Read<'_, Insn>
-    ensures { option_map (λ x. (x.0, x.1.now)) result ≡ change_in fetch text.now }
-{
-    let (at, rest) = read_memory_operand(text)?;
-    let wide = wide_of(at.memory)?;
-    let (by, rest) = first_spelled(&MODIFICATIONS, rest)?;
-    let (src, rest) = register(Width::W64, rest)?;
-    let op = AtomicOp::Modify { by, fetch };
-    Some((atomic_of(wide, op, at, src), rest))
-}
-
-#[tactic(auto, unfolding(crate::specs::code::StatementReading::exchange_in))]
-fn exchange(op: AtomicOp, text: &[u8]) -> Read<'_, Insn>
-    ensures { option_map (λ x. (x.0, x.1.now)) result ≡ exchange_in op text.now }
-{
-    let (at, rest) = read_memory_operand(text)?;
-    let wide = wide_of(at.memory)?;
-    let (src, rest) = register(Width::W64, behind_mark(rest, b',')?)?;
-    Some((atomic_of(wide, op, at, src), rest))
-}
-
-/// What stands behind `lock`.
-#[tactic(auto, unfolding(crate::specs::code::StatementReading::atomic_in))]
-fn atomic(text: &[u8]) -> Read<'_, Insn>
-    ensures { option_map (λ x. (x.0, x.1.now)) result ≡ atomic_in text.now }
-{
-    if let Some(rest) = behind(text, "fetch") {
-        return change(true, rest);
-    }
-    if let Some(rest) = behind(text, "xchg") {
-        return exchange(AtomicOp::Xchg, rest);
-    }
-    if let Some(rest) = behind(text, "cmpxchg") {
-        return exchange(AtomicOp::CmpXchg, rest);
-    }
-    change(false, text)
 }
 
 impl Jump {

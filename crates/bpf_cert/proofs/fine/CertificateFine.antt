@@ -6,9 +6,9 @@ use Rattle.std.proofs.lemmas.Bool.{leb-true, lt-ltb}
 use Rattle.std.proofs.lemmas.List.Sums.{sum_by-cons}
 use Rattle.bpf_cert.specs.Numeral.{is_from_to}
 use Rattle.bpf_cert.specs.Line.{Line}
-use Rattle.bpf_cert.specs.Faults.{is_rising, comes_after, is_function}
+use Rattle.bpf_cert.specs.Faults.{comes_after, is_function}
+use Rattle.bpf_cert.specs.Limits.{is_rising, IsCertificate, is_canonical, is_limited, is_canonical_function, is_canonical_label, is_limited_function, is_limited_label, is_limited_num, slot_before, first_before, label_count}
 use Rattle.bpf_cert.specs.View.{LabelView, FunctionView, CertificateView, header_of}
-use Rattle.bpf_cert.specs.Limits.{IsCertificate, is_canonical, is_limited, is_canonical_function, is_canonical_label, is_limited_function, is_limited_label, is_limited_num, slot_before, first_before, label_count}
 use Rattle.bpf_cert.specs.Spelling.{label_lines, function_line, function_lines, header_line, certificate_lines, number_of}
 use Rattle.bpf_cert.specs.code.Standing.{is_start, may_have_label}
 use Rattle.bpf_cert.specs.declared.header.Header.{Header}

@@ -7,9 +7,9 @@ use Rattle.std.proofs.lemmas.List.{length-map, length-take}
 use Rattle.std.proofs.lemmas.List.Sums.{sum_by-cons}
 use Rattle.std.proofs.lemmas.List.Folds.{list_all-append}
 use Rattle.bpf_cert.specs.Line.{Line}
-use Rattle.bpf_cert.specs.Faults.{is_rising, place_before, last_first, last_slot, last_place, comes_after, is_function, is_label, ends_bare, is_ended}
+use Rattle.bpf_cert.specs.Faults.{place_before, last_first, last_slot, last_place, comes_after, is_function, is_label, ends_bare, is_ended}
+use Rattle.bpf_cert.specs.Limits.{is_rising, is_canonical_state, is_canonical_label, is_limited_label, is_limited_state, is_limited_register, is_limited_slot, is_limited_term, term_before}
 use Rattle.bpf_cert.specs.View.{LabelView}
-use Rattle.bpf_cert.specs.Limits.{is_canonical_state, is_canonical_label, is_limited_label, is_limited_state, is_limited_register, is_limited_slot, is_limited_term, term_before}
 use Rattle.bpf_cert.specs.Spelling.{is_unknown, contents, content_of, place_at, lines_from, label_line, label_lines, term_of}
 use Rattle.bpf_cert.specs.code.Standing.{stage_of, may_have_label, may_have_entry}
 use Rattle.bpf_cert.specs.declared.standing.Stage.{Stage}

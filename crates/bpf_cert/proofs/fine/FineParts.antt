@@ -5,8 +5,8 @@ use Rattle.std.proofs.lemmas.Bool.{leb-true, ltb-true, ne_eqb}
 use Rattle.std.proofs.lemmas.Int.{ints}
 use Rattle.bpf_cert.specs.Numeral.{SignedDigits, is_plain, number, signed_number, is_plain_signed, digits_of_int, int_eq}
 use Rattle.bpf_cert.specs.Line.{Part}
-use Rattle.bpf_cert.specs.Faults.{is_range, is_bits, is_int_range, is_plain_part, is_top, is_limited_part, is_canonical_number, is_limited_number}
-use Rattle.bpf_cert.specs.Limits.{is_limited_num}
+use Rattle.bpf_cert.specs.Faults.{is_plain_part, is_top, is_limited_part, is_canonical_number, is_limited_number}
+use Rattle.bpf_cert.specs.Limits.{is_range, is_bits, is_int_range, is_limited_num}
 use Rattle.bpf_cert.specs.Spelling.{of_parts, number_of}
 use Rattle.bpf_cert.proofs.Bools.{both_true}
 use Rattle.bpf_cert.proofs.NumLemmas.{in_range}

@@ -6,9 +6,9 @@ use Rattle.std.proofs.lemmas.Bool.{leb-true, ltb-true, ltb-false, lt-ltb, le-leb
 use Rattle.std.proofs.lemmas.Int.{ints}
 use Rattle.bpf_cert.specs.Numeral.{is_plain_signed, digits_of_int, signed_number, is_from_to, number}
 use Rattle.bpf_cert.specs.Line.{PlaceText}
-use Rattle.bpf_cert.specs.Faults.{is_rising, is_pointer_range, is_canonical_content, is_limited_content, is_plain_place, is_limited_place, is_plain_measure, is_limited_measure, is_limited_term, place_before, line_place}
+use Rattle.bpf_cert.specs.Faults.{is_canonical_content, is_limited_content, is_plain_place, is_limited_place, is_plain_measure, is_limited_measure, is_limited_term, place_before, line_place}
+use Rattle.bpf_cert.specs.Limits.{is_rising, is_pointer_range, is_limited_slot, is_limited_place as is_limited_value, is_limited_measure as is_limited_measured, is_limited_term as is_limited_termed, place_before as value_before, place_measured, term_before as termed_before}
 use Rattle.bpf_cert.specs.code.TermSums.{is_plain_term, term_before}
-use Rattle.bpf_cert.specs.Limits.{is_limited_slot, is_limited_place as is_limited_value, is_limited_measure as is_limited_measured, is_limited_term as is_limited_termed, place_before as value_before, place_measured, term_before as termed_before}
 use Rattle.bpf_cert.specs.Spelling.{is_unknown, bounds_in, content_of, place_at, spelled_place, measure_of, term_of}
 use Rattle.bpf_cert.specs.declared.certificate.Term.{Term as TermValue}
 use Rattle.bpf_cert.specs.declared.certificate.Measure.{Measure}

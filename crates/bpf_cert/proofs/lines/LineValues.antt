@@ -10,8 +10,7 @@ use Rattle.bpf_num.specs.SignedInterval.{SignedInterval, signed_interval, signed
 use Rattle.bpf_num.specs.Number.{Number as NumberValue, number as number_of_parts, top}
 use Rattle.bpf_cert.specs.Numeral.{SignedDigits, number, signed_number, digits_of_int, int_eq, is_from_to}
 use Rattle.bpf_cert.specs.Line.{Part, Number, Content, PlaceText, Measure as MeasureText, Term as TermText}
-use Rattle.bpf_cert.specs.Faults.{is_range, is_int_range, is_pointer_range, is_bits}
-use Rattle.bpf_cert.specs.Limits.{is_limited_num, is_limited_slot, is_limited_place, is_limited_measure, is_limited_term}
+use Rattle.bpf_cert.specs.Limits.{is_range, is_int_range, is_pointer_range, is_bits, is_limited_num, is_limited_slot, is_limited_place, is_limited_measure, is_limited_term}
 use Rattle.bpf_cert.specs.Spelling.{unsigned_parts, signed_parts, bits_parts, of_parts, number_of, bounds_in, content_of, spelled_place, measure_of, term_of}
 use Rattle.bpf_cert.specs.declared.certificate.Measure.{Measure}
 use Rattle.bpf_cert.specs.declared.certificate.Measure.TheVariants as measure

@@ -9,9 +9,8 @@ use Rattle.bpf_num.specs.Number.{Number as NumberValue}
 use Rattle.bpf_cert.specs.declared.certificate.Term.{Term as TermValue}
 use Rattle.bpf_cert.specs.Numeral.{number, is_from_to}
 use Rattle.bpf_cert.specs.Line.{Number, Term, Line}
-use Rattle.bpf_cert.specs.Faults.{is_rising}
+use Rattle.bpf_cert.specs.Limits.{is_rising, IsCertificate, is_canonical, is_limited, is_limited_header, is_canonical_state, term_before, is_canonical_label, slot_before, is_canonical_function, first_before, is_limited_num, is_limited_state, is_limited_term, is_limited_label, is_limited_function, label_count}
 use Rattle.bpf_cert.specs.View.{LabelView, FunctionView, CertificateView, certificate_of, header_of}
-use Rattle.bpf_cert.specs.Limits.{IsCertificate, is_canonical, is_limited, is_limited_header, is_canonical_state, term_before, is_canonical_label, slot_before, is_canonical_function, first_before, is_limited_num, is_limited_state, is_limited_term, is_limited_label, is_limited_function, label_count}
 use Rattle.bpf_cert.specs.Spelling.{number_of, content_of, term_of, lengths_of, is_unknown, place_at, contents, lines_from, label_lines, function_lines, certificate_lines}
 use Rattle.bpf_cert.proofs.Bools.{both_true}
 use Rattle.bpf_cert.proofs.HeaderValues.{header_said, header_again}

@@ -8,10 +8,10 @@ use Rattle.std.proofs.lemmas.List.Sums.{sum_by-cons}
 use Rattle.bpf_state.specs.declared.known.SlotState.{SlotState}
 use Rattle.bpf_cert.specs.Numeral.{number, is_numeral, is_plain, is_from_to}
 use Rattle.bpf_cert.specs.Line.{Number, Content, PlaceText, Term, Line, is_place, is_content, is_number, is_term, is_line}
-use Rattle.bpf_cert.specs.Faults.{is_rising, place_before, line_place, last_first, last_slot, last_place, comes_after, is_function, is_label, ends_bare, is_plain_place, is_canonical_content, is_limited_place, is_limited_content, is_canonical_number, is_limited_number, is_limited_term as is_limited_text}
+use Rattle.bpf_cert.specs.Faults.{place_before, line_place, last_first, last_slot, last_place, comes_after, is_function, is_label, ends_bare, is_plain_place, is_canonical_content, is_limited_place, is_limited_content, is_canonical_number, is_limited_number, is_limited_term as is_limited_text}
+use Rattle.bpf_cert.specs.Limits.{is_rising, is_canonical_label, is_limited_label, term_before, is_canonical_function, is_limited_function, label_count}
 use Rattle.bpf_cert.specs.code.TermSums.{is_plain_term}
 use Rattle.bpf_cert.specs.View.{LabelView, FunctionView}
-use Rattle.bpf_cert.specs.Limits.{is_canonical_label, is_limited_label, term_before, is_canonical_function, is_limited_function, label_count}
 use Rattle.bpf_cert.specs.Spelling.{lines_from, label_lines, function_line, function_lines}
 use Rattle.bpf_cert.specs.code.Standing.{stage_of, is_start, may_have_label, may_have_entry}
 use Rattle.bpf_cert.specs.declared.standing.Stage.{Stage}

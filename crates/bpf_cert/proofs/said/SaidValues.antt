@@ -7,9 +7,9 @@ use Rattle.std.proofs.lemmas.Int.{ints}
 use Rattle.bpf_insn.specs.Instruction.{register_number}
 use Rattle.bpf_cert.specs.Numeral.{SignedDigits, is_numeral, is_plain, number, signed_number, is_plain_signed, digits_of_int, is_from_to}
 use Rattle.bpf_cert.specs.Line.{Content, PlaceText, Measure, Term, is_content, is_place, is_measure, is_term}
-use Rattle.bpf_cert.specs.Faults.{is_pointer_range, is_canonical_content, is_limited_content, is_plain_place, is_limited_place, is_plain_measure, is_limited_measure, is_limited_term}
+use Rattle.bpf_cert.specs.Faults.{is_canonical_content, is_limited_content, is_plain_place, is_limited_place, is_plain_measure, is_limited_measure, is_limited_term}
+use Rattle.bpf_cert.specs.Limits.{is_pointer_range, is_limited_slot, is_limited_place as is_limited_value, is_limited_measure as is_limited_measured, is_limited_term as is_limited_termed}
 use Rattle.bpf_cert.specs.code.TermSums.{is_plain_term}
-use Rattle.bpf_cert.specs.Limits.{is_limited_slot, is_limited_place as is_limited_value, is_limited_measure as is_limited_measured, is_limited_term as is_limited_termed}
 use Rattle.bpf_cert.specs.Spelling.{is_unknown, content_of, place_at, spelled_place, measure_of, term_of}
 use Rattle.bpf_cert.proofs.NumeralLaws.{plain_decimal}
 use Rattle.bpf_cert.proofs.Bools.{both_true}

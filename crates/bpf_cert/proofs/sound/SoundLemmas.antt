@@ -2,10 +2,10 @@
 use Rattle.std.proofs.Common.{◌≡◌, ℕ, ◌<◌, Bool, true, false, ltb, List, [], ◌∷◌, ◌++◌, length, Some, refl, sym, ap, ◌∙◌}
 use Rattle.std.specs.Prelude.{◌&&◌, option_map}
 use Rattle.std.proofs.lemmas.Bool.{lt-ltb}
-use Rattle.bpf_cert.specs.Faults.{is_rising, comes_after}
+use Rattle.bpf_cert.specs.Faults.{comes_after}
+use Rattle.bpf_cert.specs.Limits.{is_rising, is_canonical_label, is_limited_label, is_canonical_function, is_limited_function}
 use Rattle.bpf_cert.specs.code.TermSums.{last}
 use Rattle.bpf_cert.specs.View.{LabelView, FunctionView}
-use Rattle.bpf_cert.specs.Limits.{is_canonical_label, is_limited_label, is_canonical_function, is_limited_function}
 use Rattle.bpf_cert.specs.code.Sound.{AreLabels, AreFunctions, IsNext, first_of, slot_of}
 use Rattle.bpf_cert.proofs.FindingLemmas.{list_all_end}
 use Rattle.bpf_cert.proofs.Bools.{both_true}

@@ -8,11 +8,11 @@ use Rattle.std.proofs.lemmas.List.Sums.{sum_by-append, sum_by-cons}
 use Rattle.bpf_num.specs.Number.{Number as AbstractNumber, IsNumber}
 use Rattle.bpf_cert.specs.Numeral.{number, is_from_to}
 use Rattle.bpf_cert.specs.Line.{Line, PlaceText, Content}
-use Rattle.bpf_cert.specs.Faults.{is_rising, comes_after, is_function, is_label, ends_bare, last_first}
+use Rattle.bpf_cert.specs.Faults.{comes_after, is_function, is_label, ends_bare, last_first}
+use Rattle.bpf_cert.specs.Limits.{is_rising, is_canonical_state, is_limited_state, is_limited_term, term_before, is_limited_num, label_count, is_limited_header, IsCertificate}
 use Rattle.bpf_cert.specs.code.TermSums.{last}
 use Rattle.bpf_cert.specs.View.{LabelView, FunctionView, certificate_of}
 use Rattle.bpf_cert.specs.Spelling.{header_line, function_line, label_line, term_of}
-use Rattle.bpf_cert.specs.Limits.{is_canonical_state, is_limited_state, is_limited_term, term_before, is_limited_num, label_count, is_limited_header, IsCertificate}
 use Rattle.bpf_cert.specs.code.Standing.{Stands}
 use Rattle.bpf_cert.specs.code.Sound.{AreLabels, HasFunction, AreWhole, first_of, slot_of, with_label, IsLabelState}
 use Rattle.bpf_cert.specs.declared.standing.Standing.{Standing}

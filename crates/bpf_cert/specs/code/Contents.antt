@@ -1,9 +1,8 @@
 -- What a line says of a place, as a slot's content.
 use Rattle.std.specs.Prelude.{◌≡◌, Bool, true, false, ◌&&◌, ℤ}
 use Rattle.bpf_cert.specs.Numeral.{SignedDigits, signed_number, is_plain_signed, digits_of_int}
-use Rattle.bpf_cert.specs.Faults.{is_pointer_range}
+use Rattle.bpf_cert.specs.Limits.{is_pointer_range, is_limited_slot}
 use Rattle.bpf_cert.specs.Spelling.{is_unknown}
-use Rattle.bpf_cert.specs.Limits.{is_limited_slot}
 use Rattle.bpf_state.specs.State.{IsSlot}
 use Rattle.bpf_state.specs.declared.known.SlotState.{SlotState}
 

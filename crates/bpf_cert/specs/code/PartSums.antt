@@ -2,7 +2,8 @@
 use Rattle.std.specs.Prelude.{◌≡◌, ℕ, ◌+◌, ◌≤◌, Bool, ◌&&◌, List, [], ◌∷◌, ◌++◌, Ok}
 use Rattle.std.specs.List.{list_all}
 use Rattle.bpf_cert.specs.Line.{Part}
-use Rattle.bpf_cert.specs.Faults.{is_rising, part_before, part_rank, is_limited_part}
+use Rattle.bpf_cert.specs.Faults.{part_before, part_rank, is_limited_part}
+use Rattle.bpf_cert.specs.Limits.{is_rising}
 use Rattle.bpf_cert.specs.code.Findings.{tested}
 use Rattle.bpf_cert.specs.Spelling.{unsigned_parts, signed_parts, bits_parts}
 use Rattle.bpf_cert.specs.code.Seen.{is_canonical_part}

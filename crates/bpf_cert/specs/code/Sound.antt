@@ -1,12 +1,11 @@
 -- What the parts of a certificate in the making keep of its order and limits.
-use Rattle.std.specs.Prelude.{◌≡◌, ◌≤◌, ◌<◌, ℕ, ◌+◌, true, List, [], ◌∷◌, ◌++◌, length, map, sum_by, Some, option_map, nat_le, nat_lt}
+use Rattle.std.specs.Prelude.{◌≡◌, ◌≤◌, ◌<◌, ℕ, ◌+◌, true, List, [], ◌∷◌, ◌++◌, length, map, sum_by, Some, option_map, nat_lt}
 use Rattle.std.specs.List.{list_all}
 use Rattle.bpf_state.specs.State.{AbstractState}
-use Rattle.bpf_cert.specs.Numeral.{is_from_to}
-use Rattle.bpf_cert.specs.Faults.{is_rising, comes_after}
+use Rattle.bpf_cert.specs.Faults.{comes_after}
+use Rattle.bpf_cert.specs.Limits.{is_rising, is_canonical_state, is_limited_state, slot_before, is_canonical_label, is_limited_label, first_before, is_canonical_function, is_limited_function, is_limited_num, label_count, is_limited_header, IsCertificate, max_functions, max_labels, is_slot_number, is_depth}
 use Rattle.bpf_cert.specs.code.TermSums.{last}
 use Rattle.bpf_cert.specs.View.{LabelView, FunctionView, label_view, function_view, certificate_of}
-use Rattle.bpf_cert.specs.Limits.{is_canonical_state, is_limited_state, slot_before, is_canonical_label, is_limited_label, first_before, is_canonical_function, is_limited_function, is_limited_num, label_count, is_limited_header, IsCertificate}
 use Rattle.bpf_cert.specs.declared.standing.Stage.{Stage}
 use Rattle.bpf_cert.specs.declared.standing.Stage.TheVariants as stage
 use Rattle.bpf_cert.specs.declared.standing.Standing.{Standing}
@@ -39,8 +38,8 @@ slot_of l = l.slot
 -- a function behind others, but for its labels
 pub record IsNext (fs : List FunctionView) (f : FunctionView) : Type 0 where
   pub order : comes_after nat_lt (option_map first_of (last fs)) f.first ≡ true
-  pub first : nat_le f.first 65535 ≡ true
-  pub depth : is_from_to 1 8 f.depth ≡ true
+  pub first : is_slot_number f.first ≡ true
+  pub depth : is_depth f.depth ≡ true
   pub ret : is_limited_num f.ret ≡ true
 
 -- all functions are whole
@@ -50,8 +49,8 @@ pub record AreWhole (s : Standing) (h : Header) (fs : List FunctionView) : Type 
   pub first : s.first ≡ option_map first_of (last fs)
   pub count : s.functions ≡ length fs
   pub total : s.labels ≡ sum_by label_count fs
-  pub few_functions : length fs ≤ 256
-  pub few_labels : sum_by label_count fs ≤ 65536
+  pub few_functions : length fs ≤ max_functions
+  pub few_labels : sum_by label_count fs ≤ max_labels
 
 -- behind whole functions there is one that may have more labels
 pub record HasFunction (s : Standing) (h : Header) (fs : List FunctionView) (f : FunctionView) : Type 0 where
@@ -63,8 +62,8 @@ pub record HasFunction (s : Standing) (h : Header) (fs : List FunctionView) (f :
   pub slot : s.slot ≡ option_map slot_of (last f.labels)
   pub count : s.functions ≡ length fs + 1
   pub total : s.labels ≡ sum_by label_count fs + length f.labels
-  pub few_functions : length fs < 256
-  pub few_labels : sum_by label_count fs + length f.labels ≤ 65536
+  pub few_functions : length fs < max_functions
+  pub few_labels : sum_by label_count fs + length f.labels ≤ max_labels
 
 -- the functions in the list
 abbrev pub closed : Builder → List FunctionView

@@ -8,6 +8,7 @@ use Rattle.bpf_cert.specs.Numeral.{is_numeral}
 use Rattle.bpf_cert.specs.Reading.{number_in, content_in, function_in, label_in, entry_in}
 use Rattle.bpf_cert.specs.code.TermSums.{terms_in}
 use Rattle.bpf_cert.specs.Faults.{is_canonical, is_limited, may_stand, is_in_order, has_room, last_first, last_slot, last_place, is_function, is_label}
+use Rattle.bpf_insn.specs.Limits.{greatest_slot}
 use Rattle.bpf_cert.specs.Limits.{is_limited_place, is_limited_term, is_limited_header}
 use Rattle.bpf_cert.specs.Spelling.{spelled_place, term_of, number_of, content_of, header_line}
 use Rattle.bpf_cert.specs.code.Contents.{IsContent}
@@ -65,8 +66,8 @@ pub record Stands (before : List Line) (s : Standing) : Type 0 where
   pub place : option_map spelled_place s.place ≡ last_place before
   pub functions : s.functions ≡ count_by is_function before
   pub labels : s.labels ≡ count_by is_label before
-  pub low_first : IfSome s.first (λ n. n ≤ 65535)
-  pub low_slot : IfSome s.slot (λ n. n ≤ 65535)
+  pub low_first : IfSome s.first (λ n. n ≤ greatest_slot)
+  pub low_slot : IfSome s.slot (λ n. n ≤ greatest_slot)
   pub low_place : IfSome s.place (λ p. is_limited_place p ≡ true)
 
 -- a form behind the lines before it

@@ -4,7 +4,8 @@ use Rattle.std.specs.List.{list_all, slice_split}
 use Rattle.bpf_cert.specs.Reading.{all_there, term_in}
 use Rattle.bpf_cert.specs.Numeral.{is_plain}
 use Rattle.bpf_cert.specs.Line.{PlaceText, Term, is_place, is_term}
-use Rattle.bpf_cert.specs.Faults.{is_rising, place_before, line_place, is_plain_place, is_plain_measure, is_limited_term}
+use Rattle.bpf_cert.specs.Faults.{place_before, line_place, is_plain_place, is_plain_measure, is_limited_term}
+use Rattle.bpf_cert.specs.Limits.{is_rising}
 use Rattle.bpf_cert.specs.Limits as limits
 use Rattle.bpf_cert.specs.code.Findings.{tested}
 use Rattle.bpf_cert.specs.Spelling.{term_of}

@@ -1,17 +1,18 @@
 -- Visits and edges as code passes over them.
-use Rattle.std.specs.Prelude.{ℕ, ◌+◌, ℤ, Bool, false, List, ◌++◌, Option, Some, None, option_and_then, if◌then◌else◌}
+use Rattle.std.specs.Prelude.{ℕ, ◌+◌, ℤ, ◌-ℤ◌, Bool, false, List, ◌++◌, Option, Some, None, option_map, option_and_then, if◌then◌else◌}
 use Rattle.bpf_insn.specs.declared.instruction.Insn.{Insn}
-use Rattle.bpf_insn.specs.declared.instruction.Insn.TheVariants.{JumpIf, CallLocal}
+use Rattle.bpf_insn.specs.declared.instruction.Insn.TheVariants.{JumpIf, CallLocal, Exit}
 use Rattle.bpf_insn.specs.Instruction.{slot_count, goes_on}
 use Rattle.bpf_state.specs.State.{AbstractState, caller_state}
 use Rattle.bpf_state.specs.Transfer.{branch}
 use Rattle.bpf_state.specs.Fault.{some_passes}
 use Rattle.bpf_cert.specs.View.{LabelView, CertificateView}
 use Rattle.bpf_safety.specs.Labels.{label_at}
-use Rattle.bpf_safety.specs.Budget.{budget, least_slack}
-use Rattle.bpf_safety.specs.Flow.{Visit, callee, jump_target, jump_state}
+use Rattle.bpf_safety.specs.Budget.{budget, least_budget, least_slack}
+use Rattle.bpf_safety.specs.Flow.{Arrival, Visit, callee, jump_target, jump_state}
 use Rattle.bpf_safety.specs.Flaw.{Edge, edge_to, is_negative_if}
 use Rattle.bpf_check.specs.code.Slack.{at_label}
+use Rattle.bpf_check.specs.declared.judge.JudgedEdge.{JudgedEdge}
 
 -- a visit, of which the arrival isn't looked at
 abbrev pub visit : ℕ → Insn → Visit
@@ -21,6 +22,31 @@ visit slot i = record { slot = slot; insn = i; arrival = None }
 abbrev pub unpaid_from : CertificateView → LabelView → Option ℤ → Edge → Bool
 unpaid_from c old cost e =
     some_passes (λ new. is_negative_if (option_and_then (λ spent. least_slack (budget old) (at_label old) spent e.state (budget new)) cost)) (label_at c e.slot)
+
+-- what is left of the budget at a label on an edge, after the cost and the budget at the label at its end, if there is one
+abbrev pub slack_to : LabelView → Option ℤ → AbstractState → Option LabelView → Option ℤ
+slack_to old cost s there = option_and_then (λ new. option_and_then (λ spent. least_slack (budget old) (at_label old) spent s (budget new)) cost) there
+
+abbrev pub slack_from : CertificateView → LabelView → Option ℤ → Edge → Option ℤ
+slack_from c old cost e = slack_to old cost e.state (label_at c e.slot)
+
+-- what is left of the budget at the last label after the cost at EXIT
+abbrev pub left_at_exit : Arrival → Option ℤ → Insn → Option ℤ
+left_at_exit a cost Exit = option_and_then (λ spent. option_map (λ b. b -ℤ spent) (least_budget (budget a.label) a.at_label)) cost
+left_at_exit a cost _ = None
+
+-- ---- what is judged of an edge, as code keeps it
+
+abbrev pub is_unpaid : JudgedEdge → Bool
+is_unpaid e = is_negative_if (option_map (λ s. s.left) e.slack)
+
+abbrev pub has_refused : Option JudgedEdge → Bool
+has_refused o = some_passes (λ e. e.is_refused) o
+
+abbrev pub has_unpaid : Option JudgedEdge → Bool
+has_unpaid o = some_passes is_unpaid o
+
+-- ---- edges from the state after an instruction
 
 -- the state on the edge to the next instruction, from the state after this one
 abbrev pub next_of : CertificateView → ℕ → Insn → AbstractState → Option AbstractState

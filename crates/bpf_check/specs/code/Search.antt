@@ -1,6 +1,6 @@
 -- Searches in lists that rise by a key.
 use Rattle.std.specs.Prelude.{ℕ, ◌==◌, nat_le, nat_lt, Bool, List, [], ◌∷◌, Option, Some, None, if◌then◌else◌}
-use Rattle.bpf_cert.specs.Faults.{is_rising}
+use Rattle.bpf_cert.specs.Limits.{is_rising}
 
 -- each key is above the one before it
 abbrev pub rises : {A : Type 0} → (A → ℕ) → List A → Bool

@@ -1,6 +1,7 @@
 -- An instruction in its place, with what is looked up there.
 use Rattle.std.specs.Prelude.{◌≡◌, ℕ, ◌+◌, ◌<◌, ◌≤◌, List, None, option_map, option_copied, IfSome, IsTrue}
 use Rattle.bpf_insn.specs.Instruction.{slot_count}
+use Rattle.bpf_insn.specs.Limits.{greatest_slot}
 use Rattle.bpf_cert.specs.View.{CertificateView, label_view, function_view}
 use Rattle.bpf_cert.specs.Limits.{is_limited_label}
 use Rattle.bpf_safety.specs.Labels.{label_at, function_at}
@@ -30,7 +31,7 @@ pub record IsEntry (c : CertificateView) (f : Callee) : Type 0 where
 
 -- the slots that an instruction leads to, each with what stands there
 pub record IsSite (s : Site) : Type 0 where
-  pub few : s.here.slot ≤ 65535
+  pub few : s.here.slot ≤ greatest_slot
   pub here : IsSpot s.certificate.now s.here
   pub next_slot : s.next.slot ≡ s.here.slot + slot_count s.insn
   pub next : IsSpot s.certificate.now s.next

@@ -6,7 +6,6 @@ use Rattle.bpf_cert.specs.View.{LabelView}
 use Rattle.bpf_state.specs.State.{tag}
 use Rattle.bpf_safety.specs.Budget.{bounds, place_of, term_value, least_at_ends, shares, free_part, each_term, sum_if}
 use Rattle.bpf_safety.specs.Flow.{label_state}
-use Rattle.bpf_check.specs.declared.spending.Slack.{Slack}
 
 -- the state at a label that gives one
 abbrev pub at_label : LabelView → AbstractState
@@ -29,7 +28,3 @@ free_term edge j t = free_part edge (tag edge (place_of t)) t
 
 abbrev pub free_of : AbstractState → LabelView → Option ℤ
 free_of edge new = sum_if (each_term (free_term edge) 0 new.terms)
-
--- what is left, from its parts
-abbrev pub total : Slack → ℤ
-total s = (s.base +ℤ s.kept) -ℤ s.free

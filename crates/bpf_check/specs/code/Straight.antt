@@ -3,6 +3,7 @@ use Rattle.std.specs.Prelude.{◌≡◌, ℕ, ◌+◌, ◌<◌, ◌≤◌, Bool,
 use Rattle.bpf_insn.specs.declared.instruction.Insn.{Insn}
 use Rattle.bpf_insn.specs.declared.instruction.Insn.TheVariants.{Ja, JaLong, JumpIf, CallLocal, Exit}
 use Rattle.bpf_insn.specs.Instruction.{slot_count}
+use Rattle.bpf_insn.specs.Limits.{greatest_slot}
 use Rattle.bpf_cert.specs.View.{CertificateView}
 use Rattle.bpf_safety.specs.Labels.{label_at, function_at}
 use Rattle.bpf_check.specs.declared.arrival.Here.{Here}
@@ -19,7 +20,7 @@ is_straight i = true
 
 -- no label stands at the instruction, nor at the next one, which is there and lies in the same function
 pub record IsStep (end : ℕ) (s : Step) : Type 0 where
-  pub few : s.slot ≤ 65535
+  pub few : s.slot ≤ greatest_slot
   pub straight : is_straight s.insn ≡ true
   pub here : label_at s.certificate.now s.slot ≡ None
   pub next_slot : s.next ≡ s.slot + slot_count s.insn

@@ -1,5 +1,5 @@
 -- What a visit finds.
-use Rattle.std.specs.Prelude.{◌≡◌, ℕ, ◌+◌, option_and_then, List, ◌++◌, Bool, not, ◌&&◌, is_none, Option, None, IfSome}
+use Rattle.std.specs.Prelude.{◌≡◌, ℕ, ◌+◌, option_and_then, List, ◌++◌, Bool, not, ◌&&◌, ◌||◌, is_none, Option, None, IfSome}
 use Rattle.std.specs.Option.{option_to_list}
 use Rattle.bpf_insn.specs.declared.instruction.Insn.{Insn}
 use Rattle.bpf_insn.specs.Instruction.{Instructions, slot_count}
@@ -8,11 +8,20 @@ use Rattle.bpf_state.specs.State.{tightened}
 use Rattle.bpf_safety.specs.Labels.{label_at}
 use Rattle.bpf_cert.specs.View.{CertificateView}
 use Rattle.bpf_safety.specs.Flow.{Arrival, Visit, arrives, passed_on, sound_arrival}
-use Rattle.bpf_safety.specs.Flaw.{numbers_of_arrival, is_not_entailed, is_over_budget, falls_past_end}
+use Rattle.bpf_safety.specs.Flaw.{is_negative_if, numbers_of_arrival, is_not_entailed, is_over_budget, falls_past_end}
 use Rattle.bpf_check.specs.code.Arrivals.{walk_of, IsReaching}
-use Rattle.bpf_check.specs.code.Edges.{visit}
+use Rattle.bpf_check.specs.code.Edges.{visit, is_unpaid, has_refused, has_unpaid}
 use Rattle.bpf_check.specs.declared.arrival.Walk.{Walk}
 use Rattle.bpf_check.specs.declared.visit.Judged.{Judged}
+use Rattle.bpf_check.specs.declared.visit.Seen.{Seen}
+
+-- which conditions fail, from what is seen
+abbrev pub judged_of : Seen → Judged
+judged_of s = record {
+  not_entailed = ((has_refused s.jump || s.next.is_refused) || s.enters_wrongly) || s.returns_wrongly;
+  over_budget = (has_unpaid s.jump || is_unpaid s.next) || is_negative_if s.left_at_exit;
+  past_end = s.past_end;
+}
 
 -- an instruction without fault, with what goes on from it and which conditions on its state fail
 pub record IsJudgment (p : Instructions) (c : CertificateView) (slot : ℕ) (i : Insn) (a : Arrival) (w : Walk) (j : Judged) : Type 0 where

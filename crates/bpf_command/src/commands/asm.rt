@@ -2,7 +2,6 @@
 
 ghost use Rattle.std.specs.Prelude.{IfOk, IfErr};
 ghost use Rattle.bpf_places.specs.Made.{making};
-ghost use Rattle.bpf_places.specs.Opened.{opening};
 ghost use Rattle.bpf_answers.specs.Answer.{Answered, Unfinished};
 ghost use Rattle.bpf_command.specs.Printed.{AsmSays, AsmFails, NotAssembled};
 
@@ -22,10 +21,14 @@ pub fn assembled<'a, P: Places, W: Write>(
     output: &'a str,
     order: Order,
 ) -> Result<u8, Failure<'a>>
-    ensures ok { IfOk result (Answered (AsmSays (opening P.opens P.Reader.remaining) (making P.creates P.ends P.Writer.contents) order places.old input.entry.now output.entry.now places.new) (W.contents out.old) (W.contents out.new)) }
-    ensures err { IfErr result (AsmFails (opening P.opens P.Reader.remaining) (making P.creates P.ends P.Writer.contents) order places.old input.entry.now output.entry.now places.new) }
-    ensures begun { IfErr result (λ _. Unfinished (AsmSays (opening P.opens P.Reader.remaining) (making P.creates P.ends P.Writer.contents) order places.old input.entry.now output.entry.now places.new) (W.contents out.old) (W.contents out.new)) }
-    ensures names { IfErr result (λ _. NotAssembled (opening P.opens P.Reader.remaining) (making P.creates P.ends P.Writer.contents) order places.old input.entry.now output.entry.now places.new) }
+    ensures ok { IfOk result (Answered (AsmSays P.opens (making P.creates P.ends P.Writer.contents) order places.old input.entry.now output.entry.now
+        places.new) (W.contents out.old) (W.contents out.new)) }
+    ensures err { IfErr result (AsmFails P.opens (making P.creates P.ends P.Writer.contents) order places.old input.entry.now output.entry.now
+        places.new) }
+    ensures begun { IfErr result (λ _. Unfinished (AsmSays P.opens (making P.creates P.ends P.Writer.contents) order places.old input.entry.now
+        output.entry.now places.new) (W.contents out.old) (W.contents out.new)) }
+    ensures names { IfErr result (λ _. NotAssembled P.opens (making P.creates P.ends P.Writer.contents) order places.old input.entry.now
+        output.entry.now places.new) }
 {
     let text = text_at(alloc, places, input)?;
     match assemble(alloc, text.as_str(), order) {

@@ -1,7 +1,7 @@
 //! `bpf check IN CERT`.
 
-ghost use Rattle.std.specs.Prelude.{IfOk, IfErr};
-ghost use Rattle.bpf_places.specs.Opened.{opening};
+ghost use Rattle.std.specs.Prelude.{IfOk, IfErr, ◌∷◌, []};
+ghost use Rattle.bpf_answers.specs.Loaded.{OpensFirst};
 ghost use Rattle.bpf_answers.specs.Answer.{Answered, Unfinished};
 ghost use Rattle.bpf_command.specs.Printed.{CheckSays, LoadedFails};
 
@@ -24,9 +24,12 @@ pub fn checked<'a, P: Places, W: Write>(
     order: Order,
     counted: bool,
 ) -> Result<u8, Failure<'a>>
-    ensures ok { IfOk result (Answered (CheckSays (opening P.opens P.Reader.remaining) order places.old input.entry.now certificate.entry.now places.new counted) (W.contents out.old) (W.contents out.new)) }
-    ensures err { IfErr result (LoadedFails (opening P.opens P.Reader.remaining) order places.old input.entry.now certificate.entry.now places.new) }
-    ensures begun { IfErr result (λ _. Unfinished (CheckSays (opening P.opens P.Reader.remaining) order places.old input.entry.now certificate.entry.now places.new counted) (W.contents out.old) (W.contents out.new)) }
+    ensures ok { IfOk result (Answered (CheckSays P.opens order places.old input.entry.now certificate.entry.now places.new counted)
+        (W.contents out.old) (W.contents out.new)) }
+    ensures err { IfErr result (LoadedFails P.opens order places.old input.entry.now certificate.entry.now places.new) }
+    ensures begun { IfErr result (λ _. Unfinished (CheckSays P.opens order places.old input.entry.now certificate.entry.now places.new counted)
+        (W.contents out.old) (W.contents out.new)) }
+    ensures opened { OpensFirst P.opens (input.entry.now ∷ certificate.entry.now ∷ []) places.old places.new }
 {
     image_is_injective();
     certified_is_safe();

@@ -1,11 +1,12 @@
 //! `bpf explain IN`, and the same with a certificate, over the inferrer's work, and of a text.
 
-ghost use Rattle.std.specs.Prelude.{◌≡◌, ◌⊎◌, ◌≤◌, ◌<◌, IfOk, IfErr, None, MatchResult, false};
+ghost use Rattle.std.specs.Prelude.{◌≡◌, ◌⊎◌, ◌≤◌, ◌<◌, IfOk, IfErr, None, MatchResult, false, ◌∷◌, []};
 ghost use Rattle.bpf_insn.specs.Instruction.{slots};
+ghost use Rattle.bpf_insn.specs.Limits.{max_context};
 ghost use Rattle.bpf_cert.specs.Limits.{IsCertificate};
 ghost use Rattle.bpf_infer_error.specs.RefusalNumbers.{infer_slot};
-ghost use Rattle.bpf_places.specs.Opened.{opening};
-ghost use Rattle.bpf_answers.specs.Loaded.{CertificateAt, CertificateFails, CertificateRefused, ImageFails, TextFails};
+ghost use Rattle.bpf_command.specs.Names.{behind_lines, names_explained};
+ghost use Rattle.bpf_answers.specs.Loaded.{CertificateAt, CertificateFails, CertificateRefused, ImageFails, OpensFirst, TextFails, Tried};
 ghost use Rattle.bpf_command.specs.Explained.{Answers, ExplainFails, ExplainSays, ExplainWithFails, ExplainWithSays, JudgesOf, LinesAt, LinesFail, SoughtSays, TextSays};
 ghost use Rattle.bpf_command.specs.Printed.{ImageSays, JudgedSays, ListSays, LoadedFails, LoadedSays, YesSays};
 ghost use Rattle.bpf_answers.specs.Told.{OutputFails};
@@ -74,8 +75,9 @@ fn explained_image<'a, P: Places, W: Write>(
     order: Order,
     is_graph: bool,
 ) -> Result<u8, Failure<'a>>
-    ensures ok { IfOk result (Answers (ImageSays (opening P.opens P.Reader.remaining) order places.old input.entry.now places.new (ListSays None))) }
-    ensures err { IfErr result (ImageFails (opening P.opens P.Reader.remaining) places.old input.entry.now places.new) }
+    ensures ok { IfOk result (Answers (ImageSays P.opens order places.old input.entry.now places.new (ListSays None))) }
+    ensures err { IfErr result (ImageFails P.opens places.old input.entry.now places.new) }
+    ensures opened { OpensFirst P.opens (input.entry.now ∷ []) places.old places.new }
 {
     let bytes = match image_at(alloc, places, input)? {
         Ok(bytes) => bytes,
@@ -112,8 +114,9 @@ fn explained_text<'a, P: Places, W: Write>(
     input: &'a str,
     order: Order,
 ) -> Result<u8, Failure<'a>>
-    ensures ok { IfOk result (Answers (TextSays (opening P.opens P.Reader.remaining) places.old input.entry.now places.new)) }
-    ensures err { IfErr result (TextFails (opening P.opens P.Reader.remaining) places.old input.entry.now places.new) }
+    ensures ok { IfOk result (Answers (TextSays P.opens places.old input.entry.now places.new)) }
+    ensures err { IfErr result (TextFails P.opens places.old input.entry.now places.new) }
+    ensures opened { OpensFirst P.opens (input.entry.now ∷ []) places.old places.new }
 {
     let text = text_at(alloc, places, input)?;
     match assemble(alloc, text.as_str(), order) {
@@ -176,8 +179,10 @@ fn certificate_kept<'a, P: Places>(
     places: &mut P,
     name: &'a str,
 ) -> Result<(Result<Certificate, CertError>, Option<Vec<u8>>), Failure<'a>>
-    ensures ok { IfOk result (λ found. MatchResult found.0 (CertificateAt (opening P.opens P.Reader.remaining) places.old name.entry.now places.new) (CertificateRefused (opening P.opens P.Reader.remaining) places.old name.entry.now places.new)) }
-    ensures err { IfErr result (CertificateFails (opening P.opens P.Reader.remaining) places.old name.entry.now places.new) }
+    ensures ok { IfOk result (λ found. MatchResult found.0 (CertificateAt P.opens places.old name.entry.now places.new)
+        (CertificateRefused P.opens places.old name.entry.now places.new)) }
+    ensures err { IfErr result (CertificateFails P.opens places.old name.entry.now places.new) }
+    ensures names { Tried P.opens places.old name.entry.now places.new }
 {
     let Ok(reader) = places.open(name) else {
         return Err(Failure::CannotRead(name));
@@ -198,8 +203,9 @@ fn explained_with<'a, P: Places, C: Code, W: Write>(
     certificate: &'a str,
     shown: Shown<'_>,
 ) -> Result<u8, Failure<'a>>
-    ensures ok { IfOk result (Answers (JudgedSays (opening P.opens P.Reader.remaining) places.old certificate.entry.now places.new (C.program program.now) (YesSays false))) }
-    ensures err { IfErr result (CertificateFails (opening P.opens P.Reader.remaining) places.old certificate.entry.now places.new) }
+    ensures ok { IfOk result (Answers (JudgedSays P.opens places.old certificate.entry.now places.new (C.program program.now) (YesSays false))) }
+    ensures err { IfErr result (CertificateFails P.opens places.old certificate.entry.now places.new) }
+    ensures opened { OpensFirst P.opens (certificate.entry.now ∷ []) places.old places.new }
 {
     let (answer, bytes) = certificate_kept(alloc, places, certificate)?;
     match answer {
@@ -220,8 +226,9 @@ fn explained_certified<'a, P: Places, W: Write>(
     shown: Shown<'_>,
     order: Order,
 ) -> Result<u8, Failure<'a>>
-    ensures ok { IfOk result (Answers (LoadedSays (opening P.opens P.Reader.remaining) order places.old input.entry.now certificate.entry.now places.new (λ bytes. YesSays false))) }
-    ensures err { IfErr result (LoadedFails (opening P.opens P.Reader.remaining) order places.old input.entry.now certificate.entry.now places.new) }
+    ensures ok { IfOk result (Answers (LoadedSays P.opens order places.old input.entry.now certificate.entry.now places.new (λ bytes. YesSays false))) }
+    ensures err { IfErr result (LoadedFails P.opens order places.old input.entry.now certificate.entry.now places.new) }
+    ensures opened { OpensFirst P.opens (input.entry.now ∷ certificate.entry.now ∷ []) places.old places.new }
 {
     let bytes = match image_at(alloc, places, input)? {
         Ok(bytes) => bytes,
@@ -253,7 +260,7 @@ fn found_of<W: Write, H: Watch>(
     wanted: Wanted<'_>,
 ) -> io::Result<Result<Certificate, InferError>>
     requires order { wanted.least ≤ wanted.most }
-    requires short { wanted.most ≤ 4096 }
+    requires short { wanted.most ≤ max_context }
     ensures version { IfOk result (λ told. IfOk told (λ c. c.version ≡ 2)) }
     ensures least { IfOk result (λ told. IfOk told (λ c. c.least ≡ wanted.entry.least)) }
     ensures most { IfOk result (λ told. IfOk told (λ c. c.most ≡ wanted.entry.most)) }
@@ -309,8 +316,10 @@ fn explained_inferred<'a, P: Places, W: Write, H: Watch>(
     wanted: Wanted<'_>,
     order: Order,
 ) -> Result<u8, Failure<'a>>
-    ensures ok { IfOk result (Answers (ImageSays (opening P.opens P.Reader.remaining) order places.old input.entry.now places.new (SoughtSays wanted.entry.least wanted.entry.most))) }
-    ensures err { IfErr result (ImageFails (opening P.opens P.Reader.remaining) places.old input.entry.now places.new) }
+    ensures ok { IfOk result (Answers (ImageSays P.opens order places.old input.entry.now places.new
+        (SoughtSays wanted.entry.least wanted.entry.most))) }
+    ensures err { IfErr result (ImageFails P.opens places.old input.entry.now places.new) }
+    ensures opened { OpensFirst P.opens (input.entry.now ∷ []) places.old places.new }
 {
     let bytes = match image_at(alloc, places, input)? {
         Ok(bytes) => bytes,
@@ -331,8 +340,9 @@ fn lines_at<'a, P: Places>(
     places: &mut P,
     lines: Option<&'a str>,
 ) -> Result<String, Failure<'a>>
-    ensures ok { IfOk result (λ _. LinesAt (opening P.opens P.Reader.remaining) places.old lines.entry places.new) }
-    ensures err { IfErr result (LinesFail (opening P.opens P.Reader.remaining) places.old lines.entry places.new) }
+    ensures ok { IfOk result (λ _. LinesAt P.opens places.old lines.entry places.new) }
+    ensures err { IfErr result (LinesFail P.opens places.old lines.entry places.new) }
+    ensures opened { OpensFirst P.opens (behind_lines lines.entry []) places.old places.new }
 {
     let Some(name) = lines else {
         return Ok(String::new(alloc));
@@ -364,8 +374,9 @@ fn explained_subject<'a, P: Places, W: Write, H: Watch>(
     lines: &[u8],
     order: Order,
 ) -> Result<u8, Failure<'a>>
-    ensures ok { IfOk result (ExplainSays (opening P.opens P.Reader.remaining) order places.old input.entry.now subject.entry places.new) }
-    ensures err { IfErr result (ExplainFails (opening P.opens P.Reader.remaining) order places.old input.entry.now subject.entry places.new) }
+    ensures ok { IfOk result (ExplainSays P.opens order places.old input.entry.now subject.entry places.new) }
+    ensures err { IfErr result (ExplainFails P.opens order places.old input.entry.now subject.entry places.new) }
+    ensures opened { OpensFirst P.opens (names_explained input.entry.now subject.entry) places.old places.new }
 {
     match subject {
         Subject::Image => explained_image(alloc, places, out, input, order, false),
@@ -429,8 +440,9 @@ pub fn explained<'a, P: Places, W: Write, H: Watch>(
     lines: Option<&'a str>,
     order: Order,
 ) -> Result<u8, Failure<'a>>
-    ensures ok { IfOk result (ExplainWithSays (opening P.opens P.Reader.remaining) order places.old input.entry.now subject.entry lines.entry places.new) }
-    ensures err { IfErr result (ExplainWithFails (opening P.opens P.Reader.remaining) order places.old input.entry.now subject.entry lines.entry places.new) }
+    ensures ok { IfOk result (ExplainWithSays P.opens order places.old input.entry.now subject.entry lines.entry places.new) }
+    ensures err { IfErr result (ExplainWithFails P.opens order places.old input.entry.now subject.entry lines.entry places.new) }
+    ensures opened { OpensFirst P.opens (behind_lines lines.entry (names_explained input.entry.now subject.entry)) places.old places.new }
 {
     let table = lines_at(alloc, places, lines)?;
     let bytes = table.as_str().as_bytes();

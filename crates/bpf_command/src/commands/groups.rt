@@ -1,11 +1,10 @@
 //! `bpf groups IN`.
 
 ghost use Rattle.bpf_insn.specs.Written.{AppendsBeginning};
-ghost use Rattle.std.specs.Prelude.{◌≡◌, IfOk, IfErr};
-ghost use Rattle.bpf_places.specs.Opened.{opening};
+ghost use Rattle.std.specs.Prelude.{◌≡◌, IfOk, IfErr, ◌∷◌, []};
 ghost use Rattle.bpf_answers.specs.Answer.{Answered, Says, groups_line, Unfinished, text_of};
 ghost use Rattle.bpf_answers.specs.Answer.Answer.{Occur};
-ghost use Rattle.bpf_answers.specs.Loaded.{ImageFails};
+ghost use Rattle.bpf_answers.specs.Loaded.{ImageFails, OpensFirst};
 ghost use Rattle.bpf_command.specs.Printed.{GroupsSay, ImageSays};
 ghost use Rattle.bpf_answers.specs.Told.{OutputFails};
 
@@ -49,9 +48,12 @@ pub fn grouped<'a, P: Places, W: Write>(
     input: &'a str,
     order: Order,
 ) -> Result<u8, Failure<'a>>
-    ensures ok { IfOk result (Answered (ImageSays (opening P.opens P.Reader.remaining) order places.old input.entry.now places.new GroupsSay) (W.contents out.old) (W.contents out.new)) }
-    ensures err { IfErr result (ImageFails (opening P.opens P.Reader.remaining) places.old input.entry.now places.new) }
-    ensures begun { IfErr result (λ _. Unfinished (ImageSays (opening P.opens P.Reader.remaining) order places.old input.entry.now places.new GroupsSay) (W.contents out.old) (W.contents out.new)) }
+    ensures ok { IfOk result (Answered (ImageSays P.opens order places.old input.entry.now places.new GroupsSay)
+        (W.contents out.old) (W.contents out.new)) }
+    ensures err { IfErr result (ImageFails P.opens places.old input.entry.now places.new) }
+    ensures begun { IfErr result (λ _. Unfinished (ImageSays P.opens order places.old input.entry.now places.new GroupsSay)
+        (W.contents out.old) (W.contents out.new)) }
+    ensures opened { OpensFirst P.opens (input.entry.now ∷ []) places.old places.new }
 {
     let bytes = match image_at(alloc, places, input)? {
         Ok(bytes) => bytes,

@@ -9,7 +9,6 @@ ghost use Rattle.bpf_answers.specs.Answer.{Answered, Says, Unfinished, text_of a
 ghost use Rattle.bpf_answers.specs.Answer.Answer.{NotHardened};
 ghost use Rattle.bpf_command.specs.Hardened.{HardenFails, HardenSays, NotesAt, NotesFail, NotBothMade, NotesNotAt};
 ghost use Rattle.bpf_places.specs.Made.{making};
-ghost use Rattle.bpf_places.specs.Opened.{opening};
 ghost use Rattle.bpf_answers.specs.Told.{OutputFails};
 
 use crate::commands::notes::notes_text;
@@ -88,10 +87,12 @@ pub fn hardened<'a, P: Places, W: Write>(
     out: &mut W,
     asked: Hardening<'a>,
 ) -> Result<u8, Failure<'a>>
-    ensures ok { IfOk result (Answered (HardenSays (opening P.opens P.Reader.remaining) (making P.creates P.ends P.Writer.contents) places.old asked.entry places.new) (W.contents out.old) (W.contents out.new)) }
-    ensures err { IfErr result (HardenFails (opening P.opens P.Reader.remaining) (making P.creates P.ends P.Writer.contents) places.old asked.entry places.new) }
-    ensures begun { IfErr result (λ _. Unfinished (HardenSays (opening P.opens P.Reader.remaining) (making P.creates P.ends P.Writer.contents) places.old asked.entry places.new) (W.contents out.old) (W.contents out.new)) }
-    ensures names { IfErr result (λ _. NotBothMade (opening P.opens P.Reader.remaining) (making P.creates P.ends P.Writer.contents) places.old asked.entry places.new) }
+    ensures ok { IfOk result (Answered (HardenSays P.opens (making P.creates P.ends P.Writer.contents) places.old asked.entry places.new)
+        (W.contents out.old) (W.contents out.new)) }
+    ensures err { IfErr result (HardenFails P.opens (making P.creates P.ends P.Writer.contents) places.old asked.entry places.new) }
+    ensures begun { IfErr result (λ _. Unfinished (HardenSays P.opens (making P.creates P.ends P.Writer.contents) places.old asked.entry places.new)
+        (W.contents out.old) (W.contents out.new)) }
+    ensures names { IfErr result (λ _. NotBothMade P.opens (making P.creates P.ends P.Writer.contents) places.old asked.entry places.new) }
 {
     let program = match program_at(alloc, places, asked.input, asked.order)? {
         Ok(program) => program,

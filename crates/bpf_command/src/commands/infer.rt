@@ -4,12 +4,12 @@ ghost use Rattle.bpf_insn.specs.Written.{AppendsBeginning};
 ghost use Rattle.std.specs.Prelude.{◌≡◌, ◌≤◌, ◌<◌, IfOk, IfErr};
 ghost use Rattle.std.specs.String.{string_bytes};
 ghost use Rattle.bpf_insn.specs.Instruction.{slots};
+ghost use Rattle.bpf_insn.specs.Limits.{max_context};
 ghost use Rattle.bpf_cert.specs.Limits.{IsCertificate};
 ghost use Rattle.bpf_infer_error.specs.RefusalNumbers.{infer_slot};
 ghost use Rattle.bpf_answers.specs.Answer.{Answered, Says, text_of, Unfinished};
 ghost use Rattle.bpf_answers.specs.Answer.Answer.{NotProposed};
 ghost use Rattle.bpf_places.specs.Made.{making};
-ghost use Rattle.bpf_places.specs.Opened.{opening};
 ghost use Rattle.bpf_command.specs.Printed.{InferSays, InferFails, NotInferred};
 ghost use Rattle.bpf_answers.specs.Told.{OutputFails};
 
@@ -64,7 +64,7 @@ fn proposed<H: Watch>(
     watch: &mut H,
 ) -> Result<Certificate, InferError>
     requires order { least ≤ most }
-    requires short { most ≤ 4096 }
+    requires short { most ≤ max_context }
     ensures version { IfOk result (λ c. c.version ≡ 2) }
     ensures least { IfOk result (λ c. c.least ≡ least) }
     ensures most { IfOk result (λ c. c.most ≡ most) }
@@ -92,10 +92,14 @@ pub fn inferred<'a, P: Places, W: Write, H: Aside>(
     output: &'a str,
     order: Order,
 ) -> Result<u8, Failure<'a>>
-    ensures ok { IfOk result (Answered (InferSays (opening P.opens P.Reader.remaining) (making P.creates P.ends P.Writer.contents) order places.old input.entry.now least most output.entry.now places.new) (W.contents out.old) (W.contents out.new)) }
-    ensures err { IfErr result (InferFails (opening P.opens P.Reader.remaining) (making P.creates P.ends P.Writer.contents) order places.old input.entry.now least most output.entry.now places.new) }
-    ensures begun { IfErr result (λ _. Unfinished (InferSays (opening P.opens P.Reader.remaining) (making P.creates P.ends P.Writer.contents) order places.old input.entry.now least most output.entry.now places.new) (W.contents out.old) (W.contents out.new)) }
-    ensures names { IfErr result (λ _. NotInferred (opening P.opens P.Reader.remaining) (making P.creates P.ends P.Writer.contents) order places.old input.entry.now least most output.entry.now places.new) }
+    ensures ok { IfOk result (Answered (InferSays P.opens (making P.creates P.ends P.Writer.contents) order places.old input.entry.now least most
+        output.entry.now places.new) (W.contents out.old) (W.contents out.new)) }
+    ensures err { IfErr result (InferFails P.opens (making P.creates P.ends P.Writer.contents) order places.old input.entry.now least most
+        output.entry.now places.new) }
+    ensures begun { IfErr result (λ _. Unfinished (InferSays P.opens (making P.creates P.ends P.Writer.contents) order places.old input.entry.now
+        least most output.entry.now places.new) (W.contents out.old) (W.contents out.new)) }
+    ensures names { IfErr result (λ _. NotInferred P.opens (making P.creates P.ends P.Writer.contents) order places.old input.entry.now least most
+        output.entry.now places.new) }
 {
     let program = match program_at(alloc, places, input, order)? {
         Ok(program) => program,

@@ -1,13 +1,12 @@
 //! A program and the certificate at a name: what `check` and `run-checked` have in common.
 
 ghost use Rattle.bpf_insn.specs.Written.{AppendsBeginning};
-ghost use Rattle.std.specs.Prelude.{◌≡◌, IfOk, IfErr, Some, None};
+ghost use Rattle.std.specs.Prelude.{◌≡◌, IfOk, IfErr, Some, None, ◌∷◌, []};
 ghost use Rattle.std.specs.String.{string_bytes};
 ghost use Rattle.bpf_check.specs.CheckedProgram.{work_of};
-ghost use Rattle.bpf_places.specs.Opened.{opening};
 ghost use Rattle.bpf_answers.specs.Answer.{Answered, Says, no_context_line, work_line, yes_line, Unfinished, text_of};
 ghost use Rattle.bpf_answers.specs.Answer.Answer.{Yes, NoContext, Ends};
-ghost use Rattle.bpf_answers.specs.Loaded.{CertificateFails};
+ghost use Rattle.bpf_answers.specs.Loaded.{CertificateFails, OpensFirst};
 ghost use Rattle.bpf_command.specs.Printed.{JudgedSays, ResultSays, WishSays};
 ghost use Rattle.bpf_command.specs.Given.{JudgedEachFails, JudgedEachLeaves, JudgedEachSays};
 ghost use Rattle.bpf_answers.specs.Told.{OutputFails};
@@ -60,9 +59,11 @@ fn say_yes<'a, C: Code, W: Write>(
     out: &mut W,
     checked: &Checked<'_, C>,
 ) -> Result<u8, Failure<'a>>
-    ensures ok { IfOk result (λ status. Says (Yes checked.now.certificate.least checked.now.certificate.most checked.now.certificate.steps None) status (W.contents out.old) (W.contents out.new)) }
+    ensures ok { IfOk result (λ status. Says (Yes checked.now.certificate.least checked.now.certificate.most checked.now.certificate.steps None)
+        status (W.contents out.old) (W.contents out.new)) }
     ensures err { IfErr result OutputFails }
-    ensures begun { IfErr result (λ _. AppendsBeginning (W.contents out.old) (W.contents out.new) (text_of (Yes checked.now.certificate.least checked.now.certificate.most checked.now.certificate.steps None))) }
+    ensures begun { IfErr result (λ _. AppendsBeginning (W.contents out.old) (W.contents out.new)
+        (text_of (Yes checked.now.certificate.least checked.now.certificate.most checked.now.certificate.steps None))) }
 {
     let line = line_of(alloc, checked.least(), checked.most(), checked.bound())?;
     say(out, line.as_str())?;
@@ -75,9 +76,12 @@ fn say_counted<'a, C: Code, W: Write>(
     out: &mut W,
     checked: &Checked<'_, C>,
 ) -> Result<u8, Failure<'a>>
-    ensures ok { IfOk result (λ status. Says (Yes checked.now.certificate.least checked.now.certificate.most checked.now.certificate.steps (Some (work_of checked.now.program checked.now.certificate))) status (W.contents out.old) (W.contents out.new)) }
+    ensures ok { IfOk result (λ status. Says (Yes checked.now.certificate.least checked.now.certificate.most checked.now.certificate.steps
+        (Some (work_of checked.now.program checked.now.certificate))) status (W.contents out.old) (W.contents out.new)) }
     ensures err { IfErr result OutputFails }
-    ensures begun { IfErr result (λ _. AppendsBeginning (W.contents out.old) (W.contents out.new) (text_of (Yes checked.now.certificate.least checked.now.certificate.most checked.now.certificate.steps (Some (work_of checked.now.program checked.now.certificate))))) }
+    ensures begun { IfErr result (λ _. AppendsBeginning (W.contents out.old) (W.contents out.new)
+        (text_of (Yes checked.now.certificate.least checked.now.certificate.most checked.now.certificate.steps
+        (Some (work_of checked.now.program checked.now.certificate))))) }
 {
     let mut text = line_of(alloc, checked.least(), checked.most(), checked.bound())?;
     let work = line_of_work(alloc, checked.work())?;
@@ -198,9 +202,13 @@ pub fn judged_each<'a, P: Places, C: Code, W: Write>(
     certificate: &'a str,
     contexts: &'a str,
 ) -> Result<u8, Failure<'a>>
-    ensures ok { IfOk result (JudgedEachSays (opening P.opens P.Reader.remaining) places.old certificate.entry.now contexts.entry.now places.new (C.program program.now) (W.contents out.old) (W.contents out.new)) }
-    ensures err { IfErr result (JudgedEachFails (opening P.opens P.Reader.remaining) places.old certificate.entry.now contexts.entry.now places.new (C.program program.now) (W.contents out.old) (W.contents out.new)) }
-    ensures begun { IfErr result (λ _. JudgedEachLeaves (opening P.opens P.Reader.remaining) places.old certificate.entry.now contexts.entry.now places.new (C.program program.now) (W.contents out.old) (W.contents out.new)) }
+    ensures ok { IfOk result (JudgedEachSays P.opens places.old certificate.entry.now contexts.entry.now places.new (C.program program.now)
+        (W.contents out.old) (W.contents out.new)) }
+    ensures err { IfErr result (JudgedEachFails P.opens places.old certificate.entry.now contexts.entry.now places.new (C.program program.now)
+        (W.contents out.old) (W.contents out.new)) }
+    ensures begun { IfErr result (λ _. JudgedEachLeaves P.opens places.old certificate.entry.now contexts.entry.now places.new
+        (C.program program.now) (W.contents out.old) (W.contents out.new)) }
+    ensures opened { OpensFirst P.opens (certificate.entry.now ∷ contexts.entry.now ∷ []) places.old places.new }
 {
     let certificate = match certificate_at(alloc, places, certificate)? {
         Ok(certificate) => certificate,
@@ -224,9 +232,12 @@ pub fn judged<'a, P: Places, C: Code, W: Write>(
     certificate: &'a str,
     wish: Wish<'_>,
 ) -> Result<u8, Failure<'a>>
-    ensures ok { IfOk result (Answered (JudgedSays (opening P.opens P.Reader.remaining) places.old certificate.entry.now places.new (C.program program.now) (WishSays wish.entry)) (W.contents out.old) (W.contents out.new)) }
-    ensures err { IfErr result (CertificateFails (opening P.opens P.Reader.remaining) places.old certificate.entry.now places.new) }
-    ensures begun { IfErr result (λ _. Unfinished (JudgedSays (opening P.opens P.Reader.remaining) places.old certificate.entry.now places.new (C.program program.now) (WishSays wish.entry)) (W.contents out.old) (W.contents out.new)) }
+    ensures ok { IfOk result (Answered (JudgedSays P.opens places.old certificate.entry.now places.new (C.program program.now) (WishSays wish.entry))
+        (W.contents out.old) (W.contents out.new)) }
+    ensures err { IfErr result (CertificateFails P.opens places.old certificate.entry.now places.new) }
+    ensures begun { IfErr result (λ _. Unfinished (JudgedSays P.opens places.old certificate.entry.now places.new (C.program program.now)
+        (WishSays wish.entry)) (W.contents out.old) (W.contents out.new)) }
+    ensures opened { OpensFirst P.opens (certificate.entry.now ∷ []) places.old places.new }
 {
     let certificate = match certificate_at(alloc, places, certificate)? {
         Ok(certificate) => certificate,

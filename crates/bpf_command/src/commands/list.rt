@@ -1,12 +1,11 @@
 //! `bpf list IN`, and the same with `--slots` and `--bytes`.
 
 ghost use Rattle.bpf_insn.specs.Written.{AppendsBeginning};
-ghost use Rattle.std.specs.Prelude.{◌≡◌, IfOk, IfErr, None, Some};
+ghost use Rattle.std.specs.Prelude.{◌≡◌, IfOk, IfErr, None, Some, ◌∷◌, []};
 ghost use Rattle.bpf_insn.specs.Image.{image};
-ghost use Rattle.bpf_places.specs.Opened.{opening};
 ghost use Rattle.bpf_answers.specs.Answer.{Answered, Says, Unfinished, text_of};
 ghost use Rattle.bpf_answers.specs.Answer.Answer.{Annotates, Lists};
-ghost use Rattle.bpf_answers.specs.Loaded.{ImageFails};
+ghost use Rattle.bpf_answers.specs.Loaded.{ImageFails, OpensFirst};
 ghost use Rattle.bpf_command.specs.Printed.{ImageSays, ListSays, notes_of};
 ghost use Rattle.bpf_answers.specs.Told.{OutputFails};
 
@@ -39,7 +38,8 @@ fn say_annotated<'a, 'b, W: Write>(
     requires { bytes.now ≡ image program.now.order program.now.list }
     ensures ok { IfOk result (λ status. Says (Annotates notes program.now.order program.now.list) status (W.contents out.old) (W.contents out.new)) }
     ensures err { IfErr result OutputFails }
-    ensures begun { IfErr result (λ _. AppendsBeginning (W.contents out.old) (W.contents out.new) (text_of (Annotates notes program.now.order program.now.list))) }
+    ensures begun { IfErr result (λ _. AppendsBeginning (W.contents out.old) (W.contents out.new)
+        (text_of (Annotates notes program.now.order program.now.list))) }
 {
     match annotate(program, bytes, notes, out) {
         Ok(()) => Ok(DONE),
@@ -55,9 +55,12 @@ fn listed_plainly<'a, P: Places, W: Write>(
     input: &'a str,
     order: Order,
 ) -> Result<u8, Failure<'a>>
-    ensures ok { IfOk result (Answered (ImageSays (opening P.opens P.Reader.remaining) order places.old input.entry.now places.new (ListSays None)) (W.contents out.old) (W.contents out.new)) }
-    ensures err { IfErr result (ImageFails (opening P.opens P.Reader.remaining) places.old input.entry.now places.new) }
-    ensures begun { IfErr result (λ _. Unfinished (ImageSays (opening P.opens P.Reader.remaining) order places.old input.entry.now places.new (ListSays None)) (W.contents out.old) (W.contents out.new)) }
+    ensures ok { IfOk result (Answered (ImageSays P.opens order places.old input.entry.now places.new (ListSays None))
+        (W.contents out.old) (W.contents out.new)) }
+    ensures err { IfErr result (ImageFails P.opens places.old input.entry.now places.new) }
+    ensures begun { IfErr result (λ _. Unfinished (ImageSays P.opens order places.old input.entry.now places.new (ListSays None))
+        (W.contents out.old) (W.contents out.new)) }
+    ensures opened { OpensFirst P.opens (input.entry.now ∷ []) places.old places.new }
 {
     match program_at(alloc, places, input, order)? {
         Ok(program) => say_listing(out, &program),
@@ -74,9 +77,12 @@ fn listed_with<'a, P: Places, W: Write>(
     notes: Notes,
     order: Order,
 ) -> Result<u8, Failure<'a>>
-    ensures ok { IfOk result (Answered (ImageSays (opening P.opens P.Reader.remaining) order places.old input.entry.now places.new (ListSays (Some notes))) (W.contents out.old) (W.contents out.new)) }
-    ensures err { IfErr result (ImageFails (opening P.opens P.Reader.remaining) places.old input.entry.now places.new) }
-    ensures begun { IfErr result (λ _. Unfinished (ImageSays (opening P.opens P.Reader.remaining) order places.old input.entry.now places.new (ListSays (Some notes))) (W.contents out.old) (W.contents out.new)) }
+    ensures ok { IfOk result (Answered (ImageSays P.opens order places.old input.entry.now places.new (ListSays (Some notes)))
+        (W.contents out.old) (W.contents out.new)) }
+    ensures err { IfErr result (ImageFails P.opens places.old input.entry.now places.new) }
+    ensures begun { IfErr result (λ _. Unfinished (ImageSays P.opens order places.old input.entry.now places.new (ListSays (Some notes)))
+        (W.contents out.old) (W.contents out.new)) }
+    ensures opened { OpensFirst P.opens (input.entry.now ∷ []) places.old places.new }
 {
     let bytes = match image_at(alloc, places, input)? {
         Ok(bytes) => bytes,
@@ -110,9 +116,12 @@ pub fn listed<'a, P: Places, W: Write>(
     bytes: bool,
     order: Order,
 ) -> Result<u8, Failure<'a>>
-    ensures ok { IfOk result (Answered (ImageSays (opening P.opens P.Reader.remaining) order places.old input.entry.now places.new (ListSays (notes_of slots bytes))) (W.contents out.old) (W.contents out.new)) }
-    ensures err { IfErr result (ImageFails (opening P.opens P.Reader.remaining) places.old input.entry.now places.new) }
-    ensures begun { IfErr result (λ _. Unfinished (ImageSays (opening P.opens P.Reader.remaining) order places.old input.entry.now places.new (ListSays (notes_of slots bytes))) (W.contents out.old) (W.contents out.new)) }
+    ensures ok { IfOk result (Answered (ImageSays P.opens order places.old input.entry.now places.new (ListSays (notes_of slots bytes)))
+        (W.contents out.old) (W.contents out.new)) }
+    ensures err { IfErr result (ImageFails P.opens places.old input.entry.now places.new) }
+    ensures begun { IfErr result (λ _. Unfinished (ImageSays P.opens order places.old input.entry.now places.new (ListSays (notes_of slots bytes)))
+        (W.contents out.old) (W.contents out.new)) }
+    ensures opened { OpensFirst P.opens (input.entry.now ∷ []) places.old places.new }
 {
     match notes_of(slots, bytes) {
         Some(notes) => listed_with(alloc, places, out, input, notes, order),

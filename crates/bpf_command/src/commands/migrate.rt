@@ -1,7 +1,6 @@
 //! `bpf migrate CERT OUT`.
 
 ghost use Rattle.std.specs.Prelude.{IfOk, IfErr};
-ghost use Rattle.bpf_places.specs.Opened.{opening};
 ghost use Rattle.bpf_places.specs.Made.{making};
 ghost use Rattle.bpf_answers.specs.Answer.{Answered, Unfinished};
 ghost use Rattle.bpf_command.specs.Printed.{MigrateSays, MigrateFails, NotMigrated};
@@ -20,10 +19,14 @@ pub fn migrated<'a, P: Places, W: Write>(
     certificate: &'a str,
     output: &'a str,
 ) -> Result<u8, Failure<'a>>
-    ensures ok { IfOk result (Answered (MigrateSays (opening P.opens P.Reader.remaining) (making P.creates P.ends P.Writer.contents) places.old certificate.entry.now output.entry.now places.new) (W.contents out.old) (W.contents out.new)) }
-    ensures err { IfErr result (MigrateFails (opening P.opens P.Reader.remaining) (making P.creates P.ends P.Writer.contents) places.old certificate.entry.now output.entry.now places.new) }
-    ensures begun { IfErr result (λ _. Unfinished (MigrateSays (opening P.opens P.Reader.remaining) (making P.creates P.ends P.Writer.contents) places.old certificate.entry.now output.entry.now places.new) (W.contents out.old) (W.contents out.new)) }
-    ensures names { IfErr result (λ _. NotMigrated (opening P.opens P.Reader.remaining) (making P.creates P.ends P.Writer.contents) places.old certificate.entry.now output.entry.now places.new) }
+    ensures ok { IfOk result (Answered (MigrateSays P.opens (making P.creates P.ends P.Writer.contents) places.old certificate.entry.now
+        output.entry.now places.new) (W.contents out.old) (W.contents out.new)) }
+    ensures err { IfErr result (MigrateFails P.opens (making P.creates P.ends P.Writer.contents) places.old certificate.entry.now output.entry.now
+        places.new) }
+    ensures begun { IfErr result (λ _. Unfinished (MigrateSays P.opens (making P.creates P.ends P.Writer.contents) places.old certificate.entry.now
+        output.entry.now places.new) (W.contents out.old) (W.contents out.new)) }
+    ensures names { IfErr result (λ _. NotMigrated P.opens (making P.creates P.ends P.Writer.contents) places.old certificate.entry.now
+        output.entry.now places.new) }
 {
     let certificate = match certificate_at(alloc, places, certificate)? {
         Ok(certificate) => certificate,

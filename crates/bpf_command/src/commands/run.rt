@@ -1,14 +1,15 @@
 //! `bpf run IN HEX --steps N`, and the same with `--context FILE` or `--contexts FILE` in place of HEX.
 
 ghost use Rattle.bpf_insn.specs.Written.{AppendsBeginning};
-ghost use Rattle.std.specs.Prelude.{◌≡◌, ◌≤◌, ℕ, List, Ok, IfOk, IfErr, length};
+ghost use Rattle.bpf_insn.specs.Limits.{max_context};
+ghost use Rattle.std.specs.Prelude.{◌≡◌, ◌≤◌, ℕ, List, Ok, IfOk, IfErr, length, ◌∷◌, []};
 ghost use Rattle.std.specs.String.{string_bytes};
 ghost use Rattle.bpf_answers.specs.Context.{context_in};
 ghost use Rattle.bpf_machine.specs.Answers.{IsRun};
-ghost use Rattle.bpf_places.specs.Opened.{opening};
+ghost use Rattle.bpf_command.specs.Names.{names_run};
 ghost use Rattle.bpf_answers.specs.Answer.{Answer, Answered, Says, status_of, text_of, Unfinished};
 ghost use Rattle.bpf_answers.specs.Answer.Answer.{Ran};
-ghost use Rattle.bpf_answers.specs.Loaded.{ImageFails};
+ghost use Rattle.bpf_answers.specs.Loaded.{ImageFails, OpensFirst};
 ghost use Rattle.bpf_command.specs.Printed.{FailsWith, ImageSays, OutcomeSays};
 ghost use Rattle.bpf_command.specs.Given.{FailsBehind, OnNamed, OnWord, RunAtSays, RunEachFails, RunEachLeaves, RunEachSays, RunFails, RunLeaves, RunSays};
 ghost use Rattle.bpf_answers.specs.Told.{OutputFails};
@@ -70,7 +71,7 @@ fn outcome_of<C: Code, H: Aside>(
     steps: u32,
     trace: &Trace<'_, H>,
 ) -> Outcome
-    requires { length context.now ≤ 4096 }
+    requires { length context.now ≤ max_context }
     ensures { IsRun (C.program program.now) context.now steps result }
 {
     let outcome = run(program, context, u64::from(steps));
@@ -90,10 +91,13 @@ fn run_image<'a, P: Places, W: Write, H: Aside>(
     steps: u32,
     order: Order,
 ) -> Result<u8, Failure<'a>>
-    requires { length context.now ≤ 4096 }
-    ensures ok { IfOk result (Answered (ImageSays (opening P.opens P.Reader.remaining) order places.old input.entry.now places.new (OutcomeSays context.now steps)) (W.contents out.old) (W.contents out.new)) }
-    ensures err { IfErr result (ImageFails (opening P.opens P.Reader.remaining) places.old input.entry.now places.new) }
-    ensures begun { IfErr result (λ _. Unfinished (ImageSays (opening P.opens P.Reader.remaining) order places.old input.entry.now places.new (OutcomeSays context.now steps)) (W.contents out.old) (W.contents out.new)) }
+    requires { length context.now ≤ max_context }
+    ensures ok { IfOk result (Answered (ImageSays P.opens order places.old input.entry.now places.new (OutcomeSays context.now steps))
+        (W.contents out.old) (W.contents out.new)) }
+    ensures err { IfErr result (ImageFails P.opens places.old input.entry.now places.new) }
+    ensures begun { IfErr result (λ _. Unfinished (ImageSays P.opens order places.old input.entry.now places.new (OutcomeSays context.now steps))
+        (W.contents out.old) (W.contents out.new)) }
+    ensures opened { OpensFirst P.opens (input.entry.now ∷ []) places.old places.new }
 {
     match program_at(alloc, places, input, order)? {
         Ok(program) => {
@@ -116,9 +120,13 @@ fn ran<'a, P: Places, W: Write, H: Aside>(
     steps: u32,
     order: Order,
 ) -> Result<u8, Failure<'a>>
-    ensures ok { IfOk result (λ status. (answer : Answer) × (context : List ℕ) × (context_in hex.entry.now ≡ Ok context) × Says answer status (W.contents out.old) (W.contents out.new) × ImageSays (opening P.opens P.Reader.remaining) order places.old input.entry.now places.new (OutcomeSays context steps) answer) }
-    ensures err { IfErr result (FailsWith places.old places.new hex.entry.now (ImageFails (opening P.opens P.Reader.remaining) places.old input.entry.now places.new)) }
-    ensures begun { IfErr result (λ _. Unfinished (OnWord hex.entry.now (λ context. ImageSays (opening P.opens P.Reader.remaining) order places.old input.entry.now places.new (OutcomeSays context steps))) (W.contents out.old) (W.contents out.new)) }
+    ensures ok { IfOk result (λ status. (answer : Answer) × (context : List ℕ) × (context_in hex.entry.now ≡ Ok context) × Says answer status
+        (W.contents out.old) (W.contents out.new) × ImageSays P.opens order places.old input.entry.now places.new (OutcomeSays context steps) answer) }
+    ensures err { IfErr result (FailsWith places.old places.new hex.entry.now (ImageFails P.opens places.old input.entry.now places.new)) }
+    ensures begun { IfErr result (λ _. Unfinished (OnWord hex.entry.now
+        (λ context. ImageSays P.opens order places.old input.entry.now places.new (OutcomeSays context steps)))
+        (W.contents out.old) (W.contents out.new)) }
+    ensures opened { OpensFirst P.opens (input.entry.now ∷ []) places.old places.new }
 {
     let context = match context_of(alloc, hex) {
         Ok(context) => context,
@@ -138,9 +146,14 @@ fn ran_at<'a, P: Places, W: Write, H: Aside>(
     steps: u32,
     order: Order,
 ) -> Result<u8, Failure<'a>>
-    ensures ok { IfOk result (λ status. RunAtSays (opening P.opens P.Reader.remaining) order places.old input.entry.now context.entry.now steps places.new (W.contents out.old) (W.contents out.new) status) }
-    ensures err { IfErr result (FailsBehind (opening P.opens P.Reader.remaining) places.old context.entry.now places.new (λ between. ImageFails (opening P.opens P.Reader.remaining) between input.entry.now places.new)) }
-    ensures begun { IfErr result (λ _. Unfinished (OnNamed (opening P.opens P.Reader.remaining) places.old context.entry.now (λ between context. ImageSays (opening P.opens P.Reader.remaining) order between input.entry.now places.new (OutcomeSays context steps))) (W.contents out.old) (W.contents out.new)) }
+    ensures ok { IfOk result (λ status. RunAtSays P.opens order places.old input.entry.now context.entry.now steps places.new
+        (W.contents out.old) (W.contents out.new) status) }
+    ensures err { IfErr result (FailsBehind P.opens places.old context.entry.now places.new
+        (λ between. ImageFails P.opens between input.entry.now places.new)) }
+    ensures begun { IfErr result (λ _. Unfinished (OnNamed P.opens places.old context.entry.now
+        (λ between context. ImageSays P.opens order between input.entry.now places.new (OutcomeSays context steps)))
+        (W.contents out.old) (W.contents out.new)) }
+    ensures opened { OpensFirst P.opens (context.entry.now ∷ input.entry.now ∷ []) places.old places.new }
 {
     let context = context_at(alloc, places, context)?;
     run_image(alloc, places, out, trace, input, &context, steps, order)
@@ -181,9 +194,13 @@ fn ran_each<'a, P: Places, W: Write, H: Aside>(
     steps: u32,
     order: Order,
 ) -> Result<u8, Failure<'a>>
-    ensures ok { IfOk result (RunEachSays (opening P.opens P.Reader.remaining) order places.old input.entry.now contexts.entry.now steps places.new (W.contents out.old) (W.contents out.new)) }
-    ensures err { IfErr result (RunEachFails (opening P.opens P.Reader.remaining) order places.old input.entry.now contexts.entry.now steps places.new (W.contents out.old) (W.contents out.new)) }
-    ensures begun { IfErr result (λ _. RunEachLeaves (opening P.opens P.Reader.remaining) order places.old input.entry.now contexts.entry.now steps places.new (W.contents out.old) (W.contents out.new)) }
+    ensures ok { IfOk result (RunEachSays P.opens order places.old input.entry.now contexts.entry.now steps places.new
+        (W.contents out.old) (W.contents out.new)) }
+    ensures err { IfErr result (RunEachFails P.opens order places.old input.entry.now contexts.entry.now steps places.new
+        (W.contents out.old) (W.contents out.new)) }
+    ensures begun { IfErr result (λ _. RunEachLeaves P.opens order places.old input.entry.now contexts.entry.now steps places.new
+        (W.contents out.old) (W.contents out.new)) }
+    ensures opened { OpensFirst P.opens (input.entry.now ∷ contexts.entry.now ∷ []) places.old places.new }
 {
     let program = match program_at(alloc, places, input, order)? {
         Ok(program) => program,
@@ -208,9 +225,13 @@ pub fn ran_on<'a, P: Places, W: Write, H: Aside>(
     steps: u32,
     order: Order,
 ) -> Result<u8, Failure<'a>>
-    ensures ok { IfOk result (RunSays (opening P.opens P.Reader.remaining) order places.old input.entry.now contexts.entry steps places.new (W.contents out.old) (W.contents out.new)) }
-    ensures err { IfErr result (RunFails (opening P.opens P.Reader.remaining) order places.old input.entry.now contexts.entry steps places.new (W.contents out.old) (W.contents out.new)) }
-    ensures begun { IfErr result (λ _. RunLeaves (opening P.opens P.Reader.remaining) order places.old input.entry.now contexts.entry steps places.new (W.contents out.old) (W.contents out.new)) }
+    ensures ok { IfOk result (RunSays P.opens order places.old input.entry.now contexts.entry steps places.new
+        (W.contents out.old) (W.contents out.new)) }
+    ensures err { IfErr result (RunFails P.opens order places.old input.entry.now contexts.entry steps places.new
+        (W.contents out.old) (W.contents out.new)) }
+    ensures begun { IfErr result (λ _. RunLeaves P.opens order places.old input.entry.now contexts.entry steps places.new
+        (W.contents out.old) (W.contents out.new)) }
+    ensures opened { OpensFirst P.opens (names_run input.entry.now contexts.entry) places.old places.new }
 {
     match contexts {
         Contexts::Word(hex) => ran(alloc, places, out, trace, input, hex, steps, order),

@@ -1,8 +1,9 @@
 //! `bpf run-checked IN CERT HEX`, and the same with `--context FILE` or `--contexts FILE` in place of HEX.
 
-ghost use Rattle.std.specs.Prelude.{◌≡◌, ℕ, List, Ok, IfOk, IfErr};
+ghost use Rattle.std.specs.Prelude.{◌≡◌, ℕ, List, Ok, IfOk, IfErr, ◌∷◌, []};
 ghost use Rattle.bpf_answers.specs.Context.{context_in};
-ghost use Rattle.bpf_places.specs.Opened.{opening};
+ghost use Rattle.bpf_command.specs.Names.{names_checked};
+ghost use Rattle.bpf_answers.specs.Loaded.{OpensFirst};
 ghost use Rattle.bpf_answers.specs.Answer.{Answer, Answered, Says, Unfinished};
 ghost use Rattle.bpf_command.specs.Given.{CheckedAtSays, CheckedEachFails, CheckedEachLeaves, CheckedEachSays, CheckedFails, CheckedLeaves, CheckedSays, FailsBehind, OnNamed, OnWord};
 ghost use Rattle.bpf_command.specs.Printed.{RunCheckedSays, LoadedFails, FailsWith};
@@ -25,9 +26,12 @@ fn run_certified<'a, P: Places, W: Write>(
     context: &[u8],
     order: Order,
 ) -> Result<u8, Failure<'a>>
-    ensures ok { IfOk result (Answered (RunCheckedSays (opening P.opens P.Reader.remaining) order places.old input.entry.now certificate.entry.now places.new context.now) (W.contents out.old) (W.contents out.new)) }
-    ensures err { IfErr result (LoadedFails (opening P.opens P.Reader.remaining) order places.old input.entry.now certificate.entry.now places.new) }
-    ensures begun { IfErr result (λ _. Unfinished (RunCheckedSays (opening P.opens P.Reader.remaining) order places.old input.entry.now certificate.entry.now places.new context.now) (W.contents out.old) (W.contents out.new)) }
+    ensures ok { IfOk result (Answered (RunCheckedSays P.opens order places.old input.entry.now certificate.entry.now places.new context.now)
+        (W.contents out.old) (W.contents out.new)) }
+    ensures err { IfErr result (LoadedFails P.opens order places.old input.entry.now certificate.entry.now places.new) }
+    ensures begun { IfErr result (λ _. Unfinished (RunCheckedSays P.opens order places.old input.entry.now certificate.entry.now places.new
+        context.now) (W.contents out.old) (W.contents out.new)) }
+    ensures opened { OpensFirst P.opens (input.entry.now ∷ certificate.entry.now ∷ []) places.old places.new }
 {
     match program_at(alloc, places, input, order)? {
         Ok(program) => {
@@ -49,9 +53,14 @@ fn ran_checked<'a, P: Places, W: Write>(
     hex: &'a str,
     order: Order,
 ) -> Result<u8, Failure<'a>>
-    ensures ok { IfOk result (λ status. (answer : Answer) × (context : List ℕ) × (context_in hex.entry.now ≡ Ok context) × Says answer status (W.contents out.old) (W.contents out.new) × RunCheckedSays (opening P.opens P.Reader.remaining) order places.old input.entry.now certificate.entry.now places.new context answer) }
-    ensures err { IfErr result (FailsWith places.old places.new hex.entry.now (LoadedFails (opening P.opens P.Reader.remaining) order places.old input.entry.now certificate.entry.now places.new)) }
-    ensures begun { IfErr result (λ _. Unfinished (OnWord hex.entry.now (RunCheckedSays (opening P.opens P.Reader.remaining) order places.old input.entry.now certificate.entry.now places.new)) (W.contents out.old) (W.contents out.new)) }
+    ensures ok { IfOk result (λ status. (answer : Answer) × (context : List ℕ) × (context_in hex.entry.now ≡ Ok context) × Says answer status
+        (W.contents out.old) (W.contents out.new) × RunCheckedSays P.opens order places.old input.entry.now certificate.entry.now places.new context
+        answer) }
+    ensures err { IfErr result (FailsWith places.old places.new hex.entry.now
+        (LoadedFails P.opens order places.old input.entry.now certificate.entry.now places.new)) }
+    ensures begun { IfErr result (λ _. Unfinished (OnWord hex.entry.now
+        (RunCheckedSays P.opens order places.old input.entry.now certificate.entry.now places.new)) (W.contents out.old) (W.contents out.new)) }
+    ensures opened { OpensFirst P.opens (input.entry.now ∷ certificate.entry.now ∷ []) places.old places.new }
 {
     let context = match context_of(alloc, hex) {
         Ok(context) => context,
@@ -70,9 +79,13 @@ fn ran_checked_at<'a, P: Places, W: Write>(
     context: &'a str,
     order: Order,
 ) -> Result<u8, Failure<'a>>
-    ensures ok { IfOk result (CheckedAtSays (opening P.opens P.Reader.remaining) order places.old input.entry.now certificate.entry.now context.entry.now places.new (W.contents out.old) (W.contents out.new)) }
-    ensures err { IfErr result (FailsBehind (opening P.opens P.Reader.remaining) places.old context.entry.now places.new (λ between. LoadedFails (opening P.opens P.Reader.remaining) order between input.entry.now certificate.entry.now places.new)) }
-    ensures begun { IfErr result (λ _. Unfinished (OnNamed (opening P.opens P.Reader.remaining) places.old context.entry.now (λ between. RunCheckedSays (opening P.opens P.Reader.remaining) order between input.entry.now certificate.entry.now places.new)) (W.contents out.old) (W.contents out.new)) }
+    ensures ok { IfOk result (CheckedAtSays P.opens order places.old input.entry.now certificate.entry.now context.entry.now places.new
+        (W.contents out.old) (W.contents out.new)) }
+    ensures err { IfErr result (FailsBehind P.opens places.old context.entry.now places.new
+        (λ between. LoadedFails P.opens order between input.entry.now certificate.entry.now places.new)) }
+    ensures begun { IfErr result (λ _. Unfinished (OnNamed P.opens places.old context.entry.now
+        (λ between. RunCheckedSays P.opens order between input.entry.now certificate.entry.now places.new)) (W.contents out.old) (W.contents out.new)) }
+    ensures opened { OpensFirst P.opens (context.entry.now ∷ input.entry.now ∷ certificate.entry.now ∷ []) places.old places.new }
 {
     let context = context_at(alloc, places, context)?;
     run_certified(alloc, places, out, input, certificate, &context, order)
@@ -88,9 +101,13 @@ fn ran_checked_each<'a, P: Places, W: Write>(
     contexts: &'a str,
     order: Order,
 ) -> Result<u8, Failure<'a>>
-    ensures ok { IfOk result (CheckedEachSays (opening P.opens P.Reader.remaining) order places.old input.entry.now certificate.entry.now contexts.entry.now places.new (W.contents out.old) (W.contents out.new)) }
-    ensures err { IfErr result (CheckedEachFails (opening P.opens P.Reader.remaining) order places.old input.entry.now certificate.entry.now contexts.entry.now places.new (W.contents out.old) (W.contents out.new)) }
-    ensures begun { IfErr result (λ _. CheckedEachLeaves (opening P.opens P.Reader.remaining) order places.old input.entry.now certificate.entry.now contexts.entry.now places.new (W.contents out.old) (W.contents out.new)) }
+    ensures ok { IfOk result (CheckedEachSays P.opens order places.old input.entry.now certificate.entry.now contexts.entry.now places.new
+        (W.contents out.old) (W.contents out.new)) }
+    ensures err { IfErr result (CheckedEachFails P.opens order places.old input.entry.now certificate.entry.now contexts.entry.now places.new
+        (W.contents out.old) (W.contents out.new)) }
+    ensures begun { IfErr result (λ _. CheckedEachLeaves P.opens order places.old input.entry.now certificate.entry.now contexts.entry.now places.new
+        (W.contents out.old) (W.contents out.new)) }
+    ensures opened { OpensFirst P.opens (input.entry.now ∷ certificate.entry.now ∷ contexts.entry.now ∷ []) places.old places.new }
 {
     match program_at(alloc, places, input, order)? {
         Ok(program) => judged_each(alloc, places, out, &program, certificate, contexts),
@@ -108,9 +125,13 @@ pub fn ran_checked_on<'a, P: Places, W: Write>(
     contexts: Contexts<'a>,
     order: Order,
 ) -> Result<u8, Failure<'a>>
-    ensures ok { IfOk result (CheckedSays (opening P.opens P.Reader.remaining) order places.old input.entry.now certificate.entry.now contexts.entry places.new (W.contents out.old) (W.contents out.new)) }
-    ensures err { IfErr result (CheckedFails (opening P.opens P.Reader.remaining) order places.old input.entry.now certificate.entry.now contexts.entry places.new (W.contents out.old) (W.contents out.new)) }
-    ensures begun { IfErr result (λ _. CheckedLeaves (opening P.opens P.Reader.remaining) order places.old input.entry.now certificate.entry.now contexts.entry places.new (W.contents out.old) (W.contents out.new)) }
+    ensures ok { IfOk result (CheckedSays P.opens order places.old input.entry.now certificate.entry.now contexts.entry places.new
+        (W.contents out.old) (W.contents out.new)) }
+    ensures err { IfErr result (CheckedFails P.opens order places.old input.entry.now certificate.entry.now contexts.entry places.new
+        (W.contents out.old) (W.contents out.new)) }
+    ensures begun { IfErr result (λ _. CheckedLeaves P.opens order places.old input.entry.now certificate.entry.now contexts.entry places.new
+        (W.contents out.old) (W.contents out.new)) }
+    ensures opened { OpensFirst P.opens (names_checked input.entry.now certificate.entry.now contexts.entry) places.old places.new }
 {
     match contexts {
         Contexts::Word(hex) => ran_checked(alloc, places, out, input, certificate, hex, order),

@@ -1,6 +1,7 @@
 //! `bpf run --trace`: the last steps of a run, a line each.
 
 ghost use Rattle.std.specs.Prelude.{◌≤◌, length};
+ghost use Rattle.bpf_insn.specs.Limits.{max_context};
 
 use crate::aside::Aside;
 use bpf_explain_page::{Page, Tell};
@@ -112,7 +113,7 @@ impl End {
 
 /// Makes a run once more whose end is known, and tells its last steps. It takes no memory.
 fn tell_run<C: Code, W: Tell>(out: &mut W, program: &C, context: &[u8], end: End, most: u64)
-    requires { length context.now ≤ 4096 }
+    requires { length context.now ≤ max_context }
 {
     let kept = most.saturating_sub(u64::from(end.is_cut_off()));
     let mut machine = Machine::start(program, context);
@@ -131,7 +132,7 @@ fn tell_run<C: Code, W: Tell>(out: &mut W, program: &C, context: &[u8], end: End
 impl<'a, H: Aside> Trace<'a, H> {
     /// Tells the last steps of a run, where that is asked for.
     pub fn tell<C: Code>(&self, program: &C, context: &[u8], outcome: Outcome, fuel: u64)
-        requires { length context.now ≤ 4096 }
+        requires { length context.now ≤ max_context }
     {
         let Some(most) = self.lines else {
             return;

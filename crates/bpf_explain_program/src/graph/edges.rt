@@ -2,6 +2,7 @@
 
 ghost use Rattle.std.specs.Prelude.{◌≤◌};
 
+use crate::control::Control;
 use crate::graph::Scene;
 use crate::graph::plan::call_target;
 use bpf_check::jump_target;
@@ -49,9 +50,10 @@ fn write_from<'a, 'b, W: Tell>(
 )
     requires { slot ≤ 65535 }
 {
-    let (so, not) = match *insn {
-        Insn::JumpIf { .. } => (Way::IfSo, Way::IfNot),
-        _ => (Way::Next, Way::Next),
+    let (so, not) = if Control::of(insn) == Control::Test {
+        (Way::IfSo, Way::IfNot)
+    } else {
+        (Way::Next, Way::Next)
     };
     if let Some(to) = call_target(slot, insn) {
         write_edge(out, from, to, Way::Call, scene.flow.reached.has(slot));

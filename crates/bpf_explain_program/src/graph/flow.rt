@@ -1,10 +1,10 @@
 //! Which instructions and edges runs take, as far as the checker's pass knows.
 
 use crate::pass::see;
-use crate::sight::{Edge, Outcome, Sight};
+use crate::sight::{Outcome, Sight};
 use crate::slots::Slots;
 use bpf_cert::LAST_SLOT;
-use bpf_check::{Index, Site, Spot, Walk};
+use bpf_check::{Index, JudgedEdge, Site, Spot, Walk};
 use bpf_insn::Code;
 
 /// Which instructions and edges runs may take.
@@ -21,7 +21,7 @@ pub struct Flow {
 }
 
 /// Whether there is an edge, and a state goes along it.
-fn is_live<'a>(edge: Option<Edge<'a>>) -> bool {
+fn is_live<'a>(edge: Option<JudgedEdge<'a>>) -> bool {
     match edge {
         Some(edge) => edge.is_live,
         None => false,
@@ -61,7 +61,7 @@ impl Flow {
 
     /// Takes note of what the pass sees at an instruction.
     fn note<'a>(&mut self, sight: &Sight<'a>) {
-        let slot = sight.slot;
+        let slot = sight.site.here.slot;
         if sight.here.is_some() {
             self.reached.add(slot);
         }
@@ -80,7 +80,7 @@ impl Flow {
 /// Which instructions and edges runs may take, by the checker's pass.
 pub fn flow_of<C: Code>(program: &C, certificate: &Index) -> Flow {
     let mut flow = Flow::none();
-    let mut sight = Sight::new(false);
+    let mut sight = Sight::new(&*certificate, false);
     let mut walk = Walk::new();
     let mut here = Spot::of(&*certificate, 0);
     'visits: for _ in 0..65_536u32 {

@@ -18,9 +18,10 @@ pub struct Plan {
 pub fn call_target(slot: u32, insn: &Insn) -> Option<u32>
     requires { slot ≤ 65535 }
 {
-    match *insn {
-        Insn::CallLocal { off } => target(slot, off),
-        _ => None,
+    if let Insn::CallLocal { off } = *insn {
+        target(slot, off)
+    } else {
+        None
     }
 }
 

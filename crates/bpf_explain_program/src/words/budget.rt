@@ -1,12 +1,12 @@
 //! Budgets that don't cover a cost.
 
+use crate::control::Control;
 use crate::known::{Known, Name};
 use crate::places::{content, tag_at};
-use crate::sight::{Edge, Sight, total_of};
+use crate::sight::Sight;
 use bpf_cert::{Label, Measure, Term};
-use bpf_check::place_of;
+use bpf_check::{JudgedEdge, place_of};
 use bpf_explain_page::Tell;
-use bpf_insn::Insn;
 use bpf_state::{Place, SlotState, State, Tag};
 
 /// What a place that holds a counter did on the way: `r6 falls by 1 at weight 5`.
@@ -87,20 +87,25 @@ fn tell_way<W: Tell>(out: &mut W, way: &str, cost: i128, old: &Label, new: &Labe
 }
 
 /// What is missing on an edge that isn't paid.
-fn lack_of<'a>(edge: Edge<'a>) -> Option<i128> {
-    let total = total_of(edge.slack?);
-    if total < 0 { Some(total) } else { None }
+fn lack_of<'a>(edge: JudgedEdge<'a>) -> Option<i128> {
+    let left = edge.slack?.left;
+    if left < 0 { Some(left) } else { None }
 }
 
 /// Tells of an edge that isn't paid. Whether there was something to tell.
-fn tell_edge<'a, W: Tell>(out: &mut W, sight: &Sight<'a>, edge: Edge<'a>, state: &State) -> bool {
+fn tell_edge<'a, W: Tell>(
+    out: &mut W,
+    sight: &Sight<'a>,
+    edge: JudgedEdge<'a>,
+    state: &State,
+) -> bool {
     let (Some(here), Some(cost), Some(lack)) = (sight.here, sight.cost, lack_of(edge)) else {
         return false;
     };
     let Some(new) = edge.label else {
         return false;
     };
-    let way = if edge.to <= sight.slot {
+    let way = if edge.to <= sight.site.here.slot {
         "the loop back to"
     } else {
         "the way to"
@@ -113,11 +118,11 @@ fn tell_edge<'a, W: Tell>(out: &mut W, sight: &Sight<'a>, edge: Edge<'a>, state:
 
 /// What an EXIT costs, and what is left of the budget.
 fn tell_exit<'a, W: Tell>(out: &mut W, sight: &Sight<'a>) {
-    let (Some(here), Some(least), Some(cost)) = (sight.here, sight.least_budget, sight.cost) else {
+    let (Some(here), Some(slack), Some(cost)) = (sight.here, sight.left_at_exit, sight.cost) else {
         return;
     };
     let slot = here.label.slot;
-    let slack = least.saturating_sub(cost);
+    let least = slack.saturating_add(cost);
     write!(
         out,
         "the exit costs {cost}, and the budget at slot {slot} is at least {least}: slack {slack}"
@@ -126,7 +131,7 @@ fn tell_exit<'a, W: Tell>(out: &mut W, sight: &Sight<'a>) {
 
 /// C9: the budget at the last label doesn't cover the cost on an edge or at EXIT.
 pub fn tell_unpaid<'a, W: Tell>(out: &mut W, sight: &Sight<'a>) {
-    if let Insn::Exit = sight.insn {
+    if sight.control() == Control::Exit {
         return tell_exit(out, sight);
     }
     if let Some(edge) = sight.jump {
@@ -135,6 +140,6 @@ pub fn tell_unpaid<'a, W: Tell>(out: &mut W, sight: &Sight<'a>) {
         }
     }
     if let Some(edge) = sight.next {
-        let _ = tell_edge(out, sight, edge, sight.next_state());
+        let _ = tell_edge(out, sight, edge, &sight.behind);
     }
 }

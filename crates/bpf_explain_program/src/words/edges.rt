@@ -1,13 +1,14 @@
 //! States that don't lie in the label that they lead to.
 
+use crate::control::Control;
 use crate::known::{Known, Name, Written, known_register};
 use crate::places::{PLACES, content, place_at, state_at, take_over};
-use crate::sight::{Edge, Sight};
-use bpf_cert::{LAST_SLOT, Label};
-use bpf_check::{Index, callee, function_at, label_at};
+use crate::sight::Sight;
+use bpf_cert::Label;
+use bpf_check::{Callee, JudgedEdge};
 use bpf_explain_page::Tell;
-use bpf_insn::{Insn, Reg};
-use bpf_state::{SlotState, State, Work, enter};
+use bpf_insn::Reg;
+use bpf_state::{SlotState, State, enter};
 
 /// A place at which a state doesn't lie in a label's: what it holds, and what the label says of it.
 #[derive(Clone, Copy)]
@@ -39,14 +40,14 @@ pub fn first_difference(state: &State, label: &Label) -> Option<Difference> {
 }
 
 /// The label at the end of an edge that a state goes along.
-fn label_ahead<'a>(edge: Option<Edge<'a>>) -> Option<&'a Label> {
+fn label_ahead<'a>(edge: Option<JudgedEdge<'a>>) -> Option<&'a Label> {
     let edge = edge?;
-    if edge.is_live { edge.label } else { None }
+    if edge.is_refused { edge.label } else { None }
 }
 
 /// Tells where an edge's state doesn't lie in the label at its end: `r3 at slot 9 is anything; the label says u0..7`. Whether it
 /// doesn't.
-fn tell_edge<'a, W: Tell>(out: &mut W, edge: Option<Edge<'a>>, state: &State) -> bool {
+fn tell_edge<'a, W: Tell>(out: &mut W, edge: Option<JudgedEdge<'a>>, state: &State) -> bool {
     let Some(label) = label_ahead(edge) else {
         return false;
     };
@@ -59,10 +60,11 @@ fn tell_edge<'a, W: Tell>(out: &mut W, edge: Option<Edge<'a>>, state: &State) ->
 }
 
 /// Tells where a callee's label claims more than holds at the call. Whether it does.
-fn tell_entry<W: Tell>(out: &mut W, certificate: &Index, first: u32, state: &State) -> bool {
-    let Some(label) = label_at(certificate, first) else {
+fn tell_entry<'a, W: Tell>(out: &mut W, callee: Callee<'a>, state: &State) -> bool {
+    let Some(label) = callee.label else {
         return false;
     };
+    let first = callee.function.first;
     let mut entry = state.copy();
     enter(&mut entry);
     let Some(Difference { name, held, said }) = first_difference(&entry, label) else {
@@ -75,14 +77,11 @@ fn tell_entry<W: Tell>(out: &mut W, certificate: &Index, first: u32, state: &Sta
     true
 }
 
-/// Tells where a function is said to return less than r0 may hold. Whether it is.
-fn tell_result<'a, W: Tell>(out: &mut W, certificate: &Index, sight: &Sight<'a>) -> bool {
-    let Some(function) = function_at(certificate, sight.slot) else {
-        return false;
+/// Tells that a function is said to return less than r0 may hold.
+fn tell_result<'a, W: Tell>(out: &mut W, sight: &Sight<'a>) {
+    let Some(function) = sight.site.here.function else {
+        return;
     };
-    if Work::new().returns_counted(&sight.before, &function.ret) {
-        return false;
-    }
     let held = known_register(sight.before.reg(Reg::R0));
     let said = Written(SlotState::Word(function.ret));
     let first = function.first;
@@ -90,24 +89,20 @@ fn tell_result<'a, W: Tell>(out: &mut W, certificate: &Index, sight: &Sight<'a>)
         out,
         "r0 at exit is {held}; the function at slot {first} returns {said}"
     );
-    true
 }
 
 /// C8: a state doesn't lie in what is claimed where it leads to.
-pub fn tell_difference<'a, W: Tell>(out: &mut W, certificate: &Index, sight: &Sight<'a>) {
-    if let Insn::Exit = sight.insn {
-        let _ = tell_result(out, certificate, sight);
-        return;
+pub fn tell_difference<'a, W: Tell>(out: &mut W, sight: &Sight<'a>) {
+    if sight.control() == Control::Exit {
+        return tell_result(out, sight);
     }
-    if sight.slot <= LAST_SLOT {
-        if let Some(function) = callee(certificate, sight.slot, &sight.insn) {
-            if tell_entry(out, certificate, function.first, &sight.before) {
-                return;
-            }
+    if let Some(callee) = sight.site.callee {
+        if tell_entry(out, callee, &sight.before) {
+            return;
         }
     }
     if tell_edge(out, sight.jump, sight.jump_state()) {
         return;
     }
-    let _ = tell_edge(out, sight.next, sight.next_state());
+    let _ = tell_edge(out, sight.next, &sight.behind);
 }

@@ -12,7 +12,7 @@ use bpf_state::{Place, RegState, SlotState, State};
 
 /// C3: a register that is read may be uninitialised.
 pub fn tell_unknown<'a, W: Tell>(out: &mut W, sight: &Sight<'a>) {
-    match unknown_register(&sight.insn, &sight.before) {
+    match unknown_register(&sight.site.insn, &sight.before) {
         Some(reg) => {
             let name = register(reg);
             write!(out, "reads {name}, of which nothing is known");
@@ -116,13 +116,15 @@ fn tell_part<W: Tell>(out: &mut W, state: &State, access: Access) {
 
 /// The registers that an access to memory takes as numbers: the source, and r0 of a comparison.
 fn number_wanted(insn: &Insn, state: &State) -> Option<Reg> {
-    match *insn {
-        Insn::Atomic { src, .. } if is_pointer(state, src) => Some(src),
-        Insn::Atomic {
-            op: AtomicOp::CmpXchg,
-            ..
-        } if is_pointer(state, Reg::R0) => Some(Reg::R0),
-        _ => None,
+    let Insn::Atomic { op, src, .. } = *insn else {
+        return None;
+    };
+    if is_pointer(state, src) {
+        return Some(src);
+    }
+    match op {
+        AtomicOp::CmpXchg if is_pointer(state, Reg::R0) => Some(Reg::R0),
+        AtomicOp::CmpXchg | AtomicOp::Xchg | AtomicOp::Modify { .. } => None,
     }
 }
 
@@ -142,22 +144,30 @@ fn tell_access<W: Tell>(out: &mut W, state: &State, insn: &Insn, access: Access)
     if let Some(reg) = number_wanted(insn, state) {
         return tell_number_wanted(out, state, reg);
     }
-    match *insn {
-        Insn::Store { src, .. } => tell_operands(
-            out,
-            "a pointer is stored as 8 bytes at one known multiple of 8 of the frame",
-            state,
-            src,
-            Operand::Reg(access.base),
-        ),
-        _ => tell_part(out, state, access),
+    if let Insn::Store { src, .. } = *insn {
+        let rule = "a pointer is stored as 8 bytes at one known multiple of 8 of the frame";
+        tell_operands(out, rule, state, src, Operand::Reg(access.base))
+    } else {
+        tell_part(out, state, access)
+    }
+}
+
+/// Why an access may not be made, by its address or by what it reads and writes.
+fn tell_memory<'a, W: Tell, C: Code>(out: &mut W, program: &C, sight: &Sight<'a>) {
+    let state = &sight.before;
+    match sight.site.insn.access() {
+        Some(access) if !is_pointer(state, access.base) => {
+            tell_address(out, program, sight, access);
+        }
+        Some(access) => tell_access(out, state, &sight.site.insn, access),
+        None => write!(out, "takes operands of other kinds"),
     }
 }
 
 /// C4: operands or slots are of the wrong kinds.
 pub fn tell_kinds<'a, W: Tell, C: Code>(out: &mut W, program: &C, sight: &Sight<'a>) {
     let state = &sight.before;
-    match sight.insn {
+    match sight.site.insn {
         Insn::Alu {
             op,
             width,
@@ -174,12 +184,14 @@ pub fn tell_kinds<'a, W: Tell, C: Code>(out: &mut W, program: &C, sight: &Sight<
             src,
         ),
         Insn::Exit => tell_register(out, "the result must be a number", state, Reg::R0),
-        _ => match sight.insn.access() {
-            Some(access) if !is_pointer(state, access.base) => {
-                tell_address(out, program, sight, access);
-            }
-            Some(access) => tell_access(out, state, &sight.insn, access),
-            None => write!(out, "takes operands of other kinds"),
-        },
+        Insn::Load { .. }
+        | Insn::LoadSx { .. }
+        | Insn::Store { .. }
+        | Insn::StoreImm { .. }
+        | Insn::Atomic { .. }
+        | Insn::LoadImm64 { .. }
+        | Insn::Ja { .. }
+        | Insn::JaLong { .. }
+        | Insn::CallLocal { .. } => tell_memory(out, program, sight),
     }
 }

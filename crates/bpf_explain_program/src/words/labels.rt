@@ -5,11 +5,11 @@ use crate::listing::steps_of;
 use crate::places::{PLACES, content, place_at, state_at};
 use crate::words::edges::{Difference, first_difference};
 use bpf_cert::{Function, Label, Measure, Term};
-use bpf_check::{Cause, Index, begins_elsewhere, function_at, greatest_budget, label_at, place_of};
+use bpf_check::{Index, begins_elsewhere, function_at, greatest_budget, label_at, place_of};
 use bpf_explain_page::{Count, Tell};
 use bpf_insn::Code;
 use bpf_num::Num;
-use bpf_state::{Place, SlotState, State};
+use bpf_state::{Condition, Place, SlotState, State};
 
 /// C2: a label is at no instruction's first slot.
 fn tell_place<W: Tell, C: Code>(out: &mut W, program: &C, slot: u32) {
@@ -99,13 +99,13 @@ pub fn tell_label<W: Tell, C: Code>(
     certificate: &Index,
     function: &Function,
     label: &Label,
-    cause: Cause,
+    condition: Condition,
     bad: Option<Term>,
 ) {
-    match (cause, bad) {
-        (Cause::MisplacedLabel, _) => tell_place(out, program, label.slot),
-        (Cause::OverBudget, Some(term)) => tell_term(out, label, &term),
-        (Cause::Misshapen, _) => tell_shape(out, certificate, function, label),
+    match (condition, bad) {
+        (Condition::MisplacedLabel, _) => tell_place(out, program, label.slot),
+        (Condition::OverBudget, Some(term)) => tell_term(out, label, &term),
+        (Condition::Misshapen, _) => tell_shape(out, certificate, function, label),
         _ => {}
     }
 }
@@ -130,10 +130,10 @@ fn tell_outside<W: Tell>(out: &mut W, start: &State, label: &Label) {
 }
 
 /// Tells why a condition fails at the start.
-pub fn tell_start<W: Tell>(out: &mut W, certificate: &Index, cause: Cause) {
+pub fn tell_start<W: Tell>(out: &mut W, certificate: &Index, condition: Condition) {
     certificate.valid();
     let start = State::start(certificate.least(), certificate.most());
-    if let Cause::Misshapen = cause {
+    if let Condition::Misshapen = condition {
         if begins_elsewhere(certificate.functions()) {
             return write!(out, "no function of the certificate begins at slot 0");
         }
@@ -141,7 +141,7 @@ pub fn tell_start<W: Tell>(out: &mut W, certificate: &Index, cause: Cause) {
     let Some(label) = label_at(certificate, 0) else {
         return;
     };
-    if let Cause::OverBudget = cause {
+    if let Condition::OverBudget = condition {
         let steps = steps_of(certificate);
         if let Some(most) = greatest_budget(label, &start) {
             write!(

@@ -1,6 +1,5 @@
 //! Accesses out of bounds, of bytes that aren't initialised, and of what may not be written.
 
-use crate::effects::Reach;
 use crate::known::{Name, Offset, known_register};
 use crate::listing::Lengths;
 use crate::places::content;
@@ -11,7 +10,7 @@ use crate::words::register;
 use bpf_check::Index;
 use bpf_explain_page::{Count, Tell};
 use bpf_insn::{Access, Code, Insn};
-use bpf_state::{FRAME_START, Place, SlotState, State};
+use bpf_state::{FRAME_START, Place, Reach, SlotState, State};
 use std::fmt;
 
 /// What an access does.
@@ -52,14 +51,14 @@ fn tell_readable<W: Tell>(out: &mut W, certificate: &Index) {
 
 /// `: `, and the byte that lies outside of the context or the frame.
 fn tell_outside<W: Tell>(out: &mut W, certificate: &Index, reach: Reach) {
-    let (first, last) = (reach.first, reach.last);
-    if reach.in_frame {
-        if first < FRAME_START {
+    let (first, last) = (reach.first(), reach.end().saturating_sub(1));
+    if reach.in_frame() {
+        if first < i128::from(FRAME_START) {
             write!(out, ": byte {first} of a frame from -512 to -1");
         } else {
             write!(out, ": byte {last} of a frame from -512 to -1");
         }
-    } else if last >= i64::from(certificate.least()) {
+    } else if last >= i128::from(certificate.least()) {
         let lengths = Lengths::of(certificate);
         write!(out, ": byte {last} of a context of {lengths}");
         tell_readable(out, certificate);
@@ -71,9 +70,10 @@ fn tell_outside<W: Tell>(out: &mut W, certificate: &Index, reach: Reach) {
 /// The registers of an operation that moves a pointer too far.
 fn tell_far<W: Tell>(out: &mut W, state: &State, insn: &Insn) {
     let rule = "the pointer may leave its bounds, -2147483648 to 2147483648";
-    match *insn {
-        Insn::Alu { dst, src, .. } => tell_operands(out, rule, state, dst, src),
-        _ => write!(out, "{rule}"),
+    if let Insn::Alu { dst, src, .. } = *insn {
+        tell_operands(out, rule, state, dst, src)
+    } else {
+        write!(out, "{rule}")
     }
 }
 
@@ -85,8 +85,8 @@ pub fn tell_bounds<'a, W: Tell, C: Code>(
     sight: &Sight<'a>,
 ) {
     let state = &sight.before;
-    let Some(access) = sight.insn.access() else {
-        tell_far(out, state, &sight.insn);
+    let Some(access) = sight.site.insn.access() else {
+        tell_far(out, state, &sight.site.insn);
         return tell_operand_tested(out, program, sight);
     };
     let (name, held) = (
@@ -95,31 +95,19 @@ pub fn tell_bounds<'a, W: Tell, C: Code>(
     );
     let touch = Touch(access);
     write!(out, "{touch}, {name} is {held}");
-    if let Some(reach) = Reach::of(access, state) {
+    if let Some(reach) = Reach::of_access(access, state) {
         tell_outside(out, certificate, reach);
     }
     tell_sum_tested(out, program, sight, access.base);
 }
 
-/// The bytes of a slot that are touched, by a mask.
-fn touched(reach: Reach, slot: u8) -> u8 {
-    let start = i64::from(slot).saturating_mul(-8);
-    let mut mask = 0;
-    for bit in 0..8u8 {
-        let offset = start.saturating_add(i64::from(bit));
-        if reach.first <= offset && offset <= reach.last {
-            mask |= 1 << bit;
-        }
-    }
-    mask
-}
-
 /// The first slot with a byte that may be read and isn't known to be initialised, and the mask of those that are.
 fn unknown_slot(state: &State, reach: Reach) -> Option<(u8, u8)> {
-    let (low, high) = reach.slots()?;
-    for slot in low..=high {
+    let (first, end) = reach.slots();
+    for index in first..end {
+        let slot = index as u8 + 1;
         if let SlotState::Bytes(known) = content(state, Place::Slot(slot)) {
-            if touched(reach, slot) & !known != 0 {
+            if reach.mask(index) & !known != 0 {
                 return Some((slot, known));
             }
         }
@@ -129,11 +117,11 @@ fn unknown_slot(state: &State, reach: Reach) -> Option<(u8, u8)> {
 
 /// C6: a stack byte that may be read isn't known to be initialised.
 pub fn tell_unknown_bytes<'a, W: Tell>(out: &mut W, sight: &Sight<'a>) {
-    let Some(access) = sight.insn.access() else {
+    let Some(access) = sight.site.insn.access() else {
         return write!(out, "reads bytes that aren't known to be initialised");
     };
     let touch = Touch(access);
-    let found = match Reach::of(access, &sight.before) {
+    let found = match Reach::of_access(access, &sight.before) {
         Some(reach) => unknown_slot(&sight.before, reach),
         None => None,
     };
@@ -155,7 +143,7 @@ pub fn tell_unknown_bytes<'a, W: Tell>(out: &mut W, sight: &Sight<'a>) {
 
 /// C7: the context or r10 is written.
 pub fn tell_protected<'a, W: Tell>(out: &mut W, sight: &Sight<'a>) {
-    match sight.insn.access() {
+    match sight.site.insn.access() {
         Some(access) if access.writes => {
             let held = known_register(sight.before.reg(access.base));
             let (name, touch) = (register(access.base), Touch(access));

@@ -61,7 +61,7 @@ fn tell_part<W: Tell>(out: &mut W, trail: &Trail, part: &Part) -> bool {
 /// What the instructions since the last label tell in front of an instruction.
 fn trail_to<'a, C: Code>(program: &C, sight: &Sight<'a>) -> Option<Trail> {
     let here = sight.here?;
-    Some(Trail::between(program, here.label.slot, sight.slot))
+    Some(Trail::between(program, here.label.slot, sight.site.here.slot))
 }
 
 /// Tells which test of a copy doesn't bound what was added to a register, if there is one.
@@ -87,9 +87,9 @@ pub fn tell_operand_tested<'a, W: Tell, C: Code>(out: &mut W, program: &C, sight
     let Some(trail) = trail_to(program, sight) else {
         return;
     };
-    for reg in sight.insn.registers_read().into_iter().flatten() {
+    for reg in sight.site.insn.registers_read().into_iter().flatten() {
         let part = Part {
-            slot: sight.slot,
+            slot: sight.site.here.slot,
             reg,
             sum: trail.held(reg).sum,
         };
@@ -107,10 +107,8 @@ fn zero_before<C: Code>(program: &C, slot: u32, reg: Reg) -> Option<u32> {
         let at = slot.saturating_sub(back);
         if let Some(insn) = program.insn(at) {
             if insn.register_written() == Some(reg) {
-                return match insn {
-                    Insn::LoadImm64 { value: 0, .. } => Some(at),
-                    _ => None,
-                };
+                let is_zero = matches!(insn, Insn::LoadImm64 { value: 0, .. });
+                return if is_zero { Some(at) } else { None };
             }
         }
     }
@@ -233,7 +231,7 @@ pub fn tell_handed<'a, W: Tell, C: Code>(
     handings: &Handings,
 ) {
     let (Some(function), Some(trail)) = (
-        function_at(certificate, sight.slot),
+        function_at(certificate, sight.site.here.slot),
         trail_to(program, sight),
     ) else {
         return;

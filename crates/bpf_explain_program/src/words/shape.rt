@@ -1,10 +1,7 @@
 //! Conditions on where instructions lead to.
 
-ghost use Rattle.std.specs.Prelude.{◌≤◌};
-
 use crate::sight::Sight;
-use bpf_cert::LAST_SLOT;
-use bpf_check::{Index, callee, function_at, jump_target};
+use bpf_check::Spot;
 use bpf_explain_page::Tell;
 use bpf_insn::{Code, Insn};
 
@@ -43,24 +40,17 @@ pub fn tell_end<W: Tell>(out: &mut W) {
 
 /// C1: no label stands at a jump's target.
 pub fn tell_missing_label<'a, W: Tell>(out: &mut W, sight: &Sight<'a>) {
-    if sight.slot > LAST_SLOT {
-        return;
-    }
-    if let Some(to) = jump_target(sight.slot, &sight.insn) {
+    if let Some(Spot { slot: to, .. }) = sight.site.jump {
         write!(out, "jumps to slot {to}, where no label stands");
     }
 }
 
 /// C10: a callee's depth isn't below its caller's.
-pub fn tell_depth<'a, W: Tell>(out: &mut W, certificate: &Index, sight: &Sight<'a>) {
-    if sight.slot > LAST_SLOT {
-        return;
-    }
-    let called = callee(certificate, sight.slot, &sight.insn);
-    let (Some(callee), Some(caller)) = (called, function_at(certificate, sight.slot)) else {
+pub fn tell_depth<'a, W: Tell>(out: &mut W, sight: &Sight<'a>) {
+    let (Some(callee), Some(caller)) = (sight.site.callee, sight.site.here.function) else {
         return;
     };
-    let (first, depth, own) = (callee.first, callee.depth, caller.depth);
+    let (first, depth, own) = (callee.function.first, callee.function.depth, caller.depth);
     write!(
         out,
         "calls the function at slot {first} of depth {depth} from depth {own}: a callee's depth must be below its caller's"
@@ -68,8 +58,8 @@ pub fn tell_depth<'a, W: Tell>(out: &mut W, certificate: &Index, sight: &Sight<'
 }
 
 /// Whether a slot lies in the function that begins at `first`.
-fn lies_in(certificate: &Index, slot: u32, first: u32) -> bool {
-    match function_at(certificate, slot) {
+fn lies_in<'a>(spot: &Spot<'a>, first: u32) -> bool {
+    match spot.function {
         Some(function) => function.first == first,
         None => false,
     }
@@ -87,21 +77,14 @@ fn tell_nowhere<W: Tell>(out: &mut W, slot: u32, off: i32) {
 }
 
 /// Where a jump or the next instruction leads out of the function that begins at `first`.
-fn way_out<'a, C: Code>(
-    program: &C,
-    certificate: &Index,
-    sight: &Sight<'a>,
-    first: u32,
-) -> Option<(&'static str, u32)>
-    requires { sight.now.slot ≤ 65535 }
-{
-    if let Some(to) = jump_target(sight.slot, &sight.insn) {
-        if !lies_in(certificate, to, first) {
-            return Some(("jumps to", to));
+fn way_out<'a, C: Code>(program: &C, sight: &Sight<'a>, first: u32) -> Option<(&'static str, u32)> {
+    if let Some(to) = &sight.site.jump {
+        if !lies_in(to, first) {
+            return Some(("jumps to", to.slot));
         }
     }
-    let next = sight.slot + sight.insn.slots();
-    if sight.insn.goes_on() && next < program.slots() {
+    let next = sight.site.next.slot;
+    if sight.site.insn.goes_on() && next < program.slots() {
         Some(("goes on to", next))
     } else {
         None
@@ -109,25 +92,18 @@ fn way_out<'a, C: Code>(
 }
 
 /// C12: a jump or the next instruction lies in another function, or a call leads to none.
-pub fn tell_leaving<'a, W: Tell, C: Code>(
-    out: &mut W,
-    program: &C,
-    certificate: &Index,
-    sight: &Sight<'a>,
-) {
-    if sight.slot > LAST_SLOT {
-        return;
-    }
-    if let Insn::CallLocal { off } = sight.insn {
-        if callee(certificate, sight.slot, &sight.insn).is_none() {
-            return tell_nowhere(out, sight.slot, off);
+pub fn tell_leaving<'a, W: Tell, C: Code>(out: &mut W, program: &C, sight: &Sight<'a>) {
+    let slot = sight.site.here.slot;
+    if let Insn::CallLocal { off } = sight.site.insn {
+        if sight.site.callee.is_none() {
+            return tell_nowhere(out, slot, off);
         }
     }
-    let Some(function) = function_at(certificate, sight.slot) else {
+    let Some(function) = sight.site.here.function else {
         return;
     };
     let first = function.first;
-    if let Some((leads, to)) = way_out(program, certificate, sight, first) {
+    if let Some((leads, to)) = way_out(program, sight, first) {
         write!(
             out,
             "{leads} slot {to}, out of the function at slot {first}"

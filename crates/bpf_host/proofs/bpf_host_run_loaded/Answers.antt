@@ -6,4 +6,4 @@ returns-clause-ends c = λ yes order image least most bound loaded verified fits
     let inside = c.if-not-takes.ensures.0 refl in
     let from = subst (λ n. n ≤ length c.args.context.now) loaded.numbers.least_is inside.0 in
     let to = subst (λ n. length c.args.context.now ≤ n) loaded.numbers.most_is inside.1 in
-    c.end_of_loaded.ensures order image loaded.is_prepared least most bound verified fits (from, to)
+    c.in-Some.ensures.ends order image loaded.is_prepared least most bound verified fits (from, to)

@@ -3,10 +3,10 @@
 ghost use Rattle.std.specs.Prelude.{◌≤◌};
 
 use crate::judge::Fault;
-use crate::least::{Places, least_number, places_read, spare};
+use crate::liveness::{PlaceSet, keep_live, least_number, places_read};
 use crate::states::Analysis;
 use bpf_cert::{Function, Label};
-use bpf_infer_base::{Depths, Meter, Outline, Quest, Sketch, Stop, Watch, depths_of, get_or, put};
+use bpf_infer_base::{Cfg, Depths, Meter, Quest, Sketch, Stop, Watch, depths_of, get_or, put};
 use bpf_infer_error::InferError;
 use bpf_num::Num;
 use std::alloc::{AllocError, Global};
@@ -37,10 +37,10 @@ impl<'a> Analysis<'a> {
     }
 
     /// By labels of a function, the places that are read behind each.
-    fn places_read(&self, function: usize, read: &[Places]) -> Result<Vec<Places>, AllocError> {
+    fn places_read(&self, function: usize, read: &[PlaceSet]) -> Result<Vec<PlaceSet>, AllocError> {
         match self.judged.get(function) {
             Some(Some(judged)) => {
-                let task = self.task(&judged.region);
+                let task = self.task(&judged.blocks);
                 places_read(self.alloc, task, &judged.states, read)
             }
             _ => Ok(Vec::new(self.alloc)),
@@ -48,12 +48,12 @@ impl<'a> Analysis<'a> {
     }
 
     /// What a function reads of what it begins with; its labels' states say no more than is read. Its callees come before it.
-    fn spare(&mut self, function: usize, read: &[Places]) -> Result<Places, AllocError> {
+    fn keep_live(&mut self, function: usize, read: &[PlaceSet]) -> Result<PlaceSet, AllocError> {
         let live = self.places_read(function, read)?;
         if let Some(Some(judged)) = self.judged.get_mut(function) {
-            spare(self.alloc, &mut judged.states, &live)?;
+            keep_live(self.alloc, &mut judged.states, &live)?;
         }
-        Ok(live.first().copied().unwrap_or(Places::ALL))
+        Ok(live.first().copied().unwrap_or(PlaceSet::ALL))
     }
 
     /// Makes the states of the functions of a depth say no more than is read, and takes note of what they read.
@@ -61,11 +61,11 @@ impl<'a> Analysis<'a> {
         &mut self,
         depths: &Depths,
         depth: u32,
-        read: &mut Vec<Places>,
+        read: &mut Vec<PlaceSet>,
     ) -> Result<(), AllocError> {
         for function in 0..self.judged.len() {
             if get_or(depths, function, 0) == depth {
-                let places = self.spare(function, read)?;
+                let places = self.keep_live(function, read)?;
                 put(read, function, places);
             }
         }
@@ -74,7 +74,7 @@ impl<'a> Analysis<'a> {
 
     /// Makes all labels' states say no more than is read.
     pub(super) fn spare_all(&mut self, depths: &Depths) -> Result<(), AllocError> {
-        let mut read = vec![in self.alloc; Places::ALL; self.judged.len()]?;
+        let mut read = vec![in self.alloc; PlaceSet::ALL; self.judged.len()]?;
         for depth in 1..9 {
             self.spare_depth(depths, depth, &mut read)?;
         }
@@ -137,13 +137,13 @@ impl<'a> Analysis<'a> {
 fn first_fault<W: Watch>(
     alloc: Global,
     quest: Quest<'_>,
-    outline: &Outline,
+    cfg: &Cfg,
     depths: &Depths,
     meter: &mut Meter<'_, W>,
 ) -> Result<Option<Stop>, Stop>
     requires { quest.least ≤ quest.most }
 {
-    let mut analysis = Analysis::new(alloc, quest, outline, true)?;
+    let mut analysis = Analysis::new(alloc, quest, cfg, true)?;
     if let Err(stop) = analysis.settle(depths, &quest.start(), meter) {
         return match stop.error {
             InferError::Memory => Err(stop),
@@ -166,15 +166,15 @@ pub fn draft<W: Watch>(
 ) -> Result<Vec<Function>, Stop>
     requires { quest.least ≤ quest.most }
 {
-    let outline = Outline::of(alloc, quest.program)?;
-    let depths = depths_of(alloc, quest.program, &outline)?;
-    let mut analysis = Analysis::new(alloc, quest, &outline, false)?;
+    let cfg = Cfg::of(alloc, quest.program)?;
+    let depths = depths_of(alloc, quest.program, &cfg)?;
+    let mut analysis = Analysis::new(alloc, quest, &cfg, false)?;
     match analysis.settle(&depths, &quest.start(), meter) {
         Ok(()) => {}
         Err(stop) => return Err(analysis.stop(&depths, stop)),
     }
     if let Some(fault) = analysis.fault() {
-        return Err(match first_fault(alloc, quest, &outline, &depths, meter)? {
+        return Err(match first_fault(alloc, quest, &cfg, &depths, meter)? {
             Some(stop) => stop,
             None => analysis.stop(&depths, Stop::from(fault.refusal())),
         });

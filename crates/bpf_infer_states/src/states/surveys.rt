@@ -3,10 +3,10 @@
 ghost use Rattle.std.specs.Prelude.{◌≤◌};
 
 use crate::states::Analysis;
-use crate::sums::{Held, load};
-use crate::task::{Task, Watcher};
+use crate::sums::{LabelState, load};
+use crate::task::{Task, Visitor};
 use bpf_cert::Function;
-use bpf_infer_base::{Depths, Meter, Outline, Quest, Watch, depths_of, get_or, put, vacant};
+use bpf_infer_base::{Cfg, Depths, Meter, Quest, Watch, depths_of, get_or, put, vacant};
 use bpf_infer_error::{Condition, InferError};
 use bpf_insn::{Insn, Reg};
 use bpf_num::Num;
@@ -36,7 +36,7 @@ pub struct Survey {
     pub draft: Option<Vec<Function>>,
 }
 
-impl Watcher for Survey {
+impl Visitor for Survey {
     fn before(&mut self, slot: u32, _insn: &Insn, state: &State) -> Result<(), AllocError> {
         let mut registers = [RegState::Any; 11];
         for i in 0..11u8 {
@@ -111,12 +111,12 @@ impl Survey {
     }
 
     /// Goes over the labels of a function that are reached.
-    fn visit(&mut self, task: Task, states: &[Held]) -> Result<(), AllocError> {
-        self.met = vec![in self.alloc; false; task.region.labels()]?;
+    fn visit(&mut self, task: Task, states: &[LabelState]) -> Result<(), AllocError> {
+        self.met = vec![in self.alloc; false; task.blocks.labels()]?;
         self.waiting = Vec::new(self.alloc);
         let mut room = State::blank();
         self.edge(0, 0, &room)?;
-        for _ in 0..task.region.labels() {
+        for _ in 0..task.blocks.labels() {
             let Some(label) = self.waiting.pop() else {
                 break;
             };
@@ -140,7 +140,7 @@ impl<'a> Analysis<'a> {
             let is_due = get_or(depths, function, 0) == depth;
             if is_due && get_or(&survey.called, function, false) {
                 if let Some(Some(judged)) = self.judged.get(function) {
-                    survey.visit(self.task(&judged.region), &judged.states)?;
+                    survey.visit(self.task(&judged.blocks), &judged.states)?;
                 }
             }
         }
@@ -171,9 +171,9 @@ pub fn surveyed<W: Watch>(
 ) -> Result<Survey, InferError>
     requires { quest.least ≤ quest.most }
 {
-    let outline = Outline::of(alloc, quest.program)?;
-    let depths = depths_of(alloc, quest.program, &outline)?;
-    let mut analysis = Analysis::new(alloc, quest, &outline, false)?;
+    let cfg = Cfg::of(alloc, quest.program)?;
+    let depths = depths_of(alloc, quest.program, &cfg)?;
+    let mut analysis = Analysis::new(alloc, quest, &cfg, false)?;
     match analysis.settle(&depths, &quest.start(), meter) {
         Ok(()) => {}
         Err(stop) => return Err(stop.error),

@@ -3,6 +3,7 @@ use Rattle.std.specs.Prelude.{◌≡◌, ℕ, suc, ◌^◌, ◌≤◌, ◌<◌, 
 use Rattle.std.specs.Int.{int_min, int_max}
 use Rattle.std.specs.Option.{option_map_or}
 use Rattle.bpf_insn.specs.Instruction.{byte_count}
+use Rattle.bpf_insn.specs.Limits.{frame_bytes}
 use Rattle.bpf_insn.specs.Effects.{is_frame_pointer}
 use Rattle.bpf_insn.specs.declared.instruction.Reg.{Reg}
 use Rattle.bpf_insn.specs.declared.instruction.Size.{Size}
@@ -35,7 +36,7 @@ pub record IsSpan (p : Span) : Type 0 where
 
 -- how far an offset lies below the frame's end: at most all of the frame
 abbrev pub depth_of : ℤ → ℕ
-depth_of z = unsigned_abs (int_max (pos 0) (int_min (neg_ℤ z) (pos 512)))
+depth_of z = unsigned_abs (int_max (pos 0) (int_min (neg_ℤ z) (pos frame_bytes)))
 
 -- the places of the slots that may be touched: those from the first on, below the end
 pub record AreTouched (p : Span) (first end : ℕ) : Type 0 where

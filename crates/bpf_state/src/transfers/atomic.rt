@@ -8,7 +8,8 @@ ghost use Rattle.bpf_insn.specs.declared.instruction.Insn.TheVariants.{Atomic};
 ghost use Rattle.bpf_state.specs.Access.{is_inside};
 ghost use Rattle.bpf_state.specs.Transfer.{transfer, loaded, fetched, modified_by};
 ghost use Rattle.bpf_state.specs.code.Parts.{atomic_operands, atomic_outcome};
-ghost use Rattle.bpf_state.specs.Answer.{fault_number, outcome_told, edge_told, KeepsUnlessDone};
+ghost use Rattle.bpf_state.specs.Answer.{outcome_told, edge_told, KeepsUnlessDone};
+ghost use Rattle.bpf_state.specs.Condition.{fault_number};
 
 use super::load::{loaded, read_fault};
 use crate::access::Reach;

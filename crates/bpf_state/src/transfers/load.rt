@@ -9,7 +9,8 @@ ghost use Rattle.bpf_state.specs.State.{IsRegister};
 ghost use Rattle.bpf_state.specs.Access.{is_inside};
 ghost use Rattle.bpf_state.specs.Transfer.{transfer, any_number, any_signed, loaded, loaded_tag};
 ghost use Rattle.bpf_state.specs.code.Parts.{byte_fault, read_fault, or_protected, takes_whole, value_by, tag_by, load_insn, load_outcome};
-ghost use Rattle.bpf_state.specs.Answer.{fault_number, outcome_told, KeepsUnlessDone};
+ghost use Rattle.bpf_state.specs.Answer.{outcome_told, KeepsUnlessDone};
+ghost use Rattle.bpf_state.specs.Condition.{fault_number};
 
 use crate::access::Reach;
 use crate::fault::StateFault;

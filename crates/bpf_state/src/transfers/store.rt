@@ -6,7 +6,8 @@ ghost use Rattle.bpf_state.specs.State.{IsRegister, IsSlot, value_slot};
 ghost use Rattle.bpf_state.specs.Access.{is_inside};
 ghost use Rattle.bpf_state.specs.Transfer.{transfer, stored};
 ghost use Rattle.bpf_state.specs.code.Parts.{store_fault, store_insn, store_outcome};
-ghost use Rattle.bpf_state.specs.Answer.{fault_number, outcome_told, KeepsUnlessDone};
+ghost use Rattle.bpf_state.specs.Answer.{outcome_told, KeepsUnlessDone};
+ghost use Rattle.bpf_state.specs.Condition.{fault_number};
 
 use crate::access::Reach;
 use crate::fault::StateFault;

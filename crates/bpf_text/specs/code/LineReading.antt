@@ -5,7 +5,7 @@ use Rattle.bpf_text.specs.declared.error.TextError.TheVariants.{Form, Range}
 use Rattle.bpf_text.specs.declared.line.LineFault.{LineFault}
 use Rattle.bpf_text.specs.declared.line.LineFault.TheVariants.{NoForm, OutOfRange}
 use Rattle.bpf_text.specs.Characters.{is_name}
-use Rattle.bpf_text.specs.Statements.{Statement}
+use Rattle.bpf_text.specs.Statements.{Statement, plain, to_label}
 use Rattle.bpf_text.specs.code.WordReading.{skip_blanks, ◌>>=◌, word_in}
 use Rattle.bpf_text.specs.code.StatementReading.{if_blank, whole_statement}
 use Rattle.bpf_text.specs.Sources.{lines_of, without_comment, Label, Source, statement_slots, said_at, in_front, ends_with}
@@ -52,6 +52,13 @@ part_said (Some part) = said_in part (skip_blanks part)
 -- what a line without its comment says behind its labels
 unfoldable pub line_in : List ℕ → Result (Option Statement) LineFault
 line_in line = part_said (last_part (parts_of line))
+
+-- the name of the label that what is said leads to
+abbrev pub name_said : Result (Option Statement) LineFault → Option (List ℕ)
+name_said (Err fault) = None
+name_said (Ok None) = None
+name_said (Ok (Some (plain i))) = None
+name_said (Ok (Some (to_label jump name))) = Some name
 
 -- ---- the lines of a text
 

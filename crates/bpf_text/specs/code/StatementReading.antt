@@ -21,7 +21,7 @@ use Rattle.bpf_text.specs.declared.spelling.Memory.{Memory}
 use Rattle.bpf_text.specs.declared.spelling.Memory.TheVariants.{Unsigned, Signed}
 use Rattle.bpf_text.specs.declared.spelling.Keyword.{Keyword}
 use Rattle.bpf_text.specs.Parts.{registers, operations, conditions, modifications, extensions, swaps, memories, keywords, register_spelling, swap_spelling, memory_text, keyword_text}
-use Rattle.bpf_text.specs.declared.statement.MemoryOperand.{MemoryOperand}
+use Rattle.bpf_text.specs.declared.statement.memory.MemoryOperand.{MemoryOperand}
 use Rattle.bpf_text.specs.declared.statement.Jump.{Jump}
 use Rattle.bpf_text.specs.declared.statement.Jump.TheVariants.{Goto as ToSlot, GotoLong as FarToSlot, Call as CallSlot, If as OnTest}
 use Rattle.bpf_text.specs.Spelling.{register_text, operation_text, cond_text, modify_text, sign_bits_text}

@@ -51,6 +51,21 @@ unsafe extern "C" {
         context_len: usize,
         value: &mut u64,
     ) -> i32;
+    fn bpf_host_explain(
+        image: *const u8,
+        image_len: usize,
+        order: u32,
+        certificate: *const u8,
+        certificate_len: usize,
+        aspect: u32,
+        slot: u32,
+        lines: *const u8,
+        lines_len: usize,
+        text: *mut u8,
+        text_len: usize,
+        wanted: &mut usize,
+        refusal: &mut Refusal,
+    ) -> i32;
     fn bpf_host_refusal_text(kind: u32, number: u32, text: *mut u8, text_len: usize) -> usize;
 }
 
@@ -161,5 +176,36 @@ impl Filter {
             )
         };
         (answer == 1).then_some(value)
+    }
+}
+
+/// What is known of an image under a certificate, or why one of the two is refused: the words of `bpf explain`. None where memory runs out.
+pub fn explain(image: &[u8], certificate: &[u8], order: Order) -> Option<String> {
+    const LISTING: u32 = 0;
+    let (mut text, mut wanted, mut refusal) = (Vec::new(), 0, Refusal::default());
+    loop {
+        // SAFETY: the pointers and lengths are those of slices and of a vector's bytes.
+        let answer = unsafe {
+            bpf_host_explain(
+                image.as_ptr(),
+                image.len(),
+                order as u32,
+                certificate.as_ptr(),
+                certificate.len(),
+                LISTING,
+                0,
+                [].as_ptr(),
+                0,
+                text.as_mut_ptr(),
+                text.len(),
+                &mut wanted,
+                &mut refusal,
+            )
+        };
+        match answer {
+            0 | 1 => return Some(String::from_utf8_lossy(&text).into_owned()),
+            -3 => text = vec![0u8; wanted],
+            _ => return None,
+        }
     }
 }

@@ -1,6 +1,6 @@
 //! The filters of examples/c, loaded and run.
 
-use bpf::{Filter, LoadError, Order};
+use bpf::{Filter, LoadError, Order, explain};
 
 const PORT: (&[u8], &[u8]) = (
     include_bytes!("../../../c/port.img"),
@@ -71,4 +71,12 @@ fn tells_why_it_is_not_loaded() {
         Filter::load(PORT.0, PORT.1, Order::Big, bound),
         Err(LoadError::Refused(_))
     ));
+}
+
+#[test]
+fn explains_what_is_known_and_why_it_is_refused() {
+    let known = explain(PORT.0, PORT.1, Order::Little).unwrap();
+    assert!(known.contains("\naccepted: at most ") && known.ends_with('\n'));
+    let refused = explain(PORT.0, &[], Order::Little).unwrap();
+    assert!(refused.starts_with("K1 at line 1: the text ends here without `end`"));
 }

@@ -7,7 +7,7 @@ use Rattle.bpf_answers.proofs.whole.context_at.Goals as goal
 pub returns-in_default-clause-err : goal.returns-in_default-clause-err
 returns-in_default-clause-err g c =
     let known = g.P.Reader.Read.remaining c.in-Ok.reader in
-    (refl, inr (known, (c.in-Ok.reader, c.in-Ok.ensures, refl), may_fail known))
+    (refl, inr (known, c.in-Ok.ensures, may_fail known))
 
 pub returns-then-len-gt-MAX_CONTEXT-clause-err : goal.returns-then-len-gt-MAX_CONTEXT-clause-err
 returns-then-len-gt-MAX_CONTEXT-clause-err g c =
@@ -15,7 +15,7 @@ returns-then-len-gt-MAX_CONTEXT-clause-err g c =
     let rest = g.P.Reader.Read.remaining c.read_up_to.new.reader in
     let took = some_is c.in_ok-bytes.field-0 c.in-Some.bytes (λ v. Consumes known rest v.items) c.in-Some.is c.in_ok-bytes.ensures.taken in
     let long : 4096 < length c.in-Some.bytes.items = omega arith in
-    (refl, (known, (c.in-Ok.reader, c.in-Ok.ensures, refl), too_many known rest c.in-Some.bytes.items 4096 took long))
+    (refl, (known, c.in-Ok.ensures, too_many known rest c.in-Some.bytes.items 4096 took long))
 
 pub returns-clause-ok : goal.returns-clause-ok
 returns-clause-ok g c =
@@ -24,4 +24,4 @@ returns-clause-ok g c =
     let took = some_is c.in_ok-bytes.field-0 c.in-Some.bytes (λ v. Consumes known rest v.items) c.in-Some.is c.in_ok-bytes.ensures.taken in
     let all = some_is c.in_ok-bytes.field-0 c.in-Some.bytes (λ v. length v.items ≤ 4096 → IsAtEnd rest) c.in-Some.is c.in_ok-bytes.ensures.all in
     let short : length c.in-Some.bytes.items ≤ 4096 = omega arith in
-    ((known, (c.in-Ok.reader, c.in-Ok.ensures, refl), at_end known rest c.in-Some.bytes.items took (all short)), short)
+    ((known, c.in-Ok.ensures, at_end known rest c.in-Some.bytes.items took (all short)), short)

@@ -1,5 +1,5 @@
 use Rattle.std.proofs.Common.{◌≡◌, length}
-use Rattle.bpf_cert.specs.Faults.{is_rising}
+use Rattle.bpf_cert.specs.Limits.{is_rising}
 use Rattle.bpf_cert.specs.Limits as limits
 use Rattle.bpf_cert.proofs.limits.places_rise.Given as goal
 

@@ -1,6 +1,6 @@
 use Rattle.std.proofs.Common.{◌≡◌, length, map}
 use Rattle.bpf_cert.specs.View.{label_view}
-use Rattle.bpf_cert.specs.Faults.{is_rising}
+use Rattle.bpf_cert.specs.Limits.{is_rising}
 use Rattle.bpf_cert.specs.Limits as limits
 use Rattle.bpf_cert.proofs.limits.slots_rise.Given as goal
 

@@ -1,8 +1,7 @@
 use Rattle.std.proofs.Common.{◌≡◌, ℕ, refl, Option, Some, None, sym, ap, ◌∙◌, option_map, option_copied, IfSome, IsTrue, Bor}
 use Rattle.bpf_cert.specs.declared.certificate.Function.{Function}
 use Rattle.bpf_cert.specs.View.{CertificateView, function_view}
-use Rattle.bpf_cert.specs.Faults.{is_rising}
-use Rattle.bpf_cert.specs.Limits.{IsCertificate, first_before, is_limited_function}
+use Rattle.bpf_cert.specs.Limits.{is_rising, IsCertificate, first_before, is_limited_function}
 use Rattle.bpf_safety.specs.Labels.{function_at}
 use Rattle.bpf_check.proofs.CertificateFacts.{function_at_is, function_at_limited, functions_rise}
 use Rattle.bpf_check.proofs.SearchLemmas.{is_rising-map}

@@ -1,8 +1,7 @@
 use Rattle.std.proofs.Common.{◌≡◌, Some, None, map, sym, ◌∙◌, ap}
 use Rattle.std.specs.Prelude.{option_map, option_copied, ◌==◌}
 use Rattle.bpf_cert.specs.View.{function_view, label_view}
-use Rattle.bpf_cert.specs.Limits.{slot_before}
-use Rattle.bpf_cert.specs.Faults.{is_rising}
+use Rattle.bpf_cert.specs.Limits.{slot_before, is_rising}
 use Rattle.bpf_safety.specs.Labels.{function_at, first_with}
 use Rattle.bpf_check.proofs.PlaceLemmas.{label_there, no_label_there, labels_rise_there}
 use Rattle.bpf_check.proofs.labels.label_in_place.Goals as goal

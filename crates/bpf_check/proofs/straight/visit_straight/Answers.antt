@@ -1,4 +1,4 @@
-use Rattle.std.proofs.Common.{ap, ap₂, ◌∙◌}
+use Rattle.std.proofs.Common.{refl, ap, ap₂, ◌∙◌}
 use Rattle.std.specs.Prelude.{option_map}
 use Rattle.bpf_state.specs.Transfer.{transfer}
 use Rattle.bpf_check.specs.code.Arrivals.{arrival_of, walk_of}
@@ -9,7 +9,7 @@ use Rattle.bpf_check.proofs.StraightLemmas.{straight_least, straight_sound, stra
 use Rattle.bpf_check.proofs.straight.visit_straight.Goals as goal
 
 pub returns-in-Err-clause-refusal : goal.returns-in-Err-clause-refusal
-returns-in-Err-clause-refusal g c = straight_least (g.P.Code.program c.args.program.now) c.args.step.now c.requires.step (walk_of c.args.walk.now) (arrival_of c.args.walk.now.state c.args.step.now.reached) (option_map flaw_of c.refused_if.result) (ap (option_map (arrival_of c.args.walk.now.state)) c.requires.reached) (faulty_least (g.P.Code.program c.args.program.now) c.args.step.now.certificate.now c.args.step.now.slot c.args.step.now.insn (arrival_of c.args.walk.now.state c.args.step.now.reached) _ _ (option_map flaw_of c.refused_if.result) (transfer_fault (g.P.Code.program c.args.program.now).order c.args.step.now.insn c.args.step.now.certificate.now.least c.args.walk.now.state c.transfer_counted.new.state c.in-Err.fault (c.in-Err.ensures.outcome ∙ ap₂ (λ n o. transfer o c.args.step.now.insn n c.args.walk.now.state) c.least.ensures c.order.ensures)) c.cause_of.ensures c.refused_if.ensures)
+returns-in-Err-clause-refusal g c = straight_least (g.P.Code.program c.args.program.now) c.args.step.now c.requires.step (walk_of c.args.walk.now) (arrival_of c.args.walk.now.state c.args.step.now.reached) (option_map flaw_of c.refused_if.result) (ap (option_map (arrival_of c.args.walk.now.state)) c.requires.reached) (faulty_least (g.P.Code.program c.args.program.now) c.args.step.now.certificate.now c.args.step.now.slot c.args.step.now.insn (arrival_of c.args.walk.now.state c.args.step.now.reached) _ _ (option_map flaw_of c.refused_if.result) (transfer_fault (g.P.Code.program c.args.program.now).order c.args.step.now.insn c.args.step.now.certificate.now.least c.args.walk.now.state c.transfer_counted.new.state c.in-Err.fault (c.in-Err.ensures.outcome ∙ ap₂ (λ n o. transfer o c.args.step.now.insn n c.args.walk.now.state) c.least.ensures c.order.ensures)) refl c.refused_if.ensures)
 
 pub returns-in-Err-clause-passed : goal.returns-in-Err-clause-passed
 returns-in-Err-clause-passed g c = straight_stopped (g.P.Code.program c.args.program.now) c.args.step.now c.requires.step (walk_of c.args.walk.now) (arrival_of c.args.walk.now.state c.args.step.now.reached) _ (ap (option_map (arrival_of c.args.walk.now.state)) c.requires.reached) (transfer_fault (g.P.Code.program c.args.program.now).order c.args.step.now.insn c.args.step.now.certificate.now.least c.args.walk.now.state c.transfer_counted.new.state c.in-Err.fault (c.in-Err.ensures.outcome ∙ ap₂ (λ n o. transfer o c.args.step.now.insn n c.args.walk.now.state) c.least.ensures c.order.ensures))

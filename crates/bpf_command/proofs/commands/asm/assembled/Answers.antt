@@ -1,7 +1,6 @@
 use Rattle.std.proofs.Common.{rules, ◌≡◌}
 use Rattle.std.specs.String.{string_bytes}
 use Rattle.bpf_text.specs.Assembly.{Assembles}
-use Rattle.bpf_places.specs.Opened.{opening}
 use Rattle.bpf_answers.specs.Loaded.{ShortTextAt}
 use Rattle.bpf_places.specs.Made.{making}
 use Rattle.bpf_command.specs.Printed.{AsmSays, LoadsText}
@@ -12,7 +11,7 @@ use Rattle.bpf_command.proofs.commands.asm.assembled.Goals as goal
 
 pub returns-in-Ok-clause-ok : goal.returns-in-Ok-clause-ok
 returns-in-Ok-clause-ok g c =
-    let at = opening g.P.Places.opens g.P.Reader.Read.remaining in
+    let at = g.P.Places.opens in
     let p = c.in-Ok.program in
     let read : ShortTextAt at c.args.places.now c.args.input.now c.text_at.new.places (λ bytes. string_bytes c.in_ok-text.text ≡ bytes) = c.in_ok-text.ensures.ok in
     let said : Assembles (string_bytes c.in_ok-text.text) p.list = search rules in

@@ -2,7 +2,6 @@ use Rattle.std.proofs.Common.{rules, ◌≡◌}
 use Rattle.bpf_cert.specs.View.{CertificateView}
 use Rattle.bpf_check.specs.CheckedProgram.{IsCertifiedBy}
 use Rattle.bpf_check.specs.Verdicts.{Verified}
-use Rattle.bpf_places.specs.Opened.{opening}
 use Rattle.bpf_answers.specs.Loaded.{LoadsImage}
 use Rattle.bpf_command.specs.Printed.{CheckSays, YesSays, IsPromised}
 use Rattle.bpf_answers.proofs.LoadedLemmas.{read_of}
@@ -13,7 +12,7 @@ use Rattle.bpf_command.proofs.commands.check.checked.Goals as goal
 
 pub returns-in-Ok-of-clause-ok : goal.returns-in-Ok-of-clause-ok
 returns-in-Ok-of-clause-ok g c =
-    let at = opening g.P.Places.opens g.P.Reader.Read.remaining in
+    let at = g.P.Places.opens in
     let bytes = c.deref.result.now in
     let p = c.in-Ok-of.program in
     let same : c.in-Ok.bytes.items ≡ c.deref.result.now = search rules in
@@ -35,7 +34,7 @@ returns-clause-begun g c = not_all_printed c.refuse_image-in-Err-of.result _ _ (
 
 pub returns-in-Ok-of-clause-begun : goal.returns-in-Ok-of-clause-begun
 returns-in-Ok-of-clause-begun g c =
-    let at = opening g.P.Places.opens g.P.Reader.Read.remaining in
+    let at = g.P.Places.opens in
     let bytes = c.deref.result.now in
     let p = c.in-Ok-of.program in
     let same : c.in-Ok.bytes.items ≡ c.deref.result.now = search rules in

@@ -9,4 +9,4 @@ returns-in-Err-Read-clause-err g c =
     let line = c.in-Err-Read.field-0-0 in
     let fault = subst (λ e. IfSome (g.P.Reader.Read.remaining c.new-keeping.result.reader) (λ text. IsFaultOf text e)) c.in-Err-Read.field-0-is c.in-Err-Read.ensures.err in
     let there = subst (λ r. IfSome (g.P.Reader.Read.remaining r) (λ text. IsFaultOf text (Read line))) c.new-keeping.ensures.reader fault in
-    (refl, inr (line, (known, (c.in-Ok.reader, c.in-Ok.ensures, refl), there)))
+    (refl, inr (line, (known, c.in-Ok.ensures, there)))

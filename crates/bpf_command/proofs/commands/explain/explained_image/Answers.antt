@@ -1,5 +1,4 @@
 use Rattle.std.proofs.Common.{◌≡◌, None, refl, inl, inr, rules}
-use Rattle.bpf_places.specs.Opened.{opening}
 use Rattle.bpf_answers.specs.Loaded.{LoadsImage, NoSpaceFor}
 use Rattle.bpf_answers.specs.Answer.Answer.{NoImage, Lists}
 use Rattle.bpf_command.specs.Printed.{ImageSays, ListSays}
@@ -9,13 +8,13 @@ use Rattle.bpf_command.proofs.commands.explain.explained_image.Goals as goal
 
 pub returns-in-Err-clause-ok : goal.returns-in-Err-clause-ok
 returns-in-Err-clause-ok g c =
-    let at = opening g.P.Places.opens g.P.Reader.Read.remaining in
+    let at = g.P.Places.opens in
     let none : NoSpaceFor at c.args.places.now c.args.input.now c.image_at.new.places c.in-Err.error = rw c.in-Err.is at c.in_ok-bytes.ensures.ok in
     printed_so c.refuse_image.result (NoImage c.in-Err.error) _ _ (ImageSays at c.args.order c.args.places.now c.args.input.now c.image_at.new.places (ListSays None)) (inl none) c.refuse_image.ensures.ok
 
 pub returns-in-Ok-of-clause-ok : goal.returns-in-Ok-of-clause-ok
 returns-in-Ok-of-clause-ok g c =
-    let at = opening g.P.Places.opens g.P.Reader.Read.remaining in
+    let at = g.P.Places.opens in
     let p = c.in-Ok-of.program in
     let same : c.in-Ok.bytes.items ≡ c.deref.result.now = search rules in
     let read = read_of at (λ v. v.items) c.args.places.now c.args.input.now c.image_at.new.places c.in_ok-bytes.field-0 c.in-Ok.bytes c.deref.result.now c.in-Ok.is same c.in_ok-bytes.ensures.ok in
@@ -25,7 +24,7 @@ returns-in-Ok-of-clause-ok g c =
 
 pub returns-clause-ok : goal.returns-clause-ok
 returns-clause-ok g c =
-    let at = opening g.P.Places.opens g.P.Reader.Read.remaining in
+    let at = g.P.Places.opens in
     let same : c.in-Ok.bytes.items ≡ c.deref.result.now = search rules in
     let read = read_of at (λ v. v.items) c.args.places.now c.args.input.now c.image_at.new.places c.in_ok-bytes.field-0 c.in-Ok.bytes c.deref.result.now c.in-Ok.is same c.in_ok-bytes.ensures.ok in
     answered_so c.say_image.result 1 (NoImage c.in-Err-of._error) (ImageSays at c.args.order c.args.places.now c.args.input.now c.image_at.new.places (ListSays None)) refl

@@ -1,6 +1,5 @@
 use Rattle.std.proofs.Common.{◌≡◌, refl, inl, rules}
 use Rattle.bpf_insn.specs.declared.refusal.DecodeError.TheVariants.{Memory}
-use Rattle.bpf_places.specs.Opened.{opening}
 use Rattle.bpf_answers.specs.Loaded.{ImageRefused, LoadsImage, NoSpaceFor}
 use Rattle.bpf_answers.specs.Answer.Answer.{NoImage}
 use Rattle.bpf_command.specs.Printed.{ImageSays}
@@ -11,13 +10,13 @@ use Rattle.bpf_command.proofs.commands.explain.explained_inferred.Goals as goal
 
 pub returns-in-Err-clause-ok : goal.returns-in-Err-clause-ok
 returns-in-Err-clause-ok g c =
-    let at = opening g.P.Places.opens g.P.Reader.Read.remaining in
+    let at = g.P.Places.opens in
     let none : NoSpaceFor at c.args.places.now c.args.input.now c.image_at.new.places c.in-Err.error = rw c.in-Err.is at c.in_ok-bytes.ensures.ok in
     printed_so c.refuse_image.result (NoImage c.in-Err.error) _ _ (ImageSays at c.args.order c.args.places.now c.args.input.now c.image_at.new.places (SoughtSays c.args.wanted.least c.args.wanted.most)) (inl none) c.refuse_image.ensures.ok
 
 pub returns-in-Ok-decode-clause-ok : goal.returns-in-Ok-decode-clause-ok
 returns-in-Ok-decode-clause-ok g c =
-    let at = opening g.P.Places.opens g.P.Reader.Read.remaining in
+    let at = g.P.Places.opens in
     let same : c.in-Ok.bytes.items ≡ c.deref.result.now = search rules in
     let read = read_of at (λ v. v.items) c.args.places.now c.args.input.now c.image_at.new.places c.in_ok-bytes.field-0 c.in-Ok.bytes c.deref.result.now c.in-Ok.is same c.in_ok-bytes.ensures.ok in
     let image : LoadsImage at c.args.order c.args.places.now c.args.input.now c.image_at.new.places c.in-Ok-decode.program
@@ -26,14 +25,14 @@ returns-in-Ok-decode-clause-ok g c =
 
 pub returns-in-Err-Memory-clause-ok : goal.returns-in-Err-Memory-clause-ok
 returns-in-Err-Memory-clause-ok g c =
-    let at = opening g.P.Places.opens g.P.Reader.Read.remaining in
+    let at = g.P.Places.opens in
     let same : c.in-Ok.bytes.items ≡ c.deref.result.now = search rules in
     let read = read_of at (λ v. v.items) c.args.places.now c.args.input.now c.image_at.new.places c.in_ok-bytes.field-0 c.in-Ok.bytes c.deref.result.now c.in-Ok.is same c.in_ok-bytes.ensures.ok in
     printed_so c.refuse_image-in-Err-Memory.result (NoImage Memory) _ _ (ImageSays at c.args.order c.args.places.now c.args.input.now c.image_at.new.places (SoughtSays c.args.wanted.least c.args.wanted.most)) (inl ((read.known, read.opened), refl)) c.refuse_image-in-Err-Memory.ensures.ok
 
 pub returns : goal.returns
 returns g c =
-    let at = opening g.P.Places.opens g.P.Reader.Read.remaining in
+    let at = g.P.Places.opens in
     let same : c.in-Ok.bytes.items ≡ c.deref.result.now = search rules in
     let read = read_of at (λ v. v.items) c.args.places.now c.args.input.now c.image_at.new.places c.in_ok-bytes.field-0 c.in-Ok.bytes c.deref.result.now c.in-Ok.is same c.in_ok-bytes.ensures.ok in
     let said = decoded at c.args.order c.args.places.now c.args.input.now c.deref.result.now c.image_at.new.places c.decode.result read c.decode.ensures.ok c.decode.ensures.program c.decode.ensures.err in
@@ -41,4 +40,5 @@ returns g c =
     record {
       ok = answered_so c.say_image.result 1 (NoImage c.in-Err-decode._error) (ImageSays at c.args.order c.args.places.now c.args.input.now c.image_at.new.places (SoughtSays c.args.wanted.least c.args.wanted.most)) refl refused c.say_image.ensures.ok;
       err = search rules;
+      opened = search rules;
     }

@@ -2,7 +2,6 @@ use Rattle.std.proofs.Common.{◌≡◌, ◌⊎◌, refl, inl, rules}
 use Rattle.std.specs.String.{string_bytes}
 use Rattle.bpf_text.specs.Assembly.{Assembles, IsRefused}
 use Rattle.bpf_text.specs.declared.error.TextError.TheVariants.{Memory}
-use Rattle.bpf_places.specs.Opened.{opening}
 use Rattle.bpf_answers.specs.Loaded.{ShortTextAt}
 use Rattle.bpf_answers.specs.Answer.Answer.{NoText, Lists}
 use Rattle.bpf_command.specs.Explained.{TextSays}
@@ -12,7 +11,7 @@ use Rattle.bpf_command.proofs.commands.explain.explained_text.Goals as goal
 
 pub returns-in-Ok-clause-ok : goal.returns-in-Ok-clause-ok
 returns-in-Ok-clause-ok g c =
-    let at = opening g.P.Places.opens g.P.Reader.Read.remaining in
+    let at = g.P.Places.opens in
     let p = c.in-Ok._program in
     let read : ShortTextAt at c.args.places.now c.args.input.now c.text_at.new.places (λ bytes. string_bytes c.in_ok-text.text ≡ bytes) = c.in_ok-text.ensures.ok in
     let said : Assembles (string_bytes c.in_ok-text.text) p.list = search rules in
@@ -23,14 +22,14 @@ returns-in-Ok-clause-ok g c =
 
 pub returns-in-Err-Memory-clause-ok : goal.returns-in-Err-Memory-clause-ok
 returns-in-Err-Memory-clause-ok g c =
-    let at = opening g.P.Places.opens g.P.Reader.Read.remaining in
+    let at = g.P.Places.opens in
     let read : ShortTextAt at c.args.places.now c.args.input.now c.text_at.new.places (λ bytes. string_bytes c.in_ok-text.text ≡ bytes) = c.in_ok-text.ensures.ok in
     printed_so c.refuse_text.result (NoText Memory) _ _ (TextSays at c.args.places.now c.args.input.now c.text_at.new.places)
     (text_says at c.args.places.now c.args.input.now c.text_at.new.places (string_bytes c.in_ok-text.text) (λ t. (Memory ≡ Memory) ⊎ IsRefused t Memory) read (inl refl)) c.refuse_text.ensures.ok
 
 pub returns : goal.returns
 returns g c =
-    let at = opening g.P.Places.opens g.P.Reader.Read.remaining in
+    let at = g.P.Places.opens in
     let e = c.in-Err._error in
     let read : ShortTextAt at c.args.places.now c.args.input.now c.text_at.new.places (λ bytes. string_bytes c.in_ok-text.text ≡ bytes) = c.in_ok-text.ensures.ok in
     let refused : (e ≡ Memory) ⊎ IsRefused (string_bytes c.in_ok-text.text) e = search rules in
@@ -40,4 +39,5 @@ returns g c =
           (text_says at c.args.places.now c.args.input.now c.text_at.new.places (string_bytes c.in_ok-text.text) (λ t. (Memory ≡ Memory) ⊎ IsRefused t Memory) read (inl refl))
           c.say_text-in-Err.ensures.ok;
       err = search rules;
+      opened = search rules;
     }

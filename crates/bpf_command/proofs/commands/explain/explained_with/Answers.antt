@@ -1,5 +1,4 @@
 use Rattle.std.proofs.Common.{refl, false, rules}
-use Rattle.bpf_places.specs.Opened.{opening}
 use Rattle.bpf_answers.specs.Loaded.{CertificateAt, CertificateRefused}
 use Rattle.bpf_answers.specs.Answer.Answer.{NoCertificate}
 use Rattle.bpf_command.specs.Printed.{JudgedSays, YesSays}
@@ -9,21 +8,21 @@ use Rattle.bpf_command.proofs.commands.explain.explained_with.Goals as goal
 
 pub returns-in-Ok-clause-ok : goal.returns-in-Ok-clause-ok
 returns-in-Ok-clause-ok g c =
-    let at = opening g.P.Places.opens g.P.Reader.Read.remaining in
+    let at = g.P.Places.opens in
     let p = g.C.Code.program c.args.program.now in
     let read : CertificateAt at c.args.places.now c.args.certificate.now c.certificate_kept.new.places c.in-Ok.certificate = search rules in
     judged_so c.say_program.result at c.args.places.now c.args.certificate.now c.certificate_kept.new.places p c.in-Ok.certificate read c.say_program.ensures.ok
 
 pub returns-in-Err-Memory-clause-ok : goal.returns-in-Err-Memory-clause-ok
 returns-in-Err-Memory-clause-ok g c =
-    let at = opening g.P.Places.opens g.P.Reader.Read.remaining in
+    let at = g.P.Places.opens in
     let p = g.C.Code.program c.args.program.now in
     let refused : CertificateRefused at c.args.places.now c.args.certificate.now c.certificate_kept.new.places Memory = search rules in
     printed_so c.refuse_certificate.result (NoCertificate Memory) _ _ (JudgedSays at c.args.places.now c.args.certificate.now c.certificate_kept.new.places p (YesSays false)) refused c.refuse_certificate.ensures.ok
 
 pub returns-in-Err-clause-ok : goal.returns-in-Err-clause-ok
 returns-in-Err-clause-ok g c =
-    let at = opening g.P.Places.opens g.P.Reader.Read.remaining in
+    let at = g.P.Places.opens in
     let p = g.C.Code.program c.args.program.now in
     let refused : CertificateRefused at c.args.places.now c.args.certificate.now c.certificate_kept.new.places c.in-Err._error = search rules in
     answered_so c.say_certificate.result 1 (NoCertificate c.in-Err._error) (JudgedSays at c.args.places.now c.args.certificate.now c.certificate_kept.new.places p (YesSays false)) refl refused c.say_certificate.ensures.ok

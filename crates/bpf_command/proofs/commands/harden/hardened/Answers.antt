@@ -1,6 +1,5 @@
 use Rattle.std.proofs.Common.{inl, inr, rules, ◌≡◌, ◌⊎◌, true, false, IfErr}
 use Rattle.bpf_insn.specs.Image.{image as image_of}
-use Rattle.bpf_places.specs.Opened.{opening}
 use Rattle.bpf_answers.specs.Loaded.{LoadsImage}
 use Rattle.bpf_places.specs.Made.{making}
 use Rattle.bpf_command.specs.Hardened.{Hardens}
@@ -13,7 +12,7 @@ use Rattle.bpf_command.proofs.commands.harden.hardened.Goals as goal
 
 pub returns-in_err-put-clause-err : goal.returns-in_err-put-clause-err
 returns-in_err-put-clause-err g c =
-    let at = opening g.P.Places.opens g.P.Reader.Read.remaining in
+    let at = g.P.Places.opens in
     let puts = making g.P.Places.creates g.P.Places.ends g.P.Writer.Write.contents in
     let asked = c.args.asked in
     let made = c.in-Ok-answer_of.hardened.program in
@@ -24,7 +23,7 @@ returns-in_err-put-clause-err g c =
 
 pub returns-clause-ok : goal.returns-clause-ok
 returns-clause-ok g c =
-    let at = opening g.P.Places.opens g.P.Reader.Read.remaining in
+    let at = g.P.Places.opens in
     let puts = making g.P.Places.creates g.P.Places.ends g.P.Writer.Write.contents in
     let asked = c.args.asked in
     let made = c.in-Ok-answer_of.hardened.program in
@@ -35,7 +34,7 @@ returns-clause-ok g c =
 
 pub returns-clause-err : goal.returns-clause-err
 returns-clause-err g c =
-    let at = opening g.P.Places.opens g.P.Reader.Read.remaining in
+    let at = g.P.Places.opens in
     let puts = making g.P.Places.creates g.P.Places.ends g.P.Writer.Write.contents in
     let asked = c.args.asked in
     let made = c.in-Ok-answer_of.hardened.program in
@@ -55,7 +54,7 @@ returns-in_default-clause-begun g c = not_all_printed c.refuse_hardening-in_defa
 
 pub returns-in_err-put-clause-names : goal.returns-in_err-put-clause-names
 returns-in_err-put-clause-names g c =
-    let at = opening g.P.Places.opens g.P.Reader.Read.remaining in
+    let at = g.P.Places.opens in
     let puts = making g.P.Places.creates g.P.Places.ends g.P.Writer.Write.contents in
     let asked = c.args.asked in
     let made = c.in-Ok-answer_of.hardened.program in
@@ -65,7 +64,7 @@ returns-in_err-put-clause-names g c =
 
 pub returns-clause-names : goal.returns-clause-names
 returns-clause-names g c =
-    let at = opening g.P.Places.opens g.P.Reader.Read.remaining in
+    let at = g.P.Places.opens in
     let puts = making g.P.Places.creates g.P.Places.ends g.P.Writer.Write.contents in
     let asked = c.args.asked in
     let made = c.in-Ok-answer_of.hardened.program in

@@ -1,7 +1,6 @@
 use Rattle.std.proofs.Common.{◌<◌, inr, rules}
 use Rattle.bpf_insn.specs.Instruction.{slots}
 use Rattle.bpf_infer_error.specs.RefusalNumbers.{infer_slot}
-use Rattle.bpf_places.specs.Opened.{opening}
 use Rattle.bpf_answers.specs.Loaded.{LoadsImage}
 use Rattle.bpf_places.specs.Made.{making}
 use Rattle.bpf_command.specs.Printed.{InferSays, IsProposal}
@@ -11,7 +10,7 @@ use Rattle.bpf_command.proofs.commands.infer.inferred.Goals as goal
 
 pub returns-in-Ok-proposed-clause-ok : goal.returns-in-Ok-proposed-clause-ok
 returns-in-Ok-proposed-clause-ok g c =
-    let at = opening g.P.Places.opens g.P.Reader.Read.remaining in
+    let at = g.P.Places.opens in
     let puts = making g.P.Places.creates g.P.Places.ends g.P.Writer.Write.contents in
     let image : LoadsImage at c.args.order c.args.places.now c.args.input.now c.program_at.new.places c.in-Ok.program = search rules in
     let proposal : IsProposal c.args.least c.args.most c.in-Ok-proposed.certificate = search rules in
@@ -24,5 +23,5 @@ returns-in-Err-clause-begun g c = not_all_printed c.refuse_image.result _ _ (NoI
 pub returns-in_err-status-in-Err-proposed-clause-begun : goal.returns-in_err-status-in-Err-proposed-clause-begun
 returns-in_err-status-in-Err-proposed-clause-begun g c =
     let slot : infer_slot c.in-Err-proposed.error < slots c.in-Ok.program.list = search rules in
-    let image : LoadsImage (opening g.P.Places.opens g.P.Reader.Read.remaining) c.args.order c.args.places.now c.args.input.now c.program_at.new.places c.in-Ok.program = search rules in
+    let image : LoadsImage (g.P.Places.opens) c.args.order c.args.places.now c.args.input.now c.program_at.new.places c.in-Ok.program = search rules in
     on_failure c.from_residual-in_err-status-in-Err-proposed.result _ (inr (NotProposed c.in-Err-proposed.error, c.in_err-status-in-Err-proposed.ensures.begun, (c.in-Ok.program, image, slot)))

@@ -1,6 +1,5 @@
 use Rattle.std.proofs.Common.{rules, ◌≡◌}
 use Rattle.bpf_check.specs.CheckedProgram.{IsCertifiedBy, checked}
-use Rattle.bpf_places.specs.Opened.{opening}
 use Rattle.bpf_answers.specs.Loaded.{CertificateAt}
 use Rattle.bpf_answers.specs.Answer.Answer.{NoCertificate, NotCertified}
 use Rattle.bpf_answers.proofs.MadeLemmas.{not_all_printed}
@@ -9,7 +8,7 @@ use Rattle.bpf_command.proofs.commands.judged.judged_each.Goals as goal
 
 pub returns-in-Ok-check-clause-ok : goal.returns-in-Ok-check-clause-ok
 returns-in-Ok-check-clause-ok g c =
-    let at = opening g.P.Places.opens g.P.Reader.Read.remaining in
+    let at = g.P.Places.opens in
     let p = g.C.Code.program c.args.program.now in
     let read : CertificateAt at c.args.places.now c.args.certificate.now c.certificate_at.new.places c.in-Ok.certificate = search rules in
     let by : IsCertifiedBy p c.in-Ok.certificate = search rules in
@@ -18,7 +17,7 @@ returns-in-Ok-check-clause-ok g c =
 
 pub returns-in-Ok-check-clause-err : goal.returns-in-Ok-check-clause-err
 returns-in-Ok-check-clause-err g c =
-    let at = opening g.P.Places.opens g.P.Reader.Read.remaining in
+    let at = g.P.Places.opens in
     let p = g.C.Code.program c.args.program.now in
     let read : CertificateAt at c.args.places.now c.args.certificate.now c.certificate_at.new.places c.in-Ok.certificate = search rules in
     let by : IsCertifiedBy p c.in-Ok.certificate = search rules in
@@ -27,7 +26,7 @@ returns-in-Ok-check-clause-err g c =
 
 pub returns-in-Ok-check-clause-begun : goal.returns-in-Ok-check-clause-begun
 returns-in-Ok-check-clause-begun g c =
-    let at = opening g.P.Places.opens g.P.Reader.Read.remaining in
+    let at = g.P.Places.opens in
     let p = g.C.Code.program c.args.program.now in
     let read : CertificateAt at c.args.places.now c.args.certificate.now c.certificate_at.new.places c.in-Ok.certificate = search rules in
     let by : IsCertifiedBy p c.in-Ok.certificate = search rules in

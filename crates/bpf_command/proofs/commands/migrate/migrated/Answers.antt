@@ -1,6 +1,5 @@
 use Rattle.std.proofs.Common.{rules, ◌≡◌, subst, true}
 use Rattle.bpf_cert.specs.Spelling.{certificate_text}
-use Rattle.bpf_places.specs.Opened.{opening}
 use Rattle.bpf_answers.specs.Loaded.{CertificateAt}
 use Rattle.bpf_places.specs.Made.{making}
 use Rattle.bpf_command.specs.Printed.{MigrateSays, migrated}
@@ -10,7 +9,7 @@ use Rattle.bpf_command.proofs.commands.migrate.migrated.Goals as goal
 
 pub returns-in-Ok-migrate-clause-ok : goal.returns-in-Ok-migrate-clause-ok
 returns-in-Ok-migrate-clause-ok g c =
-    let at = opening g.P.Places.opens g.P.Reader.Read.remaining in
+    let at = g.P.Places.opens in
     let puts = making g.P.Places.creates g.P.Places.ends g.P.Writer.Write.contents in
     let read : CertificateAt at c.args.places.now c.args.certificate.now c.certificate_at.new.places c.in-Ok.certificate = search rules in
     let same : c.in-Ok-migrate.migrated ≡ migrated c.in-Ok.certificate = c.in-Ok-migrate.ensures.ok in

@@ -1,5 +1,5 @@
 use Rattle.std.proofs.Common.{rules, sym, ◌∙◌}
-use Rattle.bpf_state.specs.Answer.{fault_number}
+use Rattle.bpf_state.specs.Condition.{fault_number}
 use Rattle.bpf_state.proofs.MemoryLemmas.{load_is, load_refused}
 use Rattle.bpf_state.proofs.transfers.load.load.Goals as goal
 

@@ -1,5 +1,6 @@
 use Rattle.std.proofs.Common.{◌≡◌, rules, sym, ◌∙◌, false}
-use Rattle.bpf_state.specs.Answer.{outcome_told, fault_number}
+use Rattle.bpf_state.specs.Answer.{outcome_told}
+use Rattle.bpf_state.specs.Condition.{fault_number}
 use Rattle.bpf_state.specs.Fault.{operand, is_any, is_pointer}
 use Rattle.bpf_state.specs.Transfer.{operand_tag}
 use Rattle.bpf_state.specs.code.Parts.{store_outcome}

@@ -1,0 +1,10 @@
+mod Bounds
+mod KindLemmas
+mod InsnLemmas
+mod InsideLemmas
+mod Pairs
+mod Between
+mod Instruction
+mod Calls
+mod Turns
+mod Law

@@ -1,0 +1,11 @@
+-- Definitions, in the order in which they read best.
+-- what is promised: the new program ends with the old one's number
+pub mod Meaning
+-- the simulation relation between states of the old and the new machine
+pub mod Relation
+-- what the notes have to say at each slot
+pub mod Matching
+-- the numbers of what fails
+pub mod MismatchNumbers
+-- the laws
+pub mod Laws

@@ -1,0 +1,15 @@
+//! Whether a program keeps the meaning of another one: a simulation along the old program's run, from notes that nobody trusts.
+#![tactic(auto)]
+
+mod edges;
+mod kinds;
+mod laws;
+pub mod mismatch;
+pub mod notes;
+mod pass;
+pub mod stands;
+
+pub use laws::matching_keeps_meaning;
+pub use mismatch::{Fault, Mismatch};
+pub use notes::{Kind, Place};
+pub use pass::follows;

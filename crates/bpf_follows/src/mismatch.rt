@@ -1,0 +1,58 @@
+//! Why it isn't shown that a program keeps the meaning of another one.
+
+ghost use Rattle.std.specs.Prelude.{◌≡◌};
+ghost use Rattle.bpf_follows.specs.MismatchNumbers.{fault_number, mismatch_number};
+
+/// What fails at a slot of the old program.
+#[derive(Clone, Copy, Debug, PartialEq, Eq)]
+pub enum Fault {
+    /// No turn is taken in front of the instruction, as the notes say it is.
+    Turn,
+    /// Another instruction stands there.
+    Insn,
+    /// It reads a register of which the notes don't say that it holds the same.
+    Read,
+    /// The next instruction doesn't stand behind it, or the notes ask more there than they give here.
+    Next,
+    /// It leads elsewhere, or the notes ask more there than they give here; or a function that is called doesn't set its counters.
+    Target,
+}
+
+/// Why it isn't shown that a new program keeps the meaning of an old one.
+#[derive(Clone, Copy, Debug, PartialEq, Eq)]
+pub enum Mismatch {
+    /// The byte orders differ.
+    Order,
+    /// The new program doesn't begin with what stands for the start, or doesn't set its counters.
+    Start,
+    /// The notes fail at a slot of the old program.
+    At { slot: u32, fault: Fault },
+}
+
+impl Fault {
+    /// Its number, from 3 to 7.
+    pub fn number(self) -> u8
+        ensures { result ≡ fault_number self }
+    {
+        match self {
+            Fault::Turn => 3,
+            Fault::Insn => 4,
+            Fault::Read => 5,
+            Fault::Next => 6,
+            Fault::Target => 7,
+        }
+    }
+}
+
+impl Mismatch {
+    /// Its number: 1 for the orders, 2 for the start, else the fault's.
+    pub fn number(self) -> u8
+        ensures { result ≡ mismatch_number self }
+    {
+        match self {
+            Mismatch::Order => 1,
+            Mismatch::Start => 2,
+            Mismatch::At { fault, .. } => fault.number(),
+        }
+    }
+}
