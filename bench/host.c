@@ -16,7 +16,7 @@ __attribute__((noinline)) static uint64_t native(const uint8_t *frame, size_t le
 
 static uint8_t image[4096], frame[64];
 static char certificate[65536];
-static uint64_t words[1024];
+static uint64_t words[1024], handle[1024];
 static size_t image_len, certificate_len;
 
 static size_t read_file(const char *name, void *at, size_t room) {
@@ -38,6 +38,12 @@ static uint64_t checked(void) {
     return value;
 }
 
+static uint64_t loaded(void) {
+    uint64_t value = 7;
+    bpf_run_loaded(handle, sizeof handle / sizeof *handle, frame, sizeof frame, &value);
+    return value;
+}
+
 static uint64_t unverified(void) {
     struct bpf_outcome end;
     bpf_run(image, image_len, BPF_LITTLE, frame, sizeof frame, 1000, &end);
@@ -47,6 +53,14 @@ static uint64_t unverified(void) {
 static uint64_t verifying(void) {
     struct bpf_verdict verdict;
     return bpf_verify(image, image_len, BPF_LITTLE, certificate, certificate_len, &verdict, NULL) == BPF_YES;
+}
+
+static uint64_t preparing(void) {
+    return bpf_prepare(image, image_len, BPF_LITTLE, words, sizeof words / sizeof *words) == BPF_YES;
+}
+
+static uint64_t loading(void) {
+    return bpf_load(image, image_len, BPF_LITTLE, certificate, certificate_len, 1000, handle, sizeof handle / sizeof *handle, NULL, NULL) == BPF_YES;
 }
 
 static void time_it(const char *name, uint64_t (*way)(void), long runs) {
@@ -66,10 +80,13 @@ int main(int argc, char **argv) {
     image_len = read_file(argv[1], image, sizeof image);
     certificate_len = read_file(argv[2], certificate, sizeof certificate);
     frame[12] = 8, frame[14] = 0x45, frame[23] = 6, frame[37] = 80;
-    if (verifying() != 1 || bpf_prepare(image, image_len, BPF_LITTLE, words, sizeof words / sizeof *words) != BPF_YES) return 1;
+    if (verifying() != 1 || preparing() != 1 || loading() != 1) return 1;
     time_it("native", natively, 100 * runs);
+    time_it("bpf_run_loaded", loaded, runs);
     time_it("bpf_run_checked", checked, runs);
     time_it("bpf_run", unverified, runs);
+    time_it("bpf_prepare", preparing, runs);
     time_it("bpf_verify", verifying, runs / 10 + 1);
+    time_it("bpf_load", loading, runs / 10 + 1);
     return 0;
 }

@@ -94,7 +94,7 @@ is_prebuilt() {
     # The stamp is as old as the beginning of the comparison. Where none can be written, each run compares.
     new=$(mktemp "$stamp.XXXXXX" 2>/dev/null) && echo "${HOSTNAME-}" >"$new"
     if is_of_tree; then
-        wants_machine
+        (wants_machine) || { rm -f "$new"; exit 3; }
         [ -z "$new" ] || mv "$new" "$stamp"
         return 0
     fi

@@ -1,6 +1,6 @@
 /* hosts.c: a host that is looked at by hosts.py. `table` answers lines of standard input as the command answers its words,
  * each with the command's status in front; `bad` makes the calls that no caller should; `memory` refuses each growth of memory in
- * turn; `threads` judges and runs in eight threads; `many` runs one prepared program a million times. */
+ * turn; `threads` makes the calls in eight threads, which share what is read; `many` runs one prepared program a million times. */
 #include <bpf.h>
 #include <pthread.h>
 #include <stdio.h>
@@ -228,6 +228,21 @@ static void say_explain(uint32_t order, char **word) {
     free(q.image.at), free(q.certificate.at), free(lines.at);
 }
 
+/* alone ORDER IMAGE LENGTH CONTEXT: from an image to its answer by the library alone, which searches deeply, loads and runs. */
+static void say_alone(uint32_t order, const struct bytes *image, uint32_t length, const struct bytes *context) {
+    static char text[65536];
+    struct bpf_verdict v;
+    struct bpf_refusal why;
+    size_t wanted = 0, len = bpf_loaded_size(image->len);
+    struct bytes words = of_size(8 * len);
+    uint64_t value = 0;
+    if (bpf_infer(image->at, image->len, order, length, length, 1, text, sizeof text, &wanted, &why) != BPF_YES) abort();
+    if (bpf_load(image->at, image->len, order, text, wanted, UINT32_MAX, (uint64_t *)words.at, len, &v, &why) != BPF_YES) abort();
+    if (bpf_run_loaded((uint64_t *)words.at, len, context->at, context->len, &value) != BPF_YES) abort();
+    printf("0 done %llu\n", (unsigned long long)value);
+    free(words.at);
+}
+
 static void answer(char **word) {
     uint32_t order = strcmp(word[1], "big") ? BPF_LITTLE : BPF_BIG;
     struct bytes image = {NULL, 0}, second = {NULL, 0}, third = {NULL, 0};
@@ -246,6 +261,9 @@ static void answer(char **word) {
         second = read_file(word[3]);
         third = from_hex(word[4]);
         say_run_checked(order, &image, &second, &third);
+    } else if (!strcmp(word[0], "alone")) {
+        second = from_hex(word[4]);
+        say_alone(order, &image, (uint32_t)atol(word[3]), &second);
     } else {
         say_infer(order, &image, (uint32_t)atol(word[3]), (uint32_t)atol(word[4]), word[5]);
     }
@@ -287,7 +305,9 @@ static void wants(const char *what, long got, long want) {
 
 static const uint8_t image[16] = {0xb7, 0, 0, 0, 0, 0, 0, 0, 0x95}; /* r0 = 0; exit */
 static const char certificate[] = "bpfcert 1 0 2\nfn 0 1 *\nat 0 2\nend\n";
+static const uint8_t no_image[16] = {0xff};
 #define IMAGE image, sizeof image
+#define NO_IMAGE no_image, sizeof no_image
 #define CERTIFICATE certificate, sizeof certificate - 1
 #define HUGE_LEN ((size_t)PTRDIFF_MAX + 1)
 
@@ -342,6 +362,9 @@ static void bad_preparing(void) {
     WANTS(bpf_prepare(IMAGE, 7, words, 1), BPF_BAD_CALL);
     WANTS(bpf_prepare(words, 16, BPF_LITTLE, words, 1), BPF_BAD_CALL);
     WANTS(bpf_prepare(words + 1, 16, BPF_LITTLE, words, 1), BPF_TOO_SMALL);
+    WANTS(bpf_prepare(NO_IMAGE, BPF_LITTLE, words, size - 1), BPF_TOO_SMALL);
+    WANTS(bpf_prepare(NO_IMAGE, BPF_LITTLE, words, size), BPF_NO);
+    WANTS(bpf_prepare(image, 12, BPF_LITTLE, words, 0), BPF_NO);
     WANTS(bpf_prepare(IMAGE, BPF_LITTLE, words, size - 1), BPF_TOO_SMALL);
     WANTS(bpf_prepare(image, 12, BPF_LITTLE, words, 8), BPF_NO);
     WANTS(bpf_prepare(words, 16, BPF_LITTLE, words, 8), BPF_BAD_CALL);
@@ -376,7 +399,10 @@ static void bad_loading(void) {
     WANTS(bpf_load(words, 16, BPF_LITTLE, CERTIFICATE, 9, words, 12, &v, &why), BPF_BAD_CALL);
     WANTS(bpf_load(IMAGE, BPF_LITTLE, words + 1, 16, 9, words, 12, &v, &why), BPF_BAD_CALL);
     WANTS(bpf_load(IMAGE, BPF_LITTLE, CERTIFICATE, 9, words, size - 1, &v, &why), BPF_TOO_SMALL);
+    WANTS(bpf_load(NO_IMAGE, BPF_LITTLE, NULL, 0, 9, words, size - 1, &v, &why), BPF_TOO_SMALL);
     WANTS(v.least == 7 && why.kind == 7, 1);
+    WANTS(bpf_load(NO_IMAGE, BPF_LITTLE, NULL, 0, 9, words, size, &v, &why), BPF_NO);
+    WANTS(why.kind == BPF_IMAGE && why.number == 2 && v.least == 7, 1);
     WANTS(bpf_load(image, 12, BPF_LITTLE, CERTIFICATE, 9, words, 12, &v, &why), BPF_NO);
     WANTS(why.kind == BPF_IMAGE && why.number == 1 && v.least == 7, 1);
     WANTS(bpf_load(IMAGE, BPF_LITTLE, CERTIFICATE, 1, words, 12, &v, NULL), BPF_TOO_LONG);
@@ -622,14 +648,42 @@ static int memory(char **word) {
 
 /* ---- threads, and many runs */
 
-static struct bytes shared_image, shared_certificate;
-/* The sum of a checksum's context, by the library and by hand. */
+/* What all threads read: an image and its certificate, its prepared words, its handle, and the words that explain it. */
+static struct bytes shared_image, shared_certificate, shared_words;
+static struct prepared shared_program;
+static uint64_t *shared_handle;
+static size_t shared_len;
+
+/* The words of the explanation, in memory of the thread's own. */
+static struct bytes explained(void) {
+    struct bytes text = {NULL, 0};
+    if (bpf_explain(shared_image.at, shared_image.len, 0, shared_certificate.at, shared_certificate.len, NULL, NULL, 0, &text.len, NULL) != BPF_TOO_SMALL) abort();
+    text = of_size(text.len);
+    if (bpf_explain(shared_image.at, shared_image.len, 0, shared_certificate.at, shared_certificate.len, NULL, (char *)text.at, text.len, &text.len, NULL) != BPF_YES) abort();
+    return text;
+}
+
+/* Whether the calls that take most answer as they do alone. */
+static int searches_and_explains(void) {
+    char certificate_made[4096];
+    uint8_t hardened[4096];
+    struct bytes text = explained();
+    size_t wanted = 0;
+    int same = text.len == shared_words.len && !memcmp(text.at, shared_words.at, text.len);
+    free(text.at);
+    return same && bpf_infer(shared_image.at, shared_image.len, 0, 16, 16, 1, certificate_made, sizeof certificate_made, &wanted, NULL) == BPF_YES &&
+           bpf_verify(shared_image.at, shared_image.len, 0, certificate_made, wanted, NULL, NULL) == BPF_YES &&
+           bpf_harden(shared_image.at, shared_image.len, 0, 16, NULL, hardened, sizeof hardened, &wanted, NULL) == BPF_YES &&
+           wanted == shared_image.len && !memcmp(hardened, shared_image.at, wanted);
+}
+
+/* The sum of a checksum's context by the library and by hand, in words of the thread's own and in those that all share. */
 static void *judge_and_run(void *arg) {
     long *bad_ones = arg;
     for (int k = 0; k < 5000; k++) {
         struct bpf_verdict v;
         uint8_t context[16];
-        uint64_t value = 0, want = 0;
+        uint64_t value = 0, shared = 0, loaded = 0, want = 0;
         for (int i = 0; i < 16; i++) want += context[i] = (uint8_t)(k + i);
         if (bpf_verify(shared_image.at, shared_image.len, 0, shared_certificate.at, shared_certificate.len, &v, NULL) != BPF_YES) {
             *bad_ones += 1;
@@ -637,6 +691,9 @@ static void *judge_and_run(void *arg) {
         }
         struct prepared p = prepare(&shared_image, 0, v);
         if (bpf_run_checked(p.words, p.len, context, 16, &value) != BPF_YES || value != want) *bad_ones += 1;
+        if (bpf_run_checked(shared_program.words, shared_program.len, context, 16, &shared) != BPF_YES || shared != want) *bad_ones += 1;
+        if (bpf_run_loaded(shared_handle, shared_len, context, 16, &loaded) != BPF_YES || loaded != want) *bad_ones += 1;
+        if (k % 100 == 0 && !searches_and_explains()) *bad_ones += 1;
         free(p.words);
     }
     return NULL;
@@ -646,11 +703,16 @@ static int threads(char **word) {
     enum { THREADS = 8 };
     pthread_t thread[THREADS];
     long bad_ones[THREADS] = {0}, all = 0;
-    shared_image = read_file(word[0]), shared_certificate = read_file(word[1]);
+    struct bpf_verdict v;
+    shared_image = read_file(word[0]), shared_certificate = read_file(word[1]), shared_words = explained();
+    shared_len = bpf_loaded_size(shared_image.len);
+    shared_handle = malloc(8 * shared_len);
+    if (bpf_load(shared_image.at, shared_image.len, 0, shared_certificate.at, shared_certificate.len, UINT32_MAX, shared_handle, shared_len, &v, NULL) != BPF_YES) return 1;
+    shared_program = prepare(&shared_image, 0, v);
     for (int i = 0; i < THREADS; i++)
         if (pthread_create(&thread[i], NULL, judge_and_run, &bad_ones[i])) abort();
     for (int i = 0; i < THREADS; i++) pthread_join(thread[i], NULL), all += bad_ones[i];
-    free(shared_image.at), free(shared_certificate.at);
+    free(shared_image.at), free(shared_certificate.at), free(shared_words.at), free(shared_handle), free(shared_program.words);
     return all != 0;
 }
 

@@ -1,10 +1,13 @@
 """hosts.py BPF EXAMPLES FOLDER: holds what FOLDER/hosts (hosts.c), filter_c and filter_rs answer to what the command answers."""
 import pathlib
+import random
 import re
 import resource
 import struct
 import subprocess
 import sys
+
+import filters as made_for
 
 BPF, EXAMPLES, FOLDER = sys.argv[1], pathlib.Path(sys.argv[2]), pathlib.Path(sys.argv[3])
 HOSTS = FOLDER / 'hosts'
@@ -131,6 +134,9 @@ class Table:
     def run_checked(self, order, image, certificate, context):
         self.add(bpf('run-checked', *big(order), image, certificate, context), 'run-checked', order, image, certificate, context)
 
+    def alone(self, image, certificate, context):
+        self.add(bpf('run-checked', image, certificate, context), 'alone', 'little', image, len(context) // 2, context)
+
     def infer(self, order, image, least, most):
         here, there = FOLDER / f'{len(self.lines)}.here', FOLDER / f'{len(self.lines)}.there'
         self.add(bpf('infer', *big(order), image, least, there, '--most', most), 'infer', order, image, least, most, here)
@@ -214,6 +220,10 @@ def fill(table):
             table.explain('little', path, **keys, lines=lines)
             table.explain('little', path, **keys, slot=9, lines=lines)
             table.explain('little', path, **keys, graph=True)
+    for filter_of in [made_for.port, made_for.dns, made_for.checksum, made_for.histogram, made_for.rate, made_for.http]:
+        path = EXAMPLES / f'c/{filter_of.__name__}.img'
+        for context, _ in filter_of(random.Random(1)):
+            table.alone(path, path.with_suffix('.cert'), context.hex())
     for order, image, here, there in proposals:
         if there.exists():
             table.check(order, image, there)

@@ -19,11 +19,11 @@ complains() {
 # ---- a small tree, a kit for it, and a machine without
 
 mkdir -p "$dir/kit/bin" "$dir/bin" "$tree/tests" "$tree"/crates/{bpf,bpf_host,other}/src "$tree/crates/bpf_host/specs"
-cp -r "$root/install" "$root/bpf" "$root/build" "$root/scripts" "$root/docs" "$root/examples" "$root/include" "$root/HANDLES" "$tree"
+cp -r "$root/install" "$root/bpf" "$root/build" "$root/scripts" "$root/docs" "$root/examples" "$root/include" "$root/HANDLES" "$root"/*.md "$root/bench" "$tree"
 cp "$root/tests/prebuilt.sh" "$tree/tests"
 printf 'bpf_host staticlib:\nother:\nbpf:\n' >"$tree/crates.txt"
 echo one >"$tree/crates/bpf/src/main.rt"
-touch "$tree/crates/bpf_host/src/lib.rt" "$tree/crates/bpf_host/specs/Lib.antt" "$tree/crates/other/src/lib.rt"
+touch "$tree"/crates/bpf_host/src/{lib,explaining}.rt "$tree/crates/bpf_host/specs/Lib.antt" "$tree/crates/other/src/lib.rt"
 ln -s "$kit/toolchain" "$kit/c" "$dir/kit"
 cat >"$dir/kit/bin/rt" <<'RT'
 #!/usr/bin/env bash
@@ -45,7 +45,7 @@ echo "$(basename "$PWD") $1" >>"$(dirname "$0")/asked"
 exit "${RT_FAILS:-0}"
 RT
 chmod +x "$dir/kit/bin/rt"
-for tool in env bash dirname readlink find grep sha256sum sort xargs cut tail mktemp mv rm cat cp install basename; do
+for tool in env bash dirname readlink find grep sha256sum sort xargs cut tail mktemp mv rm cat cp install basename realpath; do
     ln -s "$(command -v "$tool")" "$dir/bin"
 done
 with() { PATH=$dir/kit/bin:$PATH "$@"; }
@@ -143,6 +143,17 @@ mv "$tree/crates/bpf_host/src/lib.rt" "$dir/gone"
 refuses "$changed" without "$tree/bpf"
 mv "$dir/gone" "$tree/crates/bpf_host/src/lib.rt"
 runs one without
+# A processor that can't run it, and one of another kind; nothing is left behind.
+rm "$tree/prebuilt/.compared"
+sed -i "s|/proc/cpuinfo|$dir/cpuinfo|" "$tree/scripts/built.sh"
+printf 'flags\t\t: fpu cx16 lahf_lm pni sse4_1 ssse3\n' >"$dir/cpuinfo"
+refuses "what is built wants a processor of x86-64-v2, and this one lacks popcnt sse4_2" without "$tree/bpf"
+refuses "what is built wants a processor of x86-64-v2, and this one lacks popcnt sse4_2" without "$tree/install" "$dir/none"
+echo 'Features : fp asimd' >"$dir/cpuinfo"
+refuses "prebuilt/ is for x86-64, and this machine has another processor" without "$tree/bpf"
+[ -z "$(find "$tree/prebuilt" -name '.compared*')" ] || complains "a refusal leaves files in prebuilt/"
+cp "$root/scripts/built.sh" "$tree/scripts"
+runs one without
 # A file that isn't what was built.
 printf x >>"$tree/prebuilt/libbpf_host.a"
 refuses "$changed" without "$tree/bpf"
@@ -172,9 +183,18 @@ refuses "prebuilt/bpf isn't there" with "$tree/tests/prebuilt.sh"
 while read -r path; do
     [ -s "$path" ] || complains "$path isn't there"
 done <"$dir/said"
-for path in bin/bpf bin/bpf-cc lib/libbpf_host.a lib/pkgconfig/bpf_host.pc include/bpf.h include/bpf/filter.h share/man/man1/bpf.1 share/doc/bpf/GUIDE.md; do
+for path in bin/bpf bin/bpf-cc lib/libbpf_host.a lib/pkgconfig/bpf_host.pc include/bpf.h include/bpf/filter.h share/man/man1/bpf.1 share/doc/bpf/docs/GUIDE.md; do
     grep -qx "$dir/real/$path" "$dir/said" || complains "$path isn't said"
 done
+lost=$(python3 - "$dir/real/share/doc/bpf" <<'LINKS'
+import pathlib, re, sys
+for page in pathlib.Path(sys.argv[1]).rglob('*.md'):
+    for link in re.findall(r'\]\(([^)#\s]+)', page.read_text()):
+        if '://' not in link and not (page.parent / link).exists():
+            print(page, link)
+LINKS
+)
+[ -z "$lost" ] || complains "links of documents that were put lead nowhere: $lost"
 version=$(sed -n 's/^Version: //p' "$dir/real/lib/pkgconfig/bpf_host.pc")
 for named in "CHANGELOG.md:## $version, " "examples/hosts/bpf-host/Cargo.toml:version = \"$version\""; do
     [[ "$(grep -m 1 -e '^## ' -e '^version = ' "$root/${named%%:*}")" == "${named#*:}"* ]] || complains "${named%%:*} has another version than $version"
@@ -221,6 +241,9 @@ if command -v pkg-config >/dev/null; then
 fi
 others=$(nm -g --defined-only "$dir/real/lib/libbpf_host.a" | awk 'NF == 3 && $3 !~ /^bpf_/ { print $3 }')
 [ -z "$others" ] || complains "libbpf_host.a has names besides bpf_..: $others"
+wanted=$(nm -u "$dir/real/lib/libbpf_host.a" | awk 'NF == 2 { print $2 }' | sort | tr '\n' ' ')
+[ "$wanted" = '__divti3 free malloc memcpy memmove memset realloc ' ] || complains "libbpf_host.a takes other names from outside than docs/HOSTS.md says: $wanted"
+"${CC:-cc}" -shared -fPIC -O2 "$dir/host.c" -o "$dir/host.so" -Wl,-z,defs,-z,text "-I$dir/real/include" "-L$dir/real/lib" -lbpf_host || complains "no shared library is built with it"
 
 [ "$failed" -eq 0 ] && echo "install: takes what is of the sources that are there, with and without the kit, and puts $(wc -l <"$dir/said") files"
 exit "$failed"

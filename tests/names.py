@@ -304,14 +304,32 @@ def long_names_beside_what_is_left():
 
 # ---- words
 
+# Control characters, and how they are told: by their bytes, so that a terminal does nothing and a line stays one. Other letters are as they are.
+CONTROLS = 'a\x1b[1m\nb\tc\x7fd\x9be\u00e9'
+CONTROLS_TOLD = 'a\\x1b[1m\\x0ab\\x09c\\x7fd\\xc2\\x9be\u00e9'
+
+
 @case
 def control_characters_in_names():
-    """They are told by their bytes, so that a terminal does nothing and a line stays one; other letters are as they are."""
-    name = 'a\x1b[1m\nb\tc\x7fd\x9be\u00e9'
-    told = 'a\\x1b[1m\\x0ab\\x09c\\x7fd\\xc2\\x9be\u00e9'
+    name, told = CONTROLS, CONTROLS_TOLD
     done = subprocess.run([BPF, 'list', name], capture_output=True, timeout=60, check=False)
     require('list of a name with control characters', (done.returncode, done.stdout, done.stderr), (3, b'', f'cannot read {told}\n'.encode()))
     require('asm onto such a name', asm('no/' + name), (3, b'', f'cannot write no/{told}\n'.encode()))
+
+
+@case
+def control_characters_in_mistakes():
+    """A mistake in the words is that of the words as they are told: a command, an option, a number, a value, one word too many."""
+    def mistake(*words):
+        done = subprocess.run([BPF, *words], capture_output=True, timeout=60, check=False)
+        return done.returncode, done.stdout, done.stderr
+    for words in (['%'], ['list', '--%', 'a'], ['list', '--slots=%', 'a'], ['infer', 'a', '%', 'out'], ['infer', 'a', '1%', 'out'], ['run', 'a', '%', '--steps', '%'],
+                  ['run', 'a', '--steps=%'], ['list', 'a', '%'], ['list', 'a', '-%'], ['asm', '%'], ['check', '%', '%', '--work', '--work'], ['help', '%']):
+        got, told = [mistake(*[word.replace('%', by) for word in words]) for by in (CONTROLS, CONTROLS_TOLD)]
+        require(f'{words} with control characters', got, told)
+        require(f'{words}', (got[:2], got[2][:7]), ((2, b''), b'error: '))
+    require('a command that is none', mistake('x\x1b]0;y\x07\n')[2].splitlines()[0], b"error: unrecognized subcommand 'x\\x1b]0;y\\x07\\x0a'")
+    require('a number that is none', mistake('infer', 'a', '9\n', 'out')[2].splitlines()[0], b"error: invalid value '9\\x0a' for '<LEN>': invalid digit found in string")
 
 
 @case

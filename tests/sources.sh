@@ -116,11 +116,8 @@ default_arms() {
     ' "$@"
 }
 
-# A match on instructions names each of them, so that a new one is thought of in every place; but for crates where some don't yet.
-unnamed='bpf_insn'
+# A match on instructions names each of them, so that a new one is thought of in every place.
 for crate in "$crates"/*/; do
-    name=$(basename "$crate")
-    case " $unnamed " in *" $name "*) continue ;; esac
     files=$(find "$crate/src" -name '*.rt' ! -path '*/tests/*' ! -name 'tests.rt' | sort)
     arms=$(default_arms $files)
     if [ -n "$arms" ]; then
@@ -129,11 +126,9 @@ for crate in "$crates"/*/; do
         failed=1
     fi
 done
-# A limit stands by name where it is believed, in definitions and clauses: its number stands where the name is defined, and nowhere else;
-# but for the clauses of crates where some still have numbers.
+# A limit stands by name where it is believed, in definitions and clauses: its number stands where the name is defined, and nowhere else.
 limits='4096|512|65535|65536|1048576|1099511627776|2 \^ (20|40)'
 defined='bpf_insn/specs/Limits|bpf_cert/specs/Limits|bpf_state/specs/Transfer|bpf_request/specs/CommandLine'
-numbered='bpf_check bpf_explain_program bpf_explain_search bpf_flat bpf_host bpf_machine'
 # The lines of definitions, without comments and strings; the lines of contracts and ghost items, up to the brace that closes them.
 definitions() {
     awk '{ line = $0; gsub(/"[^"]*"/, "", line); sub(/(^|[[:space:]])--([[:space:]].*|$)/, "", line); print FILENAME ":" FNR ": " line }' "$@"
@@ -151,7 +146,6 @@ for crate in "$crates"/*/; do
     crate=${crate%/}
     specs=$([ ! -d "$crate/specs" ] || find "$crate/specs" -name '*.antt' | sort)
     sources=$(find "$crate/src" -name '*.rt' | sort)
-    case " $numbered " in *" $(basename "$crate") "*) sources= ;; esac
     bare=$({
         [ -z "$specs" ] || definitions $specs
         [ -z "$sources" ] || clauses $sources

@@ -57,6 +57,17 @@ CASES = [
     ("harden smallest.img 0 out --notes out", 2, "OUT and --notes are two names"),
 ]
 
+# A name with control characters, and how it is told.
+CONTROLS, CONTROLS_TOLD = "n\x1b[1m\n\tm\x9b", "n\\x1b[1m\\x0a\\x09m\\xc2\\x9b"
+
+# The words for it, each `%` that name, and what follows on a terminal.
+NAMED = [
+    ("list %", 1, "`bpf explain %` tells why"),
+    ("check smallest.img %", 1, "`bpf explain smallest.img %` tells why"),
+    ("asm % out", 1, "`bpf explain --text %` tells why"),
+    ("run smallest.img % --steps 9", 2, "`%` isn't two hexadecimal digits a byte, nor `none`: --context FILE takes the bytes of a file"),
+]
+
 
 def on_terminal(words, folder):
     """Runs the command with a terminal as its standard error: the status, and what it wrote to both."""
@@ -92,15 +103,18 @@ def main():
                 file.write(text)
         for name in IMAGES:
             subprocess.run([bpf, "asm", name + ".asm", name + ".img"], cwd=folder, check=True)
-        for line, status, help_line in CASES:
-            words = [bpf, *line.split()]
+        with open(os.path.join(folder, CONTROLS), "w") as file:
+            file.write("no text, no image\n")
+        named = [(line.split(), status, help_line.replace("%", CONTROLS_TOLD)) for line, status, help_line in NAMED]
+        for line, status, help_line in [(line.split(), status, help_line) for line, status, help_line in CASES] + named:
+            words = [bpf, *[word.replace("%", CONTROLS) for word in line]]
             piped = on_pipe(words, folder)
             shown = on_terminal(words, folder)
             told = piped[2] + (help_line + "\n").encode() if help_line else piped[2]
             if piped[0] != status or shown != (status, piped[1], told):
                 failed += 1
-                print(f"terminal.py: bpf {line}:\n  on a pipe {piped}\n  on a terminal {shown}\n  wanted {status}, {told}")
-    print(f"terminal.py: {len(CASES)} commands, {failed} wrong")
+                print(f"terminal.py: bpf {' '.join(line)}:\n  on a pipe {piped}\n  on a terminal {shown}\n  wanted {status}, {told}")
+    print(f"terminal.py: {len(CASES) + len(NAMED)} commands, {failed} wrong")
     return 1 if failed else 0
 
 

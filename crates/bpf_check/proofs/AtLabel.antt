@@ -19,7 +19,7 @@ use Rattle.bpf_cert.specs.declared.certificate.Term.{Term}
 use Rattle.bpf_cert.specs.View.{LabelView}
 use Rattle.bpf_state.specs.Held.{held}
 use Rattle.bpf_safety.specs.Budget.{place_of, unsigned_bounds, bounds}
-use Rattle.bpf_safety.specs.Flow.{with_tag, with_tags, label_state}
+use Rattle.bpf_safety.specs.Flow.{with_term, with_tags, label_state}
 use Rattle.bpf_check.specs.code.Slack.{at_label}
 
 each_if_get : {A : Type 0} (f : A → Option A) (d : A) → f d ≡ Some d → (xs ys : List A) → each_if f xs ≡ Some ys → (i : ℕ) → f (get_or xs i d) ≡ Some (get_or ys i d)
@@ -32,11 +32,11 @@ each_if_get {A = A} f d keeps (x ∷ xs) ys e i = at (each_if_get f d keeps xs) 
     at later (Some y) p (Some zs) q e zero = p ∙ ap (λ l. Some (get_or l 0 d)) (same_Some (y ∷ zs) ys e)
     at later (Some y) p (Some zs) q e (suc j) = later zs q j ∙ ap (λ l. Some (get_or l (suc j) d)) (same_Some (y ∷ zs) ys e)
 
-with_tag_registers : (j : ℕ) (p : Place) (s : AbstractState) → (with_tag j p s).registers ≡ s.registers
+with_tag_registers : (j : ℕ) (p : Place) (s : AbstractState) → (with_term j p s).registers ≡ s.registers
 with_tag_registers j (Register r) s = refl
 with_tag_registers j (Slot k) s = refl
 
-with_tag_slots : (j : ℕ) (p : Place) (s : AbstractState) → (with_tag j p s).slots ≡ s.slots
+with_tag_slots : (j : ℕ) (p : Place) (s : AbstractState) → (with_term j p s).slots ≡ s.slots
 with_tag_slots j (Register r) s = refl
 with_tag_slots j (Slot k) s = refl
 

@@ -5,7 +5,7 @@ use Rattle.std.specs.List.{list_any}
 use Rattle.std.proofs.lemmas.Bool.{false≢true, true≢false, eq-eqb, ne_eqb}
 use Rattle.bpf_insn.specs.declared.instruction.Insn.{Insn}
 use Rattle.bpf_insn.specs.declared.instruction.Insn.TheVariants.{Alu, Neg, MovSx, End, LoadImm64, Load, LoadSx, Store, StoreImm, Atomic, Ja, JaLong, JumpIf, CallLocal, Exit}
-use Rattle.bpf_insn.specs.Instruction.{Instructions, slots, slot_count, goes_on}
+use Rattle.bpf_insn.specs.Instruction.{Instructions, slots, slot_count, goes_on, is_straight}
 use Rattle.bpf_state.specs.State.{AbstractState, callee_state, tightened}
 use Rattle.bpf_state.specs.Fault.{fault_of, some_passes}
 use Rattle.bpf_state.specs.Entails.{state_entails}
@@ -29,7 +29,7 @@ use Rattle.bpf_check.specs.code.Edges.{visit, next_of, edges_of, unpaid_from}
 use Rattle.bpf_check.specs.code.Least.{IsLeastIn}
 use Rattle.bpf_check.specs.code.Slack.{at_label}
 use Rattle.bpf_check.specs.code.Sites.{IsSpot}
-use Rattle.bpf_check.specs.code.Straight.{IsStep, IsStepFrom, is_straight}
+use Rattle.bpf_check.specs.code.Straight.{IsStep, IsStepFrom}
 use Rattle.bpf_check.specs.code.Visits.{IsJudgment, numbers_with, passed_with, never_reached, visit_of, visit_with}
 use Rattle.bpf_check.proofs.LeastLemmas.{least_beside}
 use Rattle.bpf_check.proofs.PassLemmas.{one_slot}

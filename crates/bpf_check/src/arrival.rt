@@ -1,6 +1,7 @@
 //! What reaches an instruction.
 
 ghost use Rattle.std.specs.Prelude.{◌≡◌, ℕ, ◌+◌, ◌*◌, ◌^◌, ◌≤◌, None, option_map, IfSome, IsTrue, pos, ◌+ℤ◌};
+ghost use Rattle.bpf_insn.specs.Limits.{greatest_slot};
 ghost use Rattle.bpf_cert.specs.View.{label_view};
 ghost use Rattle.bpf_cert.specs.Limits.{is_limited_label};
 ghost use Rattle.bpf_state.specs.Answer.{edge_told};
@@ -103,7 +104,7 @@ fn call_cost(site: &Site, state: &State) -> Option<i128>
 
 /// One more than a cost at a slot, and more.
 fn with_more(slot: u32, spent: i128, more: i128) -> i128
-    requires here { slot ≤ 65535 }
+    requires here { slot ≤ greatest_slot }
     requires spent { IsWithin (slot * 2 ^ 94) spent }
     requires more { IsWithin (2 ^ 93) more }
     ensures value { result ≡ (spent +ℤ pos 1) +ℤ more }
@@ -114,7 +115,7 @@ fn with_more(slot: u32, spent: i128, more: i128) -> i128
 
 /// One more than a cost at a slot.
 fn with_one(slot: u32, spent: i128) -> i128
-    requires here { slot ≤ 65535 }
+    requires here { slot ≤ greatest_slot }
     requires spent { IsWithin (slot * 2 ^ 94) spent }
     ensures value { result ≡ spent +ℤ pos 1 }
     ensures small { IsWithin ((slot + 1) * 2 ^ 94) result }
@@ -124,7 +125,7 @@ fn with_one(slot: u32, spent: i128) -> i128
 
 /// One more than a cost at a slot, if it is known.
 pub(crate) fn one_more(slot: u32, cost: Option<i128>) -> Option<i128>
-    requires here { slot ≤ 65535 }
+    requires here { slot ≤ greatest_slot }
     requires cost { IfSome cost (λ z. IsWithin (slot * 2 ^ 94) z) }
     ensures value { result ≡ option_map (λ z. z +ℤ pos 1) cost }
     ensures small { IfSome result (λ z. IsWithin ((slot + 1) * 2 ^ 94) z) }

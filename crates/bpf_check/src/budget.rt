@@ -5,7 +5,7 @@ ghost use Rattle.std.specs.List.{list_all};
 ghost use Rattle.bpf_num.specs.Interval.{Interval, IsInterval};
 ghost use Rattle.bpf_state.specs.State.{IsPlace, tag};
 ghost use Rattle.bpf_cert.specs.View.{label_view};
-ghost use Rattle.bpf_cert.specs.Limits.{is_limited_label, is_limited_term};
+ghost use Rattle.bpf_cert.specs.Limits.{is_limited_label, is_limited_term, max_weight};
 ghost use Rattle.bpf_safety.specs.Budget.{budget, place_of, unsigned_bounds, measured, term_value, least_at_ends, greatest_at_ends, each_term, sum_if, bounds, shares, share_of, free_part, greatest_budget, least_budget};
 ghost use Rattle.bpf_safety.specs.Flow.{label_state};
 ghost use Rattle.bpf_check.specs.code.Slack.{at_label, kept_of, free_of, IsWithin};
@@ -73,9 +73,9 @@ fn measured(measure: Measure, x: i128) -> i128
     }
 }
 
-/// The product of a weight, from 0 to 2^20, and what is measured.
+/// The product of a weight, from 0 to `max_weight`, and what is measured.
 fn weighted(weight: u32, x: i128) -> i128
-    requires weight { weight ≤ 2 ^ 20 }
+    requires weight { weight ≤ max_weight }
     requires small { IsWithin (2 ^ 67) x }
     ensures value { result ≡ pos weight *ℤ x }
     ensures small { IsWithin (2 ^ 87) result }

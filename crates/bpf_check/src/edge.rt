@@ -1,6 +1,7 @@
 //! Where an instruction goes on, and what is judged without a state.
 
 ghost use Rattle.std.specs.Prelude.{◌≡◌, ◌≤◌, option_map, option_copied, IfSome, IsTrue};
+ghost use Rattle.bpf_insn.specs.Limits.{max_slots};
 ghost use Rattle.bpf_cert.specs.View.{CertificateView, function_view};
 ghost use Rattle.bpf_cert.specs.Limits.{is_limited_function};
 ghost use Rattle.bpf_safety.specs.Labels.{function_at};
@@ -16,7 +17,7 @@ use bpf_insn::{Code, Insn, target};
 
 /// Where a jump leads.
 pub fn jump_target(slot: u32, insn: &Insn) -> Option<u32>
-    requires { slot ≤ 65536 }
+    requires { slot ≤ max_slots }
     ensures { result ≡ jump_target slot insn.now }
 {
     match *insn {
@@ -40,7 +41,7 @@ pub fn jump_target(slot: u32, insn: &Insn) -> Option<u32>
 
 /// The function that an instruction calls.
 pub fn callee<'a>(certificate: &'a Index, slot: u32, insn: &Insn) -> Option<&'a Function>
-    requires { slot ≤ 65536 }
+    requires { slot ≤ max_slots }
     ensures value { option_map function_view (option_copied result) ≡ callee certificate.now slot insn.now }
     ensures limited { IfSome result (λ f. IsTrue (is_limited_function (function_view f.now))) }
 {

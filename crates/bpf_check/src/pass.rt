@@ -3,6 +3,7 @@
 ghost use Rattle.std.specs.Prelude.{◌≡◌, ◌+◌, ◌≤◌, option_map, IfSome};
 ghost use Rattle.bpf_insn.specs.Instruction.{slot_count};
 ghost use Rattle.std.specs.List.{flat_map};
+ghost use Rattle.bpf_insn.specs.Limits.{greatest_slot};
 ghost use Rattle.bpf_safety.specs.Flow.{arrives, visits};
 ghost use Rattle.bpf_safety.specs.Flaw.{at, numbers_of_visit};
 ghost use Rattle.bpf_check.specs.code.Least.{IsLeastIn};
@@ -31,7 +32,7 @@ fn pass_over<'a, P: Code>(
     walk: &mut Walk<'a>,
     work: &mut Work,
 ) -> (Option<Refusal>, Spot<'a>)
-    requires few { here.slot ≤ 65535 }
+    requires few { here.slot ≤ greatest_slot }
     requires here { IsSpot certificate.now here }
     requires valid { IfSome walk.old.here (λ h. IsReaching here.slot h) }
     ensures refusal { IsLeastIn (at here.entry.slot (numbers_of_visit (P.program program.now) certificate.now (visit_of certificate.now here.entry.slot insn (walk_of walk.old)))) (option_map flaw_of result.0) }

@@ -1,4 +1,4 @@
-//! Why a certificate doesn't certify a program.
+//! Why a certificate doesn't certify a program. The conditions, with their numbers and sentences, are `Condition` of `bpf_state`.
 
 ghost use Rattle.std.specs.Prelude.{◌≡◌};
 ghost use Rattle.bpf_check.specs.RefusalNumbers.{refusal_number, refusal_slot};

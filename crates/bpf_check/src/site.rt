@@ -2,6 +2,7 @@
 //! conditions that ask.
 
 ghost use Rattle.std.specs.Prelude.{◌≡◌, ◌≤◌, option_map, IfSome};
+ghost use Rattle.bpf_insn.specs.Limits.{greatest_slot, max_slots};
 ghost use Rattle.bpf_cert.specs.View.{function_view};
 ghost use Rattle.bpf_safety.specs.Flow.{callee, jump_target};
 ghost use Rattle.bpf_check.specs.code.Sites.{IsSpot, IsEntry, IsSite};
@@ -63,7 +64,7 @@ pub struct Site<'a> {
 impl<'a> Site<'a> {
     /// Looks up where an instruction leads.
     pub fn of(certificate: &'a Index<'a>, here: Spot<'a>, insn: Insn) -> Site<'a>
-        requires few { here.slot ≤ 65535 }
+        requires few { here.slot ≤ greatest_slot }
         requires here { IsSpot certificate.now here }
         ensures certificate { result.certificate.now ≡ certificate.now }
         ensures insn { result.insn ≡ insn }
@@ -83,7 +84,7 @@ impl<'a> Site<'a> {
 
 /// Where an instruction jumps, looked up.
 fn jump_of<'a>(certificate: &'a Index, slot: u32, insn: &Insn) -> Option<Spot<'a>>
-    requires { slot ≤ 65536 }
+    requires { slot ≤ max_slots }
     ensures slot { option_map (λ t. t.slot) result ≡ jump_target slot insn.now }
     ensures value { IfSome result (λ t. IsSpot certificate.now t) }
 {
@@ -95,7 +96,7 @@ fn jump_of<'a>(certificate: &'a Index, slot: u32, insn: &Insn) -> Option<Spot<'a
 
 /// What an instruction calls, looked up.
 fn callee_of<'a>(certificate: &'a Index, slot: u32, insn: &Insn) -> Option<Callee<'a>>
-    requires { slot ≤ 65536 }
+    requires { slot ≤ max_slots }
     ensures value { option_map (λ f. function_view f.function.now) result ≡ callee certificate.now slot insn.now }
     ensures entry { IfSome result (λ f. IsEntry certificate.now f) }
 {

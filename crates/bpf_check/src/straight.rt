@@ -2,6 +2,7 @@
 //! those on its registers and memory are left, so nothing is looked up.
 
 ghost use Rattle.std.specs.Prelude.{◌≡◌, ◌+◌, ◌≤◌, IfSome, Some, option_map};
+ghost use Rattle.bpf_insn.specs.Limits.{greatest_slot};
 ghost use Rattle.bpf_insn.specs.Instruction.{slots, slot_count};
 ghost use Rattle.bpf_safety.specs.Flaw.{at, numbers_of_visit};
 ghost use Rattle.bpf_safety.specs.Flow.{arrives};
@@ -9,7 +10,7 @@ ghost use Rattle.bpf_check.specs.code.Arrivals.{walk_of, IsReaching};
 ghost use Rattle.bpf_check.specs.code.Counting.{worked_at};
 ghost use Rattle.bpf_check.specs.code.Least.{IsLeastIn};
 ghost use Rattle.bpf_check.specs.code.Sites.{IsSpot};
-ghost use Rattle.bpf_check.specs.code.Straight.{IsStep, IsStepFrom, is_straight};
+ghost use Rattle.bpf_check.specs.code.Straight.{IsStep, IsStepFrom};
 ghost use Rattle.bpf_check.specs.code.Visits.{passed_with, visit_of};
 ghost use Rattle.bpf_check.specs.RefusalNumbers.{flaw_of};
 
@@ -31,30 +32,6 @@ pub struct Step<'a> {
     pub reached: Here<'a>,
 }
 
-/// Whether an instruction neither jumps nor calls nor exits.
-#[inline(always)]
-fn is_straight(insn: &Insn) -> bool
-    ensures { result ≡ is_straight insn.now }
-{
-    match *insn {
-        Insn::Ja { off: _off } => false,
-        Insn::JaLong { off: _off } => false,
-        Insn::JumpIf { off: _off, .. } => false,
-        Insn::CallLocal { off: _off } => false,
-        Insn::Exit => false,
-        Insn::Alu { .. } => true,
-        Insn::Neg { .. } => true,
-        Insn::MovSx { .. } => true,
-        Insn::End { .. } => true,
-        Insn::LoadImm64 { value: _value, .. } => true,
-        Insn::Load { off: _off, .. } => true,
-        Insn::LoadSx { off: _off, .. } => true,
-        Insn::Store { off: _off, .. } => true,
-        Insn::StoreImm { off: _off, .. } => true,
-        Insn::Atomic { off: _off, .. } => true,
-    }
-}
-
 impl<'a> Step<'a> {
     /// The step that an instruction is in a program of so many slots, if it is known to be one.
     #[inline(always)]
@@ -65,7 +42,7 @@ impl<'a> Step<'a> {
         insn: Insn,
         reached: Option<Here<'a>>,
     ) -> Option<Step<'a>>
-        requires few { here.now.slot ≤ 65535 }
+        requires few { here.now.slot ≤ greatest_slot }
         requires spot { IsSpot certificate.now here.now }
         ensures step { IfSome result (λ s. IsStep end s) }
         ensures from { IfSome result (λ s. IsStepFrom certificate.now here.now.slot insn reached.entry s) }
@@ -78,7 +55,7 @@ impl<'a> Step<'a> {
         if end <= next {
             return None;
         }
-        if !is_straight(&insn) {
+        if !insn.is_straight() {
             return None;
         }
         if here.label.is_some() {

@@ -1,9 +1,12 @@
 -- The status of what is explained, from what is said of the image, the text and the certificate.
-use Rattle.std.proofs.Common.{◌≡◌, ◌⊎◌, ℕ, List, Option, Some, None, false, Result, Ok, Err, IfOk, IfErr, refl, sym, subst, inl, inr, ◌∙◌}
+use Rattle.std.proofs.Common.{◌≡◌, ◌⊎◌, ℕ, List, Option, Some, None, IfSome, IfNone, false, Result, Ok, Err, IfOk, IfErr, refl, sym, subst, inl, inr, ◌∙◌}
 use Rattle.bpf_insn.specs.Instruction.{Instructions}
 use Rattle.bpf_insn.specs.declared.order.Order.{Order}
 use Rattle.bpf_cert.specs.View.{CertificateView}
-use Rattle.bpf_check.specs.CheckedProgram.{CheckedProgram}
+use Rattle.bpf_safety.specs.Certified.{IsLeastFlaw}
+use Rattle.bpf_check.specs.CheckedProgram.{CheckedProgram, IsCertifiedBy}
+use Rattle.bpf_check.specs.RefusalNumbers.{refusal_number, refusal_slot}
+use Rattle.bpf_check.specs.declared.refusal.Refusal.{Refusal}
 use Rattle.bpf_places.specs.Opened.{Opening, Unreadable}
 use Rattle.bpf_answers.specs.Loaded.{LoadsImage, CertificateAt, TextAt, TextFails, Tried}
 use Rattle.bpf_answers.specs.Answer.{Answer, Says, status_of}
@@ -26,12 +29,6 @@ pub answered_so : {E : Type 0} (result : Result ℕ E) (n : ℕ) (answer : Answe
 answered_so (Ok s) n answer P e p h = (answer, h ∙ e, p)
 answered_so (Err f) n answer P e p h = tt
 
--- one of two answers
-pub either_so : {E : Type 0} (result : Result ℕ E) (n m : ℕ) (answer other : Answer) (P : Answer → Type 0) → n ≡ status_of answer → m ≡ status_of other → P answer → P other → IfOk result (λ s. (s ≡ n) ⊎ (s ≡ m)) → IfOk result (Answers P)
-either_so (Ok s) n m answer other P e f p q (inl h) = (answer, h ∙ e, p)
-either_so (Ok s) n m answer other P e f p q (inr h) = (other, h ∙ f, q)
-either_so (Err x) n m answer other P e f p q h = tt
-
 -- ---- certificates
 
 pub judged_so : {S E : Type 0} (result : Result ℕ E) (opening : Opening S) (old : S) (certificate : List ℕ) (new : S) (p : Instructions) (c : CertificateView) → CertificateAt opening old certificate new c
@@ -50,6 +47,11 @@ loaded_so (Err e) opening order old input certificate between new p image h = tt
 pub sought : (least most : ℕ) (p : Instructions) (c : CertificateView) (status : ℕ) → IsProposal least most c → JudgesOf p c status → Answers (SoughtSays least most p) status
 sought least most p c status found (inl h) = (Written, h.0, (c, found, h.1))
 sought least most p c status found (inr h) = (NotCertified (h.1).0, h.0, (c, found, (h.1).1))
+
+-- a certificate is judged as the checker's refusal is answered
+pub judges_by : (p : Instructions) (c : CertificateView) (o : Option Refusal) (status : ℕ) → IfNone o (IsCertifiedBy p c) → IfSome o (λ r. IsLeastFlaw p c (refusal_slot r) (refusal_number r)) → IfNone o (status ≡ 0) → IfSome o (λ r. status ≡ 1) → JudgesOf p c status
+judges_by p c None status certifies flaw done refused = inl (done, certifies)
+judges_by p c (Some r) status certifies flaw done refused = inr (refused, (r, flaw))
 
 image_says : {S : Type 0} (opening : Opening S) (order : Order) (old : S) (input : List ℕ) (new : S) (least most : ℕ) (p : Instructions) → LoadsImage opening order old input new p → (x : Answer) → SoughtSays least most p x
     → ImageSays opening order old input new (SoughtSays least most) x

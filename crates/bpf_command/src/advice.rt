@@ -1,6 +1,7 @@
 //! One line that helps behind a refusal or a failure, on a terminal. Elsewhere nothing is told.
 
 use crate::aside::Aside;
+use crate::shown::Line;
 use bpf_answers::{ContextError, Failure};
 use bpf_explain::may_be_found;
 use bpf_infer::{Condition, InferError};
@@ -13,7 +14,8 @@ use std::io::Write;
 fn tell_line<H: Aside, D: Display + Drop>(aside: &H, line: D) {
     if aside.is_terminal() {
         let mut terminal = aside.stream();
-        let _ = write!(terminal, "{line}\n");
+        let _ = write!(Line::new(&mut terminal), "{line}");
+        let _ = write!(terminal, "\n");
     }
 }
 
@@ -47,7 +49,7 @@ impl<'a> Display for Told<'a> {
 }
 
 /// Names the command that tells why a request was refused, if one tells it of all its refusals. A search tells of its own.
-pub fn after_refusal<H: Aside>(aside: &H, request: Request<'_>) {
+pub(crate) fn after_refusal<H: Aside>(aside: &H, request: Request<'_>) {
     let (flags, order, input, certificate) = match request {
         Request::Groups { input, order } | Request::List { input, order, .. } => {
             ("", order, input, None)
@@ -74,7 +76,7 @@ pub fn after_refusal<H: Aside>(aside: &H, request: Request<'_>) {
 
 /// What a search was asked for.
 #[derive(Clone, Copy)]
-pub struct Sought<'a> {
+pub(crate) struct Sought<'a> {
     pub input: &'a str,
     pub least: u32,
     pub most: u32,
@@ -152,7 +154,12 @@ fn may_be_hardened(error: InferError) -> bool {
 
 /// Names what may help where no certificate was found: the deep search, hardening, the words of the search. Only contexts of one
 /// length are hardened for.
-pub fn after_search<H: Aside>(aside: &H, program: &Program, sought: Sought<'_>, error: InferError) {
+pub(crate) fn after_search<H: Aside>(
+    aside: &H,
+    program: &Program,
+    sought: Sought<'_>,
+    error: InferError,
+) {
     if let InferError::Memory = error {
         return;
     }
@@ -226,7 +233,7 @@ fn context_word<'a>(request: Request<'a>) -> Option<&'a str> {
 }
 
 /// Tells more of a failure that lies in the words: the word that spells no bytes, or which words don't go together.
-pub fn after_failure<H: Aside>(aside: &H, request: Request<'_>, failure: Failure<'_>) {
+pub(crate) fn after_failure<H: Aside>(aside: &H, request: Request<'_>, failure: Failure<'_>) {
     match failure {
         Failure::BadContext(ContextError::BadHex) => {
             if let Some(word) = context_word(request) {

@@ -6,6 +6,7 @@ mod aside;
 mod commands;
 mod progress;
 mod response;
+mod shown;
 
 pub use aside::Aside;
 pub use progress::Progress;

@@ -13,6 +13,7 @@ use crate::commands::{
     Trace, assembled, checked, explained, grouped, hardened, inferred, listed, migrated,
     ran_checked_on, ran_on,
 };
+use crate::shown::tell_mistake;
 use bpf_answers::{BAD_WORDS, FAILED, Failure, REFUSED, tell};
 use bpf_places::Places;
 use bpf_request::{Aspect, Request, Subject, request_of};
@@ -274,7 +275,7 @@ pub fn respond<P: Places, W: Write, E: Write, H: Aside>(
             return fail(Failure::NoMemory, err);
         }
         Err(error) => {
-            let _ = write!(err, "{error}");
+            tell_mistake(alloc, words, &error, err);
             return BAD_WORDS;
         }
     };

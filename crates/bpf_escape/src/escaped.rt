@@ -121,8 +121,13 @@ pub struct Escaped<'a, W: Write> {
 }
 
 impl<'a, W: Write> Escaped<'a, W> {
-    /// In front of a writer.
-    pub fn new(out: &'a mut W) -> Self {
+    ghost use Rattle.std.specs.Prelude.{◌≡◌};
+
+    /// In front of a writer, which it keeps as it is.
+    pub fn new(out: &'a mut W) -> Self
+        ensures same_writer { result.out.ghost_name ≡ out.entry.ghost_name }
+        ensures as_it_is { result.out.now ≡ out.old }
+    {
         Escaped { out }
     }
 }

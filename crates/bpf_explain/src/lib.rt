@@ -2,11 +2,9 @@
 //! refused. Who writes that a program is accepted requires that the certificate certifies it.
 #![tactic(auto)]
 
-mod inputs;
 mod program;
 
-pub use bpf_explain_inputs::explain_text;
-pub use bpf_explain_program::{Shown, dot_plain, is_table};
-pub use bpf_explain_search::{explain_inferred, explain_searched, may_be_found};
-pub use inputs::{explain_certificate, explain_image};
+pub use bpf_explain_inputs::{write_fault, write_program, write_refusal, write_text_refusal};
+pub use bpf_explain_program::{Shown, dot_plain, is_table, write_alone};
+pub use bpf_explain_search::{Found, explain_inferred, explain_searched, may_be_found};
 pub use program::explain;

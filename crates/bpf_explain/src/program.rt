@@ -6,21 +6,10 @@ ghost use Rattle.bpf_check.specs.CheckedProgram.{IsCertifiedBy};
 ghost use Rattle.bpf_check.specs.RefusalNumbers.{refusal_number, refusal_slot};
 
 use bpf_cert::Certificate;
-use bpf_check::{Refusal, check};
-use bpf_explain_program::{Shown, write_shown};
+use bpf_check::Refusal;
+use bpf_explain_program::{Shown, refusal_of, write_shown};
 use bpf_insn::Code;
 use std::io::{self, Write};
-
-/// What the checker answers: None if the certificate certifies the program.
-fn refusal_of<C: Code>(program: &C, certificate: &Certificate) -> Option<Refusal>
-    ensures accepted { IfNone result (IsCertifiedBy (C.program program.now) certificate.now) }
-    ensures refused { IfSome result (λ r. IsLeastFlaw (C.program program.now) certificate.now (refusal_slot r) (refusal_number r)) }
-{
-    match check(program, certificate) {
-        Ok(_checked) => None,
-        Err(refusal) => Some(refusal),
-    }
-}
 
 /// Writes a program with a certificate in words, and gives the checker's answer back: None if the certificate certifies the
 /// program, else the least flaw, at whatever slot. A fault of the writer, or a write of no bytes, ends it. It takes no memory,

@@ -1,7 +1,7 @@
 //! Why a text is no certificate, in words.
 
 use crate::texts::parted;
-use bpf_cert::{CertError, Certificate};
+use bpf_cert::CertError;
 use bpf_explain_page::{Page, Tell};
 use std::fmt;
 use std::io::{self, Write};
@@ -241,30 +241,10 @@ fn tell_error<W: Tell>(out: &mut W, bytes: &[u8], error: CertError) {
     }
 }
 
-/// Tells what a certificate has.
-fn tell_certificate<W: Tell>(out: &mut W, certificate: &Certificate) {
-    let mut labels = 0usize;
-    for function in certificate.functions() {
-        labels = labels.saturating_add(function.labels.len());
-    }
-    let (version, functions) = (certificate.version(), certificate.functions().len());
-    write!(
-        out,
-        "a certificate of version {version}; functions: {functions}, labels: {labels}\n"
-    );
-}
-
 /// Tells in words why bytes are refused as a certificate: the line, and what was expected of it. A fault of the writer, or a
 /// write of no bytes, ends it.
 pub fn write_fault<W: Write>(bytes: &[u8], error: CertError, out: &mut W) -> io::Result<()> {
     let mut page = Page::new(out);
     tell_error(&mut page, bytes, error);
-    page.finish()
-}
-
-/// Tells how many functions and labels a certificate has. A fault of the writer, or a write of no bytes, ends it.
-pub fn write_counts<W: Write>(certificate: &Certificate, out: &mut W) -> io::Result<()> {
-    let mut page = Page::new(out);
-    tell_certificate(&mut page, certificate);
     page.finish()
 }

@@ -1,146 +1,35 @@
 //! Why bytes are no image, in words.
 
+ghost use Rattle.std.specs.Prelude.{◌≤◌, IfSome, length};
+
 use bpf_explain_page::{Page, Tell};
-use bpf_insn::{DecodeError, MAX_IMAGE, Order, ProgramView, SlotFault};
+use bpf_insn::{
+    Choice, DecodeError, FieldSet, Fields, Insn, LeftOut, MAX_IMAGE, MAX_SLOTS, Order, ProgramView,
+    SlotFault, Use, fields_from, insn_from, uses_of,
+};
 use std::io::{self, Write};
 use std::str::from_utf8;
 
-/// The fields of a slot, as its bytes say them.
-#[derive(Clone, Copy)]
-struct Fields {
-    opcode: u8,
-    dst: u8,
-    src: u8,
-    offset: i16,
-    imm: i32,
-}
-
-/// The byte at an index, 0 past the end.
-fn byte(bytes: &[u8], index: usize) -> u8 {
-    bytes.get(index).copied().unwrap_or(0)
-}
-
-/// The fields of the slot that bytes begin with; what is missing is 0.
-fn fields_of(order: Order, bytes: &[u8]) -> Fields {
-    let registers = byte(bytes, 1);
-    let half = [byte(bytes, 2), byte(bytes, 3)];
-    let word = [
-        byte(bytes, 4),
-        byte(bytes, 5),
-        byte(bytes, 6),
-        byte(bytes, 7),
-    ];
-    let opcode = byte(bytes, 0);
-    match order {
-        Order::Little => Fields {
-            opcode,
-            dst: registers & 15,
-            src: registers >> 4,
-            offset: i16::from_le_bytes(half),
-            imm: i32::from_le_bytes(word),
-        },
-        Order::Big => Fields {
-            opcode,
-            dst: registers >> 4,
-            src: registers & 15,
-            offset: i16::from_be_bytes(half),
-            imm: i32::from_be_bytes(word),
-        },
-    }
-}
-
-// ---- what would be right
-
-/// Which fields of a slot, and the reserved bits of a second one, are set to zero.
-#[derive(Clone, Copy)]
-struct Cleared(u8);
-
 const NAMES: [&str; 5] = ["dst", "src", "offset", "imm", "the reserved bits"];
 
-impl Cleared {
-    /// Whether the field with an index is set to zero.
-    fn has(self, index: usize) -> bool {
-        index < 5 && (self.0 >> index) & 1 == 1
-    }
-
-    /// How many fields are set to zero.
-    fn count(self) -> u32 {
-        self.0.count_ones()
-    }
-
-    /// The byte at a place of the slots, or zero.
-    fn byte(self, order: Order, index: usize, value: u8) -> u8 {
-        let (low, high) = match order {
-            Order::Little => (self.has(0), self.has(1)),
-            Order::Big => (self.has(1), self.has(0)),
-        };
-        let is_zero = match index {
-            2 | 3 => self.has(2),
-            4..=7 => self.has(3),
-            8..=11 => self.has(4),
-            _ => false,
-        };
-        if index == 1 {
-            let kept = if low { 0xf0 } else { 0xff };
-            let others = if high { 0x0f } else { 0xff };
-            value & kept & others
-        } else if is_zero {
-            0
-        } else {
-            value
-        }
-    }
-}
-
-/// The slots with some fields set to zero.
-fn with_cleared(order: Order, bytes: &[u8], fields: Cleared) -> [u8; 16] {
-    let mut slots = [0; 16];
-    for (index, place) in slots.iter_mut().enumerate() {
-        *place = fields.byte(order, index, byte(bytes, index));
-    }
-    slots
-}
-
-/// Whether fields that aren't zero are refused in these slots.
-fn is_unused_refused(order: Order, slots: &[u8; 16]) -> bool {
-    let end = if slots[0] == 0x18 { 16 } else { 8 };
-    matches!(
-        ProgramView::of(slots.get(..end).unwrap_or(&[]), order),
-        Err(DecodeError::Slot {
-            fault: SlotFault::Unused,
-            ..
-        })
-    )
-}
-
-/// The fewest fields that have to be zero.
-fn wrong_fields(order: Order, bytes: &[u8]) -> Option<Cleared> {
-    let mut best: Option<Cleared> = None;
-    for mask in 1..32u8 {
-        let fields = Cleared(mask);
-        if !is_unused_refused(order, &with_cleared(order, bytes, fields)) {
-            match best {
-                Some(found) if found.count() <= fields.count() => {}
-                _ => best = Some(fields),
-            }
-        }
-    }
-    best
-}
-
 /// E4: the fields that must be zero.
-fn tell_unused<W: Tell>(out: &mut W, order: Order, bytes: &[u8]) {
-    let Some(fields) = wrong_fields(order, bytes) else {
-        return write!(out, "a field that isn't used must be zero\n");
-    };
+fn tell_unused<W: Tell>(out: &mut W, fields: FieldSet) {
+    let wrong = [
+        fields.dst,
+        fields.src,
+        fields.offset,
+        fields.imm,
+        fields.reserved,
+    ];
     let mut comma = "";
     for (index, name) in NAMES.iter().enumerate() {
-        if fields.has(index) {
+        if wrong.get(index).copied().unwrap_or(false) {
             write!(out, "{comma}{name}");
             comma = " and ";
         }
     }
-    let used = if fields.count() > 1 { "them" } else { "it" };
+    let count = wrong.iter().filter(|is_wrong| **is_wrong).count();
+    let used = if count > 1 { "them" } else { "it" };
     write!(out, " must be zero: the instruction doesn't use {used}\n");
 }
 
@@ -154,39 +43,56 @@ fn tell_register<W: Tell>(out: &mut W, fields: Fields) {
     write!(out, "src is {src}: registers are 0 to 10\n");
 }
 
-/// The values that select an operation of an opcode.
+/// What the field of an opcode selects that selects something.
+fn choice_of(opcode: u8) -> Option<Choice> {
+    let uses = uses_of(opcode)?;
+    match (uses.src, uses.offset, uses.imm) {
+        (Use::Selects(choice), _, _) => Some(choice),
+        (_, Use::Selects(choice), _) => Some(choice),
+        (_, _, Use::Selects(choice)) => Some(choice),
+        _ => None,
+    }
+}
+
+/// E5: the values of the field that selects the operation.
 fn choices(opcode: u8) -> &'static str {
-    match opcode {
-        0x34 | 0x37 | 0x3c | 0x3f | 0x94 | 0x97 | 0x9c | 0x9f => {
-            "offset must be 0, without sign, or 1, with sign"
-        }
-        0xbc => "offset must be 0, or 8 or 16 for a move with sign",
-        0xbf => "offset must be 0, or 8, 16 or 32 for a move with sign",
-        0xd4 | 0xdc | 0xd7 => "imm must be 16, 32 or 64, the bits that are swapped",
-        0xc3 | 0xdb => {
+    match choice_of(opcode) {
+        Some(choice) => choices_of(choice),
+        None => "no field selects the operation",
+    }
+}
+
+/// The values of a field that selects an operation.
+fn choices_of(choice: Choice) -> &'static str {
+    match choice {
+        Choice::Signedness => "offset must be 0, without sign, or 1, with sign",
+        Choice::MoveBits32 => "offset must be 0, or 8 or 16 for a move with sign",
+        Choice::MoveBits64 => "offset must be 0, or 8, 16 or 32 for a move with sign",
+        Choice::SwapBits => "imm must be 16, 32 or 64, the bits that are swapped",
+        Choice::AtomicCode => {
             "imm must be 0x00, 0x40, 0x50 or 0xa0, each also with 1 more for a fetch, 0xe1 or 0xf1"
         }
-        _ => "src must be 1, for a call of a function of the program",
+        Choice::Callee => "src must be 1, for a call of a function of the program",
     }
 }
 
 /// E7: what the instruction would be.
-fn tell_left_out<W: Tell>(out: &mut W, fields: Fields) {
+fn tell_left_out<W: Tell>(out: &mut W, fields: Fields, what: LeftOut) {
     let (src, imm) = (fields.src, fields.imm);
-    match (fields.opcode, src) {
-        (0x18, _) => write!(
+    match what {
+        LeftOut::Constant => write!(
             out,
             "a 64-bit constant with src {src} names a map or a variable: this profile has none\n"
         ),
-        (0x85, 0) => write!(
+        LeftOut::Helper => write!(
             out,
             "a call with src 0 calls helper {imm}: this profile has no helpers\n"
         ),
-        (0x85, _) => write!(
+        LeftOut::KernelFunction => write!(
             out,
             "a call with src {src} calls a function of the kernel: this profile has none\n"
         ),
-        _ => write!(
+        LeftOut::Packet => write!(
             out,
             "packet access is left out of this profile: read the context by r1\n"
         ),
@@ -194,13 +100,12 @@ fn tell_left_out<W: Tell>(out: &mut W, fields: Fields) {
 }
 
 /// What is wrong with a slot.
-fn tell_fault<W: Tell>(out: &mut W, order: Order, bytes: &[u8], fault: SlotFault) {
-    let fields = fields_of(order, bytes);
+fn tell_fault<W: Tell>(out: &mut W, fields: Fields, fault: SlotFault) {
     let opcode = fields.opcode;
     match fault {
         SlotFault::Opcode => write!(out, "no instruction has the opcode {opcode:02x}\n"),
         SlotFault::Register => tell_register(out, fields),
-        SlotFault::Unused => tell_unused(out, order, bytes),
+        SlotFault::Unused { fields: wrong } => tell_unused(out, wrong),
         SlotFault::Selector => {
             let text = choices(opcode);
             write!(out, "{text}\n");
@@ -209,18 +114,17 @@ fn tell_fault<W: Tell>(out: &mut W, order: Order, bytes: &[u8], fault: SlotFault
             out,
             "the second slot of the 64-bit constant is missing: the image ends here\n"
         ),
-        SlotFault::LeftOut => tell_left_out(out, fields),
+        SlotFault::LeftOut { what } => tell_left_out(out, fields, what),
     }
 }
 
 /// The bytes of a slot, and its fields.
-fn tell_bytes<W: Tell>(out: &mut W, order: Order, bytes: &[u8]) {
+fn tell_bytes<W: Tell>(out: &mut W, bytes: &[u8], fields: Fields) {
     write!(out, "  bytes");
     for value in bytes.iter().take(8) {
         let value = *value;
         write!(out, " {value:02x}");
     }
-    let fields = fields_of(order, bytes);
     let (opcode, dst, src) = (fields.opcode, fields.dst, fields.src);
     let (offset, imm) = (fields.offset, fields.imm);
     write!(
@@ -293,7 +197,7 @@ fn tell_length<W: Tell>(out: &mut W, length: usize) {
         // Who reads a longer image may have stopped behind so many bytes.
         write!(
             out,
-            "E1: more than 524288 bytes: an image has at most 65536 slots of 8 bytes\n"
+            "E1: more than {MAX_IMAGE} bytes: an image has at most {MAX_SLOTS} slots of 8 bytes\n"
         );
     } else {
         write!(
@@ -303,39 +207,42 @@ fn tell_length<W: Tell>(out: &mut W, length: usize) {
     }
 }
 
-/// What stands from a slot on.
-fn from_slot(bytes: &[u8], slot: u32) -> &[u8] {
+/// What stands from a slot on, where a whole one does.
+fn from_slot(bytes: &[u8], slot: u32) -> Option<&[u8]>
+    ensures { IfSome result (λ rest. 8 ≤ length rest.now) }
+{
     let start = (slot as usize).saturating_mul(8);
-    bytes.get(start..).unwrap_or(&[])
+    match bytes.get(start..) {
+        Some(rest) => if rest.len() < 8 { None } else { Some(rest) },
+        None => None,
+    }
 }
 
 /// A slot that is refused.
 fn tell_slot<W: Tell>(out: &mut W, order: Order, bytes: &[u8], slot: u32, fault: SlotFault) {
     let number = fault.number();
+    let Some(rest) = from_slot(bytes, slot) else {
+        return write!(out, "E{number} at slot {slot}\n");
+    };
     write!(out, "E{number} at slot {slot}: ");
-    let rest = from_slot(bytes, slot);
-    tell_fault(out, order, rest, fault);
-    tell_bytes(out, order, rest);
+    let fields = fields_from(order, rest);
+    tell_fault(out, fields, fault);
+    tell_bytes(out, rest, fields);
 }
 
-/// What leads from a slot, as its fields say it: `jumps to`, and the slot there.
-fn lead_of(fields: Fields, slot: u32) -> (&'static str, i64) {
-    let by = match fields.opcode {
-        0x06 | 0x85 => i64::from(fields.imm),
-        _ => i64::from(fields.offset),
-    };
-    let verb = if fields.opcode == 0x85 {
+/// What leads from a slot: `jumps to`, and the slot there.
+fn lead_of(insn: Insn, slot: u32) -> Option<(&'static str, i64)> {
+    let by = i64::from(insn.distance()?);
+    let verb = if matches!(insn, Insn::CallLocal { .. }) {
         "calls"
     } else {
         "jumps to"
     };
-    (verb, i64::from(slot).saturating_add(1).saturating_add(by))
+    Some((verb, i64::from(slot).saturating_add(1).saturating_add(by)))
 }
 
 /// Where a jump leads that leads to no instruction.
-fn tell_target<W: Tell>(out: &mut W, order: Order, bytes: &[u8], slot: u32) {
-    let (verb, to) = lead_of(fields_of(order, from_slot(bytes, slot)), slot);
-    let slots = bytes.len() / 8;
+fn tell_lead<W: Tell>(out: &mut W, slots: usize, slot: u32, verb: &str, to: i64) {
     if to < 0 || to >= i64::try_from(slots).unwrap_or(0) {
         let last = slots.saturating_sub(1);
         write!(
@@ -350,16 +257,25 @@ fn tell_target<W: Tell>(out: &mut W, order: Order, bytes: &[u8], slot: u32) {
     }
 }
 
+/// A jump or call that leads to no instruction.
+fn tell_target<W: Tell>(out: &mut W, order: Order, bytes: &[u8], slot: u32) {
+    let Some(rest) = from_slot(bytes, slot) else {
+        return write!(out, "E8 at slot {slot}\n");
+    };
+    let Some((verb, to)) = insn_from(order, rest).and_then(|insn| lead_of(insn, slot)) else {
+        return write!(out, "E8 at slot {slot}\n");
+    };
+    tell_lead(out, bytes.len() / 8, slot, verb, to);
+    tell_bytes(out, rest, fields_from(order, rest));
+}
+
 /// Tells a refusal.
 fn tell_error<W: Tell>(out: &mut W, order: Order, bytes: &[u8], error: DecodeError) {
     tell_likeness(out, order, bytes);
     match error {
         DecodeError::Length => tell_length(out, bytes.len()),
         DecodeError::Slot { slot, fault } => tell_slot(out, order, bytes, slot, fault),
-        DecodeError::Target { slot } => {
-            tell_target(out, order, bytes, slot);
-            tell_bytes(out, order, from_slot(bytes, slot));
-        }
+        DecodeError::Target { slot } => tell_target(out, order, bytes, slot),
         DecodeError::Memory => write!(out, "E9: memory ran out\n"),
         DecodeError::Read { slot } => write!(out, "E10 at slot {slot}: the reader failed\n"),
     }

@@ -1,5 +1,5 @@
-//! Why images, texts and certificates are refused, in words. Of these it makes no claim; what is refused is told to it, but for texts:
-//! one that it says is a program's is.
+//! Why images, texts and certificates are refused, in words. It makes no claim but to be safe and to end; what is refused, and why, is
+//! told to it.
 #![tactic(auto)]
 
 mod certificate;
@@ -7,6 +7,6 @@ mod image;
 mod text;
 mod texts;
 
-pub use certificate::{write_counts, write_fault};
+pub use certificate::write_fault;
 pub use image::write_refusal;
-pub use text::explain_text;
+pub use text::{write_program, write_text_refusal};

@@ -1,15 +1,11 @@
 //! Why a text is no program, in words.
 
-ghost use Rattle.std.specs.Prelude.{List, IfOk, IsTrue};
-ghost use Rattle.bpf_insn.specs.declared.instruction.Insn.{Insn};
-ghost use Rattle.bpf_text.specs.Assembly.{Assembles};
-
 use crate::texts::parted;
 use bpf_explain_page::{Count, Page, Tell};
-use bpf_insn::{BuildError, Order};
+use bpf_insn::{BuildError, Code};
 use bpf_text::{
-    Item, LineFault, Range, Stop, TextError, assemble, code_at, endings_of, first_token,
-    label_name, line_stop, range_behind, target_name,
+    Item, LineFault, Range, Stop, TextError, code_at, endings_of, first_token, label_name,
+    line_stop, range_behind, target_name,
 };
 use std::alloc::{AllocError, Global};
 use std::collections::BTreeMap;
@@ -46,16 +42,20 @@ fn token_of(text: &[u8]) -> &[u8] {
     }
 }
 
-/// The last token of a front, each of whose tokens stands behind a blank.
-fn last_token(front: &[u8]) -> &[u8] {
-    let mut rest = front;
-    for _ in 0..front.len() {
-        match parted(rest, b' ') {
-            (_, Some(more)) => rest = more,
-            (_, None) => break,
+/// A front, each of whose tokens stands behind a blank, without its last token, and that token.
+fn last_parted(front: &[u8]) -> (&[u8], &[u8]) {
+    for end in (0..front.len()).rev() {
+        let (rest, token) = front.split_at(end);
+        if let [b' ', token @ ..] = token {
+            return (rest, token);
         }
     }
-    rest
+    (&[], front)
+}
+
+/// The last token of a front.
+fn last_token(front: &[u8]) -> &[u8] {
+    last_parted(front).1
 }
 
 /// The column of what stands from here on, counted from 1.
@@ -161,16 +161,29 @@ fn tell_no_label<W: Tell>(out: &mut W, column: usize, text: &[u8]) {
 
 // ---- A2
 
-/// The numbers of a range.
-fn range_text(range: Range) -> &'static str {
-    match range {
-        Range::Bits16 => "a number here is -32768 to 32767",
-        Range::Bits32 => "a number here is -2147483648 to 2147483647",
-        Range::Bits64 => {
-            "a constant is -2147483648 to 2147483647, with `ll` behind it 0 to 18446744073709551615"
-        }
+/// Whether a number behind a front is the distance of a jump or a call: behind their word, and a sign.
+fn is_distance(front: &[u8]) -> bool {
+    let word = match last_parted(front) {
+        (rest, b"+" | b"-") => last_token(rest),
+        (_, token) => token,
+    };
+    matches!(word, b"goto" | b"gotol" | b"call")
+}
+
+/// What a number behind a front is, and its range.
+fn range_text(front: &[u8], range: Range) -> &'static str {
+    match (range, is_distance(front)) {
+        (Range::Bits16, false) => "an offset is -32768 to 32767",
+        (Range::Bits16, true) => "a distance of goto and if is -32768 to 32767",
+        (Range::Bits32, false) => "a constant here is -2147483648 to 2147483647",
+        (Range::Bits32, true) => "a distance of gotol and call is -2147483648 to 2147483647",
+        (Range::Bits64, _) => CONSTANT_RANGE,
     }
 }
+
+/// The numbers that a constant of a move may be.
+const CONSTANT_RANGE: &str =
+    "a constant is -2147483648 to 2147483647, with `ll` behind it 0 to 18446744073709551615";
 
 /// A number behind a front that is out of its range.
 fn tell_excess<'a, W: Tell>(
@@ -190,7 +203,7 @@ fn tell_excess<'a, W: Tell>(
     write!(out, ", column {column}: {sign}{number} is out of its range");
     match range_behind(alloc, &stop.front) {
         Ok(range) => {
-            let text = range_text(range);
+            let text = range_text(&stop.front, range);
             write!(out, ": {text}\n");
         }
         Err(_) => write!(out, "\n"),
@@ -200,7 +213,7 @@ fn tell_excess<'a, W: Tell>(
 /// Which number is out of its range: the next one; or the last one, for the lack of an `ll` or for the one that stands there.
 fn tell_number<'a, W: Tell>(alloc: Global, out: &mut W, line: &[u8], stop: &Stop<'a>) {
     let token = token_of(stop.rest);
-    let range = range_text(Range::Bits64);
+    let range = CONSTANT_RANGE;
     if token.is_empty() {
         let number = last_token(&stop.front);
         let column = column_of(without_blanks(line), number);
@@ -359,45 +372,23 @@ fn tell_error<W: Tell>(alloc: Global, out: &mut W, text: &[u8], error: TextError
     }
 }
 
-/// How many slots the program of a text has.
-fn slots_of(alloc: Global, text: &str) -> Result<u32, TextError>
-    ensures { IfOk result (λ n. (is : List Insn) × Assembles text.now is) }
-{
-    match assemble(alloc, text, Order::Little) {
-        Ok(program) => Ok(program.slots()),
-        Err(error) => Err(error),
-    }
-}
-
-/// Tells what bytes are as a text. Whether they are a program's.
-fn tell_text<W: Tell>(alloc: Global, out: &mut W, bytes: &[u8]) -> bool
-    ensures { IsTrue result → ((is : List Insn) × Assembles bytes.now is) }
-{
-    let Ok(text) = from_utf8(bytes) else {
-        write!(out, "the bytes are no text: they aren't UTF-8\n");
-        return false;
-    };
-    match slots_of(alloc, text) {
-        Ok(slots) => {
-            let slots = Count(slots, "slot");
-            write!(out, "a program of {slots}\n");
-            true
-        }
-        Err(error) => {
-            tell_error(alloc, out, bytes, error);
-            false
-        }
-    }
-}
-
-/// Tells in words why bytes are refused as a program's text (A1 to A7): the column, the word at fault, and how the line may go
-/// on from there; of a program, how many slots it has. True if it is a program's text; false also of bytes that aren't UTF-8. A fault of
-/// the writer, or a write of no bytes, ends it.
-pub fn explain_text<W: Write>(alloc: Global, bytes: &[u8], out: &mut W) -> io::Result<bool>
-    ensures { IfOk result (λ told. IsTrue told → ((is : List Insn) × Assembles bytes.now is)) }
-{
+/// Tells in words why a text is refused as a program's: the column, the word at fault, and how the line may go on from there. A
+/// fault of the writer, or a write of no bytes, ends it.
+pub fn write_text_refusal<W: Write>(
+    alloc: Global,
+    text: &[u8],
+    error: TextError,
+    out: &mut W,
+) -> io::Result<()> {
     let mut page = Page::new(out);
-    let is_program = tell_text(alloc, &mut page, bytes);
-    page.finish()?;
-    Ok(is_program)
+    tell_error(alloc, &mut page, text, error);
+    page.finish()
+}
+
+/// Tells how many slots a program has. A fault of the writer, or a write of no bytes, ends it.
+pub fn write_program<C: Code, W: Write>(program: &C, out: &mut W) -> io::Result<()> {
+    let mut page = Page::new(out);
+    let slots = Count(program.slots(), "slot");
+    write!(page, "a program of {slots}\n");
+    page.finish()
 }

@@ -7,30 +7,17 @@ use std::io::{self, Write};
 
 /// What a lost relocation leaves most often: a call to itself, or a 64-bit constant that is 0.
 fn tell_suspect<W: Tell>(out: &mut W, slot: u32, insn: &Insn) {
-    match *insn {
-        Insn::CallLocal { off: -1 } => write!(
+    if let Insn::CallLocal { off: -1 } = *insn {
+        write!(
             out,
             "slot {slot} calls itself: mostly a call of another object's function that was never linked\n"
-        ),
-        Insn::LoadImm64 { value: 0, .. } => write!(
+        );
+    }
+    if let Insn::LoadImm64 { value: 0, .. } = *insn {
+        write!(
             out,
             "slot {slot} loads a 64-bit 0: mostly an address that a lost relocation left out\n"
-        ),
-        Insn::CallLocal { off: _off } => {}
-        Insn::LoadImm64 { value: _value, .. } => {}
-        Insn::Alu { .. }
-        | Insn::Neg { .. }
-        | Insn::MovSx { .. }
-        | Insn::End { .. }
-        | Insn::Load { .. }
-        | Insn::LoadSx { .. }
-        | Insn::Store { .. }
-        | Insn::StoreImm { .. }
-        | Insn::Atomic { .. }
-        | Insn::Ja { .. }
-        | Insn::JaLong { .. }
-        | Insn::JumpIf { .. }
-        | Insn::Exit => {}
+        );
     }
 }
 

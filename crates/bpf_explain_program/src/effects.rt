@@ -1,7 +1,7 @@
 //! Which places instructions read, write and compare, as far as a state tells.
 
 use crate::control::Control;
-use crate::places::PlaceSet;
+use bpf_infer_base::PlaceSet;
 use bpf_insn::{Access, Insn, Reg};
 use bpf_state::{Place, Reach, RegState, State};
 
@@ -44,7 +44,7 @@ fn slots_written(insn: &Insn, state: &State) -> Option<(u8, u8)> {
 /// The places that may not be the same behind an instruction as in a state in front of it.
 pub fn places_written(insn: &Insn, state: &State) -> PlaceSet {
     if Control::of(insn) == Control::Call {
-        return PlaceSet::CLOBBERED;
+        return PlaceSet::CHANGED_BY_CALL;
     }
     let mut places = PlaceSet::NONE;
     if let Some(reg) = insn.register_written() {

@@ -3,14 +3,13 @@
 use crate::control::Control;
 use crate::effects::{places_compared, places_written, slots_touched};
 use crate::known::{Known, Name, Number, Written, spelling_of};
-use crate::places::{
-    PLACES, PlaceSet, changes, content, is_same, is_unknown, place_at, take_all, take_over,
-};
+use crate::places::{changes, content, is_same, is_unknown, take_all, take_over};
 use crate::sight::{Outcome, Sight};
 use bpf_cert::{Function, Label, Measure};
 use bpf_check::{Index, JudgedEdge};
 use bpf_explain_page::{Count, Tell};
-use bpf_insn::Insn;
+use bpf_infer_base::{PLACES, PlaceSet, place};
+use bpf_insn::{Insn, Reg};
 use bpf_state::{Place, State};
 use std::fmt;
 use std::str::from_utf8;
@@ -94,8 +93,8 @@ pub fn write_budget<W: Tell>(out: &mut W, label: &Label) {
 /// What a label says of each place, as it is written.
 fn write_claims<W: Tell>(out: &mut W, state: &State) {
     for index in 0..PLACES {
-        let place = place_at(index);
-        if !is_unknown(content(state, place)) && index != 10 {
+        let place = place(index);
+        if !is_unknown(content(state, place)) && index != Reg::R10 as usize {
             let (name, text) = (Name(place), Written(content(state, place)));
             write!(out, "; {name} {text}");
         }

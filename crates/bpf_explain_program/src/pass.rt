@@ -1,4 +1,4 @@
-//! The checker's pass over an instruction, with all that it finds.
+//! The checker's pass, with all that it finds at each instruction.
 
 ghost use Rattle.std.specs.Prelude.{◌≡◌, ◌+◌, IfSome};
 ghost use Rattle.bpf_insn.specs.Instruction.{slot_count};
@@ -7,7 +7,10 @@ ghost use Rattle.bpf_check.specs.code.Sites.{IsSite};
 
 use crate::control::Control;
 use crate::sight::{Outcome, Sight};
-use bpf_check::{Site, Walk, arrive, calls_no_deeper, judge_reached, lacks_label, leaves_function};
+use bpf_cert::LAST_SLOT;
+use bpf_check::{
+    Index, Site, Spot, Walk, arrive, calls_no_deeper, judge_reached, lacks_label, leaves_function,
+};
 use bpf_insn::Code;
 use bpf_state::Condition;
 
@@ -24,7 +27,7 @@ fn see_shape<'a, P: Code>(program: &P, site: &Site, sight: &mut Sight<'a>)
 }
 
 /// Sees an instruction with what goes on to it, and makes the walk what goes on from it.
-pub fn see<'a, P: Code>(program: &P, site: &Site<'a>, walk: &mut Walk<'a>, sight: &mut Sight<'a>)
+fn see<'a, P: Code>(program: &P, site: &Site<'a>, walk: &mut Walk<'a>, sight: &mut Sight<'a>)
     requires site { IsSite site.now }
     requires valid { IfSome walk.old.here (λ h. IsReaching site.now.here.slot h) }
     ensures valid { IfSome walk.new.here (λ h. IsReaching (site.now.here.slot + slot_count site.now.insn) h) }
@@ -51,4 +54,37 @@ pub fn see<'a, P: Code>(program: &P, site: &Site<'a>, walk: &mut Walk<'a>, sight
             sight.flaws.add_if(true, Condition::State(fault));
         }
     }
+}
+
+/// Who is told what the pass sees.
+pub trait Observer {
+    /// An instruction was seen. Whether the pass goes on.
+    fn observe<'a, C: Code>(&mut self, program: &C, certificate: &Index, sight: &Sight<'a>) -> bool;
+}
+
+/// Goes over the instructions of a program. The slot behind the last one that was seen.
+pub fn pass_over<C: Code, O: Observer>(
+    program: &C,
+    certificate: &Index,
+    has_budgets: bool,
+    observer: &mut O,
+) -> u32 {
+    let mut sight = Sight::new(&*certificate, has_budgets);
+    let mut walk = Walk::new();
+    let mut here = Spot::of(&*certificate, 0);
+    'visits: for _ in 0..65_536u32 {
+        let Some(insn) = program.insn(here.slot) else {
+            break;
+        };
+        if here.slot > LAST_SLOT {
+            break;
+        }
+        let site = Site::of(&*certificate, here, insn);
+        see(program, &site, &mut walk, &mut sight);
+        here = site.next;
+        if !observer.observe(program, certificate, &sight) {
+            break;
+        }
+    }
+    here.slot
 }

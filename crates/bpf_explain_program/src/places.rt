@@ -1,60 +1,10 @@
-//! The registers and slots of a state, one after the other.
+//! What states know of places, of registers as of slots.
 
 ghost use Rattle.std.specs.Prelude.{◌≡◌};
 
 use bpf_cert::{Label, value_slot};
-use bpf_insn::Reg;
+use bpf_infer_base::{PLACES, PlaceSet};
 use bpf_state::{Place, Pointer, SlotState, State, Tag};
-
-/// How many places a state has: eleven registers and sixty-four slots.
-pub const PLACES: usize = 75;
-
-/// The place by its number: r0 to r10, then s1 to s64.
-pub fn place_at(index: usize) -> Place {
-    if index <= 10 {
-        Place::Register(Reg::numbered(index as u8))
-    } else {
-        Place::Slot((index - 10).min(64) as u8)
-    }
-}
-
-/// A set of places, each a bit at its number.
-#[derive(Clone, Copy)]
-pub struct PlaceSet {
-    held: u128,
-}
-
-impl PlaceSet {
-    /// No place is in it.
-    pub const NONE: PlaceSet = PlaceSet { held: 0 };
-
-    /// r0 to r5, which a call changes.
-    pub const CLOBBERED: PlaceSet = PlaceSet { held: 0b11_1111 };
-
-    /// Whether no place is in it.
-    pub fn is_empty(self) -> bool {
-        self.held == 0
-    }
-
-    /// Puts a place in.
-    pub fn add(&mut self, place: Place) {
-        let number = match place {
-            Place::Register(reg) => reg as u8,
-            Place::Slot(k) => k.min(64) + 10,
-        };
-        self.held |= 1 << number;
-    }
-
-    /// Takes the first place out.
-    pub fn take_first(&mut self) -> Option<Place> {
-        if self.held == 0 {
-            return None;
-        }
-        let number = self.held.trailing_zeros();
-        self.held &= self.held - 1;
-        Some(place_at(number as usize))
-    }
-}
 
 /// What a state knows of a place, of a register as of a slot.
 pub fn content(state: &State, place: Place) -> SlotState {

@@ -5,18 +5,43 @@ ghost use Rattle.bpf_check.specs.CheckedProgram.{IsCertifiedBy};
 
 use crate::graph::tell_dot;
 use crate::listing::{Lengths, steps_of, write_header};
-use crate::pass::see;
+use crate::pass::{Observer, pass_over};
 use crate::reach::tell_unreached;
 use crate::report::{Report, View};
 use crate::shown::Shown;
 use crate::sight::Sight;
 use crate::source::SourceLines;
 use crate::standing::last_slot;
-use bpf_cert::{Certificate, LAST_SLOT};
-use bpf_check::{Index, Refusal, Site, Spot, Walk};
+use bpf_cert::Certificate;
+use bpf_check::{Index, Refusal};
 use bpf_explain_page::{Page, Tell};
 use bpf_insn::Code;
 use std::io::{self, Write};
+
+/// A report as it is written.
+#[derive(Drop)]
+struct Telling<'t, 'o, W: Tell> {
+    report: Report<'t>,
+    out: &'o mut W,
+}
+
+impl<'t, 'o, W: Tell> Observer for Telling<'t, 'o, W> {
+    fn observe<'a, C: Code>(
+        &mut self,
+        program: &C,
+        certificate: &Index,
+        sight: &Sight<'a>,
+    ) -> bool {
+        self.report
+            .tell_sight(self.out, program, certificate, sight);
+        if sight.site.insn.slots() > 1 {
+            let second = sight.site.here.slot.saturating_add(1);
+            self.report
+                .tell_slot(self.out, program, certificate, second);
+        }
+        !self.out.has_failed()
+    }
+}
 
 /// Goes over the slots of a program, and over those behind it at which labels stand.
 fn tell_all<C: Code, W: Tell>(
@@ -26,43 +51,15 @@ fn tell_all<C: Code, W: Tell>(
     lines: &[u8],
     out: &mut W,
 ) {
-    let mut report = Report::new(view, SourceLines::of(lines));
-    let end = tell_program(program, certificate, &mut report, out);
+    let report = Report::new(view, SourceLines::of(lines));
+    let has_budgets = report.has_budgets();
+    let mut telling = Telling { report, out };
+    let end = pass_over(program, certificate, has_budgets, &mut telling);
+    let Telling { mut report, out } = telling;
     for slot in end..last_slot(certificate).saturating_add(1) {
         report.tell_slot(out, program, certificate, slot);
     }
     report.tell_quiet(out);
-}
-
-/// Goes over the instructions of a program. The slot behind the last one.
-fn tell_program<C: Code, W: Tell>(
-    program: &C,
-    certificate: &Index,
-    report: &mut Report<'_>,
-    out: &mut W,
-) -> u32 {
-    let mut sight = Sight::new(&*certificate, report.has_budgets());
-    let mut walk = Walk::new();
-    let mut here = Spot::of(&*certificate, 0);
-    'visits: for _ in 0..65_536u32 {
-        let Some(insn) = program.insn(here.slot) else {
-            break;
-        };
-        if here.slot > LAST_SLOT {
-            break;
-        }
-        let site = Site::of(&*certificate, here, insn);
-        see(program, &site, &mut walk, &mut sight);
-        report.tell_sight(out, program, certificate, &sight);
-        if insn.slots() > 1 {
-            report.tell_slot(out, program, certificate, here.slot + 1);
-        }
-        here = site.next;
-        if out.has_failed() {
-            break;
-        }
-    }
-    here.slot
 }
 
 /// The last lines: the answer, and all flaws.

@@ -1,11 +1,12 @@
 //! One instruction with the whole states before and after it.
 
 use crate::known::{Known, Name, Spelled};
-use crate::places::{PLACES, content, is_unknown, place_at, tag_at};
+use crate::places::{content, is_unknown, tag_at};
 use crate::sight::{Outcome, Sight};
 use bpf_cert::Label;
 use bpf_check::{Here, JudgedEdge, place_of};
 use bpf_explain_page::Tell;
+use bpf_infer_base::{PLACES, place};
 use bpf_state::{State, Tag};
 
 /// `, which is r6 of slot 1 - 1`
@@ -23,7 +24,7 @@ fn write_tag<W: Tell>(out: &mut W, label: &Label, tag: Tag) {
 /// Each place of which something is known, one a line.
 fn write_state<W: Tell>(out: &mut W, label: Option<&Label>, state: &State) {
     for index in 0..PLACES {
-        let place = place_at(index);
+        let place = place(index);
         if !is_unknown(content(state, place)) {
             let (name, held) = (Name(place), Known(content(state, place)));
             write!(out, "  {name} is {held}");

@@ -1,4 +1,5 @@
-//! Why a condition fails at an instruction, in words with the numbers of the case.
+//! Why a condition fails at an instruction, in words with the numbers of the case: what `bpf explain` says. A condition's own sentence,
+//! without numbers, is `Condition::text` of `bpf_state`.
 
 mod budget;
 mod edges;

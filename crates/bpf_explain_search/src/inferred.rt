@@ -1,18 +1,22 @@
 //! The inferrer's own work, explained.
 
-ghost use Rattle.std.specs.Prelude.{◌≡◌, ◌⊎◌, ◌≤◌, ◌<◌, IfOk, IfErr, IsErrAnd, Ok};
+ghost use Rattle.std.specs.Prelude.{◌≡◌, ◌⊎◌, ◌≤◌, ◌<◌, IfOk, IfErr, IfSome, IfNone, IsErrAnd, Ok};
+ghost use Rattle.bpf_insn.specs.Limits.{max_context};
 ghost use Rattle.bpf_insn.specs.Instruction.{slots};
 ghost use Rattle.bpf_cert.specs.Limits.{IsCertificate};
+ghost use Rattle.bpf_safety.specs.Certified.{IsLeastFlaw};
+ghost use Rattle.bpf_check.specs.CheckedProgram.{IsCertifiedBy};
+ghost use Rattle.bpf_check.specs.RefusalNumbers.{refusal_number, refusal_slot};
 ghost use Rattle.bpf_infer_error.specs.RefusalNumbers.{infer_slot};
 ghost use Rattle.bpf_infer_error.specs.declared.error.InferError.TheVariants.{Memory};
 
 use crate::obstacles::{write_no_budget, write_obstacle};
 use bpf_cert::Certificate;
-use bpf_check::{Refusal, check, jump_target};
+use bpf_check::{Refusal, jump_target};
 use bpf_explain_page::{Page, Tell};
 use bpf_explain_program::{
-    Control, Shown, Spelled, source_at, tell_glimpse, tell_reason, tell_shown, tell_sketch,
-    tell_sketched_dot, tell_unreached,
+    Control, Shown, Spelled, refusal_of, source_at, tell_glimpse, tell_reason, tell_shown,
+    tell_sketch, tell_sketched_dot, tell_unreached,
 };
 use bpf_infer::{
     Condition, InferError, Obstacle, Quest, Sketch, Stop, Watch, infer, search_or_stop, sketch_of,
@@ -265,50 +269,76 @@ fn write_stop<W: Tell>(
     }
 }
 
-/// Explains a certificate that was found, with the checker's answer.
-fn explain_certified<W: Tell>(
-    program: &Program,
-    certificate: &Certificate,
-    shown: Shown<'_>,
-    out: &mut W,
-) {
-    let refusal = match check(program, certificate) {
-        Ok(_checked) => None,
-        Err(refusal) => Some(refusal),
-    };
-    tell_shown(program, certificate, shown, refusal, out);
+/// A certificate that a search found, and the checker's answer: None if it certifies the program, else the least flaw.
+#[derive(Drop)]
+pub struct Found {
+    pub certificate: Certificate,
+    pub refusal: Option<Refusal>,
 }
 
-/// Explains what a search found, in pieces of up to 4,096 bytes. What was found, or the refusal.
+/// Explains a certificate that a search found, in pieces of up to 4,096 bytes, and hands it back with the checker's answer.
+fn explain_certified<W: Write>(
+    out: &mut W,
+    program: &Program,
+    certificate: Certificate,
+    shown: Shown<'_>,
+) -> io::Result<Found>
+    ensures found { IfOk result (λ f. f.certificate ≡ certificate) }
+    ensures accepted { IfOk result (λ f. IfNone f.refusal (IsCertifiedBy program.now f.certificate)) }
+    ensures refused { IfOk result (λ f. IfSome f.refusal (λ r. IsLeastFlaw program.now f.certificate (refusal_slot r) (refusal_number r))) }
+{
+    let mut page = Page::new(out);
+    let refusal = refusal_of(program, &certificate);
+    tell_shown(program, &certificate, shown, refusal, &mut page);
+    page.finish()?;
+    Ok(Found {
+        certificate,
+        refusal,
+    })
+}
+
+/// Explains where a search stopped, in pieces of up to 4,096 bytes.
+fn explain_stop<W: Write>(
+    out: &mut W,
+    program: &Program,
+    stop: &Stop,
+    shown: Shown<'_>,
+    effort: Effort,
+) -> io::Result<()> {
+    let mut page = Page::new(out);
+    write_stop(&mut page, program, stop, shown, effort);
+    page.finish()
+}
+
+/// Explains what a search found. What was found, with the checker's answer, or the refusal.
 fn explain<W: Write>(
     out: &mut W,
     program: &Program,
     found: Result<Certificate, Stop>,
     shown: Shown<'_>,
     effort: Effort,
-) -> io::Result<Result<Certificate, InferError>>
-    ensures found { IfOk result (λ told. IfOk told (λ c. found ≡ Ok c)) }
-    ensures refused { IfOk result (λ told. IfErr told (λ e. IsErrAnd found (λ s. e ≡ s.error))) }
+) -> io::Result<Result<Found, InferError>>
+    ensures found { IfOk result (λ told. IfOk told (λ f. found ≡ Ok f.certificate)) }
+    ensures stopped { IfOk result (λ told. IfErr told (λ e. IsErrAnd found (λ s. e ≡ s.error))) }
+    ensures accepted { IfOk result (λ told. IfOk told (λ f. IfNone f.refusal (IsCertifiedBy program.now f.certificate))) }
+    ensures refused { IfOk result (λ told. IfOk told (λ f. IfSome f.refusal (λ r. IsLeastFlaw program.now f.certificate (refusal_slot r) (refusal_number r)))) }
 {
-    let mut page = Page::new(out);
-    let told = match found {
+    match found {
         Ok(certificate) => {
-            explain_certified(program, &certificate, shown, &mut page);
-            Ok(certificate)
+            let found = explain_certified(out, program, certificate, shown)?;
+            Ok(Ok(found))
         }
         Err(stop) => {
-            write_stop(&mut page, program, &stop, shown, effort);
-            Err(stop.error)
+            explain_stop(out, program, &stop, shown, effort)?;
+            Ok(Err(stop.error))
         }
-    };
-    page.finish()?;
-    Ok(told)
+    }
 }
 
 /// What the plain inferrer had where it refused a program. I5 where memory runs out meanwhile.
 fn stop_of(alloc: Global, quest: Quest<'_>, error: InferError) -> Stop
     requires order { quest.least ≤ quest.most }
-    requires short { quest.most ≤ 4096 }
+    requires short { quest.most ≤ max_context }
     ensures { (result.error ≡ error) ⊎ (result.error ≡ Memory) }
 {
     let sketch = match error {
@@ -332,7 +362,7 @@ fn stop_of(alloc: Global, quest: Quest<'_>, error: InferError) -> Stop
 /// inferrer sees one.
 fn with_walk(alloc: Global, quest: Quest<'_>, stop: Stop) -> Stop
     requires order { quest.least ≤ quest.most }
-    requires short { quest.most ≤ 4096 }
+    requires short { quest.most ≤ max_context }
     ensures { result.error ≡ stop.error }
 {
     if !matches!(stop.error, InferError::Fault { .. }) {
@@ -353,7 +383,7 @@ fn with_walk(alloc: Global, quest: Quest<'_>, stop: Stop) -> Stop
 
 /// Shows a program with the certificate that the inferrer proposes for contexts of `least` to `most` bytes, at most 4,096, and the
 /// checker's answer; where it proposes none, with the states at its labels as far as it came, and in words why (I1 to I5), of a graph
-/// by number alone. The certificate or the refusal is given back. A fault of the writer, or a write of no bytes, ends it.
+/// by number alone. The certificate with the checker's answer, or the refusal, is given back. A fault of the writer, or a write of no bytes, ends it.
 pub fn explain_inferred<W: Write>(
     alloc: Global,
     program: &Program,
@@ -361,13 +391,15 @@ pub fn explain_inferred<W: Write>(
     most: u32,
     shown: Shown<'_>,
     out: &mut W,
-) -> io::Result<Result<Certificate, InferError>>
+) -> io::Result<Result<Found, InferError>>
     requires order { least ≤ most }
-    requires short { most ≤ 4096 }
-    ensures version { IfOk result (λ told. IfOk told (λ c. c.version ≡ 2)) }
-    ensures least { IfOk result (λ told. IfOk told (λ c. c.least ≡ least)) }
-    ensures most { IfOk result (λ told. IfOk told (λ c. c.most ≡ most)) }
-    ensures certificate { IfOk result (λ told. IfOk told (λ c. IsCertificate c)) }
+    requires short { most ≤ max_context }
+    ensures version { IfOk result (λ told. IfOk told (λ f. f.certificate.version ≡ 2)) }
+    ensures least { IfOk result (λ told. IfOk told (λ f. f.certificate.least ≡ least)) }
+    ensures most { IfOk result (λ told. IfOk told (λ f. f.certificate.most ≡ most)) }
+    ensures certificate { IfOk result (λ told. IfOk told (λ f. IsCertificate f.certificate)) }
+    ensures accepted { IfOk result (λ told. IfOk told (λ f. IfNone f.refusal (IsCertifiedBy program.now f.certificate))) }
+    ensures refused { IfOk result (λ told. IfOk told (λ f. IfSome f.refusal (λ r. IsLeastFlaw program.now f.certificate (refusal_slot r) (refusal_number r)))) }
     ensures slot { IfOk result (λ told. IfErr told (λ e. infer_slot e < slots program.now.list)) }
 {
     let quest = Quest {
@@ -391,13 +423,15 @@ pub fn explain_searched<W: Write, H: Watch>(
     watch: &mut H,
     shown: Shown<'_>,
     out: &mut W,
-) -> io::Result<Result<Certificate, InferError>>
+) -> io::Result<Result<Found, InferError>>
     requires order { least ≤ most }
-    requires short { most ≤ 4096 }
-    ensures version { IfOk result (λ told. IfOk told (λ c. c.version ≡ 2)) }
-    ensures least { IfOk result (λ told. IfOk told (λ c. c.least ≡ least)) }
-    ensures most { IfOk result (λ told. IfOk told (λ c. c.most ≡ most)) }
-    ensures certificate { IfOk result (λ told. IfOk told (λ c. IsCertificate c)) }
+    requires short { most ≤ max_context }
+    ensures version { IfOk result (λ told. IfOk told (λ f. f.certificate.version ≡ 2)) }
+    ensures least { IfOk result (λ told. IfOk told (λ f. f.certificate.least ≡ least)) }
+    ensures most { IfOk result (λ told. IfOk told (λ f. f.certificate.most ≡ most)) }
+    ensures certificate { IfOk result (λ told. IfOk told (λ f. IsCertificate f.certificate)) }
+    ensures accepted { IfOk result (λ told. IfOk told (λ f. IfNone f.refusal (IsCertifiedBy program.now f.certificate))) }
+    ensures refused { IfOk result (λ told. IfOk told (λ f. IfSome f.refusal (λ r. IsLeastFlaw program.now f.certificate (refusal_slot r) (refusal_number r)))) }
     ensures slot { IfOk result (λ told. IfErr told (λ e. infer_slot e < slots program.now.list)) }
 {
     let quest = Quest {

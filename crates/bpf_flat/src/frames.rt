@@ -1,9 +1,9 @@
 //! The frames of a run: their bytes, and what each call keeps for its return.
 
-ghost use Rattle.std.specs.Prelude.{◌≡◌, ◌<◌, ◌≤◌, ◌+◌, ◌^◌, ◌++◌, [], ◌∷◌, IfSome, IfNone, length, take, drop, replicate};
+ghost use Rattle.std.specs.Prelude.{◌≡◌, ◌<◌, ◌^◌, ◌++◌, [], ◌∷◌, IfSome, IfNone, length, take, drop, replicate};
 ghost use Rattle.bpf_insn.specs.Order.{number_of, bytes_of};
 ghost use Rattle.bpf_insn.specs.Instruction.{byte_count};
-ghost use Rattle.bpf_flat.specs.code.Frames.{return_of, frames_in, IsHeld, behind_first};
+ghost use Rattle.bpf_flat.specs.code.Frames.{return_of};
 ghost use Rattle.bpf_flat.specs.code.Parts.{frames_size, IsWritable};
 
 use arrayvec::ArrayVec;
@@ -12,6 +12,9 @@ use std::marker::Model;
 
 /// How many bytes all frames have.
 pub(crate) const FRAMES: usize = MAX_FRAMES * FRAME_BYTES;
+
+/// How many calls wait for their return at most.
+pub(crate) const MAX_CALLS: usize = MAX_FRAMES - 1;
 
 /// What a call keeps for its return: the slot after it, and r6 to r10.
 #[derive(Clone, Copy)]
@@ -37,80 +40,71 @@ impl Default for Caller {
     }
 }
 
-/// The outermost frame alone, until the first call; then all frames, and the callers. A short run would spend most of its time on
-/// clearing the others. The bytes come first in both, so that where an access lies is worked out alike.
+/// The bytes of some frames, that of depth n from 512 n on, and what each call keeps: as many calls as there are frames behind the
+/// first. There are two sizes: the outermost frame alone, with which a run starts, and all frames. A short run would spend
+/// most of its time on clearing the others.
 #[derive(Drop)]
-enum Held {
-    One([u8; FRAME_BYTES]),
-    All([u8; FRAMES], ArrayVec<Caller, 7>),
+pub(crate) struct Frames<const BYTES: usize, const CALLS: usize> {
+    bytes: [u8; BYTES],
+    callers: ArrayVec<Caller, CALLS>,
 }
 
-/// The frame that a run has had until its first call, and seven new ones.
-#[inline(always)]
-fn first_call(first: &[u8; FRAME_BYTES], caller: Caller) -> Held
-    requires { length first.now ≡ 512 }
-    ensures frames { frames_in result ≡ record { bytes = first.now ++ replicate behind_first 0; returns = return_of caller ∷ [] } }
-    ensures held { IsHeld result }
-{
-    let mut bytes = [0; FRAMES];
-    bytes[..FRAME_BYTES].copy_from_slice(first);
-    let mut callers = ArrayVec::new();
-    callers.push(caller);
-    Held::All(bytes, callers)
-}
-
-/// The bytes of all frames, that of depth n from 512 n on, and the returns.
-#[derive(Drop)]
-pub(crate) struct Frames {
-    held: Held,
-}
-
-impl Model for Frames {
-    ghost use Rattle.bpf_flat.specs.code.Frames.{FramesSeen, frames_in, IsHeld};
+impl<const BYTES: usize, const CALLS: usize> Model for Frames<BYTES, CALLS> {
+    ghost use Rattle.bpf_flat.specs.code.Frames.{FramesSeen, frames_in, HasFrames};
 
     ghost Value = { FramesSeen };
 
-    ghost view = { λ f. frames_in f.held };
+    ghost view = { λ f. frames_in f.bytes f.callers };
 
-    ghost invariant = { λ f. IsHeld f.held };
+    ghost invariant = { λ f. HasFrames BYTES CALLS f.bytes f.callers };
 }
 
-impl Frames {
-    /// The frames at the start of a run.
+impl Frames<FRAME_BYTES, 0> {
+    /// The outermost frame at the start of a run.
     #[inline(always)]
     pub(crate) fn new() -> Self
         ensures { result ≡ record { bytes = replicate frames_size 0; returns = [] } }
     {
         Frames {
-            held: Held::One([0; FRAME_BYTES]),
+            bytes: [0; FRAME_BYTES],
+            callers: ArrayVec::new(),
         }
     }
 
+    /// All frames, with what the outermost one holds.
+    #[inline(always)]
+    pub(crate) fn all(&self) -> Frames<FRAMES, MAX_CALLS>
+        ensures { result ≡ self.now }
+    {
+        let mut bytes = [0; FRAMES];
+        bytes[..FRAME_BYTES].copy_from_slice(&self.bytes);
+        Frames {
+            bytes,
+            callers: ArrayVec::new(),
+        }
+    }
+}
+
+impl<const BYTES: usize, const CALLS: usize> Frames<BYTES, CALLS> {
     /// The number in the bytes from an address on.
     #[inline(always)]
     pub(crate) fn number(&self, order: Order, size: Size, first: usize) -> u64
         requires live { IsWritable (length self.now.returns) (byte_count size) first }
-        requires inside { first + byte_count size ≤ frames_size }
         ensures number { result ≡ number_of order (byte_count size) (drop first self.now.bytes) }
         ensures fits { result < 256 ^ byte_count size }
     {
-        match &self.held {
-            Held::One(bytes) => number_in(order, size, &bytes[first..]),
-            Held::All(bytes, _) => number_in(order, size, &bytes[first..]),
-        }
+        let bytes = &self.bytes[..];
+        number_in(order, size, &bytes[first..])
     }
 
     /// Writes the lowest bytes of a number from an address on.
     #[inline(always)]
     pub(crate) fn put_number(&mut self, order: Order, size: Size, first: usize, x: u64)
         requires live { IsWritable (length self.old.returns) (byte_count size) first }
-        requires inside { first + byte_count size ≤ frames_size }
         ensures { self.new ≡ record { bytes = take first self.old.bytes ++ (bytes_of order (byte_count size) x ++ drop (byte_count size) (drop first self.old.bytes)); returns = self.old.returns } }
     {
-        match &mut self.held {
-            Held::One(bytes) => put_number(order, size, &mut bytes[first..], x),
-            Held::All(bytes, _) => put_number(order, size, &mut bytes[first..], x),
-        }
+        let bytes = &mut self.bytes[..];
+        put_number(order, size, &mut bytes[first..], x);
     }
 
     /// How many calls wait for their return.
@@ -118,39 +112,16 @@ impl Frames {
     pub(crate) fn waiting(&self) -> usize
         ensures { result ≡ length self.now.returns }
     {
-        match &self.held {
-            Held::One(_) => 0,
-            Held::All(_, callers) => callers.len(),
-        }
+        self.callers.len()
     }
 
     /// Puts away what a call keeps. There is room for a frame.
     #[inline(always)]
     pub(crate) fn push(&mut self, caller: Caller)
-        requires { length self.old.returns < 7 }
+        requires { length self.old.returns < CALLS }
         ensures { self.new ≡ record { bytes = self.old.bytes; returns = return_of caller ∷ self.old.returns } }
     {
-        if let Held::All(_, callers) = &mut self.held {
-            callers.push(caller);
-            return;
-        }
-        self.push_first(caller);
-    }
-
-    /// Puts away what a call keeps, where it may be the first.
-    #[inline(never)]
-    fn push_first(&mut self, caller: Caller)
-        requires { length self.old.returns < 7 }
-        ensures { self.new ≡ record { bytes = self.old.bytes; returns = return_of caller ∷ self.old.returns } }
-    {
-        let held = match &mut self.held {
-            Held::One(first) => first_call(first, caller),
-            Held::All(_, callers) => {
-                callers.push(caller);
-                return;
-            }
-        };
-        self.held = held;
+        self.callers.push(caller);
     }
 
     /// What the nearest call kept; None in the outermost frame, and nothing changes.
@@ -159,9 +130,6 @@ impl Frames {
         ensures some { IfSome result (λ caller. self.old ≡ record { bytes = self.new.bytes; returns = return_of caller ∷ self.new.returns }) }
         ensures none { IfNone result ((self.old.returns ≡ []) × (self.new ≡ self.old)) }
     {
-        match &mut self.held {
-            Held::One(_) => None,
-            Held::All(_, callers) => callers.pop(),
-        }
+        self.callers.pop()
     }
 }

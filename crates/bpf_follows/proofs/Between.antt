@@ -1,14 +1,15 @@
 -- Two states in the middle of a step: their frames follow one another, wherever the running ones stand.
 use Rattle.std.proofs.Common.{◌≡◌, ℕ, suc, ◌-◌, ◌<◌, ◌≤◌, ◌⊎◌, inl, inr, ◌%◌, ◌==◌, Bool, true, false, cond, List, Option, Some, None, length, get_or, set, take, drop, refl, sym, ap, ◌∙◌, subst, arith}
-use Rattle.std.specs.Prelude.{ℤ, option_map, if◌then◌else◌, nat_le}
+use Rattle.std.specs.Prelude.{ℤ, pos, option_map, if◌then◌else◌, nat_le, ◌||◌}
 use Rattle.std.proofs.lemmas.Option.{none-some, same_Some}
-use Rattle.std.proofs.lemmas.Bool.{cases_Bool, eqb-true, eqb-false, leb-true}
+use Rattle.std.proofs.lemmas.Bool.{cases_Bool, eqb-true, eqb-false, leb-true, false≢true}
 use Rattle.std.proofs.lemmas.List.{length-set, get_or-set_same, get_or-set_other, get_or-take, get_or-drop}
 use Rattle.std.specs.Option.{option_or}
 use Rattle.bpf_insn.specs.Order.{bytes_of, number_of}
 use Rattle.bpf_insn.specs.Instruction.{register_number, byte_count}
 use Rattle.bpf_insn.specs.declared.order.Order.{Order}
 use Rattle.bpf_insn.specs.declared.instruction.Reg.{Reg}
+use Rattle.bpf_insn.specs.declared.instruction.Insn.{Insn}
 use Rattle.bpf_insn.specs.declared.instruction.Size.{Size}
 use Rattle.bpf_insn.specs.declared.instruction.Size.TheVariants.{B, H, W, DW}
 use Rattle.bpf_semantics.specs.State.{StackFrame, State, depth, frames, frame_at, with_top, with_register, put, at_slot}
@@ -19,14 +20,70 @@ use Rattle.bpf_semantics.specs.declared.value.Value.{Value}
 use Rattle.bpf_semantics.specs.declared.value.Value.TheVariants.{Number, Pointer}
 use Rattle.bpf_semantics.specs.declared.value.Region.{Region}
 use Rattle.bpf_semantics.specs.declared.value.Region.TheVariants.{Context, Frame as FrameAt}
-use Rattle.bpf_follows.specs.declared.notes.Kind.TheVariants.{Same}
+use Rattle.bpf_follows.specs.declared.notes.Kind.{Kind}
+use Rattle.bpf_follows.specs.declared.notes.Kind.TheVariants.{Nothing, Same, Number as NumberKind, Offset, Fixed, Start, Base, Moved, Address, Constant, Counter, Turn}
 use Rattle.bpf_follows.specs.declared.notes.Place.{Place}
-use Rattle.bpf_follows.specs.Relation.{Kinds, IsKept, EachPair, FitsKind, FrameFits, FrameWaits}
-use Rattle.bpf_follows.proofs.Pairs.{mapped, unmapped, cond_first, cond_second, same_is_kept, as_long, pairs_weaker, pair_at, pair_inside, pairs_set, pairs_drop, pairs_take, Cells, bytes_kept, pointer_kept, no_pointer, each_kept, bytes_keep, parts_keep}
+use Rattle.bpf_follows.specs.Relation.{Kinds, IsKept, EachPair, HasOffset, as_number, as_pointer, FitsKind, FrameFits, FrameWaits, register_in, is_of_other}
+use Rattle.bpf_follows.specs.Matching.{is_call, is_changed, held, kinds_after}
+use Rattle.bpf_follows.proofs.Lists.{mapped, unmapped, cond_first, cond_second, same_is_kept, as_long, pairs_weaker, pair_at, pair_inside, pairs_set, pairs_drop, pairs_take, Cells, bytes_kept, pointer_kept, no_pointer, each_kept, bytes_keep, parts_keep}
 
--- what is known of a register that is written with the same value in both
-abbrev pub written : ℕ → Kinds → Kinds
-written w kinds r = if r == w then Same else kinds r
+-- ---- registers of the old machine that are others
+
+false_true : {A : Type 0} → true ≡ false → A
+false_true e = absurd (false≢true (sym e))
+
+-- what is said by its own value is said of a register with the same value
+pub fits_moved : (turns : ℕ) (passed : ℕ → ℕ) (old more : ℕ → Option Value) (q r : ℕ) (kind : Kind) (new : Option Value) → is_of_other kind ≡ false → more r ≡ old q → FitsKind turns passed old q kind new → FitsKind turns passed more r kind new
+fits_moved turns passed old more q r Nothing new own e f = tt
+fits_moved turns passed old more q r Same new own e f = λ v ev. f v (sym e ∙ ev)
+fits_moved turns passed old more q r NumberKind new own e f = λ v ev. f v (sym e ∙ ev)
+fits_moved turns passed old more q r Offset new own e f = subst (λ o. HasOffset (pos 0) as_number o new) (sym e) f
+fits_moved turns passed old more q r (Fixed offset) new own e f = (f.0, e ∙ f.1, f.2)
+fits_moved turns passed old more q r Start new own e f = (e ∙ f.0, f.1)
+fits_moved turns passed old more q r Base new own e f = f
+fits_moved turns passed old more q r (Moved of by) new own e f = false_true own
+fits_moved turns passed old more q r (Address of by) new own e f = false_true own
+fits_moved turns passed old more q r (Constant value) new own e f = f
+fits_moved turns passed old more q r (Counter head) new own e f = f
+fits_moved turns passed old more q r (Turn head) new own e f = f
+
+or_false : (a b : Bool) → (a || b) ≡ false → b ≡ false
+or_false true b e = false_true e
+or_false false b e = e
+
+-- what is said of a register that an instruction doesn't change, where the old machine's others are those behind it
+pub fits_held : (turns : ℕ) (passed : ℕ → ℕ) (i : Insn) (old more : ℕ → Option Value) (r : ℕ) (kind : Kind) (new : Option Value) → ((q : ℕ) → is_changed i q ≡ false → more q ≡ old q) → is_changed i r ≡ false
+    → FitsKind turns passed old r kind new → FitsKind turns passed more r (held i kind) new
+fits_held turns passed i old more r (Moved of by) new kept same f = by_cases (is_call i || is_changed i (register_number of)) (or_false (is_call i) (is_changed i (register_number of)))
+  where
+    by_cases : (b : Bool) → (b ≡ false → is_changed i (register_number of) ≡ false) → FitsKind turns passed more r (if b then Nothing else Moved of by) new
+    by_cases true h = tt
+    by_cases false h = subst (λ o. HasOffset by as_number o new) (sym (kept (register_number of) (h refl))) f
+fits_held turns passed i old more r (Address of by) new kept same f = by_cases (is_call i || is_changed i (register_number of)) (or_false (is_call i) (is_changed i (register_number of)))
+  where
+    by_cases : (b : Bool) → (b ≡ false → is_changed i (register_number of) ≡ false) → FitsKind turns passed more r (if b then Nothing else Address of by) new
+    by_cases true h = tt
+    by_cases false h = subst (λ o. HasOffset by as_pointer o new) (sym (kept (register_number of) (h refl))) f
+fits_held turns passed i old more r Nothing new kept same f = tt
+fits_held turns passed i old more r Same new kept same f = fits_moved turns passed old more r r Same new refl (kept r same) f
+fits_held turns passed i old more r NumberKind new kept same f = fits_moved turns passed old more r r NumberKind new refl (kept r same) f
+fits_held turns passed i old more r Offset new kept same f = fits_moved turns passed old more r r Offset new refl (kept r same) f
+fits_held turns passed i old more r (Fixed offset) new kept same f = fits_moved turns passed old more r r (Fixed offset) new refl (kept r same) f
+fits_held turns passed i old more r Start new kept same f = fits_moved turns passed old more r r Start new refl (kept r same) f
+fits_held turns passed i old more r Base new kept same f = f
+fits_held turns passed i old more r (Constant value) new kept same f = f
+fits_held turns passed i old more r (Counter head) new kept same f = f
+fits_held turns passed i old more r (Turn head) new kept same f = f
+
+-- registers behind an instruction: what it changes is of a kind, the others are as they were
+pub fits_behind : (turns : ℕ) (passed : ℕ → ℕ) (i : Insn) (kind : Kind) (kinds : Kinds) (old more : ℕ → Option Value) (new after : ℕ → Option Value)
+    → ((q : ℕ) → is_changed i q ≡ false → more q ≡ old q) → ((q : ℕ) → is_changed i q ≡ false → after q ≡ new q) → ((q : ℕ) → q < 11 → is_changed i q ≡ true → FitsKind turns passed more q kind (after q))
+    → ((r : ℕ) → r < 11 → FitsKind turns passed old r (kinds r) (new r)) → (r : ℕ) → r < 11 → FitsKind turns passed more r (kinds_after i kind kinds r) (after r)
+fits_behind turns passed i kind kinds old more new after kept kept_new put h r lt = by_cases (is_changed i r) refl
+  where
+    by_cases : (b : Bool) → is_changed i r ≡ b → FitsKind turns passed more r (if b then kind else held i (kinds r)) (after r)
+    by_cases true e = put r lt e
+    by_cases false e = subst (λ o. FitsKind turns passed more r (held i (kinds r)) o) (sym (kept_new r e)) (fits_held turns passed i old more r (kinds r) (new r) kept e (h r lt))
 
 -- ---- a frame
 
@@ -37,28 +94,28 @@ fits_at : (turns : ℕ) (passed : ℕ → ℕ) (kinds : Kinds) (old new : StackF
     → FrameFits turns passed kinds (record { slot = x; registers = old.registers; stack = old.stack }) (record { slot = y; registers = new.registers; stack = new.stack })
 fits_at turns passed kinds old new x y h = record { eleven_old = h.eleven_old; eleven = h.eleven; registers = h.registers; stack = h.stack }
 
--- both frames get the value
-fits_put : (turns : ℕ) (passed : ℕ → ℕ) (kinds : Kinds) (old new : StackFrame) (w : ℕ) (v : Option Value) → FrameFits turns passed kinds old new
-    → FrameFits turns passed (written w kinds) (record { slot = old.slot; registers = set old.registers w v; stack = old.stack }) (record { slot = new.slot; registers = set new.registers w v; stack = new.stack })
-fits_put turns passed kinds old new w v h = record {
-  eleven_old = length-set old.registers w v ∙ h.eleven_old;
-  eleven = length-set new.registers w v ∙ h.eleven;
-  registers = λ r lt. by_cases r lt (cases_Bool (r == w));
+-- Both frames get values, of a kind that a value decides.
+fits_put : (turns : ℕ) (passed : ℕ → ℕ) (i : Insn) (kind : Kind) (kinds : Kinds) (old new : StackFrame) (w : ℕ) (v x : Value) → ((q : ℕ) → is_changed i q ≡ (q == w)) → is_of_other kind ≡ false
+    → FitsKind turns passed (λ q. Some v) 0 kind (Some x) → FrameFits turns passed kinds old new
+    → FrameFits turns passed (kinds_after i kind kinds) (record { slot = old.slot; registers = set old.registers w (Some v); stack = old.stack }) (record { slot = new.slot; registers = set new.registers w (Some x); stack = new.stack })
+fits_put turns passed i kind kinds old new w v x changed own fit h = record {
+  eleven_old = length-set old.registers w (Some v) ∙ h.eleven_old;
+  eleven = length-set new.registers w (Some x) ∙ h.eleven;
+  registers = fits_behind turns passed i kind kinds (register_in old) (λ q. get_or (set old.registers w (Some v)) q None) (register_in new) (λ q. get_or (set new.registers w (Some x)) q None)
+      (λ q e. get_or-set_other old.registers w q (Some v) None (eqb-false q w (sym (changed q) ∙ e)))
+      (λ q e. get_or-set_other new.registers w q (Some x) None (eqb-false q w (sym (changed q) ∙ e)))
+      put
+      h.registers;
   stack = h.stack;
 }
   where
-    by_cases : (r : ℕ) → r < 11 → (r == w ≡ true) ⊎ (r == w ≡ false) → FitsKind turns passed (written w kinds r) (get_or (set old.registers w v) r None) (get_or (set new.registers w v) r None)
-    by_cases r lt (inl e) =
-        let same : r ≡ w = eqb-true r w e in
-        let a : get_or (set old.registers w v) r None ≡ v = rw same (get_or-set_same old.registers w v None (rw h.eleven_old (subst (λ z. z < 11) same lt))) in
-        let b : get_or (set new.registers w v) r None ≡ v = rw same (get_or-set_same new.registers w v None (rw h.eleven (subst (λ z. z < 11) same lt))) in
-        subst (λ kind. FitsKind turns passed kind (get_or (set old.registers w v) r None) (get_or (set new.registers w v) r None)) (ap (λ c. cond c Same (kinds r)) (sym e)) (λ x ex. b ∙ (sym a ∙ ex))
-    by_cases r lt (inr e) =
-        let other = eqb-false r w e in
-        let a : get_or (set old.registers w v) r None ≡ get_or old.registers r None = get_or-set_other old.registers w r v None other in
-        let b : get_or (set new.registers w v) r None ≡ get_or new.registers r None = get_or-set_other new.registers w r v None other in
-        subst (λ kind. FitsKind turns passed kind (get_or (set old.registers w v) r None) (get_or (set new.registers w v) r None)) (ap (λ c. cond c Same (kinds r)) (sym e))
-        (subst (λ x. FitsKind turns passed (kinds r) x (get_or (set new.registers w v) r None)) (sym a) (subst (λ y. FitsKind turns passed (kinds r) (get_or old.registers r None) y) (sym b) (h.registers r lt)))
+    put : (q : ℕ) → q < 11 → is_changed i q ≡ true → FitsKind turns passed (λ q. get_or (set old.registers w (Some v)) q None) q kind (get_or (set new.registers w (Some x)) q None)
+    put q lt e =
+        let same : q ≡ w = eqb-true q w (sym (changed q) ∙ e) in
+        let a : get_or (set old.registers w (Some v)) q None ≡ Some v = rw same (get_or-set_same old.registers w (Some v) None (rw h.eleven_old (subst (λ z. z < 11) same lt))) in
+        let b : get_or (set new.registers w (Some x)) q None ≡ Some x = rw same (get_or-set_same new.registers w (Some x) None (rw h.eleven (subst (λ z. z < 11) same lt))) in
+        subst (λ o. FitsKind turns passed (λ q. get_or (set old.registers w (Some v)) q None) q kind o) (sym b)
+        (fits_moved turns passed (λ q. Some v) (λ q. get_or (set old.registers w (Some v)) q None) 0 q kind (Some x) own a fit)
 
 -- ---- states
 
@@ -88,17 +145,41 @@ module _ (notes : List (Option Place)) (turns : ℕ) (passed : ℕ → ℕ) wher
 
   -- ---- registers
 
-  pub put_kept : (kinds : Kinds) (s t u : State) (r : Reg) (v : Value) → Between kinds s t → put r v s ≡ Some u → Goes (written (register_number r) kinds) s.top.slot t.top.slot u (put r v t)
-  put_kept kinds s t u r v h e =
+  pub put_kept : (i : Insn) (kind : Kind) (kinds : Kinds) (s t u : State) (r : Reg) (v x : Value) → ((q : ℕ) → is_changed i q ≡ (q == register_number r)) → is_of_other kind ≡ false
+      → FitsKind turns passed (λ q. Some v) 0 kind (Some x) → Between kinds s t → put r v s ≡ Some u → Goes (kinds_after i kind kinds) s.top.slot t.top.slot u (put r x t)
+  put_kept i kind kinds s t u r v x changed own fit h e =
       let free = cond_second (register_number r == 10) (Some (with_register s (register_number r) (Some v))) u e in
-      let after : State = with_register t (register_number r) (Some v) in
+      let after : State = with_register t (register_number r) (Some x) in
       let is : with_register s (register_number r) (Some v) ≡ u = same_Some _ _ free.1 in
       record {
         state = after;
         is = ap (λ b. cond b None (Some after)) free.0;
-        between = subst (λ u. Between (written (register_number r) kinds) u after) is (record { top = fits_put turns passed kinds s.top t.top (register_number r) (Some v) h.top; waiting = h.waiting; context_is = h.context_is });
+        between = subst (λ u. Between (kinds_after i kind kinds) u after) is
+            (record { top = fits_put turns passed i kind kinds s.top t.top (register_number r) v x changed own fit h.top; waiting = h.waiting; context_is = h.context_is });
         old_slot = ap (λ u. u.top.slot) (sym is);
         new_slot = refl;
+      }
+
+  -- where no register is written, what is said of each is still right
+  pub goes_held : (i : Insn) (kind : Kind) (kinds : Kinds) (x y : ℕ) (s : State) (o : Option State) → ((q : ℕ) → is_changed i q ≡ false) → Goes kinds x y s o → Goes (kinds_after i kind kinds) x y s o
+  goes_held i kind kinds x y s o none g =
+      let top = g.between.top in
+      record {
+        state = g.state;
+        is = g.is;
+        between = record {
+          top = record {
+            eleven_old = top.eleven_old;
+            eleven = top.eleven;
+            registers = fits_behind turns passed i kind kinds (register_in s.top) (register_in s.top) (register_in g.state.top) (register_in g.state.top) (λ q e. refl) (λ q e. refl)
+                (λ q lt e. absurd (false≢true (sym (none q) ∙ e))) top.registers;
+            stack = top.stack;
+          };
+          waiting = g.between.waiting;
+          context_is = g.between.context_is;
+        };
+        old_slot = g.old_slot;
+        new_slot = g.new_slot;
       }
 
   -- ---- memory
@@ -202,6 +283,7 @@ module _ (notes : List (Option Place)) (turns : ℕ) (passed : ℕ → ℕ) wher
   waits_stack a b xs ys f h = record {
     follows = record { place = f.follows.place; noted = f.follows.noted; slot_is = f.follows.slot_is; fits = fits_stack turns passed _ a b xs ys f.follows.fits h };
     result = f.result;
+    own = f.own;
   }
 
   -- both stacks at a depth get other cells

@@ -1,6 +1,8 @@
 -- Calls, and the ends of functions.
 use Rattle.std.proofs.Common.{◌≡◌, ℕ, zero, suc, ◌+◌, ◌<◌, cond, List, [], ◌∷◌, ◌++◌, Option, Some, None, length, get_or, take, drop, refl, sym, ap, ◌∙◌, subst, arith}
-use Rattle.std.specs.Prelude.{ℤ, pos, nat_lt, replicate, option_map}
+use Rattle.std.specs.Prelude.{ℤ, pos, Bool, true, false, nat_lt, replicate, option_map, if◌then◌else◌}
+use Rattle.std.proofs.Common.{inl, inr}
+use Rattle.std.proofs.lemmas.Bool.{false≢true}
 use Rattle.std.proofs.lemmas.Option.{none-some, same_Some, option_and_then_some}
 use Rattle.bpf_insn.specs.Instruction.{target}
 use Rattle.bpf_insn.specs.declared.order.Order.{Order}
@@ -11,12 +13,13 @@ use Rattle.bpf_semantics.specs.Step.{does, entered, call, left, saved}
 use Rattle.bpf_semantics.specs.declared.value.Value.{Value}
 use Rattle.bpf_semantics.specs.declared.value.Value.TheVariants.{Number, Pointer}
 use Rattle.bpf_semantics.specs.declared.value.Region.TheVariants.{Frame as FrameAt}
-use Rattle.bpf_follows.specs.declared.notes.Kind.TheVariants.{Same}
+use Rattle.bpf_follows.specs.declared.notes.Kind.{Kind}
+use Rattle.bpf_follows.specs.declared.notes.Kind.TheVariants.{Nothing, Same, Number as NumberKind, Offset, Fixed, Start, Base, Moved, Address, Constant, Counter, Turn}
 use Rattle.bpf_follows.specs.declared.notes.Place.{Place}
-use Rattle.bpf_follows.specs.Relation.{Kinds, Gives, kinds_of, EachPair, FitsKind, FrameFollows, FrameWaits}
-use Rattle.bpf_follows.specs.Matching.{kinds_behind, kinds_called, Arrives}
-use Rattle.bpf_follows.proofs.Pairs.{bind, mapped, cond_first, same_is_kept, pairs_same}
-use Rattle.bpf_follows.proofs.Between.{Between, Goes, same_depth}
+use Rattle.bpf_follows.specs.Relation.{Kinds, Gives, weaker, kinds_of, EachPair, FitsKind, FrameFollows, FrameWaits, is_of_other}
+use Rattle.bpf_follows.specs.Matching.{is_same, held, handed, kinds_behind, kinds_called, Arrives}
+use Rattle.bpf_follows.proofs.Lists.{bind, mapped, cond_first, same_is_kept, pairs_same}
+use Rattle.bpf_follows.proofs.Between.{Between, Goes, same_depth, fits_moved}
 use Rattle.bpf_follows.proofs.Instruction.{Arrived, kind_given, fits_given, number_same}
 
 abbrev pub Registers : Type 0
@@ -45,9 +48,54 @@ saved_eleven xs h = six xs h (λ xs. length (saved xs) ≡ 11) (λ a b c d e f r
 left_eleven : (v : Option Value) (xs : Registers) → length xs ≡ 11 → length (v ∷ drop 1 (saved xs)) ≡ 11
 left_eleven v xs h = six xs h (λ xs. length (v ∷ drop 1 (saved xs)) ≡ 11) (λ a b c d e f rest n. omega arith)
 
+-- ---- what is said by other registers is gone behind a call
+
+held_by_call : (off : ℤ) (kind : Kind) → held (CallLocal off) kind ≡ handed kind
+held_by_call off (Moved of by) = refl
+held_by_call off (Address of by) = refl
+held_by_call off Nothing = refl
+held_by_call off Same = refl
+held_by_call off NumberKind = refl
+held_by_call off Offset = refl
+held_by_call off (Fixed offset) = refl
+held_by_call off Start = refl
+held_by_call off Base = refl
+held_by_call off (Constant value) = refl
+held_by_call off (Counter head) = refl
+held_by_call off (Turn head) = refl
+
+own_held : (off : ℤ) (kind : Kind) → is_of_other (held (CallLocal off) kind) ≡ false
+own_held off (Moved of by) = refl
+own_held off (Address of by) = refl
+own_held off Nothing = refl
+own_held off Same = refl
+own_held off NumberKind = refl
+own_held off Offset = refl
+own_held off (Fixed offset) = refl
+own_held off Start = refl
+own_held off Base = refl
+own_held off (Constant value) = refl
+own_held off (Counter head) = refl
+own_held off (Turn head) = refl
+
 module _ (notes : List (Option Place)) (turns : ℕ) (passed : ℕ → ℕ) where
   abbrev AllFit : Kinds → Registers → Registers → Type 0
-  AllFit kinds xs ys = (r : ℕ) → r < 11 → FitsKind turns passed (kinds r) (get_or xs r None) (get_or ys r None)
+  AllFit kinds xs ys = (r : ℕ) → r < 11 → FitsKind turns passed (λ q. get_or xs q None) r (kinds r) (get_or ys r None)
+
+  -- what is said by other registers isn't handed on
+  handed_fits : (old more : ℕ → Option Value) (r : ℕ) (kind : Kind) (new : Option Value) → more r ≡ old r → FitsKind turns passed old r kind new → FitsKind turns passed more r (handed kind) new
+  handed_fits old more r (Moved of by) new e f = tt
+  handed_fits old more r (Address of by) new e f = tt
+  handed_fits old more r Nothing new e f = tt
+  handed_fits old more r Same new e f = fits_moved turns passed old more r r Same new refl e f
+  handed_fits old more r NumberKind new e f = fits_moved turns passed old more r r NumberKind new refl e f
+  handed_fits old more r Offset new e f = fits_moved turns passed old more r r Offset new refl e f
+  handed_fits old more r (Fixed offset) new e f = fits_moved turns passed old more r r (Fixed offset) new refl e f
+  handed_fits old more r Start new e f = fits_moved turns passed old more r r Start new refl e f
+  handed_fits old more r Base new e f = f
+  handed_fits old more r (Constant value) new e f = f
+  handed_fits old more r (Counter head) new e f = f
+  handed_fits old more r (Turn head) new e f = f
 
   called_fit : (kinds : Kinds) (xs ys : Registers) (own : Option Value) → length xs ≡ 11 → length ys ≡ 11 → AllFit kinds xs ys → AllFit (kinds_called kinds) (called xs own) (called ys own)
   called_fit kinds xs ys own hx hy =
@@ -58,11 +106,11 @@ module _ (notes : List (Option Place)) (turns : ℕ) (passed : ℕ → ℕ) wher
       each : (a b c d e f : Option Value) (rest : Registers) (a' b' c' d' e' f' : Option Value) (rest' : Registers) → AllFit kinds (a ∷ b ∷ c ∷ d ∷ e ∷ f ∷ rest) (a' ∷ b' ∷ c' ∷ d' ∷ e' ∷ f' ∷ rest')
           → AllFit (kinds_called kinds) (called (a ∷ b ∷ c ∷ d ∷ e ∷ f ∷ rest) own) (called (a' ∷ b' ∷ c' ∷ d' ∷ e' ∷ f' ∷ rest') own)
       each a b c d e f rest a' b' c' d' e' f' rest' h zero lt = same_is_kept None
-      each a b c d e f rest a' b' c' d' e' f' rest' h (suc zero) lt = h 1 lt
-      each a b c d e f rest a' b' c' d' e' f' rest' h (suc (suc zero)) lt = h 2 lt
-      each a b c d e f rest a' b' c' d' e' f' rest' h (suc (suc (suc zero))) lt = h 3 lt
-      each a b c d e f rest a' b' c' d' e' f' rest' h (suc (suc (suc (suc zero)))) lt = h 4 lt
-      each a b c d e f rest a' b' c' d' e' f' rest' h (suc (suc (suc (suc (suc zero))))) lt = h 5 lt
+      each a b c d e f rest a' b' c' d' e' f' rest' h (suc zero) lt = handed_fits (λ q. get_or (a ∷ b ∷ c ∷ d ∷ e ∷ f ∷ rest) q None) (λ q. get_or (called (a ∷ b ∷ c ∷ d ∷ e ∷ f ∷ rest) own) q None) 1 (kinds 1) b' refl (h 1 lt)
+      each a b c d e f rest a' b' c' d' e' f' rest' h (suc (suc zero)) lt = handed_fits (λ q. get_or (a ∷ b ∷ c ∷ d ∷ e ∷ f ∷ rest) q None) (λ q. get_or (called (a ∷ b ∷ c ∷ d ∷ e ∷ f ∷ rest) own) q None) 2 (kinds 2) c' refl (h 2 lt)
+      each a b c d e f rest a' b' c' d' e' f' rest' h (suc (suc (suc zero))) lt = handed_fits (λ q. get_or (a ∷ b ∷ c ∷ d ∷ e ∷ f ∷ rest) q None) (λ q. get_or (called (a ∷ b ∷ c ∷ d ∷ e ∷ f ∷ rest) own) q None) 3 (kinds 3) d' refl (h 3 lt)
+      each a b c d e f rest a' b' c' d' e' f' rest' h (suc (suc (suc (suc zero)))) lt = handed_fits (λ q. get_or (a ∷ b ∷ c ∷ d ∷ e ∷ f ∷ rest) q None) (λ q. get_or (called (a ∷ b ∷ c ∷ d ∷ e ∷ f ∷ rest) own) q None) 4 (kinds 4) e' refl (h 4 lt)
+      each a b c d e f rest a' b' c' d' e' f' rest' h (suc (suc (suc (suc (suc zero))))) lt = handed_fits (λ q. get_or (a ∷ b ∷ c ∷ d ∷ e ∷ f ∷ rest) q None) (λ q. get_or (called (a ∷ b ∷ c ∷ d ∷ e ∷ f ∷ rest) own) q None) 5 (kinds 5) f' refl (h 5 lt)
       each a b c d e f rest a' b' c' d' e' f' rest' h (suc (suc (suc (suc (suc (suc zero)))))) lt = same_is_kept None
       each a b c d e f rest a' b' c' d' e' f' rest' h (suc (suc (suc (suc (suc (suc (suc zero))))))) lt = same_is_kept None
       each a b c d e f rest a' b' c' d' e' f' rest' h (suc (suc (suc (suc (suc (suc (suc (suc zero)))))))) lt = same_is_kept None
@@ -71,26 +119,34 @@ module _ (notes : List (Option Place)) (turns : ℕ) (passed : ℕ → ℕ) wher
       each a b c d e f rest a' b' c' d' e' f' rest' h (suc (suc (suc (suc (suc (suc (suc (suc (suc (suc (suc r))))))))))) lt = absurd (omega arith)
 
   -- what a caller keeps, with r0 to r5 the same in both
-  kept_fit : (kinds : Kinds) (v : Option Value) (xs ys : Registers) → length xs ≡ 11 → length ys ≡ 11 → ((r : ℕ) → r < 6 → Gives Same (kinds r)) → AllFit kinds xs ys → AllFit kinds (v ∷ drop 1 (saved xs)) (v ∷ drop 1 (saved ys))
-  kept_fit kinds v xs ys hx hy low =
+  kept_fit : (kinds : Kinds) (v : Option Value) (xs ys : Registers) → length xs ≡ 11 → length ys ≡ 11 → ((r : ℕ) → r < 6 → Gives turns r Same (kinds r)) → ((r : ℕ) → r < 11 → is_of_other (kinds r) ≡ false) → AllFit kinds xs ys → AllFit kinds (v ∷ drop 1 (saved xs)) (v ∷ drop 1 (saved ys))
+  kept_fit kinds v xs ys hx hy low own =
       six xs hx (λ xs. AllFit kinds xs ys → AllFit kinds (v ∷ drop 1 (saved xs)) (v ∷ drop 1 (saved ys))) (λ a b c d e f rest n.
       six ys hy (λ ys. AllFit kinds (a ∷ b ∷ c ∷ d ∷ e ∷ f ∷ rest) ys → AllFit kinds (v ∷ drop 1 (saved (a ∷ b ∷ c ∷ d ∷ e ∷ f ∷ rest))) (v ∷ drop 1 (saved ys))) (λ a' b' c' d' e' f' rest' n'.
       each a b c d e f rest a' b' c' d' e' f' rest'))
     where
-      same : (r : ℕ) (o : Option Value) → r < 6 → FitsKind turns passed (kinds r) o o
-      same r o lt = kind_given notes turns passed Same (kinds r) o o (low r lt) (same_is_kept o)
+      same : (old : ℕ → Option Value) (r : ℕ) (o : Option Value) → r < 6 → old r ≡ o → FitsKind turns passed old r (kinds r) o
+      same old r o lt e = kind_given notes turns passed old r Same (kinds r) o (low r lt) (λ x ex. sym e ∙ ex)
 
       each : (a b c d e f : Option Value) (rest : Registers) (a' b' c' d' e' f' : Option Value) (rest' : Registers) → AllFit kinds (a ∷ b ∷ c ∷ d ∷ e ∷ f ∷ rest) (a' ∷ b' ∷ c' ∷ d' ∷ e' ∷ f' ∷ rest')
           → AllFit kinds (v ∷ drop 1 (saved (a ∷ b ∷ c ∷ d ∷ e ∷ f ∷ rest))) (v ∷ drop 1 (saved (a' ∷ b' ∷ c' ∷ d' ∷ e' ∷ f' ∷ rest')))
-      each a b c d e f rest a' b' c' d' e' f' rest' h zero lt = same 0 v (omega arith)
-      each a b c d e f rest a' b' c' d' e' f' rest' h (suc zero) lt = same 1 None (omega arith)
-      each a b c d e f rest a' b' c' d' e' f' rest' h (suc (suc zero)) lt = same 2 None (omega arith)
-      each a b c d e f rest a' b' c' d' e' f' rest' h (suc (suc (suc zero))) lt = same 3 None (omega arith)
-      each a b c d e f rest a' b' c' d' e' f' rest' h (suc (suc (suc (suc zero)))) lt = same 4 None (omega arith)
-      each a b c d e f rest a' b' c' d' e' f' rest' h (suc (suc (suc (suc (suc zero))))) lt = same 5 None (omega arith)
-      each a b c d e f rest a' b' c' d' e' f' rest' h (suc (suc (suc (suc (suc (suc r)))))) lt = h (suc (suc (suc (suc (suc (suc r)))))) lt
+      each a b c d e f rest a' b' c' d' e' f' rest' h zero lt = same (λ q. get_or (v ∷ drop 1 (saved (a ∷ b ∷ c ∷ d ∷ e ∷ f ∷ rest))) q None) 0 v (omega arith) refl
+      each a b c d e f rest a' b' c' d' e' f' rest' h (suc zero) lt = same (λ q. get_or (v ∷ drop 1 (saved (a ∷ b ∷ c ∷ d ∷ e ∷ f ∷ rest))) q None) 1 None (omega arith) refl
+      each a b c d e f rest a' b' c' d' e' f' rest' h (suc (suc zero)) lt = same (λ q. get_or (v ∷ drop 1 (saved (a ∷ b ∷ c ∷ d ∷ e ∷ f ∷ rest))) q None) 2 None (omega arith) refl
+      each a b c d e f rest a' b' c' d' e' f' rest' h (suc (suc (suc zero))) lt = same (λ q. get_or (v ∷ drop 1 (saved (a ∷ b ∷ c ∷ d ∷ e ∷ f ∷ rest))) q None) 3 None (omega arith) refl
+      each a b c d e f rest a' b' c' d' e' f' rest' h (suc (suc (suc (suc zero)))) lt = same (λ q. get_or (v ∷ drop 1 (saved (a ∷ b ∷ c ∷ d ∷ e ∷ f ∷ rest))) q None) 4 None (omega arith) refl
+      each a b c d e f rest a' b' c' d' e' f' rest' h (suc (suc (suc (suc (suc zero))))) lt = same (λ q. get_or (v ∷ drop 1 (saved (a ∷ b ∷ c ∷ d ∷ e ∷ f ∷ rest))) q None) 5 None (omega arith) refl
+      each a b c d e f rest a' b' c' d' e' f' rest' h (suc (suc (suc (suc (suc (suc zero)))))) lt = fits_moved turns passed (λ q. get_or (a ∷ b ∷ c ∷ d ∷ e ∷ f ∷ rest) q None) (λ q. get_or (v ∷ drop 1 (saved (a ∷ b ∷ c ∷ d ∷ e ∷ f ∷ rest))) q None) 6 6 (kinds 6) (get_or rest' 0 None) (own 6 lt) refl (h 6 lt)
+      each a b c d e f rest a' b' c' d' e' f' rest' h (suc (suc (suc (suc (suc (suc (suc zero))))))) lt = fits_moved turns passed (λ q. get_or (a ∷ b ∷ c ∷ d ∷ e ∷ f ∷ rest) q None) (λ q. get_or (v ∷ drop 1 (saved (a ∷ b ∷ c ∷ d ∷ e ∷ f ∷ rest))) q None) 7 7 (kinds 7) (get_or rest' 1 None) (own 7 lt) refl (h 7 lt)
+      each a b c d e f rest a' b' c' d' e' f' rest' h (suc (suc (suc (suc (suc (suc (suc (suc zero)))))))) lt = fits_moved turns passed (λ q. get_or (a ∷ b ∷ c ∷ d ∷ e ∷ f ∷ rest) q None) (λ q. get_or (v ∷ drop 1 (saved (a ∷ b ∷ c ∷ d ∷ e ∷ f ∷ rest))) q None) 8 8 (kinds 8) (get_or rest' 2 None) (own 8 lt) refl (h 8 lt)
+      each a b c d e f rest a' b' c' d' e' f' rest' h (suc (suc (suc (suc (suc (suc (suc (suc (suc zero))))))))) lt = fits_moved turns passed (λ q. get_or (a ∷ b ∷ c ∷ d ∷ e ∷ f ∷ rest) q None) (λ q. get_or (v ∷ drop 1 (saved (a ∷ b ∷ c ∷ d ∷ e ∷ f ∷ rest))) q None) 9 9 (kinds 9) (get_or rest' 3 None) (own 9 lt) refl (h 9 lt)
+      each a b c d e f rest a' b' c' d' e' f' rest' h (suc (suc (suc (suc (suc (suc (suc (suc (suc (suc zero)))))))))) lt = fits_moved turns passed (λ q. get_or (a ∷ b ∷ c ∷ d ∷ e ∷ f ∷ rest) q None) (λ q. get_or (v ∷ drop 1 (saved (a ∷ b ∷ c ∷ d ∷ e ∷ f ∷ rest))) q None) 10 10 (kinds 10) (get_or rest' 4 None) (own 10 lt) refl (h 10 lt)
+      each a b c d e f rest a' b' c' d' e' f' rest' h (suc (suc (suc (suc (suc (suc (suc (suc (suc (suc (suc r))))))))))) lt = absurd (omega arith)
 
   -- a frame from which a call is made
+  held_fits : (off : ℤ) (old more : ℕ → Option Value) (r : ℕ) (kind : Kind) (new : Option Value) → more r ≡ old r → FitsKind turns passed old r kind new → FitsKind turns passed more r (held (CallLocal off) kind) new
+  held_fits off old more r kind new e f = subst (λ kind. FitsKind turns passed more r kind new) (sym (held_by_call off kind)) (handed_fits old more r kind new e f)
+
   behind_call : (off : ℤ) (kinds : Kinds) (xs ys : Registers) → length xs ≡ 11 → length ys ≡ 11 → AllFit kinds xs ys → AllFit (kinds_behind (CallLocal off) kinds) (saved xs) (saved ys)
   behind_call off kinds xs ys hx hy =
       six xs hx (λ xs. AllFit kinds xs ys → AllFit (kinds_behind (CallLocal off) kinds) (saved xs) (saved ys)) (λ a b c d e f rest n.
@@ -105,11 +161,11 @@ module _ (notes : List (Option Place)) (turns : ℕ) (passed : ℕ → ℕ) wher
       each a b c d e f rest a' b' c' d' e' f' rest' h (suc (suc (suc zero))) lt = same_is_kept None
       each a b c d e f rest a' b' c' d' e' f' rest' h (suc (suc (suc (suc zero)))) lt = same_is_kept None
       each a b c d e f rest a' b' c' d' e' f' rest' h (suc (suc (suc (suc (suc zero))))) lt = same_is_kept None
-      each a b c d e f rest a' b' c' d' e' f' rest' h (suc (suc (suc (suc (suc (suc zero)))))) lt = h 6 lt
-      each a b c d e f rest a' b' c' d' e' f' rest' h (suc (suc (suc (suc (suc (suc (suc zero))))))) lt = h 7 lt
-      each a b c d e f rest a' b' c' d' e' f' rest' h (suc (suc (suc (suc (suc (suc (suc (suc zero)))))))) lt = h 8 lt
-      each a b c d e f rest a' b' c' d' e' f' rest' h (suc (suc (suc (suc (suc (suc (suc (suc (suc zero))))))))) lt = h 9 lt
-      each a b c d e f rest a' b' c' d' e' f' rest' h (suc (suc (suc (suc (suc (suc (suc (suc (suc (suc zero)))))))))) lt = h 10 lt
+      each a b c d e f rest a' b' c' d' e' f' rest' h (suc (suc (suc (suc (suc (suc zero)))))) lt = held_fits off (λ q. get_or (a ∷ b ∷ c ∷ d ∷ e ∷ f ∷ rest) q None) (λ q. get_or (saved (a ∷ b ∷ c ∷ d ∷ e ∷ f ∷ rest)) q None) 6 (kinds 6) (get_or rest' 0 None) refl (h 6 lt)
+      each a b c d e f rest a' b' c' d' e' f' rest' h (suc (suc (suc (suc (suc (suc (suc zero))))))) lt = held_fits off (λ q. get_or (a ∷ b ∷ c ∷ d ∷ e ∷ f ∷ rest) q None) (λ q. get_or (saved (a ∷ b ∷ c ∷ d ∷ e ∷ f ∷ rest)) q None) 7 (kinds 7) (get_or rest' 1 None) refl (h 7 lt)
+      each a b c d e f rest a' b' c' d' e' f' rest' h (suc (suc (suc (suc (suc (suc (suc (suc zero)))))))) lt = held_fits off (λ q. get_or (a ∷ b ∷ c ∷ d ∷ e ∷ f ∷ rest) q None) (λ q. get_or (saved (a ∷ b ∷ c ∷ d ∷ e ∷ f ∷ rest)) q None) 8 (kinds 8) (get_or rest' 2 None) refl (h 8 lt)
+      each a b c d e f rest a' b' c' d' e' f' rest' h (suc (suc (suc (suc (suc (suc (suc (suc (suc zero))))))))) lt = held_fits off (λ q. get_or (a ∷ b ∷ c ∷ d ∷ e ∷ f ∷ rest) q None) (λ q. get_or (saved (a ∷ b ∷ c ∷ d ∷ e ∷ f ∷ rest)) q None) 9 (kinds 9) (get_or rest' 3 None) refl (h 9 lt)
+      each a b c d e f rest a' b' c' d' e' f' rest' h (suc (suc (suc (suc (suc (suc (suc (suc (suc (suc zero)))))))))) lt = held_fits off (λ q. get_or (a ∷ b ∷ c ∷ d ∷ e ∷ f ∷ rest) q None) (λ q. get_or (saved (a ∷ b ∷ c ∷ d ∷ e ∷ f ∷ rest)) q None) 10 (kinds 10) (get_or rest' 4 None) refl (h 10 lt)
       each a b c d e f rest a' b' c' d' e' f' rest' h (suc (suc (suc (suc (suc (suc (suc (suc (suc (suc (suc r))))))))))) lt = absurd (omega arith)
 
   -- ---- calls
@@ -117,7 +173,27 @@ module _ (notes : List (Option Place)) (turns : ℕ) (passed : ℕ → ℕ) wher
   abbrev caller : State → StackFrame
   caller s = record { slot = s.top.slot + 1; registers = saved s.top.registers; stack = s.top.stack }
 
-  waits : (off : ℤ) (kinds : Kinds) (s t : State) → Between notes turns passed kinds s t → Arrives notes (s.top.slot + 1) (t.top.slot + 1) (kinds_behind (CallLocal off) kinds) → FrameWaits notes turns passed (caller s) (caller t)
+  own_weaker : (r : ℕ) (have want : Kind) → weaker turns r have want ≡ true → is_of_other want ≡ false
+  own_weaker r (Fixed offset) Offset e = refl
+  own_weaker r Start Same e = refl
+  own_weaker r Start Base e = refl
+  own_weaker r (Moved of by) Offset e = refl
+  own_weaker r (Constant value) (Counter head) e = refl
+  own_weaker r have want e = absurd (false≢true e)
+
+  own_given : (r : ℕ) (have want : Kind) → is_of_other have ≡ false → Gives turns r have want → is_of_other want ≡ false
+  own_given r have want own (inl e) = ap is_of_other e
+  own_given r have want own (inr (inl e)) = ap is_of_other e ∙ own
+  own_given r have want own (inr (inr e)) = own_weaker r have want e
+
+  own_behind : (off : ℤ) (kinds : Kinds) (r : ℕ) → is_of_other (kinds_behind (CallLocal off) kinds r) ≡ false
+  own_behind off kinds r = by_cases (nat_lt r 6)
+    where
+      by_cases : (b : Bool) → is_of_other (if b then Same else held (CallLocal off) (kinds r)) ≡ false
+      by_cases true = refl
+      by_cases false = own_held off (kinds r)
+
+  waits : (off : ℤ) (kinds : Kinds) (s t : State) → Between notes turns passed kinds s t → Arrives notes turns (s.top.slot + 1) (t.top.slot + 1) (kinds_behind (CallLocal off) kinds) → FrameWaits notes turns passed (caller s) (caller t)
   waits off kinds s t h a = record {
     follows = record {
       place = a.place;
@@ -132,9 +208,10 @@ module _ (notes : List (Option Place)) (turns : ℕ) (passed : ℕ → ℕ) wher
           });
     };
     result = low;
+    own = λ r lt. own_given r (kinds_behind (CallLocal off) kinds r) (kinds_of a.place r) (own_behind off kinds r) (a.gives r lt);
   }
     where
-      low : (r : ℕ) → r < 6 → Gives Same (kinds_of a.place r)
+      low : (r : ℕ) → r < 6 → Gives turns r Same (kinds_of a.place r)
       low zero lt = a.gives 0 (omega arith)
       low (suc zero) lt = a.gives 1 (omega arith)
       low (suc (suc zero)) lt = a.gives 2 (omega arith)
@@ -143,7 +220,7 @@ module _ (notes : List (Option Place)) (turns : ℕ) (passed : ℕ → ℕ) wher
       low (suc (suc (suc (suc (suc zero))))) lt = a.gives 5 (omega arith)
       low (suc (suc (suc (suc (suc (suc r)))))) lt = absurd (omega arith)
 
-  pub call_kept : (off z : ℤ) (kinds : Kinds) (s t u : State) (to new_to : ℕ) → Between notes turns passed kinds s t → Arrives notes (s.top.slot + 1) (t.top.slot + 1) (kinds_behind (CallLocal off) kinds)
+  pub call_kept : (off z : ℤ) (kinds : Kinds) (s t u : State) (to new_to : ℕ) → Between notes turns passed kinds s t → Arrives notes turns (s.top.slot + 1) (t.top.slot + 1) (kinds_behind (CallLocal off) kinds)
       → target s.top.slot off ≡ Some to → target t.top.slot z ≡ Some new_to → call s off ≡ Some u → Goes notes turns passed (kinds_called kinds) to new_to u (call t z)
   call_kept off z kinds s t u to new_to h back et en e =
       let same : depth t ≡ depth s = same_depth notes turns passed kinds s t h in
@@ -182,7 +259,7 @@ module _ (notes : List (Option Place)) (turns : ℕ) (passed : ℕ → ℕ) wher
         fits = record {
           eleven_old = left_eleven (Some (Number v)) c.registers f.fits.eleven_old;
           eleven = left_eleven (Some (Number v)) d.registers f.fits.eleven;
-          registers = kept_fit (kinds_of f.place) (Some (Number v)) c.registers d.registers f.fits.eleven_old f.fits.eleven w.result f.fits.registers;
+          registers = kept_fit (kinds_of f.place) (Some (Number v)) c.registers d.registers f.fits.eleven_old f.fits.eleven w.result w.own f.fits.registers;
           stack = f.fits.stack;
         };
       }
@@ -194,7 +271,7 @@ module _ (notes : List (Option Place)) (turns : ℕ) (passed : ℕ → ℕ) wher
       subst (λ u. Arrived notes turns passed u (left (x ∷ vs) v new_context)) (same_Some _ _ e)
       (record { state = _; is = refl; follows = record { top = back_to w x v h.0; waiting = h.1; context_is = c } })
 
-  pub exit_kept : (order : Order) (kinds : Kinds) (s t u : State) → Between notes turns passed kinds s t → kinds 0 ≡ Same → does order Exit s ≡ Some u → Arrived notes turns passed u (does order Exit t)
+  pub exit_kept : (order : Order) (kinds : Kinds) (s t u : State) → Between notes turns passed kinds s t → is_same (kinds 0) ≡ true → does order Exit s ≡ Some u → Arrived notes turns passed u (does order Exit t)
   unfolding does
   exit_kept order kinds s t u h same e = option_and_then_some _ (number_of_register s R0) u e (λ v ev e1.
       let a = left_kept s.waiting t.waiting v s.context t.context u h.waiting h.context_is e1 in

@@ -1,10 +1,13 @@
-mod Bounds
+mod Lists
 mod KindLemmas
-mod InsnLemmas
 mod InsideLemmas
-mod Pairs
+mod ExtraLemmas
+mod SiteLemmas
+mod Further
 mod Between
 mod Instruction
+mod Offsets
+mod Extra
+mod OffsetInsn
 mod Calls
-mod Turns
 mod Law

@@ -1,24 +1,31 @@
 -- What has to hold of the notes at each slot. Nothing here speaks of runs.
-use Rattle.std.specs.Prelude.{◌≡◌, ◌≢◌, ℕ, ◌+◌, ◌<◌, ◌≤◌, ◌==◌, nat_le, nat_lt, ℤ, pos, negsuc, true, false, Bool, not, ◌&&◌, List, Option, Some, None, IsSome, option_and_then, if◌then◌else◌}
+use Rattle.std.specs.Prelude.{◌≡◌, ◌≢◌, ℕ, ◌+◌, ◌-◌, ◌^◌, ◌<◌, nat_le, unsigned_abs, ◌==◌, nat_lt, ℤ, pos, ◌+ℤ◌, FitsSigned, ◌⊎◌, true, false, Bool, ◌&&◌, ◌||◌, List, [], ◌∷◌, Option, Some, None, IsSome, option_and_then, if◌then◌else◌}
+use Rattle.std.specs.Int.{w16}
 use Rattle.std.specs.List.{AllByRecursion}
 use Rattle.std.specs.Option.{option_map_or}
-use Rattle.bpf_insn.specs.Arithmetic.{extended}
-use Rattle.bpf_insn.specs.Effects.{registers_read, register_written}
+use Rattle.std.specs.Ordering.{int_eq}
+use Rattle.bpf_insn.specs.Effects.{Access, access_of, registers_read, register_written}
 use Rattle.bpf_insn.specs.Instruction.{Instructions, register_number, slot_count, insn_at, distance, target, goes_on}
 use Rattle.bpf_insn.specs.declared.instruction.Reg.{Reg}
-use Rattle.bpf_insn.specs.declared.instruction.Operand.TheVariants.{Imm}
+use Rattle.bpf_insn.specs.declared.instruction.Operand.{Operand}
+use Rattle.bpf_insn.specs.declared.instruction.Operand.TheVariants.{Imm, Reg as FromReg}
 use Rattle.bpf_insn.specs.declared.instruction.Width.TheVariants.{W64}
-use Rattle.bpf_insn.specs.declared.instruction.AluOp.TheVariants.{Add, Mov}
-use Rattle.bpf_insn.specs.declared.instruction.Cond.TheVariants.{Eq}
+use Rattle.bpf_insn.specs.declared.instruction.AluOp.{AluOp}
+use Rattle.bpf_insn.specs.declared.instruction.AluOp.TheVariants.{Add, Sub, Mov}
+use Rattle.bpf_insn.specs.declared.instruction.Cond.{Cond}
+use Rattle.bpf_insn.specs.declared.instruction.Cond.TheVariants.{Eq, Ne}
 use Rattle.bpf_insn.specs.declared.instruction.Insn.{Insn}
-use Rattle.bpf_insn.specs.declared.instruction.Insn.TheVariants.{Alu, Ja, JaLong, JumpIf, CallLocal}
+use Rattle.bpf_insn.specs.declared.instruction.Insn.TheVariants.{Alu, Load, LoadSx, Ja, JaLong, JumpIf, CallLocal}
 use Rattle.bpf_follows.specs.declared.notes.Kind.{Kind}
-use Rattle.bpf_follows.specs.declared.notes.Kind.TheVariants.{Same, Counter}
+use Rattle.bpf_follows.specs.declared.notes.Kind.TheVariants.{Nothing, Same, Offset, Fixed, Start, Moved, Address}
+use Rattle.bpf_follows.specs.declared.notes.Bounds.{Bounds}
 use Rattle.bpf_follows.specs.declared.notes.Place.{Place}
-use Rattle.bpf_follows.specs.declared.stands.Site.{Site}
+use Rattle.bpf_follows.specs.declared.site.Front.{Front}
+use Rattle.bpf_follows.specs.declared.site.Site.{Site}
 use Rattle.bpf_follows.specs.declared.mismatch.Mismatch.{Mismatch}
-use Rattle.bpf_follows.specs.declared.mismatch.Mismatch.TheVariants.{Order, Start, At}
-use Rattle.bpf_follows.specs.Relation.{Kinds, Gives, kinds_of, place_at}
+use Rattle.bpf_follows.specs.declared.mismatch.Mismatch.TheVariants.{Order, Start as AtStart, At}
+use Rattle.bpf_follows.specs.Relation.{Kinds, Gives, kind_in, kinds_of, known, place_at}
+use Rattle.bpf_follows.specs.Extras.{is_base, extras}
 
 -- ---- instructions
 
@@ -30,148 +37,215 @@ undirected (JumpIf cond width dst src off) = JumpIf cond width dst src (pos 0)
 undirected (CallLocal off) = CallLocal (pos 0)
 undirected i = i
 
--- ---- kinds along an edge
-
 abbrev pub is_call : Insn → Bool
 is_call (CallLocal off) = true
 is_call _ = false
+
+-- ---- the same instruction, on registers that hold the same, or on offsets
+
+abbrev pub is_same : Kind → Bool
+is_same Same = true
+is_same Start = true
+is_same _ = false
+
+-- the register, if there is one, holds the same in both
+abbrev pub IsSame : Kinds → Option Reg → Type 0
+IsSame kinds None = Unit {0}
+IsSame kinds (Some r) = is_same (kinds (register_number r)) ≡ true
+
+-- these registers hold the same in both
+abbrev pub AreSame : Kinds → List Reg → Type 0
+AreSame kinds rs = AllByRecursion (λ r. is_same (kinds (register_number r)) ≡ true) rs
+
+abbrev pub is_offset : Kind → Bool
+is_offset Offset = true
+is_offset (Fixed offset) = true
+is_offset _ = false
+
+abbrev pub copy_kind : Kind → Option Kind
+copy_kind Offset = Some Offset
+copy_kind (Fixed offset) = Some (Fixed offset)
+copy_kind Start = Some Start
+copy_kind _ = None
+
+-- 64-bit operations on two registers, and on a register and a constant
+abbrev pub computed : AluOp → Kind → Kind → Option Kind
+computed Mov a b = copy_kind b
+computed Add a b = if (is_offset a && is_same b) || (is_same a && is_offset b) then Some Offset else None
+computed Sub a b = if is_offset a && is_offset b then Some Same else None
+computed _ a b = None
+
+-- an offset that is always the same, if it isn't too far away
+abbrev pub farthest : ℕ
+farthest = 2 ^ 31 - 1
+
+abbrev pub fixed_at : ℤ → Kind
+fixed_at offset = if nat_le (unsigned_abs offset) farthest then Fixed offset else Offset
+
+abbrev pub moved_kind : AluOp → Kind → ℤ → Option Kind
+moved_kind Add (Fixed offset) imm = Some (fixed_at (offset +ℤ imm))
+moved_kind Add kind imm = if is_offset kind then Some Offset else None
+moved_kind Sub kind imm = if is_offset kind then Some Offset else None
+moved_kind _ kind imm = None
+
+abbrev pub of_operand : Kinds → AluOp → Reg → Operand → Option Kind
+of_operand kinds op dst (Imm imm) = moved_kind op (kinds (register_number dst)) imm
+of_operand kinds op dst (FromReg src) = computed op (kinds (register_number dst)) (kinds (register_number src))
+
+abbrev pub is_equality : Cond → Bool
+is_equality Eq = true
+is_equality Ne = true
+is_equality _ = false
+
+abbrev pub are_offsets : Kinds → Reg → Reg → Bool
+are_offsets kinds dst src = is_offset (kinds (register_number dst)) && is_offset (kinds (register_number src))
+
+-- what the instruction writes, where it does on offsets what the old program does on pointers; of a test nothing
+abbrev pub by_offsets : Kinds → Insn → Option Kind
+by_offsets kinds (Alu op W64 dst src) = of_operand kinds op dst src
+by_offsets kinds (JumpIf cond W64 dst (FromReg src) off) = if is_equality cond && are_offsets kinds dst src then Some Nothing else None
+by_offsets kinds i = None
+
+abbrev pub Reads : Kinds → Insn → Type 0
+Reads kinds i = IsSome (by_offsets kinds i) ⊎ AreSame kinds (registers_read i)
+
+-- what the instruction writes
+abbrev pub result_kind : Kinds → Insn → Kind
+result_kind kinds i = option_map_or (λ kind. kind) (by_offsets kinds i) Same
+
+-- ---- a load by another register
+
+abbrev pub rebased : Insn → Reg → ℤ → Option Insn
+rebased (Load size dst src off) base at = Some (Load size dst base at)
+rebased (LoadSx size dst src off) base at = Some (LoadSx size dst base at)
+rebased i base at = None
+
+-- the places of the context to which two accesses go are the same
+abbrev pub are_same_place : Access → Access → Kind → Kind → Bool
+are_same_place old new (Address of by) kind = register_number of == register_number old.base && int_eq (by +ℤ new.offset) old.offset
+are_same_place old new kind (Fixed offset) = is_base kind && int_eq (offset +ℤ old.offset) new.offset
+are_same_place old new kind other = false
+
+abbrev pub is_same_place : Kinds → Access → Access → Bool
+is_same_place kinds old new = are_same_place old new (kinds (register_number new.base)) (kinds (register_number old.base))
+
+-- displacements have 16 bits
+pub record ByAddress (kinds : Kinds) (i moved : Insn) : Type 0 where
+  pub old : Access
+  pub new : Access
+  pub old_is : access_of i ≡ Some old
+  pub new_is : access_of moved ≡ Some new
+  pub alike : rebased i new.base new.offset ≡ Some moved
+  pub same_place : is_same_place kinds old new ≡ true
+  pub near : FitsSigned w16 new.offset
+
+-- the new instruction does what the old one does
+abbrev pub Pairs : Kinds → Insn → Insn → Type 0
+Pairs kinds i moved = ((undirected moved ≡ undirected i) × Reads kinds i) ⊎ ByAddress kinds i moved
+
+-- ---- kinds along an edge
 
 -- a call leaves r0 to r5 to the callee, and gives its caller r0 alone; any other instruction writes what it writes
 abbrev pub is_changed : Insn → ℕ → Bool
 is_changed i r = if is_call i then nat_lt r 6 else option_map_or (λ w. r == register_number w) (register_written i) false
 
--- what registers are behind an instruction: what it writes is the same in both, where all that it reads is
+-- what is said by another register is gone with it
+abbrev pub held : Insn → Kind → Kind
+held i (Moved of by) = if is_call i || is_changed i (register_number of) then Nothing else Moved of by
+held i (Address of by) = if is_call i || is_changed i (register_number of) then Nothing else Address of by
+held i kind = kind
+
+-- what registers are behind an instruction that writes what is of a kind
+abbrev pub kinds_after : Insn → Kind → Kinds → Kinds
+kinds_after i kind kinds r = if is_changed i r then kind else held i (kinds r)
+
 abbrev pub kinds_behind : Insn → Kinds → Kinds
-kinds_behind i kinds r = if is_changed i r then Same else kinds r
+kinds_behind i kinds = kinds_after i (result_kind kinds i) kinds
+
+abbrev pub handed : Kind → Kind
+handed (Moved of by) = Nothing
+handed (Address of by) = Nothing
+handed kind = kind
 
 -- at the entry of a function: r1 to r5 are the caller's, r10 is its own frame in both, and the old program has nothing in the others
 abbrev pub kinds_called : Kinds → Kinds
-kinds_called kinds r = if nat_lt 0 r && nat_lt r 6 then kinds r else Same
+kinds_called kinds r = if r == 0 || nat_lt 5 r then Same else handed (kinds r)
 
-abbrev pub is_counter : Kind → Bool
-is_counter (Counter head) = true
-is_counter _ = false
-
--- the register, if there is one, holds the same in both
-abbrev pub IsSame : Kinds → Option Reg → Type 0
-IsSame kinds None = Unit {0}
-IsSame kinds (Some r) = kinds (register_number r) ≡ Same
-
--- these registers hold the same in both
-abbrev pub AreSame : Kinds → List Reg → Type 0
-AreSame kinds rs = AllByRecursion (λ r. kinds (register_number r) ≡ Same) rs
+abbrev pub listed : Kinds → List Kind
+listed kinds = kinds 0 ∷ kinds 1 ∷ kinds 2 ∷ kinds 3 ∷ kinds 4 ∷ kinds 5 ∷ kinds 6 ∷ kinds 7 ∷ kinds 8 ∷ kinds 9 ∷ kinds 10 ∷ []
 
 -- an edge leads to what stands for the slot, with kinds that are enough for it
-pub record Arrives (notes : List (Option Place)) (slot new_slot : ℕ) (kinds : Kinds) : Type 0 where
+pub record Arrives (notes : List (Option Place)) (turns slot new_slot : ℕ) (kinds : Kinds) : Type 0 where
   pub place : Place
   pub noted : place_at notes slot ≡ Some place
   pub slot_is : new_slot ≡ place.first
-  pub gives : (r : ℕ) → r < 11 → Gives (kinds r) (kinds_of place r)
+  pub gives : (r : ℕ) → r < 11 → Gives turns r (kinds r) (kinds_of place r)
 
--- ---- counters are set at the entry of a function, and a turn is taken at the head of a loop
-
-abbrev pub constant_set : Insn → Option (Reg × ℤ)
-constant_set (Alu Mov W64 r (Imm imm)) = Some (r, imm)
-constant_set i = None
-
--- the counter that the instruction sets to no less than the turns
-abbrev pub counter_set : ℕ → Kinds → Insn → Option ℕ
-counter_set turns kinds i = option_and_then (λ c. if nat_le turns (extended c.1) && not (register_number c.0 == 10) && is_counter (kinds (register_number c.0)) then Some (register_number c.0) else None) (constant_set i)
-
-abbrev pub set_at : Instructions → ℕ → Place → ℕ → Option ℕ
-set_at new turns place slot = option_and_then (counter_set turns (kinds_of place)) (insn_at new.list slot)
-
--- a new slot from the entry on, in front of the first one, sets the counter
-abbrev pub IsSetBetween : Instructions → ℕ → Place → ℕ → Type 0
-IsSetBetween new turns place r = (slot : ℕ) × (place.entry ≤ slot) × (slot < place.first) × (set_at new turns place slot ≡ Some r)
-
--- From the entry on all counters are set, and nothing else is done.
-pub record SetsCounters (new : Instructions) (turns : ℕ) (place : Place) : Type 0 where
-  pub before : place.entry ≤ place.first
-  pub few : place.first ≤ place.entry + 11
-  pub nothing_else : (slot : ℕ) → place.entry ≤ slot → slot < place.first → IsSome (set_at new turns place slot)
-  pub each : (r : ℕ) → r < 11 → is_counter (kinds_of place r) ≡ true → IsSetBetween new turns place r
-
--- a call, or the start, leads to the entry
-pub record Enters (notes : List (Option Place)) (new : Instructions) (turns slot new_slot : ℕ) (kinds : Kinds) : Type 0 where
+-- a call, or the start, leads to the entry, behind which extra instructions make of what is given what is wanted
+pub record Enters (notes : List (Option Place)) (new : Instructions) (turns slot new_slot : ℕ) (kinds : List Kind) : Type 0 where
   pub place : Place
   pub noted : place_at notes slot ≡ Some place
   pub slot_is : new_slot ≡ place.entry
-  pub gives : (r : ℕ) → r < 11 → is_counter (kinds_of place r) ≡ false → Gives (kinds r) (kinds_of place r)
-  pub sets_all : SetsCounters new turns place
+  pub made : List Kind
+  pub makes : extras new None place.entry place.first kinds ≡ Some made
+  pub gives : (r : ℕ) → r < 11 → Gives turns r (kind_in made r) (kinds_of place r)
 
--- In front of a head's instruction a jump leads away where no turn is left, and a turn is taken.
-pub record TakesTurn (new : Instructions) (place : Place) (slot : ℕ) (counter : Reg) : Type 0 where
-  pub test : Insn
-  pub tests : insn_at new.list place.first ≡ Some test
-  pub is_test : undirected test ≡ JumpIf Eq W64 counter (Imm (pos 0)) (pos 0)
-  pub takes : insn_at new.list (place.first + 1) ≡ Some (Alu Add W64 counter (Imm (negsuc 0)))
-  pub is_own : kinds_of place (register_number counter) ≡ Counter slot
-  pub not_frame : register_number counter ≢ 10
-
-abbrev pub Turn : Instructions → Place → ℕ → Option Reg → Type 0
-Turn new place slot None = Unit {0}
-Turn new place slot (Some counter) = TakesTurn new place slot counter
-
--- the new slot of the instruction itself
-abbrev pub body : Place → ℕ
-body place = option_map_or (λ counter. place.first + 2) place.counter place.first
-
--- ---- where instructions lead
+-- ---- an instruction
 
 -- the slot to which the instruction at a slot jumps or calls
 abbrev pub led : ℕ → Insn → Option ℕ
 led slot i = option_and_then (target slot) (distance i)
 
--- where the old one leads to a slot the new one leads: a call to the entry
-abbrev pub Reaches : Bool → List (Option Place) → Instructions → ℕ → ℕ → ℕ → Insn → Kinds → Type 0
-Reaches true notes new turns to new_to i kinds = Enters notes new turns to new_to (kinds_called kinds)
-Reaches false notes new turns to new_to i kinds = Arrives notes to new_to (kinds_behind i kinds)
+-- An instruction of the old program at the slot of a place, what stands for it, and what the registers hold in front of both.
+pub record IsSite (new : Instructions) (place : Place) (front : Front) (site : Site) : Type 0 where
+  pub slot_is : site.slot ≡ front.slot
+  pub insn_is : site.insn ≡ front.insn
+  pub at_body : site.new_slot ≡ place.body
+  pub reaches : extras new (Some front) place.first place.body place.kinds ≡ Some site.kinds
+  pub stands : insn_at new.list site.new_slot ≡ Some site.moved
+  pub pairs : Pairs (known site.slot site.kinds) site.insn site.moved
 
 -- the next instruction, where it may follow, stands behind
-abbrev pub Falls : List (Option Place) → ℕ → Place → Insn → Type 0
-Falls notes slot place i = goes_on i ≡ true → Arrives notes (slot + slot_count i) (body place + slot_count i) (kinds_behind i (kinds_of place))
+abbrev pub Falls : List (Option Place) → ℕ → Site → Type 0
+Falls notes turns site = goes_on site.insn ≡ true
+    → Arrives notes turns (site.slot + slot_count site.insn) (site.new_slot + slot_count site.insn) (kinds_behind site.insn (known site.slot site.kinds))
 
-abbrev pub Leads : List (Option Place) → Instructions → ℕ → ℕ → Place → Insn → Insn → Type 0
-Leads notes new turns slot place i moved =
-    (to : ℕ) → led slot i ≡ Some to → (new_to : ℕ) × (led (body place) moved ≡ Some new_to) × Reaches (is_call i) notes new turns to new_to i (kinds_of place)
+-- where the old one leads to a slot the new one leads: a call to the entry
+abbrev pub Reaches : Bool → List (Option Place) → Instructions → ℕ → ℕ → ℕ → Insn → Kinds → Type 0
+Reaches true notes new turns to new_to i kinds = Enters notes new turns to new_to (listed (kinds_called kinds))
+Reaches false notes new turns to new_to i kinds = Arrives notes turns to new_to (kinds_behind i kinds)
 
--- What stands for the old instruction i at a slot: the same one, with other distances; all registers that it reads hold
--- the same in both; and where the old one leads the new one leads.
-pub record Stands (new : Instructions) (notes : List (Option Place)) (turns slot : ℕ) (place : Place) (i : Insn) : Type 0 where
-  pub turn : Turn new place slot place.counter
-  pub moved : Insn
-  pub stands : insn_at new.list (body place) ≡ Some moved
-  pub alike : undirected moved ≡ undirected i
-  pub reads : AreSame (kinds_of place) (registers_read i)
-  pub falls : Falls notes slot place i
-  pub leads : Leads notes new turns slot place i moved
+abbrev pub Leads : List (Option Place) → Instructions → ℕ → Site → Type 0
+Leads notes new turns site =
+    (to : ℕ) → led site.slot site.insn ≡ Some to → (new_to : ℕ) × (led site.new_slot site.moved ≡ Some new_to) × Reaches (is_call site.insn) notes new turns to new_to site.insn (known site.slot site.kinds)
 
--- an instruction of the old program, and where it stands in the new one
-pub record IsSite (new : Instructions) (place : Place) (site : Site) : Type 0 where
-  pub turn : Turn new place site.slot place.counter
-  pub at_is : site.new_slot ≡ body place
-  pub stands : insn_at new.list site.new_slot ≡ Some site.moved
-  pub alike : undirected site.moved ≡ undirected site.insn
+-- what stands for the old instruction at a slot
+pub record Stands (new : Instructions) (notes : List (Option Place)) (turns : ℕ) (place : Place) (front : Front) : Type 0 where
+  pub site : Site
+  pub is_site : IsSite new place front site
+  pub falls : Falls notes turns site
+  pub leads : Leads notes new turns site
 
 -- ---- the notes match
 
 -- at a slot that is noted, where an instruction of the old program begins
-abbrev pub StandsAt : Instructions → Instructions → List (Option Place) → ℕ → ℕ → Type 0
-StandsAt old new notes turns slot = (place : Place) (i : Insn) → place_at notes slot ≡ Some place → insn_at old.list slot ≡ Some i → Stands new notes turns slot place i
+abbrev pub StandsAt : Instructions → Instructions → List (Option Place) → Bounds → ℕ → Type 0
+StandsAt old new notes bounds slot = (place : Place) (i : Insn) → place_at notes slot ≡ Some place → insn_at old.list slot ≡ Some i
+    → Stands new notes bounds.turns place (record { slot = slot; insn = i; length = bounds.length })
 
-abbrev pub start_kinds : Kinds
-start_kinds r = Same
+abbrev pub start_kinds : List Kind
+start_kinds = Same ∷ Start ∷ Same ∷ Same ∷ Same ∷ Same ∷ Same ∷ Same ∷ Same ∷ Same ∷ Same ∷ []
 
-pub record Matches (old new : Instructions) (notes : List (Option Place)) (turns : ℕ) : Type 0 where
+pub record Matches (old new : Instructions) (notes : List (Option Place)) (bounds : Bounds) : Type 0 where
+  pub short : bounds.length < 2 ^ 32
   pub order_is : new.order ≡ old.order
-  pub start : Enters notes new turns 0 0 start_kinds
-  pub each : (slot : ℕ) → StandsAt old new notes turns slot
+  pub start : Enters notes new bounds.turns 0 0 start_kinds
+  pub each : (slot : ℕ) → StandsAt old new notes bounds slot
 
 -- ---- why they don't
 
 -- The byte orders differ; or the start isn't entered; or the slot is the lowest one at which what is noted doesn't hold.
-abbrev pub IsMismatch : Instructions → Instructions → List (Option Place) → ℕ → Mismatch → Type 0
-IsMismatch old new notes turns Order = new.order ≢ old.order
-IsMismatch old new notes turns Start = Enters notes new turns 0 0 start_kinds → ⊥
-IsMismatch old new notes turns (At slot fault) = (StandsAt old new notes turns slot → ⊥) × ((lower : ℕ) → lower < slot → StandsAt old new notes turns lower)
+abbrev pub IsMismatch : Instructions → Instructions → List (Option Place) → Bounds → Mismatch → Type 0
+IsMismatch old new notes bounds Order = new.order ≢ old.order
+IsMismatch old new notes bounds AtStart = Enters notes new bounds.turns 0 0 start_kinds → ⊥
+IsMismatch old new notes bounds (At slot fault) = (StandsAt old new notes bounds slot → ⊥) × ((lower : ℕ) → lower < slot → StandsAt old new notes bounds lower)

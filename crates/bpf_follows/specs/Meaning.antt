@@ -1,8 +1,9 @@
 -- What it means that a new program keeps the meaning of an old one.
-use Rattle.std.specs.Prelude.{ℕ, zero, suc, ◌+◌, ◌≤◌, ◌==◌, Bool, false, List, Option, Some, None, if◌then◌else◌}
+use Rattle.std.specs.Prelude.{◌≡◌, ℕ, zero, suc, ◌+◌, ◌≤◌, ◌==◌, Bool, false, List, length, Option, Some, None, if◌then◌else◌}
 use Rattle.bpf_insn.specs.Instruction.{Instructions}
 use Rattle.bpf_semantics.specs.State.{State, start}
 use Rattle.bpf_semantics.specs.Run.{IsDone, state_after}
+use Rattle.bpf_follows.specs.declared.notes.Bounds.{Bounds}
 
 abbrev pub is_at : ℕ → Option State → Bool
 is_at slot None = false
@@ -18,6 +19,6 @@ pub record EndsInTurns (p : Instructions) (context : List ℕ) (turns v k : ℕ)
   pub done : IsDone p context v k
   pub few : (slot : ℕ) → visits p (start context) k slot ≤ turns
 
--- On each context on which the old program ends so, the new one ends with the same number.
-abbrev pub KeepsMeaning : Instructions → Instructions → ℕ → Type 0
-KeepsMeaning old new turns = (context : List ℕ) (v k : ℕ) → EndsInTurns old context turns v k → (n : ℕ) × IsDone new context v n
+-- On each context of so many bytes on which the old program ends so, the new one ends with the same number.
+abbrev pub KeepsMeaning : Instructions → Instructions → Bounds → Type 0
+KeepsMeaning old new bounds = (context : List ℕ) (v k : ℕ) → length context ≡ bounds.length → EndsInTurns old context bounds.turns v k → (n : ℕ) × IsDone new context v n

@@ -1,24 +1,48 @@
 -- The simulation relation: how a state of the new machine follows one of the old machine.
-use Rattle.std.specs.Prelude.{◌≡◌, ℕ, ◌+◌, ◌^◌, ◌<◌, ◌≤◌, ◌⊎◌, ℤ, List, [], ◌∷◌, length, get_or, Option, Some, None}
-use Rattle.bpf_insn.specs.Arithmetic.{modulo}
+use Rattle.std.specs.Prelude.{◌≡◌, ℕ, ◌+◌, ◌^◌, ◌<◌, ◌≤◌, ◌⊎◌, ◌==◌, nat_le, ◌&&◌, Bool, true, false, ℤ, pos, ◌+ℤ◌, FitsSigned, List, [], ◌∷◌, length, get_or, Option, Some, None, if◌then◌else◌}
+use Rattle.std.specs.Int.{w64}
+use Rattle.std.specs.Ordering.{int_eq}
+use Rattle.bpf_insn.specs.Arithmetic.{modulo, extended}
+use Rattle.bpf_insn.specs.Instruction.{register_number}
 use Rattle.bpf_semantics.specs.State.{StackFrame, State}
+use Rattle.bpf_semantics.specs.Step.{wrapped}
 use Rattle.bpf_semantics.specs.declared.value.Value.{Value}
 use Rattle.bpf_semantics.specs.declared.value.Value.TheVariants.{Number as ANumber, Pointer}
 use Rattle.bpf_semantics.specs.declared.value.Region.TheVariants.{Context}
 use Rattle.bpf_follows.specs.declared.notes.Kind.{Kind}
-use Rattle.bpf_follows.specs.declared.notes.Kind.TheVariants.{Nothing, Same, Number, Offset, Counter}
+use Rattle.bpf_follows.specs.declared.notes.Kind.TheVariants.{Nothing, Same, Number, Offset, Fixed, Start, Base, Moved, Address, Constant, Counter, Turn}
 use Rattle.bpf_follows.specs.declared.notes.Place.{Place}
 
--- what the notes say of r0 to r10 in front of an instruction
+-- what is said of r0 to r10 in front of an instruction
 abbrev pub Kinds : Type 0
 Kinds = ℕ → Kind
 
-abbrev pub kinds_of : Place → Kinds
-kinds_of place r = get_or place.kinds r Nothing
+abbrev pub kind_in : List Kind → Kinds
+kind_in kinds r = get_or kinds r Nothing
 
--- one kind is enough for another
-abbrev pub Gives : Kind → Kind → Type 0
-Gives have want = (want ≡ Nothing) ⊎ (want ≡ have)
+abbrev pub kinds_of : Place → Kinds
+kinds_of place r = kind_in place.kinds r
+
+-- behind what stands in front of the instruction at a slot: there a turn that was taken is the instruction's own
+abbrev pub settled : ℕ → Kind → Kind
+settled slot (Turn head) = if head == slot then Counter head else Turn head
+settled slot kind = kind
+
+abbrev pub known : ℕ → List Kind → Kinds
+known slot kinds r = settled slot (kind_in kinds r)
+
+-- one kind of register r says more than another
+abbrev pub weaker : ℕ → ℕ → Kind → Kind → Bool
+weaker turns r (Fixed offset) Offset = true
+weaker turns r Start Same = true
+weaker turns r Start Base = true
+weaker turns r (Moved of by) Offset = register_number of == r && int_eq by (pos 0)
+weaker turns r (Constant value) (Counter head) = nat_le turns (extended value)
+weaker turns r _ _ = false
+
+-- one kind of register r is enough for another
+abbrev pub Gives : ℕ → ℕ → Kind → Kind → Type 0
+Gives turns r have want = (want ≡ Nothing) ⊎ ((want ≡ have) ⊎ (weaker turns r have want ≡ true))
 
 -- what stands for an old slot
 abbrev pub place_at : List (Option Place) → ℕ → Option Place
@@ -34,14 +58,38 @@ EachPair R [] [] = Unit {0}
 EachPair R (x ∷ xs) (y ∷ ys) = R x y × EachPair R xs ys
 EachPair R _ _ = ⊥
 
--- A register of the old machine and the same one of the new machine, by kind. `passed` says how often the old run has come to each slot
--- so far: a counter has what is left of so many turns, or more.
-abbrev pub FitsKind : ℕ → (ℕ → ℕ) → Kind → Option Value → Option Value → Type 0
-FitsKind turns passed Nothing old new = Unit {0}
-FitsKind turns passed Same old new = IsKept old new
-FitsKind turns passed Number old new = (v : Value) → old ≡ Some v → (x : ℕ) × (v ≡ ANumber x) × (new ≡ Some (ANumber x))
-FitsKind turns passed Offset old new = (v : Value) → old ≡ Some v → (off : ℤ) × (v ≡ Pointer Context off) × (new ≡ Some (ANumber (modulo off (2 ^ 64))))
-FitsKind turns passed (Counter head) old new = (left : ℕ) × (left < 2 ^ 64) × (new ≡ Some (ANumber left)) × (turns ≤ left + passed head)
+-- The old value is a pointer into the context, and the new one is made of its offset, moved: as a number, or as the pointer there.
+pub record HasOffset (by : ℤ) (make : ℤ → Value) (old new : Option Value) : Type 0 where
+  pub offset : ℤ
+  pub fits : FitsSigned w64 offset
+  pub old_is : old ≡ Some (Pointer Context offset)
+  pub new_is : new ≡ Some (make (offset +ℤ by))
+
+abbrev pub as_number : ℤ → Value
+as_number offset = ANumber (modulo offset (2 ^ 64))
+
+abbrev pub as_pointer : ℤ → Value
+as_pointer offset = Pointer Context (wrapped offset)
+
+-- what is left of so many turns, or more
+abbrev pub CountsDown : ℕ → ℕ → Option Value → Type 0
+CountsDown turns spent new = (left : ℕ) × (left < 2 ^ 64) × (new ≡ Some (ANumber left)) × (turns ≤ left + spent)
+
+-- A register of the new machine by its kind, where the old machine has these registers. `passed` says how often the old run has come to
+-- each slot so far.
+abbrev pub FitsKind : ℕ → (ℕ → ℕ) → (ℕ → Option Value) → ℕ → Kind → Option Value → Type 0
+FitsKind turns passed old r Nothing new = Unit {0}
+FitsKind turns passed old r Same new = IsKept (old r) new
+FitsKind turns passed old r Number new = (v : Value) → old r ≡ Some v → (x : ℕ) × (v ≡ ANumber x) × (new ≡ Some (ANumber x))
+FitsKind turns passed old r Offset new = HasOffset (pos 0) as_number (old r) new
+FitsKind turns passed old r (Fixed offset) new = FitsSigned w64 offset × (old r ≡ Some (Pointer Context offset)) × (new ≡ Some (as_number offset))
+FitsKind turns passed old r Start new = (old r ≡ Some (Pointer Context (pos 0))) × (new ≡ Some (Pointer Context (pos 0)))
+FitsKind turns passed old r Base new = new ≡ Some (Pointer Context (pos 0))
+FitsKind turns passed old r (Moved of by) new = HasOffset by as_number (old (register_number of)) new
+FitsKind turns passed old r (Address of by) new = HasOffset by as_pointer (old (register_number of)) new
+FitsKind turns passed old r (Constant value) new = new ≡ Some (ANumber (extended value))
+FitsKind turns passed old r (Counter head) new = CountsDown turns (passed head) new
+FitsKind turns passed old r (Turn head) new = CountsDown turns (passed head + 1) new
 
 abbrev pub register_in : StackFrame → ℕ → Option Value
 register_in frame r = get_or frame.registers r None
@@ -50,7 +98,7 @@ register_in frame r = get_or frame.registers r None
 pub record FrameFits (turns : ℕ) (passed : ℕ → ℕ) (kinds : Kinds) (old new : StackFrame) : Type 0 where
   pub eleven_old : length old.registers ≡ 11
   pub eleven : length new.registers ≡ 11
-  pub registers : (r : ℕ) → r < 11 → FitsKind turns passed (kinds r) (register_in old r) (register_in new r)
+  pub registers : (r : ℕ) → r < 11 → FitsKind turns passed (register_in old) r (kinds r) (register_in new r)
   pub stack : EachPair IsKept old.stack new.stack
 
 -- and the new frame goes on where the notes say
@@ -60,10 +108,17 @@ pub record FrameFollows (notes : List (Option Place)) (turns : ℕ) (passed : �
   pub slot_is : new.slot ≡ place.first
   pub fits : FrameFits turns passed (kinds_of place) old new
 
+-- it is said of a register by another register's value
+abbrev pub is_of_other : Kind → Bool
+is_of_other (Moved of by) = true
+is_of_other (Address of by) = true
+is_of_other _ = false
+
 -- A frame that waits for a call. What the call gives it, and what it loses by it, is the same in both.
 pub record FrameWaits (notes : List (Option Place)) (turns : ℕ) (passed : ℕ → ℕ) (old new : StackFrame) : Type 0 where
   pub follows : FrameFollows notes turns passed old new
-  pub result : (r : ℕ) → r < 6 → Gives Same (kinds_of follows.place r)
+  pub result : (r : ℕ) → r < 6 → Gives turns r Same (kinds_of follows.place r)
+  pub own : (r : ℕ) → r < 11 → is_of_other (kinds_of follows.place r) ≡ false
 
 -- The new state follows the old one: as many frames are live, each follows, and the context is the same.
 pub record Follows (notes : List (Option Place)) (turns : ℕ) (passed : ℕ → ℕ) (old new : State) : Type 0 where

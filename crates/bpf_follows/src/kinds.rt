@@ -1,14 +1,14 @@
-//! What registers hold along an edge.
+//! What registers hold in front of an instruction, and behind it.
 
-ghost use Rattle.std.specs.Prelude.{◌≡◌, ◌<◌, ◌↔◌, ℕ, IsTrue, true, false, List, Option, option_copied};
-ghost use Rattle.std.specs.List.{filter_map};
-ghost use Rattle.bpf_insn.specs.Effects.{registers_read};
+ghost use Rattle.std.specs.Prelude.{◌≡◌, ◌<◌, ◌==◌, ◌↔◌, IsTrue, option_copied};
 ghost use Rattle.bpf_insn.specs.Instruction.{register_number};
-ghost use Rattle.bpf_follows.specs.Relation.{kinds_of, place_at, Gives};
-ghost use Rattle.bpf_follows.specs.Matching.{IsSame, AreSame, is_call, is_changed, is_counter, kinds_behind, kinds_called, undirected};
+ghost use Rattle.bpf_follows.specs.Relation.{kind_in, place_at, weaker, Gives, known};
+ghost use Rattle.bpf_follows.specs.Matching.{is_call, is_changed, held, kinds_behind, kinds_called, listed};
 
 use crate::notes::{Kind, Place};
-use bpf_insn::{Insn, Reg};
+use crate::pairs::result_kind;
+use crate::site::Site;
+use bpf_insn::{Insn, Reg, extended};
 
 /// How many registers there are.
 pub const REGISTERS: u8 = 11;
@@ -23,27 +23,49 @@ pub fn place_at(notes: &[Option<Place>], slot: u32) -> Option<&Place>
     }
 }
 
-/// What the notes say of a register.
-pub fn kind_of(place: &Place, r: u8) -> Kind
+/// What is said of a register by its number.
+pub fn kind_of(kinds: &[Kind; 11], r: u8) -> Kind
     requires { r < 11 }
-    ensures { result ≡ kinds_of place.now r }
+    ensures { result ≡ kind_in kinds.now r }
 {
-    place.kinds[usize::from(r)]
+    kinds[usize::from(r)]
 }
 
-/// Whether one kind is enough for another.
-pub fn gives(have: Kind, want: Kind) -> bool
-    ensures { IsTrue result ↔ Gives have want }
+/// What is said of a register.
+pub fn kind_in(kinds: &[Kind; 11], r: Reg) -> Kind
+    ensures { result ≡ kind_in kinds.now (register_number r) }
 {
-    want == Kind::Nothing || want == have
+    kinds[usize::from(r as u8)]
 }
 
-/// Whether the kind is a counter's.
-pub fn is_counter(kind: Kind) -> bool
-    ensures { result ≡ is_counter kind }
+/// Whether two registers are the same.
+pub fn is_register(a: Reg, b: Reg) -> bool
+    ensures { result ≡ (register_number a == register_number b) }
 {
-    matches!(kind, Kind::Counter { .. })
+    a as u8 == b as u8
 }
+
+/// Whether one kind of the register says more than another.
+fn weaker(turns: u32, r: u8, have: Kind, want: Kind) -> bool
+    ensures { result ≡ weaker turns r have want }
+{
+    match (have, want) {
+        (Kind::Fixed { .. }, Kind::Offset) => true,
+        (Kind::Start, Kind::Same | Kind::Base) => true,
+        (Kind::Moved { of, by }, Kind::Offset) => of as u8 == r && by == 0,
+        (Kind::Constant { value }, Kind::Counter { .. }) => u64::from(turns) <= extended(value),
+        _ => false,
+    }
+}
+
+/// Whether one kind of the register is enough for another.
+pub fn gives(turns: u32, r: u8, have: Kind, want: Kind) -> bool
+    ensures { IsTrue result ↔ Gives turns r have want }
+{
+    want == Kind::Nothing || want == have || weaker(turns, r, have, want)
+}
+
+// ---- behind an instruction
 
 /// Whether the instruction is a call.
 pub fn is_call(insn: &Insn) -> bool
@@ -65,81 +87,81 @@ fn is_changed(insn: &Insn, r: u8) -> bool
     }
 }
 
-/// What a register holds behind the instruction.
-pub fn kind_behind(insn: &Insn, place: &Place, r: u8) -> Kind
-    requires { r < 11 }
-    ensures { result ≡ kinds_behind insn.now (kinds_of place.now) r }
+/// What is left of what was said of a register, where one of the old program is changed.
+fn held(insn: &Insn, kind: Kind) -> Kind
+    ensures { result ≡ held insn.now kind }
 {
-    if is_changed(insn, r) {
-        Kind::Same
+    match kind {
+        Kind::Moved { of, .. } | Kind::Address { of, .. } => {
+            if is_call(insn) || is_changed(insn, of as u8) {
+                Kind::Nothing
+            } else {
+                kind
+            }
+        }
+        _ => kind,
+    }
+}
+
+/// What a register holds in front of the instruction itself, by the register's number.
+pub fn known(site: &Site, r: u8) -> Kind
+    requires { r < 11 }
+    ensures { result ≡ known site.now.slot site.now.kinds r }
+{
+    match kind_of(&site.kinds, r) {
+        Kind::Turn { head } if head == site.slot => Kind::Counter { head },
+        kind => kind,
+    }
+}
+
+/// What a register holds in front of the instruction itself.
+pub fn known_in(site: &Site, r: Reg) -> Kind
+    ensures { result ≡ known site.now.slot site.now.kinds (register_number r) }
+{
+    known(site, r as u8)
+}
+
+/// What a register holds behind the instruction.
+pub fn kind_behind(site: &Site, r: u8) -> Kind
+    requires { r < 11 }
+    ensures { result ≡ kinds_behind site.now.insn (known site.now.slot site.now.kinds) r }
+{
+    if is_changed(&site.insn, r) {
+        result_kind(site)
     } else {
-        kind_of(place, r)
+        held(&site.insn, known(site, r))
     }
 }
 
 /// What a register holds at the entry of a function that is called.
-pub fn kind_called(place: &Place, r: u8) -> Kind
+fn kind_called(site: &Site, r: u8) -> Kind
     requires { r < 11 }
-    ensures { result ≡ kinds_called (kinds_of place.now) r }
+    ensures { result ≡ kinds_called (known site.now.slot site.now.kinds) r }
 {
-    if 0 < r && r < 6 {
-        kind_of(place, r)
-    } else {
-        Kind::Same
+    if r == 0 || r > 5 {
+        return Kind::Same;
+    }
+    match known(site, r) {
+        Kind::Moved { .. } | Kind::Address { .. } => Kind::Nothing,
+        kind => kind,
     }
 }
 
-/// The instruction with a distance of 0, if it jumps or calls.
-pub fn undirected(insn: Insn) -> Insn
-    ensures { result ≡ undirected insn }
+/// What r0 to r10 hold at the entry of a function that is called.
+pub fn all_called(site: &Site) -> [Kind; 11]
+    ensures { result ≡ listed (kinds_called (known site.now.slot site.now.kinds)) }
 {
-    match insn {
-        Insn::Ja { off: _off } => Insn::Ja { off: 0 },
-        Insn::JaLong { off: _off } => Insn::JaLong { off: 0 },
-        Insn::JumpIf {
-            cond,
-            width,
-            dst,
-            src,
-            off: _off,
-        } => Insn::JumpIf {
-            cond,
-            width,
-            dst,
-            src,
-            off: 0,
-        },
-        Insn::CallLocal { off: _off } => Insn::CallLocal { off: 0 },
-        other => other,
-    }
-}
-
-/// Whether the register that is read, if one is, holds the same.
-fn is_same(place: &Place, read: Option<Reg>) -> bool
-    ensures { IsTrue result ↔ IsSame (kinds_of place.now) read }
-{
-    match read {
-        Some(r) => kind_of(place, r as u8) == Kind::Same,
-        None => true,
-    }
-}
-
-/// Whether all registers that are read hold the same.
-fn all_same(place: &Place, reads: &[Option<Reg>]) -> bool
-    ensures { IsTrue result ↔ AreSame (kinds_of place.now) (filter_map (λ r. r) reads.now) }
-{
-    for i in 0..reads.len() {
-        if !is_same(place, reads[i]) {
-            return false;
-        }
-    }
-    true
-}
-
-/// Whether all registers that the instruction reads hold the same.
-pub fn reads_same(insn: &Insn, place: &Place) -> bool
-    ensures { IsTrue result ↔ AreSame (kinds_of place.now) (registers_read insn.now) }
-{
-    let reads = insn.registers_read();
-    all_same(place, &reads)
+    [
+        kind_called(site, 0),
+        kind_called(site, 1),
+        kind_called(site, 2),
+        kind_called(site, 3),
+        kind_called(site, 4),
+        kind_called(site, 5),
+        kind_called(site, 6),
+        kind_called(site, 7),
+        kind_called(site, 8),
+        kind_called(site, 9),
+        kind_called(site, 10),
+    ]
 }

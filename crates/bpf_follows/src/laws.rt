@@ -2,12 +2,13 @@
 
 ghost use Rattle.bpf_follows.specs.Laws.{MatchingKeepsMeaning};
 
-use bpf_semantics::steps_are_computed;
+use bpf_semantics::{step_keeps_context, steps_are_computed};
 
-/// Where notes match, the new program ends with the old one's number, on each context on which the old one ends and comes to no slot
-/// more often than the counters allow.
+/// Where notes match, the new program ends with the old one's number, on each context of so many bytes on which the old one ends and
+/// comes to no slot more often than the counters allow.
 pub fn matching_keeps_meaning()
     ensures { MatchingKeepsMeaning }
 {
     steps_are_computed();
+    step_keeps_context();
 }

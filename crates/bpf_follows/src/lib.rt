@@ -2,14 +2,17 @@
 #![tactic(auto)]
 
 mod edges;
+mod extras;
 mod kinds;
 mod laws;
 pub mod mismatch;
 pub mod notes;
+mod pairs;
 mod pass;
+pub mod site;
 pub mod stands;
 
 pub use laws::matching_keeps_meaning;
 pub use mismatch::{Fault, Mismatch};
-pub use notes::{Kind, Place};
+pub use notes::{Bounds, Kind, Place};
 pub use pass::follows;

@@ -1,20 +1,20 @@
 //! Why it isn't shown that a program keeps the meaning of another one.
 
 ghost use Rattle.std.specs.Prelude.{◌≡◌};
-ghost use Rattle.bpf_follows.specs.MismatchNumbers.{fault_number, mismatch_number};
+ghost use Rattle.bpf_follows.specs.MismatchNumbers.{fault_number, mismatch_number, mismatch_slot};
 
 /// What fails at a slot of the old program.
 #[derive(Clone, Copy, Debug, PartialEq, Eq)]
 pub enum Fault {
-    /// No turn is taken in front of the instruction, as the notes say it is.
-    Turn,
+    /// What stands in front of the instruction isn't known, or does something else than the notes say.
+    Front,
     /// Another instruction stands there.
     Insn,
-    /// It reads a register of which the notes don't say that it holds the same.
+    /// It reads a register of which it isn't known that it holds the same, or an offset that is used as one.
     Read,
     /// The next instruction doesn't stand behind it, or the notes ask more there than they give here.
     Next,
-    /// It leads elsewhere, or the notes ask more there than they give here; or a function that is called doesn't set its counters.
+    /// It leads elsewhere, or the notes ask more there than they give here; or what stands at the entry of a function that is called isn't known.
     Target,
 }
 
@@ -23,7 +23,7 @@ pub enum Fault {
 pub enum Mismatch {
     /// The byte orders differ.
     Order,
-    /// The new program doesn't begin with what stands for the start, or doesn't set its counters.
+    /// The new program doesn't begin with what stands for the start, or what stands in front of that isn't known.
     Start,
     /// The notes fail at a slot of the old program.
     At { slot: u32, fault: Fault },
@@ -35,7 +35,7 @@ impl Fault {
         ensures { result ≡ fault_number self }
     {
         match self {
-            Fault::Turn => 3,
+            Fault::Front => 3,
             Fault::Insn => 4,
             Fault::Read => 5,
             Fault::Next => 6,
@@ -53,6 +53,16 @@ impl Mismatch {
             Mismatch::Order => 1,
             Mismatch::Start => 2,
             Mismatch::At { fault, .. } => fault.number(),
+        }
+    }
+
+    /// The old slot at which it fails; 0 for the orders and the start.
+    pub fn slot(self) -> u32
+        ensures { result ≡ mismatch_slot self }
+    {
+        match self {
+            Mismatch::Order | Mismatch::Start => 0,
+            Mismatch::At { slot, .. } => slot,
         }
     }
 }

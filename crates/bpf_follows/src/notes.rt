@@ -2,30 +2,52 @@
 
 use bpf_insn::Reg;
 
-/// What the new program has in a register, where the old one has a value in it.
+/// What the new program has in a register in front of an old instruction. Where a kind names a register, that is one of the old program.
 #[derive(Clone, Copy, PartialEq)]
 pub enum Kind {
     /// Nothing is said.
     Nothing,
-    /// The same value.
+    /// The same value, if the old program has one there.
     Same,
-    /// The same number; the old program has no pointer there.
+    /// The same number, if the old program has a value there; it has no pointer there.
     Number,
-    /// The offset, modulo 2^64, of the old program's pointer into the context.
+    /// The offset, modulo 2^64, of the pointer into the context that the old program has there.
     Offset,
+    /// The same, and the offset is always this one.
+    Fixed { offset: i32 },
+    /// The pointer to the context's first byte, as the old program.
+    Start,
+    /// The pointer to the context's first byte. Of the old program nothing is said.
+    Base,
+    /// The offset of the pointer into the context that the old program has in a register, moved, modulo 2^64.
+    Moved { of: Reg, by: i32 },
+    /// The pointer into the context at that offset.
+    Address { of: Reg, by: i32 },
+    /// A constant, with its sign extended. Of the old program nothing is said.
+    Constant { value: i32 },
     /// The turns that are left to the loop whose head is the old instruction at a slot. Of the old program nothing is said.
     Counter { head: u32 },
+    /// The same, behind the taking of a turn for the head's instruction, which isn't done yet.
+    Turn { head: u32 },
 }
 
 /// What stands in the new program for the instruction at a slot of the old one.
 #[derive(Clone, Copy)]
 pub struct Place {
-    /// The new slot to which calls lead, if it is a function's first instruction: the counters are set from there on.
+    /// The new slot to which calls lead, if it is a function's first instruction: from there on the context's start is put away and
+    /// counters are set.
     pub entry: u32,
-    /// The new slot to which all else leads.
+    /// The new slot to which all else leads: from there on turns are taken, guards stand and addresses are made.
     pub first: u32,
-    /// The register from which a turn is taken in front of the instruction, if it is a loop's head.
-    pub counter: Option<Reg>,
-    /// What r0 to r10 hold in front of the instruction.
+    /// The new slot of the instruction itself.
+    pub body: u32,
+    /// What r0 to r10 hold in front of all that.
     pub kinds: [Kind; 11],
+}
+
+/// How many bytes a context has, and how often a run comes to a slot at most.
+#[derive(Clone, Copy)]
+pub struct Bounds {
+    pub length: u32,
+    pub turns: u32,
 }

@@ -8,7 +8,7 @@ ghost use Rattle.bpf_follows.specs.Matching.{StandsAt, Matches, IsMismatch};
 use crate::edges::starts;
 use crate::laws::matching_keeps_meaning;
 use crate::mismatch::Mismatch;
-use crate::notes::Place;
+use crate::notes::{Bounds, Place};
 use crate::stands::stands_at;
 use bpf_insn::{Code, Order};
 
@@ -17,13 +17,13 @@ fn all_stand<O: Code, N: Code>(
     old: &O,
     new: &N,
     notes: &[Option<Place>],
-    turns: u32,
+    bounds: Bounds,
 ) -> Result<(), Mismatch>
-    ensures exact { IsOk result ↔ ((slot : ℕ) → StandsAt (O.program old.now) (N.program new.now) notes.now turns slot) }
-    ensures err { IfErr result (IsMismatch (O.program old.now) (N.program new.now) notes.now turns) }
+    ensures exact { IsOk result ↔ ((slot : ℕ) → StandsAt (O.program old.now) (N.program new.now) notes.now bounds slot) }
+    ensures err { IfErr result (IsMismatch (O.program old.now) (N.program new.now) notes.now bounds) }
 {
     for slot in 0..old.slots() {
-        match stands_at(old, new, notes, turns, slot) {
+        match stands_at(old, new, notes, bounds, slot) {
             Ok(()) => {}
             Err(fault) => return Err(Mismatch::At { slot, fault }),
         }
@@ -43,33 +43,33 @@ fn matches<O: Code, N: Code>(
     old: &O,
     new: &N,
     notes: &[Option<Place>],
-    turns: u32,
+    bounds: Bounds,
 ) -> Result<(), Mismatch>
-    ensures exact { IsOk result ↔ Matches (O.program old.now) (N.program new.now) notes.now turns }
-    ensures err { IfErr result (IsMismatch (O.program old.now) (N.program new.now) notes.now turns) }
+    ensures exact { IsOk result ↔ Matches (O.program old.now) (N.program new.now) notes.now bounds }
+    ensures err { IfErr result (IsMismatch (O.program old.now) (N.program new.now) notes.now bounds) }
 {
     if !same_order(new.order(), old.order()) {
         return Err(Mismatch::Order);
     }
-    if !starts(new, notes, turns) {
+    if !starts(new, notes, bounds.turns) {
         return Err(Mismatch::Start);
     }
-    all_stand(old, new, notes, turns)
+    all_stand(old, new, notes, bounds)
 }
 
-/// Whether the new program is shown to keep the meaning of the old one: on every context on which the old one ends with a
-/// number and comes to no slot more than `turns` times, the new one ends with that number. The notes, one for each slot of the old
+/// Whether the new program is shown to keep the meaning of the old one: on every context of so many bytes on which the old one ends with a
+/// number and comes to no slot more than `bounds.turns` times, the new one ends with that number. The notes, one for each slot of the old
 /// program that is kept, are looked at and not trusted. It takes one pass. Else it is told what fails first.
 pub fn follows<O: Code, N: Code>(
     old: &O,
     new: &N,
     notes: &[Option<Place>],
-    turns: u32,
+    bounds: Bounds,
 ) -> Result<(), Mismatch>
-    ensures keeps { IsOk result → KeepsMeaning (O.program old.now) (N.program new.now) turns }
-    ensures exact { IsOk result ↔ Matches (O.program old.now) (N.program new.now) notes.now turns }
-    ensures err { IfErr result (IsMismatch (O.program old.now) (N.program new.now) notes.now turns) }
+    ensures keeps { IsOk result → KeepsMeaning (O.program old.now) (N.program new.now) bounds }
+    ensures exact { IsOk result ↔ Matches (O.program old.now) (N.program new.now) notes.now bounds }
+    ensures err { IfErr result (IsMismatch (O.program old.now) (N.program new.now) notes.now bounds) }
 {
     matching_keeps_meaning();
-    matches(old, new, notes, turns)
+    matches(old, new, notes, bounds)
 }

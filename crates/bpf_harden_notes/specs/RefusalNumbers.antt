@@ -1,5 +1,5 @@
--- The numbers of refusals, and the slots that they name.
-use Rattle.std.specs.Prelude.{ℕ, ◌-◌, min}
+-- The numbers of refusals, what is told of them, and the slots that they name.
+use Rattle.std.specs.Prelude.{ℕ, ◌-◌, min, List, [], ◌∷◌, codes}
 use Rattle.bpf_harden_notes.specs.declared.error.HardenError.{HardenError}
 use Rattle.bpf_harden_notes.specs.declared.error.HardenError.TheVariants.{FramePointer, MixedKinds, FullFrame, TooLong, Recursion, FiveArguments, Fault, NoBudget, FarJump, Unstable, ShortBlock, Memory}
 
@@ -16,6 +16,24 @@ harden_number (FarJump slot) = 9
 harden_number (Unstable slot) = 10
 harden_number ShortBlock = 11
 harden_number Memory = 12
+
+-- what is told of H1 to H12, by their numbers and without the slots; there is no number 0
+abbrev pub harden_texts : List (List ℕ)
+harden_texts =
+    [] ∷
+    codes "access by an argument that may be a frame pointer" ∷
+    codes "instruction reads what isn't of the same kind on each way" ∷
+    codes "no room in the registers and the frame of the function" ∷
+    codes "the hardened program would have more than 65,536 slots" ∷
+    codes "recursion by the call" ∷
+    codes "no argument left for the context in the function" ∷
+    codes "instruction can't be hardened" ∷
+    codes "no budget for the label" ∷
+    codes "the jump would lead too far" ∷
+    codes "states of the function aren't stable" ∷
+    codes "a block has at least the eight bytes of its length" ∷
+    codes "out of memory" ∷
+    []
 
 abbrev pub harden_slot : HardenError → ℕ
 harden_slot (FramePointer slot) = slot

@@ -3,18 +3,13 @@
 use crate::old::Old;
 use crate::plan::Plan;
 use crate::registers::{BY_CHOICE, Registers};
-use crate::uses::Uses;
+use crate::uses::{FRAME_SLOTS, Uses};
 use bpf_harden_notes::HardenError;
 use bpf_infer_base::{Flow, get_or, put};
-use bpf_insn::Reg;
+use bpf_insn::{FRAME_BYTES, Reg};
 use bpf_num::Num;
 use bpf_state::Place;
 use std::alloc::{AllocError, Global};
-
-/// How many bytes a frame has, and how many slots of eight.
-const FRAME_BYTES: u32 = 512;
-
-const FRAME_SLOTS: u32 = 64;
 
 /// How many instructions from a loop's head on its counter may stand.
 const FARTHEST: u32 = 16;
@@ -100,7 +95,7 @@ impl Space {
     /// How many bytes of the frame are the function's own.
     fn frame(&self) -> u32 {
         if self.uses.is_wild {
-            FRAME_BYTES.saturating_sub(self.slots.saturating_mul(8))
+            (FRAME_BYTES as u32).saturating_sub(self.slots.saturating_mul(8))
         } else {
             self.uses.depth
         }

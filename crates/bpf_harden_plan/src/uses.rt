@@ -1,8 +1,11 @@
 //! What the functions of a program use.
 
 use crate::registers::Registers;
-use bpf_insn::{Access, Insn};
+use bpf_insn::{Access, FRAME_BYTES, Insn};
 use bpf_state::{FRAME_START, RegState};
+
+/// How many slots of eight bytes a frame has.
+pub const FRAME_SLOTS: u32 = FRAME_BYTES as u32 / 8;
 
 /// What a function uses by itself.
 #[derive(Clone, Copy)]
@@ -66,8 +69,8 @@ impl Uses {
 
     /// The byte of the frame at an offset is used.
     fn deepen(&mut self, offset: i64) {
-        let below = 0i64.saturating_sub(offset).max(0).min(512);
-        let slots = u32::try_from(below.saturating_add(7) >> 3).unwrap_or(64);
-        self.depth = self.depth.max(slots.min(64) * 8);
+        let below = 0i64.saturating_sub(offset).max(0).min(FRAME_BYTES as i64);
+        let slots = u32::try_from(below.saturating_add(7) >> 3).unwrap_or(FRAME_SLOTS);
+        self.depth = self.depth.max(slots.min(FRAME_SLOTS) * 8);
     }
 }

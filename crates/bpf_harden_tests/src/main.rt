@@ -90,7 +90,7 @@ impl Pair {
             padded: false,
             everywhere: true,
         };
-        match harden(alloc, &old, case.length.min(4096), &options) {
+        match harden(alloc, &old, case.length.min(MAX_CONTEXT as u32), &options) {
             Ok(hardened) => Ok(Pair {
                 old,
                 new: hardened.program,

@@ -1,9 +1,9 @@
 //! Old instructions with a field changed.
 
-use bpf_insn::{Insn, Operand, Reg, Size, Width};
+use bpf_insn::{FRAME_BYTES, Insn, Operand, Reg, Size, Width};
 
 /// The offset that stands for the frame pointer: offsets into a frame go from 0 to this.
-pub const FRAME_END: i32 = 512;
+pub const FRAME_END: i32 = FRAME_BYTES as i32;
 
 /// An access by another base.
 pub fn with_base(insn: &Insn, base: Reg, off: i16) -> Insn {

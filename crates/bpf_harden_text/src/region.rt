@@ -1,11 +1,11 @@
 //! The regions of memory that accesses by offsets go to.
 
 use bpf_harden_plan::{Kind, Plan, Room};
-use bpf_insn::Reg;
+use bpf_insn::{FRAME_BYTES, Reg};
 use bpf_state::Place;
 
 /// The offset that stands for a frame's end.
-const FRAME_END: i64 = 512;
+const FRAME_END: i64 = FRAME_BYTES as i64;
 
 /// What an access by an offset goes to.
 #[derive(Clone, Copy)]
@@ -34,7 +34,7 @@ impl Region {
                 })
             }
             Kind::Frame if plan.frames => {
-                let depth = i64::from(room.frame.min(512));
+                let depth = i64::from(room.frame).min(FRAME_END);
                 Some(Region {
                     start: FRAME_END.saturating_sub(depth),
                     bytes: depth,

@@ -1,5 +1,5 @@
 -- How an image is judged, from what its parts tell.
-use Rattle.std.proofs.Common.{◌≡◌, ℕ, List, Option, Some, None, IfSome, sym, ap, subst, inr}
+use Rattle.std.proofs.Common.{◌≡◌, ℕ, List, Option, Some, None, IfSome, IfNone, sym, ap, subst, inr}
 use Rattle.bpf_insn.specs.Instruction.{Instructions}
 use Rattle.bpf_insn.specs.Image.{IsImage, IsProgram}
 use Rattle.bpf_insn.specs.Laws.{IsImageOfProgram}
@@ -71,3 +71,8 @@ by_found order image p c least most (Refused told) im same program low high by =
       flaw = subst (λ q. IsLeastFlaw q c (refusal_slot by.0) (refusal_number by.0)) (in_order order p same) by.1;
       tells = by.2;
     })
+
+-- a certificate is judged as the checker's refusal is told
+pub by_refusal : (p : Instructions) (c : CertificateView) (o : Option Refusal) (j : Judged) → IfNone o (IsCertifiedBy p c) → IfSome o (λ r. IsLeastFlaw p c (refusal_slot r) (refusal_number r)) → IfNone o (j ≡ Accepted) → IfSome o (λ r. (told : BpfRefusal) × (j ≡ Refused told) × TellsCheck r told) → IsJudgedBy p c j
+by_refusal p c None j certifies flaw accepted refused = subst (λ k. IsJudgedBy p c k) (sym accepted) certifies.certified
+by_refusal p c (Some r) j certifies flaw accepted refused = subst (λ k. IsJudgedBy p c k) (sym refused.1) (r, flaw, refused.2)

@@ -1,12 +1,16 @@
--- What the refusals and faults say, by their numbers: the texts of the crates' own errors, without the slot or the line, which stand apart.
-use Rattle.std.specs.Prelude.{◌==◌, if◌then◌else◌, ℕ, zero, suc, List, [], ◌∷◌, codes}
+-- What the refusals and faults say, by their numbers: the texts of the crates' own errors, without the slot or the line, which stand apart. There
+-- is no number 0.
+use Rattle.std.specs.Prelude.{◌==◌, if◌then◌else◌, ℕ, List, [], ◌∷◌, codes, get_or}
 use Rattle.bpf_state.specs.declared.fault.StateFault.TheVariants.{UnsetRegister, WrongKinds, OutOfBounds, UnsetByte, Protected}
 use Rattle.bpf_state.specs.declared.condition.Condition.TheVariants.{NoLabel, MisplacedLabel, State, NotEntailed, OverBudget, NoDeeper, FallsOff, LeavesFunction, Misshapen}
 use Rattle.bpf_state.specs.Condition.{condition_text}
+use Rattle.bpf_infer_error.specs.RefusalNumbers.{infer_texts}
+use Rattle.bpf_harden_notes.specs.RefusalNumbers.{harden_texts}
 
 -- E1 to E10: an image
 abbrev pub image_texts : List (List ℕ)
 image_texts =
+    [] ∷
     codes "length is zero, no multiple of 8, or above 524,288 bytes" ∷
     codes "unknown opcode" ∷
     codes "register above r10" ∷
@@ -22,6 +26,7 @@ image_texts =
 -- K1 to K5: a certificate
 abbrev pub certificate_texts : List (List ℕ)
 certificate_texts =
+    [] ∷
     codes "the line has no form of a certificate's lines" ∷
     codes "the line is not canonical" ∷
     codes "the line goes past a limit" ∷
@@ -32,6 +37,7 @@ certificate_texts =
 -- C1 to C13: a program by its certificate
 abbrev pub check_texts : List (List ℕ)
 check_texts =
+    [] ∷
     condition_text NoLabel ∷
     condition_text MisplacedLabel ∷
     condition_text (State UnsetRegister) ∷
@@ -47,36 +53,10 @@ check_texts =
     condition_text Misshapen ∷
     []
 
--- I1 to I5: an inference
-abbrev pub inference_texts : List (List ℕ)
-inference_texts =
-    codes "states of the function aren't stable" ∷
-    codes "no budget for the label" ∷
-    codes "recursion by the call" ∷
-    codes "the checker would refuse the instruction" ∷
-    codes "out of memory" ∷
-    []
-
--- H1 to H12: a hardening
-abbrev pub hardening_texts : List (List ℕ)
-hardening_texts =
-    codes "access by an argument that may be a frame pointer" ∷
-    codes "instruction reads what isn't of the same kind on each way" ∷
-    codes "no room in the registers and the frame of the function" ∷
-    codes "the hardened program would have more than 65,536 slots" ∷
-    codes "recursion by the call" ∷
-    codes "no argument left for the context in the function" ∷
-    codes "instruction can't be hardened" ∷
-    codes "no budget for the label" ∷
-    codes "the jump would lead too far" ∷
-    codes "states of the function aren't stable" ∷
-    codes "a block has at least the eight bytes of its length" ∷
-    codes "out of memory" ∷
-    []
-
 -- F1 to F9: a run
 abbrev pub fault_texts : List (List ℕ)
 fault_texts =
+    [] ∷
     codes "an uninitialised register is read" ∷
     codes "an uninitialised byte of a frame is read" ∷
     codes "the access isn't wholly inside the context or a live frame" ∷
@@ -88,18 +68,11 @@ fault_texts =
     codes "r0 is a pointer at the exit" ∷
     []
 
--- the text with a number, the first being 1; none is empty
-abbrev pub text_in : List (List ℕ) → ℕ → List ℕ
-text_in [] number = []
-text_in (text ∷ texts) zero = []
-text_in (text ∷ texts) (suc zero) = text
-text_in (text ∷ texts) (suc (suc n)) = text_in texts (suc n)
-
 -- the kind is the letter C, E, F, H, I or K; nothing where there is no such refusal
 abbrev pub texts_of : ℕ → List (List ℕ)
 texts_of kind =
-    if kind == 67 then check_texts else if kind == 69 then image_texts else if kind == 70 then fault_texts else if kind == 72 then hardening_texts
-    else if kind == 73 then inference_texts else if kind == 75 then certificate_texts else []
+    if kind == 67 then check_texts else if kind == 69 then image_texts else if kind == 70 then fault_texts else if kind == 72 then harden_texts
+    else if kind == 73 then infer_texts else if kind == 75 then certificate_texts else []
 
 abbrev pub refusal_text : (kind number : ℕ) → List ℕ
-refusal_text kind number = text_in (texts_of kind) number
+refusal_text kind number = get_or (texts_of kind) number []

@@ -5,19 +5,23 @@ ghost use Rattle.bpf_insn.specs.Instruction.{slots};
 ghost use Rattle.bpf_insn.specs.Limits.{max_context};
 ghost use Rattle.bpf_insn.specs.Refusal.{IsRefused};
 ghost use Rattle.bpf_cert.specs.ReadAnswers.{IsFromOutside};
+ghost use Rattle.bpf_safety.specs.Certified.{IsLeastFlaw};
+ghost use Rattle.bpf_check.specs.CheckedProgram.{IsCertifiedBy};
+ghost use Rattle.bpf_check.specs.RefusalNumbers.{refusal_number, refusal_slot};
 ghost use Rattle.bpf_infer_error.specs.RefusalNumbers.{infer_slot};
-ghost use Rattle.bpf_host.specs.Told.{TellsCertificate};
-ghost use Rattle.bpf_host.specs.Explained.{IsReadAs, IsCheckedAs, IsSearchedAs, IsRefusedImage, IsJudgedBy};
+ghost use Rattle.bpf_host.specs.Told.{TellsCertificate, TellsCheck};
+ghost use Rattle.bpf_host.specs.Explained.{IsReadAs, IsCheckedAs, IsSearchedAs, IsRefusedImage};
 ghost use Rattle.bpf_host.specs.declared.answers.BpfRefusal.{BpfRefusal as Told};
 ghost use Rattle.bpf_host.specs.declared.explanation.Judged.TheVariants.{Accepted, Refused};
 
 use crate::answers::{BpfRefusal, of_check, of_image, of_inference, of_verify};
 use crate::proposal::Wanted;
-use bpf_cert::{CertError, Certificate, read};
-use bpf_check::{VerifyError, check};
-use bpf_explain::{Shown, dot_plain, explain, explain_inferred, explain_searched, is_table};
-use bpf_explain_inputs::{write_fault, write_refusal};
-use bpf_explain_program::write_alone;
+use bpf_cert::{CertError, read};
+use bpf_check::{Refusal, VerifyError};
+use bpf_explain::{
+    Found, Shown, dot_plain, explain, explain_inferred, explain_searched, is_table, write_alone,
+    write_fault, write_refusal,
+};
 use bpf_infer::{InferError, Unwatched};
 use bpf_insn::{Code, DecodeError, Order, Program, ProgramView, decode};
 use std::alloc::Global;
@@ -126,18 +130,20 @@ pub(crate) fn checked(
     }
 }
 
-/// Explains what a search finds for a program, and hands it on.
+/// Explains what a search finds for a program, and hands it on with the checker's answer.
 fn found(
     alloc: Global,
     out: &mut Vec<u8>,
     program: &Program,
     wanted: Wanted,
     shown: Shown<'_>,
-) -> io::Result<Result<Certificate, InferError>>
+) -> io::Result<Result<Found, InferError>>
     requires order { wanted.least ≤ wanted.most }
     requires short { wanted.most ≤ max_context }
-    ensures least { IfOk result (λ told. IfOk told (λ c. c.least ≡ wanted.least)) }
-    ensures most { IfOk result (λ told. IfOk told (λ c. c.most ≡ wanted.most)) }
+    ensures least { IfOk result (λ told. IfOk told (λ f. f.certificate.least ≡ wanted.least)) }
+    ensures most { IfOk result (λ told. IfOk told (λ f. f.certificate.most ≡ wanted.most)) }
+    ensures accepted { IfOk result (λ told. IfOk told (λ f. IfNone f.refusal (IsCertifiedBy program.now f.certificate))) }
+    ensures refused { IfOk result (λ told. IfOk told (λ f. IfSome f.refusal (λ r. IsLeastFlaw program.now f.certificate (refusal_slot r) (refusal_number r)))) }
     ensures slot { IfOk result (λ told. IfErr told (λ e. infer_slot e < slots program.now.list)) }
 {
     let (least, most) = (wanted.least, wanted.most);
@@ -148,13 +154,14 @@ fn found(
     }
 }
 
-/// How the checker judges a program by a certificate that was found for it.
-fn verdict_of(program: &Program, certificate: &Certificate) -> Judged
-    ensures { IsJudgedBy program.now certificate.now result }
+/// What is told of a program and a certificate, by the checker's refusal.
+fn told_of(refusal: Option<Refusal>) -> Judged
+    ensures accepted { IfNone refusal (result ≡ Accepted) }
+    ensures refused { IfSome refusal (λ r. (told : Told) × (result ≡ Refused told) × TellsCheck r told) }
 {
-    match check(program, certificate) {
-        Ok(_checked) => Judged::Accepted,
-        Err(refusal) => Judged::Refused(of_check(refusal)),
+    match refusal {
+        None => Judged::Accepted,
+        Some(refusal) => Judged::Refused(of_check(refusal)),
     }
 }
 
@@ -176,7 +183,7 @@ pub(crate) fn searched(
         Err(error) => return refused_image(out, given, error),
     };
     match found(alloc, out, &program, wanted, shown) {
-        Ok(Ok(certificate)) => Some(verdict_of(&program, &certificate)),
+        Ok(Ok(found)) => Some(told_of(found.refusal)),
         Ok(Err(InferError::Memory)) => None,
         Ok(Err(error)) => Some(Judged::Refused(of_inference(error))),
         Err(_) => None,

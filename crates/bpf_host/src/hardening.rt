@@ -1,6 +1,7 @@
 //! Images hardened.
 
 ghost use Rattle.std.specs.Prelude.{◌≡◌, ◌≤◌, IfOk, IfErr, IfSome};
+ghost use Rattle.bpf_insn.specs.Limits.{max_context};
 ghost use Rattle.bpf_insn.specs.Image.{IsProgram, image};
 ghost use Rattle.bpf_host.specs.Answers.{IsProgramsImage, IsToldUnhardened};
 
@@ -38,7 +39,7 @@ pub(crate) fn hardened(
     length: u32,
     options: &Options,
 ) -> Result<Vec<u8>, Unhardened>
-    requires { length ≤ 4096 }
+    requires { length ≤ max_context }
     ensures ok { IfOk result (λ bytes. IsProgramsImage bytes.items) }
     ensures err { IfErr result (IsToldUnhardened order image.now) }
 {

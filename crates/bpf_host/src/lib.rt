@@ -3,6 +3,7 @@
 #![tactic(auto)]
 
 ghost use Rattle.std.specs.Prelude.{◌≡◌, ◌≢◌, ◌++◌, ◌⊎◌, ◌↔◌, ◌<◌, ◌≤◌, ◌+◌, ◌*◌, ◌%◌, ℕ, List, length, take, drop, pos, negsuc};
+ghost use Rattle.bpf_insn.specs.Limits.{max_context};
 ghost use Rattle.bpf_insn.specs.Laws.{IsImageOfProgram};
 ghost use Rattle.bpf_insn.specs.declared.instruction.Insn.{Insn as Instruction};
 ghost use Rattle.bpf_cert.specs.View.{CertificateView};
@@ -110,7 +111,7 @@ pub extern "C" fn bpf_host_run(
 ) -> i32
     ensures ran { result ≡ pos 1 → RanImage (order_named order) image.now context.now fuel outcome.new }
     ensures refused { result ≡ pos 0 → IsUnrun (order_named order) image.now outcome.new }
-    ensures call { (result ≡ negsuc 1) ↔ ((1 < order) ⊎ (4096 < length context.now)) }
+    ensures call { (result ≡ negsuc 1) ↔ ((1 < order) ⊎ (max_context < length context.now)) }
     ensures answers { (result ≡ pos 1) ⊎ (result ≡ pos 0) ⊎ (result ≡ negsuc 1) }
     ensures kept { result ≡ negsuc 1 → outcome.new ≡ outcome.old }
 {
@@ -297,7 +298,7 @@ pub extern "C" fn bpf_host_infer(
     ensures given { result ≡ pos 1 → GivesProposal least most wanted.new text.old text.new }
     ensures small { result ≡ negsuc 2 → WantsRoom least most wanted.new text.old }
     ensures refused { result ≡ pos 0 → IsNotProposed (order_named order) image.now refusal.new }
-    ensures call { (result ≡ negsuc 1) ↔ ((1 < order) ⊎ ((most < least) ⊎ ((4096 < most) ⊎ (1 < deep)))) }
+    ensures call { (result ≡ negsuc 1) ↔ ((1 < order) ⊎ ((most < least) ⊎ ((max_context < most) ⊎ (1 < deep)))) }
     ensures answers { (result ≡ pos 1) ⊎ (result ≡ pos 0) ⊎ (result ≡ negsuc 0) ⊎ (result ≡ negsuc 1) ⊎ (result ≡ negsuc 2) }
     ensures text_kept { (result ≡ pos 1) ⊎ (text.new ≡ text.old) }
     ensures wanted_kept { (result ≡ pos 1) ⊎ (result ≡ negsuc 2) ⊎ (wanted.new ≡ wanted.old) }
@@ -345,7 +346,7 @@ pub extern "C" fn bpf_host_harden(
     ensures given { result ≡ pos 1 → GivesImage wanted.new text.old text.new }
     ensures small { result ≡ negsuc 2 → WantsImageRoom wanted.new text.old }
     ensures refused { result ≡ pos 0 → IsNotHardened (order_named order) image.now refusal.new }
-    ensures call { (result ≡ negsuc 1) ↔ ((1 < order) ⊎ ((4096 < size) ⊎ (1 < padded))) }
+    ensures call { (result ≡ negsuc 1) ↔ ((1 < order) ⊎ ((max_context < size) ⊎ (1 < padded))) }
     ensures answers { (result ≡ pos 1) ⊎ (result ≡ pos 0) ⊎ (result ≡ negsuc 0) ⊎ (result ≡ negsuc 1) ⊎ (result ≡ negsuc 2) }
     ensures text_kept { (result ≡ pos 1) ⊎ (text.new ≡ text.old) }
     ensures wanted_kept { (result ≡ pos 1) ⊎ (result ≡ negsuc 2) ⊎ (wanted.new ≡ wanted.old) }

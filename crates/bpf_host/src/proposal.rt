@@ -1,6 +1,7 @@
 //! Certificates proposed for images.
 
 ghost use Rattle.std.specs.Prelude.{◌≡◌, ◌≤◌, ◌<◌, ◌++◌, ◌⊎◌, IfOk, IfErr, IfSome, length, drop, pos, negsuc};
+ghost use Rattle.bpf_insn.specs.Limits.{max_context};
 ghost use Rattle.bpf_cert.specs.Spelling.{certificate_text};
 ghost use Rattle.bpf_cert.specs.Limits.{IsCertificate};
 ghost use Rattle.bpf_insn.specs.Instruction.{slots};
@@ -44,7 +45,7 @@ pub(crate) struct Wanted {
 /// The certificate that a search finds for a program.
 fn found(alloc: Global, program: &Program, wanted: Wanted) -> Result<Certificate, InferError>
     requires order { wanted.least ≤ wanted.most }
-    requires short { wanted.most ≤ 4096 }
+    requires short { wanted.most ≤ max_context }
     ensures version { IfOk result (λ c. c.version ≡ 2) }
     ensures least { IfOk result (λ c. c.least ≡ wanted.least) }
     ensures most { IfOk result (λ c. c.most ≡ wanted.most) }
@@ -67,7 +68,7 @@ pub(crate) fn proposal(
     wanted: Wanted,
 ) -> Result<Vec<u8>, Unproposed>
     requires order { wanted.least ≤ wanted.most }
-    requires short { wanted.most ≤ 4096 }
+    requires short { wanted.most ≤ max_context }
     ensures ok { IfOk result (λ text. IsProposal wanted.least wanted.most text.items) }
     ensures err { IfErr result (IsToldUnproposed order image.now) }
 {

@@ -1,6 +1,7 @@
 //! Runs of images that nobody verified.
 
 ghost use Rattle.std.specs.Prelude.{◌≤◌, List, length};
+ghost use Rattle.bpf_insn.specs.Limits.{max_context};
 ghost use Rattle.bpf_insn.specs.Laws.{IsImageOfProgram};
 ghost use Rattle.bpf_insn.specs.declared.instruction.Insn.{Insn as Instruction};
 ghost use Rattle.bpf_check.specs.Verdicts.{program_in};
@@ -14,7 +15,7 @@ use bpf_machine::{Outcome, run};
 /// How the program of an image in the byte order of a number ends on a context.
 fn outcome_in<const ORDER: u32>(image: &[u8], context: &[u8], fuel: u64) -> Outcome
     requires image { (is : List Instruction) × IsImageOfProgram (order_named ORDER) image.now is }
-    requires short { length context.now ≤ 4096 }
+    requires short { length context.now ≤ max_context }
     ensures { (is : List Instruction) → IsImageOfProgram (order_named ORDER) image.now is → IsRun (program_in (order_named ORDER) is) context.now fuel result }
 {
     let program: Ordered<'_, ORDER> = Ordered::of(image);
@@ -24,7 +25,7 @@ fn outcome_in<const ORDER: u32>(image: &[u8], context: &[u8], fuel: u64) -> Outc
 /// How the program of an image ends on a context.
 pub(crate) fn outcome_of(image: &[u8], order: Order, context: &[u8], fuel: u64) -> Outcome
     requires image { (is : List Instruction) × IsImageOfProgram order image.now is }
-    requires short { length context.now ≤ 4096 }
+    requires short { length context.now ≤ max_context }
     ensures { (is : List Instruction) → IsImageOfProgram order image.now is → IsRun (program_in order is) context.now fuel result }
 {
     match order {

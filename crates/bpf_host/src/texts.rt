@@ -1,16 +1,20 @@
 //! What the refusals and faults say, in words.
 
-ghost use Rattle.std.specs.Prelude.{◌≡◌, ◌<◌, ◌≤◌, ◌↔◌, ◌++◌, [], IsSome, IfSome, MatchOption, length, take, drop};
-ghost use Rattle.bpf_host.specs.Texts.{text_in, image_texts, certificate_texts, check_texts, inference_texts, hardening_texts, fault_texts, refusal_text};
+ghost use Rattle.std.specs.Prelude.{◌≡◌, ◌<◌, ◌≤◌, ◌↔◌, ◌++◌, [], IsSome, IfSome, MatchOption, get_or, length, take, drop};
+ghost use Rattle.bpf_infer_error.specs.RefusalNumbers.{infer_texts};
+ghost use Rattle.bpf_harden_notes.specs.RefusalNumbers.{harden_texts};
+ghost use Rattle.bpf_host.specs.Texts.{image_texts, certificate_texts, check_texts, fault_texts, refusal_text};
 ghost use Rattle.bpf_host.specs.Told.{IsNumbered};
 
+use bpf_harden_notes::HardenError;
+use bpf_infer::InferError;
 use bpf_state::Condition;
 
 /// E: an image.
 fn of_image(number: u32) -> Option<&'static [u8]>
     ensures numbered { IsSome result ↔ ((1 ≤ number) × (number ≤ 10)) }
     ensures said { IfSome result (λ words. 0 < length words.now) }
-    ensures words { MatchOption result (text_in image_texts number ≡ []) (λ words. words.now ≡ text_in image_texts number) }
+    ensures words { MatchOption result (get_or image_texts number [] ≡ []) (λ words. words.now ≡ get_or image_texts number []) }
 {
     match number {
         1 => Some(b"length is zero, no multiple of 8, or above 524,288 bytes"),
@@ -31,7 +35,7 @@ fn of_image(number: u32) -> Option<&'static [u8]>
 fn of_certificate(number: u32) -> Option<&'static [u8]>
     ensures numbered { IsSome result ↔ ((1 ≤ number) × (number ≤ 5)) }
     ensures said { IfSome result (λ words. 0 < length words.now) }
-    ensures words { MatchOption result (text_in certificate_texts number ≡ []) (λ words. words.now ≡ text_in certificate_texts number) }
+    ensures words { MatchOption result (get_or certificate_texts number [] ≡ []) (λ words. words.now ≡ get_or certificate_texts number []) }
 {
     match number {
         1 => Some(b"the line has no form of a certificate's lines"),
@@ -47,7 +51,7 @@ fn of_certificate(number: u32) -> Option<&'static [u8]>
 fn of_check(number: u32) -> Option<&'static [u8]>
     ensures numbered { IsSome result ↔ ((1 ≤ number) × (number ≤ 13)) }
     ensures said { IfSome result (λ words. 0 < length words.now) }
-    ensures words { MatchOption result (text_in check_texts number ≡ []) (λ words. words.now ≡ text_in check_texts number) }
+    ensures words { MatchOption result (get_or check_texts number [] ≡ []) (λ words. words.now ≡ get_or check_texts number []) }
 {
     match Condition::numbered(number) {
         Some(condition) => Some(condition.text().as_bytes()),
@@ -59,15 +63,11 @@ fn of_check(number: u32) -> Option<&'static [u8]>
 fn of_inference(number: u32) -> Option<&'static [u8]>
     ensures numbered { IsSome result ↔ ((1 ≤ number) × (number ≤ 5)) }
     ensures said { IfSome result (λ words. 0 < length words.now) }
-    ensures words { MatchOption result (text_in inference_texts number ≡ []) (λ words. words.now ≡ text_in inference_texts number) }
+    ensures words { MatchOption result (get_or infer_texts number [] ≡ []) (λ words. words.now ≡ get_or infer_texts number []) }
 {
-    match number {
-        1 => Some(b"states of the function aren't stable"),
-        2 => Some(b"no budget for the label"),
-        3 => Some(b"recursion by the call"),
-        4 => Some(b"the checker would refuse the instruction"),
-        5 => Some(b"out of memory"),
-        _ => None,
+    match InferError::text_numbered(number) {
+        Some(text) => Some(text.as_bytes()),
+        None => None,
     }
 }
 
@@ -75,22 +75,11 @@ fn of_inference(number: u32) -> Option<&'static [u8]>
 fn of_hardening(number: u32) -> Option<&'static [u8]>
     ensures numbered { IsSome result ↔ ((1 ≤ number) × (number ≤ 12)) }
     ensures said { IfSome result (λ words. 0 < length words.now) }
-    ensures words { MatchOption result (text_in hardening_texts number ≡ []) (λ words. words.now ≡ text_in hardening_texts number) }
+    ensures words { MatchOption result (get_or harden_texts number [] ≡ []) (λ words. words.now ≡ get_or harden_texts number []) }
 {
-    match number {
-        1 => Some(b"access by an argument that may be a frame pointer"),
-        2 => Some(b"instruction reads what isn't of the same kind on each way"),
-        3 => Some(b"no room in the registers and the frame of the function"),
-        4 => Some(b"the hardened program would have more than 65,536 slots"),
-        5 => Some(b"recursion by the call"),
-        6 => Some(b"no argument left for the context in the function"),
-        7 => Some(b"instruction can't be hardened"),
-        8 => Some(b"no budget for the label"),
-        9 => Some(b"the jump would lead too far"),
-        10 => Some(b"states of the function aren't stable"),
-        11 => Some(b"a block has at least the eight bytes of its length"),
-        12 => Some(b"out of memory"),
-        _ => None,
+    match HardenError::text_numbered(number) {
+        Some(text) => Some(text.as_bytes()),
+        None => None,
     }
 }
 
@@ -98,7 +87,7 @@ fn of_hardening(number: u32) -> Option<&'static [u8]>
 fn of_fault(number: u32) -> Option<&'static [u8]>
     ensures numbered { IsSome result ↔ ((1 ≤ number) × (number ≤ 9)) }
     ensures said { IfSome result (λ words. 0 < length words.now) }
-    ensures words { MatchOption result (text_in fault_texts number ≡ []) (λ words. words.now ≡ text_in fault_texts number) }
+    ensures words { MatchOption result (get_or fault_texts number [] ≡ []) (λ words. words.now ≡ get_or fault_texts number []) }
 {
     match number {
         1 => Some(b"an uninitialised register is read"),

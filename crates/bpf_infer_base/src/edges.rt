@@ -1,5 +1,6 @@
 //! The one walk of the searches over straight code: each instruction is done, and then its edges are followed.
 
+use crate::fault::Fault;
 use crate::flow::Flow;
 use bpf_infer_error::{Condition, InferError};
 use bpf_insn::{Insn, Operand, Program, Reg};
@@ -128,9 +129,9 @@ pub fn transfer_or_refuse(
 ) -> Result<bool, InferError> {
     match transfer(insn, least, program.order(), state) {
         Ok(goes_on) => Ok(goes_on),
-        Err(fault) => Err(InferError::Fault {
-            slot,
-            condition: Condition::State(fault),
-        }),
+        Err(fault) => {
+            let condition = Condition::State(fault);
+            Err(Fault { slot, condition }.refusal())
+        }
     }
 }

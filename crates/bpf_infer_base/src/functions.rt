@@ -1,6 +1,7 @@
 //! The call graph of a program: how deep its calls go, and whether one leads back.
 
 use crate::cfg::Cfg;
+use crate::fault::Fault;
 use crate::flow::Flow;
 use crate::graph::{Arc, Components, Graph};
 use crate::lists::get_or;
@@ -20,11 +21,7 @@ struct Call {
 impl Call {
     /// The call as an arc between functions.
     fn arc(self) -> Arc {
-        Arc {
-            from: self.caller as usize,
-            to: self.callee as usize,
-            path: 0,
-        }
+        Arc::of(self.caller as usize, self.callee as usize)
     }
 }
 
@@ -85,7 +82,7 @@ fn deepen(depths: &mut Depths, calls: &[Call]) {
 fn first_too_deep(depths: &Depths, cfg: &Cfg) -> Option<u32> {
     for function in 0..cfg.function_count() {
         if get_or(depths, function, 0) > MAX_DEPTH {
-            return Some(cfg.label(cfg.first_block(function)));
+            return Some(cfg.first_slot(function));
         }
     }
     None
@@ -122,10 +119,8 @@ fn check_bounds(program: &Program, cfg: &Cfg) -> Result<(), InferError> {
     for slot in 0..program.slots() {
         if let Some(insn) = program.at(slot) {
             if leaves_function(program, cfg, slot, insn) {
-                return Err(InferError::Fault {
-                    slot,
-                    condition: Condition::LeavesFunction,
-                });
+                let condition = Condition::LeavesFunction;
+                return Err(Fault { slot, condition }.refusal());
             }
         }
     }

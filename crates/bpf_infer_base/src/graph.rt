@@ -12,6 +12,13 @@ pub struct Arc {
     pub path: usize,
 }
 
+impl Arc {
+    /// An edge that stands for itself.
+    pub fn of(from: usize, to: usize) -> Arc {
+        Arc { from, to, path: 0 }
+    }
+}
+
 /// The number at an index of a list, 0 past its end.
 pub fn number_in(list: &[usize], index: usize) -> usize {
     get_or(list, index, 0)

@@ -1,4 +1,4 @@
-//! What two states have in common.
+//! The join of two states; with thresholds their widening, by which bounds that move are moved on to the next one (`widen.rt`).
 
 ghost use Rattle.std.specs.Prelude.{◌≤ℤ◌, IfSome};
 ghost use Rattle.bpf_state.specs.State.{IsRegister, IsPointer, IsSlot};

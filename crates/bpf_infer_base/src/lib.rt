@@ -3,10 +3,12 @@
 //! safe and to end.
 #![tactic(auto)]
 
+mod blocks;
 mod cfg;
 mod component_search;
 mod counter;
 mod edges;
+mod fault;
 mod flow;
 mod functions;
 mod graph;
@@ -19,13 +21,17 @@ mod places;
 mod proposal;
 mod quest;
 mod sketch;
+mod task;
+mod tolerant;
 mod watch;
 mod widen;
 
+pub use blocks::{Blocks, graph_of};
 pub use cfg::Cfg;
 pub use component_search::ComponentSearch;
 pub use counter::Counter;
 pub use edges::{Edges, Stretch, Target, transfer_or_refuse};
+pub use fault::Fault;
 pub use flow::Flow;
 pub use functions::{Depths, depths_of};
 pub use graph::{Arc, Components, Graph, longest_paths, nodes_on_cycles, number_in};
@@ -35,10 +41,12 @@ pub use lists::{get_or, put, vacant};
 pub use losses::{Losses, Tracker};
 pub use meter::{DEEP_WORK, LABEL_WORK, MOST_ENTRIES, Meter, PLAIN_WORK, edge_work};
 pub use places::{
-    PLACES, REGISTERS, number_at, number_said, place, places_known, pointer_said, tag_own,
+    PLACES, PlaceSet, REGISTERS, number_at, number_said, place, places_known, pointer_said, tag_own,
 };
 pub use proposal::Proposal;
 pub use quest::Quest;
 pub use sketch::{Limit, Loss, Move, Obstacle, Sketch, Stop, Tangle, Trial};
+pub use task::{Callee, Edge, Task, Visitor};
+pub use tolerant::touched;
 pub use watch::{Unwatched, Watch};
 pub use widen::Stops;

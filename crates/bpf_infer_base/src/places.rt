@@ -1,5 +1,6 @@
-//! The places that may hold a counter: r0 to r9 and the 64 slots of the frame.
+//! The places of a state one after the other, sets of them, and what they hold.
 
+ghost use Rattle.std.specs.Prelude.{IfSome};
 ghost use Rattle.bpf_state.specs.State.{IsPlace};
 
 use bpf_insn::Reg;
@@ -9,19 +10,100 @@ use bpf_state::{Entries, Place, RegState, SlotState, State, Tag};
 /// How many registers a program may write: r0 to r9.
 pub const REGISTERS: usize = 10;
 
-/// How many places there are.
-pub const PLACES: usize = 74;
+/// How many places a state has: eleven registers and sixty-four slots. All but r10 may hold a counter.
+pub const PLACES: usize = 75;
 
-/// A place by its number: registers rise first, then slots, of which the last has all numbers from 73 on.
+/// A place by its number: r0 to r10, then s1 to s64, of which the last has all numbers from 74 on.
 pub fn place(number: usize) -> Place
     ensures { IsPlace result }
 {
-    if number < REGISTERS {
+    if number <= REGISTERS {
         Place::Register(Reg::numbered(number as u8))
     } else {
-        Place::Slot((number.min(PLACES - 1) - 9) as u8)
+        Place::Slot((number.min(PLACES - 1) - REGISTERS) as u8)
     }
 }
+
+// ---- sets
+
+/// A set of places, each a bit at its number.
+#[derive(Clone, Copy, PartialEq, Eq)]
+pub struct PlaceSet {
+    held: u128,
+}
+
+impl PlaceSet {
+    /// No place.
+    pub const NONE: PlaceSet = PlaceSet { held: 0 };
+
+    /// All places.
+    pub const ALL: PlaceSet = PlaceSet { held: u128::MAX };
+
+    /// r0 to r5, which a CALL changes.
+    pub const CHANGED_BY_CALL: PlaceSet = PlaceSet { held: 0b11_1111 };
+
+    /// r1 to r5, which a CALL hands over.
+    pub const HANDED_OVER: PlaceSet = PlaceSet { held: 0b11_1110 };
+
+    /// A place alone.
+    pub fn of(place: Place) -> PlaceSet {
+        let number = match place {
+            Place::Register(r) => r as u8,
+            Place::Slot(k) => k.min(64) + 10,
+        };
+        PlaceSet { held: 1 << number }
+    }
+
+    /// Whether no place is in it.
+    pub fn is_empty(self) -> bool {
+        self.held == 0
+    }
+
+    /// Whether a place is in it.
+    pub fn has(self, place: Place) -> bool {
+        self.held & PlaceSet::of(place).held != 0
+    }
+
+    /// What is in either.
+    pub fn union(self, other: PlaceSet) -> PlaceSet {
+        PlaceSet {
+            held: self.held | other.held,
+        }
+    }
+
+    /// What is in both.
+    pub fn intersection(self, other: PlaceSet) -> PlaceSet {
+        PlaceSet {
+            held: self.held & other.held,
+        }
+    }
+
+    /// What is in it and not in another.
+    pub fn without(self, other: PlaceSet) -> PlaceSet {
+        PlaceSet {
+            held: self.held & !other.held,
+        }
+    }
+
+    /// Puts a place in.
+    pub fn add(&mut self, place: Place) {
+        self.held |= PlaceSet::of(place).held;
+    }
+
+    /// Takes the first place out.
+    pub fn take_first(&mut self) -> Option<Place>
+        ensures { IfSome result IsPlace }
+    {
+        if self.held == 0 {
+            return None;
+        }
+        let number = self.held.trailing_zeros();
+        self.held &= self.held - 1;
+        Some(place(number as usize))
+    }
+}
+
+// ---- what places hold
 
 /// The number that a place holds, if it holds one.
 pub fn number_at(state: &State, number: usize) -> Option<Num> {

@@ -1,5 +1,5 @@
 //! Widening with thresholds (Blanchet and others, PLDI 2003): bounds that move are moved on to the next constant of the program,
-//! so that states grow but a few times.
+//! so that states grow but a few times. Here are single bounds and numbers; `join` (`joins.rt`) widens states by them.
 
 ghost use Rattle.std.specs.Prelude.{◌≤ℤ◌};
 

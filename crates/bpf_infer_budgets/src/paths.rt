@@ -3,10 +3,10 @@
 use crate::draft::{Draft, Price};
 use bpf_cert::{Function, Label};
 use bpf_infer_base::{
-    Edges, PLACES, Span, Stretch, Target, get_or, number_at, number_said, place, tag_own,
+    Edges, Fault, PLACES, Span, Stretch, Target, get_or, number_at, number_said, place, tag_own,
     transfer_or_refuse,
 };
-use bpf_infer_error::{Condition, InferError};
+use bpf_infer_error::InferError;
 use bpf_insn::{Insn, Reg};
 use bpf_state::{RegState, State, Tag, enter, leave};
 use std::alloc::{AllocError, Global};
@@ -186,7 +186,7 @@ impl<'a> Walker<'a> {
         (self.label, self.cost) = (number, 0);
         let reached = stretch.walk(state, self)?;
         if reached < stretch.end {
-            return Err(falls_off(reached));
+            return Err(Fault::falls_off(reached).refusal());
         }
         Ok(())
     }
@@ -202,14 +202,6 @@ impl<'a> Walker<'a> {
             self.paths.ends.push(self.paths.list.len())?;
         }
         Ok(())
-    }
-}
-
-/// I4 (C11) at a slot.
-fn falls_off(slot: u32) -> InferError {
-    InferError::Fault {
-        slot,
-        condition: Condition::FallsOff,
     }
 }
 
@@ -248,7 +240,7 @@ impl<'a> Edges for Walker<'a> {
         match target {
             Target::Slot(slot) => self.arrive(slot, state),
             Target::Caller => self.exit(state),
-            Target::Nowhere(slot) => Err(falls_off(slot)),
+            Target::Nowhere(slot) => Err(Fault::falls_off(slot).refusal()),
         }
     }
 }

@@ -1,5 +1,5 @@
--- The numbers of refusals, and the slots that they name.
-use Rattle.std.specs.Prelude.{ℕ, ◌-◌, min}
+-- The numbers of refusals, what is told of them, and the slots that they name.
+use Rattle.std.specs.Prelude.{ℕ, ◌-◌, min, List, [], ◌∷◌, codes}
 use Rattle.bpf_state.specs.declared.condition.Condition.{Condition as CheckerCondition}
 use Rattle.bpf_state.specs.declared.condition.Condition.TheVariants.{State as OfState, FallsOff as PassesEnd, LeavesFunction as IsLeft}
 use Rattle.bpf_state.specs.Condition.{condition_number as checker_number}
@@ -23,6 +23,17 @@ infer_number (NoBudget slot) = 2
 infer_number (Recursion slot) = 3
 infer_number (Fault slot condition) = 4
 infer_number Memory = 5
+
+-- what is told of I1 to I5, by their numbers and without the slots; there is no number 0
+abbrev pub infer_texts : List (List ℕ)
+infer_texts =
+    [] ∷
+    codes "states of the function aren't stable" ∷
+    codes "no budget for the label" ∷
+    codes "recursion by the call" ∷
+    codes "the checker would refuse the instruction" ∷
+    codes "out of memory" ∷
+    []
 
 abbrev pub infer_slot : InferError → ℕ
 infer_slot (Unstable slot) = slot

@@ -1,7 +1,7 @@
 //! Why no certificate is proposed.
 
-ghost use Rattle.std.specs.Prelude.{◌≡◌, ◌<◌};
-ghost use Rattle.bpf_infer_error.specs.RefusalNumbers.{infer_number, infer_slot, within};
+ghost use Rattle.std.specs.Prelude.{◌≡◌, ◌<◌, ◌≤◌, ◌↔◌, [], IsSome, IfSome, MatchOption, get_or, length};
+ghost use Rattle.bpf_infer_error.specs.RefusalNumbers.{infer_number, infer_slot, infer_texts, within};
 
 use crate::condition::Condition;
 use std::alloc::{AllocError, AllocFailed};
@@ -11,19 +11,19 @@ use thiserror::Error;
 #[derive(Clone, Copy, Debug, PartialEq, Eq, Error)]
 pub enum InferError {
     /// I1: the states of the function that begins at the slot aren't stable after 64 rounds.
-    #[error("states of the function at slot {slot} aren't stable")]
+    #[error("at slot {slot}: {}", self.text())]
     Unstable { slot: u32 },
     /// I2: the loop at the slot has no counter, or the slot's label is over a limit.
-    #[error("no budget for the label at slot {slot}")]
+    #[error("at slot {slot}: {}", self.text())]
     NoBudget { slot: u32 },
     /// I3: the call at the slot is part of a recursion.
-    #[error("recursion by the call at slot {slot}")]
+    #[error("at slot {slot}: {}", self.text())]
     Recursion { slot: u32 },
     /// I4: the checker would refuse the instruction at the slot, since it fails a condition.
-    #[error("instruction at slot {slot}: {condition}")]
+    #[error("at slot {slot}: {}: {condition}", self.text())]
     Fault { slot: u32, condition: Condition },
     /// I5: memory ran out.
-    #[error("out of memory")]
+    #[error("{}", self.text())]
     Memory,
 }
 
@@ -38,6 +38,32 @@ impl InferError {
             InferError::Recursion { .. } => 3,
             InferError::Fault { .. } => 4,
             InferError::Memory => 5,
+        }
+    }
+
+    /// What is told of the refusal with a number, without the slot; None where that isn't from 1 to 5.
+    pub fn text_numbered(number: u32) -> Option<&'static str>
+        ensures numbered { IsSome result ↔ ((1 ≤ number) × (number ≤ 5)) }
+        ensures told { IfSome result (λ text. 0 < length text.now) }
+        ensures text { MatchOption result (get_or infer_texts number [] ≡ []) (λ text. text.now ≡ get_or infer_texts number []) }
+    {
+        match number {
+            1 => Some("states of the function aren't stable"),
+            2 => Some("no budget for the label"),
+            3 => Some("recursion by the call"),
+            4 => Some("the checker would refuse the instruction"),
+            5 => Some("out of memory"),
+            _ => None,
+        }
+    }
+
+    /// What is told of the refusal, without the slot.
+    pub fn text(&self) -> &'static str
+        ensures { result.now ≡ get_or infer_texts (infer_number self.now) [] }
+    {
+        match InferError::text_numbered(u32::from(self.number())) {
+            Some(text) => text,
+            None => "",
         }
     }
 

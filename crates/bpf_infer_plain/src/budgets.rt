@@ -2,10 +2,12 @@
 
 use crate::loops::{Loop, Loops};
 use crate::rounds::Rounds;
-use crate::walk::{Edge, Visitor, Walked};
 use bpf_cert::{MAX_BASE, MAX_WEIGHT};
-use bpf_infer_base::{Counter, Depths, Line, Span, get_or, place, put};
+use bpf_infer_base::{
+    Callee, Counter, Depths, Edge, Line, Span, Task, Visitor, get_or, place, put,
+};
 use bpf_infer_error::InferError;
+use bpf_insn::Insn;
 use bpf_state::{State, Tag};
 use std::alloc::{AllocError, Global};
 
@@ -56,32 +58,39 @@ pub struct Budgets {
     loops: Loops,
     plans: Vec<Plan>,
     paths: Vec<Path>,
-    /// What the calls since the label may cost.
-    called: i128,
+    /// The cost since the label: its instructions, and what calls may cost.
+    cost: i128,
 }
 
 impl Visitor for Budgets {
-    fn edge(&mut self, edge: Edge, done: i128, state: &State) -> Result<(), AllocError> {
+    type Stop = AllocError;
+
+    fn before(&mut self, _slot: u32, _insn: &Insn, _state: &State) -> Result<(), AllocError> {
+        self.cost = self.cost.saturating_add(1);
+        Ok(())
+    }
+
+    fn edge(&mut self, edge: Edge, state: &State) -> Result<(), AllocError> {
         let path = Path {
             from: edge.from,
             to: Some(edge.to),
-            cost: done.saturating_add(self.called),
+            cost: self.cost,
             held: self.held_at(edge.to, state),
         };
         self.paths.push(path)?;
         Ok(())
     }
 
-    fn call(&mut self, callee: usize, state: &State) -> Result<(), AllocError> {
-        self.called = self.called.saturating_add(self.greatest(callee, state));
+    fn call(&mut self, callee: Callee, state: &State) -> Result<(), AllocError> {
+        self.cost = self.cost.saturating_add(self.greatest(callee.block, state));
         Ok(())
     }
 
-    fn exit(&mut self, from: usize, done: i128) -> Result<(), AllocError> {
+    fn exit(&mut self, from: usize, _state: &State) -> Result<(), AllocError> {
         let path = Path {
             from,
             to: None,
-            cost: done.saturating_add(self.called),
+            cost: self.cost,
             held: Counted::Moved(0),
         };
         self.paths.push(path)?;
@@ -155,7 +164,7 @@ impl Budgets {
     /// Goes over a block, and takes note of its paths and of what its counter holds.
     fn walk_over(
         &mut self,
-        walk: &Walked,
+        task: &Task,
         rounds: &Rounds,
         block: usize,
         state: &mut State,
@@ -165,8 +174,10 @@ impl Budgets {
         }
         let span = self.tag_counter(block, state);
         let paths_from = self.paths.len();
-        self.called = 0;
-        walk.over(block, state, self)?;
+        self.cost = 0;
+        if let Err(fault) = task.walk(block, state, self)? {
+            return Err(fault.refusal());
+        }
         let plan = Plan {
             span,
             paths_from,
@@ -180,14 +191,14 @@ impl Budgets {
     /// Goes over the blocks from one to another.
     fn walk_over_all(
         &mut self,
-        walk: &Walked,
+        task: &Task,
         rounds: &Rounds,
         first: usize,
         end: usize,
     ) -> Result<(), InferError> {
         let mut room = State::blank();
         for block in first..end {
-            self.walk_over(walk, rounds, block, &mut room)?;
+            self.walk_over(task, rounds, block, &mut room)?;
         }
         Ok(())
     }
@@ -209,7 +220,7 @@ impl Budgets {
     }
 
     /// I2 at the head of a loop with a weight above 2^20.
-    fn weigh(&mut self, alloc: Global, walk: &Walked, head: usize) -> Result<(), InferError> {
+    fn weigh(&mut self, alloc: Global, task: &Task, head: usize) -> Result<(), InferError> {
         let Some(found) = self.loops.at(head) else {
             return Ok(());
         };
@@ -219,7 +230,7 @@ impl Budgets {
         let weight = self.cost_around(alloc, found)?.max(1);
         if weight > MAX_WEIGHT as i128 {
             return Err(InferError::NoBudget {
-                slot: walk.cfg.label(head),
+                slot: task.cfg.label(head),
             });
         }
         let plan = self.plan(head);
@@ -231,12 +242,12 @@ impl Budgets {
     fn weigh_all(
         &mut self,
         alloc: Global,
-        walk: &Walked,
+        task: &Task,
         first: usize,
         end: usize,
     ) -> Result<(), InferError> {
         for block in first..end {
-            self.weigh(alloc, walk, block)?;
+            self.weigh(alloc, task, block)?;
         }
         Ok(())
     }
@@ -262,7 +273,7 @@ impl Budgets {
     }
 
     /// The least base that pays the paths from a label, of those that lead back only if wanted. I2 above 2^40.
-    fn pay(&mut self, walk: &Walked, block: usize, pays_back: bool) -> Result<(), InferError> {
+    fn pay(&mut self, task: &Task, block: usize, pays_back: bool) -> Result<(), InferError> {
         let plan = self.plan(block);
         let mut base = 0;
         for number in plan.paths_from..plan.paths_to {
@@ -275,7 +286,7 @@ impl Budgets {
         }
         if base > MAX_BASE as i128 {
             return Err(InferError::NoBudget {
-                slot: walk.cfg.label(block),
+                slot: task.cfg.label(block),
             });
         }
         put(&mut self.plans, block, Plan { base, ..plan });
@@ -283,20 +294,20 @@ impl Budgets {
     }
 
     /// Pays the paths from the labels of a loop, those back to its head too.
-    fn pay_back(&mut self, walk: &Walked, found: Loop) -> Result<(), InferError> {
+    fn pay_back(&mut self, task: &Task, found: Loop) -> Result<(), InferError> {
         for block in (found.head.saturating_add(1)..found.last.saturating_add(1)).rev() {
-            self.pay(walk, block, true)?;
+            self.pay(task, block, true)?;
         }
         Ok(())
     }
 
     /// From the highest label on; the paths in a loop are paid once its head is.
-    fn pay_all(&mut self, walk: &Walked, first: usize, end: usize) -> Result<(), InferError> {
+    fn pay_all(&mut self, task: &Task, first: usize, end: usize) -> Result<(), InferError> {
         for block in (first..end).rev() {
-            self.pay(walk, block, false)?;
+            self.pay(task, block, false)?;
             if let Some(found) = self.loops.at(block) {
                 if found.head == block {
-                    self.pay_back(walk, found)?;
+                    self.pay_back(task, found)?;
                 }
             }
         }
@@ -309,29 +320,29 @@ impl Budgets {
     fn plan_function(
         &mut self,
         alloc: Global,
-        walk: &Walked,
+        task: &Task,
         rounds: &Rounds,
         function: usize,
     ) -> Result<(), InferError> {
-        let first = walk.cfg.first_block(function);
-        let end = walk.cfg.first_block(function.saturating_add(1));
-        self.walk_over_all(walk, rounds, first, end)?;
-        self.weigh_all(alloc, walk, first, end)?;
-        self.pay_all(walk, first, end)
+        let first = task.cfg.first_block(function);
+        let end = task.cfg.first_block(function.saturating_add(1));
+        self.walk_over_all(task, rounds, first, end)?;
+        self.weigh_all(alloc, task, first, end)?;
+        self.pay_all(task, first, end)
     }
 
     /// Finds the budgets of the functions of a depth.
     fn plan_depth(
         &mut self,
         alloc: Global,
-        walk: &Walked,
+        task: &Task,
         rounds: &Rounds,
         depths: &Depths,
         depth: u32,
     ) -> Result<(), InferError> {
-        for function in 0..walk.cfg.function_count() {
+        for function in 0..task.cfg.function_count() {
             if get_or(depths, function, 0) == depth {
-                self.plan_function(alloc, walk, rounds, function)?;
+                self.plan_function(alloc, task, rounds, function)?;
             }
         }
         Ok(())
@@ -362,19 +373,19 @@ fn follow(costs: &mut Vec<Option<i128>>, found: Loop, path: &Path) -> i128 {
 /// The budgets of a program's labels, callees first. I2 at a label that is over a limit.
 pub fn budgets_of(
     alloc: Global,
-    walk: &Walked,
+    task: &Task,
     rounds: &Rounds,
     loops: Loops,
     depths: &Depths,
 ) -> Result<Budgets, InferError> {
     let mut budgets = Budgets {
         loops,
-        plans: vec![in alloc; Plan::NONE; walk.cfg.block_count()]?,
+        plans: vec![in alloc; Plan::NONE; task.cfg.block_count()]?,
         paths: Vec::new(alloc),
-        called: 0,
+        cost: 0,
     };
     for depth in 1..9 {
-        budgets.plan_depth(alloc, walk, rounds, depths, depth)?;
+        budgets.plan_depth(alloc, task, rounds, depths, depth)?;
     }
     Ok(budgets)
 }

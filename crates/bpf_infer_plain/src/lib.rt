@@ -8,7 +8,6 @@ mod plain;
 mod rounds;
 mod sketch;
 mod tangles;
-mod walk;
 mod walkers;
 
 pub use plain::plain_proposal;

@@ -1,8 +1,9 @@
 //! The loops of a program, and what counts their rounds.
 
 use crate::rounds::Rounds;
-use crate::walk::{Edge, Visitor, Walked};
-use bpf_infer_base::{Counter, PLACES, get_or, number_at, place, put, tag_own};
+use bpf_infer_base::{
+    Counter, Edge, PLACES, Task, Visitor, get_or, number_at, place, put, tag_own,
+};
 use bpf_infer_error::InferError;
 use bpf_state::State;
 use std::alloc::{AllocError, Global};
@@ -127,7 +128,9 @@ fn taken_in(held: Option<Moves>, moves: &Moves) -> Moves {
 }
 
 impl Visitor for Search {
-    fn edge(&mut self, edge: Edge, _done: i128, state: &State) -> Result<(), AllocError> {
+    type Stop = AllocError;
+
+    fn edge(&mut self, edge: Edge, state: &State) -> Result<(), AllocError> {
         if edge.to < self.head || edge.to > self.last {
             return Ok(());
         }
@@ -178,12 +181,14 @@ impl Search {
     }
 
     /// Goes over all blocks of the loop.
-    fn walk_over(&mut self, walk: &Walked, rounds: &Rounds) -> Result<(), InferError> {
+    fn walk_over(&mut self, task: &Task, rounds: &Rounds) -> Result<(), InferError> {
         let mut state = State::blank();
         for block in self.head..self.last.saturating_add(1) {
             if rounds.load(block, &mut state) {
                 self.tag_all(&mut state);
-                walk.over(block, &mut state, self)?;
+                if let Err(fault) = task.walk(block, &mut state, self)? {
+                    return Err(fault.refusal());
+                }
             }
         }
         Ok(())
@@ -217,7 +222,7 @@ impl Search {
 /// Where the places of a loop go on the ways from its head to itself.
 pub fn searched(
     alloc: Global,
-    walk: &Walked,
+    task: &Task,
     rounds: &Rounds,
     found: Loop,
 ) -> Result<Search, InferError> {
@@ -230,35 +235,35 @@ pub fn searched(
         around: None,
     };
     put(&mut search.moves, 0, Some(Moves::NONE));
-    search.walk_over(walk, rounds)?;
+    search.walk_over(task, rounds)?;
     Ok(search)
 }
 
 /// What falls on each way from the head of a loop to itself, or rises up to a limit. I2 at the head if nothing does.
 fn counter_of(
     alloc: Global,
-    walk: &Walked,
+    task: &Task,
     rounds: &Rounds,
     found: Loop,
 ) -> Result<Option<Counter>, InferError> {
-    let search = searched(alloc, walk, rounds, found)?;
+    let search = searched(alloc, task, rounds, found)?;
     let Some(around) = search.around else {
         return Ok(None);
     };
     match search.counter(rounds, &around) {
         Some(counter) => Ok(Some(counter)),
         None => Err(InferError::NoBudget {
-            slot: walk.cfg.label(found.head),
+            slot: task.cfg.label(found.head),
         }),
     }
 }
 
 /// The loops of a program with their counters. I2 at the head of the lowest loop in which another one begins, else of
 /// the lowest one without a counter.
-pub fn loops_of(alloc: Global, walk: &Walked, rounds: &Rounds) -> Result<Loops, InferError> {
+pub fn loops_of(alloc: Global, task: &Task, rounds: &Rounds) -> Result<Loops, InferError> {
     if let Some((open, _)) = first_crossing(rounds) {
         return Err(InferError::NoBudget {
-            slot: walk.cfg.label(open.head),
+            slot: task.cfg.label(open.head),
         });
     }
     let mut loops = Loops {
@@ -267,7 +272,7 @@ pub fn loops_of(alloc: Global, walk: &Walked, rounds: &Rounds) -> Result<Loops, 
     };
     for block in 0..rounds.backs.len() {
         if let Some(found) = loop_from(rounds, block) {
-            let counter = counter_of(alloc, walk, rounds, found)?;
+            let counter = counter_of(alloc, task, rounds, found)?;
             loops.loops.push(Loop { counter, ..found })?;
         }
         loops.continue_to(block)?;

@@ -6,10 +6,9 @@ ghost use Rattle.bpf_insn.specs.Limits.{max_context};
 use crate::budgets::{Budgets, budgets_of};
 use crate::loops::loops_of;
 use crate::rounds::{functions_of, states_of};
-use crate::walk::Walked;
 use arrayvec::ArrayVec;
 use bpf_cert::{Budget, Function};
-use bpf_infer_base::{Cfg, Meter, PLAIN_WORK, Proposal, Quest, Watch, depths_of};
+use bpf_infer_base::{Cfg, Meter, PLAIN_WORK, Proposal, Quest, Task, Watch, depths_of};
 use bpf_infer_error::InferError;
 use std::alloc::Global;
 
@@ -53,17 +52,17 @@ pub fn plain_proposal<W: Watch>(
 {
     let cfg = Cfg::of(alloc, quest.program)?;
     let depths = depths_of(alloc, quest.program, &cfg)?;
-    let walk = Walked::new(quest, &cfg);
+    let task = Task::whole(quest, &cfg);
     let start = quest.start();
     let mut rounds = states_of(
         alloc,
-        &walk,
+        &task,
         &depths,
         &start,
         &mut Meter::new(watch, PLAIN_WORK),
     )?;
-    let loops = loops_of(alloc, &walk, &rounds)?;
-    let budgets = budgets_of(alloc, &walk, &rounds, loops, &depths)?;
+    let loops = loops_of(alloc, &task, &rounds)?;
+    let budgets = budgets_of(alloc, &task, &rounds, loops, &depths)?;
     let steps = u32::try_from(budgets.greatest(0, &start));
     let Ok(steps) = steps else {
         return Err(InferError::NoBudget { slot: 0 });

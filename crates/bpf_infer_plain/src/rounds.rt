@@ -1,13 +1,12 @@
 //! The states at the labels: rounds over each function until nothing changes, callers before callees.
 
-use crate::walk::{Edge, Visitor, Walked};
 use arrayvec::ArrayVec;
 use bpf_cert::{Budget, Function, Label};
 use bpf_infer_base::{
-    Cfg, Depths, LABEL_WORK, Limit, MOST_ENTRIES, Meter, Stops, Watch, edge_work, get_or, join,
-    number_said, places_known, pointer_said, put, vacant,
+    Callee, Cfg, Depths, Edge, Fault, LABEL_WORK, Limit, MOST_ENTRIES, Meter, Stops, Task, Visitor,
+    Watch, edge_work, get_or, join, number_said, places_known, pointer_said, put, vacant,
 };
-use bpf_infer_error::{Condition, InferError};
+use bpf_infer_error::InferError;
 use bpf_num::Num;
 use bpf_state::{Entries, State, enter};
 use std::alloc::{AllocError, Global};
@@ -54,31 +53,33 @@ fn add_back(backs: &mut Vec<Option<usize>>, edge: Edge) {
 }
 
 /// I1 at a function's first slot.
-fn unstable(walk: &Walked, function: usize) -> InferError {
+fn unstable(task: &Task, function: usize) -> InferError {
     InferError::Unstable {
-        slot: walk.cfg.label(walk.cfg.first_block(function)),
+        slot: task.cfg.first_slot(function),
     }
 }
 
 impl Visitor for Rounds {
-    fn edge(&mut self, edge: Edge, _done: i128, state: &State) -> Result<(), AllocError> {
+    type Stop = AllocError;
+
+    fn edge(&mut self, edge: Edge, state: &State) -> Result<(), AllocError> {
         if edge.to <= edge.from {
             add_back(&mut self.backs, edge);
         }
         self.reach(edge.to, state, self.is_wide)
     }
 
-    fn call(&mut self, callee: usize, state: &State) -> Result<(), AllocError> {
+    fn call(&mut self, callee: Callee, state: &State) -> Result<(), AllocError> {
         let mut entry = state.copy();
         enter(&mut entry);
-        self.reach(callee, &entry, false)
+        self.reach(callee.block, &entry, false)
     }
 }
 
 impl Rounds {
     /// No state is reached yet.
-    pub fn new(alloc: Global, walk: &Walked) -> Result<Rounds, AllocError> {
-        let count = walk.cfg.block_count();
+    pub fn new(alloc: Global, task: &Task) -> Result<Rounds, AllocError> {
+        let count = task.cfg.block_count();
         Ok(Rounds {
             states: vacant(alloc, count)?,
             backs: vec![in alloc; None; count]?,
@@ -181,23 +182,20 @@ impl Rounds {
     }
 
     /// Goes over a block from the state at its label, and takes note how far it is reached.
-    fn walk_over(
-        &mut self,
-        walk: &Walked,
-        block: usize,
-        room: &mut State,
-    ) -> Result<(), InferError> {
+    fn walk_over(&mut self, task: &Task, block: usize, room: &mut State) -> Result<(), InferError> {
         put(&mut self.changed, block, false);
-        let slots = walk.cfg.end(block).saturating_sub(walk.cfg.label(block));
+        let slots = task.cfg.end(block).saturating_sub(task.cfg.label(block));
         self.work = self
             .work
             .saturating_add(slots as usize)
             .saturating_add(LABEL_WORK);
-        let reached = if self.load(block, room) {
-            walk.over(block, room, self)?
-        } else {
-            walk.cfg.label(block)
-        };
+        let mut reached = task.cfg.label(block);
+        if self.load(block, room) {
+            match task.walk(block, room, self)? {
+                Ok(slot) => reached = slot,
+                Err(fault) => return Err(fault.refusal()),
+            }
+        }
         put(&mut self.reached, block, reached);
         Ok(())
     }
@@ -205,7 +203,7 @@ impl Rounds {
     /// Tells the work for a label that was gone over. I1 at the function's first slot if that passes a limit.
     fn tell<W: Watch>(
         &mut self,
-        walk: &Walked,
+        task: &Task,
         function: usize,
         meter: &mut Meter<'_, W>,
     ) -> Result<(), InferError> {
@@ -219,7 +217,7 @@ impl Rounds {
             });
         }
         match self.limit {
-            Some(_) => Err(unstable(walk, function)),
+            Some(_) => Err(unstable(task, function)),
             None => Ok(()),
         }
     }
@@ -227,26 +225,26 @@ impl Rounds {
     /// Goes over a function's blocks. Those whose states are as they were lead to the same states again.
     fn round<W: Watch>(
         &mut self,
-        walk: &Walked,
+        task: &Task,
         function: usize,
         room: &mut State,
         meter: &mut Meter<'_, W>,
     ) -> Result<(), InferError> {
         self.has_changed = false;
-        let end = walk.cfg.first_block(function.saturating_add(1));
-        for block in walk.cfg.first_block(function)..end {
+        let end = task.cfg.first_block(function.saturating_add(1));
+        for block in task.cfg.first_block(function)..end {
             if get_or(&self.changed, block, false) {
-                self.walk_over(walk, block, room)?;
-                self.tell(walk, function, meter)?;
+                self.walk_over(task, block, room)?;
+                self.tell(task, function, meter)?;
             }
         }
         Ok(())
     }
 
     /// Makes the stops, if they aren't made.
-    fn make_stops(&mut self, walk: &Walked) -> Result<(), AllocError> {
+    fn make_stops(&mut self, task: &Task) -> Result<(), AllocError> {
         if self.stops.is_empty() {
-            self.stops = Stops::of(self.alloc, walk.program, walk.least, walk.most)?;
+            self.stops = Stops::of(self.alloc, task.program, task.least, task.most)?;
         }
         Ok(())
     }
@@ -254,7 +252,7 @@ impl Rounds {
     /// Goes over a function until nothing changes: I1 if that takes more than 64 rounds.
     fn settle<W: Watch>(
         &mut self,
-        walk: &Walked,
+        task: &Task,
         function: usize,
         meter: &mut Meter<'_, W>,
     ) -> Result<(), InferError> {
@@ -262,41 +260,39 @@ impl Rounds {
         for round in 1..=ROUNDS {
             self.is_wide = round >= FIRST_WIDE_ROUND;
             if self.is_wide {
-                self.make_stops(walk)?;
+                self.make_stops(task)?;
             }
-            self.round(walk, function, &mut room, meter)?;
+            self.round(task, function, &mut room, meter)?;
             if !self.has_changed {
                 return Ok(());
             }
         }
-        Err(unstable(walk, function))
+        Err(unstable(task, function))
     }
 
     /// Goes over the functions of a depth until nothing changes.
     pub fn settle_depth<W: Watch>(
         &mut self,
-        walk: &Walked,
+        task: &Task,
         depths: &Depths,
         depth: u32,
         meter: &mut Meter<'_, W>,
     ) -> Result<(), InferError> {
-        for function in 0..walk.cfg.function_count() {
+        for function in 0..task.cfg.function_count() {
             if get_or(depths, function, 0) == depth {
-                self.settle(walk, function, meter)?;
+                self.settle(task, function, meter)?;
             }
         }
         Ok(())
     }
 
     /// I4 (C11) at the lowest instruction that isn't reached.
-    fn check_reached(&self, walk: &Walked) -> Result<(), InferError> {
+    fn check_reached(&self, task: &Task) -> Result<(), InferError> {
         for block in 0..self.reached.len() {
             let reached = get_or(&self.reached, block, 0);
-            if reached < walk.cfg.end(block) {
-                return Err(InferError::Fault {
-                    slot: reached.max(walk.cfg.label(block)),
-                    condition: Condition::FallsOff,
-                });
+            if reached < task.cfg.end(block) {
+                let slot = reached.max(task.cfg.label(block));
+                return Err(Fault::falls_off(slot).refusal());
             }
         }
         Ok(())
@@ -307,17 +303,17 @@ impl Rounds {
 /// rounds; I4 at an instruction that is refused or never reached.
 pub fn states_of<W: Watch>(
     alloc: Global,
-    walk: &Walked,
+    task: &Task,
     depths: &Depths,
     start: &State,
     meter: &mut Meter<'_, W>,
 ) -> Result<Rounds, InferError> {
-    let mut rounds = Rounds::new(alloc, walk)?;
+    let mut rounds = Rounds::new(alloc, task)?;
     rounds.reach(0, start, false)?;
     for depth in (1..9).rev() {
-        rounds.settle_depth(walk, depths, depth, meter)?;
+        rounds.settle_depth(task, depths, depth, meter)?;
     }
-    rounds.check_reached(walk)?;
+    rounds.check_reached(task)?;
     Ok(rounds)
 }
 
@@ -359,7 +355,7 @@ pub fn functions_of(
         let labels = labels_of(alloc, cfg, rounds, number)?;
         if !labels.is_empty() {
             functions.push(Function {
-                first: cfg.label(cfg.first_block(number)),
+                first: cfg.first_slot(number),
                 depth: get_or(depths, number, 0),
                 ret: Num::top(),
                 labels,

@@ -6,11 +6,10 @@ ghost use Rattle.bpf_insn.specs.Limits.{max_context};
 use crate::loops::{Loop, Moves, Search, first_crossing, loop_from, searched};
 use crate::rounds::{Rounds, functions_of};
 use crate::tangles::tangle_of;
-use crate::walk::Walked;
 use crate::walkers::walker_at;
 use bpf_infer_base::{
-    Cfg, Depths, Loss, Losses, Meter, Move, Obstacle, PLACES, PLAIN_WORK, Quest, Sketch, Tracker,
-    Trial, Unwatched, depths_of, get_or, place,
+    Cfg, Depths, Loss, Losses, Meter, Move, Obstacle, PLACES, PLAIN_WORK, Quest, Sketch, Task,
+    Tracker, Trial, Unwatched, depths_of, get_or, place,
 };
 use bpf_infer_error::{Condition, InferError};
 use bpf_state::{State, StateFault};
@@ -19,16 +18,16 @@ use std::alloc::{AllocError, Global};
 /// The rounds, as far as they go; I5 if memory runs out.
 fn rounds_so_far(
     alloc: Global,
-    walk: &Walked,
+    task: &Task,
     depths: &Depths,
     start: &State,
 ) -> Result<Rounds, InferError> {
-    let mut rounds = Rounds::new(alloc, walk)?;
+    let mut rounds = Rounds::new(alloc, task)?;
     rounds.reach(0, start, false)?;
     let mut nobody = Unwatched;
     let mut meter = Meter::new(&mut nobody, PLAIN_WORK);
     for depth in (1..9).rev() {
-        match rounds.settle_depth(walk, depths, depth, &mut meter) {
+        match rounds.settle_depth(task, depths, depth, &mut meter) {
             Ok(()) => {}
             Err(InferError::Memory) => return Err(InferError::Memory),
             Err(_) => break,
@@ -65,11 +64,11 @@ fn move_of(
 /// What is known of a loop's way around; None if no round leads back to the head, or something is refused before.
 fn search_of(
     alloc: Global,
-    walk: &Walked,
+    task: &Task,
     rounds: &Rounds,
     found: Loop,
 ) -> Result<Option<(Search, Moves)>, InferError> {
-    match searched(alloc, walk, rounds, found) {
+    match searched(alloc, task, rounds, found) {
         Ok(search) => match search.around {
             Some(around) => Ok(Some((search, around))),
             None => Ok(None),
@@ -82,19 +81,19 @@ fn search_of(
 /// By places, why each isn't followed through a loop.
 fn losses_in(
     alloc: Global,
-    walk: &Walked,
+    task: &Task,
     rounds: &Rounds,
     found: Loop,
 ) -> Result<Losses, AllocError> {
     let mut labels = Vec::new(alloc);
     for block in found.head..found.last.saturating_add(1) {
-        labels.push(walk.cfg.label(block))?;
+        labels.push(task.cfg.label(block))?;
     }
-    let mut tracker = Tracker::new(walk.program, walk.least, &labels);
+    let mut tracker = Tracker::new(task.program, task.least, &labels);
     let mut room = State::blank();
     for block in found.head..found.last.saturating_add(1) {
         if rounds.load(block, &mut room) {
-            let (label, end) = (walk.cfg.label(block), walk.cfg.end(block));
+            let (label, end) = (task.cfg.label(block), task.cfg.end(block));
             tracker.over(label, end, &mut room)?;
         }
     }
@@ -104,13 +103,13 @@ fn losses_in(
 /// The places of a loop's head that hold numbers, or pointers that are changed, with what they do in a round.
 fn trials_of(
     alloc: Global,
-    walk: &Walked,
+    task: &Task,
     rounds: &Rounds,
     found: Loop,
     search: &Search,
     around: &Moves,
 ) -> Result<Vec<Trial>, AllocError> {
-    let losses = losses_in(alloc, walk, rounds, found)?;
+    let losses = losses_in(alloc, task, rounds, found)?;
     let mut trials = Vec::new(alloc);
     for number in 0..PLACES {
         if let Some(moves) = move_of(rounds, found, search, around, &losses, number) {
@@ -126,14 +125,14 @@ fn trials_of(
 /// Why a loop has no budget.
 fn obstacle_in(
     alloc: Global,
-    walk: &Walked,
+    task: &Task,
     rounds: &Rounds,
     found: Loop,
 ) -> Result<Obstacle, InferError> {
-    let Some((search, around)) = search_of(alloc, walk, rounds, found)? else {
+    let Some((search, around)) = search_of(alloc, task, rounds, found)? else {
         return Ok(Obstacle::Limit);
     };
-    let trials = trials_of(alloc, walk, rounds, found, &search, &around)?;
+    let trials = trials_of(alloc, task, rounds, found, &search, &around)?;
     if trials.iter().any(|trial| trial.moves.counts()) {
         Ok(Obstacle::Limit)
     } else {
@@ -144,17 +143,17 @@ fn obstacle_in(
 /// Why there is no budget at a slot.
 fn obstacle_at(
     alloc: Global,
-    walk: &Walked,
+    task: &Task,
     rounds: &Rounds,
     slot: u32,
 ) -> Result<Obstacle, InferError> {
     if let Some((outer, inner)) = first_crossing(rounds) {
-        let tangle = tangle_of(alloc, walk, rounds, outer, inner)?;
+        let tangle = tangle_of(alloc, task, rounds, outer, inner)?;
         return Ok(Obstacle::Tangled(tangle));
     }
-    let block = walk.cfg.block_of(slot);
+    let block = task.cfg.block_of(slot);
     match loop_from(rounds, block) {
-        Some(found) if walk.cfg.label(block) == slot => { obstacle_in(alloc, walk, rounds, found) }
+        Some(found) if task.cfg.label(block) == slot => { obstacle_in(alloc, task, rounds, found) }
         _ => Ok(Obstacle::Limit),
     }
 }
@@ -162,19 +161,19 @@ fn obstacle_at(
 /// What is in the way where a refusal says so.
 fn obstacle_of(
     alloc: Global,
-    walk: &Walked,
+    task: &Task,
     rounds: &Rounds,
     error: InferError,
 ) -> Result<Option<Obstacle>, InferError> {
     match error {
         InferError::NoBudget { slot } => {
-            let obstacle = obstacle_at(alloc, walk, rounds, slot)?;
+            let obstacle = obstacle_at(alloc, task, rounds, slot)?;
             Ok(Some(obstacle))
         }
         InferError::Fault {
             slot,
             condition: Condition::State(StateFault::OutOfBounds),
-        } => Ok(match walker_at(walk, rounds, slot) {
+        } => Ok(match walker_at(task, rounds, slot) {
             Some((reg, head)) => Some(Obstacle::Walking { reg, head }),
             None => None,
         }),
@@ -191,10 +190,10 @@ pub fn sketch_of(alloc: Global, quest: Quest<'_>, error: InferError) -> Result<S
 {
     let cfg = Cfg::of(alloc, quest.program)?;
     let depths = depths_of(alloc, quest.program, &cfg)?;
-    let walk = Walked::new(quest, &cfg);
+    let task = Task::whole(quest, &cfg);
     let start = quest.start();
-    let mut rounds = rounds_so_far(alloc, &walk, &depths, &start)?;
-    let obstacle = obstacle_of(alloc, &walk, &rounds, error)?;
+    let mut rounds = rounds_so_far(alloc, &task, &depths, &start)?;
+    let obstacle = obstacle_of(alloc, &task, &rounds, error)?;
     let functions = functions_of(alloc, &cfg, &mut rounds, &depths)?;
     Ok(Sketch::of(quest.least, quest.most, functions, obstacle))
 }

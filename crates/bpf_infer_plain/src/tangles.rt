@@ -2,9 +2,7 @@
 
 use crate::loops::Loop;
 use crate::rounds::Rounds;
-use crate::walk::{Edge, Visitor, Walked};
-use bpf_infer_base::{Arc, Flow, Graph, Tangle, get_or};
-use bpf_infer_error::InferError;
+use bpf_infer_base::{Arc, Edge, Flow, Graph, Tangle, Task, Visitor, get_or};
 use bpf_state::State;
 use std::alloc::{AllocError, Global};
 
@@ -15,40 +13,35 @@ struct Arcs {
 }
 
 impl Visitor for Arcs {
-    fn edge(&mut self, edge: Edge, _done: i128, _state: &State) -> Result<(), AllocError> {
-        self.list.push(Arc {
-            from: edge.from,
-            to: edge.to,
-            path: 0,
-        })?;
+    type Stop = AllocError;
+
+    fn edge(&mut self, edge: Edge, _state: &State) -> Result<(), AllocError> {
+        self.list.push(Arc::of(edge.from, edge.to))?;
         Ok(())
     }
 }
 
 /// The blocks that were reached, and the edges between them as far as nothing is refused.
-fn graph_of(alloc: Global, walk: &Walked, rounds: &Rounds) -> Result<Graph, AllocError> {
+fn graph_of(alloc: Global, task: &Task, rounds: &Rounds) -> Result<Graph, AllocError> {
     let mut arcs = Arcs {
         list: Vec::new(alloc),
     };
-    let count = walk.cfg.block_count();
+    let count = task.cfg.block_count();
     let mut room = State::blank();
     for block in 0..count {
         if rounds.load(block, &mut room) {
-            match walk.over(block, &mut room, &mut arcs) {
-                Err(InferError::Memory) => return Err(AllocError),
-                Ok(_) | Err(_) => {}
-            }
+            let _reached = task.walk(block, &mut room, &mut arcs)?;
         }
     }
     Graph::of(alloc, count, arcs.list)
 }
 
 /// The slot of the last jump that leads back to a loop's head.
-fn way_back(walk: &Walked, found: Loop) -> u32 {
-    let head = walk.cfg.label(found.head);
-    let mut last = walk.cfg.label(found.last);
-    for slot in last..walk.cfg.end(found.last) {
-        if let Some(insn) = walk.program.at(slot) {
+fn way_back(task: &Task, found: Loop) -> u32 {
+    let head = task.cfg.label(found.head);
+    let mut last = task.cfg.label(found.last);
+    for slot in last..task.cfg.end(found.last) {
+        if let Some(insn) = task.program.at(slot) {
             if Flow::of(slot, insn).jump() == Some(head) {
                 last = slot;
             }
@@ -60,13 +53,13 @@ fn way_back(walk: &Walked, found: Loop) -> u32 {
 /// What a loop is that begins between the head of another one and the last way back to it.
 pub fn tangle_of(
     alloc: Global,
-    walk: &Walked,
+    task: &Task,
     rounds: &Rounds,
     outer: Loop,
     inner: Loop,
 ) -> Result<Tangle, AllocError> {
-    let graph = graph_of(alloc, walk, rounds)?;
-    let (from, back) = (way_back(walk, inner), way_back(walk, outer));
+    let graph = graph_of(alloc, task, rounds)?;
+    let (from, back) = (way_back(task, inner), way_back(task, outer));
     let around = graph.reached(alloc, outer.head, None)?;
     if !get_or(&around, outer.head, false) {
         return Ok(Tangle::Backward { from: back });
@@ -74,7 +67,7 @@ pub fn tangle_of(
     let within = graph.reached(alloc, inner.head, Some(outer.head))?;
     let beyond = graph.reached(alloc, inner.head, None)?;
     let is_inner = get_or(&within, inner.head, false) && get_or(&beyond, outer.head, false);
-    let to = walk.cfg.label(inner.head);
+    let to = task.cfg.label(inner.head);
     if is_inner && from <= back {
         Ok(Tangle::Nested { inner: to })
     } else {

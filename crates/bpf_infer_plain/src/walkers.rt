@@ -2,7 +2,7 @@
 
 use crate::loops::{Loop, loop_from};
 use crate::rounds::Rounds;
-use crate::walk::Walked;
+use bpf_infer_base::Task;
 use bpf_insn::{AluOp, Insn, Operand, Reg, Width};
 use bpf_state::RegState;
 
@@ -49,10 +49,10 @@ fn deed_of(insn: &Insn, reg: Reg) -> Deed {
 }
 
 /// Whether instructions of a loop move a register by constants, and none sets it.
-fn moves(walk: &Walked, found: Loop, reg: Reg) -> bool {
+fn moves(task: &Task, found: Loop, reg: Reg) -> bool {
     let mut is_moved = false;
-    for slot in walk.cfg.label(found.head)..walk.cfg.end(found.last) {
-        if let Some(insn) = walk.program.at(slot) {
+    for slot in task.cfg.label(found.head)..task.cfg.end(found.last) {
+        if let Some(insn) = task.program.at(slot) {
             match deed_of(insn, reg) {
                 Deed::Keeps => {}
                 Deed::Moves => is_moved = true,
@@ -88,11 +88,11 @@ fn loop_around(rounds: &Rounds, block: usize) -> Option<Loop> {
 
 /// The register whose pointer the instruction at a slot takes, if the loop around it moves that pointer by constants and does
 /// nothing else to it; and the slot of the loop.
-pub fn walker_at(walk: &Walked, rounds: &Rounds, slot: u32) -> Option<(Reg, u32)> {
-    let reg = pointer_in(walk.program.at(slot)?)?;
-    let found = loop_around(rounds, walk.cfg.block_of(slot))?;
-    if is_wide(rounds, found.head, reg) && moves(walk, found, reg) {
-        Some((reg, walk.cfg.label(found.head)))
+pub fn walker_at(task: &Task, rounds: &Rounds, slot: u32) -> Option<(Reg, u32)> {
+    let reg = pointer_in(task.program.at(slot)?)?;
+    let found = loop_around(rounds, task.cfg.block_of(slot))?;
+    if is_wide(rounds, found.head, reg) && moves(task, found, reg) {
+        Some((reg, task.cfg.label(found.head)))
     } else {
         None
     }

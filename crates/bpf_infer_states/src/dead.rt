@@ -3,12 +3,10 @@
 //! nothing leads to at all the one of the code in front of it; the search for a fixpoint joins them with what else
 //! arrives. Where an instruction is at fault then, the states that lead to it are changed.
 
-use crate::blocks::graph_of;
-use crate::judge::{Fault, Report, walk_all};
+use crate::judge::{Report, walk_all};
 use crate::repair::{change_kinds, fill};
 use crate::sums::{LabelState, held, take_in_at};
-use crate::task::{Task, Visitor};
-use bpf_infer_base::{Flow, get_or, put, vacant};
+use bpf_infer_base::{Fault, Flow, Task, Visitor, get_or, graph_of, put, vacant};
 use bpf_infer_error::Condition;
 use bpf_insn::Insn;
 use bpf_state::{Entries, State, StateFault};
@@ -136,9 +134,9 @@ impl Seeds {
             .reversed(self.alloc)?
             .reached(self.alloc, target, None)?;
         let mut is_filled = false;
-        for label in 0..blocks.labels() {
+        for label in 0..blocks.count() {
             if label == target || get_or(&before, label, false) {
-                is_filled = self.fill(blocks.slot(label), fills_slots)? || is_filled;
+                is_filled = self.fill(blocks.label(label), fills_slots)? || is_filled;
             }
         }
         Ok(is_filled)
@@ -146,7 +144,7 @@ impl Seeds {
 
     /// Changes the state for the label before a slot so that the instruction there takes its kinds. Whether that is a change.
     fn change_kinds(&mut self, task: Task, slot: u32) -> Result<bool, AllocError> {
-        let label = task.blocks.slot(task.blocks.block_of(slot));
+        let label = task.blocks.label(task.blocks.block_of(slot));
         let index = self.index(label);
         let Some(state) = held(&self.states, index) else {
             return Ok(false);
@@ -193,6 +191,8 @@ struct Seeker<'a> {
 }
 
 impl<'a> Visitor for Seeker<'a> {
+    type Stop = AllocError;
+
     fn before(&mut self, slot: u32, insn: &Insn, state: &State) -> Result<(), AllocError> {
         let next = slot.saturating_add(insn.slots());
         if self.is_dead(next) {

@@ -1,38 +1,11 @@
 //! What the states of a function's labels say of its instructions.
 
 use crate::sums::{LabelState, load};
-use crate::task::{Task, Visitor};
-use bpf_infer_base::{get_or, join, put};
-use bpf_infer_error::{Condition, InferError};
+use bpf_infer_base::{Callee, Fault, Task, Visitor, get_or, join, put};
 use bpf_insn::{Insn, Reg};
 use bpf_num::Num;
 use bpf_state::{State, enter};
 use std::alloc::{AllocError, Global};
-
-/// An instruction that fails a condition of the checker, by its slot.
-#[derive(Clone, Copy)]
-pub struct Fault {
-    pub slot: u32,
-    pub condition: Condition,
-}
-
-impl Fault {
-    /// The instruction at a slot isn't reached.
-    pub fn dead(slot: u32) -> Fault {
-        Fault {
-            slot,
-            condition: Condition::FallsOff,
-        }
-    }
-
-    /// I4 for it.
-    pub fn refusal(self) -> InferError {
-        InferError::Fault {
-            slot: self.slot,
-            condition: self.condition,
-        }
-    }
-}
 
 /// A call of a function, by its number, with the state that it begins in.
 #[derive(Drop)]
@@ -57,17 +30,19 @@ pub struct Report {
 }
 
 impl Visitor for Report {
+    type Stop = AllocError;
+
     fn before(&mut self, slot: u32, _insn: &Insn, _state: &State) -> Result<(), AllocError> {
         let place = slot.saturating_sub(self.first) as usize;
         put(&mut self.reached, place, true);
         Ok(())
     }
 
-    fn call(&mut self, callee: usize, state: &State) -> Result<(), AllocError> {
+    fn call(&mut self, callee: Callee, state: &State) -> Result<(), AllocError> {
         let mut entry = state.copy();
         enter(&mut entry);
         for known in self.entries.iter_mut() {
-            if known.callee == callee {
+            if known.callee == callee.function {
                 if !entry.entails(&*known.state) {
                     join(&mut *known.state, &entry, None);
                 }
@@ -75,24 +50,25 @@ impl Visitor for Report {
             }
         }
         self.entries.push(Entry {
-            callee,
+            callee: callee.function,
             state: Box::new(self.alloc, entry)?,
         })?;
         Ok(())
     }
 
-    fn exit(&mut self, state: &State) {
+    fn exit(&mut self, _from: usize, state: &State) -> Result<(), AllocError> {
         let number = state.reg(Reg::R0).number().unwrap_or(Num::top());
         self.exit = match self.exit {
             Some(others) => Some(others.join(number)),
             None => Some(number),
         };
+        Ok(())
     }
 
-    fn fault(&mut self, slot: u32, condition: Condition) {
+    fn fault(&mut self, fault: Fault) {
         match self.fault {
-            Some(lowest) if lowest.slot <= slot => {}
-            _ => self.fault = Some(Fault { slot, condition }),
+            Some(lowest) if lowest.slot <= fault.slot => {}
+            _ => self.fault = Some(fault),
         }
     }
 }
@@ -130,15 +106,15 @@ impl Report {
 }
 
 /// Goes over all blocks from the states of their labels.
-pub fn walk_all<W: Visitor>(
+pub fn walk_all<V: Visitor>(
     task: Task,
     states: &[LabelState],
-    visitor: &mut W,
-) -> Result<(), AllocError> {
+    visitor: &mut V,
+) -> Result<(), V::Stop> {
     let mut room = State::blank();
-    for label in 0..task.blocks.labels() {
+    for label in 0..task.blocks.count() {
         if load(states, label, &mut room) {
-            task.walk(label, &mut room, visitor)?;
+            let _reached = task.walk(label, &mut room, visitor)?;
         }
     }
     Ok(())

@@ -2,7 +2,6 @@
 //! gets labels of its own. It makes no claim but to be safe and to end: who proposes what it finds puts it to the test.
 #![tactic(auto)]
 
-mod blocks;
 mod dead;
 mod judge;
 mod liveness;
@@ -11,8 +10,6 @@ mod repair;
 mod settle;
 mod states;
 mod sums;
-mod task;
 mod thresholds;
-mod tolerant;
 
 pub use states::{Survey, draft, surveyed};

@@ -2,93 +2,14 @@
 
 use crate::judge::walk_all;
 use crate::sums::LabelState;
-use crate::task::{Task, Visitor};
-use crate::tolerant::touched;
-use bpf_infer_base::{Flow, REGISTERS, get_or, put};
+use bpf_infer_base::{Flow, PlaceSet, REGISTERS, Task, Visitor, get_or, put, touched};
 use bpf_insn::{Access, Insn, Reg, Size};
 use bpf_num::{KnownBits, Num, Signed, Unsigned, WordDomain};
-use bpf_state::{Entries, RegState, SlotState, State};
+use bpf_state::{Entries, Place, RegState, SlotState, State};
 use std::alloc::{AllocError, Global};
 
 /// The most rounds over a function. Where they don't do, all places stay.
 const ROUNDS: u32 = 64;
-
-/// A set of registers and slots, as bits.
-#[derive(Clone, Copy, PartialEq, Eq)]
-pub struct PlaceSet {
-    registers: u16,
-    slots: u64,
-}
-
-impl PlaceSet {
-    /// None.
-    const NONE: PlaceSet = PlaceSet {
-        registers: 0,
-        slots: 0,
-    };
-
-    /// All.
-    pub const ALL: PlaceSet = PlaceSet {
-        registers: u16::MAX,
-        slots: u64::MAX,
-    };
-
-    /// A register alone.
-    fn register(r: Reg) -> PlaceSet {
-        PlaceSet {
-            registers: 1 << (r as u32 % 16),
-            slots: 0,
-        }
-    }
-
-    /// A slot alone, by its number from 1 to 64.
-    fn slot(k: u8) -> PlaceSet {
-        PlaceSet {
-            registers: 0,
-            slots: 1 << (k.wrapping_sub(1) as u32 % 64),
-        }
-    }
-
-    /// r0 to r5, which a CALL writes.
-    const WRITTEN_BY_CALL: PlaceSet = PlaceSet {
-        registers: 0x3f,
-        slots: 0,
-    };
-
-    /// r1 to r5, which a CALL hands over.
-    fn handed_over(self) -> PlaceSet {
-        PlaceSet {
-            registers: self.registers & 0x3e,
-            slots: 0,
-        }
-    }
-
-    /// What is in either.
-    fn union(self, other: PlaceSet) -> PlaceSet {
-        PlaceSet {
-            registers: self.registers | other.registers,
-            slots: self.slots | other.slots,
-        }
-    }
-
-    /// What is in it and not in another.
-    fn without(self, other: PlaceSet) -> PlaceSet {
-        PlaceSet {
-            registers: self.registers & !other.registers,
-            slots: self.slots & !other.slots,
-        }
-    }
-
-    /// Whether a register is in it.
-    fn has_register(self, r: Reg) -> bool {
-        self.registers & PlaceSet::register(r).registers != 0
-    }
-
-    /// Whether a slot is in it.
-    fn has_slot(self, k: u8) -> bool {
-        self.slots & PlaceSet::slot(k).slots != 0
-    }
-}
 
 // ---- what instructions read
 
@@ -112,7 +33,7 @@ fn registers_read(insn: &Insn) -> PlaceSet {
     let mut read = PlaceSet::NONE;
     for reg in insn.registers_read() {
         if let Some(r) = reg {
-            read = read.union(PlaceSet::register(r));
+            read.add(Place::Register(r));
         }
     }
     read
@@ -121,8 +42,8 @@ fn registers_read(insn: &Insn) -> PlaceSet {
 /// The registers that an instruction writes.
 fn registers_written(insn: &Insn) -> PlaceSet {
     match insn.register_written() {
-        Some(r) => PlaceSet::register(r),
-        None if matches!(*insn, Insn::CallLocal { .. }) => PlaceSet::WRITTEN_BY_CALL,
+        Some(r) => PlaceSet::of(Place::Register(r)),
+        None if matches!(*insn, Insn::CallLocal { .. }) => PlaceSet::CHANGED_BY_CALL,
         None => PlaceSet::NONE,
     }
 }
@@ -132,7 +53,7 @@ fn slots_touched(state: &State, access: Access) -> PlaceSet {
     let mut slots = PlaceSet::NONE;
     if let Some((first, end)) = touched(state, access) {
         for k in first..end {
-            slots = slots.union(PlaceSet::slot(k));
+            slots.add(Place::Slot(k));
         }
     }
     slots
@@ -180,12 +101,14 @@ struct Liveness<'a> {
 }
 
 impl<'a> Visitor for Liveness<'a> {
+    type Stop = AllocError;
+
     fn before(&mut self, slot: u32, insn: &Insn, state: &State) -> Result<(), AllocError> {
         let mut needs = needs_of(insn, state);
         if let Flow::Call(target) = Flow::of(slot, insn) {
             let callee = self.task.cfg.function_of(target) as usize;
             let read = get_or(&self.callees, callee, PlaceSet::ALL);
-            needs.read = needs.read.union(read.handed_over());
+            needs.read = needs.read.union(read.intersection(PlaceSet::HANDED_OVER));
         }
         let index = self.task.blocks.index(slot);
         put(&mut self.needs, index, needs);
@@ -220,7 +143,7 @@ impl<'a> Liveness<'a> {
     fn behind(&self, label: usize) -> PlaceSet {
         let blocks = self.task.blocks;
         let mut live = self.live_at(label.saturating_add(1));
-        for slot in (blocks.slot(label)..blocks.block_end(label)).rev() {
+        for slot in (blocks.label(label)..blocks.block_end(label)).rev() {
             if let Some(insn) = self.task.program.at(slot) {
                 live = self.before(slot, insn, live);
             }
@@ -249,7 +172,7 @@ pub fn places_read(
     states: &[LabelState],
     callees: &[PlaceSet],
 ) -> Result<Vec<PlaceSet>, AllocError> {
-    let count = task.blocks.labels();
+    let count = task.blocks.count();
     let mut liveness = Liveness {
         task,
         callees,
@@ -296,7 +219,7 @@ pub fn least_number(number: Num) -> Num {
 fn keep_live_registers(state: &mut State, live: PlaceSet) {
     for i in 0..REGISTERS {
         let r = Reg::numbered(i as u8);
-        if !live.has_register(r) {
+        if !live.has(Place::Register(r)) {
             state.set_reg(r, RegState::Any);
         } else if let RegState::Num(number) = state.reg(r) {
             state.set_reg(r, RegState::Num(least_number(number)));
@@ -307,7 +230,7 @@ fn keep_live_registers(state: &mut State, live: PlaceSet) {
 /// Forgets slots that aren't read, and what of the others is implied.
 fn keep_live_slots(state: &mut State, live: PlaceSet) {
     for k in 1..65u8 {
-        if !live.has_slot(k) {
+        if !live.has(Place::Slot(k)) {
             state.set_slot(k, SlotState::Bytes(0));
         } else if let SlotState::Word(number) = state.slot(k) {
             state.set_slot(k, SlotState::Word(least_number(number)));

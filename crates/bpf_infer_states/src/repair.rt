@@ -1,7 +1,6 @@
 //! Changes of a state under which dead code isn't refused.
 
-use crate::task::Task;
-use bpf_infer_base::REGISTERS;
+use bpf_infer_base::{REGISTERS, Task};
 use bpf_insn::{AluOp, Insn, Operand, Reg, Width};
 use bpf_num::Num;
 use bpf_state::{Area, Pointer, RegState, SlotState, State};

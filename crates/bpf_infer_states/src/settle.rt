@@ -3,9 +3,10 @@
 
 use crate::nest::{Loop, Nest};
 use crate::sums::{LabelState, Sums, held, load};
-use crate::task::{Task, Visitor};
 use crate::thresholds::{Reach, Thresholds};
-use bpf_infer_base::{LABEL_WORK, Limit, MOST_ENTRIES, Meter, Watch, get_or, put, vacant};
+use bpf_infer_base::{
+    Edge, LABEL_WORK, Limit, MOST_ENTRIES, Meter, Task, Visitor, Watch, get_or, put, vacant,
+};
 use bpf_insn::Insn;
 use bpf_state::{Entries, State};
 use std::alloc::{AllocError, Global};
@@ -97,6 +98,8 @@ pub struct Settler<'a> {
 }
 
 impl<'a> Visitor for Settler<'a> {
+    type Stop = AllocError;
+
     fn before(&mut self, _slot: u32, insn: &Insn, state: &State) -> Result<(), AllocError> {
         if !matches!(insn, Insn::JumpIf { .. }) {
             return Ok(());
@@ -109,9 +112,9 @@ impl<'a> Visitor for Settler<'a> {
         Ok(())
     }
 
-    fn edge(&mut self, from: usize, to: usize, state: &State) -> Result<(), AllocError> {
-        let depth = self.nest.common_depth(from, to);
-        let work = self.sums.add(to, depth, state)?;
+    fn edge(&mut self, edge: Edge, state: &State) -> Result<(), AllocError> {
+        let depth = self.nest.common_depth(edge.from, edge.to);
+        let work = self.sums.add(edge.to, depth, state)?;
         self.work = self.work.saturating_add(work);
         Ok(())
     }
@@ -211,9 +214,9 @@ impl<'a> Settler<'a> {
             let slots = task
                 .blocks
                 .block_end(label)
-                .saturating_sub(task.blocks.slot(label));
+                .saturating_sub(task.blocks.label(label));
             self.work = self.work.saturating_add(slots as usize);
-            task.walk(label, &mut *room, self)?;
+            let _reached = task.walk(label, &mut *room, self)?;
         }
         self.room = Some(room);
         Ok(())
@@ -272,7 +275,7 @@ impl<'a> Settler<'a> {
         for place in found.head..found.end {
             let label = self.nest.label(place);
             let blocks = self.task.blocks;
-            for slot in blocks.slot(label)..blocks.block_end(label) {
+            for slot in blocks.label(label)..blocks.block_end(label) {
                 if let Some(insn) = self.task.program.at(slot) {
                     thresholds.add_constant(insn)?;
                 }

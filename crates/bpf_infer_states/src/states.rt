@@ -3,17 +3,16 @@
 mod outcome;
 mod surveys;
 
-use crate::blocks::{Blocks, graph_of};
 use crate::dead::{Seeds, add_seeds};
 use crate::judge::Report;
 use crate::nest::Nest;
 use crate::settle::Settler;
 use crate::sums::{LabelState, held, take_in_at};
-use crate::task::Task;
 use arrayvec::ArrayVec;
 use bpf_cert::{Budget, Label};
-use bpf_infer_base::{Cfg, Depths, Limit, Meter, Quest, Stop, Watch, get_or, put, vacant};
-use bpf_insn::Program;
+use bpf_infer_base::{
+    Blocks, Cfg, Depths, Limit, Meter, Quest, Stop, Task, Watch, get_or, graph_of, put, vacant,
+};
 use bpf_num::Num;
 use bpf_state::{Entries, State};
 pub use outcome::draft;
@@ -47,7 +46,7 @@ impl Judged {
         for label in 0..self.states.len() {
             if let Some(Some(state)) = self.states.get_mut(label).map(|held| held.take()) {
                 labels.push(Label {
-                    slot: self.blocks.slot(label),
+                    slot: self.blocks.label(label),
                     state,
                     budget: Budget {
                         base: 0,
@@ -68,8 +67,6 @@ struct Analysis<'a> {
     cfg: &'a Cfg,
     /// Whether walks end at faults, and dead code stays dead.
     stops: bool,
-    /// The first slots, and at the end how many slots there are.
-    firsts: Vec<u32>,
     /// What each returns.
     rets: Vec<Num>,
     /// Whether what each returns changed since all were judged.
@@ -77,16 +74,6 @@ struct Analysis<'a> {
     /// The states that each begins in.
     entries: Vec<LabelState>,
     judged: Vec<Option<Judged>>,
-}
-
-/// The first slot of each function, and how many slots there are.
-fn firsts_of(alloc: Global, program: &Program, cfg: &Cfg) -> Result<Vec<u32>, AllocError> {
-    let mut firsts = Vec::new(alloc);
-    for function in 0..cfg.function_count() {
-        firsts.push(cfg.label(cfg.first_block(function)))?;
-    }
-    firsts.push(program.slots())?;
-    Ok(firsts)
 }
 
 /// Whether two numbers have the same members.
@@ -102,24 +89,17 @@ impl<'a> Analysis<'a> {
         cfg: &'a Cfg,
         stops: bool,
     ) -> Result<Analysis<'a>, AllocError> {
-        let firsts = firsts_of(alloc, quest.program, cfg)?;
         let count = cfg.function_count();
         Ok(Analysis {
             alloc,
             quest,
             cfg,
             stops,
-            firsts,
             rets: vec![in alloc; Num::top(); count]?,
             is_changed: vec![in alloc; false; count]?,
             entries: vacant(alloc, count)?,
             judged: vacant(alloc, count)?,
         })
-    }
-
-    /// The first slot of a function.
-    fn first(&self, function: usize) -> u32 {
-        get_or(&self.firsts, function, 0)
     }
 
     /// What a walk over a function is given.
@@ -144,8 +124,8 @@ impl<'a> Analysis<'a> {
         entry: &State,
         meter: &mut Meter<'_, W>,
     ) -> Result<Judged, Stop> {
-        let first = self.first(function);
-        let end = self.first(function.saturating_add(1));
+        let first = self.cfg.first_slot(function);
+        let end = self.cfg.first_slot(function.saturating_add(1));
         let slots = end.saturating_sub(first) as usize;
         let mut seeds = Seeds::new(self.alloc, first, slots)?;
         let mut judged = self.judge_once(first, end, entry, &seeds, meter)?;
@@ -185,7 +165,7 @@ impl<'a> Analysis<'a> {
         meter: &mut Meter<'_, W>,
     ) -> Result<Judged, Stop> {
         let extra = seeds.slots()?;
-        let blocks = Blocks::of(self.alloc, self.quest.program, first, end, &extra)?;
+        let blocks = Blocks::cut_by_jumps(self.alloc, self.quest.program, first, end, &extra)?;
         let states = self.states_of(&blocks, entry, seeds, meter)?;
         let task = self.task(&blocks);
         let report = Report::of(self.alloc, task, &states)?;
@@ -208,14 +188,14 @@ impl<'a> Analysis<'a> {
         meter: &mut Meter<'_, W>,
     ) -> Result<Vec<LabelState>, Stop> {
         let graph = graph_of(self.alloc, self.quest.program, blocks)?;
-        let Some(nest) = Nest::of(self.alloc, &graph, blocks.labels())? else {
+        let Some(nest) = Nest::of(self.alloc, &graph, blocks.count())? else {
             return Err(Stop::unstable(blocks.first(), Limit::Depth));
         };
         let mut settler = Settler::new(self.alloc, self.task(blocks), &nest)?;
         settler.seed(0, entry)?;
         let mut room = State::blank();
-        for label in 0..blocks.labels() {
-            if let Some(state) = seeds.at(blocks.slot(label)) {
+        for label in 0..blocks.count() {
+            if let Some(state) = seeds.at(blocks.label(label)) {
                 state.put_into(&mut room);
                 settler.seed(label, &room)?;
             }

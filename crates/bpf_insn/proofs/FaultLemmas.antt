@@ -10,8 +10,11 @@ use Rattle.std.specs.List.{list_any, list_all}
 use Rattle.std.proofs.lemmas.Bool.Decides.{Decides-int_eq, Decides-eqb}
 use Rattle.bpf_insn.specs.Instruction.{register_number, slot_count}
 use Rattle.bpf_insn.specs.Image.{fields, slot_bytes, second_slot, instruction_bytes, alu_offset, atomic_code, swap_bits, HasEncoding, code_opcode, memory_opcode, alu_class, alu_code, jump_class, jump_code, swap_opcode}
-use Rattle.bpf_insn.specs.Refusal.Use.{Selects, Zero}
-use Rattle.bpf_insn.specs.Refusal.{Use, Uses, table, uses_in, atomic_codes, each_field, is_selected, is_zero_if_unused, is_wide, is_left_out, reserved_is_zero, fields_in, refusal_by_uses, refusal_of_fields, refusal_here}
+use Rattle.bpf_insn.specs.declared.uses.Use.{Use}
+use Rattle.bpf_insn.specs.declared.uses.Use.TheVariants.{Selects, Zero}
+use Rattle.bpf_insn.specs.declared.uses.Uses.{Uses}
+use Rattle.bpf_insn.specs.declared.uses.Choice.TheVariants.{Callee}
+use Rattle.bpf_insn.specs.Refusal.{table, uses_in, atomic_codes, each_field, is_selected, is_zero_if_unused, wrong_fields, is_wide, is_left_out, left_out, reserved_is_zero, fields_in, refusal_by_uses, refusal_of_fields, refusal_here}
 use Rattle.bpf_insn.specs.code.Form.{form_in, uses_of}
 use Rattle.bpf_insn.specs.code.Decoding.{register_in, divide_in, remainder_in, move_in, end_bits_in, atomic_in, insn_of_form, insn_of_parts, insn_of_fields, high_in, insn_in_bytes}
 use Rattle.bpf_insn.specs.declared.fields.Fields.{Fields}
@@ -230,7 +233,7 @@ unfolding is_form
 narrow_load DW dst src off e h = cc
 narrow_load size dst src off e h = h
 
-called : (n : ℕ) → is_selected (Selects (1 ∷ [])) (pos n) ≡ true → n ≡ 1
+called : (n : ℕ) → is_selected (Selects Callee) (pos n) ≡ true → n ≡ 1
 called n e = elim (any_of (1 ∷ []) (pos n) e) as (λ _. n ≡ 1) [ inl h ↦ same_number n 1 h | inr h ↦ absurd h ]
 
 -- what is known of fields with no fault, and of the registers that they name
@@ -479,7 +482,7 @@ some_form (Some form) f bytes e = (form, refl, e)
 
 no_refusal : (order : Order) (bytes : List ℕ) → refusal_here order bytes ≡ None → refusal_by_uses (uses_in table (slice_index bytes 0)) (fields_in order bytes) bytes ≡ None
 unfolding refusal_here
-no_refusal order bytes e = (refused (is_left_out (fields_in order bytes)) LeftOut (refusal_by_uses (uses_in table (slice_index bytes 0)) (fields_in order bytes) bytes) e).1
+no_refusal order bytes e = (refused (is_left_out (fields_in order bytes)) (LeftOut (left_out (fields_in order bytes))) (refusal_by_uses (uses_in table (slice_index bytes 0)) (fields_in order bytes) bytes) e).1
 
 found_parts : (order : Order) (bytes : List ℕ) (form : Form) (dst src : Reg) → form_in (slice_index bytes 0) ≡ Some form → register_in ((fields_in order bytes).dst) ≡ Some dst → register_in ((fields_in order bytes).src) ≡ Some src → insn_in_bytes order bytes ≡ Some (insn_of_form form dst src (fields_in order bytes) (high_in order bytes))
 unfolding insn_in_bytes
@@ -565,7 +568,7 @@ by_uses order i rest h =
     let tests = wide_tests order i rest in
     let reserved : is_wide (fields i) && not (reserved_is_zero bytes) ≡ false = ap (λ b. b && not (reserved_is_zero bytes)) (is_wide-fields i) ∙ tests.0 in
     let cut : is_wide (fields i) && nat_lt (length bytes) 16 ≡ false = ap (λ b. b && nat_lt (length bytes) 16) (is_wide-fields i) ∙ tests.1 in
-    passes (nat_lt 10 ((fields i).dst) || nat_lt 10 ((fields i).src)) (each_field is_selected (uses_of (form_of i)) (fields i)) (each_field is_zero_if_unused (uses_of (form_of i)) (fields i)) (is_wide (fields i) && not (reserved_is_zero bytes)) (is_wide (fields i) && nat_lt (length bytes) 16) Register Selector Unused Truncated (small_registers i) (each_selected i h) (each_unused_is_zero i h) reserved cut
+    passes (nat_lt 10 ((fields i).dst) || nat_lt 10 ((fields i).src)) (each_field is_selected (uses_of (form_of i)) (fields i)) (each_field is_zero_if_unused (uses_of (form_of i)) (fields i)) (is_wide (fields i) && not (reserved_is_zero bytes)) (is_wide (fields i) && nat_lt (length bytes) 16) Register Selector (Unused (wrong_fields (uses_of (form_of i)) (fields i) (is_wide (fields i) && not (reserved_is_zero bytes)))) Truncated (small_registers i) (each_selected i h) (each_unused_is_zero i h) reserved cut
 
 -- the bytes of an instruction have no fault
 pub no_fault : (order : Order) (i : Insn) (rest : List ℕ) → HasEncoding i → refusal_here order (instruction_bytes order i ++ rest) ≡ None
@@ -573,6 +576,6 @@ unfolding refusal_here
 no_fault order i rest h =
     let bytes = instruction_bytes order i ++ rest in
     ap (λ f. refusal_of_fields f bytes) (fields_in-insn order i rest h)
-    ∙ ap (λ b. cond b (Some LeftOut) (refusal_by_uses (uses_in table ((fields i).opcode)) (fields i) bytes)) (not_left_out i)
+    ∙ ap (λ b. cond b (Some (LeftOut (left_out (fields i)))) (refusal_by_uses (uses_in table ((fields i).opcode)) (fields i) bytes)) (not_left_out i)
     ∙ ap (λ u. refusal_by_uses u (fields i) bytes) (uses_in-form ((fields i).opcode) (small_opcode i) ∙ ap (option_map uses_of) (form_in-opcode i h))
     ∙ by_uses order i rest h

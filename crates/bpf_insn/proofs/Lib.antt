@@ -18,3 +18,4 @@ pub mod OpcodeLemmas
 pub mod ClassLemmas
 pub mod CodedLemmas
 pub mod ByteLemmas
+pub mod InsnLemmas

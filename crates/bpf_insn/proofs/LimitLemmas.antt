@@ -5,8 +5,12 @@ use Rattle.std.specs.Int.{cast_signed, w16, w32}
 use Rattle.std.proofs.lemmas.Bool.{le-ltb, leb-true, or_from}
 use Rattle.std.proofs.lemmas.Bool.Decides.{Decides-eqb}
 use Rattle.bpf_insn.specs.Order.{number_of, dst_in, src_in}
-use Rattle.bpf_insn.specs.Refusal.Use.{Used, Selects, Zero}
-use Rattle.bpf_insn.specs.Refusal.{Use, Uses, table, uses_in, is_one_of, each_field, is_selected, is_zero_if_unused, is_left_out, reserved_is_zero, fields_in, refusal_by_uses, refusal_of_fields, refusal_here}
+use Rattle.bpf_insn.specs.declared.uses.Choice.{Choice}
+use Rattle.bpf_insn.specs.declared.uses.Use.{Use}
+use Rattle.bpf_insn.specs.declared.uses.Use.TheVariants.{Used, Selects, Zero}
+use Rattle.bpf_insn.specs.declared.uses.Uses.{Uses}
+use Rattle.bpf_insn.specs.declared.refusal.SlotFault.{SlotFault}
+use Rattle.bpf_insn.specs.Refusal.{table, uses_in, is_one_of, each_field, is_selected, is_zero_if_unused, wrong_fields, is_left_out, left_out, reserved_is_zero, fields_in, refusal_by_uses, refusal_of_fields, refusal_here}
 use Rattle.bpf_insn.specs.declared.order.Order.{Order}
 use Rattle.bpf_insn.specs.declared.fields.Fields.{Fields}
 use Rattle.bpf_insn.specs.declared.limits.Limits.{Limits}
@@ -18,9 +22,9 @@ use Rattle.bpf_insn.proofs.TableLemmas.{same_in_range, numbers_from}
 unfoldable all_fit : Use → ℕ → Bool
 all_fit Used limit = true
 all_fit Zero limit = limit == 0
-all_fit (Selects values) zero = is_selected (Selects values) (pos 0)
-all_fit (Selects values) (suc zero) = is_selected (Selects values) (pos 0) && is_selected (Selects values) (pos 1)
-all_fit (Selects values) (suc (suc n)) = false
+all_fit (Selects choice) zero = is_selected (Selects choice) (pos 0)
+all_fit (Selects choice) (suc zero) = is_selected (Selects choice) (pos 0) && is_selected (Selects choice) (pos 1)
+all_fit (Selects choice) (suc (suc n)) = false
 
 -- the opcode is not one of those whose instructions may be left out, nor the wide one
 unfoldable is_plain : ℕ → Bool
@@ -56,14 +60,14 @@ two false b e = cc
 Good : Use → ℤ → Type 0
 Good u z = (is_selected u z ≡ true) × (is_zero_if_unused u z ≡ true)
 
-good_select : (values : List ℕ) (read : ℕ → ℤ) → read 0 ≡ pos 0 → read 1 ≡ pos 1 → (limit n : ℕ) → all_fit (Selects values) limit ≡ true → n ≤ limit → Good (Selects values) (read n)
+good_select : (choice : Choice) (read : ℕ → ℤ) → read 0 ≡ pos 0 → read 1 ≡ pos 1 → (limit n : ℕ) → all_fit (Selects choice) limit ≡ true → n ≤ limit → Good (Selects choice) (read n)
 unfolding all_fit Good
-good_select values read zero_is one_is zero zero e h = (ap (is_selected (Selects values)) zero_is ∙ e, refl)
-good_select values read zero_is one_is zero (suc n) e h = absurd (omega arith)
-good_select values read zero_is one_is (suc zero) zero e h = (ap (is_selected (Selects values)) zero_is ∙ (two (is_selected (Selects values) (pos 0)) (is_selected (Selects values) (pos 1)) e).0, refl)
-good_select values read zero_is one_is (suc zero) (suc zero) e h = (ap (is_selected (Selects values)) one_is ∙ (two (is_selected (Selects values) (pos 0)) (is_selected (Selects values) (pos 1)) e).1, refl)
-good_select values read zero_is one_is (suc zero) (suc (suc n)) e h = absurd (omega arith)
-good_select values read zero_is one_is (suc (suc limit)) n e h = cc
+good_select choice read zero_is one_is zero zero e h = (ap (is_selected (Selects choice)) zero_is ∙ e, refl)
+good_select choice read zero_is one_is zero (suc n) e h = absurd (omega arith)
+good_select choice read zero_is one_is (suc zero) zero e h = (ap (is_selected (Selects choice)) zero_is ∙ (two (is_selected (Selects choice) (pos 0)) (is_selected (Selects choice) (pos 1)) e).0, refl)
+good_select choice read zero_is one_is (suc zero) (suc zero) e h = (ap (is_selected (Selects choice)) one_is ∙ (two (is_selected (Selects choice) (pos 0)) (is_selected (Selects choice) (pos 1)) e).1, refl)
+good_select choice read zero_is one_is (suc zero) (suc (suc n)) e h = absurd (omega arith)
+good_select choice read zero_is one_is (suc (suc limit)) n e h = cc
 
 good : (u : Use) (read : ℕ → ℤ) → read 0 ≡ pos 0 → read 1 ≡ pos 1 → (limit n : ℕ) → all_fit u limit ≡ true → nat_le n limit ≡ true → Good u (read n)
 unfolding all_fit Good
@@ -73,7 +77,7 @@ good Zero read zero_is one_is limit n e h =
     let below : n ≤ limit = leb-true n limit h in
     let is_none : n ≡ 0 = omega arith in
     (refl, ap (λ m. is_zero_if_unused Zero (read m)) is_none ∙ ap (is_zero_if_unused Zero) zero_is)
-good (Selects values) read zero_is one_is limit n e h = good_select values read zero_is one_is limit n e (leb-true n limit h)
+good (Selects choice) read zero_is one_is limit n e h = good_select choice read zero_is one_is limit n e (leb-true n limit h)
 
 -- what the limits of an opcode tell of it
 record Fit (u : Uses) (l : Limits) : Type 0 where
@@ -93,9 +97,9 @@ fit u l e =
     record { dst_exists = exist.0; src_exists = exist.1; dst = each.0; src = each.1; offset = each.2; imm = each.3 }
 
 -- no test of the refusal applies
-no_fault : (left beyond selected zeros wide reserved short : Bool) → left ≡ false → beyond ≡ false → selected ≡ true → zeros ≡ true → wide ≡ false → cond left (Some LeftOut) (cond beyond (Some Register) (cond (not selected) (Some Selector) (cond (not zeros || (wide && not reserved)) (Some Unused) (cond (wide && short) (Some Truncated) None)))) ≡ None
-no_fault left beyond selected zeros wide reserved short e f g h k =
-    let P : Bool → Bool → Bool → Bool → Bool → Type 0 = λ left beyond selected zeros wide. cond left (Some LeftOut) (cond beyond (Some Register) (cond (not selected) (Some Selector) (cond (not zeros || (wide && not reserved)) (Some Unused) (cond (wide && short) (Some Truncated) None)))) ≡ None in
+no_fault : (out unused : SlotFault) (left beyond selected zeros wide reserved short : Bool) → left ≡ false → beyond ≡ false → selected ≡ true → zeros ≡ true → wide ≡ false → cond left (Some out) (cond beyond (Some Register) (cond (not selected) (Some Selector) (cond (not zeros || (wide && not reserved)) (Some unused) (cond (wide && short) (Some Truncated) None)))) ≡ None
+no_fault out unused left beyond selected zeros wide reserved short e f g h k =
+    let P : Bool → Bool → Bool → Bool → Bool → Type 0 = λ left beyond selected zeros wide. cond left (Some out) (cond beyond (Some Register) (cond (not selected) (Some Selector) (cond (not zeros || (wide && not reserved)) (Some unused) (cond (wide && short) (Some Truncated) None)))) ≡ None in
     subst (λ b. P b beyond selected zeros wide) (sym e) (subst (λ b. P false b selected zeros wide) (sym f) (subst (λ b. P false false b zeros wide) (sym g) (subst (λ b. P false false true b wide) (sym h) (subst (λ b. P false false true true b) (sym k) refl))))
 
 -- the tests of what is left out, and of the wide one
@@ -111,8 +115,8 @@ unfolding is_plain
 no_fault_in u f bytes e g h k a b =
     let left = plain (is_one_of f.opcode (0x20 ∷ 0x28 ∷ 0x30 ∷ 0x40 ∷ 0x48 ∷ 0x50 ∷ [])) (f.opcode == 0x18) (f.opcode == 0x85) (not (f.src == 0)) (is_one_of f.src (0 ∷ 2 ∷ [])) e in
     let beyond : (nat_lt 10 f.dst || nat_lt 10 f.src) ≡ false = or_from (nat_lt 10 f.dst) (nat_lt 10 f.src) (le-ltb 10 f.dst h) (le-ltb 10 f.src k) in
-    ap (λ uses. cond (is_left_out f) (Some LeftOut) (refusal_by_uses uses f bytes)) g
-    ∙ no_fault (is_left_out f) (nat_lt 10 f.dst || nat_lt 10 f.src) (each_field is_selected u f) (each_field is_zero_if_unused u f) (f.opcode == 0x18) (reserved_is_zero bytes) (nat_lt (length bytes) 16) left.0 beyond a b left.1
+    ap (λ uses. cond (is_left_out f) (Some (LeftOut (left_out f))) (refusal_by_uses uses f bytes)) g
+    ∙ no_fault (LeftOut (left_out f)) (Unused (wrong_fields u f (f.opcode == 0x18 && not (reserved_is_zero bytes)))) (is_left_out f) (nat_lt 10 f.dst || nat_lt 10 f.src) (each_field is_selected u f) (each_field is_zero_if_unused u f) (f.opcode == 0x18) (reserved_is_zero bytes) (nat_lt (length bytes) 16) left.0 beyond a b left.1
 
 -- the fields in bytes, as numbers
 record Within (order : Order) (bytes : List ℕ) (l : Limits) : Type 0 where

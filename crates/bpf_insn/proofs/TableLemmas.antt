@@ -1,10 +1,13 @@
 -- The table of opcodes and the forms of opcodes agree, computed over all 256 opcodes.
-use Rattle.std.proofs.Common.{◌≡◌, ℕ, zero, suc, ◌+◌, ◌<◌, List, [], ◌∷◌, map, get_or, refl, ap, sym, ◌∙◌, arith, true, false}
-use Rattle.std.specs.Prelude.{Some, None, option_map}
-use Rattle.std.proofs.Common.{slice_index, cond}
-use Rattle.bpf_insn.specs.Refusal.{table, uses_in, fields_in, is_left_out, refusal_by_uses, refusal_here}
+use Rattle.std.proofs.Common.{Bool, cond, ◌≡◌, ℕ, zero, suc, ◌+◌, ◌<◌, List, [], ◌∷◌, map, get_or, refl, ap, sym, ◌∙◌, arith, true, false}
+use Rattle.std.specs.Prelude.{Option, Some, None, option_map}
+use Rattle.bpf_insn.specs.Refusal.{table, uses_in, fields_in, is_left_out, left_out, refusal_by_uses, refusal_of_fields, refusal_here}
+use Rattle.bpf_insn.specs.declared.fields.Fields.{Fields}
+use Rattle.bpf_insn.specs.declared.form.Form.{Form}
 use Rattle.bpf_insn.specs.declared.order.Order.{Order}
-use Rattle.bpf_insn.specs.declared.refusal.SlotFault.TheVariants.{LeftOut}
+use Rattle.bpf_insn.specs.declared.refusal.LeftOut.{LeftOut}
+use Rattle.bpf_insn.specs.declared.refusal.SlotFault.{SlotFault}
+use Rattle.bpf_insn.specs.declared.refusal.SlotFault.TheVariants.{LeftOut as IsLeftOut}
 use Rattle.bpf_insn.specs.declared.forms.TheConstants.{FORMS}
 use Rattle.bpf_insn.specs.code.Form.{form_in, uses_of}
 
@@ -34,6 +37,9 @@ uses_agree = refl
 pub uses_in-form : (b : ℕ) → b < 256 → uses_in table b ≡ option_map uses_of (form_in b)
 uses_in-form = same_in_range (λ b. uses_in table b) (λ b. option_map uses_of (form_in b)) None 256 uses_agree
 
+pub uses_by_form : (b : ℕ) (o : Option Form) → b < 256 → o ≡ form_in b → option_map uses_of o ≡ uses_in table b
+uses_by_form b o small e = ap (option_map uses_of) e ∙ sym (uses_in-form b small)
+
 forms_agree : map (λ b. get_or FORMS b None) (numbers_from 0 256) ≡ map (λ b. form_in b) (numbers_from 0 256)
 unfolding numbers_from
 forms_agree = refl
@@ -42,14 +48,20 @@ forms_agree = refl
 pub forms_are : (b : ℕ) → b < 256 → get_or FORMS b None ≡ form_in b
 forms_are = same_in_range (λ b. get_or FORMS b None) (λ b. form_in b) None 256 forms_agree
 
--- ---- the refusal, by the form
+-- ---- the refusal: what is left out, or by the uses of fields
 
-pub refusal-left_out : (order : Order) (bytes : List ℕ) → is_left_out (fields_in order bytes) ≡ true → refusal_here order bytes ≡ Some LeftOut
-unfolding refusal_here
-refusal-left_out order bytes e = ap (λ b. cond b (Some LeftOut) (refusal_by_uses (uses_in table (slice_index bytes 0)) (fields_in order bytes) bytes)) e
+is_left : (b : Bool) (what w : LeftOut) (rest : Option SlotFault) → Some w ≡ cond b (Some what) None → Some (IsLeftOut w) ≡ cond b (Some (IsLeftOut what)) rest
+is_left true what w rest e = ap (option_map IsLeftOut) e
+is_left false what w rest e = cc
 
-pub refusal-by_form : (order : Order) (bytes : List ℕ) → slice_index bytes 0 < 256 → is_left_out (fields_in order bytes) ≡ false → refusal_here order bytes ≡ refusal_by_uses (option_map uses_of (form_in (slice_index bytes 0))) (fields_in order bytes) bytes
+is_in : (b : Bool) (what : LeftOut) (rest : Option SlotFault) → None ≡ cond b (Some what) None → rest ≡ cond b (Some (IsLeftOut what)) rest
+is_in true what rest e = cc
+is_in false what rest e = refl
+
+pub left_out_told : (order : Order) (bytes : List ℕ) (f : Fields) (w : LeftOut) → f ≡ fields_in order bytes → Some w ≡ cond (is_left_out f) (Some (left_out f)) None → Some (IsLeftOut w) ≡ refusal_here order bytes
 unfolding refusal_here
-refusal-by_form order bytes small e =
-    ap (λ b. cond b (Some LeftOut) (refusal_by_uses (uses_in table (slice_index bytes 0)) (fields_in order bytes) bytes)) e
-    ∙ ap (λ u. refusal_by_uses u (fields_in order bytes) bytes) (uses_in-form (slice_index bytes 0) small)
+left_out_told order bytes f w same e = is_left (is_left_out f) (left_out f) w (refusal_by_uses (uses_in table f.opcode) f bytes) e ∙ ap (λ g. refusal_of_fields g bytes) same
+
+pub uses_told : (order : Order) (bytes : List ℕ) (f : Fields) → f ≡ fields_in order bytes → None ≡ cond (is_left_out f) (Some (left_out f)) None → refusal_by_uses (uses_in table f.opcode) f bytes ≡ refusal_here order bytes
+unfolding refusal_here
+uses_told order bytes f same e = is_in (is_left_out f) (left_out f) (refusal_by_uses (uses_in table f.opcode) f bytes) e ∙ ap (λ g. refusal_of_fields g bytes) same

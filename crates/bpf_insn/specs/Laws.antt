@@ -1,4 +1,4 @@
--- The laws that tie the definitions together. Each is proved as the contract of a function of its own.
+-- The laws that tie the definitions together (RFC 9669, section 3). Each is proved as the contract of a function of its own.
 use Rattle.std.specs.Prelude.{◌≡◌, ℕ, ◌+◌, ◌*◌, ◌/◌, ◌%◌, ◌<◌, ◌≤◌, ◌↔◌, ◌⊎◌, List, [], ◌∷◌, ◌++◌, length, take, drop, slice_index, Some, None}
 use Rattle.bpf_insn.specs.Instruction.{slots}
 use Rattle.bpf_insn.specs.Image.{image, instruction_bytes, HasEncoding, AllHaveEncoding, IsProgram}

@@ -1,4 +1,6 @@
 -- Definitions, in the order in which they read best.
+-- options one after another
+pub mod Options
 -- the byte order, and all that depends on it
 pub mod Order
 -- the greatest sizes

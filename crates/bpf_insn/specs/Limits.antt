@@ -1,4 +1,4 @@
--- How large programs, and what they work on, may be.
+-- How large programs, and what they work on, may be. RFC 9669 leaves it open.
 use Rattle.std.specs.Prelude.{ℕ, ◌-◌}
 
 -- the most slots of a program

@@ -1,4 +1,4 @@
--- What is read of an image from a reader, where its bytes are known.
+-- What is read of an image (RFC 9669, section 3) from a reader, where its bytes are known.
 use Rattle.std.specs.Prelude.{◌≡◌, ℕ, ◌+◌, ◌*◌, ◌/◌, ◌<◌, ◌≤◌, List, length, take, Option, IfSome}
 use Rattle.std.specs.Io.{StartsWith}
 use Rattle.std.specs.Io.KnownBytes.{Consumes}

@@ -1,4 +1,4 @@
--- The number of each refusal, from 1 to 10, and the slot that it names.
+-- The number of each refusal (RFC 9669, sections 3 to 5), from 1 to 10, and the slot that it names.
 use Rattle.std.specs.Prelude.{ℕ}
 use Rattle.bpf_insn.specs.declared.refusal.SlotFault.{SlotFault}
 use Rattle.bpf_insn.specs.declared.refusal.SlotFault.TheVariants.{Opcode, Register, Unused, Selector, Truncated, LeftOut}
@@ -10,10 +10,10 @@ use Rattle.bpf_insn.specs.declared.refusal.DecodeError.TheVariants.{Length as Ba
 abbrev pub slot_fault_number : SlotFault → ℕ
 slot_fault_number Opcode = 2
 slot_fault_number Register = 3
-slot_fault_number Unused = 4
+slot_fault_number (Unused fields) = 4
 slot_fault_number Selector = 5
 slot_fault_number Truncated = 6
-slot_fault_number LeftOut = 7
+slot_fault_number (LeftOut what) = 7
 
 abbrev pub build_number : BuildError → ℕ
 build_number Length = 1

@@ -1,4 +1,4 @@
-//! What an instruction reads, writes and accesses.
+//! What an instruction reads, writes and accesses (RFC 9669, sections 4 and 5).
 
 ghost use Rattle.std.specs.Prelude.{◌≡◌, ◌∷◌, true, false};
 ghost use Rattle.std.specs.List.{filter_map};
@@ -127,7 +127,9 @@ impl Insn {
             Insn::End { dst, .. } | Insn::LoadImm64 { dst, .. } => Some(dst),
             Insn::Load { dst, .. } | Insn::LoadSx { dst, .. } => Some(dst),
             Insn::Atomic { op, src, .. } => op.fetch_register(src),
-            _ => None,
+            Insn::Store { .. } | Insn::StoreImm { .. } | Insn::Ja { .. } => None,
+            Insn::JaLong { .. } | Insn::JumpIf { .. } | Insn::CallLocal { .. } => None,
+            Insn::Exit => None,
         }
     }
 
@@ -147,7 +149,9 @@ impl Insn {
                 reads: true,
                 writes: true,
             }),
-            _ => None,
+            Insn::Alu { .. } | Insn::Neg { .. } | Insn::MovSx { .. } | Insn::End { .. } => None,
+            Insn::LoadImm64 { .. } | Insn::Ja { .. } | Insn::JaLong { .. } => None,
+            Insn::JumpIf { .. } | Insn::CallLocal { .. } | Insn::Exit => None,
         }
     }
 }

@@ -41,7 +41,14 @@ fn put_insn<W: Write>(
             bytes[8..].copy_from_slice(&second_slot_of(order, value));
             pending.put(out, &bytes)
         }
-        _ => pending.put(out, &first),
+        Insn::Alu { .. } | Insn::Neg { .. } | Insn::MovSx { .. } | Insn::End { .. } => {
+            pending.put(out, &first)
+        }
+        Insn::Load { .. } | Insn::LoadSx { .. } | Insn::Store { .. } => pending.put(out, &first),
+        Insn::StoreImm { .. } | Insn::Atomic { .. } | Insn::Ja { .. } => pending.put(out, &first),
+        Insn::JaLong { .. } | Insn::JumpIf { .. } | Insn::CallLocal { .. } | Insn::Exit => {
+            pending.put(out, &first)
+        }
     }
 }
 

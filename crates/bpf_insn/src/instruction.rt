@@ -321,8 +321,8 @@ impl AtomicOp {
 }
 
 impl Insn {
-    ghost use Rattle.std.specs.Prelude.{◌≡◌};
-    ghost use Rattle.bpf_insn.specs.Instruction.{slot_count, group_of, distance, goes_on};
+    ghost use Rattle.std.specs.Prelude.{◌≡◌, ◌↔◌, IsTrue};
+    ghost use Rattle.bpf_insn.specs.Instruction.{slot_count, group_of, distance, goes_on, is_straight};
 
     /// How many slots of eight bytes it takes: 2 for a 64-bit constant, else 1 (RFC 9669, section 3).
     pub fn slots(&self) -> u32
@@ -330,7 +330,10 @@ impl Insn {
     {
         match self {
             Insn::LoadImm64 { .. } => 2,
-            _ => 1,
+            Insn::Alu { .. } | Insn::Neg { .. } | Insn::MovSx { .. } | Insn::End { .. } => 1,
+            Insn::Load { .. } | Insn::LoadSx { .. } | Insn::Store { .. } => 1,
+            Insn::StoreImm { .. } | Insn::Atomic { .. } | Insn::Ja { .. } => 1,
+            Insn::JaLong { .. } | Insn::JumpIf { .. } | Insn::CallLocal { .. } | Insn::Exit => 1,
         }
     }
 
@@ -344,7 +347,9 @@ impl Insn {
             Insn::JaLong { off } => Some(off),
             Insn::JumpIf { off, .. } => Some(i32::from(off)),
             Insn::CallLocal { off } => Some(off),
-            _ => None,
+            Insn::Alu { .. } | Insn::Neg { .. } | Insn::MovSx { .. } | Insn::End { .. } => None,
+            Insn::LoadImm64 { .. } | Insn::Load { .. } | Insn::LoadSx { .. } => None,
+            Insn::Store { .. } | Insn::StoreImm { .. } | Insn::Atomic { .. } | Insn::Exit => None,
         }
     }
 
@@ -353,6 +358,27 @@ impl Insn {
         ensures { result ≡ goes_on self.now }
     {
         !matches!(*self, Insn::Ja { .. } | Insn::JaLong { .. } | Insn::Exit)
+    }
+
+    /// Whether it goes on at the next instruction alone: it neither jumps nor calls nor exits (RFC 9669, section 4.3).
+    #[inline(always)]
+    pub fn is_straight(&self) -> bool
+        ensures { result ≡ is_straight self.now }
+    {
+        match *self {
+            Insn::Ja { .. } | Insn::JaLong { .. } | Insn::JumpIf { .. } => false,
+            Insn::CallLocal { .. } | Insn::Exit => false,
+            Insn::Alu { .. } | Insn::Neg { .. } | Insn::MovSx { .. } | Insn::End { .. } => true,
+            Insn::LoadImm64 { .. } | Insn::Load { .. } | Insn::LoadSx { .. } => true,
+            Insn::Store { .. } | Insn::StoreImm { .. } | Insn::Atomic { .. } => true,
+        }
+    }
+
+    /// Whether it is the same instruction.
+    pub fn is(&self, other: &Insn) -> bool
+        ensures { IsTrue result ↔ (self.now ≡ other.now) }
+    {
+        self == other
     }
 
     /// The conformance group that it belongs to (RFC 9669, section 2.4).
@@ -365,7 +391,13 @@ impl Insn {
                 ..
             } => Group::Divmul,
             Insn::Atomic { .. } => Group::Atomic,
-            _ => Group::Base,
+            Insn::Alu { .. } | Insn::Neg { .. } | Insn::MovSx { .. } | Insn::End { .. } => {
+                Group::Base
+            }
+            Insn::LoadImm64 { .. } | Insn::Load { .. } | Insn::LoadSx { .. } => Group::Base,
+            Insn::Store { .. } | Insn::StoreImm { .. } | Insn::Ja { .. } => Group::Base,
+            Insn::JaLong { .. } | Insn::JumpIf { .. } | Insn::CallLocal { .. } => Group::Base,
+            Insn::Exit => Group::Base,
         }
     }
 }

@@ -1,4 +1,4 @@
-//! What holds of images, for all bytes and instructions. Each law is the contract of a function that does nothing.
+//! What holds of images (RFC 9669, section 3), for all bytes and instructions. Each law is the contract of a function that does nothing.
 
 ghost use Rattle.bpf_insn.specs.Laws.{ImageIsInjective, ImageLength, ReadsBack, OrdersExchange, RefusalIsExact, NeverBoth, RefusedOnce, ListNeverBoth, ListIsOneOfBoth, ListRefusedOnce};
 

@@ -25,15 +25,19 @@ mod program;
 pub mod refusal;
 mod sizes;
 mod slot_fault;
+mod uses;
 mod view;
 pub mod written;
 
 pub use arithmetic::{extended, low_half};
+pub use bytes::fields_from;
 pub use class::Class;
 pub use code::Code;
 pub use coded::Coded;
+pub use decoding::insn_from;
 pub use effects::Access;
 pub use encoding::encode;
+pub use fields::Fields;
 pub use groups::groups_of;
 pub use image::{decode, decode_from, read_image};
 pub use instruction::{
@@ -47,6 +51,7 @@ pub use laws::{
 pub use numbers::{number_in, put_number};
 pub use order::Order;
 pub use program::Program;
-pub use refusal::{BuildError, DecodeError, SlotFault};
+pub use refusal::{BuildError, DecodeError, LeftOut, SlotFault};
 pub use sizes::{FRAME_BYTES, MAX_CONTEXT, MAX_FRAMES, MAX_IMAGE, MAX_SLOTS};
+pub use uses::{Choice, FieldSet, Use, Uses, uses_of};
 pub use view::ProgramView;

@@ -1,5 +1,5 @@
 //! How great the fields of an instruction may be, where that alone says that the bytes are an instruction's (RFC 9669,
-//! sections 3 to 5).
+//! sections 3 to 5). The greatest sizes of programs and contexts are in `sizes.rt`.
 
 ghost use Rattle.std.specs.Prelude.{◌≡◌, ◌&&◌, nat_le, get_or, None};
 

@@ -1,9 +1,23 @@
-//! Why bytes are no image, and why instructions are no program.
+//! Why bytes are no image, and why instructions are no program (RFC 9669, sections 3 to 5).
 
 ghost use Rattle.std.specs.Prelude.{◌≡◌};
 ghost use Rattle.bpf_insn.specs.RefusalNumbers.{slot_fault_number, build_number, build_slot, decode_number, decode_slot};
 
+use crate::uses::FieldSet;
 use thiserror::Error;
+
+/// What this profile leaves out.
+#[derive(Clone, Copy, Debug, PartialEq, Eq)]
+pub enum LeftOut {
+    /// Packet access (RFC 9669, section 5.5).
+    Packet,
+    /// A 64-bit constant that names a map or a variable (RFC 9669, section 5.4).
+    Constant,
+    /// A call of a helper (RFC 9669, section 4.3.1).
+    Helper,
+    /// A call of a function of the kernel (RFC 9669, section 4.3.1).
+    KernelFunction,
+}
 
 /// Why no instruction begins at a slot of an image.
 #[derive(Clone, Copy, Debug, PartialEq, Eq, Error)]
@@ -14,9 +28,9 @@ pub enum SlotFault {
     /// E3: a register field, used or not, is above 10.
     #[error("register above r10")]
     Register,
-    /// E4: a field that the instruction doesn't use, or a reserved bit of a wide one, isn't zero.
+    /// E4: fields that the instruction doesn't use, or reserved bits of a wide one, aren't zero.
     #[error("unused field is not zero")]
-    Unused,
+    Unused { fields: FieldSet },
     /// E5: a field that selects the operation has a value that isn't defined for the opcode.
     #[error("undefined value of a selecting field")]
     Selector,
@@ -25,7 +39,7 @@ pub enum SlotFault {
     Truncated,
     /// E7: this profile leaves the instruction out: packet access, helper calls, maps and variables.
     #[error("instruction is left out of this profile")]
-    LeftOut,
+    LeftOut { what: LeftOut },
 }
 
 impl SlotFault {
@@ -36,10 +50,10 @@ impl SlotFault {
         match self {
             SlotFault::Opcode => 2,
             SlotFault::Register => 3,
-            SlotFault::Unused => 4,
+            SlotFault::Unused { .. } => 4,
             SlotFault::Selector => 5,
             SlotFault::Truncated => 6,
-            SlotFault::LeftOut => 7,
+            SlotFault::LeftOut { .. } => 7,
         }
     }
 }

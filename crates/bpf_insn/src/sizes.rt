@@ -1,4 +1,4 @@
-//! How large programs, and what they work on, may be.
+//! How large programs, and what they work on, may be. RFC 9669 leaves it open. Contracts have the same by name: `specs/Limits`.
 
 /// The most slots of a program.
 pub const MAX_SLOTS: usize = 65_536;

@@ -1,6 +1,7 @@
 //! The machine: a program, the context that it runs on, and its frames.
 
 ghost use Rattle.std.specs.Prelude.{◌≡◌, ◌<◌, ◌≤◌, ◌+◌, ◌%◌, ◌^◌, [], IsTrue, false, nat_le, pos, ◌+ℤ◌, IfSome, IfNone, IfOk, IfErr, length, option_map, is_some, IsSome, Some, None};
+ghost use Rattle.bpf_insn.specs.Limits.{max_context, max_slots};
 ghost use Rattle.bpf_insn.specs.Order.{bytes_of};
 ghost use Rattle.bpf_insn.specs.Instruction.{register_number, byte_count, insn_at, distance};
 ghost use Rattle.bpf_semantics.specs.declared.value.Value.TheVariants.{Number};
@@ -32,7 +33,7 @@ pub(crate) enum Location {
 #[inline(always)]
 fn in_context(count: usize, len: usize, at: i64, off: i16) -> Option<usize>
     requires few { count ≤ 8 }
-    requires short { len ≤ 4096 }
+    requires short { len ≤ max_context }
     ensures { result ≡ inside count len (at +ℤ off) }
 {
     let first = at.wrapping_add(i64::from(off));
@@ -108,7 +109,7 @@ impl<'a, C: Code> Machine<'a, C> {
     /// The machine at the start of a run: r1 is the context, r2 its length, r10 the end of the outermost frame. The
     /// context has at most 4,096 bytes.
     pub fn start(code: &'a C, context: &'a [u8]) -> Self
-        requires { length context.now ≤ 4096 }
+        requires { length context.now ≤ max_context }
         ensures { result ≡ running (C.program code.now) (start context.now) }
     {
         let _ = code.slots();
@@ -228,7 +229,7 @@ impl<'a, C: Code> Machine<'a, C> {
     /// The instruction at the slot; None past the last one.
     pub(crate) fn insn(&self) -> Option<Insn>
         ensures insn { result ≡ insn_at self.now.program.list self.now.state.top.slot }
-        ensures here { IfSome result (λ i. self.now.state.top.slot < 65536) }
+        ensures here { IfSome result (λ i. self.now.state.top.slot < max_slots) }
         ensures led { IfSome result (λ i. IfSome (distance i) (λ off. LeadsToSlot self.now.state.top.slot off)) }
     {
         self.code.insn(self.slot)
@@ -325,7 +326,7 @@ impl<'a, C: Code> Machine<'a, C> {
     /// Goes on behind an instruction of one slot, with a register written.
     #[inline(always)]
     pub(crate) fn put(&mut self, r: Reg, value: Value)
-        requires { self.old.state.top.slot < 65536 }
+        requires { self.old.state.top.slot < max_slots }
         ensures { self.new ≡ moved_to self.old (with_register (at_slot (self.old.state.top.slot + 1) self.old.state) (register_number r) (Some value)) }
     {
         self.registers.set(r, value);
@@ -335,7 +336,7 @@ impl<'a, C: Code> Machine<'a, C> {
     /// Goes on behind an instruction of one slot.
     #[inline(always)]
     pub(crate) fn advance(&mut self)
-        requires { self.old.state.top.slot < 65536 }
+        requires { self.old.state.top.slot < max_slots }
         ensures { self.new ≡ moved_to self.old (at_slot (self.old.state.top.slot + 1) self.old.state) }
     {
         self.slot += 1;
@@ -352,7 +353,7 @@ impl<'a, C: Code> Machine<'a, C> {
     #[inline(always)]
     pub(crate) fn enter(&mut self, slot: u32)
         requires room { depth self.old.state + 1 < max_frames }
-        requires here { self.old.state.top.slot < 65536 }
+        requires here { self.old.state.top.slot < max_slots }
         ensures { self.new ≡ moved_to self.old (entered self.old.state slot) }
     {
         self.callers.push(Caller {

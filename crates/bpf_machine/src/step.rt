@@ -7,6 +7,7 @@ pub(crate) mod jump;
 mod memory;
 
 ghost use Rattle.std.specs.Prelude.{◌<◌, IfSome};
+ghost use Rattle.bpf_insn.specs.Limits.{max_slots};
 ghost use Rattle.bpf_insn.specs.Instruction.{distance};
 ghost use Rattle.bpf_semantics.specs.Targets.{LeadsToSlot};
 ghost use Rattle.bpf_machine.specs.Answers.{Does, IsStep};
@@ -31,7 +32,7 @@ impl<'a, C: Code> Machine<'a, C> {
     }
 
     fn execute(&mut self, insn: Insn) -> Step
-        requires here { self.old.state.top.slot < 65536 }
+        requires here { self.old.state.top.slot < max_slots }
         requires led { IfSome (distance insn) (λ off. LeadsToSlot self.old.state.top.slot off) }
         ensures { Does self.old insn result self.new }
     {

@@ -1,7 +1,8 @@
 -- Abstract numbers: what is known of the bits, of the number and of the number read as two's complement.
-use Rattle.std.specs.Prelude.{ℕ, ◌-◌, ◌/◌, ◌^◌, Bool, ◌&&◌, nat_eq, Option, Some, None, if◌then◌else◌, option_and_then, option_map, bit_and, bit_or, bit_xor}
+use Rattle.std.specs.Prelude.{ℕ, ◌-◌, ◌/◌, ◌^◌, Bool, ◌&&◌, nat_eq, Option, Some, None, if◌then◌else◌, option_map, bit_and, bit_or, bit_xor}
 use Rattle.std.specs.Bool.{beq}
 use Rattle.std.specs.Int.{is_negative}
+use Rattle.bpf_insn.specs.Options.{◌>>=◌}
 use Rattle.bpf_num.specs.Word.{signed, unsigned, complement, bit_length}
 use Rattle.bpf_num.specs.Tristate.{Tristate, IsTristate, HasBits, tristate, bits_top, bits_constant, greatest, bits_join, bits_entail}
 use Rattle.bpf_num.specs.Interval.{Interval, IsInterval, Within, interval, unsigned_top, unsigned_constant, unsigned_join, unsigned_entail, unsigned_meet}
@@ -73,12 +74,12 @@ bits_from_unsigned n =
 -- the parts narrowed by each other, step by step; None where a step finds two that contradict each other
 abbrev pub tighten : Number → Option Number
 tighten n =
-    option_and_then signed_from_unsigned
-    (option_and_then unsigned_from_bits
-    (option_and_then bits_from_unsigned
-    (option_and_then unsigned_from_signed
-    (option_and_then signed_from_unsigned
-    (unsigned_from_bits n)))))
+    unsigned_from_bits n
+    >>= signed_from_unsigned
+    >>= unsigned_from_signed
+    >>= bits_from_unsigned
+    >>= unsigned_from_bits
+    >>= signed_from_unsigned
 
 -- ---- sets against sets
 

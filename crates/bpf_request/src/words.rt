@@ -14,6 +14,9 @@ use bpf_insn::Order;
 use clap::{ArgMatches, Error};
 use std::alloc::Global;
 
+/// How often a loop that gets a counter may turn, where nothing is said.
+const USUAL_TURNS: u32 = 65_536;
+
 /// What a command line asks for. Images are of the byte order.
 #[derive(Clone, Copy)]
 pub enum Request<'a> {
@@ -183,7 +186,7 @@ fn hardening_in<'a>(matches: &ArgMatches<'a>) -> Hardening<'a>
         input: word(matches, "IN"),
         length: number(matches, "LEN", 0),
         output: word(matches, "OUT"),
-        turns: number(matches, "turns", 65536),
+        turns: number(matches, "turns", USUAL_TURNS),
         otherwise: wide_number(matches, "otherwise", 0),
         padded: has_flag(matches, "padded"),
         notes: word_if(matches, "notes"),

@@ -29,7 +29,7 @@ use Rattle.bpf_state.specs.Held.{held}
 use Rattle.bpf_state.proofs.EntryLemmas.{register_below}
 use Rattle.bpf_state.specs.State.{tag as tag_of}
 use Rattle.bpf_safety.specs.Budget.{unsigned_bounds, bounds, place_of}
-use Rattle.bpf_safety.specs.Flow.{with_tag, with_tags}
+use Rattle.bpf_safety.specs.Flow.{with_term, with_tags}
 use Rattle.bpf_safety.proofs.Basics.{some_is}
 use Rattle.bpf_safety.proofs.Here.{HoldsNumber}
 
@@ -224,7 +224,7 @@ pub held_untagged : (s : AbstractState) (place : Place) → held (untagged s) pl
 held_untagged s (Register r) = refl
 held_untagged s (Slot k) = refl
 
-held_tag : (j : ℕ) (at place : Place) (s : AbstractState) → held (with_tag j at s) place ≡ held s place
+held_tag : (j : ℕ) (at place : Place) (s : AbstractState) → held (with_term j at s) place ≡ held s place
 held_tag j (Register r) (Register q) s = refl
 held_tag j (Register r) (Slot k) s = refl
 held_tag j (Slot k) (Register q) s = refl
@@ -234,7 +234,7 @@ pub held_tags : (j : ℕ) (ts : List Term) (place : Place) (s : AbstractState) �
 held_tags j [] place s = refl
 held_tags j (t ∷ ts) place s = held_tag j (place_of t) place (with_tags (suc j) ts s) ∙ held_tags (suc j) ts place s
 
-abstract_tag : (j : ℕ) (at : Place) (s : AbstractState) → IsAbstract s → IsAbstract (with_tag j at s)
+abstract_tag : (j : ℕ) (at : Place) (s : AbstractState) → IsAbstract s → IsAbstract (with_term j at s)
 abstract_tag j (Register r) s v = record { eleven = v.eleven; slots_are = v.slots_are; eleven_tags = length-set s.register_tags (register_number r) (Some (record { term = j; offset = pos 0 })) ∙ v.eleven_tags; slot_tags_are = v.slot_tags_are; registers = v.registers; slots = v.slots }
 abstract_tag j (Slot k) s v = record { eleven = v.eleven; slots_are = v.slots_are; eleven_tags = v.eleven_tags; slot_tags_are = length-set s.slot_tags (k - 1) (Some (record { term = j; offset = pos 0 })) ∙ v.slot_tags_are; registers = v.registers; slots = v.slots }
 
@@ -254,7 +254,7 @@ pub record HoldsValue (order : Order) (m : machine.State) (place : Place) (y : L
   pub is_there : slice_get y j ≡ Some value
   pub holds : HoldsNumber order m place value
 
-tag_describes : (order : Order) (least most : ℕ) (y : List ℕ) (j : ℕ) (at : Place) (s : AbstractState) (m : machine.State) → HoldsValue order m at y j → Describes order least most y s m → Describes order least most y (with_tag j at s) m
+tag_describes : (order : Order) (least most : ℕ) (y : List ℕ) (j : ℕ) (at : Place) (s : AbstractState) (m : machine.State) → HoldsValue order m at y j → Describes order least most y s m → Describes order least most y (with_term j at s) m
 tag_describes order least most y j (Register r) s m h d =
     record {
       length_within = d.length_within;

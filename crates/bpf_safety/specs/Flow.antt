@@ -1,28 +1,26 @@
 -- Which state reaches each instruction, and where it goes on.
-use Rattle.std.specs.Prelude.{ℕ, suc, ◌+◌, ◌-◌, ℤ, pos, ◌+ℤ◌, Bool, true, false, List, [], ◌∷◌, slice_set, Option, Some, None, is_none, option_map, option_and_then, if◌then◌else◌}
+use Rattle.std.specs.Prelude.{ℕ, suc, ◌+◌, ℤ, pos, ◌+ℤ◌, Bool, true, false, List, [], ◌∷◌, Option, Some, None, is_none, option_map, option_and_then, if◌then◌else◌}
 use Rattle.bpf_insn.specs.declared.instruction.Insn.{Insn}
 use Rattle.bpf_insn.specs.declared.instruction.Insn.TheVariants.{Ja, JaLong, JumpIf, CallLocal}
-use Rattle.bpf_insn.specs.Instruction.{Instructions, register_number, slot_count, distance, target, goes_on}
-use Rattle.bpf_state.specs.State.{AbstractState, tightened, caller_state, no_tags}
+use Rattle.bpf_insn.specs.Instruction.{Instructions, slot_count, distance, target, goes_on}
+use Rattle.bpf_state.specs.State.{AbstractState, tightened, caller_state, no_tags, with_tag}
 use Rattle.bpf_state.specs.Fault.{fault_of}
 use Rattle.bpf_state.specs.Transfer.{after, branch}
 use Rattle.bpf_state.specs.declared.known.Place.{Place}
 use Rattle.bpf_cert.specs.declared.certificate.Term.{Term}
 use Rattle.bpf_cert.specs.View.{LabelView, FunctionView, CertificateView}
 use Rattle.bpf_safety.specs.Labels.{label_at, function_from}
-use Rattle.bpf_state.specs.declared.known.Place.TheVariants.{Register, Slot}
 use Rattle.bpf_safety.specs.Budget.{budget, place_of, greatest_budget}
 
 -- ---- labels
 
--- the place of the term j has the tag (j, 0), other places none
-abbrev pub with_tag : ℕ → Place → AbstractState → AbstractState
-with_tag j (Register r) s = record s { register_tags = slice_set s.register_tags (register_number r) (Some (record { term = j; offset = pos 0 })) }
-with_tag j (Slot k) s = record s { slot_tags = slice_set s.slot_tags (k - 1) (Some (record { term = j; offset = pos 0 })) }
+-- the place has the tag of the term j: (j, 0)
+abbrev pub with_term : ℕ → Place → AbstractState → AbstractState
+with_term j place s = with_tag s place (Some (record { term = j; offset = pos 0 }))
 
 abbrev pub with_tags : ℕ → List Term → AbstractState → AbstractState
 with_tags j [] s = s
-with_tags j (t ∷ ts) s = with_tag j (place_of t) (with_tags (suc j) ts s)
+with_tags j (t ∷ ts) s = with_term j (place_of t) (with_tags (suc j) ts s)
 
 -- the state at a label: each number tightened, and a tag for each term
 abbrev pub label_state : LabelView → Option AbstractState

@@ -1,4 +1,4 @@
--- The number of each reason, from 1 to 9.
+-- The number of each reason why an instruction of RFC 9669, sections 4 and 5, can't be done, from 1 to 9.
 use Rattle.std.specs.Prelude.{ℕ}
 use Rattle.bpf_semantics.specs.declared.reason.Reason.{Reason}
 use Rattle.bpf_semantics.specs.declared.reason.Reason.TheVariants.{UnsetRegister, UnsetByte, OutOfBounds, ContextWrite, FramePointerWrite, OperandKind, TooManyFrames, PastEnd, PointerResult}

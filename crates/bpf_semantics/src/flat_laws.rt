@@ -1,4 +1,4 @@
-//! Laws of the flat machine, each as the contract of a function.
+//! Laws of the flat machine (RFC 9669, sections 4 and 5), each as the contract of a function.
 
 ghost use Rattle.bpf_semantics.specs.FlatLaws.{FlatFollows, FlatFinishes, FlatWritesOnly, FlatReadsOnly, FlatWritesOneRegister, FlatReadsRegisters};
 

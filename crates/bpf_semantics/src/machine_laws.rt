@@ -1,4 +1,4 @@
-//! Laws of the machine, each as the contract of a function.
+//! Laws of the machine (RFC 9669, sections 4 and 5), each as the contract of a function.
 
 ghost use Rattle.bpf_semantics.specs.MachineLaws.{StepIsDeterministic, FinishIsLast, StuckHasReason, StartIsState, StepKeepsStates, StepKeepsContext, StepKeepsSlots, RunsAreOne, StepsAreComputed, RunsKeepStates};
 

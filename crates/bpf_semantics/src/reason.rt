@@ -1,4 +1,4 @@
-//! Why an instruction can't be done: what RFC 9669 leaves undefined, and what this machine has no memory for.
+//! Why an instruction can't be done: what RFC 9669 leaves undefined in sections 4 and 5, and what this machine has no memory for.
 
 use thiserror::Error;
 

@@ -1,4 +1,4 @@
-//! Where the jumps and calls of a program lead.
+//! Where the jumps and calls of a program lead (RFC 9669, section 4.3).
 
 ghost use Rattle.std.specs.Prelude.{◌≡◌, ◌<◌, Some};
 ghost use Rattle.bpf_insn.specs.Instruction.{target};

@@ -18,7 +18,8 @@ use Rattle.bpf_insn.specs.declared.instruction.Size.TheVariants.{B, H, W, DW}
 use Rattle.bpf_insn.specs.declared.instruction.Insn.TheVariants.{Load}
 use Rattle.bpf_insn.specs.Instruction.{register_number, Instructions, byte_count}
 use Rattle.bpf_insn.specs.Order.{number_of}
-use Rattle.bpf_semantics.specs.Step.{◌>>=◌, load, Step, does}
+use Rattle.bpf_insn.specs.Options.{◌>>=◌}
+use Rattle.bpf_semantics.specs.Step.{load, Step, does}
 use Rattle.bpf_semantics.specs.Stuck.{unreadable, unreadable_at, loads_pointer, reason_at}
 use Rattle.bpf_insn.specs.Effects.{Access}
 use Rattle.bpf_semantics.specs.State as machine

@@ -20,7 +20,8 @@ use Rattle.bpf_semantics.specs.declared.value.Value.{Value}
 use Rattle.bpf_semantics.specs.declared.reason.Reason.{Reason}
 use Rattle.bpf_semantics.specs.declared.reason.Reason.TheVariants.{UnsetRegister, OutOfBounds, ContextWrite, FramePointerWrite, OperandKind, TooManyFrames, PointerResult}
 use Rattle.bpf_insn.specs.Instruction.{Instructions, insn_at}
-use Rattle.bpf_semantics.specs.Step.{◌>>=◌, alu_result, test_of_values, operand as machine_operand}
+use Rattle.bpf_insn.specs.Options.{◌>>=◌}
+use Rattle.bpf_semantics.specs.Step.{alu_result, test_of_values, operand as machine_operand}
 use Rattle.bpf_semantics.specs.Stuck.{reads_unset, has_wrong_kind, is_pointer as is_pointer_value, is_out_of_bounds as is_past, writes_context, unreadable, has_no_frame, exits_with_pointer, reason_if, first_of, reason_at, reason_of}
 use Rattle.bpf_insn.specs.Effects.{operand_register, registers_read, writes_frame_pointer}
 use Rattle.bpf_semantics.specs.State as machine

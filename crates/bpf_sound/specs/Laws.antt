@@ -11,7 +11,8 @@ use Rattle.bpf_insn.specs.Instruction.{Instructions, insn_at}
 use Rattle.bpf_insn.specs.Image.{HasEncoding}
 use Rattle.bpf_insn.specs.Limits.{max_context}
 use Rattle.bpf_semantics.specs.State as machine
-use Rattle.bpf_semantics.specs.Step.{Step, test_of_values, operand, ◌>>=◌}
+use Rattle.bpf_insn.specs.Options.{◌>>=◌}
+use Rattle.bpf_semantics.specs.Step.{Step, test_of_values, operand}
 use Rattle.bpf_semantics.specs.Stuck.{reason_of}
 use Rattle.bpf_num.specs.Number.{Number, IsNumber, Has}
 use Rattle.bpf_state.specs.State.{AbstractState, IsAbstract, first_state, callee_state, caller_state, tightened}

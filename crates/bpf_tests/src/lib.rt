@@ -5,6 +5,8 @@
 #[cfg(test)]
 mod cert;
 #[cfg(test)]
+mod follows;
+#[cfg(test)]
 mod insn;
 #[cfg(test)]
 mod machine;

@@ -4,6 +4,7 @@ pub mod HexLemmas
 pub mod ListingLemmas
 pub mod NumberLemmas
 pub mod LineLemmas
+pub mod PartedLemmas
 pub mod SourceLemmas
 pub mod AssemblerLemmas
 pub mod ChainLemmas
@@ -18,7 +19,9 @@ pub mod ListedLemmas
 pub mod RoundTripLemmas
 pub mod TokenLemmas
 pub mod TokenReading
+pub mod PartsRead
 pub mod FormsRead
+pub mod PartsAreRead
 pub mod FormsAreRead
 pub mod LinesRead
 pub mod LengthLemmas

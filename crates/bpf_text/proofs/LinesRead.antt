@@ -34,7 +34,8 @@ use Rattle.bpf_text.proofs.WordLemmas.{both_true}
 use Rattle.bpf_text.proofs.TokenLemmas.{ReadTokens, word_t, Same, word_same, head}
 use Rattle.bpf_text.proofs.TokenLemmas.Head.{nothing, a_word, a_mark}
 use Rattle.bpf_text.proofs.TokenReading.{if_nothing, nothing_left, whole_t, whole_same}
-use Rattle.bpf_text.proofs.FormsRead.{Gives, then_gives, if_gives, word_gives, whole_gives}
+use Rattle.bpf_text.proofs.PartsRead.{Gives, then_gives, if_gives, word_gives}
+use Rattle.bpf_text.proofs.FormsRead.{whole_gives}
 use Rattle.bpf_text.proofs.FormsAreRead.{whole_form}
 
 -- ---- tokens between colons

@@ -1,5 +1,5 @@
 -- What is looked up by a word or by a first character is what is found one after another.
-use Rattle.std.proofs.Common.{◌≡◌, ℕ, Bool, true, false, List, [], ◌∷◌, Option, Some, None, refl, ap, sym, ◌∙◌, map, rules, drop, arith}
+use Rattle.std.proofs.Common.{◌≡◌, ℕ, Bool, true, false, List, [], ◌∷◌, Option, Some, None, refl, ap, sym, ◌∙◌, map, rules, drop, get_or, length, ◌<◌, arith}
 use Rattle.std.specs.Prelude.{option_map, option_and_then, ◌==◌, ◌&&◌, if◌then◌else◌}
 use Rattle.std.specs.Str.{bytes_eq}
 use Rattle.std.proofs.lemmas.Slice.Eq.{bytes_eq-Decides}
@@ -14,7 +14,7 @@ use Rattle.bpf_text.specs.Characters.{is_word_part}
 use Rattle.bpf_text.specs.Parts.{registers, register, register_spelling, swaps, swap_spelling, extensions, memories, memory_text, keywords, keyword_text}
 use Rattle.bpf_text.specs.code.WordReading.{Read, skip_blanks, word_in, word_of, word_front, word_rest, behind, behind_word, behind_mark, behind_first, behind_marks, behind_front, first_spelled, found_here, or_else}
 use Rattle.bpf_text.specs.code.StatementReading.{any_register_in}
-use Rattle.bpf_text.specs.Lookup.{first_named, by_word, may_begin, width_named, digit_named, number_named, register_named}
+use Rattle.bpf_text.specs.Lookup.{first_named, by_word, may_begin, begun, width_named, digit_named, number_named, register_named}
 
 -- ---- words
 
@@ -238,3 +238,28 @@ begins_not (c ∷ cs) text h = go (is_word_part c)
     go : (b : Bool) → option_and_then (behind_marks (if b then word_rest cs else c ∷ cs)) (behind_front (if b then c ∷ word_front cs else []) text) ≡ None
     go true = ap (option_and_then (behind_marks (word_rest cs))) (word_not c (skip_blanks text) (word_front cs) cs h)
     go false = mark_not c (skip_blanks text) cs h
+
+-- a spelling begins as the text does by its first character alone
+by_head : (s : List ℕ) (c : ℕ) (cs : List ℕ) → may_begin s (c ∷ cs) ≡ may_begin s (c ∷ [])
+by_head [] c cs = refl
+by_head (x ∷ xs) c cs = refl
+
+-- only those things are found whose spelling begins with the first character
+begun_found : {A : Type 0} (spelling : A → List ℕ) (xs : List A) (text : List ℕ) (c : ℕ) (cs : List ℕ) → skip_blanks text ≡ c ∷ cs
+    → first_spelled spelling (begun spelling c xs) text ≡ first_spelled spelling xs text
+begun_found spelling [] text c cs e = refl
+begun_found {A = A} spelling (x ∷ xs) text c cs e = go (may_begin (spelling x) (c ∷ [])) refl (begun_found spelling xs text c cs e)
+  where
+    go : (b : Bool) → may_begin (spelling x) (c ∷ []) ≡ b → first_spelled spelling (begun spelling c xs) text ≡ first_spelled spelling xs text
+        → first_spelled spelling (if b then x ∷ begun spelling c xs else begun spelling c xs) text ≡ or_else (found_here x (behind (spelling x) text)) (first_spelled spelling xs text)
+    go true is rest = ap (or_else (found_here x (behind (spelling x) text))) rest
+    go false is rest =
+        let other : behind (spelling x) text ≡ None = begins_not (spelling x) text (ap (may_begin (spelling x)) e ∙ by_head (spelling x) c cs ∙ is) in
+        rest ∙ ap (λ o. or_else (found_here x o) (first_spelled spelling xs text)) (sym other)
+
+-- two lists in which the same begin with the first character give the same
+pub by_first_found : {A : Type 0} (spelling : A → List ℕ) (xs ys : List A) (begin text : List ℕ) → begin ≡ skip_blanks text → 0 < length begin → begun spelling (get_or begin 0 0) xs ≡ begun spelling (get_or begin 0 0) ys
+    → first_spelled spelling xs text ≡ first_spelled spelling ys text
+by_first_found spelling xs ys [] text e some same = absurd (omega arith)
+by_first_found spelling xs ys (c ∷ cs) text e some same =
+    sym (begun_found spelling xs text c cs (sym e)) ∙ ap (λ zs. first_spelled spelling zs text) same ∙ begun_found spelling ys text c cs (sym e)

@@ -8,7 +8,7 @@ use Rattle.bpf_insn.specs.declared.instruction.Insn.TheVariants.{LoadImm64}
 use Rattle.bpf_text.specs.declared.error.TextError.{TextError}
 use Rattle.bpf_text.specs.Statements.{Statement, plain, to_label}
 use Rattle.bpf_text.specs.Sources.{Label, Said, Source, before, lines_of, without_comment, said_at, in_front, ends_with, statement_slots}
-use Rattle.bpf_text.specs.code.LineReading.{behind_it, line_in, labels_at, line_before, slots_said, source_from, source_of}
+use Rattle.bpf_text.specs.code.LineReading.{behind_it, line_in, fault_at, labels_at, line_before, slots_said, source_from, source_of}
 use Rattle.bpf_text.proofs.LineLemmas.{rest_split, split_cut}
 
 -- the source of what is left of a text
@@ -40,13 +40,10 @@ pub front_of_front : (ls ms : List Label) (ss ts : List Said) (source : Source) 
 front_of_front ls ms ss ts source = sym (rw (append_assoc ls ms source.labels, append_assoc ss ts source.said) refl)
 
 -- a line that stops the reading
-pub stops : (line slot : ℕ) (text whole code : List ℕ) (fault : LineFault) (ls : List Label) (ss : List Said) (all : Source)
-    → whole ≡ before 10 text → code ≡ before 59 whole → Err fault ≡ line_in code
-    → in_front ls ss (source_left line slot (Some text)) ≡ all → in_front ls ss (line_before line slot code (Err fault) (ends_with None)) ≡ all
-stops line slot text whole code NoForm ls ss all w c e h =
-    ap (in_front ls ss) (sym (one_line line slot text ∙ rw (← w, ← c, ← e) refl)) ∙ h
-stops line slot text whole code OutOfRange ls ss all w c e h =
-    ap (in_front ls ss) (sym (one_line line slot text ∙ rw (← w, ← c, ← e) refl)) ∙ h
+pub stops : (line slot : ℕ) (text : List ℕ) (fault : LineFault) (ls : List Label) (ss : List Said) (all : Source)
+    → Err fault ≡ line_in (without_comment (before 10 text)) → in_front ls ss (source_left line slot (Some text)) ≡ all → in_front ls ss (ends_with (Some (fault_at line fault))) ≡ all
+stops line slot text NoForm ls ss all e h = ap (in_front ls ss) (sym (one_line line slot text ∙ rw (← e) refl)) ∙ h
+stops line slot text OutOfRange ls ss all e h = ap (in_front ls ss) (sym (one_line line slot text ∙ rw (← e) refl)) ∙ h
 
 -- and nothing behind it
 pub ended : (ls : List Label) (ss : List Said) (fault : Option TextError) → record { labels = ls; said = ss; fault = fault } ≡ in_front ls ss (ends_with fault)

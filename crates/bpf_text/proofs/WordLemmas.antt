@@ -1,5 +1,5 @@
 -- Words and numbers in front of a text.
-use Rattle.std.proofs.Common.{◌≡◌, ℕ, zero, suc, ◌+◌, ◌*◌, ◌/◌, ◌%◌, ◌^◌, ◌<◌, ◌≤◌, Bool, true, false, cond, eqb, ltb, leb, List, [], ◌∷◌, ◌++◌, length, Some, refl, ap, ◌∙◌, subst, arith, lit<, lit≤}
+use Rattle.std.proofs.Common.{◌≡◌, ℕ, zero, suc, ◌+◌, ◌*◌, ◌/◌, ◌%◌, ◌^◌, ◌<◌, ◌≤◌, Bool, true, false, cond, eqb, ltb, leb, List, [], ◌∷◌, ◌++◌, length, map, get_or, Some, refl, ap, ◌∙◌, subst, arith, lit<, lit≤}
 use Rattle.std.specs.Prelude.{codes, decimal, ◌&&◌}
 use Rattle.std.specs.Char.{digit_value}
 use Rattle.std.specs.List.{list_all}
@@ -7,9 +7,19 @@ use Rattle.std.specs.Fmt.{digits, digits_onto, digit_glyph}
 use Rattle.std.proofs.lemmas.Bool.Decides.{nat_tests, Decides-eqb}
 use Rattle.std.proofs.Math.Nat.{div-eq_of_lt, div-lt_iff_lt-mul, pow-suc, pow-zero, mod-lt}
 use Rattle.std.proofs.lemmas.Nat.{div-add-mod'}
+use Rattle.bpf_insn.proofs.TableLemmas.{numbers_from, same_in_range}
+use Rattle.bpf_text.specs.declared.token.TheConstants.{WORD_PARTS}
 use Rattle.bpf_text.specs.Characters.{is_digit, is_word_part, is_blank}
 use Rattle.bpf_text.specs.code.WordReading.{skip_blanks, word_front, word_rest, word_of, word_in, unsigned_in}
 use Rattle.bpf_text.specs.Numerals.{value_after, value_up_to, word_value, begins_hex}
+
+parts_agree : map (λ b. get_or WORD_PARTS b false) (numbers_from 0 256) ≡ map (λ b. is_word_part b) (numbers_from 0 256)
+unfolding numbers_from
+parts_agree = refl
+
+-- what the table has
+pub word_parts_are : (b : ℕ) → b < 256 → get_or WORD_PARTS b false ≡ is_word_part b
+word_parts_are = same_in_range (λ b. get_or WORD_PARTS b false) (λ b. is_word_part b) false 256 parts_agree
 
 -- no word goes on in front of this text
 pub record Stops (text : List ℕ) : Type 0 where

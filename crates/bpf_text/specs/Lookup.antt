@@ -24,6 +24,11 @@ may_begin [] text = true
 may_begin (s ∷ ss) [] = false
 may_begin (s ∷ ss) (c ∷ cs) = s == c
 
+-- those of these things whose spelling begins with a character
+abbrev pub begun : {A : Type 0} → (A → List ℕ) → ℕ → List A → List A
+begun spelling c [] = []
+begun spelling c (x ∷ xs) = if may_begin (spelling x) (c ∷ []) then x ∷ begun spelling c xs else begun spelling c xs
+
 -- ---- registers: 114 is `r` and 119 `w`, 48 to 57 are the digits
 
 abbrev pub width_named : ℕ → Option Width

@@ -9,6 +9,7 @@ mod error;
 mod excerpt;
 mod laws;
 mod line;
+mod line_read;
 mod listed_line;
 mod lister;
 mod lookup;

@@ -4,12 +4,11 @@ ghost use Rattle.std.specs.Prelude.{◌≡◌, ℕ, ◌+◌, ◌<◌, ◌≤◌,
 ghost use Rattle.bpf_text.specs.code.WordReading.{skip_blanks};
 ghost use Rattle.bpf_text.specs.Sources.{before};
 ghost use Rattle.bpf_text.specs.Stop.{IsUnlabelled};
-ghost use Rattle.bpf_text.specs.code.LineReading.{behind_it, label_in, labels_in, last_part, parts_of, labels_at, said_in, line_in};
+ghost use Rattle.bpf_text.specs.code.LineReading.{behind_it, label_in, last_part, parts_of, said_in, line_in};
 ghost use Rattle.bpf_text.specs.code.Seen.{line_seen, label_seen, size_left};
 
 use crate::statement::{Statement, is_name, statement_of};
 use crate::token::{skip_blanks, word};
-use std::alloc::AllocError;
 
 /// The text in front of the first such byte, and what stands behind it, if it is there.
 fn cut(text: &[u8], mark: u8) -> (&[u8], Option<&[u8]>)
@@ -51,6 +50,13 @@ pub fn cut_line(text: &[u8]) -> (&[u8], Option<&[u8]>)
     let (code, rest) = split_code(text);
     let (_, more) = cut(rest, b'\n');
     (code, more)
+}
+
+/// What stands behind the end of a line, if that is there.
+pub fn behind_line(text: &[u8]) -> Option<&[u8]>
+    ensures { option_map (λ x. x.now) result ≡ behind_it 10 text.now }
+{
+    cut(text, b'\n').1
 }
 
 /// The name of a label, with nothing but blanks about it.
@@ -113,29 +119,8 @@ pub fn unlabelled(line: &[u8]) -> &[u8]
     }
 }
 
-/// Puts the labels of a line behind those that are there.
-pub fn push_labels<'a>(
-    labels: &mut Vec<Label<'a>>,
-    text: &'a [u8],
-    slot: usize,
-    line: usize,
-) -> Result<(), AllocError>
-    ensures { OnOk result (map label_seen labels.new.items ≡ map label_seen labels.old.items ++ labels_at line slot text.now) }
-{
-    let mut rest = text;
-    'labels: loop {
-        let (part, more) = cut(rest, b':');
-        let Some(more) = more else {
-            return Ok(());
-        };
-        if let Some(name) = label_name(part) {
-            labels.push(Label { name, slot, line })?;
-        }
-        rest = more;
-    }
-}
-
-fn said(part: &[u8]) -> Result<Option<Statement<'_>>, LineFault>
+/// What stands behind the labels of a line: nothing but blanks, or a statement.
+pub fn said(part: &[u8]) -> Result<Option<Statement<'_>>, LineFault>
     ensures { line_seen result ≡ said_in part.now (skip_blanks part.now) }
 {
     if skip_blanks(part).is_empty() {

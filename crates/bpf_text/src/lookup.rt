@@ -4,15 +4,16 @@ ghost use Rattle.std.specs.Prelude.{◌≡◌, option_map};
 ghost use Rattle.bpf_insn.specs.declared.instruction.Width.TheVariants.{W32, W64};
 ghost use Rattle.bpf_text.specs.code.WordReading.{first_spelled};
 ghost use Rattle.bpf_text.specs.code.StatementReading.{any_register_in};
-ghost use Rattle.bpf_text.specs.Spelling.{sign_bits_text};
-ghost use Rattle.bpf_text.specs.Parts.{swaps, swap_spelling, extensions, memories, memory_text, keywords, keyword_text};
-ghost use Rattle.bpf_text.specs.Lookup.{first_named, by_word, width_named, digit_named, number_named, register_named};
+ghost use Rattle.bpf_text.specs.Spelling.{operation_text, cond_text, sign_bits_text};
+ghost use Rattle.bpf_text.specs.Parts.{operations, conditions, swaps, swap_spelling, extensions, memories, memory_text, keywords, keyword_text};
+ghost use Rattle.bpf_text.specs.Lookup.{begun, first_named, by_word, width_named, digit_named, number_named, register_named};
 
 use crate::spelling::{
-    EXTENSIONS, KEYWORDS, Keyword, MEMORIES, Memory, Register, SWAPS, Spelled, Swap,
+    CONDITIONS, EXTENSIONS, KEYWORDS, Keyword, MEMORIES, Memory, OPERATIONS, Register, SWAPS,
+    Spelled, Swap,
 };
-use crate::token::word;
-use bpf_insn::{Reg, SignBits, Width};
+use crate::token::{first_spelled, skip_blanks, word};
+use bpf_insn::{AluOp, Cond, Reg, SignBits, Width};
 
 /// The first of the things that a word spells.
 fn first_named<T: Spelled + Copy>(things: &[T], word: &[u8]) -> Option<T>
@@ -124,4 +125,57 @@ pub fn keyword_named(word: &[u8]) -> Option<Keyword>
     ensures { result ≡ first_named keyword_text keywords word.now }
 {
     first_named(&KEYWORDS, word)
+}
+
+/// A part of the operations with all whose spelling begins with a byte.
+fn operations_by(first: u8) -> &'static [AluOp]
+    ensures { begun operation_text first result.now ≡ begun operation_text first operations }
+{
+    match first {
+        b'+' => &OPERATIONS[..1],
+        b'-' => &OPERATIONS[1..2],
+        b'*' => &OPERATIONS[2..3],
+        b'/' => &OPERATIONS[3..4],
+        b'|' => &OPERATIONS[5..6],
+        b'&' => &OPERATIONS[6..7],
+        b'<' => &OPERATIONS[7..8],
+        b'>' => &OPERATIONS[8..9],
+        b'=' => &OPERATIONS[12..13],
+        _ => &OPERATIONS,
+    }
+}
+
+/// The operation in front of a text, and what stands behind it.
+pub fn operation(text: &[u8]) -> Option<(AluOp, &[u8])>
+    ensures { option_map (λ x. (x.0, x.1.now)) result ≡ first_spelled operation_text operations text.now }
+{
+    match skip_blanks(text) {
+        [] => first_spelled(&OPERATIONS, text),
+        [first, ..] => first_spelled(operations_by(*first), text),
+    }
+}
+
+/// A part of the conditions with all whose spelling begins with a byte.
+fn conditions_by(first: u8) -> &'static [Cond]
+    ensures { begun cond_text first result.now ≡ begun cond_text first conditions }
+{
+    match first {
+        b'=' => &CONDITIONS[..1],
+        b'!' => &CONDITIONS[1..2],
+        b'&' => &CONDITIONS[2..3],
+        b'>' => &CONDITIONS[3..5],
+        b'<' => &CONDITIONS[5..7],
+        b's' => &CONDITIONS[7..],
+        _ => &CONDITIONS,
+    }
+}
+
+/// The condition in front of a text, and what stands behind it.
+pub fn condition(text: &[u8]) -> Option<(Cond, &[u8])>
+    ensures { option_map (λ x. (x.0, x.1.now)) result ≡ first_spelled cond_text conditions text.now }
+{
+    match skip_blanks(text) {
+        [] => first_spelled(&CONDITIONS, text),
+        [first, ..] => first_spelled(conditions_by(*first), text),
+    }
 }

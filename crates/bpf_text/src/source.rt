@@ -1,13 +1,14 @@
 //! The labels and statements of a text.
 
 ghost use Rattle.std.specs.Prelude.{◌≡◌, IfOk, OnOk, ◌+◌};
-ghost use Rattle.bpf_text.specs.code.LineReading.{source_of};
+ghost use Rattle.bpf_text.specs.code.LineReading.{fault_at, source_of};
 ghost use Rattle.bpf_text.specs.Sources.{statement_slots};
 ghost use Rattle.bpf_text.specs.code.SourceSeen.{source_seen};
 ghost use Rattle.bpf_text.specs.Statements.{seen};
 
 use crate::error::TextError;
-use crate::line::{Label, LineFault, cut_line, push_labels, statement_in};
+use crate::line::{Label, LineFault, behind_line};
+use crate::line_read::read_line;
 use crate::statement::Statement;
 use std::alloc::{AllocError, Global};
 
@@ -36,6 +37,16 @@ fn slots_of(statement: &Statement) -> usize
     }
 }
 
+/// The refusal of a line with a fault.
+fn fault_at(line: usize, fault: LineFault) -> TextError
+    ensures { result ≡ fault_at line fault }
+{
+    match fault {
+        LineFault::NoForm => TextError::Form { line },
+        LineFault::OutOfRange => TextError::Range { line },
+    }
+}
+
 /// Reads the lines of a text, each once.
 pub fn source_of(alloc: Global, text: &[u8]) -> Result<Source<'_>, AllocError>
     ensures { IfOk result (λ source. source_seen source ≡ source_of text.now) }
@@ -46,19 +57,13 @@ pub fn source_of(alloc: Global, text: &[u8]) -> Result<Source<'_>, AllocError>
     let mut line = 1;
     let mut slot = 0;
     'lines: while let Some(text) = rest {
-        let (code, more) = cut_line(text);
-        let statement = match statement_in(code) {
+        let above = labels.len();
+        let read = read_line(&mut labels, text, slot, line)?;
+        let statement = match read.said {
             Ok(statement) => statement,
-            Err(LineFault::NoForm) => {
-                let fault = Some(TextError::Form { line });
-                return Ok(Source {
-                    labels,
-                    said,
-                    fault,
-                });
-            }
-            Err(LineFault::OutOfRange) => {
-                let fault = Some(TextError::Range { line });
+            Err(fault) => {
+                labels.truncate(above);
+                let fault = Some(fault_at(line, fault));
                 return Ok(Source {
                     labels,
                     said,
@@ -66,7 +71,6 @@ pub fn source_of(alloc: Global, text: &[u8]) -> Result<Source<'_>, AllocError>
                 });
             }
         };
-        push_labels(&mut labels, code, slot, line)?;
         if let Some(statement) = statement {
             said.push(Said {
                 statement,
@@ -76,7 +80,7 @@ pub fn source_of(alloc: Global, text: &[u8]) -> Result<Source<'_>, AllocError>
             slot += slots_of(&statement);
         }
         line += 1;
-        rest = more;
+        rest = behind_line(read.rest);
     }
     Ok(Source {
         labels,

@@ -9,12 +9,12 @@ ghost use Rattle.bpf_text.specs.code.StatementReading.{same_width, register_in, 
 ghost use Rattle.bpf_text.specs.Statements.{is_extension, jump_by};
 ghost use Rattle.bpf_text.specs.Characters.{is_name};
 
-use crate::lookup::{any_register, extension_bits, keyword_named, register_named, swap};
-use crate::spelling::{CONDITIONS, Keyword, OPERATIONS, Register, Spelled, Swap};
-use crate::statement::memory::{atomic, load, store};
-use crate::token::{
-    behind, behind_mark, first_spelled, is_digit, number, signed, skip_blanks, unsigned, word,
+use crate::lookup::{
+    any_register, condition, extension_bits, keyword_named, operation, register_named, swap,
 };
+use crate::spelling::{Keyword, Register, Spelled, Swap};
+use crate::statement::memory::{atomic, load, store};
+use crate::token::{behind, behind_mark, is_digit, number, signed, skip_blanks, unsigned, word};
 use bpf_insn::{AluOp, Cond, Insn, Operand, Reg, SignBits, Width};
 
 /// A jump or call, without its target.
@@ -242,7 +242,7 @@ fn operation_of(op: AluOp, width: Width, dst: Reg, src: Option<Operand>) -> Opti
 fn assignment(width: Width, dst: Reg, text: &[u8]) -> Read<'_, Insn>
     ensures { option_map (λ x. (x.0, x.1.now)) result ≡ assignment_in width dst text.now }
 {
-    let (op, rest) = first_spelled(&OPERATIONS, text)?;
+    let (op, rest) = operation(text)?;
     if let AluOp::Mov = op {
         return assigned(width, dst, rest);
     }
@@ -339,7 +339,7 @@ fn branch(text: &[u8]) -> Read<'_, Statement<'_>>
     ensures { option_map (λ x. (option_map seen x.0, x.1.now)) result ≡ branch_in text.now }
 {
     let (dst, rest) = any_register(text)?;
-    let (cond, rest) = first_spelled(&CONDITIONS, rest)?;
+    let (cond, rest) = condition(rest)?;
     let (src, rest) = operand(dst.0, rest)?;
     let rest = behind(rest, "goto")?;
     test(cond, dst.0, dst.1, src, rest)

@@ -1,22 +1,12 @@
 -- Straight code, which goes on at the next instruction alone.
-use Rattle.std.specs.Prelude.{◌≡◌, ℕ, ◌+◌, ◌<◌, ◌≤◌, Bool, true, false, Option, Some, None}
+use Rattle.std.specs.Prelude.{◌≡◌, ℕ, ◌+◌, ◌<◌, ◌≤◌, true, Option, Some, None}
 use Rattle.bpf_insn.specs.declared.instruction.Insn.{Insn}
-use Rattle.bpf_insn.specs.declared.instruction.Insn.TheVariants.{Ja, JaLong, JumpIf, CallLocal, Exit}
-use Rattle.bpf_insn.specs.Instruction.{slot_count}
+use Rattle.bpf_insn.specs.Instruction.{slot_count, is_straight}
 use Rattle.bpf_insn.specs.Limits.{greatest_slot}
 use Rattle.bpf_cert.specs.View.{CertificateView}
 use Rattle.bpf_safety.specs.Labels.{label_at, function_at}
 use Rattle.bpf_check.specs.declared.arrival.Here.{Here}
 use Rattle.bpf_check.specs.declared.straight.Step.{Step}
-
--- it neither jumps nor calls nor exits
-abbrev pub is_straight : Insn → Bool
-is_straight (Ja off) = false
-is_straight (JaLong off) = false
-is_straight (JumpIf cond width dst src off) = false
-is_straight (CallLocal off) = false
-is_straight Exit = false
-is_straight i = true
 
 -- no label stands at the instruction, nor at the next one, which is there and lies in the same function
 pub record IsStep (end : ℕ) (s : Step) : Type 0 where

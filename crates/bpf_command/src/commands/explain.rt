@@ -1,9 +1,12 @@
 //! `bpf explain IN`, and the same with a certificate, over the inferrer's work, and of a text.
 
-ghost use Rattle.std.specs.Prelude.{◌≡◌, ◌⊎◌, ◌≤◌, ◌<◌, IfOk, IfErr, None, MatchResult, false, ◌∷◌, []};
+ghost use Rattle.std.specs.Prelude.{◌≡◌, ◌≤◌, ◌<◌, IfOk, IfErr, IfSome, IfNone, None, MatchResult, false, ◌∷◌, []};
 ghost use Rattle.bpf_insn.specs.Instruction.{slots};
 ghost use Rattle.bpf_insn.specs.Limits.{max_context};
 ghost use Rattle.bpf_cert.specs.Limits.{IsCertificate};
+ghost use Rattle.bpf_safety.specs.Certified.{IsLeastFlaw};
+ghost use Rattle.bpf_check.specs.CheckedProgram.{IsCertifiedBy};
+ghost use Rattle.bpf_check.specs.RefusalNumbers.{refusal_number, refusal_slot};
 ghost use Rattle.bpf_infer_error.specs.RefusalNumbers.{infer_slot};
 ghost use Rattle.bpf_command.specs.Names.{behind_lines, names_explained};
 ghost use Rattle.bpf_answers.specs.Loaded.{CertificateAt, CertificateFails, CertificateRefused, ImageFails, OpensFirst, TextFails, Tried};
@@ -15,10 +18,10 @@ use bpf_answers::{
     DONE, Failure, REFUSED, image_at, refuse_certificate, refuse_image, refuse_text, text_at,
 };
 use bpf_cert::{CertError, Certificate, read};
-use bpf_check::check;
+use bpf_check::Refusal;
 use bpf_explain::{
-    Shown, dot_plain, explain, explain_certificate, explain_image, explain_inferred,
-    explain_searched, explain_text, is_table,
+    Found, Shown, dot_plain, explain, explain_inferred, explain_searched, is_table, write_alone,
+    write_fault, write_program, write_refusal, write_text_refusal,
 };
 use bpf_infer::{InferError, Watch};
 use bpf_insn::{Code, DecodeError, MAX_CONTEXT, Order, Program, ProgramView, decode};
@@ -30,40 +33,45 @@ use std::io::{self, Write};
 
 // ---- images and texts
 
-/// Explains bytes as an image, and answers the status.
-fn say_image<'a, W: Write>(
-    out: &mut W,
-    bytes: &[u8],
-    order: Order,
-    status: u8,
-) -> Result<u8, Failure<'a>>
+/// The status that is answered where words were written.
+fn told<'a>(words: io::Result<()>, status: u8) -> Result<u8, Failure<'a>>
     ensures ok { IfOk result (λ s. s ≡ status) }
     ensures err { IfErr result OutputFails }
 {
-    match explain_image(bytes, order, out) {
-        Ok(_) => Ok(status),
+    match words {
+        Ok(()) => Ok(status),
         Err(_) => Err(Failure::CannotWrite("standard output")),
     }
 }
 
-/// Explains the image of a program, or draws the program's graph.
-fn say_valid<'a, C: Code, W: Write>(
+/// Explains why bytes are refused as an image.
+fn refused_image<'a, W: Write>(
     out: &mut W,
-    program: &C,
     bytes: &[u8],
     order: Order,
+    error: DecodeError,
+) -> Result<u8, Failure<'a>>
+    ensures ok { IfOk result (λ s. s ≡ 1) }
+    ensures err { IfErr result OutputFails }
+{
+    told(write_refusal(bytes, order, error, out), REFUSED)
+}
+
+/// Explains a program by itself, or draws its graph.
+fn say_alone<'a, C: Code, W: Write>(
+    out: &mut W,
+    program: &C,
     is_graph: bool,
 ) -> Result<u8, Failure<'a>>
     ensures ok { IfOk result (λ s. s ≡ 0) }
     ensures err { IfErr result OutputFails }
 {
-    if !is_graph {
-        return say_image(out, bytes, order, DONE);
-    }
-    match dot_plain(program, out) {
-        Ok(()) => Ok(DONE),
-        Err(_) => Err(Failure::CannotWrite("standard output")),
-    }
+    let words = if is_graph {
+        dot_plain(program, out)
+    } else {
+        write_alone(program, out)
+    };
+    told(words, DONE)
 }
 
 /// Explains an image, or draws the graph of its program.
@@ -84,25 +92,8 @@ fn explained_image<'a, P: Places, W: Write>(
         Err(error) => return refuse_image(alloc, out, error),
     };
     match ProgramView::of(&bytes, order) {
-        Ok(program) => say_valid(out, &program, &bytes, order, is_graph),
-        Err(_error) => say_image(out, &bytes, order, REFUSED),
-    }
-}
-
-/// Explains bytes as a text, and answers the status, or 1 where memory ran out.
-fn say_text<'a, W: Write>(
-    alloc: Global,
-    out: &mut W,
-    bytes: &[u8],
-    status: u8,
-) -> Result<u8, Failure<'a>>
-    ensures ok { IfOk result (λ s. (s ≡ status) ⊎ (s ≡ 1)) }
-    ensures err { IfErr result OutputFails }
-{
-    match explain_text(alloc, bytes, out) {
-        Ok(true) => Ok(status),
-        Ok(false) => Ok(REFUSED),
-        Err(_) => Err(Failure::CannotWrite("standard output")),
+        Ok(program) => say_alone(out, &program, is_graph),
+        Err(error) => refused_image(out, &bytes, order, error),
     }
 }
 
@@ -120,23 +111,16 @@ fn explained_text<'a, P: Places, W: Write>(
 {
     let text = text_at(alloc, places, input)?;
     match assemble(alloc, text.as_str(), order) {
-        Ok(_program) => say_text(alloc, out, text.as_str().as_bytes(), DONE),
+        Ok(program) => told(write_program(&program, out), DONE),
         Err(TextError::Memory) => refuse_text(alloc, out, TextError::Memory),
-        Err(_error) => say_text(alloc, out, text.as_str().as_bytes(), REFUSED),
+        Err(error) => told(
+            write_text_refusal(alloc, text.as_str().as_bytes(), error, out),
+            REFUSED,
+        ),
     }
 }
 
 // ---- certificates
-
-/// The status of the checker's answer.
-fn verdict<C: Code>(program: &C, certificate: &Certificate) -> u8
-    ensures { JudgesOf (C.program program.now) certificate.now result }
-{
-    match check(program, certificate) {
-        Ok(_checked) => DONE,
-        Err(_refusal) => REFUSED,
-    }
-}
 
 /// Shows a program with its certificate, and answers the status.
 fn say_program<'a, C: Code, W: Write>(
@@ -156,21 +140,18 @@ fn say_program<'a, C: Code, W: Write>(
 }
 
 /// Explains why a certificate's text is refused.
-fn say_certificate<'a, W: Write>(
-    alloc: Global,
+fn refused_text<'a, W: Write>(
     out: &mut W,
     bytes: Option<Vec<u8>>,
+    error: CertError,
 ) -> Result<u8, Failure<'a>>
-    ensures ok { IfOk result (λ status. status ≡ 1) }
+    ensures ok { IfOk result (λ s. s ≡ 1) }
     ensures err { IfErr result OutputFails }
 {
     let Some(bytes) = bytes else {
         return Err(Failure::NoMemory);
     };
-    match explain_certificate(alloc, &bytes, out) {
-        Ok(_) => Ok(REFUSED),
-        Err(_) => Err(Failure::CannotWrite("standard output")),
-    }
+    told(write_fault(&bytes, error, out), REFUSED)
 }
 
 /// The certificate at a name, or why it is refused; and its bytes as far as they were read, unless memory ran out.
@@ -211,7 +192,7 @@ fn explained_with<'a, P: Places, C: Code, W: Write>(
     match answer {
         Ok(certificate) => say_program(out, program, &certificate, shown),
         Err(CertError::Memory) => refuse_certificate(alloc, out, CertError::Memory),
-        Err(_error) => say_certificate(alloc, out, bytes),
+        Err(error) => refused_text(out, bytes, error),
     }
 }
 
@@ -236,7 +217,7 @@ fn explained_certified<'a, P: Places, W: Write>(
     };
     match ProgramView::of(&bytes, order) {
         Ok(program) => explained_with(alloc, places, out, &program, certificate, shown),
-        Err(_error) => say_image(out, &bytes, order, REFUSED),
+        Err(error) => refused_image(out, &bytes, order, error),
     }
 }
 
@@ -258,13 +239,15 @@ fn found_of<W: Write, H: Watch>(
     watch: &mut H,
     program: &Program,
     wanted: Wanted<'_>,
-) -> io::Result<Result<Certificate, InferError>>
+) -> io::Result<Result<Found, InferError>>
     requires order { wanted.least ≤ wanted.most }
     requires short { wanted.most ≤ max_context }
-    ensures version { IfOk result (λ told. IfOk told (λ c. c.version ≡ 2)) }
-    ensures least { IfOk result (λ told. IfOk told (λ c. c.least ≡ wanted.entry.least)) }
-    ensures most { IfOk result (λ told. IfOk told (λ c. c.most ≡ wanted.entry.most)) }
-    ensures certificate { IfOk result (λ told. IfOk told (λ c. IsCertificate c)) }
+    ensures version { IfOk result (λ told. IfOk told (λ f. f.certificate.version ≡ 2)) }
+    ensures least { IfOk result (λ told. IfOk told (λ f. f.certificate.least ≡ wanted.entry.least)) }
+    ensures most { IfOk result (λ told. IfOk told (λ f. f.certificate.most ≡ wanted.entry.most)) }
+    ensures certificate { IfOk result (λ told. IfOk told (λ f. IsCertificate f.certificate)) }
+    ensures accepted { IfOk result (λ told. IfOk told (λ f. IfNone f.refusal (IsCertifiedBy program.now f.certificate))) }
+    ensures refused { IfOk result (λ told. IfOk told (λ f. IfSome f.refusal (λ r. IsLeastFlaw program.now f.certificate (refusal_slot r) (refusal_number r)))) }
     ensures slot { IfOk result (λ told. IfErr told (λ e. infer_slot e < slots program.now.list)) }
 {
     let Wanted {
@@ -277,6 +260,17 @@ fn found_of<W: Write, H: Watch>(
         explain_searched(alloc, program, least, most, watch, shown, out)
     } else {
         explain_inferred(alloc, program, least, most, shown, out)
+    }
+}
+
+/// The status of a certificate that was found, by the checker's refusal.
+fn status_by(refusal: Option<Refusal>) -> u8
+    ensures yes { IfNone refusal (result ≡ 0) }
+    ensures no { IfSome refusal (λ r. result ≡ 1) }
+{
+    match refusal {
+        None => DONE,
+        Some(_refusal) => REFUSED,
     }
 }
 
@@ -300,7 +294,7 @@ fn say_inferred<'a, W: Write, H: Watch>(
         shown: wanted.shown,
     };
     match found_of(alloc, out, watch, program, within) {
-        Ok(Ok(certificate)) => Ok(verdict(program, &certificate)),
+        Ok(Ok(found)) => Ok(status_by(found.refusal)),
         Ok(Err(_error)) => Ok(REFUSED),
         Err(_) => Err(Failure::CannotWrite("standard output")),
     }
@@ -328,7 +322,7 @@ fn explained_inferred<'a, P: Places, W: Write, H: Watch>(
     match decode(alloc, &bytes, order) {
         Ok(program) => say_inferred(alloc, out, watch, &program, wanted),
         Err(DecodeError::Memory) => refuse_image(alloc, out, DecodeError::Memory),
-        Err(_error) => say_image(out, &bytes, order, REFUSED),
+        Err(error) => refused_image(out, &bytes, order, error),
     }
 }
 

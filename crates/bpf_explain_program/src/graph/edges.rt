@@ -1,6 +1,7 @@
 //! The edges of a graph.
 
 ghost use Rattle.std.specs.Prelude.{◌≤◌};
+ghost use Rattle.bpf_insn.specs.Limits.{greatest_slot};
 
 use crate::control::Control;
 use crate::graph::Scene;
@@ -48,7 +49,7 @@ fn write_from<'a, 'b, W: Tell>(
     insn: &Insn,
     slots: u32,
 )
-    requires { slot ≤ 65535 }
+    requires { slot ≤ greatest_slot }
 {
     let (so, not) = if Control::of(insn) == Control::Test {
         (Way::IfSo, Way::IfNot)

@@ -1,10 +1,9 @@
 //! Which instructions and edges runs take, as far as the checker's pass knows.
 
-use crate::pass::see;
+use crate::pass::{Observer, pass_over};
 use crate::sight::{Outcome, Sight};
 use crate::slots::Slots;
-use bpf_cert::LAST_SLOT;
-use bpf_check::{Index, JudgedEdge, Site, Spot, Walk};
+use bpf_check::{Index, JudgedEdge};
 use bpf_insn::Code;
 
 /// Which instructions and edges runs may take.
@@ -77,23 +76,21 @@ impl Flow {
     }
 }
 
+impl Observer for Flow {
+    fn observe<'a, C: Code>(
+        &mut self,
+        _program: &C,
+        _certificate: &Index,
+        sight: &Sight<'a>,
+    ) -> bool {
+        self.note(sight);
+        true
+    }
+}
+
 /// Which instructions and edges runs may take, by the checker's pass.
 pub fn flow_of<C: Code>(program: &C, certificate: &Index) -> Flow {
     let mut flow = Flow::none();
-    let mut sight = Sight::new(&*certificate, false);
-    let mut walk = Walk::new();
-    let mut here = Spot::of(&*certificate, 0);
-    'visits: for _ in 0..65_536u32 {
-        let Some(insn) = program.insn(here.slot) else {
-            break;
-        };
-        if here.slot > LAST_SLOT {
-            break;
-        }
-        let site = Site::of(&*certificate, here, insn);
-        see(program, &site, &mut walk, &mut sight);
-        flow.note(&sight);
-        here = site.next;
-    }
+    let _end = pass_over(program, certificate, false, &mut flow);
     flow
 }

@@ -1,6 +1,7 @@
 //! Where blocks and functions begin.
 
 ghost use Rattle.std.specs.Prelude.{◌≤◌};
+ghost use Rattle.bpf_insn.specs.Limits.{greatest_slot};
 
 use crate::slots::Slots;
 use bpf_cert::Function;
@@ -16,7 +17,7 @@ pub struct Plan {
 
 /// Where a call leads.
 pub fn call_target(slot: u32, insn: &Insn) -> Option<u32>
-    requires { slot ≤ 65535 }
+    requires { slot ≤ greatest_slot }
 {
     if let Insn::CallLocal { off } = *insn {
         target(slot, off)
@@ -55,7 +56,7 @@ impl Plan {
 
     /// A block ends at a jump and at an EXIT, and one begins where a jump leads.
     fn note_jump(&mut self, slot: u32, insn: &Insn)
-        requires { slot ≤ 65535 }
+        requires { slot ≤ greatest_slot }
     {
         let to = jump_target(slot, insn);
         if to.is_some() || !insn.goes_on() {
@@ -68,7 +69,7 @@ impl Plan {
 
     /// A block and a function begin where a call leads.
     fn note_call(&mut self, slot: u32, insn: &Insn)
-        requires { slot ≤ 65535 }
+        requires { slot ≤ greatest_slot }
     {
         if let Some(to) = call_target(slot, insn) {
             self.blocks.add(to);

@@ -1,12 +1,13 @@
-//! States that don't lie in the label that they lead to.
+//! C8: states that don't lie in the label that they lead to.
 
 use crate::control::Control;
 use crate::known::{Known, Name, Written, known_register};
-use crate::places::{PLACES, content, place_at, state_at, take_over};
+use crate::places::{content, state_at, take_over};
 use crate::sight::Sight;
 use bpf_cert::Label;
 use bpf_check::{Callee, JudgedEdge};
 use bpf_explain_page::Tell;
+use bpf_infer_base::{PLACES, place};
 use bpf_insn::Reg;
 use bpf_state::{SlotState, State, enter};
 
@@ -26,7 +27,7 @@ pub fn first_difference(state: &State, label: &Label) -> Option<Difference> {
     }
     let mut mixed = claimed.copy();
     for index in 0..PLACES {
-        let place = place_at(index);
+        let place = place(index);
         take_over(&mut mixed, state, place);
         if !mixed.entails(&claimed) {
             return Some(Difference {

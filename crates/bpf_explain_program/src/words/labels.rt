@@ -2,11 +2,12 @@
 
 use crate::known::{Known, Name, Written};
 use crate::listing::steps_of;
-use crate::places::{PLACES, content, place_at, state_at};
+use crate::places::{content, state_at};
 use crate::words::edges::{Difference, first_difference};
 use bpf_cert::{Function, Label, Measure, Term};
 use bpf_check::{Index, begins_elsewhere, function_at, greatest_budget, label_at, place_of};
 use bpf_explain_page::{Count, Tell};
+use bpf_infer_base::{PLACES, place};
 use bpf_insn::Code;
 use bpf_num::Num;
 use bpf_state::{Condition, Place, SlotState, State};
@@ -54,7 +55,7 @@ fn tell_term<W: Tell>(out: &mut W, label: &Label, term: &Term) {
 fn empty_number(label: &Label) -> Option<(Place, Num)> {
     let state = state_at(label);
     for index in 0..PLACES {
-        let place = place_at(index);
+        let place = place(index);
         if let SlotState::Word(number) = content(&state, place) {
             if number.tighten().is_none() {
                 return Some((place, number));

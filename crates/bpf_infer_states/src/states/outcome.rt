@@ -2,11 +2,12 @@
 
 ghost use Rattle.std.specs.Prelude.{◌≤◌};
 
-use crate::judge::Fault;
-use crate::liveness::{PlaceSet, keep_live, least_number, places_read};
+use crate::liveness::{keep_live, least_number, places_read};
 use crate::states::Analysis;
 use bpf_cert::{Function, Label};
-use bpf_infer_base::{Cfg, Depths, Meter, Quest, Sketch, Stop, Watch, depths_of, get_or, put};
+use bpf_infer_base::{
+    Cfg, Depths, Fault, Meter, PlaceSet, Quest, Sketch, Stop, Watch, depths_of, get_or, put,
+};
 use bpf_infer_error::InferError;
 use bpf_num::Num;
 use std::alloc::{AllocError, Global};
@@ -27,9 +28,12 @@ impl<'a> Analysis<'a> {
         for function in 0..self.judged.len() {
             let found = match self.judged.get(function) {
                 Some(Some(judged)) if self.stops => judged.report.fault,
-                Some(Some(judged)) => lower(judged.report.fault, judged.unreached.map(Fault::dead)),
+                Some(Some(judged)) => lower(
+                    judged.report.fault,
+                    judged.unreached.map(Fault::falls_off),
+                ),
                 _ if self.stops => None,
-                _ => Some(Fault::dead(self.first(function))),
+                _ => Some(Fault::falls_off(self.cfg.first_slot(function))),
             };
             lowest = lower(lowest, found);
         }
@@ -104,7 +108,7 @@ impl<'a> Analysis<'a> {
             let labels = self.labels(number)?;
             if !labels.is_empty() {
                 functions.push(Function {
-                    first: self.first(number),
+                    first: self.cfg.first_slot(number),
                     depth: get_or(depths, number, 0),
                     ret: self.ret(number),
                     labels,

@@ -4,9 +4,11 @@ ghost use Rattle.std.specs.Prelude.{◌≤◌};
 
 use crate::states::Analysis;
 use crate::sums::{LabelState, load};
-use crate::task::{Task, Visitor};
 use bpf_cert::Function;
-use bpf_infer_base::{Cfg, Depths, Meter, Quest, Watch, depths_of, get_or, put, vacant};
+use bpf_infer_base::{
+    Callee, Cfg, Depths, Edge, Fault, Meter, Quest, Task, Visitor, Watch, depths_of, get_or, put,
+    vacant,
+};
 use bpf_infer_error::{Condition, InferError};
 use bpf_insn::{Insn, Reg};
 use bpf_num::Num;
@@ -37,6 +39,8 @@ pub struct Survey {
 }
 
 impl Visitor for Survey {
+    type Stop = AllocError;
+
     fn before(&mut self, slot: u32, _insn: &Insn, state: &State) -> Result<(), AllocError> {
         let mut registers = [RegState::Any; 11];
         for i in 0..11u8 {
@@ -47,21 +51,17 @@ impl Visitor for Survey {
         Ok(())
     }
 
-    fn edge(&mut self, _from: usize, to: usize, _state: &State) -> Result<(), AllocError> {
-        if !get_or(&self.met, to, true) {
-            put(&mut self.met, to, true);
-            self.waiting.push(to)?;
-        }
+    fn edge(&mut self, edge: Edge, _state: &State) -> Result<(), AllocError> {
+        self.meet(edge.to)
+    }
+
+    fn call(&mut self, callee: Callee, _state: &State) -> Result<(), AllocError> {
+        put(&mut self.called, callee.function, true);
         Ok(())
     }
 
-    fn call(&mut self, callee: usize, _state: &State) -> Result<(), AllocError> {
-        put(&mut self.called, callee, true);
-        Ok(())
-    }
-
-    fn fault(&mut self, slot: u32, condition: Condition) {
-        put(&mut self.faults, slot as usize, Some(condition));
+    fn fault(&mut self, fault: Fault) {
+        put(&mut self.faults, fault.slot as usize, Some(fault.condition));
     }
 }
 
@@ -110,18 +110,27 @@ impl Survey {
         None
     }
 
+    /// Takes note of a label that is met for the first time.
+    fn meet(&mut self, label: usize) -> Result<(), AllocError> {
+        if !get_or(&self.met, label, true) {
+            put(&mut self.met, label, true);
+            self.waiting.push(label)?;
+        }
+        Ok(())
+    }
+
     /// Goes over the labels of a function that are reached.
     fn visit(&mut self, task: Task, states: &[LabelState]) -> Result<(), AllocError> {
-        self.met = vec![in self.alloc; false; task.blocks.labels()]?;
+        self.met = vec![in self.alloc; false; task.blocks.count()]?;
         self.waiting = Vec::new(self.alloc);
         let mut room = State::blank();
-        self.edge(0, 0, &room)?;
-        for _ in 0..task.blocks.labels() {
+        self.meet(0)?;
+        for _ in 0..task.blocks.count() {
             let Some(label) = self.waiting.pop() else {
                 break;
             };
             if load(states, label, &mut room) {
-                task.walk(label, &mut room, self)?;
+                let _reached = task.walk(label, &mut room, self)?;
             }
         }
         Ok(())

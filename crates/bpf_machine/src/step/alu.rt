@@ -1,6 +1,7 @@
 //! Arithmetic, byte swaps and the tests of jumps (RFC 9669, sections 4.1 to 4.3).
 
 ghost use Rattle.std.specs.Prelude.{◌≡◌, ◌<◌};
+ghost use Rattle.bpf_insn.specs.Limits.{max_slots};
 ghost use Rattle.bpf_semantics.specs.Step.{alu_of_values, alu_result, moved, test_of_values, same_region, wrapped};
 ghost use Rattle.bpf_machine.specs.Answers.{Does};
 
@@ -84,7 +85,7 @@ pub(crate) fn test_of(width: Width, cond: Cond, a: Value, b: Value) -> Option<bo
 impl<'a, C: Code> Machine<'a, C> {
     #[tactic(auto, using(crate::proofs::StepLemmas::unset_operand), unfolding(bpf_semantics::specs::Step::does, bpf_semantics::specs::Stuck::reason_at))]
     pub(crate) fn alu(&mut self, op: AluOp, width: Width, dst: Reg, src: Operand) -> Step
-        requires { self.old.state.top.slot < 65536 }
+        requires { self.old.state.top.slot < max_slots }
         ensures { Does self.old (Insn.Alu op width dst src) result self.new }
     {
         if dst.is_frame_pointer() {
@@ -112,7 +113,7 @@ impl<'a, C: Code> Machine<'a, C> {
     }
 
     pub(crate) fn neg(&mut self, width: Width, dst: Reg) -> Step
-        requires { self.old.state.top.slot < 65536 }
+        requires { self.old.state.top.slot < max_slots }
         ensures { Does self.old (Insn.Neg width dst) result self.new }
     {
         if dst.is_frame_pointer() {
@@ -129,7 +130,7 @@ impl<'a, C: Code> Machine<'a, C> {
     }
 
     pub(crate) fn mov_sx(&mut self, width: Width, bits: SignBits, dst: Reg, src: Reg) -> Step
-        requires { self.old.state.top.slot < 65536 }
+        requires { self.old.state.top.slot < max_slots }
         ensures { Does self.old (Insn.MovSx width bits dst src) result self.new }
     {
         if dst.is_frame_pointer() {
@@ -146,7 +147,7 @@ impl<'a, C: Code> Machine<'a, C> {
     }
 
     pub(crate) fn end(&mut self, kind: EndKind, bits: EndBits, dst: Reg) -> Step
-        requires { self.old.state.top.slot < 65536 }
+        requires { self.old.state.top.slot < max_slots }
         ensures { Does self.old (Insn.End kind bits dst) result self.new }
     {
         if dst.is_frame_pointer() {

@@ -2,6 +2,7 @@
 
 ghost use Rattle.std.specs.Prelude.{◌≡◌, ◌<◌, Some, false};
 ghost use Rattle.std.specs.Option.{option_map_or};
+ghost use Rattle.bpf_insn.specs.Limits.{max_slots};
 ghost use Rattle.bpf_semantics.specs.Step.{fetched};
 ghost use Rattle.bpf_insn.specs.Effects.{fetch_register, is_frame_pointer};
 ghost use Rattle.bpf_machine.specs.Answers.{Does};
@@ -24,7 +25,7 @@ fn fetches_to_frame_pointer(op: AtomicOp, src: Reg) -> bool
 #[tactic(auto, unfolding(bpf_semantics::specs::Step::does, bpf_semantics::specs::Stuck::reason_at))]
 impl<'a, C: Code> Machine<'a, C> {
     pub(crate) fn atomic(&mut self, wide: bool, op: AtomicOp, dst: Reg, off: i16, src: Reg) -> Step
-        requires { self.old.state.top.slot < 65536 }
+        requires { self.old.state.top.slot < max_slots }
         ensures { Does self.old (Insn.Atomic wide op dst off src) result self.new }
     {
         if fetches_to_frame_pointer(op, src) {

@@ -1,6 +1,7 @@
 //! Calls of local functions, and exits (RFC 9669, section 4.3.2).
 
 ghost use Rattle.std.specs.Prelude.{◌<◌};
+ghost use Rattle.bpf_insn.specs.Limits.{max_slots};
 ghost use Rattle.bpf_semantics.specs.Targets.{LeadsToSlot};
 ghost use Rattle.bpf_machine.specs.Answers.{Does};
 
@@ -13,7 +14,7 @@ use bpf_semantics::{Reason, Value, target_of};
 impl<'a, C: Code> Machine<'a, C> {
     #[inline(always)]
     pub(crate) fn call(&mut self, off: i32) -> Step
-        requires here { self.old.state.top.slot < 65536 }
+        requires here { self.old.state.top.slot < max_slots }
         requires led { LeadsToSlot self.old.state.top.slot off }
         ensures { Does self.old (Insn.CallLocal off) result self.new }
     {

@@ -1,6 +1,7 @@
 //! Constants of 64 bits, loads and stores (RFC 9669, sections 5.1, 5.2 and 5.4).
 
 ghost use Rattle.std.specs.Prelude.{◌≡◌, ◌==◌, ◌<◌, IfOk, IfErr, Some, None, false};
+ghost use Rattle.bpf_insn.specs.Limits.{max_slots};
 ghost use Rattle.bpf_insn.specs.Arithmetic.{modulo};
 ghost use Rattle.bpf_insn.specs.Effects.{is_frame_pointer};
 ghost use Rattle.bpf_insn.specs.Instruction.{byte_count};
@@ -40,7 +41,7 @@ fn may_store(size: Size, at: i64, off: i16, value: Value) -> bool
 #[tactic(auto, unfolding(bpf_semantics::specs::Step::does, bpf_semantics::specs::Stuck::reason_at))]
 impl<'a, C: Code> Machine<'a, C> {
     pub(crate) fn load_imm64(&mut self, dst: Reg, value: u64) -> Step
-        requires { self.old.state.top.slot < 65536 }
+        requires { self.old.state.top.slot < max_slots }
         ensures { Does self.old (Insn.LoadImm64 dst value) result self.new }
     {
         if dst.is_frame_pointer() {
@@ -54,7 +55,7 @@ impl<'a, C: Code> Machine<'a, C> {
 
     #[inline(always)]
     pub(crate) fn load(&mut self, size: Size, dst: Reg, src: Reg, off: i16) -> Step
-        requires { self.old.state.top.slot < 65536 }
+        requires { self.old.state.top.slot < max_slots }
         ensures { Does self.old (Insn.Load size dst src off) result self.new }
     {
         let location = match self.location_to_load(size, dst, src, off) {
@@ -106,7 +107,7 @@ impl<'a, C: Code> Machine<'a, C> {
     }
 
     pub(crate) fn load_sx(&mut self, size: Size, dst: Reg, src: Reg, off: i16) -> Step
-        requires { self.old.state.top.slot < 65536 }
+        requires { self.old.state.top.slot < max_slots }
         ensures { Does self.old (Insn.LoadSx size dst src off) result self.new }
     {
         let location = match self.location_to_load(size, dst, src, off) {
@@ -127,7 +128,7 @@ impl<'a, C: Code> Machine<'a, C> {
 impl<'a, C: Code> Machine<'a, C> {
     #[inline(always)]
     pub(crate) fn store_imm(&mut self, size: Size, dst: Reg, off: i16, imm: i32) -> Step
-        requires { self.old.state.top.slot < 65536 }
+        requires { self.old.state.top.slot < max_slots }
         ensures { Does self.old (Insn.StoreImm size dst off imm) result self.new }
     {
         let base = match self.register(dst) {
@@ -148,7 +149,7 @@ impl<'a, C: Code> Machine<'a, C> {
 
     #[inline(always)]
     pub(crate) fn store(&mut self, size: Size, dst: Reg, off: i16, src: Reg) -> Step
-        requires { self.old.state.top.slot < 65536 }
+        requires { self.old.state.top.slot < max_slots }
         ensures { Does self.old (Insn.Store size dst off src) result self.new }
     {
         let Some(base) = self.register(dst) else {

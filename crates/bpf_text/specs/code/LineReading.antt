@@ -1,6 +1,7 @@
 -- The reader that computes, third part: lines and the source of a text. That this is what the text says is the law `ReadsText`.
-use Rattle.std.specs.Prelude.{ℕ, ◌+◌, List, [], ◌∷◌, Option, Some, None, ◌==◌, if◌then◌else◌, ◌++◌, map, option_to_list, is_some, Result, Ok, Err}
+use Rattle.std.specs.Prelude.{ℕ, ◌+◌, Bool, true, ◌||◌, ◌≡◌, length, List, [], ◌∷◌, Option, Some, None, ◌==◌, if◌then◌else◌, ◌++◌, map, option_to_list, is_some, Result, Ok, Err}
 use Rattle.std.specs.List.{slice_split}
+use Rattle.bpf_text.specs.declared.error.TextError.{TextError}
 use Rattle.bpf_text.specs.declared.error.TextError.TheVariants.{Form, Range}
 use Rattle.bpf_text.specs.declared.line.LineFault.{LineFault}
 use Rattle.bpf_text.specs.declared.line.LineFault.TheVariants.{NoForm, OutOfRange}
@@ -8,7 +9,7 @@ use Rattle.bpf_text.specs.Characters.{is_name}
 use Rattle.bpf_text.specs.Statements.{Statement, plain, to_label}
 use Rattle.bpf_text.specs.code.WordReading.{skip_blanks, ◌>>=◌, word_in}
 use Rattle.bpf_text.specs.code.StatementReading.{if_blank, whole_statement}
-use Rattle.bpf_text.specs.Sources.{lines_of, without_comment, Label, Source, statement_slots, said_at, in_front, ends_with}
+use Rattle.bpf_text.specs.Sources.{before, lines_of, without_comment, Label, Source, statement_slots, said_at, in_front, ends_with}
 
 -- what stands behind the first such character, if it is there
 abbrev pub behind_it : ℕ → List ℕ → Option (List ℕ)
@@ -59,6 +60,35 @@ name_said (Err fault) = None
 name_said (Ok None) = None
 name_said (Ok (Some (plain i))) = None
 name_said (Ok (Some (to_label jump name))) = Some name
+
+-- ---- the parts of the first line of a text
+
+-- the first line without its comment
+abbrev pub code_of : List ℕ → List ℕ
+code_of text = without_comment (before 10 text)
+
+-- a colon, a semicolon or a line end ends a part of a line, or the end of the text
+abbrev pub ends_part : List ℕ → Bool
+ends_part [] = true
+ends_part (c ∷ cs) = (c == 58) || (c == 59) || (c == 10)
+
+-- The text is cut in front of the first of these.
+pub record IsParted (text part rest : List ℕ) : Type 0 where
+  pub front : part ≡ before 58 (code_of text)
+  pub colon : behind_it 58 (code_of rest) ≡ behind_it 58 (code_of text)
+  pub line : behind_it 10 rest ≡ behind_it 10 text
+  pub end : ends_part rest ≡ true
+  pub sizes : length part + length rest ≡ length text
+
+-- a list with more behind it
+pub record IsLonger {A : Type 0} (old new : List A) : Type 0 where
+  pub more : List A
+  pub is : new ≡ old ++ more
+
+-- the refusal of a line with a fault
+abbrev pub fault_at : ℕ → LineFault → TextError
+fault_at line NoForm = Form line
+fault_at line OutOfRange = Range line
 
 -- ---- the lines of a text
 

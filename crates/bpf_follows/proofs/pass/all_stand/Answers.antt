@@ -1,7 +1,7 @@
 use Rattle.std.proofs.Common.{◌<◌, refl, arith}
 use Rattle.std.proofs.lemmas.Bool.{false≢true}
 use Rattle.bpf_follows.specs.Matching.{StandsAt}
-use Rattle.bpf_follows.proofs.Bounds.{one_more}
+use Rattle.bpf_follows.proofs.Further.{one_more}
 use Rattle.bpf_follows.proofs.InsideLemmas.{insn_inside}
 use Rattle.bpf_follows.proofs.pass.all_stand.Goals as goal
 
@@ -13,7 +13,7 @@ returns-in-Err-clause-err g c = (λ stands. false≢true (c.in-Err.ensures.1 sta
 
 pub loop-slot-preserved : goal.loop-slot-preserved
 loop-slot-preserved g c =
-    one_more (λ slot. StandsAt (g.O.Code.program c.args.old.now) (g.N.Code.program c.args.new.now) c.args.notes.now c.args.turns slot) c.loop-slot.slot c.loop-slot.invariant (c.in-Ok.ensures.0 refl)
+    one_more (λ slot. StandsAt (g.O.Code.program c.args.old.now) (g.N.Code.program c.args.new.now) c.args.notes.now c.args.bounds slot) c.loop-slot.slot c.loop-slot.invariant (c.in-Ok.ensures.0 refl)
 
 pub returns-clause-exact : goal.returns-clause-exact
 returns-clause-exact g c = (

@@ -1,9 +1,10 @@
-use Rattle.std.proofs.Common.{sym, ◌∙◌}
+use Rattle.std.proofs.Common.{arith, sym, ◌∙◌}
 use Rattle.bpf_follows.proofs.pass.matches.Goals as goal
 
 pub returns-clause-exact : goal.returns-clause-exact
 returns-clause-exact g c = (
   λ h. record {
+    short = omega arith;
     order_is = sym c.order.ensures ∙ c.same_order.ensures.0 c.if-not-same_order.false ∙ c.order-2.ensures;
     start = c.starts.ensures.0 c.if-not-starts.false;
     each = c.all_stand.ensures.exact.0 h;

@@ -1,7 +1,16 @@
-use Rattle.std.proofs.Common.{◌≡◌, IfOk, subst}
-use Rattle.bpf_host.proofs.ExplainedLemmas.{by_found}
+use Rattle.std.proofs.Common.{◌≡◌, IfNone, IfSome, rules}
+use Rattle.bpf_safety.specs.Certified.{IsLeastFlaw}
+use Rattle.bpf_check.specs.CheckedProgram.{IsCertifiedBy}
+use Rattle.bpf_check.specs.RefusalNumbers.{refusal_slot, refusal_number}
+use Rattle.bpf_host.proofs.ExplainedLemmas.{by_found, by_refusal}
 use Rattle.bpf_host.proofs.explanation.searched.Goals as goal
 
 pub returns-in-Ok-Ok : goal.returns-in-Ok-Ok
 returns-in-Ok-Ok c =
-    by_found c.args.given.order c.args.given.image.now c.in-Ok.program c.in-Ok-Ok.certificate c.args.wanted.least c.args.wanted.most c.verdict_of.result c.in-Ok.ensures.ok.0 c.in-Ok.ensures.ok.1 c.in-Ok.ensures.program (subst (λ o. IfOk o (λ k. k.least ≡ c.args.wanted.least)) c.in-Ok-Ok.field-0-is c.in-Ok-Ok.ensures.least) (subst (λ o. IfOk o (λ k. k.most ≡ c.args.wanted.most)) c.in-Ok-Ok.field-0-is c.in-Ok-Ok.ensures.most) c.verdict_of.ensures
+    let k = c.in-Ok-Ok.found.certificate in
+    let o = c.in-Ok-Ok.found.refusal in
+    let least : k.least ≡ c.args.wanted.least = search rules in
+    let most : k.most ≡ c.args.wanted.most = search rules in
+    let certifies : IfNone o (IsCertifiedBy c.in-Ok.program k) = search rules in
+    let flaw : IfSome o (λ r. IsLeastFlaw c.in-Ok.program k (refusal_slot r) (refusal_number r)) = search rules in
+    by_found c.args.given.order c.args.given.image.now c.in-Ok.program k c.args.wanted.least c.args.wanted.most c.told_of.result c.in-Ok.ensures.ok.0 c.in-Ok.ensures.ok.1 c.in-Ok.ensures.program least most (by_refusal c.in-Ok.program k o c.told_of.result certifies flaw c.told_of.ensures.accepted c.told_of.ensures.refused)

@@ -1,6 +1,6 @@
 use Rattle.std.proofs.Common.{◌≡◌, ◌+◌, ◌<◌, true, false, refl, ap, arith, rules}
 use Rattle.std.specs.Prelude.{is_some}
-use Rattle.bpf_check.specs.code.Straight.{is_straight}
+use Rattle.bpf_insn.specs.Instruction.{is_straight}
 use Rattle.bpf_check.proofs.PassLemmas.{one_slot}
 use Rattle.bpf_check.proofs.StraightLemmas.{unlabelled}
 use Rattle.bpf_check.proofs.straight.Step.of.Goals as goal

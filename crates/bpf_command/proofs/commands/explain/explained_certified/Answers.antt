@@ -26,5 +26,5 @@ returns-clause-ok g c =
     let at = g.P.Places.opens in
     let same : c.in-Ok.bytes.items ≡ c.deref.result.now = search rules in
     let read = read_of at (λ v. v.items) c.args.places.now c.args.input.now c.image_at.new.places c.in_ok-bytes.field-0 c.in-Ok.bytes c.deref.result.now c.in-Ok.is same c.in_ok-bytes.ensures.ok in
-    answered_so c.say_image.result 1 (NoImage c.in-Err-of._error) (LoadedSays at c.args.order c.args.places.now c.args.input.now c.args.certificate.now c.image_at.new.places (λ bytes. YesSays false)) refl
-    (inr (c.deref.result.now, read, c.in-Err-of.ensures.err)) c.say_image.ensures.ok
+    answered_so c.refused_image.result 1 (NoImage c.in-Err-of.error) (LoadedSays at c.args.order c.args.places.now c.args.input.now c.args.certificate.now c.image_at.new.places (λ bytes. YesSays false)) refl
+    (inr (c.deref.result.now, read, c.in-Err-of.ensures.err)) c.refused_image.ensures.ok

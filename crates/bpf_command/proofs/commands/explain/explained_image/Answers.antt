@@ -20,12 +20,12 @@ returns-in-Ok-of-clause-ok g c =
     let read = read_of at (λ v. v.items) c.args.places.now c.args.input.now c.image_at.new.places c.in_ok-bytes.field-0 c.in-Ok.bytes c.deref.result.now c.in-Ok.is same c.in_ok-bytes.ensures.ok in
     let image : LoadsImage at c.args.order c.args.places.now c.args.input.now c.image_at.new.places c.in-Ok-of.program
     = record { bytes = c.deref.result.now; read = read; is_image = record { program = c.in-Ok-of.ensures.program; bytes_are = c.in-Ok-of.ensures.ok.0.bytes_are }; order_is = c.in-Ok-of.ensures.ok.1 } in
-    answered_so c.say_valid.result 0 (Lists p.list) (ImageSays at c.args.order c.args.places.now c.args.input.now c.image_at.new.places (ListSays None)) refl (p, image, (refl, refl)) c.say_valid.ensures.ok
+    answered_so c.say_alone.result 0 (Lists p.list) (ImageSays at c.args.order c.args.places.now c.args.input.now c.image_at.new.places (ListSays None)) refl (p, image, (refl, refl)) c.say_alone.ensures.ok
 
 pub returns-clause-ok : goal.returns-clause-ok
 returns-clause-ok g c =
     let at = g.P.Places.opens in
     let same : c.in-Ok.bytes.items ≡ c.deref.result.now = search rules in
     let read = read_of at (λ v. v.items) c.args.places.now c.args.input.now c.image_at.new.places c.in_ok-bytes.field-0 c.in-Ok.bytes c.deref.result.now c.in-Ok.is same c.in_ok-bytes.ensures.ok in
-    answered_so c.say_image.result 1 (NoImage c.in-Err-of._error) (ImageSays at c.args.order c.args.places.now c.args.input.now c.image_at.new.places (ListSays None)) refl
-    (inr (c.deref.result.now, read, c.in-Err-of.ensures.err)) c.say_image.ensures.ok
+    answered_so c.refused_image.result 1 (NoImage c.in-Err-of.error) (ImageSays at c.args.order c.args.places.now c.args.input.now c.image_at.new.places (ListSays None)) refl
+    (inr (c.deref.result.now, read, c.in-Err-of.ensures.err)) c.refused_image.ensures.ok

@@ -36,9 +36,9 @@ returns g c =
     let same : c.in-Ok.bytes.items ≡ c.deref.result.now = search rules in
     let read = read_of at (λ v. v.items) c.args.places.now c.args.input.now c.image_at.new.places c.in_ok-bytes.field-0 c.in-Ok.bytes c.deref.result.now c.in-Ok.is same c.in_ok-bytes.ensures.ok in
     let said = decoded at c.args.order c.args.places.now c.args.input.now c.deref.result.now c.image_at.new.places c.decode.result read c.decode.ensures.ok c.decode.ensures.program c.decode.ensures.err in
-    let refused : ImageRefused at c.args.order c.args.places.now c.args.input.now c.image_at.new.places c.in-Err-decode._error = rw c.in-Err-decode.is at said in
+    let refused : ImageRefused at c.args.order c.args.places.now c.args.input.now c.image_at.new.places c.in-Err-decode.error = rw c.in-Err-decode.is at said in
     record {
-      ok = answered_so c.say_image.result 1 (NoImage c.in-Err-decode._error) (ImageSays at c.args.order c.args.places.now c.args.input.now c.image_at.new.places (SoughtSays c.args.wanted.least c.args.wanted.most)) refl refused c.say_image.ensures.ok;
+      ok = answered_so c.refused_image.result 1 (NoImage c.in-Err-decode.error) (ImageSays at c.args.order c.args.places.now c.args.input.now c.image_at.new.places (SoughtSays c.args.wanted.least c.args.wanted.most)) refl refused c.refused_image.ensures.ok;
       err = search rules;
       opened = search rules;
     }

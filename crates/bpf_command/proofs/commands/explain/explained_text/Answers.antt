@@ -6,19 +6,18 @@ use Rattle.bpf_answers.specs.Loaded.{ShortTextAt}
 use Rattle.bpf_answers.specs.Answer.Answer.{NoText, Lists}
 use Rattle.bpf_command.specs.Explained.{TextSays}
 use Rattle.bpf_answers.proofs.TextLemmas.{text_says}
-use Rattle.bpf_command.proofs.ExplainedLemmas.{either_so, printed_so}
+use Rattle.bpf_command.proofs.ExplainedLemmas.{answered_so, printed_so}
 use Rattle.bpf_command.proofs.commands.explain.explained_text.Goals as goal
 
 pub returns-in-Ok-clause-ok : goal.returns-in-Ok-clause-ok
 returns-in-Ok-clause-ok g c =
     let at = g.P.Places.opens in
-    let p = c.in-Ok._program in
+    let p = c.in-Ok.program in
     let read : ShortTextAt at c.args.places.now c.args.input.now c.text_at.new.places (λ bytes. string_bytes c.in_ok-text.text ≡ bytes) = c.in_ok-text.ensures.ok in
     let said : Assembles (string_bytes c.in_ok-text.text) p.list = search rules in
-    either_so c.say_text.result 0 1 (Lists p.list) (NoText Memory) (TextSays at c.args.places.now c.args.input.now c.text_at.new.places) refl refl
+    answered_so c.told.result 0 (Lists p.list) (TextSays at c.args.places.now c.args.input.now c.text_at.new.places) refl
     (text_says at c.args.places.now c.args.input.now c.text_at.new.places (string_bytes c.in_ok-text.text) (λ t. Assembles t p.list) read said)
-    (text_says at c.args.places.now c.args.input.now c.text_at.new.places (string_bytes c.in_ok-text.text) (λ t. (Memory ≡ Memory) ⊎ IsRefused t Memory) read (inl refl))
-    c.say_text.ensures.ok
+    c.told.ensures.ok
 
 pub returns-in-Err-Memory-clause-ok : goal.returns-in-Err-Memory-clause-ok
 returns-in-Err-Memory-clause-ok g c =
@@ -30,14 +29,13 @@ returns-in-Err-Memory-clause-ok g c =
 pub returns : goal.returns
 returns g c =
     let at = g.P.Places.opens in
-    let e = c.in-Err._error in
+    let e = c.in-Err.error in
     let read : ShortTextAt at c.args.places.now c.args.input.now c.text_at.new.places (λ bytes. string_bytes c.in_ok-text.text ≡ bytes) = c.in_ok-text.ensures.ok in
     let refused : (e ≡ Memory) ⊎ IsRefused (string_bytes c.in_ok-text.text) e = search rules in
     record {
-      ok = either_so c.say_text-in-Err.result 1 1 (NoText e) (NoText Memory) (TextSays at c.args.places.now c.args.input.now c.text_at.new.places) refl refl
+      ok = answered_so c.told-in-Err.result 1 (NoText e) (TextSays at c.args.places.now c.args.input.now c.text_at.new.places) refl
           (text_says at c.args.places.now c.args.input.now c.text_at.new.places (string_bytes c.in_ok-text.text) (λ t. (e ≡ Memory) ⊎ IsRefused t e) read refused)
-          (text_says at c.args.places.now c.args.input.now c.text_at.new.places (string_bytes c.in_ok-text.text) (λ t. (Memory ≡ Memory) ⊎ IsRefused t Memory) read (inl refl))
-          c.say_text-in-Err.ensures.ok;
+          c.told-in-Err.ensures.ok;
       err = search rules;
       opened = search rules;
     }

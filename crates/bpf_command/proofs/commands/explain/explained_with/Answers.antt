@@ -24,5 +24,5 @@ pub returns-in-Err-clause-ok : goal.returns-in-Err-clause-ok
 returns-in-Err-clause-ok g c =
     let at = g.P.Places.opens in
     let p = g.C.Code.program c.args.program.now in
-    let refused : CertificateRefused at c.args.places.now c.args.certificate.now c.certificate_kept.new.places c.in-Err._error = search rules in
-    answered_so c.say_certificate.result 1 (NoCertificate c.in-Err._error) (JudgedSays at c.args.places.now c.args.certificate.now c.certificate_kept.new.places p (YesSays false)) refl refused c.say_certificate.ensures.ok
+    let refused : CertificateRefused at c.args.places.now c.args.certificate.now c.certificate_kept.new.places c.in-Err.error = search rules in
+    answered_so c.refused_text.result 1 (NoCertificate c.in-Err.error) (JudgedSays at c.args.places.now c.args.certificate.now c.certificate_kept.new.places p (YesSays false)) refl refused c.refused_text.ensures.ok

@@ -1,22 +1,16 @@
-use Rattle.std.proofs.Common.{◌∙◌, ◌∷◌, ap, subst, [], List, length, arith}
+use Rattle.std.proofs.Common.{◌∙◌, ◌∷◌, ap, [], length, arith}
 use Rattle.std.proofs.lemmas.List.{length-append}
-use Rattle.bpf_flat.specs.code.Frames.{FramesSeen, IsHeld, return_of, returns_of}
-use Rattle.bpf_flat.specs.declared.frames.Caller.{Caller}
-use Rattle.bpf_flat.proofs.FrameLemmas.{returns-push, seen_in_all, waiting_in_all}
+use Rattle.bpf_flat.proofs.FrameLemmas.{waiting_in, pushed}
 use Rattle.bpf_flat.proofs.frames.Frames.push.Goals as goal
 
 pub push-requires : goal.push-requires
-push-requires c = (omega arith, omega (arith, waiting_in_all c.self.inside.held c.in-All.field-0 c.in-All.callers c.args.self.now c.self.view_is c.in-All.is, c.requires))
+push-requires g c = (omega (arith, c.self.invariant.few), omega (arith, waiting_in c.self.inside.bytes c.self.inside.callers c.args.self.now c.self.view_is, c.requires))
 
 pub invariant_of-self : goal.invariant_of-self
-invariant_of-self c =
-    let held = subst IsHeld c.in-All.is c.self.invariant in
-    let waiting = waiting_in_all c.self.inside.held c.in-All.field-0 c.in-All.callers c.args.self.now c.self.view_is c.in-All.is in
-    let more = ap length c.push.ensures.items ∙ length-append c.in-All.callers.items (c.args.caller ∷ []) in
-    (held.0, omega (arith, waiting, more, c.requires))
+invariant_of-self g c =
+    let waiting = waiting_in c.self.inside.bytes c.self.inside.callers c.args.self.now c.self.view_is in
+    let more = ap length c.push.ensures.items ∙ length-append c.self.inside.callers.items (c.args.caller ∷ []) in
+    record { few = c.self.invariant.few; size_is = c.self.invariant.size_is; long = c.self.invariant.long; room = omega (arith, waiting, more, c.requires) }
 
-pub returns-in-All : goal.returns-in-All
-returns-in-All c =
-    ap (λ (cs : List Caller). record { bytes = c.in-All.field-0; returns = returns_of cs [] }) c.push.ensures.items
-    ∙ ap (λ rs. record { bytes = c.in-All.field-0; returns = rs }) (returns-push c.in-All.callers.items c.args.caller [])
-    ∙ ap (λ (m : FramesSeen). record { bytes = m.bytes; returns = return_of c.args.caller ∷ m.returns }) (seen_in_all c.self.inside.held c.in-All.field-0 c.in-All.callers c.args.self.now c.self.view_is c.in-All.is)
+pub returns : goal.returns
+returns g c = pushed c.self.inside.bytes c.self.inside.callers c.push.new.self c.args.caller c.args.self.now c.self.view_is c.push.ensures.items

@@ -1,8 +1,0 @@
-use Rattle.std.proofs.Common.{◌≡◌, ◌<◌, ℕ, false}
-use Rattle.bpf_follows.specs.Relation.{kinds_of, Gives}
-use Rattle.bpf_follows.specs.Matching.{is_counter, kinds_called}
-use Rattle.bpf_follows.proofs.edges.all_called.Given as goal
-
--- the registers so far
-abbrev pub invariant-loop-r : goal.invariant-loop-r
-invariant-loop-r l = (r : ℕ) → r < l.r → is_counter (kinds_of l.to r) ≡ false → Gives (kinds_called (kinds_of l.place) r) (kinds_of l.to r)

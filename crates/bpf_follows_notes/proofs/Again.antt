@@ -1,0 +1,395 @@
+-- What is spelled is read again.
+use Rattle.std.proofs.Common.{◌≡◌, ℕ, zero, suc, ◌+◌, ◌*◌, ◌-◌, ◌/◌, ◌%◌, ◌^◌, ◌<◌, ◌≤◌, ◌⊎◌, inl, inr, Bool, true, false, cond, eqb, leb, ltb, List, [], ◌∷◌, ◌++◌, length, replicate, Option, Some, None, ℤ, pos, negsuc, refl, sym, ap, subst, ◌∙◌, append_assoc, append-nil, length-append, arith}
+use Rattle.std.specs.Prelude.{◌&&◌, codes, decimal, option_map, set, Result, Ok, Err}
+use Rattle.std.specs.Fmt.{signed_decimal}
+use Rattle.std.specs.List.{AllByRecursion}
+use Rattle.std.specs.Option.{option_map_or}
+use Rattle.std.proofs.Math.Seq.{set-append_seam}
+use Rattle.std.proofs.lemmas.Bool.{le-leb, lt-ltb, le-ltb}
+use Rattle.std.proofs.lemmas.Fmt.{decimal_by_steps}
+use Rattle.bpf_insn.specs.Instruction.{register_number}
+use Rattle.bpf_insn.specs.Limits.{max_slots}
+use Rattle.bpf_insn.specs.declared.instruction.Reg.{Reg}
+use Rattle.bpf_insn.specs.declared.instruction.Reg.TheVariants.{R0, R1, R2, R3, R4, R5, R6, R7, R8, R9, R10}
+use Rattle.bpf_follows.specs.declared.notes.Kind.{Kind}
+use Rattle.bpf_follows.specs.declared.notes.Kind.TheVariants.{Nothing, Same, Number, Offset, Fixed, Start, Base, Moved, Address, Constant, Counter, Turn}
+use Rattle.bpf_follows.specs.declared.notes.Place.{Place}
+use Rattle.bpf_follows_notes.specs.declared.error.NotesError.{NotesError}
+use Rattle.bpf_follows_notes.specs.declared.error.NotesError.TheVariants.{Form}
+use Rattle.bpf_follows_notes.specs.NotesText.{IntFits, KindFits, PlaceFits, NoteFits, AreNotes, entry_text, behind_text, held_text, kinds_text, place_text, note_text, note_line, note_lines}
+use Rattle.bpf_follows_notes.specs.code.Reading.{◌>>=◌, or_else, behind, is_digit, with_digit, digits_in, number_in, signed_of, minus_in, plus_in, int_in, register_at, word_in, value_in, behind_in, plain_in, numbered_in, beside_in, kind_in, entry_in, kinds_in, nothing_said, place_in, note_from, note_in, taken_at, with_front, lines_in, after_lines}
+use Rattle.bpf_follows_notes.proofs.Spelled.{behind_word}
+
+-- ---- numbers
+
+both : {a b : Bool} → a ≡ true → b ≡ true → (a && b) ≡ true
+both {a} {b} e f = rw (e, f) refl
+
+digit_is : (d : ℕ) → d < 10 → is_digit (48 + d) ≡ true
+digit_is d h = both (le-leb 48 (48 + d) (omega arith)) (le-leb (48 + d) 57 (omega arith))
+
+-- one digit more
+next_digit : (n d : ℕ) (rest : List ℕ) → d < 10 → n * 10 + d < 2 ^ 32 → digits_in n ((48 + d) ∷ rest) ≡ digits_in (n * 10 + d) rest
+unfolding digits_in
+next_digit n d rest h small = let value : 48 + d - 48 ≡ d = omega arith in rw (digit_is d h, value, lt-ltb (n * 10 + d) (2 ^ 32) small) refl
+
+Digits : ℕ → List ℕ → Type 0
+Digits n ds = n < 2 ^ 32 → (rest : List ℕ) → digits_in 0 (ds ++ rest) ≡ digits_in n rest
+
+one_digit : (n : ℕ) → n < 10 → Digits n ((48 + n) ∷ [])
+unfolding Digits
+one_digit n h small rest = let value : 0 * 10 + n ≡ n = omega arith in next_digit 0 n rest h (omega arith) ∙ ap (λ m. digits_in m rest) value
+
+more_digits : (n : ℕ) (ds : List ℕ) → 10 ≤ n → Digits (n / 10) ds → Digits n (ds ++ ((48 + n % 10) ∷ []))
+unfolding Digits
+more_digits n ds large front small rest =
+    let value : n / 10 * 10 + n % 10 ≡ n = omega arith in
+    ap (digits_in 0) (append_assoc ds ((48 + n % 10) ∷ []) rest) ∙ front (omega arith) ((48 + n % 10) ∷ rest)
+    ∙ next_digit (n / 10) (n % 10) rest (omega arith) (omega arith) ∙ ap (λ m. digits_in m rest) value
+
+decimal_again : (n : ℕ) → n < 2 ^ 32 → (rest : List ℕ) → digits_in 0 (decimal n ++ rest) ≡ digits_in n rest
+unfolding Digits
+decimal_again n small rest = decimal_by_steps Digits one_digit more_digits n (omega arith) small rest
+
+-- a byte that ends a number, and is no sign
+abbrev Ends : ℕ → Type 0
+Ends c = (is_digit c ≡ false) × (eqb c 45 ≡ false)
+
+digits_end : (n c : ℕ) (rest : List ℕ) → is_digit c ≡ false → digits_in n (c ∷ rest) ≡ Some (n, c ∷ rest)
+unfolding digits_in
+digits_end n c rest h = rw h refl
+
+digits_again : (n c : ℕ) (rest : List ℕ) → n < 2 ^ 32 → Ends c → digits_in 0 (decimal n ++ c ∷ rest) ≡ Some (n, c ∷ rest)
+digits_again n c rest small h = decimal_again n small (c ∷ rest) ∙ digits_end n c rest (h.0)
+
+pub number_again : (word : List ℕ) (n c : ℕ) (rest : List ℕ) → n < 2 ^ 32 → Ends c → number_in word (word ++ (decimal n ++ c ∷ rest)) ≡ Some (n, c ∷ rest)
+unfolding number_in
+number_again word n c rest small h = rw (behind_word word (word ++ (decimal n ++ c ∷ rest)) (decimal n ++ c ∷ rest) refl) (digits_again n c rest small h)
+
+int_again : (z : ℤ) (c : ℕ) (rest : List ℕ) → IntFits z → Ends c → int_in (signed_decimal z ++ c ∷ rest) ≡ Some (z, c ∷ rest)
+unfolding int_in behind plus_in minus_in
+int_again (pos n) c rest small h = rw (digits_again n c rest (omega arith) h, h.1, lt-ltb n (2 ^ 31) small) refl
+int_again (negsuc n) c rest small h = rw (digits_end 0 45 (decimal (suc n) ++ c ∷ rest) refl, digits_again (suc n) c rest (omega arith) h, le-leb (suc n) (2 ^ 31) (omega arith)) refl
+
+register_again : (r : Reg) → register_at (register_number r) ≡ Some r
+register_again R0 = refl
+register_again R1 = refl
+register_again R2 = refl
+register_again R3 = refl
+register_again R4 = refl
+register_again R5 = refl
+register_again R6 = refl
+register_again R7 = refl
+register_again R8 = refl
+register_again R9 = refl
+register_again R10 = refl
+
+register_small : (r : Reg) → register_number r < 11
+register_small R0 = omega arith
+register_small R1 = omega arith
+register_small R2 = omega arith
+register_small R3 = omega arith
+register_small R4 = omega arith
+register_small R5 = omega arith
+register_small R6 = omega arith
+register_small R7 = omega arith
+register_small R8 = omega arith
+register_small R9 = omega arith
+register_small R10 = omega arith
+
+-- ---- kinds
+
+-- a word is spelled for the kind, and is read as it
+record Worded (r : ℕ) (kind : Kind) : Type 0 where
+  word : List ℕ
+  text : held_text r kind ≡ entry_text r word
+  again : (c : ℕ) (rest : List ℕ) → Ends c → kind_in (word ++ c ∷ rest) ≡ Some (kind, c ∷ rest)
+
+same_again : (c : ℕ) (rest : List ℕ) → kind_in (codes "same" ++ c ∷ rest) ≡ Some (Same, c ∷ rest)
+unfolding kind_in plain_in word_in behind
+same_again c rest = refl
+
+number_word_again : (c : ℕ) (rest : List ℕ) → kind_in (codes "number" ++ c ∷ rest) ≡ Some (Number, c ∷ rest)
+unfolding kind_in plain_in word_in behind
+number_word_again c rest = refl
+
+offset_again : (c : ℕ) (rest : List ℕ) → kind_in (codes "offset" ++ c ∷ rest) ≡ Some (Offset, c ∷ rest)
+unfolding kind_in plain_in word_in behind
+offset_again c rest = refl
+
+start_again : (c : ℕ) (rest : List ℕ) → kind_in (codes "start" ++ c ∷ rest) ≡ Some (Start, c ∷ rest)
+unfolding kind_in plain_in word_in behind
+start_again c rest = refl
+
+base_again : (c : ℕ) (rest : List ℕ) → kind_in (codes "base" ++ c ∷ rest) ≡ Some (Base, c ∷ rest)
+unfolding kind_in plain_in word_in behind
+base_again c rest = refl
+
+fixed_again : (offset : ℤ) → IntFits offset → (c : ℕ) (rest : List ℕ) → Ends c → kind_in ((codes "fixed:" ++ signed_decimal offset) ++ c ∷ rest) ≡ Some (Fixed offset, c ∷ rest)
+unfolding kind_in plain_in word_in numbered_in value_in behind
+fixed_again offset fits c rest h = rw (int_again offset c rest fits h) refl
+
+constant_again : (value : ℤ) → IntFits value → (c : ℕ) (rest : List ℕ) → Ends c → kind_in ((codes "constant:" ++ signed_decimal value) ++ c ∷ rest) ≡ Some (Constant value, c ∷ rest)
+unfolding kind_in plain_in word_in numbered_in value_in behind
+constant_again value fits c rest h = rw (int_again value c rest fits h) refl
+
+turns_again : (head : ℕ) → head < 2 ^ 32 → (c : ℕ) (rest : List ℕ) → Ends c → kind_in ((codes "turns:" ++ decimal head) ++ c ∷ rest) ≡ Some (Counter head, c ∷ rest)
+unfolding kind_in plain_in word_in numbered_in value_in number_in behind
+turns_again head fits c rest h = rw (digits_again head c rest fits h) refl
+
+turn_again : (head : ℕ) → head < 2 ^ 32 → (c : ℕ) (rest : List ℕ) → Ends c → kind_in ((codes "turn:" ++ decimal head) ++ c ∷ rest) ≡ Some (Turn head, c ∷ rest)
+unfolding kind_in plain_in word_in numbered_in value_in number_in behind
+turn_again head fits c rest h = rw (digits_again head c rest fits h) refl
+
+beside_again : (word : List ℕ) (of : Reg) (by : ℤ) → IntFits by → (c : ℕ) (rest : List ℕ) → Ends c → behind_in word (word ++ (behind_text of by ++ c ∷ rest)) ≡ Some (of, by, c ∷ rest)
+unfolding behind_in behind
+beside_again word of by fits c rest h =
+    rw (
+      append_assoc (decimal (register_number of)) (58 ∷ signed_decimal by) (c ∷ rest),
+      number_again word (register_number of) 58 (signed_decimal by ++ c ∷ rest) (omega (arith, register_small of)) (refl, refl),
+      register_again of,
+      int_again by c rest fits h,
+    ) refl
+
+moved_again : (of : Reg) (by : ℤ) → IntFits by → (c : ℕ) (rest : List ℕ) → Ends c → kind_in ((codes "moved:r" ++ behind_text of by) ++ c ∷ rest) ≡ Some (Moved of by, c ∷ rest)
+unfolding kind_in plain_in word_in numbered_in value_in number_in beside_in behind
+moved_again of by fits c rest h = rw (beside_again (codes "moved:r") of by fits c rest h) refl
+
+-- no other such word stands there
+no_moved : (text : List ℕ) → behind_in (codes "moved:r") (97 ∷ text) ≡ None
+unfolding behind_in number_in behind
+no_moved text = refl
+
+address_again : (of : Reg) (by : ℤ) → IntFits by → (c : ℕ) (rest : List ℕ) → Ends c → kind_in ((codes "address:r" ++ behind_text of by) ++ c ∷ rest) ≡ Some (Address of by, c ∷ rest)
+unfolding kind_in plain_in word_in numbered_in value_in number_in beside_in behind
+address_again of by fits c rest h = rw (no_moved (codes "ddress:r" ++ (behind_text of by ++ c ∷ rest)), beside_again (codes "address:r") of by fits c rest h) refl
+
+held_is : (r : ℕ) (kind : Kind) → KindFits kind → (kind ≡ Nothing) ⊎ Worded r kind
+unfolding held_text
+held_is r Nothing fits = inl refl
+held_is r Same fits = inr (record { word = codes "same"; text = refl; again = λ c rest h. same_again c rest })
+held_is r Number fits = inr (record { word = codes "number"; text = refl; again = λ c rest h. number_word_again c rest })
+held_is r Offset fits = inr (record { word = codes "offset"; text = refl; again = λ c rest h. offset_again c rest })
+held_is r (Fixed offset) fits = inr (record { word = codes "fixed:" ++ signed_decimal offset; text = refl; again = fixed_again offset fits })
+held_is r Start fits = inr (record { word = codes "start"; text = refl; again = λ c rest h. start_again c rest })
+held_is r Base fits = inr (record { word = codes "base"; text = refl; again = λ c rest h. base_again c rest })
+held_is r (Moved of by) fits = inr (record { word = codes "moved:r" ++ behind_text of by; text = refl; again = moved_again of by fits })
+held_is r (Address of by) fits = inr (record { word = codes "address:r" ++ behind_text of by; text = refl; again = address_again of by fits })
+held_is r (Constant value) fits = inr (record { word = codes "constant:" ++ signed_decimal value; text = refl; again = constant_again value fits })
+held_is r (Counter head) fits = inr (record { word = codes "turns:" ++ decimal head; text = refl; again = turns_again head fits })
+held_is r (Turn head) fits = inr (record { word = codes "turn:" ++ decimal head; text = refl; again = turn_again head fits })
+
+-- ---- entries
+
+entry_again : (r : ℕ) (word : List ℕ) (kind : Kind) (tail : List ℕ) → r < 2 ^ 32 → kind_in (word ++ tail) ≡ Some (kind, tail) → entry_in (entry_text r word ++ tail) ≡ Some (r, kind, tail)
+unfolding entry_in entry_text number_in behind
+entry_again r word kind tail small e = rw (append_assoc (decimal r) (61 ∷ word) tail, digits_again r 61 (word ++ tail) small (refl, refl), e) refl
+
+no_entry : (rest : List ℕ) → entry_in (10 ∷ rest) ≡ None
+unfolding entry_in number_in behind
+no_entry rest = refl
+
+-- a byte that ends what is in front stands at the front
+record Front (text : List ℕ) : Type 0 where
+  c : ℕ
+  cs : List ℕ
+  text_is : text ≡ c ∷ cs
+  ends : Ends c
+
+entry_front : (r : ℕ) (word tail : List ℕ) → Front (entry_text r word ++ tail)
+unfolding entry_text
+entry_front r word tail = record { c = 32; cs = 114 ∷ ((decimal r ++ (61 ∷ word)) ++ tail); text_is = refl; ends = (refl, refl) }
+
+front_same : (a b : List ℕ) → a ≡ b → Front b → Front a
+front_same a b e f = record { c = f.c; cs = f.cs; text_is = e ∙ f.text_is; ends = f.ends }
+
+nothing_first : (r : ℕ) (kinds : List Kind) → kinds_text r (Nothing ∷ kinds) ≡ kinds_text (r + 1) kinds
+unfolding kinds_text held_text
+nothing_first r kinds = refl
+
+worded_first : (r : ℕ) (kind : Kind) (kinds : List Kind) (w : Worded r kind) (rest : List ℕ) → kinds_text r (kind ∷ kinds) ++ rest ≡ entry_text r w.word ++ (kinds_text (r + 1) kinds ++ rest)
+unfolding kinds_text
+worded_first r kind kinds w rest = rw (w.text) (append_assoc (entry_text r w.word) (kinds_text (r + 1) kinds) rest)
+
+kinds_front : (r : ℕ) (kinds : List Kind) → AllByRecursion KindFits kinds → (rest : List ℕ) → Front (kinds_text r kinds ++ 10 ∷ rest)
+unfolding kinds_text
+kinds_front r [] fits rest = record { c = 10; cs = rest; text_is = refl; ends = (refl, refl) }
+kinds_front r (kind ∷ kinds) fits rest = by_kind (held_is r kind fits.0) (kinds_front (r + 1) kinds fits.1 rest)
+  where
+    by_kind : (kind ≡ Nothing) ⊎ Worded r kind → Front (kinds_text (r + 1) kinds ++ 10 ∷ rest) → Front (kinds_text r (kind ∷ kinds) ++ 10 ∷ rest)
+    by_kind (inl e) more = front_same _ _ (ap (λ k. kinds_text r (k ∷ kinds) ++ 10 ∷ rest) e ∙ ap (λ t. t ++ 10 ∷ rest) (nothing_first r kinds)) more
+    by_kind (inr w) more = front_same _ _ (worded_first r kind kinds w (10 ∷ rest)) (entry_front r w.word (kinds_text (r + 1) kinds ++ 10 ∷ rest))
+
+-- the kinds that are read so far, and what is left
+ReadsKinds : List Kind → List Kind → Type 0
+ReadsKinds done kinds = (k : ℕ) (rest : List ℕ) → length kinds ≤ k → length done + length kinds ≤ 11 → AllByRecursion KindFits kinds →
+    kinds_in k (done ++ replicate (length kinds) Nothing) (kinds_text (length done) kinds ++ 10 ∷ rest) ≡ Some (done ++ kinds)
+
+one_more : (done : List Kind) (kind : Kind) (kinds : List Kind) → ReadsKinds (done ++ kind ∷ []) kinds → (k : ℕ) (rest : List ℕ) → length kinds ≤ k → length done + suc (length kinds) ≤ 11 → AllByRecursion KindFits kinds
+    → kinds_in k (done ++ kind ∷ replicate (length kinds) Nothing) (kinds_text (length done + 1) kinds ++ 10 ∷ rest) ≡ Some (done ++ kind ∷ kinds)
+unfolding ReadsKinds
+one_more done kind kinds reads k rest long few fits =
+    let size : length (done ++ kind ∷ []) ≡ length done + 1 = length-append done (kind ∷ []) in
+    ap (λ l. kinds_in k l (kinds_text (length done + 1) kinds ++ 10 ∷ rest)) (sym (append_assoc done (kind ∷ []) (replicate (length kinds) Nothing)))
+    ∙ subst (λ n. kinds_in k ((done ++ kind ∷ []) ++ replicate (length kinds) Nothing) (kinds_text n kinds ++ 10 ∷ rest) ≡ Some ((done ++ kind ∷ []) ++ kinds)) size
+    (reads k rest long (omega (arith, size)) fits)
+    ∙ ap Some (append_assoc done (kind ∷ []) kinds)
+
+kinds_end : (k : ℕ) (kinds : List Kind) (rest : List ℕ) → kinds_in k kinds (10 ∷ rest) ≡ Some kinds
+unfolding kinds_in
+kinds_end zero kinds rest = refl
+kinds_end (suc k) kinds rest = rw (no_entry rest) refl
+
+pub kinds_step : (k : ℕ) (kinds : List Kind) (text : List ℕ) (r : ℕ) (kind : Kind) (more : List ℕ) → entry_in text ≡ Some (r, kind, more) → r < 11 → kinds_in (suc k) kinds text ≡ kinds_in k (set kinds r kind) more
+unfolding kinds_in
+kinds_step k kinds text r kind more e h = rw (e, lt-ltb r 11 h) refl
+
+kinds_again : (done kinds : List Kind) → ReadsKinds done kinds
+unfolding ReadsKinds
+kinds_again done [] k rest long few fits = unfold kinds_text in kinds_end k (done ++ []) rest
+kinds_again done (kind ∷ kinds) k rest long few fits = by_kind (held_is (length done) kind fits.0) (λ x. kinds_again (done ++ x ∷ []) kinds)
+  where
+    Goal : ℕ → Kind → Type 0
+    Goal k x = kinds_in k (done ++ replicate (suc (length kinds)) Nothing) (kinds_text (length done) (x ∷ kinds) ++ 10 ∷ rest) ≡ Some (done ++ x ∷ kinds)
+
+    by_count : (w : Worded (length done) kind) → ReadsKinds (done ++ kind ∷ []) kinds → (k : ℕ) → suc (length kinds) ≤ k → Goal k kind
+    by_count w more zero long = absurd (omega arith)
+    by_count w more (suc k) long =
+        let front = kinds_front (length done + 1) kinds fits.1 rest in
+        let read : kind_in (w.word ++ (kinds_text (length done + 1) kinds ++ 10 ∷ rest)) ≡ Some (kind, kinds_text (length done + 1) kinds ++ 10 ∷ rest)
+        = subst (λ t. kind_in (w.word ++ t) ≡ Some (kind, t)) (sym front.text_is) (w.again front.c front.cs front.ends) in
+        ap (kinds_in (suc k) (done ++ replicate (suc (length kinds)) Nothing)) (worded_first (length done) kind kinds w (10 ∷ rest))
+        ∙ kinds_step k (done ++ replicate (suc (length kinds)) Nothing) _ (length done) kind (kinds_text (length done + 1) kinds ++ 10 ∷ rest)
+        (entry_again (length done) w.word kind (kinds_text (length done + 1) kinds ++ 10 ∷ rest) (omega arith) read) (omega arith)
+        ∙ ap (λ l. kinds_in k l (kinds_text (length done + 1) kinds ++ 10 ∷ rest)) (set-append_seam done Nothing (replicate (length kinds) Nothing) kind)
+        ∙ one_more done kind kinds more k rest (omega arith) (omega arith) fits.1
+
+    by_kind : (kind ≡ Nothing) ⊎ Worded (length done) kind → ((x : Kind) → ReadsKinds (done ++ x ∷ []) kinds) → Goal k kind
+    by_kind (inl e) more = subst (Goal k) (sym e)
+        (ap (λ t. kinds_in k (done ++ replicate (suc (length kinds)) Nothing) (t ++ 10 ∷ rest)) (nothing_first (length done) kinds)
+        ∙ one_more done Nothing kinds (more Nothing) k rest (omega arith) (omega arith) fits.1)
+    by_kind (inr w) more = by_count w (more kind) k long
+
+-- ---- places
+
+place_again : (place : Place) → PlaceFits place → (rest : List ℕ) → place_in (place_text place ++ 10 ∷ rest) ≡ Some place
+unfolding place_in place_text
+place_again place fits rest =
+    let front = kinds_front 0 place.kinds fits.kinds rest in
+    let kinds : kinds_in 11 nothing_said (kinds_text 0 place.kinds ++ 10 ∷ rest) ≡ Some place.kinds
+    = subst (λ n. kinds_in 11 (replicate n Nothing) (kinds_text 0 place.kinds ++ 10 ∷ rest) ≡ Some place.kinds) fits.eleven
+    (unfold ReadsKinds in kinds_again [] place.kinds 11 rest (omega (arith, fits.eleven)) (omega (arith, fits.eleven)) fits.kinds) in
+    let body : number_in (codes " body ") (codes " body " ++ (decimal place.body ++ (kinds_text 0 place.kinds ++ 10 ∷ rest))) ≡ Some (place.body, kinds_text 0 place.kinds ++ 10 ∷ rest)
+    = subst (λ t. number_in (codes " body ") (codes " body " ++ (decimal place.body ++ t)) ≡ Some (place.body, t)) (sym front.text_is) (number_again (codes " body ") place.body front.c front.cs fits.body front.ends) in
+    let entry = number_again (codes " entry ") place.entry 32 (codes "body " ++ (decimal place.body ++ (kinds_text 0 place.kinds ++ 10 ∷ rest))) fits.entry (refl, refl) in
+    let first = number_again (codes "first ") place.first 32 (codes "entry " ++ (decimal place.entry ++ (codes " body " ++ (decimal place.body ++ (kinds_text 0 place.kinds ++ 10 ∷ rest))))) fits.first (refl, refl) in
+    rw (
+      append_assoc (decimal place.first) (codes " entry " ++ (decimal place.entry ++ (codes " body " ++ (decimal place.body ++ kinds_text 0 place.kinds)))) (10 ∷ rest),
+      append_assoc (decimal place.entry) (codes " body " ++ (decimal place.body ++ kinds_text 0 place.kinds)) (10 ∷ rest),
+      append_assoc (decimal place.body) (kinds_text 0 place.kinds) (10 ∷ rest),
+      first,
+      entry,
+      body,
+      kinds,
+    ) refl
+
+no_none : (place : Place) (rest : List ℕ) → behind (codes "none") (place_text place ++ rest) ≡ None
+unfolding place_text behind
+no_none place rest = refl
+
+-- ---- lines
+
+note_again : (slot : ℕ) → slot < 2 ^ 32 → (note : Option Place) → NoteFits note → (rest : List ℕ) → note_in (note_line slot note ++ rest) ≡ Some note
+unfolding note_in note_line note_text number_in behind
+note_again slot small None fits rest =
+    rw (append_assoc (decimal slot) (codes ": none\n") rest, digits_again slot 58 (codes " none\n" ++ rest) small (refl, refl)) refl
+note_again slot small (Some place) fits rest =
+    rw (
+      append_assoc (decimal slot) (codes ": " ++ (place_text place ++ codes "\n")) rest,
+      digits_again slot 58 (codes " " ++ ((place_text place ++ codes "\n") ++ rest)) small (refl, refl),
+      append_assoc (place_text place) (codes "\n") rest,
+      no_none place (10 ∷ rest),
+      place_again place fits rest,
+    ) refl
+
+pub taken_again : (slot : ℕ) → slot < 2 ^ 32 → (note : Option Place) → NoteFits note → (rest : List ℕ) → taken_at slot (note_line slot note ++ rest) ≡ Some (note, rest)
+unfolding taken_at
+taken_again slot small note fits rest = rw (note_again slot small note fits rest, behind_word (note_line slot note) (note_line slot note ++ rest) rest refl) refl
+
+-- a line isn't empty
+line_front : (slot : ℕ) (note : Option Place) (rest : List ℕ) → 0 < length (note_line slot note ++ rest)
+unfolding note_line
+line_front slot note rest = rw (length-append (decimal slot ++ (codes ": " ++ (note_text note ++ codes "\n"))) rest, length-append (decimal slot) (codes ": " ++ (note_text note ++ codes "\n"))) (omega arith)
+
+lines_step : (k slot : ℕ) (text : List ℕ) (n : Option Place) (rest : List ℕ) → 0 < length text → taken_at slot text ≡ Some (n, rest) → lines_in (suc k) slot text ≡ with_front n (lines_in k (slot + 1) rest)
+unfolding lines_in
+lines_step k slot [] n rest some e = absurd (omega arith)
+lines_step k slot (c ∷ cs) n rest some e = rw e refl
+
+pub lines_again : (k slot : ℕ) (notes : List (Option Place)) → length notes ≤ k → slot + length notes ≤ max_slots → AllByRecursion NoteFits notes → lines_in k slot (note_lines slot notes) ≡ Ok notes
+unfolding note_lines
+lines_again k slot [] long few fits = unfold lines_in in refl
+lines_again zero slot (n ∷ notes) long few fits = absurd (omega arith)
+lines_again (suc k) slot (n ∷ notes) long few fits =
+    lines_step k slot (note_line slot n ++ note_lines (slot + 1) notes) n (note_lines (slot + 1) notes) (line_front slot n (note_lines (slot + 1) notes)) (taken_again slot (omega arith) n fits.0 (note_lines (slot + 1) notes))
+    ∙ ap (with_front n) (lines_again k (slot + 1) notes (omega arith) (omega arith) fits.1)
+
+-- ---- what the loops do
+
+pub kinds_stop : (k : ℕ) (kinds : List Kind) (text : List ℕ) → entry_in text ≡ None → kinds_in k kinds text ≡ Some kinds
+unfolding kinds_in
+kinds_stop zero kinds text e = refl
+kinds_stop (suc k) kinds text e = rw e refl
+
+pub kinds_over : (k : ℕ) (kinds : List Kind) (text : List ℕ) (r : ℕ) (kind : Kind) (more : List ℕ) → entry_in text ≡ Some (r, kind, more) → 11 ≤ r → kinds_in (suc k) kinds text ≡ None
+unfolding kinds_in
+kinds_over k kinds text r kind more e h = rw (e, le-ltb r 11 h) refl
+
+pub kinds_full : (kinds : List Kind) (text : List ℕ) → kinds_in 0 kinds text ≡ Some kinds
+unfolding kinds_in
+kinds_full kinds text = refl
+
+pub taken_none : (slot : ℕ) (text : List ℕ) → note_in text ≡ None → taken_at slot text ≡ None
+unfolding taken_at
+taken_none slot text e = rw e refl
+
+pub taken_some : (slot : ℕ) (text : List ℕ) (n : Option Place) (rest : List ℕ) → note_in text ≡ Some n → behind (note_line slot n) text ≡ Some rest → taken_at slot text ≡ Some (n, rest)
+unfolding taken_at
+taken_some slot text n rest e f = rw (e, f) refl
+
+pub taken_other : (slot : ℕ) (text : List ℕ) (n : Option Place) → note_in text ≡ Some n → behind (note_line slot n) text ≡ None → taken_at slot text ≡ None
+unfolding taken_at
+taken_other slot text n e f = rw (e, f) refl
+
+pub lines_end : (done : List (Option Place)) (k slot : ℕ) (text : List ℕ) → length text ≡ 0 → after_lines done (lines_in k slot text) ≡ Ok done
+unfolding lines_in
+lines_end done k slot [] e = ap Ok (append-nil done)
+lines_end done k slot (c ∷ cs) e = absurd (omega arith)
+
+pub lines_full : (done : List (Option Place)) (k slot : ℕ) (text : List ℕ) → 0 < length text → k ≡ 0 → after_lines done (lines_in k slot text) ≡ Err (Form (slot + 2))
+unfolding lines_in
+lines_full done k slot [] some e = absurd (omega arith)
+lines_full done zero slot (c ∷ cs) some e = refl
+lines_full done (suc k) slot (c ∷ cs) some e = absurd (omega arith)
+
+lines_none : (done : List (Option Place)) (k slot : ℕ) (text : List ℕ) → 0 < length text → taken_at slot text ≡ None → after_lines done (lines_in (suc k) slot text) ≡ Err (Form (slot + 2))
+unfolding lines_in
+lines_none done k slot [] some e = absurd (omega arith)
+lines_none done k slot (c ∷ cs) some e = rw e refl
+
+count : (slot : ℕ) → slot < max_slots → max_slots - slot ≡ suc (max_slots - (slot + 1))
+count slot h = omega arith
+
+pub lines_stop : (done : List (Option Place)) (slot : ℕ) (text : List ℕ) → 0 < length text → slot < max_slots → taken_at slot text ≡ None → after_lines done (lines_in (max_slots - slot) slot text) ≡ Err (Form (slot + 2))
+lines_stop done slot text some h e = ap (λ k. after_lines done (lines_in k slot text)) (count slot h) ∙ lines_none done (max_slots - (slot + 1)) slot text some e
+
+front_after : (done : List (Option Place)) (n : Option Place) (r : Result (List (Option Place)) NotesError) → after_lines (done ++ n ∷ []) r ≡ after_lines done (with_front n r)
+front_after done n (Ok notes) = ap Ok (append_assoc done (n ∷ []) notes)
+front_after done n (Err error) = refl
+
+pub lines_more : (done : List (Option Place)) (slot : ℕ) (text : List ℕ) (n : Option Place) (more : List ℕ) → 0 < length text → slot < max_slots → taken_at slot text ≡ Some (n, more)
+    → after_lines (done ++ n ∷ []) (lines_in (max_slots - (slot + 1)) (slot + 1) more) ≡ after_lines done (lines_in (max_slots - slot) slot text)
+lines_more done slot text n more some h e =
+    front_after done n (lines_in (max_slots - (slot + 1)) (slot + 1) more)
+    ∙ ap (after_lines done) (sym (lines_step (max_slots - (slot + 1)) slot text n more some e))
+    ∙ ap (λ k. after_lines done (lines_in k slot text)) (sym (count slot h))

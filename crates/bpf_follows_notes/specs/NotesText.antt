@@ -1,0 +1,98 @@
+-- The text of notes: a line for each slot of the old program.
+use Rattle.std.specs.Prelude.{◌≡◌, ℕ, ◌+◌, ◌<◌, ◌≤◌, ◌^◌, List, [], ◌∷◌, ◌++◌, length, ℤ, pos, negsuc, Option, Some, None, codes, decimal}
+use Rattle.std.specs.List.{AllByRecursion}
+use Rattle.std.specs.Fmt.{signed_decimal}
+use Rattle.bpf_insn.specs.Limits.{max_slots}
+use Rattle.bpf_insn.specs.Instruction.{register_number}
+use Rattle.bpf_insn.specs.declared.instruction.Reg.{Reg}
+use Rattle.bpf_follows.specs.declared.notes.Kind.{Kind}
+use Rattle.bpf_follows.specs.declared.notes.Kind.TheVariants.{Nothing, Same, Number, Offset, Fixed, Start, Base, Moved, Address, Constant, Counter, Turn}
+use Rattle.bpf_follows.specs.declared.notes.Place.{Place}
+
+-- ---- what has a text
+
+-- a signed number of 32 bits
+abbrev pub IntFits : ℤ → Type 0
+IntFits (pos n) = n < 2 ^ 31
+IntFits (negsuc n) = n < 2 ^ 31
+
+-- the numbers that a kind names have 32 bits
+abbrev pub KindFits : Kind → Type 0
+KindFits Nothing = Unit {0}
+KindFits Same = Unit {0}
+KindFits Number = Unit {0}
+KindFits Offset = Unit {0}
+KindFits (Fixed offset) = IntFits offset
+KindFits Start = Unit {0}
+KindFits Base = Unit {0}
+KindFits (Moved of by) = IntFits by
+KindFits (Address of by) = IntFits by
+KindFits (Constant value) = IntFits value
+KindFits (Counter head) = head < 2 ^ 32
+KindFits (Turn head) = head < 2 ^ 32
+
+pub record PlaceFits (place : Place) : Type 0 where
+  pub entry : place.entry < 2 ^ 32
+  pub first : place.first < 2 ^ 32
+  pub body : place.body < 2 ^ 32
+  pub eleven : length place.kinds ≡ 11
+  pub kinds : AllByRecursion KindFits place.kinds
+
+abbrev pub NoteFits : Option Place → Type 0
+NoteFits None = Unit {0}
+NoteFits (Some place) = PlaceFits place
+
+-- one for each slot of a program, and each has a text
+pub record AreNotes (notes : List (Option Place)) : Type 0 where
+  pub few : length notes ≤ max_slots
+  pub each : AllByRecursion NoteFits notes
+
+-- ---- the text
+
+-- a register, and a word for what it holds
+unfoldable pub entry_text : ℕ → List ℕ → List ℕ
+entry_text r word = codes " r" ++ (decimal r ++ (codes "=" ++ word))
+
+-- behind another register's value
+abbrev pub behind_text : Reg → ℤ → List ℕ
+behind_text r by = decimal (register_number r) ++ (codes ":" ++ signed_decimal by)
+
+unfoldable pub held_text : ℕ → Kind → List ℕ
+held_text r Nothing = []
+held_text r Same = entry_text r (codes "same")
+held_text r Number = entry_text r (codes "number")
+held_text r Offset = entry_text r (codes "offset")
+held_text r (Fixed offset) = entry_text r (codes "fixed:" ++ signed_decimal offset)
+held_text r Start = entry_text r (codes "start")
+held_text r Base = entry_text r (codes "base")
+held_text r (Moved of by) = entry_text r (codes "moved:r" ++ behind_text of by)
+held_text r (Address of by) = entry_text r (codes "address:r" ++ behind_text of by)
+held_text r (Constant value) = entry_text r (codes "constant:" ++ signed_decimal value)
+held_text r (Counter head) = entry_text r (codes "turns:" ++ decimal head)
+held_text r (Turn head) = entry_text r (codes "turn:" ++ decimal head)
+
+-- what registers hold from r on; one that holds nothing is left out
+unfoldable pub kinds_text : ℕ → List Kind → List ℕ
+kinds_text r [] = []
+kinds_text r (kind ∷ kinds) = held_text r kind ++ kinds_text (r + 1) kinds
+
+unfoldable pub place_text : Place → List ℕ
+place_text place = codes "first " ++ (decimal place.first ++ (codes " entry " ++ (decimal place.entry ++ (codes " body " ++ (decimal place.body ++ kinds_text 0 place.kinds)))))
+
+unfoldable pub note_text : Option Place → List ℕ
+note_text None = codes "none"
+note_text (Some place) = place_text place
+
+unfoldable pub note_line : ℕ → Option Place → List ℕ
+note_line slot note = decimal slot ++ (codes ": " ++ (note_text note ++ codes "\n"))
+
+-- the lines from a slot on
+unfoldable pub note_lines : ℕ → List (Option Place) → List ℕ
+note_lines slot [] = []
+note_lines slot (note ∷ notes) = note_line slot note ++ note_lines (slot + 1) notes
+
+abbrev pub head_line : List ℕ
+head_line = codes "bpfnotes 1\n"
+
+abbrev pub notes_text : List (Option Place) → List ℕ
+notes_text notes = head_line ++ note_lines 0 notes

@@ -1,0 +1,181 @@
+//! What a line says, if it is one of notes: what is read here is spelled again, and compared.
+
+ghost use Rattle.std.specs.Prelude.{◌≡◌, option_map};
+ghost use Rattle.bpf_follows_notes.specs.code.Reading.{register_at, plain_in, value_in, behind_in, beside_in, numbered_in, kind_in, entry_in, kinds_in, nothing_said, place_in, note_in};
+
+use crate::digits::{behind, int_in, number_in};
+use bpf_follows::{Kind, Place};
+use bpf_insn::Reg;
+
+/// How many registers there are.
+const REGISTERS: usize = 11;
+
+/// The registers by their numbers.
+const NUMBERED: [Reg; REGISTERS] = [
+    Reg::R0,
+    Reg::R1,
+    Reg::R2,
+    Reg::R3,
+    Reg::R4,
+    Reg::R5,
+    Reg::R6,
+    Reg::R7,
+    Reg::R8,
+    Reg::R9,
+    Reg::R10,
+];
+
+/// The register of this number.
+fn register_at(number: u32) -> Option<Reg>
+    ensures { result ≡ register_at number }
+{
+    NUMBERED.get(number as usize).copied()
+}
+
+/// The kind that a plain word stands for.
+#[tactic(auto, unfolding(crate::specs::code::Reading::plain_in, crate::specs::code::Reading::word_in))]
+fn plain_in(text: &[u8]) -> Option<(Kind, &[u8])>
+    ensures { option_map (λ x. (x.0, x.1.now)) result ≡ plain_in text.now }
+{
+    if let Some(rest) = behind(text, b"same") {
+        return Some((Kind::Same, rest));
+    }
+    if let Some(rest) = behind(text, b"number") {
+        return Some((Kind::Number, rest));
+    }
+    if let Some(rest) = behind(text, b"offset") {
+        return Some((Kind::Offset, rest));
+    }
+    if let Some(rest) = behind(text, b"start") {
+        return Some((Kind::Start, rest));
+    }
+    let rest = behind(text, b"base")?;
+    Some((Kind::Base, rest))
+}
+
+/// The signed number behind a word, and what stands behind it.
+#[tactic(auto, unfolding(crate::specs::code::Reading::value_in))]
+fn value_in<'a>(text: &'a [u8], word: &[u8]) -> Option<(i32, &'a [u8])>
+    ensures { option_map (λ x. (x.0, x.1.now)) result ≡ value_in word.now text.now }
+{
+    let rest = behind(text, word)?;
+    int_in(rest)
+}
+
+/// The register and the signed number behind a word, and what stands behind them.
+#[tactic(auto, unfolding(crate::specs::code::Reading::behind_in))]
+fn behind_in<'a>(text: &'a [u8], word: &[u8]) -> Option<(Reg, i32, &'a [u8])>
+    ensures { option_map (λ x. (x.0, x.1, x.2.now)) result ≡ behind_in word.now text.now }
+{
+    let (number, rest) = number_in(text, word)?;
+    let of = register_at(number)?;
+    let rest = behind(rest, b":")?;
+    let (by, rest) = int_in(rest)?;
+    Some((of, by, rest))
+}
+
+/// The kind with a register.
+#[tactic(auto, unfolding(crate::specs::code::Reading::beside_in))]
+fn beside_in(text: &[u8]) -> Option<(Kind, &[u8])>
+    ensures { option_map (λ x. (x.0, x.1.now)) result ≡ beside_in text.now }
+{
+    if let Some((of, by, rest)) = behind_in(text, b"moved:r") {
+        return Some((Kind::Moved { of, by }, rest));
+    }
+    let (of, by, rest) = behind_in(text, b"address:r")?;
+    Some((Kind::Address { of, by }, rest))
+}
+
+/// The kind with a number.
+#[tactic(auto, unfolding(crate::specs::code::Reading::numbered_in))]
+fn numbered_in(text: &[u8]) -> Option<(Kind, &[u8])>
+    ensures { option_map (λ x. (x.0, x.1.now)) result ≡ numbered_in text.now }
+{
+    if let Some((offset, rest)) = value_in(text, b"fixed:") {
+        return Some((Kind::Fixed { offset }, rest));
+    }
+    if let Some((value, rest)) = value_in(text, b"constant:") {
+        return Some((Kind::Constant { value }, rest));
+    }
+    if let Some((head, rest)) = number_in(text, b"turns:") {
+        return Some((Kind::Counter { head }, rest));
+    }
+    let (head, rest) = number_in(text, b"turn:")?;
+    Some((Kind::Turn { head }, rest))
+}
+
+/// The kind at the front, and what stands behind it.
+#[tactic(auto, unfolding(crate::specs::code::Reading::kind_in))]
+fn kind_in(text: &[u8]) -> Option<(Kind, &[u8])>
+    ensures { option_map (λ x. (x.0, x.1.now)) result ≡ kind_in text.now }
+{
+    if let Some(found) = plain_in(text) {
+        return Some(found);
+    }
+    if let Some(found) = numbered_in(text) {
+        return Some(found);
+    }
+    beside_in(text)
+}
+
+/// A register's number and its kind, and what stands behind them.
+#[tactic(auto, unfolding(crate::specs::code::Reading::entry_in))]
+fn entry_in(text: &[u8]) -> Option<(u32, Kind, &[u8])>
+    ensures { option_map (λ x. (x.0, x.1, x.2.now)) result ≡ entry_in text.now }
+{
+    let (number, rest) = number_in(text, b" r")?;
+    let rest = behind(rest, b"=")?;
+    let (kind, rest) = kind_in(rest)?;
+    Some((number, kind, rest))
+}
+
+/// What the registers hold, as far as it is said.
+fn kinds_in(text: &[u8]) -> Option<[Kind; REGISTERS]>
+    ensures { result ≡ kinds_in 11 nothing_said text.now }
+{
+    let mut kinds = [Kind::Nothing; REGISTERS];
+    let mut rest = text;
+    for _ in 0..REGISTERS {
+        let Some((number, kind, more)) = entry_in(rest) else {
+            return Some(kinds);
+        };
+        let register = number as usize;
+        if register >= REGISTERS {
+            return None;
+        }
+        kinds[register] = kind;
+        rest = more;
+    }
+    Some(kinds)
+}
+
+/// The place that is said.
+#[tactic(auto, unfolding(crate::specs::code::Reading::place_in))]
+fn place_in(text: &[u8]) -> Option<Place>
+    ensures { result ≡ place_in text.now }
+{
+    let (first, rest) = number_in(text, b"first ")?;
+    let (entry, rest) = number_in(rest, b" entry ")?;
+    let (body, rest) = number_in(rest, b" body ")?;
+    let kinds = kinds_in(rest)?;
+    Some(Place {
+        entry,
+        first,
+        body,
+        kinds,
+    })
+}
+
+/// What is said of a slot.
+#[tactic(auto, unfolding(crate::specs::code::Reading::note_in))]
+pub fn note_in(text: &[u8]) -> Option<Option<Place>>
+    ensures { result ≡ note_in text.now }
+{
+    let (_slot, rest) = number_in(text, b"")?;
+    let rest = behind(rest, b": ")?;
+    if behind(rest, b"none").is_some() {
+        return Some(None);
+    }
+    let place = place_in(rest)?;
+    Some(Some(place))
+}

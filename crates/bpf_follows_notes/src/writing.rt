@@ -1,0 +1,133 @@
+//! Spelling notes.
+
+ghost use Rattle.std.specs.Prelude.{◌≡◌, ◌++◌, decimal, IfOk, OnOk, option_copied};
+ghost use Rattle.std.specs.Fmt.{signed_decimal};
+ghost use Rattle.bpf_follows_notes.specs.NotesText.{entry_text, behind_text, held_text, kinds_text, place_text, note_line, notes_text};
+
+use bpf_follows::{Kind, Place};
+use bpf_insn::Reg;
+use itoa::{Buffer, Integer};
+use std::alloc::{AllocError, Global};
+
+/// The first line.
+pub const HEAD: &[u8] = b"bpfnotes 1\n";
+
+/// Puts a word and a number.
+#[tactic(auto, using(crate::proofs::Spelled::texts))]
+fn put_number<I: Integer>(text: &mut Vec<u8>, word: &[u8], number: I) -> Result<(), AllocError>
+    ensures { OnOk result (text.new.items ≡ text.old.items ++ (word.now ++ I.text number)) }
+{
+    let mut buffer = Buffer::new();
+    text.extend_from_slice(word)?;
+    text.extend_from_slice(buffer.format(number).as_bytes())
+}
+
+/// Puts a register and a word for what it holds.
+#[tactic(auto, using(crate::proofs::Spelled::texts), unfolding(crate::specs::NotesText::entry_text))]
+fn put_entry(text: &mut Vec<u8>, register: u8, word: &[u8]) -> Result<(), AllocError>
+    ensures { OnOk result (text.new.items ≡ text.old.items ++ entry_text register word.now) }
+{
+    put_number(text, b" r", u32::from(register))?;
+    text.extend_from_slice(b"=")?;
+    text.extend_from_slice(word)
+}
+
+/// Puts a register, a word for what it holds, and a signed number.
+#[tactic(auto, using(crate::proofs::Spelled::texts), unfolding(crate::specs::NotesText::entry_text))]
+fn put_value(text: &mut Vec<u8>, register: u8, word: &[u8], value: i32) -> Result<(), AllocError>
+    ensures { OnOk result (text.new.items ≡ text.old.items ++ entry_text register (word.now ++ signed_decimal value)) }
+{
+    put_entry(text, register, word)?;
+    put_number(text, b"", value)
+}
+
+/// Puts a register, a word for what it holds, and the slot of a loop's head.
+#[tactic(auto, using(crate::proofs::Spelled::texts), unfolding(crate::specs::NotesText::entry_text))]
+fn put_head(text: &mut Vec<u8>, register: u8, word: &[u8], head: u32) -> Result<(), AllocError>
+    ensures { OnOk result (text.new.items ≡ text.old.items ++ entry_text register (word.now ++ decimal head)) }
+{
+    put_entry(text, register, word)?;
+    put_number(text, b"", head)
+}
+
+/// Puts a register, a word for what it holds, another register and a signed number.
+#[tactic(auto, using(crate::proofs::Spelled::texts), unfolding(crate::specs::NotesText::entry_text))]
+fn put_beside(
+    text: &mut Vec<u8>,
+    register: u8,
+    word: &[u8],
+    of: Reg,
+    by: i32,
+) -> Result<(), AllocError>
+    ensures { OnOk result (text.new.items ≡ text.old.items ++ entry_text register (word.now ++ behind_text of by)) }
+{
+    put_head(text, register, word, u32::from(of as u8))?;
+    put_number(text, b":", by)
+}
+
+/// Puts what a register holds, if that is something.
+#[tactic(auto, using(crate::proofs::Spelled::texts), unfolding(crate::specs::NotesText::held_text))]
+fn put_held(text: &mut Vec<u8>, register: u8, kind: Kind) -> Result<(), AllocError>
+    ensures { OnOk result (text.new.items ≡ text.old.items ++ held_text register kind) }
+{
+    match kind {
+        Kind::Nothing => Ok(()),
+        Kind::Same => put_entry(text, register, b"same"),
+        Kind::Number => put_entry(text, register, b"number"),
+        Kind::Offset => put_entry(text, register, b"offset"),
+        Kind::Fixed { offset } => put_value(text, register, b"fixed:", offset),
+        Kind::Start => put_entry(text, register, b"start"),
+        Kind::Base => put_entry(text, register, b"base"),
+        Kind::Moved { of, by } => put_beside(text, register, b"moved:r", of, by),
+        Kind::Address { of, by } => put_beside(text, register, b"address:r", of, by),
+        Kind::Constant { value } => put_value(text, register, b"constant:", value),
+        Kind::Counter { head } => put_head(text, register, b"turns:", head),
+        Kind::Turn { head } => put_head(text, register, b"turn:", head),
+    }
+}
+
+/// Puts what r0 to r10 hold.
+fn put_kinds(text: &mut Vec<u8>, kinds: &[Kind; 11]) -> Result<(), AllocError>
+    ensures { OnOk result (text.new.items ≡ text.old.items ++ kinds_text 0 kinds.now) }
+{
+    for register in 0..11u8 {
+        put_held(text, register, kinds[usize::from(register)])?;
+    }
+    Ok(())
+}
+
+/// Puts what stands for a slot.
+#[tactic(auto, using(crate::proofs::Spelled::texts), unfolding(crate::specs::NotesText::place_text))]
+fn put_place(text: &mut Vec<u8>, place: &Place) -> Result<(), AllocError>
+    ensures { OnOk result (text.new.items ≡ text.old.items ++ place_text place.now) }
+{
+    put_number(text, b"first ", place.first)?;
+    put_number(text, b" entry ", place.entry)?;
+    put_number(text, b" body ", place.body)?;
+    put_kinds(text, &place.kinds)
+}
+
+/// Puts the line of a slot.
+#[tactic(auto, using(crate::proofs::Spelled::texts), unfolding(crate::specs::NotesText::note_line, crate::specs::NotesText::note_text))]
+pub fn put_line(text: &mut Vec<u8>, slot: usize, note: Option<&Place>) -> Result<(), AllocError>
+    ensures { OnOk result (text.new.items ≡ text.old.items ++ note_line slot (option_copied note.entry)) }
+{
+    put_number(text, b"", slot)?;
+    text.extend_from_slice(b": ")?;
+    match note {
+        Some(place) => put_place(text, place)?,
+        None => text.extend_from_slice(b"none")?,
+    }
+    text.extend_from_slice(b"\n")
+}
+
+/// The one text of notes, a line for each slot of the old program.
+pub fn write(alloc: Global, notes: &[Option<Place>]) -> Result<Vec<u8>, AllocError>
+    ensures { IfOk result (λ text. text.items ≡ notes_text notes.now) }
+{
+    let mut text = Vec::from_slice(alloc, HEAD)?;
+    for slot in 0..notes.len() {
+        put_line(&mut text, slot, notes[slot].as_ref())?;
+    }
+    Ok(text)
+}

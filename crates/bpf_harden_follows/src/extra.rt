@@ -1,0 +1,111 @@
+//! Extra instructions: what they leave in the new program's registers, while the old one stands still.
+
+use crate::facts::Facts;
+use bpf_follows::Kind;
+use bpf_insn::{AluOp, Cond, Insn, Operand, Reg, Width};
+
+/// The old register whose offset a register holds, and what it was moved by.
+fn offset_in(r: Reg, kind: Kind) -> Option<(Reg, i32)> {
+    match kind {
+        Kind::Offset | Kind::Fixed { .. } => Some((r, 0)),
+        Kind::Moved { of, by } => Some((of, by)),
+        _ => None,
+    }
+}
+
+/// Whether it is the pointer to the context's start.
+fn is_base(kind: Kind) -> bool {
+    matches!(kind, Kind::Base | Kind::Start)
+}
+
+/// What a copy holds.
+fn copied(from: Reg, kind: Kind) -> Kind {
+    match kind {
+        Kind::Offset | Kind::Fixed { .. } => Kind::Moved { of: from, by: 0 },
+        Kind::Start => Kind::Base,
+        Kind::Base | Kind::Moved { .. } | Kind::Address { .. } | Kind::Constant { .. } => kind,
+        _ => Kind::Nothing,
+    }
+}
+
+/// What a register holds behind a sum with a constant.
+fn moved(r: Reg, kind: Kind, by: i32) -> Kind {
+    match (kind, offset_in(r, kind)) {
+        (Kind::Turn { head }, _) if by == -1 => Kind::Counter { head },
+        (_, Some((of, 0))) => Kind::Moved { of, by },
+        _ => Kind::Nothing,
+    }
+}
+
+/// What a register holds behind a sum of two.
+fn summed(facts: &Facts, dst: Reg, src: Reg) -> Kind {
+    let (left, right) = (facts.get(dst), facts.get(src));
+    let found = if is_base(right) {
+        offset_in(dst, left)
+    } else if is_base(left) {
+        offset_in(src, right)
+    } else {
+        None
+    };
+    match found {
+        Some((of, by)) => Kind::Address { of, by },
+        None => Kind::Nothing,
+    }
+}
+
+/// What a 64-bit operation puts into its register.
+fn put(facts: &Facts, op: AluOp, dst: Reg, src: Operand) -> Kind {
+    match (op, src) {
+        (AluOp::Mov, Operand::Imm(value)) => if value == 0 && facts.get(dst) == Kind::Start {
+            Kind::Fixed { offset: 0 }
+        } else {
+            Kind::Constant { value }
+        },
+        (AluOp::Mov, Operand::Reg(src)) => copied(src, facts.get(src)),
+        (AluOp::Add, Operand::Imm(by)) => moved(dst, facts.get(dst), by),
+        (AluOp::Add, Operand::Reg(src)) => summed(facts, dst, src),
+        _ => Kind::Nothing,
+    }
+}
+
+/// The extra instruction was done in front of the old one at a slot.
+pub fn pass(facts: &mut Facts, slot: u32, insn: &Insn) {
+    let Insn::Alu {
+        op,
+        width: Width::W64,
+        dst,
+        src,
+    } = *insn
+    else {
+        return pass_other(facts, slot, insn);
+    };
+    let kind = put(facts, op, dst, src);
+    facts.set(dst, kind);
+}
+
+/// The register whose turns are tested by an instruction.
+pub fn tested(insn: &Insn) -> Option<Reg> {
+    let Insn::JumpIf {
+        cond: Cond::Eq,
+        width: Width::W64,
+        dst,
+        src: Operand::Imm(0),
+        ..
+    } = *insn
+    else {
+        return None;
+    };
+    Some(dst)
+}
+
+/// As `pass` for another instruction.
+fn pass_other(facts: &mut Facts, slot: u32, insn: &Insn) {
+    if let Some(r) = tested(insn) {
+        if facts.get(r) == (Kind::Counter { head: slot }) {
+            facts.set(r, Kind::Turn { head: slot });
+        }
+    }
+    if let Some(r) = insn.register_written() {
+        facts.set(r, Kind::Nothing);
+    }
+}

@@ -1,0 +1,265 @@
+//! The places of a hardened program, by the slots of the old one.
+
+use crate::behind::step;
+use crate::extra::{pass, tested};
+use crate::facts::Facts;
+use bpf_follows::{Kind, Place};
+use bpf_harden_notes::{Change, Hardened};
+use bpf_insn::{AluOp, Insn, Operand, Program, Reg, Width};
+use std::alloc::{AllocError, Global};
+
+/// The most instructions that are looked at in front of an old one.
+const MOST_EXTRA: u32 = 32;
+
+/// The most rounds over all slots. What isn't stable by then isn't shown.
+const ROUNDS: u32 = 64;
+
+/// Both programs, and what is found so far.
+#[derive(Drop)]
+struct Finder<'a> {
+    old: &'a Program,
+    new: &'a Hardened,
+    /// By new slots, what was done there.
+    changes: Vec<Option<Change>>,
+    /// By old slots, where a function's entry begins in the new program.
+    entries: Vec<Option<u32>>,
+    /// By old slots, what holds in front of what stands there.
+    facts: Vec<Option<Facts>>,
+    /// By old slots, whether that was changed since it was looked at.
+    is_new: Vec<bool>,
+}
+
+/// An element, if the list is so long.
+fn at<T: Copy>(list: &[Option<T>], index: u32) -> Option<T> {
+    match list.get(index as usize) {
+        Some(Some(element)) => Some(*element),
+        _ => None,
+    }
+}
+
+/// Makes this the element, if the list is so long.
+fn put<T: Drop>(list: &mut Vec<T>, index: u32, element: T) {
+    if let Some(place) = list.get_mut(index as usize) {
+        *place = element;
+    }
+}
+
+/// The slot to which an instruction jumps or calls.
+fn led(slot: u32, insn: &Insn) -> Option<u32> {
+    let distance = insn.distance()?;
+    let to = i64::from(slot)
+        .saturating_add(1)
+        .saturating_add(i64::from(distance));
+    u32::try_from(to).ok()
+}
+
+/// Whether an instruction takes a turn from a register.
+fn takes_from(insn: &Insn, r: Reg) -> bool {
+    let take = Insn::Alu {
+        op: AluOp::Add,
+        width: Width::W64,
+        dst: r,
+        src: Operand::Imm(-1),
+    };
+    *insn == take
+}
+
+impl<'a> Finder<'a> {
+    /// Nothing is found.
+    fn new(alloc: Global, old: &'a Program, new: &'a Hardened) -> Result<Finder<'a>, AllocError> {
+        let mut changes = vec![in alloc; None; new.program.slots() as usize]?;
+        for note in &new.notes {
+            put(&mut changes, note.new, Some(note.change));
+        }
+        let mut entries = vec![in alloc; None; old.slots() as usize]?;
+        for function in &new.functions {
+            put(&mut entries, function.old, Some(function.new));
+        }
+        Ok(Finder {
+            old,
+            new,
+            changes,
+            entries,
+            facts: vec![in alloc; None; old.slots() as usize]?,
+            is_new: vec![in alloc; false; old.slots() as usize]?,
+        })
+    }
+
+    // ---- where what stands
+
+    /// Where what stands for an old slot begins.
+    fn first(&self, slot: u32) -> Option<u32> {
+        at(&self.new.slots, slot)
+    }
+
+    /// Where calls of a function lead that begins at an old slot; else as `first`.
+    fn entry(&self, slot: u32) -> Option<u32> {
+        let first = self.first(slot)?;
+        match at(&self.entries, slot) {
+            Some(entry) => Some(entry),
+            None => Some(first),
+        }
+    }
+
+    /// Whether the new instruction at a slot stands for the old one itself.
+    fn is_body(&self, slot: u32) -> bool {
+        matches!(
+            at(&self.changes, slot),
+            None | Some(Change::Access | Change::Widened | Change::Offset)
+        )
+    }
+
+    /// The new slot behind an instruction.
+    fn behind(&self, slot: u32) -> u32 {
+        match self.new.program.at(slot) {
+            Some(insn) => slot.saturating_add(insn.slots()),
+            None => slot.saturating_add(1),
+        }
+    }
+
+    /// Where the instruction itself stands.
+    fn body(&self, slot: u32) -> Option<u32> {
+        let mut body = self.first(slot)?;
+        for _ in 0..MOST_EXTRA {
+            if self.is_body(body) {
+                return Some(body);
+            }
+            body = self.behind(body);
+        }
+        Some(body)
+    }
+
+    /// What holds behind the new instructions from a slot to before another one, in front of the old one.
+    fn passed(&self, facts: &Facts, old: u32, from: u32, to: u32) -> Facts {
+        let mut facts = *facts;
+        let mut slot = from;
+        for _ in 0..MOST_EXTRA {
+            if slot >= to {
+                return facts;
+            }
+            if let Some(insn) = self.new.program.at(slot) {
+                pass(&mut facts, old, insn);
+            }
+            slot = self.behind(slot);
+        }
+        facts
+    }
+
+    /// The register from which a turn is taken in front of an old slot.
+    fn counter(&self, old: u32) -> Option<Reg> {
+        let first = self.first(old)?;
+        let counter = tested(self.new.program.at(first)?)?;
+        let next = self.new.program.at(self.behind(first))?;
+        let is_turn = at(&self.changes, first) == Some(Change::Turn);
+        if is_turn && takes_from(next, counter) {
+            Some(counter)
+        } else {
+            None
+        }
+    }
+
+    // ---- along the edges
+
+    /// A way leads to an old slot, with what holds there.
+    fn arrive(&mut self, slot: u32, facts: &Facts) {
+        if self.first(slot).is_none() {
+            return;
+        }
+        let mut found = *facts;
+        let mut is_new = true;
+        if let Some(before) = at(&self.facts, slot) {
+            found = before;
+            is_new = found.join(facts);
+        }
+        if let Some(counter) = self.counter(slot) {
+            if let Kind::Constant { .. } = found.get(counter) {
+                found.set(counter, Kind::Counter { head: slot });
+            }
+        }
+        if is_new {
+            put(&mut self.facts, slot, Some(found));
+            put(&mut self.is_new, slot, true);
+        }
+    }
+
+    /// A call, or the start, leads to a function's first slot.
+    fn enter(&mut self, slot: u32, facts: &Facts) {
+        if let (Some(entry), Some(first)) = (self.entry(slot), self.first(slot)) {
+            let set = self.passed(facts, slot, entry, first);
+            self.arrive(slot, &set);
+        }
+    }
+
+    /// Goes on from an old slot.
+    fn go_on(&mut self, slot: u32, facts: &Facts) {
+        let (Some(insn), Some(first), Some(body)) = (
+            self.old.at(slot),
+            self.first(slot),
+            self.body(slot),
+        ) else {
+            return;
+        };
+        let insn = *insn;
+        let before = self.passed(facts, slot, first, body);
+        let mut behind = before;
+        step(&mut behind, &insn);
+        if insn.goes_on() {
+            self.arrive(slot.saturating_add(insn.slots()), &behind);
+        }
+        if let Some(target) = led(slot, &insn) {
+            if let Insn::CallLocal { .. } = insn {
+                self.enter(target, &before.called());
+            } else {
+                self.arrive(target, &behind);
+            }
+        }
+    }
+
+    /// Goes on from each old slot where something is new. Whether there was one.
+    fn round(&mut self) -> bool {
+        let mut is_changed = false;
+        for slot in 0..self.old.slots() {
+            if let (Some(facts), Some(true)) = (
+                at(&self.facts, slot),
+                self.is_new.get(slot as usize).copied(),
+            ) {
+                put(&mut self.is_new, slot, false);
+                self.go_on(slot, &facts);
+                is_changed = true;
+            }
+        }
+        is_changed
+    }
+
+    /// What stands for an old slot, if a way leads there.
+    fn place(&self, slot: u32) -> Option<Place> {
+        let facts = at(&self.facts, slot)?;
+        Some(Place {
+            entry: self.entry(slot)?,
+            first: self.first(slot)?,
+            body: self.body(slot)?,
+            kinds: facts.kinds,
+        })
+    }
+}
+
+/// By the slots of a program, what stands in the hardened one for its instructions, as `follows` of `bpf_follows` takes it. None
+/// where no way is known to lead, and at second slots.
+pub fn places_of(
+    alloc: Global,
+    old: &Program,
+    new: &Hardened,
+) -> Result<Vec<Option<Place>>, AllocError> {
+    let mut finder = Finder::new(alloc, old, new)?;
+    finder.enter(0, &Facts::start());
+    for _ in 0..ROUNDS {
+        if !finder.round() {
+            break;
+        }
+    }
+    let mut places = Vec::new(alloc);
+    for slot in 0..old.slots() {
+        places.push(finder.place(slot))?;
+    }
+    Ok(places)
+}

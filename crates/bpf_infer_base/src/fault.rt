@@ -1,0 +1,28 @@
+//! Instructions that the checker would refuse.
+
+use bpf_infer_error::{Condition, InferError};
+
+/// An instruction that fails a condition of the checker, by its slot.
+#[derive(Clone, Copy)]
+pub struct Fault {
+    pub slot: u32,
+    pub condition: Condition,
+}
+
+impl Fault {
+    /// The instruction at a slot isn't reached, or the end can be passed behind it.
+    pub fn falls_off(slot: u32) -> Fault {
+        Fault {
+            slot,
+            condition: Condition::FallsOff,
+        }
+    }
+
+    /// I4 for it.
+    pub fn refusal(self) -> InferError {
+        InferError::Fault {
+            slot: self.slot,
+            condition: self.condition,
+        }
+    }
+}
