@@ -245,26 +245,30 @@ def conditions():
     return others[:2] + faults + others[2:]
 
 
+def texts_by_number(crate):
+    """The sentences of a crate's refusals, in the order of their numbers."""
+    found = re.findall(r'^ *([0-9]+) => Some\("([^"]*)"', (EXAMPLES.parent / 'crates' / crate / 'src/error.rt').read_text(), re.M)
+    assert [int(number) for number, _ in found] == [*range(1, len(found) + 1)], found
+    return [text for _, text in found]
+
+
 def texts():
-    """What hosts are told of a refusal is what the crates' errors say. I4 and H7 are told apart from the condition that they name, and faults
-    where the crate has texts for them."""
+    """What hosts are told of a refusal is what the crates' errors say, I4 and H7 apart from the condition that they name; faults where the
+    crate has texts for them."""
     done = subprocess.run([HOSTS, 'texts'], capture_output=True, text=True, timeout=60, check=True)
     told = {'C': [], 'E': [], 'F': [], 'H': [], 'I': [], 'K': []}
     for line in done.stdout.splitlines():
         number, _, text = line.partition(' ')
         told[number[0]].append(text)
         assert number[1:] == str(len(told[number[0]])), line
-    image, inference = errors_of('bpf_insn', 'refusal.rt'), errors_of('bpf_infer_error', 'error.rt')
+    image = errors_of('bpf_insn', 'refusal.rt')
     of_slot, of_image = image[:6], image[10:]
-    inference[3] = told['I'][3]
-    hardening = errors_of('bpf_harden_notes', 'error.rt')
-    hardening[6] = told['H'][6]
     want = {
         'C': conditions(),
         'E': [of_image[0], *of_slot, *of_image[2:]],
         'F': errors_of('bpf_semantics', 'reason.rt') or told['F'],
-        'H': hardening,
-        'I': inference,
+        'H': texts_by_number('bpf_harden_notes'),
+        'I': texts_by_number('bpf_infer_error'),
         'K': errors_of('bpf_cert', 'error.rt'),
     }
     assert told == want, (told, want)
