@@ -6,21 +6,6 @@ use bpf_insn::Reg;
 /// How many registers there are.
 const REGISTERS: usize = 11;
 
-/// The registers by their numbers.
-const NUMBERED: [Reg; REGISTERS] = [
-    Reg::R0,
-    Reg::R1,
-    Reg::R2,
-    Reg::R3,
-    Reg::R4,
-    Reg::R5,
-    Reg::R6,
-    Reg::R7,
-    Reg::R8,
-    Reg::R9,
-    Reg::R10,
-];
-
 /// What r0 to r10 of the new program hold.
 #[derive(Clone, Copy)]
 pub struct Facts {
@@ -83,7 +68,8 @@ impl Facts {
 
     /// Both programs write the register: what others hold beside its offset is no longer so.
     pub fn write(&mut self, r: Reg, kind: Kind) {
-        for other in NUMBERED {
+        for number in 0..REGISTERS as u8 {
+            let other = Reg::numbered(number);
             if beside(self.get(other)) == Some(r) {
                 self.set(other, Kind::Nothing);
             }
@@ -109,7 +95,8 @@ impl Facts {
     /// What holds on both ways. Whether that is less than this.
     pub fn join(&mut self, other: &Facts) -> bool {
         let mut is_less = false;
-        for r in NUMBERED {
+        for number in 0..REGISTERS as u8 {
+            let r = Reg::numbered(number);
             let kind = joined(r, self.get(r), other.get(r));
             is_less = is_less || kind != self.get(r);
             self.set(r, kind);
