@@ -3,7 +3,7 @@
 use crate::same::{assert_same, encoded};
 use bpf_cert::{Certificate, migrate, read};
 use bpf_check::{Checked, VerifyError, check, verify};
-use bpf_insn::{Code, Order, Program, ProgramView};
+use bpf_insn::{Code, MAX_CONTEXT, Order, Program, ProgramView};
 use bpf_machine::{Outcome, run};
 use bpf_text::assemble;
 use std::alloc::{AllocError, Global};
@@ -166,7 +166,7 @@ fn programs_and_views_are_judged_alike(rt: HostRuntime) -> Result<(), Fail> {
 
 /// The result of a run, and the instructions done.
 fn counted<C: Code>(program: &C, context: &[u8], fuel: u64) -> Option<(u64, u64)> {
-    if context.len() > 4096 {
+    if context.len() > MAX_CONTEXT {
         return None;
     }
     match run(program, context, fuel) {
