@@ -14,8 +14,12 @@ BPF, EXAMPLES, SHIM, MEMORY = sys.argv[1], pathlib.Path(sys.argv[2]), sys.argv[3
 OLD = b'what stood here before\n'
 # The refusal for want of memory: of an image, a certificate, a text, a search, a program to be hardened.
 E9, K4, A7, I5, H12 = 'no E9 at slot 0\n', 'no K4 at line 0\n', 'no A7 at line 0\n', 'no I5 at slot 0\n', 'no H12 at slot 0\n'
+# Of two images each, and of notes.
+E9_OLD, E9_NEW, N2 = 'no E9 of OLD at slot 0\n', 'no E9 of NEW at slot 0\n', 'no N2 at line 0\n'
 # Of an explanation: of a text behind its first reading, and of a search, whose words stand behind what was found out before it.
 A7_TOLD, I5_TOLD = 'A7: out of memory\n', 'no certificate: I5, memory ran out\n'
+# The names that are written.
+MADE = ['OUT', 'standard output', '/dev/null', '/dev/zero']
 # What the line of an answer takes as it grows, in bytes: half a frame of a program.
 LINE = 256
 # Calls that no command makes alone, and their refusals.
@@ -39,6 +43,9 @@ COMMANDS = [
     ('infer --deep checksum.img 15 OUT', [E9, I5]),
     ('harden first-byte.img 1 OUT', [E9, H12]),
     ('harden checksum.img 15 OUT', [E9, H12]),
+    ('harden checksum.img 16 OUT --proved --notes /dev/null --changes /dev/zero', [E9, H12]),
+    ('follows first-byte.img first-byte.img first-byte.notes 1', [E9_OLD, E9_NEW, N2]),
+    ('follows first-byte.img first-byte.img first-byte.cert 1', [E9_OLD, E9_NEW, N2]),
     ('check countdown.img countdown.cert', [E9, K4]),
     ('check first-byte.img countdown.cert', [E9, K4]),
     ('check --work countdown.img countdown.cert', [E9, K4]),
@@ -123,7 +130,7 @@ def refusal_in(got, right, refusals):
 def is_failure(got, right):
     """The name that can't be read or written is told; where standard error fails, a beginning of a line without its LF."""
     names = [word for word in got.words[1:] if not word.startswith('-')]
-    lines = [f'cannot read {name}\n' for name in names if name != 'OUT'] + ['cannot write OUT\n', 'cannot write standard output\n']
+    lines = [f'cannot read {name}\n' for name in names if name not in MADE] + [f'cannot write {name}\n' for name in MADE]
     told = got.err in lines or any(line[:-1].startswith(got.err) for line in [*lines, right.err])
     return got.status == 3 and told and right.out.startswith(got.out)
 
@@ -231,6 +238,7 @@ def main():
     (extra / 'contexts').write_text('2a\nnone\nff\n')
     (extra / 'bad-second').write_text('2a\nzz\n00\n')
     subprocess.run([BPF, 'asm', str(EXAMPLES / 'checksum.asm'), str(extra / 'checksum.img')], check=True)
+    subprocess.run([BPF, 'harden', str(EXAMPLES / 'first-byte.img'), '1', os.devnull, '--notes', str(extra / 'first-byte.notes')], check=True)
     EXTRA = sorted(extra.iterdir())
     totals = {'allocations refused': 0, 'reads and writes failed': 0, 'reads and writes shortened': 0}
     for line, refusals in COMMANDS:

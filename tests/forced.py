@@ -6,8 +6,10 @@ programs (10,000 if not said) are those of harden.py's generator, and images of 
 orders and with few and many turns; and as many have one byte changed. On random contexts
 
 - where the old program ends with a number, the new one ends with it, or in the trap where it has few turns, or where hardening may
-  take the lowest bytes of a frame that is written by a register;
+  take the lowest bytes of a frame that is written by a register, and the new program isn't shown to keep the meaning;
 - where the old one leaves the context or its frame by a register (F3), the new one goes to the trap.
+
+How many are shown to keep the meaning is counted, and what fails first of the others.
 """
 import collections
 import os
@@ -76,10 +78,10 @@ def is_written_by_register(case):
     return any(code & 6 == 2 and (registers >> 4 if case.big else registers & 15) != 10 for code, registers in pairs)
 
 
-def judged(case, old, new):
+def judged(case, shown, old, new):
     """Whether the new program may end so, where the old one ends as it does."""
     if old.isdigit():
-        may_trap = case.turns < MANY or is_written_by_register(case)
+        may_trap = case.turns < MANY or not shown and is_written_by_register(case)
         return new == old or may_trap and new == 'trap'
     return new == 'trap' or old != 'F3' or not case.tells or case.turns < MANY
 
@@ -101,9 +103,11 @@ def try_batch(bpf, forced, seed, count):
         if not ends:
             found[answer[0] if answer[:1] in 'EH' else 'none'] += 1
             continue
+        verdict = answer.split()[0]
         found['programs'] += 1
+        found[verdict] += 1
         for context, (old, new) in zip(given, ends):
-            if not judged(case, old, new):
+            if not judged(case, verdict == 'yes', old, new):
                 raise Wrong(f'seed {seed}: on {context.hex()} {old} before, {new} by force: {line}')
             found['same' if new == old and old.isdigit() else 'trap' if new == 'trap' else 'other'] += 1
         if len(ends) != len(given):
@@ -126,7 +130,8 @@ def main():
     if found['programs'] < count or found['trap'] < count or found['same'] < count:
         sys.exit(f'forced.py: too few were compared: {dict(found)}')
     print(f'forced: of {2 * count} programs {found["programs"]} with guards and counters by force: {found["same"]} runs end with the same number, '
-          f'{found["trap"]} in the trap; no image {found["E"]}, refused {found["H"]}')
+          f'{found["trap"]} in the trap; no image {found["E"]}, refused {found["H"]}; shown to keep the meaning {found["yes"]}, '
+          f'else {harden.counted(found, "M")}')
 
 
 if __name__ == '__main__':

@@ -3,7 +3,8 @@
 - each answer has a known form, and the status that goes with it;
 - a yes keeps its word: on random contexts of its lengths `run` is done within the bound, and `run-checked` with the same number;
 - what is listed assembles to the same image, in both byte orders;
-- what is proposed is certified or refused by number, and what is written reads back.
+- what is proposed is certified or refused by number, and what is written reads back;
+- a new image that follows an old one by notes ends with its number on random contexts.
 """
 import os
 import pathlib
@@ -27,6 +28,8 @@ FORMS = {
     'run-checked': {0: r'done \d+\n', 1: rf'no E\d+ at slot {SLOT}\n|no K[1-4] at line \d+\n|no C\d+ at slot {SLOT}\n|no context of \d+ bytes, want \d+(\.\.\d+)?\n'},
     'migrate': {0: '', 1: r'no K[1-4] at line \d+\n'},
     'explain': {0: r'[^\0]+\n', 1: r'[^\0]+\n'},
+    'harden': {0: '', 1: rf'no E\d+ at slot {SLOT}\n|no H\d+ at slot {SLOT}\n'},
+    'follows': {0: r'yes length \d+ turns \d+\n', 1: rf'no E\d+ of (OLD|NEW) at slot {SLOT}\n|no N1 at line \d+\n|no M[1-7] at slot {SLOT}\n'},
 }
 ERRORS = {2: r'bad hex\n|context too long\n|most below least\n|words that don\'t go together\n|error: [^\0]*', 3: r'cannot (read|write) [^\n]*\n|no memory\n'}
 
@@ -184,6 +187,27 @@ def try_certificate(run, r, image, text, order):
             raise Wrong(f'migrated: {answer!r}, {migrated!r}')
 
 
+def try_followed(run, r, image, order):
+    """An image that is hardened, and the new one and the notes as they are or altered: where the notes still show that it keeps the meaning,
+    it does on random contexts."""
+    old, length = run.put('i.img', image), r.choice([0, 1, 4, 16, 64, 128])
+    if run.bpf('harden', *order, old, str(length), 'n.img', '--notes', 'n.notes')[0] != 0:
+        return 0
+    if r.random() < 0.7:
+        run.put('n.img', altered_bytes(r, run.get('n.img')))
+    if r.random() < 0.7:
+        run.put('n.notes', altered_text(r, run.get('n.notes').decode()).encode('latin-1'))
+    if run.bpf('follows', *order, old, 'n.img', 'n.notes', str(length))[0] != 0:
+        return 0
+    for _ in range(4):
+        context = hex_of(bytes(r.choice([0, 1, r.randrange(256)]) for _ in range(length)))
+        status, before = run.bpf('run', *order, old, context, '--steps', '60000')
+        after = run.bpf('run', *order, 'n.img', context, '--steps', '1000000')[1]
+        if status == 0 and before.split()[1] != after.split()[1]:
+            raise Wrong(f'the new image follows, and on {context} {before!r} before, {after!r} after')
+    return 1
+
+
 def try_each_alteration(run, image, text):
     """Each image that differs from the smallest one in one byte: where its certificate still certifies it, it is done within the bound.
     So it is with any other constant, and with a 32-bit move."""
@@ -206,9 +230,10 @@ def main():
     command, examples, seconds, seed = sys.argv[1], pathlib.Path(sys.argv[2]), float(sys.argv[3]), int(sys.argv[4])
     r = random.Random(seed)
     images = [p.read_bytes() for p in sorted(examples.glob('*.img'))]
+    filters = [p.read_bytes() for p in sorted(examples.glob('c/*.img'))]
     texts = [p.read_text() for p in sorted(examples.glob('*.asm'))]
     certificates = [p.read_text() for p in sorted(examples.glob('*.cert'))]
-    turns = 0
+    turns = followed = 0
     with tempfile.TemporaryDirectory() as folder:
         run = Runner(command, folder)
         try_each_alteration(run, (examples / 'smallest.img').read_bytes(), (examples / 'smallest.cert').read_text())
@@ -216,7 +241,7 @@ def main():
         while time.time() < end:
             turns += 1
             order = r.choice([[], [], ['--big']])
-            kind = r.randrange(3)
+            kind = r.randrange(4)
             try:
                 if kind == 0:
                     try_image(run, r, altered_bytes(r, r.choice(images)), order, certificates)
@@ -227,6 +252,8 @@ def main():
                         raise Wrong('explain and asm differ')
                     if status == 0:
                         try_image(run, r, run.get('t.img'), order, certificates)
+                elif kind == 2:
+                    followed += try_followed(run, r, r.choice(images + filters), [])
                 else:
                     at = r.randrange(len(certificates))
                     name = run.put('i.img', r.choice(images))
@@ -237,7 +264,7 @@ def main():
                     pathlib.Path(kept, entry).write_bytes(pathlib.Path(folder, entry).read_bytes())
                 print(f'fuzz: seed {seed}, turn {turns}: {wrong}\nfuzz: files in {kept}')
                 return 1
-    print(f'fuzz: seed {seed}, {turns} turns, {run.runs} runs of the command, no wrong answer')
+    print(f'fuzz: seed {seed}, {turns} turns, {run.runs} runs of the command, {followed} new images that follow, no wrong answer')
     return 0
 
 

@@ -6,7 +6,8 @@
 - the images of examples/c, and random programs, with one byte changed.
 
 Each that is hardened gets a certificate by `infer --deep`. On random contexts it ends with the number that the old program ends with;
-where the old one leaves the context or its frame (F3) it goes to the trap. Refusals are counted, and have a number.
+where the old one leaves the context or its frame (F3) it goes to the trap. Refusals are counted, and have a number. What `follows` says of
+each with its notes is counted, too, and `harden --proved` writes the same exactly where that is yes.
 """
 import collections
 import os
@@ -126,7 +127,7 @@ def contexts_of(rng, length):
 
 class Runner:
     def __init__(self, bpf, folder):
-        self.bpf, self.folder = bpf, folder
+        self.bpf, self.folder, self.verdicts, self.is_shown = bpf, folder, collections.Counter(), False
 
     def call(self, *words):
         done = subprocess.run([self.bpf, *words], cwd=self.folder, capture_output=True, text=True, timeout=60)
@@ -156,16 +157,37 @@ class Runner:
         for name in ('new.img', 'new.cert'):
             if os.path.exists(os.path.join(self.folder, name)):
                 os.remove(os.path.join(self.folder, name))
-        status, out = self.call('harden', 'old.img', str(length), 'new.img', '--otherwise', str(TRAP), *flags)
+        words = ['harden', 'old.img', str(length), 'new.img', '--otherwise', str(TRAP), *flags]
+        status, out = self.call(*words, '--notes', 'notes')
         if status:
             if not re.fullmatch(r'no H\d+ at slot \d+\n', out):
                 raise Wrong(f'harden says {out!r}')
             return out.split()[1]
-        for words in (('infer', '--deep', *order, 'new.img', str(length), 'new.cert'), ('check', *order, 'new.img', 'new.cert')):
-            status, out = self.call(*words)
+        for after in (('infer', '--deep', *order, 'new.img', str(length), 'new.cert'), ('check', *order, 'new.img', 'new.cert')):
+            status, out = self.call(*after)
             if status:
-                raise Wrong(f'{words[0]} of the hardened image says {out!r}')
+                raise Wrong(f'{after[0]} of the hardened image says {out!r}')
+        self.follow(length, order, words)
         return None
+
+    def follow(self, length, order, harden):
+        """What `follows` says of new.img with its notes, and that `harden --proved` goes by it."""
+        status, out = self.call('follows', *order, 'old.img', 'new.img', 'notes', str(length))
+        shown = status == 0
+        # Of blocks the old program sees nothing.
+        self.is_shown = shown and '--padded' not in harden
+        said = re.fullmatch(rf'yes length {length} turns 65536\n|no (M\d) at slot \d+\n', out)
+        if not said:
+            raise Wrong(f'follows says {out!r}')
+        self.verdicts[said[1] or 'yes'] += 1
+        new = self.get('new.img')
+        os.remove(os.path.join(self.folder, 'new.img'))
+        status, out = self.call(*harden, '--proved')
+        if (status, out) != ((0, '') if shown else (1, f'no H13 at {said[0].split(" at ")[1]}')):
+            raise Wrong(f'follows says {said[0]!r}, and harden --proved {out!r}')
+        if shown and self.get('new.img') != new or not shown and os.path.exists(os.path.join(self.folder, 'new.img')):
+            raise Wrong('harden --proved writes something else')
+        self.put('new.img', new)
 
 
 def compare(run, order, cases, is_exact):
@@ -174,7 +196,7 @@ def compare(run, order, cases, is_exact):
     is written by a register, what hardening keeps may take its lowest bytes."""
     told = [(context, was) for context, was in cases if isinstance(was, int) or was == 'F3' and is_exact]
     new = run.on(['run-checked', *order, 'new.img', 'new.cert'], [context for context, _ in told]) if told else []
-    may_cut = is_written_by_register(run, order)
+    may_cut = not run.is_shown and is_written_by_register(run, order)
     for (context, was), now in zip(told, new):
         right = now == TRAP if was == 'F3' else was == now or may_cut and now == TRAP
         if not right:
@@ -244,7 +266,12 @@ def try_seed(bpf, seed):
             name = f'harden-{seed}.img'
             pathlib.Path(name).write_bytes(run.get('old.img'))
             raise Wrong(f'seed {seed}, length {program.length} {order}: {wrong}; the image is {name}') from None
-    return found
+    return found + run.verdicts
+
+
+def counted(found, letter):
+    """The numbers of a letter, and how many there are of each."""
+    return ', '.join(f'{number} {found[number]}' for number in sorted(found, key=lambda n: (len(n), n)) if number[0] == letter) or 'none'
 
 
 def main():
@@ -259,11 +286,11 @@ def main():
     except Wrong as wrong:
         sys.exit(f'harden.py: {wrong}')
     hardened = found['same'] + found['changed'] + found['blocks']
-    refused = ', '.join(f'{number} {found[number]}' for number in sorted(found, key=lambda n: (len(n), n)) if number[0] == 'H')
+    refused = counted(found, 'H')
     if found['changed'] < count // 3:
         sys.exit(f'harden.py: of {count} programs {found["changed"]} alone were changed: {refused}')
     print(f'harden: {hardened} programs answer as before ({found["same"]} unchanged, {found["changed"]} changed, {found["blocks"]} in blocks); '
-          f'refused: {refused or "none"}')
+          f'refused: {refused}; shown to keep the meaning {found["yes"]}, else {counted(found, "M")}')
 
 
 if __name__ == '__main__':

@@ -54,7 +54,14 @@ CASES = [
     ("explain smallest.img --most 0", 2, "--most goes with --infer"),
     ("explain smallest.img --deep", 2, "--deep goes with --infer"),
     ("explain smallest.img --lines smallest.lines", 2, "--lines goes with CERT or --infer, and not with --dot"),
-    ("harden smallest.img 0 out --notes out", 2, "OUT and --notes are two names"),
+    ("harden smallest.img 0 out --notes out", 2, "OUT, --notes and --changes are names of their own"),
+    ("harden smallest.img 0 out --notes beside --changes beside", 2, "OUT, --notes and --changes are names of their own"),
+    ("harden smallest.img 0 out", 0, "shown to keep the meaning"),
+    ("harden smallest.img 0 out --proved", 0, "shown to keep the meaning"),
+    ("harden index.img 128 out --padded", 0, "not shown to keep the meaning: M2 at slot 0"),
+    ("harden index.img 128 out --padded --proved", 1, "M2 of its notes; without --proved it is written, too"),
+    ("harden itself.img 0 out", 1, None),
+    ("follows smallest.img smallest.img smallest.cert 0", 1, None),
 ]
 
 # A name with control characters, and how it is told.

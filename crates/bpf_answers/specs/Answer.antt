@@ -24,6 +24,10 @@ use Rattle.bpf_infer_error.specs.declared.error.InferError.{InferError}
 use Rattle.bpf_infer_error.specs.declared.error.InferError.TheVariants.{Unstable, NoBudget, Recursion, Fault as NoState, Memory as InferMemory}
 use Rattle.bpf_harden_notes.specs.RefusalNumbers.{harden_number, harden_slot}
 use Rattle.bpf_harden_notes.specs.declared.error.HardenError.{HardenError}
+use Rattle.bpf_follows.specs.MismatchNumbers.{mismatch_number, mismatch_slot}
+use Rattle.bpf_follows.specs.declared.mismatch.Mismatch.{Mismatch}
+use Rattle.bpf_follows_notes.specs.Refused.{refusal_number as notes_number, refusal_line as notes_line}
+use Rattle.bpf_follows_notes.specs.declared.error.NotesError.{NotesError}
 use Rattle.bpf_machine.specs.declared.outcome.Outcome.{Outcome}
 use Rattle.bpf_machine.specs.declared.outcome.Outcome.TheVariants.{Done as DoneRun, Fault as FaultRun, OutOfFuel}
 
@@ -37,8 +41,17 @@ pub data Answer : Type 0 where
   NoCertificate : (error : CertError) → Answer
   NotCertified : (refusal : Refusal) → Answer
   NotProposed : (error : InferError) → Answer
-  -- a program isn't hardened
+  -- a program isn't hardened; or it is, and isn't shown to keep its meaning
   NotHardened : (error : HardenError) → Answer
+  NotShown : (mismatch : Mismatch) → Answer
+  -- notes show that one image's program keeps the meaning of another's, on contexts of `length` bytes, for runs that come to no slot more
+  -- than `turns` times
+  Follows : (length turns : ℕ) → Answer
+  -- what is at the name of the old one or of the new one is no image, what is at the notes' name none; or they don't show it
+  NoOld : (error : DecodeError) → Answer
+  NoNew : (error : DecodeError) → Answer
+  NoNotes : (error : NotesError) → Answer
+  NotFollowed : (mismatch : Mismatch) → Answer
   -- a context of so many bytes, where the certificate speaks of `least` to `most`
   NoContext : (count least most : ℕ) → Answer
   -- a checked program ends with this number
@@ -68,6 +81,12 @@ status_of (NoCertificate error) = 1
 status_of (NotCertified refusal) = 1
 status_of (NotProposed error) = 1
 status_of (NotHardened error) = 1
+status_of (NotShown mismatch) = 1
+status_of (Follows length turns) = 0
+status_of (NoOld error) = 1
+status_of (NoNew error) = 1
+status_of (NoNotes error) = 1
+status_of (NotFollowed mismatch) = 1
 status_of (NoContext count least most) = 1
 status_of (Ends value) = 0
 status_of (Ran outcome) = status_of_run outcome
@@ -87,6 +106,17 @@ at_slot = codes " at slot "
 
 abbrev pub at_line : List ℕ
 at_line = codes " at line "
+
+-- `no E4 of NEW at slot 0`: of two images this one
+abbrev pub at_slot_of_old : List ℕ
+at_slot_of_old = codes " of OLD at slot "
+
+abbrev pub at_slot_of_new : List ℕ
+at_slot_of_new = codes " of NEW at slot "
+
+-- the number of the refusal of a hardened program that isn't shown to keep its meaning, behind those of hardening itself
+abbrev pub not_shown : ℕ
+not_shown = 13
 
 -- `no A3 at line 2`, `no A6 at line 1 (E8 at slot 0)`
 abbrev pub text_refusal_line : TextError → List ℕ
@@ -131,6 +161,10 @@ range_pieces least most = if nat_eq least most then decimal least ∷ [] else de
 abbrev pub yes_line : ℕ → ℕ → ℕ → List ℕ
 yes_line least most bound = concat (codes "yes length " ∷ (range_pieces least most ++ (codes " bound " ∷ decimal bound ∷ codes "\n" ∷ [])))
 
+-- `yes length 16 turns 65536`
+abbrev pub follows_line : ℕ → ℕ → List ℕ
+follows_line length turns = concat (codes "yes length " ∷ decimal length ∷ codes " turns " ∷ decimal turns ∷ codes "\n" ∷ [])
+
 -- `no context of 3 bytes, want 16`
 abbrev pub no_context_line : ℕ → ℕ → ℕ → List ℕ
 no_context_line count least most = concat (codes "no context of " ∷ decimal count ∷ codes " bytes, want " ∷ (range_pieces least most ++ (codes "\n" ∷ [])))
@@ -148,6 +182,12 @@ text_of (NoCertificate error) = refusal_line (codes "K") (cert_number error) at_
 text_of (NotCertified refusal) = refusal_line (codes "C") (check_number refusal) at_slot (check_slot refusal)
 text_of (NotProposed error) = infer_refusal_line error
 text_of (NotHardened error) = refusal_line (codes "H") (harden_number error) at_slot (harden_slot error)
+text_of (NotShown mismatch) = refusal_line (codes "H") not_shown at_slot (mismatch_slot mismatch)
+text_of (Follows length turns) = follows_line length turns
+text_of (NoOld error) = refusal_line (codes "E") (decode_number error) at_slot_of_old (decode_slot error)
+text_of (NoNew error) = refusal_line (codes "E") (decode_number error) at_slot_of_new (decode_slot error)
+text_of (NoNotes error) = refusal_line (codes "N") (notes_number error) at_line (notes_line error)
+text_of (NotFollowed mismatch) = refusal_line (codes "M") (mismatch_number mismatch) at_slot (mismatch_slot mismatch)
 text_of (NoContext count least most) = no_context_line count least most
 text_of (Ends value) = concat (codes "done " ∷ decimal value ∷ codes "\n" ∷ [])
 text_of (Ran outcome) = run_line outcome

@@ -1,4 +1,4 @@
-//! What is put at a name: the image of a program, the text of a certificate, other text.
+//! What is put at a name: the image of a program, the text of a certificate, other text, bytes.
 
 ghost use Rattle.std.specs.Prelude.{◌≡◌, ◌⊎◌, ℕ, List, IfOk, IfErr, OnOk, OnErr, true, false};
 ghost use Rattle.std.specs.Io.KnownBytes.{Appends};
@@ -51,6 +51,14 @@ impl Content for String {
 
     fn write_to<W: Write>(&self, out: &mut W) -> io::Result<()> {
         write_bytes(out, self.as_str().as_bytes())
+    }
+}
+
+impl Content for Vec<u8> {
+    ghost bytes = { λ v. v.items };
+
+    fn write_to<W: Write>(&self, out: &mut W) -> io::Result<()> {
+        write_bytes(out, self)
     }
 }
 

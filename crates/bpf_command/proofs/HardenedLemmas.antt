@@ -1,50 +1,107 @@
--- What is said of the two names of a hardening, from what is said of each.
-use Rattle.std.proofs.Common.{◌≡◌, ◌⊎◌, Some, ℕ, List, true, false, Option, Result, Ok, Err, IfOk, IfErr, refl, sym, subst, inl, inr}
+-- What is said of the names of a hardening, from what is said of each.
+use Rattle.std.proofs.Common.{◌≡◌, ◌⊎◌, Some, None, ℕ, List, true, false, Option, Result, Ok, Err, IfOk, IfErr, IfSome, refl, sym, subst, inl, inr}
 use Rattle.std.specs.Borrow.{Bor}
 use Rattle.bpf_insn.specs.Instruction.{Instructions}
-use Rattle.bpf_insn.specs.Image.{image}
+use Rattle.bpf_insn.specs.Image.{IsProgram, image}
+use Rattle.bpf_follows.specs.declared.notes.Place.{Place}
+use Rattle.bpf_follows.specs.Laws.{MatchingKeepsMeaning}
+use Rattle.bpf_follows.specs.Matching.{Matches}
+use Rattle.bpf_follows_notes.specs.NotesText.{notes_text}
 use Rattle.bpf_request.specs.declared.hardening.Hardening.{Hardening}
 use Rattle.bpf_places.specs.Opened.{Opening}
 use Rattle.bpf_places.specs.Made.{Making}
-use Rattle.bpf_answers.specs.Answer.{Answer, Says}
-use Rattle.bpf_command.specs.Hardened.{HardenFails, HardenSays, Hardens, NotBothMade, NotesAt, NotesFail, NotesNotAt}
+use Rattle.bpf_answers.specs.Answer.{Answer, Answered, Says}
+use Rattle.bpf_answers.specs.Loaded.{LoadsImage}
+use Rattle.bpf_command.specs.Hardened.{BothStand, HardenFails, HardenSays, Hardens, IsLeft, NotAllMade, NotBothPut, NotBothStand, Stands, Unput, bounds_of}
 use Rattle.bpf_answers.specs.declared.failure.Failure.{Failure}
 use Rattle.bpf_answers.specs.declared.failure.Failure.TheVariants.{CannotRead, CannotWrite, NoMemory}
 use Rattle.bpf_answers.proofs.MadeLemmas.{put_says}
 
-pub both_stand : {S E : Type 0} (result : Result ℕ E) (known : Option (List ℕ)) (opening : Opening S) (making : Making S) (old : S) (h : Hardening) (between put new : S) (made : Instructions)
-    → Hardens opening old h between made → making between h.output.now (image made.order made.list) true put
-    → IfOk result (λ status. (status ≡ 0) × NotesAt making put h.notes new) → IfOk result (λ status. (x : Answer) × Says x status known known × HardenSays opening making old h new x)
-both_stand result known opening making old h between put new made hardens whole stands =
-    put_says result known (NotesAt making put h.notes new) (HardenSays opening making old h new) stands (λ notes. (between, put, made, hardens, whole, notes))
+-- ---- one name
 
-pub notes_fail : {S : Type 0} (result : Result ℕ Failure) (opening : Opening S) (making : Making S) (old : S) (h : Hardening) (between put new : S) (made : Instructions)
-    → Hardens opening old h between made → making between h.output.now (image made.order made.list) true put
-    → IfErr result (NotesFail making put h.notes new) → IfErr result (HardenFails opening making old h new)
-notes_fail (Ok s) opening making old h between put new made hardens whole fails = tt
-notes_fail (Err (CannotWrite name)) opening making old h between put new made hardens whole fails = inr (inr (between, put, made, hardens, whole, fails))
-notes_fail (Err NoMemory) opening making old h between put new made hardens whole fails = tt
-notes_fail (Err (CannotRead name)) opening making old h between put new made hardens whole fails = absurd fails
-notes_fail (Err failure) opening making old h between put new made hardens whole fails = absurd fails
+-- why a text can't be put at a name
+pub put_fault : {S : Type 0} (result : Result ℕ Failure) (making : Making S) (old : S) (given : Option (Bor (List ℕ))) (name : Bor (List ℕ)) (text : List ℕ) (new : S) → given ≡ Some name
+    → IfErr result (λ f. ((f ≡ CannotWrite name) ⊎ (f ≡ NoMemory)) × making old name.now text false new) → IfErr result (Unput making old given new)
+put_fault (Ok s) making old given name text new is h = tt
+put_fault (Err f) making old given name text new is (inl why, m) =
+    subst (λ n. Unput making old n new f) (sym is) (subst (Unput making old (Some name) new) (sym why) (refl, (text, m)))
+put_fault (Err f) making old given name text new is (inr why, m) = subst (Unput making old given new) (sym why) tt
 
-pub out_fails : {S A : Type 0} (result : Result A Failure) (opening : Opening S) (making : Making S) (old : S) (h : Hardening) (between new : S) (made : Instructions)
-    → Hardens opening old h between made
+-- the same text stands at the name
+stands_as : {S : Type 0} (making : Making S) (old : S) (name : Option (Bor (List ℕ))) (text other : List ℕ) (new : S) → IfSome name (λ _. text ≡ other)
+    → Stands making old name text new → Stands making old name other new
+stands_as making old None text other new same stands = stands
+stands_as making old (Some n) text other new same stands = subst (λ t. making old n.now t true new) same stands
+
+-- ---- notes and changes
+
+pub both_put : {S E : Type 0} (result : Result ℕ E) (making : Making S) (old : S) (h : Hardening) (notes changes : List ℕ) (between new : S) → Stands making old h.notes notes between
+    → IfOk result (λ status. (status ≡ 0) × Stands making between h.changes changes new) → IfOk result (λ status. (status ≡ 0) × BothStand making old h notes new)
+both_put (Ok s) making old h notes changes between new first second = (second.0, (between, changes, first, second.1))
+both_put (Err e) making old h notes changes between new first second = tt
+
+pub notes_unput : {S A : Type 0} (result : Result A Failure) (making : Making S) (old : S) (h : Hardening) (new : S) → IfErr result (Unput making old h.notes new) → IfErr result (NotBothPut making old h new)
+notes_unput (Ok s) making old h new fails = tt
+notes_unput (Err f) making old h new fails = inl fails
+
+pub changes_unput : {S A : Type 0} (result : Result A Failure) (making : Making S) (old : S) (h : Hardening) (notes : List ℕ) (between new : S) → Stands making old h.notes notes between
+    → IfErr result (Unput making between h.changes new) → IfErr result (NotBothPut making old h new)
+changes_unput (Ok s) making old h notes between new first fails = tt
+changes_unput (Err f) making old h notes between new first fails = inr (between, notes, first, fails)
+
+pub changes_left : {S A : Type 0} (result : Result A Failure) (making : Making S) (old : S) (h : Hardening) (notes : List ℕ) (between new : S) → Stands making old h.notes notes between
+    → IfErr result (λ _. IsLeft making between h.changes new) → IfErr result (λ _. NotBothStand making old h new)
+changes_left (Ok s) making old h notes between new first left = tt
+changes_left (Err f) making old h notes between new first left = inr (between, notes, first, left)
+
+-- no other failure is one of names that are written
+other_fault : {S : Type 0} (making : Making S) (old : S) (h : Hardening) (new : S) (name : Bor (List ℕ)) → NotBothPut making old h new (CannotRead name) → ⊥
+other_fault making old h new name (inl never) = never
+other_fault making old h new name (inr never) = never.3
+
+-- ---- behind OUT
+
+-- what was made of the program at the name, with notes that match where they are to
+pub made_of : {S : Type 0} (opening : Opening S) (old : S) (h : Hardening) (new : S) (program made : Instructions) (notes : List (Option Place)) → MatchingKeepsMeaning
+    → LoadsImage opening h.order old h.input.now new program → IsProgram made.list → (h.proved ≡ true → Matches program made notes (bounds_of h)) → Hardens opening old h new made notes
+made_of opening old h new program made notes law loads is_program matches =
+    record { program = program; loads = loads; is_program = is_program; matches = matches; keeps = λ asked. law program made notes (bounds_of h) loads.is_image.program (matches asked) }
+
+pub all_stand : {S E : Type 0} (result : Result ℕ E) (known : Option (List ℕ)) (opening : Opening S) (making : Making S) (old : S) (h : Hardening) (between put new : S) (made : Instructions) (notes : List (Option Place)) (text : List ℕ)
+    → Hardens opening old h between made notes → making between h.output.now (image made.order made.list) true put → IfSome h.notes (λ _. text ≡ notes_text notes)
+    → IfOk result (λ status. (status ≡ 0) × BothStand making put h text new) → IfOk result (λ status. (x : Answer) × Says x status known known × HardenSays opening making old h new x)
+all_stand result known opening making old h between put new made notes text hardens whole same stands =
+    put_says result known (BothStand making put h text new) (HardenSays opening making old h new) stands
+    (λ both. (between, put, made, notes, hardens, whole, (both.0, both.1, stands_as making put h.notes text (notes_text notes) both.0 same both.2, both.3)))
+
+pub texts_fail : {S : Type 0} (result : Result ℕ Failure) (opening : Opening S) (making : Making S) (old : S) (h : Hardening) (between put new : S) (made : Instructions) (notes : List (Option Place))
+    → Hardens opening old h between made notes → making between h.output.now (image made.order made.list) true put
+    → IfErr result (NotBothPut making put h new) → IfErr result (HardenFails opening making old h new)
+texts_fail (Ok s) opening making old h between put new made notes hardens whole fails = tt
+texts_fail (Err (CannotWrite name)) opening making old h between put new made notes hardens whole fails = inr (inr (between, put, made, notes, hardens, whole, fails))
+texts_fail (Err NoMemory) opening making old h between put new made notes hardens whole fails = tt
+texts_fail (Err (CannotRead name)) opening making old h between put new made notes hardens whole fails = absurd (other_fault making put h new name fails)
+texts_fail (Err failure) opening making old h between put new made notes hardens whole (inl never) = absurd never
+texts_fail (Err failure) opening making old h between put new made notes hardens whole (inr never) = absurd never.3
+
+pub out_fails : {S A : Type 0} (result : Result A Failure) (opening : Opening S) (making : Making S) (old : S) (h : Hardening) (between new : S) (made : Instructions) (notes : List (Option Place))
+    → Hardens opening old h between made notes
     → IfErr result (λ f. ((f ≡ CannotWrite h.output) ⊎ (f ≡ NoMemory)) × making between h.output.now (image made.order made.list) false new) → IfErr result (HardenFails opening making old h new)
-out_fails (Ok s) opening making old h between new made hardens fails = tt
-out_fails (Err f) opening making old h between new made hardens (inl is, left) =
-    subst (HardenFails opening making old h new) (sym is) (inr (inl (refl, (between, made, hardens, left))))
-out_fails (Err f) opening making old h between new made hardens (inr is, left) = subst (HardenFails opening making old h new) (sym is) tt
+out_fails (Ok s) opening making old h between new made notes hardens fails = tt
+out_fails (Err f) opening making old h between new made notes hardens (inl is, left) =
+    subst (HardenFails opening making old h new) (sym is) (inr (inl (refl, (between, made, notes, hardens, left))))
+out_fails (Err f) opening making old h between new made notes hardens (inr is, left) = subst (HardenFails opening making old h new) (sym is) tt
 
--- why the notes can't be put at their name
-pub notes_fault : {S : Type 0} (result : Result ℕ Failure) (making : Making S) (old : S) (notes : Option (Bor (List ℕ))) (name : Bor (List ℕ)) (text : List ℕ) (new : S) → notes ≡ Some name
-    → IfErr result (λ f. ((f ≡ CannotWrite name) ⊎ (f ≡ NoMemory)) × making old name.now text false new) → IfErr result (NotesFail making old notes new)
-notes_fault (Ok s) making old notes name text new given h = tt
-notes_fault (Err f) making old notes name text new given (inl is, m) =
-    subst (λ n. NotesFail making old n new f) (sym given) (subst (NotesFail making old (Some name) new) (sym is) (refl, (text, m)))
-notes_fault (Err f) making old notes name text new given (inr is, m) = subst (NotesFail making old notes new) (sym is) tt
+pub texts_left : {S A : Type 0} (result : Result A Failure) (opening : Opening S) (making : Making S) (old : S) (h : Hardening) (between put new : S) (made : Instructions) (notes : List (Option Place))
+    → Hardens opening old h between made notes → making between h.output.now (image made.order made.list) true put
+    → IfErr result (λ _. NotBothStand making put h new) → IfErr result (λ _. NotAllMade opening making old h new)
+texts_left (Ok s) opening making old h between put new made notes hardens whole left = tt
+texts_left (Err f) opening making old h between put new made notes hardens whole left = inr (inr (between, put, made, notes, hardens, whole, left))
 
-pub notes_left : {S A : Type 0} (result : Result A Failure) (opening : Opening S) (making : Making S) (old : S) (h : Hardening) (between put new : S) (made : Instructions)
-    → Hardens opening old h between made → making between h.output.now (image made.order made.list) true put
-    → IfErr result (λ _. NotesNotAt making put h.notes new) → IfErr result (λ _. NotBothMade opening making old h new)
-notes_left (Ok s) opening making old h between put new made hardens whole left = tt
-notes_left (Err f) opening making old h between put new made hardens whole left = inr (inr (between, put, made, hardens, whole, left))
+-- ---- what is answered
+
+-- what was printed is an answer of which this is said
+pub answered : {E : Type 0} (result : Result ℕ E) (before after : Option (List ℕ)) (x : Answer) (says : Answer → Type 0) → IfOk result (λ status. Says x status before after) → says x
+    → IfOk result (Answered says before after)
+answered (Ok s) before after x says printed said = (x, printed, said)
+answered (Err e) before after x says printed said = tt

@@ -1,4 +1,5 @@
 pub mod HardenedLemmas
+pub mod FollowedLemmas
 pub mod JudgedLemmas
 pub mod EachLemmas
 pub mod ExplainedLemmas

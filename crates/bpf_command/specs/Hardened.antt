@@ -1,63 +1,112 @@
--- What is hardened, and what is put at the two names of the answer.
+-- What is hardened, and what is put at the names of the answer.
 use Rattle.std.specs.Prelude.{◌≡◌, ◌⊎◌, ◌<◌, ℕ, List, true, false, Option, Some, None, IsSomeAnd, ⊤}
 use Rattle.std.specs.Borrow.{Bor}
 use Rattle.bpf_insn.specs.Instruction.{Instructions, slots}
 use Rattle.bpf_insn.specs.Image.{IsProgram, image}
+use Rattle.bpf_follows.specs.declared.notes.Bounds.{Bounds}
+use Rattle.bpf_follows.specs.declared.notes.Place.{Place}
+use Rattle.bpf_follows.specs.Matching.{IsMismatch, Matches}
+use Rattle.bpf_follows.specs.Meaning.{KeepsMeaning}
+use Rattle.bpf_follows_notes.specs.NotesText.{notes_text}
 use Rattle.bpf_harden_notes.specs.RefusalNumbers.{harden_slot}
 use Rattle.bpf_request.specs.declared.hardening.Hardening.{Hardening}
 use Rattle.bpf_places.specs.Opened.{Opening}
 use Rattle.bpf_answers.specs.Loaded.{ImageFails, ImageRefused, LoadsImage, Tried}
 use Rattle.bpf_places.specs.Made.{Making}
 use Rattle.bpf_answers.specs.Answer.{Answer}
-use Rattle.bpf_answers.specs.Answer.Answer.{NoImage, NotHardened, Written}
+use Rattle.bpf_answers.specs.Answer.Answer.{NoImage, NotHardened, NotShown, Written}
+use Rattle.bpf_command.specs.declared.commands.harden.Unshown.{Unshown}
+use Rattle.bpf_command.specs.declared.commands.harden.Unshown.TheVariants.{Memory as NoSpace, Differs}
 use Rattle.bpf_answers.specs.Told.{OutputFails}
 use Rattle.bpf_answers.specs.declared.failure.Failure.{Failure}
 use Rattle.bpf_answers.specs.declared.failure.Failure.TheVariants.{CannotRead, CannotWrite, NoMemory}
 
--- a name holds notes, if one is given
-abbrev pub NotesAt : {S : Type 0} → Making S → S → Option (Bor (List ℕ)) → S → Type 0
-NotesAt making old None new = new ≡ old
-NotesAt making old (Some name) new = (text : List ℕ) × making old name.now text true new
+-- ---- a text at a name, if one is given
 
--- notes can't be put at their name
-abbrev pub NotesFail : {S : Type 0} → Making S → S → Option (Bor (List ℕ)) → S → Failure → Type 0
-NotesFail making old notes new (CannotWrite name) = IsSomeAnd notes (λ n. (name.now ≡ n.now) × ((text : List ℕ) × making old n.now text false new))
-NotesFail making old notes new NoMemory = ⊤
-NotesFail making old notes new failure = ⊥
+abbrev pub Stands : {S : Type 0} → Making S → S → Option (Bor (List ℕ)) → List ℕ → S → Type 0
+Stands making old None text new = new ≡ old
+Stands making old (Some name) text new = making old name.now text true new
 
--- nothing came to stand at the notes' name
-abbrev pub NotesNotAt : {S : Type 0} → Making S → S → Option (Bor (List ℕ)) → S → Type 0
-NotesNotAt making old notes new = IsSomeAnd notes (λ n. (text : List ℕ) × making old n.now text false new)
+-- it can't be put there
+abbrev pub Unput : {S : Type 0} → Making S → S → Option (Bor (List ℕ)) → S → Failure → Type 0
+Unput making old name new (CannotWrite failed) = IsSomeAnd name (λ n. (failed.now ≡ n.now) × ((text : List ℕ) × making old n.now text false new))
+Unput making old name new NoMemory = ⊤
+Unput making old name new failure = ⊥
 
--- the image is a program's, and what was made of it is a program
-abbrev pub Hardens : {S : Type 0} → Opening S → S → Hardening → S → Instructions → Type 0
-Hardens opening old h new made = (p : Instructions) × LoadsImage opening h.order old h.input.now new p × IsProgram made.list
+-- nothing came to stand there
+abbrev pub IsLeft : {S : Type 0} → Making S → S → Option (Bor (List ℕ)) → S → Type 0
+IsLeft making old name new = IsSomeAnd name (λ n. (text : List ℕ) × making old n.now text false new)
 
--- OUT holds the image of the program that was made, and the notes stand at their name; or neither is opened
+-- ---- notes, and then changes
+
+-- the notes' text stands at its name, and a text of the changes at its own
+abbrev pub BothStand : {S : Type 0} → Making S → S → Hardening → List ℕ → S → Type 0
+BothStand {S} making old h notes new =
+    (between : S) × (changes : List ℕ) × Stands making old h.notes notes between × Stands making between h.changes changes new
+
+abbrev pub NotBothPut : {S : Type 0} → Making S → S → Hardening → S → Failure → Type 0
+NotBothPut {S} making old h new failure =
+    Unput making old h.notes new failure
+    ⊎ ((between : S) × (notes : List ℕ) × Stands making old h.notes notes between × Unput making between h.changes new failure)
+
+abbrev pub NotBothStand : {S : Type 0} → Making S → S → Hardening → S → Type 0
+NotBothStand {S} making old h new =
+    IsLeft making old h.notes new ⊎ ((between : S) × (notes : List ℕ) × Stands making old h.notes notes between × IsLeft making between h.changes new)
+
+-- ---- both behind OUT
+
+-- the contexts and the turns for which it is hardened
+abbrev pub bounds_of : Hardening → Bounds
+bounds_of h = record { length = h.length; turns = h.turns }
+
+-- What was made isn't shown to keep the meaning: for want of memory, or where it is asked for and notes don't match.
+abbrev pub IsUnshown : Instructions → Instructions → Hardening → Unshown → Type 0
+IsUnshown program made h NoSpace = ⊤
+IsUnshown program made h (Differs m) = (h.proved ≡ true) × ((notes : List (Option Place)) × IsMismatch program made notes (bounds_of h) m)
+
+-- The image is a program's, and what was made of it is a program; with `--proved` it keeps the meaning, since the notes match.
+pub record Hardens {S : Type 0} (opening : Opening S) (old : S) (h : Hardening) (new : S) (made : Instructions) (notes : List (Option Place)) : Type 0 where
+  pub program : Instructions
+  pub loads : LoadsImage opening h.order old h.input.now new program
+  pub is_program : IsProgram made.list
+  pub matches : h.proved ≡ true → Matches program made notes (bounds_of h)
+  pub keeps : h.proved ≡ true → KeepsMeaning program made (bounds_of h)
+
+-- OUT holds the image of the program that was made, and the texts stand at their names; or none of them is opened
 abbrev pub HardenSays : {S : Type 0} → Opening S → Making S → S → Hardening → S → Answer → Type 0
 HardenSays opening making old h new (NoImage e) = ImageRefused opening h.order old h.input.now new e
 HardenSays opening making old h new (NotHardened e) = (p : Instructions) × LoadsImage opening h.order old h.input.now new p × (harden_slot e < slots p.list)
+HardenSays opening making old h new (NotShown m) =
+    (p : Instructions) × (made : Instructions) × LoadsImage opening h.order old h.input.now new p × IsProgram made.list × IsUnshown p made h (Differs m)
 HardenSays {S} opening making old h new Written =
-    (between put : S) × (made : Instructions) × Hardens opening old h between made
-    × making between h.output.now (image made.order made.list) true put × NotesAt making put h.notes new
+    (between put : S) × (made : Instructions) × (notes : List (Option Place)) × Hardens opening old h between made notes
+    × making between h.output.now (image made.order made.list) true put × BothStand making put h (notes_text notes) new
 HardenSays opening making old h new answer = ⊥
 
--- the notes are written when OUT stands
+-- the image can't be put at OUT
+abbrev pub NoOut : {S : Type 0} → Opening S → Making S → S → Hardening → S → Type 0
+NoOut {S} opening making old h new =
+    (between : S) × (made : Instructions) × (notes : List (Option Place)) × Hardens opening old h between made notes
+    × making between h.output.now (image made.order made.list) false new
+
+-- it stands at OUT, and of the texts this holds
+abbrev pub BehindOut : {S : Type 0} → Opening S → Making S → S → Hardening → (S → Type 0) → Type 0
+BehindOut {S} opening making old h holds =
+    (between put : S) × (made : Instructions) × (notes : List (Option Place)) × Hardens opening old h between made notes
+    × making between h.output.now (image made.order made.list) true put × holds put
+
+-- the texts are written when OUT stands
 abbrev pub HardenFails : {S : Type 0} → Opening S → Making S → S → Hardening → S → Failure → Type 0
 HardenFails opening making old h new (CannotRead name) = ImageFails opening old h.input.now new (CannotRead name)
-HardenFails {S} opening making old h new (CannotWrite name) =
+HardenFails opening making old h new (CannotWrite name) =
     OutputFails (CannotWrite name)
-    ⊎ ((name.now ≡ h.output.now)
-    × ((between : S) × (made : Instructions) × Hardens opening old h between made × making between h.output.now (image made.order made.list) false new))
-    ⊎ ((between put : S) × (made : Instructions) × Hardens opening old h between made
-    × making between h.output.now (image made.order made.list) true put × NotesFail making put h.notes new (CannotWrite name))
+    ⊎ ((name.now ≡ h.output.now) × NoOut opening making old h new)
+    ⊎ BehindOut opening making old h (λ put. NotBothPut making put h new (CannotWrite name))
 HardenFails opening making old h new failure = OutputFails failure
 
--- where that fails, the input was opened, or couldn't be, and nothing came to stand at OUT; or OUT stands, and nothing came to stand at
--- the notes' name
-abbrev pub NotBothMade : {S : Type 0} → Opening S → Making S → S → Hardening → S → Type 0
-NotBothMade {S} opening making old h new =
+-- where that fails, the input was opened, or couldn't be, and nothing came to stand at OUT; or OUT stands, and not both texts do
+abbrev pub NotAllMade : {S : Type 0} → Opening S → Making S → S → Hardening → S → Type 0
+NotAllMade opening making old h new =
     Tried opening old h.input.now new
-    ⊎ ((between : S) × (made : Instructions) × Hardens opening old h between made × making between h.output.now (image made.order made.list) false new)
-    ⊎ ((between put : S) × (made : Instructions) × Hardens opening old h between made
-    × making between h.output.now (image made.order made.list) true put × NotesNotAt making put h.notes new)
+    ⊎ NoOut opening making old h new
+    ⊎ BehindOut opening making old h (λ put. NotBothStand making put h new)

@@ -10,14 +10,15 @@ use Rattle.bpf_places.specs.Made.{Making}
 use Rattle.bpf_answers.specs.Loaded.{ImageFails, OpensFirst}
 use Rattle.bpf_answers.specs.Answer.{Answered, Unfinished}
 use Rattle.bpf_command.specs.Printed.{LoadedFails, ImageSays, GroupsSay, ListSays, notes_of, AsmSays, AsmFails, NotAssembled, InferSays, InferFails, NotInferred, MigrateSays, MigrateFails, NotMigrated, CheckSays}
-use Rattle.bpf_command.specs.Hardened.{HardenFails, HardenSays, NotBothMade}
+use Rattle.bpf_command.specs.Hardened.{HardenFails, HardenSays, NotAllMade}
+use Rattle.bpf_command.specs.Followed.{FollowsFails, FollowsSays}
 use Rattle.bpf_command.specs.Given.{CheckedFails, CheckedLeaves, CheckedSays, RunFails, RunLeaves, RunSays}
 use Rattle.bpf_command.specs.Names.{behind_lines, names_checked, names_explained, names_run}
 use Rattle.bpf_command.specs.Explained.{ExplainWithFails, ExplainWithSays}
 use Rattle.bpf_answers.specs.Told.{IsTold}
 use Rattle.std.specs.Str.{bytes_eq}
 use Rattle.bpf_request.specs.declared.words.Request.{Request}
-use Rattle.bpf_request.specs.declared.words.Request.TheVariants.{Groups, Asm, List as ListOf, Run, Check, RunChecked, Infer, Harden, Migrate, Explain}
+use Rattle.bpf_request.specs.declared.words.Request.TheVariants.{Groups, Asm, List as ListOf, Run, Check, RunChecked, Infer, Harden, Follows, Migrate, Explain}
 use Rattle.bpf_request.specs.declared.subject.Aspect.{Aspect}
 use Rattle.bpf_request.specs.declared.subject.Aspect.TheVariants.{Listing, Slot as OneSlot, Graph as Drawn}
 use Rattle.bpf_request.specs.declared.subject.Subject.{Subject}
@@ -54,10 +55,18 @@ misplaced_in lines Drawn = misplaced lines
 abbrev pub out_of_order : ℕ → ℕ → Option Failure
 out_of_order least most = if nat_lt most least then Some MostBelowLeast else None
 
--- one name for OUT and the notes
-abbrev pub written_twice : List ℕ → Option (Bor (List ℕ)) → Option Failure
-written_twice output None = None
-written_twice output (Some notes) = if bytes_eq output notes.now then Some NotTogether else None
+-- one name for two things that are written
+abbrev pub same_name : List ℕ → Option (Bor (List ℕ)) → Option Failure
+same_name first None = None
+same_name first (Some second) = if bytes_eq first second.now then Some NotTogether else None
+
+abbrev pub same_names : (first second : Option (Bor (List ℕ))) → Option Failure
+same_names None second = None
+same_names (Some first) second = same_name first.now second
+
+-- of OUT, the notes and the changes
+abbrev pub written_twice : List ℕ → (notes changes : Option (Bor (List ℕ))) → Option Failure
+written_twice output notes changes = option_or (option_or (same_name output notes) (same_name output changes)) (same_names notes changes)
 
 -- what can't be explained of this input
 abbrev pub conflict_with : List ℕ → Option (Bor (List ℕ)) → Subject → Option Failure
@@ -78,7 +87,8 @@ conflict_of (Run input contexts steps trace order) = twice input.now (name_of co
 conflict_of (Check input certificate work order) = twice input.now certificate.now
 conflict_of (RunChecked input certificate contexts order) = thrice input.now certificate.now (name_of contexts)
 conflict_of (Infer input least most deep output order) = out_of_order least most
-conflict_of (Harden h) = written_twice h.output.now h.notes
+conflict_of (Harden h) = written_twice h.output.now h.notes h.changes
+conflict_of (Follows f) = thrice f.original.now f.rewritten.now f.notes.now
 conflict_of (Migrate certificate output) = None
 conflict_of (Explain input subject lines order) = conflict_with input.now lines subject
 
@@ -95,6 +105,7 @@ Does o m old new before after (RunChecked input certificate contexts order) = λ
 Does o m old new before after (Infer input least most deep output order) = Answered (InferSays o m order old input.now least most output.now new) before after
 Does o m old new before after (Explain input subject lines order) = ExplainWithSays o order old input.now subject lines new
 Does o m old new before after (Harden h) = Answered (HardenSays o m old h new) before after
+Does o m old new before after (Follows f) = Answered (FollowsSays o old f new) before after
 Does o m old new before after (Migrate certificate output) = Answered (MigrateSays o m old certificate.now output.now new) before after
 
 -- What failed of a request without a conflict; what was answered before stands on standard output.
@@ -108,6 +119,7 @@ Misses o m old new before after (RunChecked input certificate contexts order) = 
 Misses o m old new before after (Infer input least most deep output order) = InferFails o m order old input.now least most output.now new
 Misses o m old new before after (Explain input subject lines order) = ExplainWithFails o order old input.now subject lines new
 Misses o m old new before after (Harden h) = HardenFails o m old h new
+Misses o m old new before after (Follows f) = FollowsFails o old f new
 Misses o m old new before after (Migrate certificate output) = MigrateFails o m old certificate.now output.now new
 
 -- What stands on standard output where a request without a conflict failed: nothing new, or a beginning of its answer; behind the answers to
@@ -122,6 +134,7 @@ Leaves o m old new before after (RunChecked input certificate contexts order) = 
 Leaves o m old new before after (Infer input least most deep output order) = Unfinished (InferSays o m order old input.now least most output.now new) before after
 Leaves o m old new before after (Explain input subject lines order) = ⊤
 Leaves o m old new before after (Harden h) = Unfinished (HardenSays o m old h new) before after
+Leaves o m old new before after (Follows f) = Unfinished (FollowsSays o old f new) before after
 Leaves o m old new before after (Migrate certificate output) = Unfinished (MigrateSays o m old certificate.now output.now new) before after
 
 -- What was done at the names of a request that failed: those that it reads were opened in their order, up to one; what it makes isn't there.
@@ -134,7 +147,8 @@ NotMade o m old new (Check input certificate work order) = OpensFirst o (input.n
 NotMade o m old new (RunChecked input certificate contexts order) = OpensFirst o (names_checked input.now certificate.now contexts) old new
 NotMade o m old new (Infer input least most deep output order) = NotInferred o m order old input.now least most output.now new
 NotMade o m old new (Explain input subject lines order) = OpensFirst o (behind_lines lines (names_explained input.now subject)) old new
-NotMade o m old new (Harden h) = NotBothMade o m old h new
+NotMade o m old new (Harden h) = NotAllMade o m old h new
+NotMade o m old new (Follows f) = OpensFirst o (f.original.now ∷ f.rewritten.now ∷ f.notes.now ∷ []) old new
 NotMade o m old new (Migrate certificate output) = NotMigrated o m old certificate.now output.now new
 
 -- A request is in conflict, before any name is opened or anything is printed; or something of it failed.

@@ -4,6 +4,7 @@ use crate::aside::Aside;
 use crate::shown::Line;
 use bpf_answers::{ContextError, Failure};
 use bpf_explain::may_be_found;
+use bpf_follows::Mismatch;
 use bpf_infer::{Condition, InferError};
 use bpf_insn::{Order, Program};
 use bpf_request::{Clash, Contexts, Request, Subject};
@@ -171,6 +172,48 @@ pub(crate) fn after_search<H: Aside>(
     tell_line(aside, cures)
 }
 
+// ---- what a hardened program is shown to keep
+
+/// What fails of a hardened program's notes.
+#[derive(Clone, Copy)]
+struct Unshown(Mismatch);
+
+impl Display for Unshown {
+    fn fmt<W: fmt::Write>(&self, f: &mut fmt::Formatter<W>) -> fmt::Result {
+        let (number, slot) = (self.0.number(), self.0.slot());
+        write!(f, "not shown to keep the meaning: M{number} at slot {slot}")
+    }
+}
+
+/// Tells that notes show that a hardened program keeps the meaning.
+pub(crate) fn after_proof<H: Aside>(aside: &H) {
+    tell_line(aside, "shown to keep the meaning")
+}
+
+/// Tells what of the notes of a hardened program fails.
+pub(crate) fn after_mismatch<H: Aside>(aside: &H, mismatch: Mismatch) {
+    tell_line(aside, Unshown(mismatch))
+}
+
+/// What fails of the notes of a program that was to be proved.
+#[derive(Clone, Copy)]
+struct Unproved(Mismatch);
+
+impl Display for Unproved {
+    fn fmt<W: fmt::Write>(&self, f: &mut fmt::Formatter<W>) -> fmt::Result {
+        let number = self.0.number();
+        write!(
+            f,
+            "M{number} of its notes; without --proved it is written, too"
+        )
+    }
+}
+
+/// Tells what fails of the notes of a program that isn't written for that.
+pub(crate) fn after_unshown<H: Aside>(aside: &H, mismatch: Mismatch) {
+    tell_line(aside, Unproved(mismatch))
+}
+
 // ---- failures
 
 /// A word that spells no bytes.
@@ -212,7 +255,7 @@ fn misfit_text(request: Request<'_>) -> Option<&'static str> {
         Request::Explain { lines: Some(_), .. } => Some(
             "--lines goes with CERT or --infer, and not with --dot",
         ),
-        Request::Harden(_) => Some("OUT and --notes are two names"),
+        Request::Harden(_) => Some("OUT, --notes and --changes are names of their own"),
         _ => None,
     }
 }

@@ -1,15 +1,16 @@
 //! The commands, each a function from places to a status.
 
 mod asm;
+mod changes;
 mod check;
 mod explain;
+mod follows;
 mod groups;
 mod harden;
 mod infer;
 mod judged;
 mod list;
 mod migrate;
-mod notes;
 mod run;
 mod run_checked;
 mod trace;
@@ -17,6 +18,7 @@ mod trace;
 pub use asm::assembled;
 pub use check::checked;
 pub use explain::explained;
+pub use follows::followed;
 pub use groups::grouped;
 pub use harden::hardened;
 pub use infer::inferred;

@@ -4,13 +4,13 @@ ghost use Rattle.std.specs.Prelude.{◌≡◌, IfOk, IfErr, None, map};
 ghost use Rattle.std.specs.Io.KnownBytes.{Keeps};
 ghost use Rattle.std.specs.String.{string_bytes};
 ghost use Rattle.bpf_places.specs.Made.{making};
-ghost use Rattle.bpf_command.specs.Response.{Does, Fails, Leaves, Misses, NotMade, Responds, conflict_of, conflict_with, misplaced, misplaced_in, name_given, out_of_order, thrice, twice, written_twice};
+ghost use Rattle.bpf_command.specs.Response.{Does, Fails, Leaves, Misses, NotMade, Responds, conflict_of, conflict_with, misplaced, misplaced_in, name_given, out_of_order, same_name, same_names, thrice, twice, written_twice};
 ghost use Rattle.bpf_answers.specs.Told.{IsTold};
 
 use crate::advice::{after_failure, after_refusal};
 use crate::aside::Aside;
 use crate::commands::{
-    Trace, assembled, checked, explained, grouped, hardened, inferred, listed, migrated,
+    Trace, assembled, checked, explained, followed, grouped, hardened, inferred, listed, migrated,
     ran_checked_on, ran_on,
 };
 use crate::shown::tell_mistake;
@@ -79,14 +79,37 @@ fn out_of_order(least: u32, most: u32) -> Option<Failure<'static>>
     }
 }
 
-/// The two names that are written are two.
-fn written_twice(output: &str, notes: Option<&str>) -> Option<Failure<'static>>
-    ensures { result ≡ written_twice output.now notes.entry }
+/// Two things that are written have two names.
+fn same_name(first: &str, second: Option<&str>) -> Option<Failure<'static>>
+    ensures { result ≡ same_name first.now second.entry }
 {
-    match notes {
-        Some(name) if name == output => Some(Failure::NotTogether),
+    match second {
+        Some(second) if first == second => Some(Failure::NotTogether),
         _ => None,
     }
+}
+
+/// The same where neither needs a name.
+fn same_names(first: Option<&str>, second: Option<&str>) -> Option<Failure<'static>>
+    ensures { result ≡ same_names first.entry second.entry }
+{
+    match first {
+        Some(first) => same_name(first, second),
+        None => None,
+    }
+}
+
+/// The image, the notes and the changes are written at names of their own.
+fn written_twice(
+    output: &str,
+    notes: Option<&str>,
+    changes: Option<&str>,
+) -> Option<Failure<'static>>
+    ensures { result ≡ written_twice output.now notes.entry changes.entry }
+{
+    same_name(output, notes)
+        .or(same_name(output, changes))
+        .or(same_names(notes, changes))
 }
 
 /// What can't be explained of this input.
@@ -142,7 +165,8 @@ fn conflict_in(request: Request<'_>) -> Option<Failure<'static>>
             ..
         } => thrice(input, certificate, contexts.name()),
         Request::Infer { least, most, .. } => out_of_order(least, most),
-        Request::Harden(asked) => written_twice(asked.output, asked.notes),
+        Request::Harden(asked) => written_twice(asked.output, asked.notes, asked.changes),
+        Request::Follows(asked) => thrice(asked.original, asked.rewritten, asked.notes),
     }
 }
 
@@ -210,7 +234,8 @@ fn carry_out<'a, P: Places, W: Write, H: Aside>(
         } => inferred(
             alloc, places, out, aside, input, least, most, deep, output, order,
         ),
-        Request::Harden(asked) => hardened(alloc, places, out, asked),
+        Request::Harden(asked) => hardened(alloc, places, out, &*aside, asked),
+        Request::Follows(asked) => followed(alloc, places, out, asked),
         Request::Explain {
             input,
             subject,

@@ -17,6 +17,9 @@ const CERTIFICATE: &str = "bpfcert 1 0 2\nfn 0 1 *\nat 0 2\nend\n";
 
 const MIGRATED: &str = "bpfcert 2 0 0 2\nfn 0 1 *\nat 0 2\nend\n";
 
+/// That the image follows itself.
+const NOTES: &str = "bpfnotes 1\n0: first 0 entry 0 body 0\n1: first 1 entry 1 body 1 r0=same\n";
+
 /// What stood at OUT before.
 const OLDER: &str = "older";
 
@@ -64,7 +67,7 @@ fn ending(words: &'static str, status: u8, told: &'static str) -> Row {
 }
 
 /// Each command.
-fn commands() -> [Row; 10] {
+fn commands() -> [Row; 11] {
     [
         saying("groups p.img", "p.img", "base\n"),
         writing("asm p.asm o", "p.asm"),
@@ -86,6 +89,11 @@ fn commands() -> [Row; 10] {
         ),
         writing("infer p.img 0 o", "p.img"),
         writing("harden p.img 0 o", "p.img"),
+        saying(
+            "follows p.img q.img n 0 --turns 7",
+            "p.img q.img n",
+            "yes length 0 turns 7\n",
+        ),
         writing("migrate p.cert o", "p.cert"),
         saying("explain p.img", "p.img", "an image of 2 slots\n"),
     ]
@@ -110,7 +118,9 @@ fn shelf(alloc: Global, fault: Option<Fault>) -> Result<Shelf, Fail> {
     let mut shelf = Shelf::new(alloc, fault);
     shelf.put("p.asm", TEXT.as_bytes())?;
     shelf.put("p.img", &IMAGE)?;
+    shelf.put("q.img", &IMAGE)?;
     shelf.put("p.cert", CERTIFICATE.as_bytes())?;
+    shelf.put("n", NOTES.as_bytes())?;
     shelf.put("c", b"")?;
     shelf.put("o", OLDER.as_bytes())?;
     Ok(shelf)

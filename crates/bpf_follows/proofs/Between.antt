@@ -1,19 +1,20 @@
 -- Two states in the middle of a step: their frames follow one another, wherever the running ones stand.
-use Rattle.std.proofs.Common.{◌≡◌, ℕ, suc, ◌-◌, ◌<◌, ◌≤◌, ◌⊎◌, inl, inr, ◌%◌, ◌==◌, Bool, true, false, cond, List, Option, Some, None, length, get_or, set, take, drop, refl, sym, ap, ◌∙◌, subst, arith}
-use Rattle.std.specs.Prelude.{ℤ, pos, option_map, if◌then◌else◌, nat_le, ◌||◌}
+use Rattle.std.proofs.Common.{◌≡◌, ℕ, suc, ◌+◌, ◌*◌, ◌-◌, ◌/◌, ◌<◌, ◌≤◌, ◌⊎◌, inl, inr, ◌%◌, ◌==◌, Bool, true, false, cond, List, Option, Some, None, length, get_or, take, drop, refl, sym, ap, ◌∙◌, subst, arith}
+use Rattle.std.specs.Prelude.{ℤ, option_map}
 use Rattle.std.proofs.lemmas.Option.{none-some, same_Some}
-use Rattle.std.proofs.lemmas.Bool.{cases_Bool, eqb-true, eqb-false, leb-true, false≢true}
-use Rattle.std.proofs.lemmas.List.{length-set, get_or-set_same, get_or-set_other, get_or-take, get_or-drop}
+use Rattle.std.proofs.lemmas.Bool.{cases_Bool, eqb-true, eqb-false, eq-eqb, false≢true}
+use Rattle.std.proofs.lemmas.List.{get_or-take, get_or-drop}
 use Rattle.std.specs.Option.{option_or}
 use Rattle.bpf_insn.specs.Order.{bytes_of, number_of}
+use Rattle.bpf_insn.specs.Limits.{frame_bytes}
 use Rattle.bpf_insn.specs.Instruction.{register_number, byte_count}
 use Rattle.bpf_insn.specs.declared.order.Order.{Order}
 use Rattle.bpf_insn.specs.declared.instruction.Reg.{Reg}
 use Rattle.bpf_insn.specs.declared.instruction.Insn.{Insn}
 use Rattle.bpf_insn.specs.declared.instruction.Size.{Size}
 use Rattle.bpf_insn.specs.declared.instruction.Size.TheVariants.{B, H, W, DW}
-use Rattle.bpf_semantics.specs.State.{StackFrame, State, depth, frames, frame_at, with_top, with_register, put, at_slot}
-use Rattle.bpf_semantics.specs.Memory.{Location, location_of, inside, number_at, pointer_at, pointer_in, bytes_in, stack_of, with_stack_in, with_stack, with_bytes, with_parts, cell_after, part_after, store_number, store_pointer}
+use Rattle.bpf_semantics.specs.State.{Cell, StackFrame, State, depth, frames, with_top, with_register, put, at_slot}
+use Rattle.bpf_semantics.specs.Memory.{Location, location_of, number_at, pointer_at, pointer_in, bytes_in, stack_of, with_stack_in, with_stack, with_bytes, with_parts, is_within, cell_after, part_after, store_number, store_pointer}
 use Rattle.bpf_semantics.specs.Memory.Location.{InContext, InFrame}
 use Rattle.bpf_semantics.specs.Step.{load, load_extended, store}
 use Rattle.bpf_semantics.specs.declared.value.Value.{Value}
@@ -21,109 +22,28 @@ use Rattle.bpf_semantics.specs.declared.value.Value.TheVariants.{Number, Pointer
 use Rattle.bpf_semantics.specs.declared.value.Region.{Region}
 use Rattle.bpf_semantics.specs.declared.value.Region.TheVariants.{Context, Frame as FrameAt}
 use Rattle.bpf_follows.specs.declared.notes.Kind.{Kind}
-use Rattle.bpf_follows.specs.declared.notes.Kind.TheVariants.{Nothing, Same, Number as NumberKind, Offset, Fixed, Start, Base, Moved, Address, Constant, Counter, Turn}
+use Rattle.bpf_follows.specs.declared.notes.Kind.TheVariants.{Same}
 use Rattle.bpf_follows.specs.declared.notes.Place.{Place}
-use Rattle.bpf_follows.specs.Relation.{Kinds, IsKept, EachPair, HasOffset, as_number, as_pointer, FitsKind, FrameFits, FrameWaits, register_in, is_of_other}
-use Rattle.bpf_follows.specs.Matching.{is_call, is_changed, held, kinds_after}
+use Rattle.bpf_follows.specs.Relation.{Kinds, kinds_of, IsKept, IsRead, EachPair, FitsKind, SlotKept, FitsSlot, FrameFits, FrameWaits, register_in, is_of_other}
+use Rattle.bpf_follows.specs.Matching.{is_changed, kinds_after, AllPlain}
 use Rattle.bpf_follows.proofs.Lists.{mapped, unmapped, cond_first, cond_second, same_is_kept, as_long, pairs_weaker, pair_at, pair_inside, pairs_set, pairs_drop, pairs_take, Cells, bytes_kept, pointer_kept, no_pointer, each_kept, bytes_keep, parts_keep}
+use Rattle.bpf_follows.proofs.Owns.{top_stack, waiting_with, waiting_stack, IsLive}
+use Rattle.bpf_follows.proofs.Slots.{all_read, slot_kept, all_kept, plain_kept, slot_as, with_value, store_whole, value_long, value_other, each_read, bytes_read, bytes_same, bytes_other, room, whole_room}
+use Rattle.bpf_semantics.proofs.NumberLemmas.{length-bytes_of}
+use Rattle.bpf_semantics.proofs.StateLemmas.{length-each_cell}
+use Rattle.bpf_follows.proofs.Frames.{fits_behind, SlotsAre, slots_behind, slot_given, fits_stack, fits_alike, fits_at, fits_put, InAll, InSome}
 
--- ---- registers of the old machine that are others
-
-false_true : {A : Type 0} → true ≡ false → A
-false_true e = absurd (false≢true (sym e))
-
--- what is said by its own value is said of a register with the same value
-pub fits_moved : (turns : ℕ) (passed : ℕ → ℕ) (old more : ℕ → Option Value) (q r : ℕ) (kind : Kind) (new : Option Value) → is_of_other kind ≡ false → more r ≡ old q → FitsKind turns passed old q kind new → FitsKind turns passed more r kind new
-fits_moved turns passed old more q r Nothing new own e f = tt
-fits_moved turns passed old more q r Same new own e f = λ v ev. f v (sym e ∙ ev)
-fits_moved turns passed old more q r NumberKind new own e f = λ v ev. f v (sym e ∙ ev)
-fits_moved turns passed old more q r Offset new own e f = subst (λ o. HasOffset (pos 0) as_number o new) (sym e) f
-fits_moved turns passed old more q r (Fixed offset) new own e f = (f.0, e ∙ f.1, f.2)
-fits_moved turns passed old more q r Start new own e f = (e ∙ f.0, f.1)
-fits_moved turns passed old more q r Base new own e f = f
-fits_moved turns passed old more q r (Moved of by) new own e f = false_true own
-fits_moved turns passed old more q r (Address of by) new own e f = false_true own
-fits_moved turns passed old more q r (Constant value) new own e f = f
-fits_moved turns passed old more q r (Counter head) new own e f = f
-fits_moved turns passed old more q r (Turn head) new own e f = f
-
-or_false : (a b : Bool) → (a || b) ≡ false → b ≡ false
-or_false true b e = false_true e
-or_false false b e = e
-
--- what is said of a register that an instruction doesn't change, where the old machine's others are those behind it
-pub fits_held : (turns : ℕ) (passed : ℕ → ℕ) (i : Insn) (old more : ℕ → Option Value) (r : ℕ) (kind : Kind) (new : Option Value) → ((q : ℕ) → is_changed i q ≡ false → more q ≡ old q) → is_changed i r ≡ false
-    → FitsKind turns passed old r kind new → FitsKind turns passed more r (held i kind) new
-fits_held turns passed i old more r (Moved of by) new kept same f = by_cases (is_call i || is_changed i (register_number of)) (or_false (is_call i) (is_changed i (register_number of)))
-  where
-    by_cases : (b : Bool) → (b ≡ false → is_changed i (register_number of) ≡ false) → FitsKind turns passed more r (if b then Nothing else Moved of by) new
-    by_cases true h = tt
-    by_cases false h = subst (λ o. HasOffset by as_number o new) (sym (kept (register_number of) (h refl))) f
-fits_held turns passed i old more r (Address of by) new kept same f = by_cases (is_call i || is_changed i (register_number of)) (or_false (is_call i) (is_changed i (register_number of)))
-  where
-    by_cases : (b : Bool) → (b ≡ false → is_changed i (register_number of) ≡ false) → FitsKind turns passed more r (if b then Nothing else Address of by) new
-    by_cases true h = tt
-    by_cases false h = subst (λ o. HasOffset by as_pointer o new) (sym (kept (register_number of) (h refl))) f
-fits_held turns passed i old more r Nothing new kept same f = tt
-fits_held turns passed i old more r Same new kept same f = fits_moved turns passed old more r r Same new refl (kept r same) f
-fits_held turns passed i old more r NumberKind new kept same f = fits_moved turns passed old more r r NumberKind new refl (kept r same) f
-fits_held turns passed i old more r Offset new kept same f = fits_moved turns passed old more r r Offset new refl (kept r same) f
-fits_held turns passed i old more r (Fixed offset) new kept same f = fits_moved turns passed old more r r (Fixed offset) new refl (kept r same) f
-fits_held turns passed i old more r Start new kept same f = fits_moved turns passed old more r r Start new refl (kept r same) f
-fits_held turns passed i old more r Base new kept same f = f
-fits_held turns passed i old more r (Constant value) new kept same f = f
-fits_held turns passed i old more r (Counter head) new kept same f = f
-fits_held turns passed i old more r (Turn head) new kept same f = f
-
--- registers behind an instruction: what it changes is of a kind, the others are as they were
-pub fits_behind : (turns : ℕ) (passed : ℕ → ℕ) (i : Insn) (kind : Kind) (kinds : Kinds) (old more : ℕ → Option Value) (new after : ℕ → Option Value)
-    → ((q : ℕ) → is_changed i q ≡ false → more q ≡ old q) → ((q : ℕ) → is_changed i q ≡ false → after q ≡ new q) → ((q : ℕ) → q < 11 → is_changed i q ≡ true → FitsKind turns passed more q kind (after q))
-    → ((r : ℕ) → r < 11 → FitsKind turns passed old r (kinds r) (new r)) → (r : ℕ) → r < 11 → FitsKind turns passed more r (kinds_after i kind kinds r) (after r)
-fits_behind turns passed i kind kinds old more new after kept kept_new put h r lt = by_cases (is_changed i r) refl
-  where
-    by_cases : (b : Bool) → is_changed i r ≡ b → FitsKind turns passed more r (if b then kind else held i (kinds r)) (after r)
-    by_cases true e = put r lt e
-    by_cases false e = subst (λ o. FitsKind turns passed more r (held i (kinds r)) o) (sym (kept_new r e)) (fits_held turns passed i old more r (kinds r) (new r) kept e (h r lt))
-
--- ---- a frame
-
-fits_stack : (turns : ℕ) (passed : ℕ → ℕ) (kinds : Kinds) (old new : StackFrame) (xs ys : Cells) → FrameFits turns passed kinds old new → EachPair IsKept xs ys → FrameFits turns passed kinds (with_stack_in old xs) (with_stack_in new ys)
-fits_stack turns passed kinds old new xs ys h k = record { eleven_old = h.eleven_old; eleven = h.eleven; registers = h.registers; stack = k }
-
-fits_at : (turns : ℕ) (passed : ℕ → ℕ) (kinds : Kinds) (old new : StackFrame) (x y : ℕ) → FrameFits turns passed kinds old new
-    → FrameFits turns passed kinds (record { slot = x; registers = old.registers; stack = old.stack }) (record { slot = y; registers = new.registers; stack = new.stack })
-fits_at turns passed kinds old new x y h = record { eleven_old = h.eleven_old; eleven = h.eleven; registers = h.registers; stack = h.stack }
-
--- Both frames get values, of a kind that a value decides.
-fits_put : (turns : ℕ) (passed : ℕ → ℕ) (i : Insn) (kind : Kind) (kinds : Kinds) (old new : StackFrame) (w : ℕ) (v x : Value) → ((q : ℕ) → is_changed i q ≡ (q == w)) → is_of_other kind ≡ false
-    → FitsKind turns passed (λ q. Some v) 0 kind (Some x) → FrameFits turns passed kinds old new
-    → FrameFits turns passed (kinds_after i kind kinds) (record { slot = old.slot; registers = set old.registers w (Some v); stack = old.stack }) (record { slot = new.slot; registers = set new.registers w (Some x); stack = new.stack })
-fits_put turns passed i kind kinds old new w v x changed own fit h = record {
-  eleven_old = length-set old.registers w (Some v) ∙ h.eleven_old;
-  eleven = length-set new.registers w (Some x) ∙ h.eleven;
-  registers = fits_behind turns passed i kind kinds (register_in old) (λ q. get_or (set old.registers w (Some v)) q None) (register_in new) (λ q. get_or (set new.registers w (Some x)) q None)
-      (λ q e. get_or-set_other old.registers w q (Some v) None (eqb-false q w (sym (changed q) ∙ e)))
-      (λ q e. get_or-set_other new.registers w q (Some x) None (eqb-false q w (sym (changed q) ∙ e)))
-      put
-      h.registers;
-  stack = h.stack;
-}
-  where
-    put : (q : ℕ) → q < 11 → is_changed i q ≡ true → FitsKind turns passed (λ q. get_or (set old.registers w (Some v)) q None) q kind (get_or (set new.registers w (Some x)) q None)
-    put q lt e =
-        let same : q ≡ w = eqb-true q w (sym (changed q) ∙ e) in
-        let a : get_or (set old.registers w (Some v)) q None ≡ Some v = rw same (get_or-set_same old.registers w (Some v) None (rw h.eleven_old (subst (λ z. z < 11) same lt))) in
-        let b : get_or (set new.registers w (Some x)) q None ≡ Some x = rw same (get_or-set_same new.registers w (Some x) None (rw h.eleven (subst (λ z. z < 11) same lt))) in
-        subst (λ o. FitsKind turns passed (λ q. get_or (set old.registers w (Some v)) q None) q kind o) (sym b)
-        (fits_moved turns passed (λ q. Some v) (λ q. get_or (set old.registers w (Some v)) q None) 0 q kind (Some x) own a fit)
+abbrev pub is_double : Size → Bool
+is_double DW = true
+is_double _ = false
 
 -- ---- states
 
-module _ (notes : List (Option Place)) (turns : ℕ) (passed : ℕ → ℕ) where
+module _ (ends : Order) (notes : List (Option Place)) (turns : ℕ) (passed : ℕ → ℕ) where
   -- the running frames by kinds, wherever they stand; the waiting ones follow
   pub record Between (kinds : Kinds) (s t : State) : Type 0 where
-    pub top : FrameFits turns passed kinds s.top t.top
-    pub waiting : EachPair (FrameWaits notes turns passed) s.waiting t.waiting
+    pub top : FrameFits ends turns passed kinds s.top t.top
+    pub waiting : EachPair (FrameWaits ends notes turns passed) s.waiting t.waiting
     pub context_is : t.context ≡ s.context
 
   -- what is made of the new state stands at its slot, and the old one's successor at its own
@@ -135,19 +55,19 @@ module _ (notes : List (Option Place)) (turns : ℕ) (passed : ℕ → ℕ) wher
     pub new_slot : state.top.slot ≡ y
 
   pub same_depth : (kinds : Kinds) (s t : State) → Between kinds s t → depth t ≡ depth s
-  same_depth kinds s t h = as_long (FrameWaits notes turns passed) s.waiting t.waiting h.waiting
+  same_depth kinds s t h = as_long (FrameWaits ends notes turns passed) s.waiting t.waiting h.waiting
 
   pub stands_at : (kinds : Kinds) (s t : State) (x y : ℕ) → Between kinds s t → Between kinds (at_slot x s) (at_slot y t)
-  stands_at kinds s t x y h = record { top = fits_at turns passed kinds s.top t.top x y h.top; waiting = h.waiting; context_is = h.context_is }
+  stands_at kinds s t x y h = record { top = fits_at ends turns passed kinds s.top t.top x y h.top; waiting = h.waiting; context_is = h.context_is }
 
   pub goes_as : (kinds : Kinds) (x y : ℕ) (s : State) (o p : Option State) → o ≡ p → Goes kinds x y s p → Goes kinds x y s o
   goes_as kinds x y s o p e g = record { state = g.state; is = e ∙ g.is; between = g.between; old_slot = g.old_slot; new_slot = g.new_slot }
 
   -- ---- registers
 
-  pub put_kept : (i : Insn) (kind : Kind) (kinds : Kinds) (s t u : State) (r : Reg) (v x : Value) → ((q : ℕ) → is_changed i q ≡ (q == register_number r)) → is_of_other kind ≡ false
+  pub put_kept : (i : Insn) (kind : Kind) (kinds : Kinds) (s t u : State) (r : Reg) (v x : Value) → ((q : ℕ) → q < 11 → is_changed i q ≡ (q == register_number r)) → SlotsAre i kind kinds → is_of_other kind ≡ false
       → FitsKind turns passed (λ q. Some v) 0 kind (Some x) → Between kinds s t → put r v s ≡ Some u → Goes (kinds_after i kind kinds) s.top.slot t.top.slot u (put r x t)
-  put_kept i kind kinds s t u r v x changed own fit h e =
+  put_kept i kind kinds s t u r v x changed are own fit h e =
       let free = cond_second (register_number r == 10) (Some (with_register s (register_number r) (Some v))) u e in
       let after : State = with_register t (register_number r) (Some x) in
       let is : with_register s (register_number r) (Some v) ≡ u = same_Some _ _ free.1 in
@@ -155,14 +75,14 @@ module _ (notes : List (Option Place)) (turns : ℕ) (passed : ℕ → ℕ) wher
         state = after;
         is = ap (λ b. cond b None (Some after)) free.0;
         between = subst (λ u. Between (kinds_after i kind kinds) u after) is
-            (record { top = fits_put turns passed i kind kinds s.top t.top (register_number r) v x changed own fit h.top; waiting = h.waiting; context_is = h.context_is });
+            (record { top = fits_put ends turns passed i kind kinds s.top t.top (register_number r) v x changed are own fit h.top; waiting = h.waiting; context_is = h.context_is });
         old_slot = ap (λ u. u.top.slot) (sym is);
         new_slot = refl;
       }
 
   -- where no register is written, what is said of each is still right
-  pub goes_held : (i : Insn) (kind : Kind) (kinds : Kinds) (x y : ℕ) (s : State) (o : Option State) → ((q : ℕ) → is_changed i q ≡ false) → Goes kinds x y s o → Goes (kinds_after i kind kinds) x y s o
-  goes_held i kind kinds x y s o none g =
+  pub goes_held : (i : Insn) (kind : Kind) (kinds : Kinds) (x y : ℕ) (s : State) (o : Option State) → ((q : ℕ) → q < 11 → is_changed i q ≡ false) → SlotsAre i kind kinds → Goes kinds x y s o → Goes (kinds_after i kind kinds) x y s o
+  goes_held i kind kinds x y s o none are g =
       let top = g.between.top in
       record {
         state = g.state;
@@ -171,9 +91,11 @@ module _ (notes : List (Option Place)) (turns : ℕ) (passed : ℕ → ℕ) wher
           top = record {
             eleven_old = top.eleven_old;
             eleven = top.eleven;
-            registers = fits_behind turns passed i kind kinds (register_in s.top) (register_in s.top) (register_in g.state.top) (register_in g.state.top) (λ q e. refl) (λ q e. refl)
-                (λ q lt e. absurd (false≢true (sym (none q) ∙ e))) top.registers;
+            registers = fits_behind turns passed i kind kinds (register_in s.top) (register_in s.top) (register_in g.state.top) (register_in g.state.top) (λ q lt e. refl) (λ q lt e. refl)
+                (λ q lt e. absurd (false≢true (sym (none q lt) ∙ e))) top.registers;
+            long = top.long;
             stack = top.stack;
+            slots = slots_behind ends turns passed i kind kinds (register_in s.top) (register_in s.top) s.top.stack g.state.top.stack (λ q lt e. refl) (λ k f. f) are top.slots;
           };
           waiting = g.between.waiting;
           context_is = g.between.context_is;
@@ -182,6 +104,16 @@ module _ (notes : List (Option Place)) (turns : ℕ) (passed : ℕ → ℕ) wher
         new_slot = g.new_slot;
       }
 
+  -- the same of other kinds that are the same
+  pub goes_alike : (kinds same : Kinds) (x y : ℕ) (s : State) (o : Option State) → ((r : ℕ) → kinds r ≡ same r) → Goes kinds x y s o → Goes same x y s o
+  goes_alike kinds same x y s o e g = record {
+    state = g.state;
+    is = g.is;
+    between = record { top = fits_alike ends turns passed kinds same s.top g.state.top e g.between.top; waiting = g.between.waiting; context_is = g.between.context_is };
+    old_slot = g.old_slot;
+    new_slot = g.new_slot;
+  }
+
   -- ---- memory
 
   pub location_same : (s t : State) (k : ℕ) (off : ℤ) (base : Value) → depth t ≡ depth s → t.context ≡ s.context → location_of t k off base ≡ location_of s k off base
@@ -189,26 +121,27 @@ module _ (notes : List (Option Place)) (turns : ℕ) (passed : ℕ → ℕ) wher
   location_same s t k off (Pointer Context at) d c = ap (λ context. location_of (record { top = t.top; waiting = t.waiting; context = context }) k off (Pointer Context at)) c
   location_same s t k off (Pointer (FrameAt n) at) d c = rw d refl
 
-  -- an access of a frame is one of a frame that is live
-  abbrev pub IsLive : State → Location → Type 0
-  IsLive s (InContext i) = Unit {0}
-  IsLive s (InFrame n i) = n ≤ depth s
-
-  pub live_location : (s : State) (k : ℕ) (off : ℤ) (base : Value) (at : Location) → location_of s k off base ≡ Some at → IsLive s at
-  live_location s k off (Number n) at e = absurd (none-some _ e)
-  live_location s k off (Pointer Context o) at e = let h = unmapped InContext (inside k (length s.context) _) at e in subst (IsLive s) h.2 tt
-  live_location s k off (Pointer (FrameAt n) o) at e =
-      let live = cond_first (nat_le n (depth s)) _ at e in
-      let h = unmapped (InFrame n) (inside k _ _) at live.1 in
-      subst (IsLive s) h.2 (leb-true n (depth s) live.0)
-
-  pub stacks_kept : (kinds : Kinds) (s t : State) (n : ℕ) → Between kinds s t → EachPair IsKept (stack_of s n) (stack_of t n)
-  stacks_kept kinds s t n h =
+  stacks_in : (R : Option Cell → Option Cell → Type 0) (kinds : Kinds) (s t : State) (n : ℕ) → Between kinds s t → EachPair R s.top.stack t.top.stack → ((a b : StackFrame) → FrameWaits ends notes turns passed a b → EachPair R a.stack b.stack)
+      → EachPair R (stack_of s n) (stack_of t n)
+  stacks_in R kinds s t n h top waits =
       let at : ℕ = depth s - n in
-      let kept : EachPair IsKept (get_or (frames s) at s.top).stack (get_or (frames t) at t.top).stack =
-      pair_at (λ a b. EachPair IsKept a.stack b.stack) (frames s) (frames t) at s.top t.top h.top.stack
-      (h.top.stack, pairs_weaker (FrameWaits notes turns passed) (λ a b. EachPair IsKept a.stack b.stack) (λ a b f. f.follows.fits.stack) s.waiting t.waiting h.waiting) in
-      subst (λ d. EachPair IsKept (stack_of s n) (get_or (frames t) (d - n) t.top).stack) (sym (same_depth kinds s t h)) kept
+      let kept : EachPair R (get_or (frames s) at s.top).stack (get_or (frames t) at t.top).stack =
+      pair_at (λ a b. EachPair R a.stack b.stack) (frames s) (frames t) at s.top t.top top
+      (top, pairs_weaker (FrameWaits ends notes turns passed) (λ a b. EachPair R a.stack b.stack) waits s.waiting t.waiting h.waiting) in
+      subst (λ d. EachPair R (stack_of s n) (get_or (frames t) (d - n) t.top).stack) (sym (same_depth kinds s t h)) kept
+
+  -- the bytes of all frames are kept
+  pub stacks_read : (kinds : Kinds) (s t : State) (n : ℕ) → Between kinds s t → EachPair IsRead (stack_of s n) (stack_of t n)
+  stacks_read kinds s t n h = stacks_in IsRead kinds s t n h h.top.stack (λ a b f. all_read a.stack b.stack f.kept)
+
+  -- where no slot holds an offset all cells are kept
+  pub top_plain : (kinds : Kinds) (s t : State) → Between kinds s t → AllPlain kinds → EachPair IsKept s.top.stack t.top.stack
+  top_plain kinds s t h plain =
+      all_kept s.top.stack t.top.stack h.top.long (as_long IsRead s.top.stack t.top.stack h.top.stack)
+      (λ k lt. plain_kept ends turns passed (register_in s.top) s.top.stack t.top.stack k (kinds (11 + k)) (plain k lt) (h.top.slots k lt))
+
+  pub stacks_kept : (kinds : Kinds) (s t : State) (n : ℕ) → Between kinds s t → AllPlain kinds → EachPair IsKept (stack_of s n) (stack_of t n)
+  stacks_kept kinds s t n h plain = stacks_in IsKept kinds s t n h (top_plain kinds s t h plain) (λ a b f. f.kept)
 
   -- loads
 
@@ -216,15 +149,21 @@ module _ (notes : List (Option Place)) (turns : ℕ) (passed : ℕ → ℕ) wher
   number_kept order kinds s t k x (InContext i) h e = ap (λ c. Some (number_of order k (take k (drop i c)))) h.context_is ∙ e
   number_kept order kinds s t k x (InFrame n i) h e =
       let b = unmapped (number_of order k) (bytes_in (take k (drop i (stack_of s n)))) x e in
-      let kept = pairs_take IsKept k _ _ (pairs_drop IsKept i (stack_of s n) (stack_of t n) (stacks_kept kinds s t n h)) in
+      let kept = pairs_take IsRead k _ _ (pairs_drop IsRead i (stack_of s n) (stack_of t n) (stacks_read kinds s t n h)) in
       mapped (number_of order k) (bytes_in (take k (drop i (stack_of t n)))) b.0 (bytes_kept _ _ b.0 kept b.1) ∙ ap Some b.2
 
-  pointer_at_kept : (kinds : Kinds) (s t : State) (at : Location) → Between kinds s t → IsKept (pointer_at s at) (pointer_at t at)
-  pointer_at_kept kinds s t (InContext i) h v e = e
-  pointer_at_kept kinds s t (InFrame n i) h v e =
+  -- a pointer that the old machine finds at a location, the new one finds there, too
+  abbrev pub PointersKept : State → State → Location → Type 0
+  PointersKept s t at = IsKept (pointer_at s at) (pointer_at t at)
+
+  pub pointer_at_kept : (s t : State) (n i : ℕ) → IsKept (get_or (stack_of s n) i None) (get_or (stack_of t n) i None) → PointersKept s t (InFrame n i)
+  pointer_at_kept s t n i kept v e =
       let c = cond_first (i % 8 == 0) (pointer_in (get_or (stack_of s n) i None)) v e in
-      ap (λ b. cond b (pointer_in (get_or (stack_of t n) i None)) None) c.0
-      ∙ pointer_kept _ _ v (pair_at IsKept (stack_of s n) (stack_of t n) i None None (same_is_kept None) (stacks_kept kinds s t n h)) c.1
+      ap (λ b. cond b (pointer_in (get_or (stack_of t n) i None)) None) c.0 ∙ pointer_kept _ _ v kept c.1
+
+  pub pointers_kept : (kinds : Kinds) (s t : State) (at : Location) → Between kinds s t → AllPlain kinds → PointersKept s t at
+  pointers_kept kinds s t (InContext i) h plain = λ v e. e
+  pointers_kept kinds s t (InFrame n i) h plain = pointer_at_kept s t n i (pair_at IsKept (stack_of s n) (stack_of t n) i None None (same_is_kept None) (stacks_kept kinds s t n h plain))
 
   number_no_pointer : (order : Order) (s : State) (x : ℕ) (at : Location) → number_at order s 8 at ≡ Some x → pointer_at s at ≡ None
   number_no_pointer order s x (InContext i) e = refl
@@ -247,13 +186,13 @@ module _ (notes : List (Option Place)) (turns : ℕ) (passed : ℕ → ℕ) wher
       let n = unmapped Number (number_at order s k at) v e in
       mapped Number (number_at order t k at) n.0 (number_kept order kinds s t k n.0 at h n.1) ∙ ap Some n.2
 
-  pub load_kept : (order : Order) (kinds : Kinds) (s t : State) (size : Size) (at : Location) → Between kinds s t → IsKept (load order s size at) (load order t size at)
-  load_kept order kinds s t DW at h v e =
-      whole (pointer_at s at) (pointer_at t at) _ (option_map Number (number_at order t 8 at)) v (pointer_at_kept kinds s t at h) (number_value order kinds s t 8 at h)
+  pub load_kept : (order : Order) (kinds : Kinds) (s t : State) (size : Size) (at : Location) → Between kinds s t → (is_double size ≡ true → PointersKept s t at) → IsKept (load order s size at) (load order t size at)
+  load_kept order kinds s t DW at h kept v e =
+      whole (pointer_at s at) (pointer_at t at) _ (option_map Number (number_at order t 8 at)) v (kept refl) (number_value order kinds s t 8 at h)
       (λ en. let n = unmapped Number (number_at order s 8 at) v en in number_no_pointer order t n.0 at (number_kept order kinds s t 8 n.0 at h n.1)) e
-  load_kept order kinds s t B at h v e = number_value order kinds s t 1 at h v e
-  load_kept order kinds s t H at h v e = number_value order kinds s t 2 at h v e
-  load_kept order kinds s t W at h v e = number_value order kinds s t 4 at h v e
+  load_kept order kinds s t B at h kept v e = number_value order kinds s t 1 at h v e
+  load_kept order kinds s t H at h kept v e = number_value order kinds s t 2 at h v e
+  load_kept order kinds s t W at h kept v e = number_value order kinds s t 4 at h v e
 
   pub load_extended_kept : (order : Order) (kinds : Kinds) (s t : State) (size : Size) (at : Location) → Between kinds s t → IsKept (load_extended order s size at) (load_extended order t size at)
   load_extended_kept order kinds s t size at h v e =
@@ -262,73 +201,174 @@ module _ (notes : List (Option Place)) (turns : ℕ) (passed : ℕ → ℕ) wher
 
   -- stores
 
-  top_stack : (s : State) (n : ℕ) (xs : Cells) → n == depth s ≡ true → with_stack s n xs ≡ with_top s (with_stack_in s.top xs)
-  top_stack s n xs e =
-      let here : n ≡ depth s = eqb-true n (depth s) e in
-      let none : depth s - n ≡ 0 = omega arith in
-      ap (λ b. cond b (with_top s (with_stack_in (frame_at s n) xs)) (record { top = s.top; waiting = set s.waiting (depth s - n - 1) (with_stack_in (frame_at s n) xs); context = s.context })) e
-      ∙ ap (λ k. with_top s (with_stack_in (get_or (frames s) k s.top) xs)) none
-
-  abbrev waiting_with : State → ℕ → Cells → State
-  waiting_with s m xs = record { top = s.top; waiting = set s.waiting m (with_stack_in (get_or s.waiting m s.top) xs); context = s.context }
-
-  waiting_stack : (s : State) (n m : ℕ) (xs : Cells) → n == depth s ≡ false → depth s - n ≡ suc m → with_stack s n xs ≡ waiting_with s m xs
-  waiting_stack s n m xs e more =
-      let at : depth s - n - 1 ≡ m = omega arith in
-      ap (λ b. cond b (with_top s (with_stack_in (frame_at s n) xs)) (record { top = s.top; waiting = set s.waiting (depth s - n - 1) (with_stack_in (frame_at s n) xs); context = s.context })) e
-      ∙ ap (λ k. record { top = s.top; waiting = set s.waiting k (with_stack_in (frame_at s n) xs); context = s.context }) at
-      ∙ ap (λ k. record { top = s.top; waiting = set s.waiting m (with_stack_in (get_or (frames s) k s.top) xs); context = s.context }) more
-
-  waits_stack : (a b : StackFrame) (xs ys : Cells) → FrameWaits notes turns passed a b → EachPair IsKept xs ys → FrameWaits notes turns passed (with_stack_in a xs) (with_stack_in b ys)
-  waits_stack a b xs ys f h = record {
-    follows = record { place = f.follows.place; noted = f.follows.noted; slot_is = f.follows.slot_is; fits = fits_stack turns passed _ a b xs ys f.follows.fits h };
+  waits_stack : (a b : StackFrame) (xs ys : Cells) → FrameWaits ends notes turns passed a b → length xs ≡ length a.stack → EachPair IsKept xs ys → FrameWaits ends notes turns passed (with_stack_in a xs) (with_stack_in b ys)
+  waits_stack a b xs ys f same h = record {
+    follows = record {
+      place = f.follows.place;
+      noted = f.follows.noted;
+      slot_is = f.follows.slot_is;
+      fits = fits_stack ends turns passed (kinds_of f.follows.place) (kinds_of f.follows.place) a b xs ys f.follows.fits (λ r lt. refl) (same ∙ f.follows.fits.long) (all_read xs ys h)
+          (λ k lt. slot_given ends turns passed (register_in a) xs ys k (kinds_of f.follows.place (11 + k)) (f.slots k lt) (slot_kept xs ys k h));
+    };
     result = f.result;
     own = f.own;
+    kept = h;
+    slots = f.slots;
   }
 
-  -- both stacks at a depth get other cells
-  stack_put : (kinds : Kinds) (s t : State) (n : ℕ) (xs ys : Cells) → Between kinds s t → n ≤ depth s → EachPair IsKept xs ys → Goes kinds s.top.slot t.top.slot (with_stack s n xs) (Some (with_stack t n ys))
-  stack_put kinds s t n xs ys h live k = by_cases (cases_Bool (n == depth s))
-    where
-      same : depth t ≡ depth s
-      same = same_depth kinds s t h
+  same_slot : (same : Kinds) (registers : ℕ → Option Value) (xs ys : Cells) (k : ℕ) → same (11 + k) ≡ Same → SlotKept xs ys k → FitsSlot ends turns passed registers xs ys k (same (11 + k))
+  same_slot same registers xs ys k e f = subst (λ kind. FitsSlot ends turns passed registers xs ys k kind) (sym e) f
 
-      by_cases : (n == depth s ≡ true) ⊎ (n == depth s ≡ false) → Goes kinds s.top.slot t.top.slot (with_stack s n xs) (Some (with_stack t n ys))
+  -- both stacks at a depth get other cells
+  stack_put : (kinds same : Kinds) (s t : State) (n : ℕ) (xs ys : Cells) → Between kinds s t → AllPlain kinds → InAll kinds same → n ≤ depth s → length xs ≡ length (stack_of s n) → EachPair IsKept xs ys
+      → Goes same s.top.slot t.top.slot (with_stack s n xs) (Some (with_stack t n ys))
+  stack_put kinds same s t n xs ys h plain all live long k = by_cases (cases_Bool (n == depth s))
+    where
+      deep : depth t ≡ depth s
+      deep = same_depth kinds s t h
+
+      by_cases : (n == depth s ≡ true) ⊎ (n == depth s ≡ false) → Goes same s.top.slot t.top.slot (with_stack s n xs) (Some (with_stack t n ys))
       by_cases (inl e) =
           let a = top_stack s n xs e in
-          let b = top_stack t n ys (ap (λ d. n == d) same ∙ e) in
-          subst (λ u. Goes kinds s.top.slot t.top.slot u (Some (with_stack t n ys))) (sym a)
-          (record { state = with_top t (with_stack_in t.top ys); is = ap Some b; between = record { top = fits_stack turns passed kinds s.top t.top xs ys h.top k; waiting = h.waiting; context_is = h.context_is }; old_slot = refl; new_slot = refl })
+          let b = top_stack t n ys (ap (λ d. n == d) deep ∙ e) in
+          let here : n ≡ depth s = eqb-true n (depth s) e in
+          let none : depth s - n ≡ 0 = omega arith in
+          let own : length xs ≡ frame_bytes = long ∙ ap (λ d. length (get_or (frames s) d s.top).stack) none ∙ h.top.long in
+          subst (λ u. Goes same s.top.slot t.top.slot u (Some (with_stack t n ys))) (sym a)
+          (record {
+            state = with_top t (with_stack_in t.top ys);
+            is = ap Some b;
+            between = record {
+              top = fits_stack ends turns passed kinds same s.top t.top xs ys h.top all.low own (all_read xs ys k) (λ q lt. same_slot same (register_in s.top) xs ys q (all.slots q lt) (slot_kept xs ys q k));
+              waiting = h.waiting;
+              context_is = h.context_is;
+            };
+            old_slot = refl;
+            new_slot = refl;
+          })
       by_cases (inr e) =
           let not_top : n ≡ depth s → ⊥ = eqb-false n (depth s) e in
           let m : ℕ = depth s - n - 1 in
           let below : n < depth s = omega arith in
           let inside : m < length s.waiting = omega arith in
-          let a = waiting_stack s n m xs e (omega arith) in
-          let b = waiting_stack t n m ys (ap (λ d. n == d) same ∙ e) (ap (λ d. d - n) same ∙ omega arith) in
-          let pair = waits_stack _ _ xs ys (pair_inside (FrameWaits notes turns passed) s.waiting t.waiting m s.top t.top inside h.waiting) k in
-          subst (λ u. Goes kinds s.top.slot t.top.slot u (Some (with_stack t n ys))) (sym a)
-          (record { state = waiting_with t m ys; is = ap Some b; between = record { top = h.top; waiting = pairs_set (FrameWaits notes turns passed) s.waiting t.waiting m _ _ pair h.waiting; context_is = h.context_is }; old_slot = refl; new_slot = refl })
+          let more : depth s - n ≡ suc m = omega arith in
+          let a = waiting_stack s n m xs e more in
+          let b = waiting_stack t n m ys (ap (λ d. n == d) deep ∙ e) (ap (λ d. d - n) deep ∙ more) in
+          let there : length xs ≡ length (get_or s.waiting m s.top).stack = long ∙ ap (λ d. length (get_or (frames s) d s.top).stack) more in
+          let pair = waits_stack _ _ xs ys (pair_inside (FrameWaits ends notes turns passed) s.waiting t.waiting m s.top t.top inside h.waiting) there k in
+          let top_kept = top_plain kinds s t h plain in
+          subst (λ u. Goes same s.top.slot t.top.slot u (Some (with_stack t n ys))) (sym a)
+          (record {
+            state = waiting_with t m ys;
+            is = ap Some b;
+            between = record {
+              top = fits_stack ends turns passed kinds same s.top t.top s.top.stack t.top.stack h.top all.low h.top.long h.top.stack
+                  (λ q lt. same_slot same (register_in s.top) s.top.stack t.top.stack q (all.slots q lt) (slot_kept s.top.stack t.top.stack q top_kept));
+              waiting = pairs_set (FrameWaits ends notes turns passed) s.waiting t.waiting m _ _ pair h.waiting;
+              context_is = h.context_is;
+            };
+            old_slot = refl;
+            new_slot = refl;
+          })
 
-  pub number_stored : (order : Order) (kinds : Kinds) (s t u : State) (k x : ℕ) (at : Location) → Between kinds s t → IsLive s at → store_number order k x at s ≡ Some u → Goes kinds s.top.slot t.top.slot u (store_number order k x at t)
+  pub number_stored : (order : Order) (kinds same : Kinds) (s t u : State) (k x : ℕ) (at : Location) → Between kinds s t → AllPlain kinds → InAll kinds same → IsLive s at → store_number order k x at s ≡ Some u → Goes same s.top.slot t.top.slot u (store_number order k x at t)
   unfolding store_number with_bytes
-  number_stored order kinds s t u k x (InContext i) h live e = absurd (none-some _ e)
-  number_stored order kinds s t u k x (InFrame n i) h live e =
-      subst (λ u. Goes kinds s.top.slot t.top.slot u (store_number order k x (InFrame n i) t)) (same_Some _ _ e)
-      (stack_put kinds s t n _ _ h live (each_kept (cell_after (bytes_of order k x) i) 0 (stack_of s n) (stack_of t n) (bytes_keep (bytes_of order k x) i) (stacks_kept kinds s t n h)))
+  number_stored order kinds same s t u k x (InContext i) h plain all live e = absurd (none-some _ e)
+  number_stored order kinds same s t u k x (InFrame n i) h plain all live e =
+      subst (λ u. Goes same s.top.slot t.top.slot u (store_number order k x (InFrame n i) t)) (same_Some _ _ e)
+      (stack_put kinds same s t n _ _ h plain all live (length-each_cell (cell_after (bytes_of order k x) i) 0 (stack_of s n)) (each_kept (cell_after (bytes_of order k x) i) 0 (stack_of s n) (stack_of t n) (bytes_keep (bytes_of order k x) i) (stacks_kept kinds s t n h plain)))
 
-  pointer_stored : (kinds : Kinds) (s t u : State) (region : Region) (off : ℤ) (at : Location) → Between kinds s t → IsLive s at → store_pointer region off at s ≡ Some u → Goes kinds s.top.slot t.top.slot u (store_pointer region off at t)
+  pointer_stored : (kinds same : Kinds) (s t u : State) (region : Region) (off : ℤ) (at : Location) → Between kinds s t → AllPlain kinds → InAll kinds same → IsLive s at → store_pointer region off at s ≡ Some u → Goes same s.top.slot t.top.slot u (store_pointer region off at t)
   unfolding store_pointer with_parts
-  pointer_stored kinds s t u region off (InContext i) h live e = absurd (none-some _ e)
-  pointer_stored kinds s t u region off (InFrame n i) h live e =
+  pointer_stored kinds same s t u region off (InContext i) h plain all live e = absurd (none-some _ e)
+  pointer_stored kinds same s t u region off (InFrame n i) h plain all live e =
       let c = cond_first (i % 8 == 0) _ u e in
-      let g = stack_put kinds s t n _ _ h live (each_kept (part_after region off i) 0 (stack_of s n) (stack_of t n) (parts_keep region off i) (stacks_kept kinds s t n h)) in
-      subst (λ u. Goes kinds s.top.slot t.top.slot u (store_pointer region off (InFrame n i) t)) (same_Some _ _ c.1)
-      (goes_as kinds s.top.slot t.top.slot _ _ _ (ap (λ b. cond b (Some (with_stack t n (with_parts region off i (stack_of t n)))) None) c.0) g)
+      let g = stack_put kinds same s t n _ _ h plain all live (length-each_cell (part_after region off i) 0 (stack_of s n)) (each_kept (part_after region off i) 0 (stack_of s n) (stack_of t n) (parts_keep region off i) (stacks_kept kinds s t n h plain)) in
+      subst (λ u. Goes same s.top.slot t.top.slot u (store_pointer region off (InFrame n i) t)) (same_Some _ _ c.1)
+      (goes_as same s.top.slot t.top.slot _ _ _ (ap (λ b. cond b (Some (with_stack t n (with_parts region off i (stack_of t n)))) None) c.0) g)
 
-  pub store_kept : (order : Order) (kinds : Kinds) (s t u : State) (size : Size) (v : Value) (at : Location) → Between kinds s t → IsLive s at → store order size v at s ≡ Some u → Goes kinds s.top.slot t.top.slot u (store order size v at t)
-  store_kept order kinds s t u size (Number x) at h live e = number_stored order kinds s t u (byte_count size) x at h live e
-  store_kept order kinds s t u DW (Pointer region off) at h live e = pointer_stored kinds s t u region off at h live e
-  store_kept order kinds s t u B (Pointer region off) at h live e = absurd (none-some _ e)
-  store_kept order kinds s t u H (Pointer region off) at h live e = absurd (none-some _ e)
-  store_kept order kinds s t u W (Pointer region off) at h live e = absurd (none-some _ e)
+  pub store_kept : (order : Order) (kinds same : Kinds) (s t u : State) (size : Size) (v : Value) (at : Location) → Between kinds s t → AllPlain kinds → InAll kinds same → IsLive s at → store order size v at s ≡ Some u → Goes same s.top.slot t.top.slot u (store order size v at t)
+  store_kept order kinds same s t u size (Number x) at h plain all live e = number_stored order kinds same s t u (byte_count size) x at h plain all live e
+  store_kept order kinds same s t u DW (Pointer region off) at h plain all live e = pointer_stored kinds same s t u region off at h plain all live e
+  store_kept order kinds same s t u B (Pointer region off) at h plain all live e = absurd (none-some _ e)
+  store_kept order kinds same s t u H (Pointer region off) at h plain all live e = absurd (none-some _ e)
+  store_kept order kinds same s t u W (Pointer region off) at h plain all live e = absurd (none-some _ e)
+
+  -- ---- the own frame, at a place that is known
+
+  pub own_stack : (s : State) → stack_of s (depth s) ≡ s.top.stack
+  own_stack s = let none : depth s - depth s ≡ 0 = omega arith in ap (λ d. (get_or (frames s) d s.top).stack) none
+
+  -- the running frames get other stacks
+  own_put : (kinds after : Kinds) (s t : State) (xs ys : Cells) → Between kinds s t → FrameFits ends turns passed after (with_stack_in s.top xs) (with_stack_in t.top ys) → Goes after s.top.slot t.top.slot (with_stack s (depth s) xs) (Some (with_stack t (depth s) ys))
+  own_put kinds after s t xs ys h fits =
+      let deep : depth t ≡ depth s = same_depth kinds s t h in
+      let here : depth s == depth s ≡ true = eq-eqb (depth s) (depth s) refl in
+      let a = top_stack s (depth s) xs here in
+      let b = top_stack t (depth s) ys (ap (λ d. depth s == d) deep ∙ here) in
+      subst (λ u. Goes after s.top.slot t.top.slot u (Some (with_stack t (depth s) ys))) (sym a)
+      (record { state = with_top t (with_stack_in t.top ys); is = ap Some b; between = record { top = fits; waiting = h.waiting; context_is = h.context_is }; old_slot = refl; new_slot = refl })
+
+  pub own_stack_of : (kinds : Kinds) (s t : State) → Between kinds s t → stack_of t (depth s) ≡ t.top.stack
+  own_stack_of kinds s t h = ap (stack_of t) (sym (same_depth kinds s t h)) ∙ own_stack t
+
+  some_slots : (kinds after : Kinds) (written : ℕ → Bool) (kind : Kind) (registers : ℕ → Option Value) (xs ys : Cells) → InSome kinds after written kind
+      → ((k : ℕ) → k < 64 → written k ≡ true → FitsSlot ends turns passed registers xs ys k kind) → ((k : ℕ) → k < 64 → written k ≡ false → FitsSlot ends turns passed registers xs ys k (kinds (11 + k)))
+      → (k : ℕ) → k < 64 → FitsSlot ends turns passed registers xs ys k (after (11 + k))
+  some_slots kinds after written kind registers xs ys some put others k lt = by_cases (cases_Bool (written k))
+    where
+      by_cases : (written k ≡ true) ⊎ (written k ≡ false) → FitsSlot ends turns passed registers xs ys k (after (11 + k))
+      by_cases (inl e) = subst (λ kind. FitsSlot ends turns passed registers xs ys k kind) (sym (some.put k lt e)) (put k lt e)
+      by_cases (inr e) = subst (λ kind. FitsSlot ends turns passed registers xs ys k kind) (sym (some.others k lt e)) (others k lt e)
+
+  pub number_near : (order : Order) (kinds after : Kinds) (s t u : State) (k x i : ℕ) → Between kinds s t → InSome kinds after (is_within (i / 8) ((i + k + 7) / 8)) Same → store_number order k x (InFrame (depth s) i) s ≡ Some u
+      → Goes after s.top.slot t.top.slot u (store_number order k x (InFrame (depth s) i) t)
+  unfolding store_number with_bytes
+  number_near order kinds after s t u k x i h some e =
+      subst (λ u. Goes after s.top.slot t.top.slot u (store_number order k x (InFrame (depth s) i) t)) (same_Some _ _ e)
+      (subst (λ xs. Goes after s.top.slot t.top.slot (with_stack s (depth s) (with_bytes (bytes_of order k x) i xs)) (Some (with_stack t (depth s) (with_bytes (bytes_of order k x) i (stack_of t (depth s)))))) (sym (own_stack s))
+      (subst (λ ys. Goes after s.top.slot t.top.slot (with_stack s (depth s) (with_bytes (bytes_of order k x) i s.top.stack)) (Some (with_stack t (depth s) (with_bytes (bytes_of order k x) i ys)))) (sym (own_stack_of kinds s t h))
+      (own_put kinds after s t _ _ h fits)))
+    where
+      count : length (bytes_of order k x) ≡ k
+      count = length-bytes_of order k x
+
+      as_long_new : length t.top.stack ≡ length s.top.stack
+      as_long_new = as_long IsRead s.top.stack t.top.stack h.top.stack
+
+      slots_as : (q : ℕ) (b : Bool) → is_within (i / 8) ((i + k + 7) / 8) q ≡ b → is_within (i / 8) ((i + length (bytes_of order k x) + 7) / 8) q ≡ b
+      slots_as q b e = ap (λ n. is_within (i / 8) ((i + n + 7) / 8) q) count ∙ e
+
+      fits : FrameFits ends turns passed after (with_stack_in s.top (with_bytes (bytes_of order k x) i s.top.stack)) (with_stack_in t.top (with_bytes (bytes_of order k x) i t.top.stack))
+      fits = fits_stack ends turns passed kinds after s.top t.top (with_bytes (bytes_of order k x) i s.top.stack) (with_bytes (bytes_of order k x) i t.top.stack) h.top some.low (length-each_cell (cell_after (bytes_of order k x) i) 0 s.top.stack ∙ h.top.long)
+          (each_read (cell_after (bytes_of order k x) i) (cell_after (bytes_of order k x) i) 0 s.top.stack t.top.stack (bytes_read (bytes_of order k x) i) h.top.stack)
+          (some_slots kinds after (is_within (i / 8) ((i + k + 7) / 8)) Same (register_in s.top) (with_bytes (bytes_of order k x) i s.top.stack) (with_bytes (bytes_of order k x) i t.top.stack) some
+          (λ q lt e. bytes_same (bytes_of order k x) i q s.top.stack t.top.stack (slots_as q true e) h.top.stack as_long_new (whole_room s.top.stack q h.top.long lt))
+          (λ q lt e. slot_as ends turns passed (register_in s.top) s.top.stack t.top.stack (with_bytes (bytes_of order k x) i s.top.stack) (with_bytes (bytes_of order k x) i t.top.stack) q (kinds (11 + q))
+          (λ j lj. bytes_other (bytes_of order k x) i q j s.top.stack (slots_as q false e) lj (room s.top.stack q j h.top.long lt lj))
+          (λ j lj. bytes_other (bytes_of order k x) i q j t.top.stack (slots_as q false e) lj (room t.top.stack q j (as_long_new ∙ h.top.long) lt lj))
+          (h.top.slots q lt)))
+
+  -- values are put into a whole slot
+  pub value_near : (order : Order) (kinds after : Kinds) (kind : Kind) (s t u : State) (m : ℕ) (v w : Value) → Between kinds s t → InSome kinds after (λ k. k == m) kind → m < 64
+      → EachPair IsRead (with_value order v (8 * m) s.top.stack) (with_value order w (8 * m) t.top.stack)
+      → FitsSlot ends turns passed (register_in s.top) (with_value order v (8 * m) s.top.stack) (with_value order w (8 * m) t.top.stack) m kind
+      → store order DW v (InFrame (depth s) (8 * m)) s ≡ Some u → Goes after s.top.slot t.top.slot u (store order DW w (InFrame (depth s) (8 * m)) t)
+  value_near order kinds after kind s t u m v w h some below read fit e =
+      goes_as after s.top.slot t.top.slot u _ _ (store_whole order t (depth s) m w)
+      (subst (λ u. Goes after s.top.slot t.top.slot u (Some (with_stack t (depth s) (with_value order w (8 * m) (stack_of t (depth s)))))) (same_Some _ _ (sym (store_whole order s (depth s) m v) ∙ e))
+      (subst (λ xs. Goes after s.top.slot t.top.slot (with_stack s (depth s) (with_value order v (8 * m) xs)) (Some (with_stack t (depth s) (with_value order w (8 * m) (stack_of t (depth s)))))) (sym (own_stack s))
+      (subst (λ ys. Goes after s.top.slot t.top.slot (with_stack s (depth s) (with_value order v (8 * m) s.top.stack)) (Some (with_stack t (depth s) (with_value order w (8 * m) ys)))) (sym (own_stack_of kinds s t h))
+      (own_put kinds after s t _ _ h fits))))
+    where
+      as_long_new : length t.top.stack ≡ length s.top.stack
+      as_long_new = as_long IsRead s.top.stack t.top.stack h.top.stack
+
+      fits : FrameFits ends turns passed after (with_stack_in s.top (with_value order v (8 * m) s.top.stack)) (with_stack_in t.top (with_value order w (8 * m) t.top.stack))
+      fits = fits_stack ends turns passed kinds after s.top t.top (with_value order v (8 * m) s.top.stack) (with_value order w (8 * m) t.top.stack) h.top some.low (value_long order v (8 * m) s.top.stack ∙ h.top.long) read
+          (some_slots kinds after (λ k. k == m) kind (register_in s.top) (with_value order v (8 * m) s.top.stack) (with_value order w (8 * m) t.top.stack) some
+          (λ q lt e. subst (λ q. FitsSlot ends turns passed (register_in s.top) (with_value order v (8 * m) s.top.stack) (with_value order w (8 * m) t.top.stack) q kind) (sym (eqb-true q m e)) fit)
+          (λ q lt e. slot_as ends turns passed (register_in s.top) s.top.stack t.top.stack (with_value order v (8 * m) s.top.stack) (with_value order w (8 * m) t.top.stack) q (kinds (11 + q))
+          (λ j lj. value_other order v m q j s.top.stack (eqb-false q m e) lj (room s.top.stack q j h.top.long lt lj))
+          (λ j lj. value_other order w m q j t.top.stack (eqb-false q m e) lj (room t.top.stack q j (as_long_new ∙ h.top.long) lt lj))
+          (h.top.slots q lt)))

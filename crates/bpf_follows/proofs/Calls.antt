@@ -1,8 +1,8 @@
 -- Calls, and the ends of functions.
 use Rattle.std.proofs.Common.{◌≡◌, ℕ, zero, suc, ◌+◌, ◌<◌, cond, List, [], ◌∷◌, ◌++◌, Option, Some, None, length, get_or, take, drop, refl, sym, ap, ◌∙◌, subst, arith}
-use Rattle.std.specs.Prelude.{ℤ, pos, Bool, true, false, nat_lt, replicate, option_map, if◌then◌else◌}
+use Rattle.std.specs.Prelude.{ℤ, pos, Bool, true, false, ◌*◌, ◌==◌, ◌||◌, nat_lt, nat_le, replicate, option_map, if◌then◌else◌}
 use Rattle.std.proofs.Common.{inl, inr}
-use Rattle.std.proofs.lemmas.Bool.{false≢true}
+use Rattle.std.proofs.lemmas.Bool.{false≢true, or_right, le-leb}
 use Rattle.std.proofs.lemmas.Option.{none-some, same_Some, option_and_then_some}
 use Rattle.bpf_insn.specs.Instruction.{target}
 use Rattle.bpf_insn.specs.declared.order.Order.{Order}
@@ -14,12 +14,15 @@ use Rattle.bpf_semantics.specs.declared.value.Value.{Value}
 use Rattle.bpf_semantics.specs.declared.value.Value.TheVariants.{Number, Pointer}
 use Rattle.bpf_semantics.specs.declared.value.Region.TheVariants.{Frame as FrameAt}
 use Rattle.bpf_follows.specs.declared.notes.Kind.{Kind}
-use Rattle.bpf_follows.specs.declared.notes.Kind.TheVariants.{Nothing, Same, Number as NumberKind, Offset, Fixed, Start, Base, Moved, Address, Constant, Counter, Turn}
+use Rattle.bpf_follows.specs.declared.notes.Kind.TheVariants.{Nothing, Unset, Same, Number as NumberKind, Offset, Fixed, Start, Base, Moved, Address, Constant, Counter, Turn}
 use Rattle.bpf_follows.specs.declared.notes.Place.{Place}
-use Rattle.bpf_follows.specs.Relation.{Kinds, Gives, weaker, kinds_of, EachPair, FitsKind, FrameFollows, FrameWaits, is_of_other}
-use Rattle.bpf_follows.specs.Matching.{is_same, held, handed, kinds_behind, kinds_called, Arrives}
+use Rattle.bpf_follows.specs.Relation.{Kinds, Gives, weaker, kinds_of, EachPair, FitsKind, FitsSlot, FrameFollows, FrameWaits, register_in, is_of_other}
+use Rattle.bpf_follows.specs.Extras.{is_same}
+use Rattle.bpf_follows.specs.Matching.{held, handed, kinds_behind, kinds_called, AllPlain, Arrives}
 use Rattle.bpf_follows.proofs.Lists.{bind, mapped, cond_first, same_is_kept, pairs_same}
-use Rattle.bpf_follows.proofs.Between.{Between, Goes, same_depth, fits_moved}
+use Rattle.bpf_follows.proofs.Slots.{all_read, slot_kept, nothing_there, as_many}
+use Rattle.bpf_follows.proofs.Frames.{fits_moved, slot_given}
+use Rattle.bpf_follows.proofs.Between.{Between, Goes, same_depth, top_plain}
 use Rattle.bpf_follows.proofs.Instruction.{Arrived, kind_given, fits_given, number_same}
 
 abbrev pub Registers : Type 0
@@ -54,6 +57,7 @@ held_by_call : (off : ℤ) (kind : Kind) → held (CallLocal off) kind ≡ hande
 held_by_call off (Moved of by) = refl
 held_by_call off (Address of by) = refl
 held_by_call off Nothing = refl
+held_by_call off Unset = refl
 held_by_call off Same = refl
 held_by_call off NumberKind = refl
 held_by_call off Offset = refl
@@ -68,6 +72,7 @@ own_held : (off : ℤ) (kind : Kind) → is_of_other (held (CallLocal off) kind)
 own_held off (Moved of by) = refl
 own_held off (Address of by) = refl
 own_held off Nothing = refl
+own_held off Unset = refl
 own_held off Same = refl
 own_held off NumberKind = refl
 own_held off Offset = refl
@@ -78,7 +83,7 @@ own_held off (Constant value) = refl
 own_held off (Counter head) = refl
 own_held off (Turn head) = refl
 
-module _ (notes : List (Option Place)) (turns : ℕ) (passed : ℕ → ℕ) where
+module _ (ends : Order) (notes : List (Option Place)) (turns : ℕ) (passed : ℕ → ℕ) where
   abbrev AllFit : Kinds → Registers → Registers → Type 0
   AllFit kinds xs ys = (r : ℕ) → r < 11 → FitsKind turns passed (λ q. get_or xs q None) r (kinds r) (get_or ys r None)
 
@@ -87,6 +92,7 @@ module _ (notes : List (Option Place)) (turns : ℕ) (passed : ℕ → ℕ) wher
   handed_fits old more r (Moved of by) new e f = tt
   handed_fits old more r (Address of by) new e f = tt
   handed_fits old more r Nothing new e f = tt
+  handed_fits old more r Unset new e f = fits_moved turns passed old more r r Unset new refl e f
   handed_fits old more r Same new e f = fits_moved turns passed old more r r Same new refl e f
   handed_fits old more r NumberKind new e f = fits_moved turns passed old more r r NumberKind new refl e f
   handed_fits old more r Offset new e f = fits_moved turns passed old more r r Offset new refl e f
@@ -126,7 +132,7 @@ module _ (notes : List (Option Place)) (turns : ℕ) (passed : ℕ → ℕ) wher
       each a b c d e f rest a' b' c' d' e' f' rest'))
     where
       same : (old : ℕ → Option Value) (r : ℕ) (o : Option Value) → r < 6 → old r ≡ o → FitsKind turns passed old r (kinds r) o
-      same old r o lt e = kind_given notes turns passed old r Same (kinds r) o (low r lt) (λ x ex. sym e ∙ ex)
+      same old r o lt e = kind_given ends notes turns passed old r Same (kinds r) o (omega arith) (low r lt) (λ x ex. sym e ∙ ex)
 
       each : (a b c d e f : Option Value) (rest : Registers) (a' b' c' d' e' f' : Option Value) (rest' : Registers) → AllFit kinds (a ∷ b ∷ c ∷ d ∷ e ∷ f ∷ rest) (a' ∷ b' ∷ c' ∷ d' ∷ e' ∷ f' ∷ rest')
           → AllFit kinds (v ∷ drop 1 (saved (a ∷ b ∷ c ∷ d ∷ e ∷ f ∷ rest))) (v ∷ drop 1 (saved (a' ∷ b' ∷ c' ∷ d' ∷ e' ∷ f' ∷ rest')))
@@ -170,6 +176,9 @@ module _ (notes : List (Option Place)) (turns : ℕ) (passed : ℕ → ℕ) wher
 
   -- ---- calls
 
+  pub unset_called : (kinds : Kinds) (k : ℕ) → kinds_called kinds (11 + k) ≡ Unset
+  unset_called kinds k = ap (λ c. if c then Unset else if 11 + k == 0 || nat_lt 5 (11 + k) then Same else handed (kinds (11 + k))) (le-leb 11 (11 + k) (omega arith))
+
   abbrev caller : State → StackFrame
   caller s = record { slot = s.top.slot + 1; registers = saved s.top.registers; stack = s.top.stack }
 
@@ -179,6 +188,8 @@ module _ (notes : List (Option Place)) (turns : ℕ) (passed : ℕ → ℕ) wher
   own_weaker r Start Base e = refl
   own_weaker r (Moved of by) Offset e = refl
   own_weaker r (Constant value) (Counter head) e = refl
+  own_weaker r have Same e = refl
+  own_weaker r have Unset e = refl
   own_weaker r have want e = absurd (false≢true e)
 
   own_given : (r : ℕ) (have want : Kind) → is_of_other have ≡ false → Gives turns r have want → is_of_other want ≡ false
@@ -187,28 +198,36 @@ module _ (notes : List (Option Place)) (turns : ℕ) (passed : ℕ → ℕ) wher
   own_given r have want own (inr (inr e)) = own_weaker r have want e
 
   own_behind : (off : ℤ) (kinds : Kinds) (r : ℕ) → is_of_other (kinds_behind (CallLocal off) kinds r) ≡ false
-  own_behind off kinds r = by_cases (nat_lt r 6)
+  own_behind off kinds r = by_cases (nat_lt r 6 || nat_le 11 r)
     where
       by_cases : (b : Bool) → is_of_other (if b then Same else held (CallLocal off) (kinds r)) ≡ false
       by_cases true = refl
       by_cases false = own_held off (kinds r)
 
-  waits : (off : ℤ) (kinds : Kinds) (s t : State) → Between notes turns passed kinds s t → Arrives notes turns (s.top.slot + 1) (t.top.slot + 1) (kinds_behind (CallLocal off) kinds) → FrameWaits notes turns passed (caller s) (caller t)
-  waits off kinds s t h a = record {
+  -- the slots of a frame from which a call is made
+  same_behind : (off : ℤ) (kinds : Kinds) (k : ℕ) → kinds_behind (CallLocal off) kinds (11 + k) ≡ Same
+  same_behind off kinds k = ap (λ c. if c then Same else held (CallLocal off) (kinds (11 + k))) (or_right (nat_lt (11 + k) 6) (nat_le 11 (11 + k)) (le-leb 11 (11 + k) (omega arith)))
+
+  waits : (off : ℤ) (kinds : Kinds) (s t : State) → Between ends notes turns passed kinds s t → AllPlain kinds → Arrives notes turns (s.top.slot + 1) (t.top.slot + 1) (kinds_behind (CallLocal off) kinds) → FrameWaits ends notes turns passed (caller s) (caller t)
+  waits off kinds s t h plain a = record {
     follows = record {
       place = a.place;
       noted = a.noted;
       slot_is = a.slot_is;
-      fits = fits_given notes turns passed (kinds_behind (CallLocal off) kinds) (kinds_of a.place) (caller s) (caller t) a.gives
+      fits = fits_given ends notes turns passed (kinds_behind (CallLocal off) kinds) (kinds_of a.place) (caller s) (caller t) a.gives
           (record {
             eleven_old = saved_eleven s.top.registers h.top.eleven_old;
             eleven = saved_eleven t.top.registers h.top.eleven;
             registers = behind_call off kinds s.top.registers t.top.registers h.top.eleven_old h.top.eleven h.top.registers;
+            long = h.top.long;
             stack = h.top.stack;
+            slots = λ k lt. subst (λ kind. FitsSlot ends turns passed (register_in (caller s)) s.top.stack t.top.stack k kind) (sym (same_behind off kinds k)) (slot_kept s.top.stack t.top.stack k (top_plain ends notes turns passed kinds s t h plain));
           });
     };
     result = low;
-    own = λ r lt. own_given r (kinds_behind (CallLocal off) kinds r) (kinds_of a.place r) (own_behind off kinds r) (a.gives r lt);
+    own = λ r lt. own_given r (kinds_behind (CallLocal off) kinds r) (kinds_of a.place r) (own_behind off kinds r) (a.gives r (omega arith));
+    kept = top_plain ends notes turns passed kinds s t h plain;
+    slots = λ k lt. subst (λ have. Gives turns (11 + k) have (kinds_of a.place (11 + k))) (same_behind off kinds k) (a.gives (11 + k) (omega arith));
   }
     where
       low : (r : ℕ) → r < 6 → Gives turns r Same (kinds_of a.place r)
@@ -220,14 +239,14 @@ module _ (notes : List (Option Place)) (turns : ℕ) (passed : ℕ → ℕ) wher
       low (suc (suc (suc (suc (suc zero))))) lt = a.gives 5 (omega arith)
       low (suc (suc (suc (suc (suc (suc r)))))) lt = absurd (omega arith)
 
-  pub call_kept : (off z : ℤ) (kinds : Kinds) (s t u : State) (to new_to : ℕ) → Between notes turns passed kinds s t → Arrives notes turns (s.top.slot + 1) (t.top.slot + 1) (kinds_behind (CallLocal off) kinds)
-      → target s.top.slot off ≡ Some to → target t.top.slot z ≡ Some new_to → call s off ≡ Some u → Goes notes turns passed (kinds_called kinds) to new_to u (call t z)
-  call_kept off z kinds s t u to new_to h back et en e =
-      let same : depth t ≡ depth s = same_depth notes turns passed kinds s t h in
+  pub call_kept : (off z : ℤ) (kinds : Kinds) (s t u : State) (to new_to : ℕ) → Between ends notes turns passed kinds s t → AllPlain kinds → Arrives notes turns (s.top.slot + 1) (t.top.slot + 1) (kinds_behind (CallLocal off) kinds)
+      → target s.top.slot off ≡ Some to → target t.top.slot z ≡ Some new_to → call s off ≡ Some u → Goes ends notes turns passed (kinds_called kinds) to new_to u (call t z)
+  call_kept off z kinds s t u to new_to h plain back et en e =
+      let same : depth t ≡ depth s = same_depth ends notes turns passed kinds s t h in
       let room = cond_first (nat_lt (depth s + 1) max_frames) (option_map (entered s) (target s.top.slot off)) u e in
       let is : entered s to ≡ u = same_Some _ _ (sym (mapped (entered s) (target s.top.slot off) to et) ∙ room.1) in
       let own : Option Value = Some (Pointer (FrameAt (depth s + 1)) (pos 0)) in
-      subst (λ u. Goes notes turns passed (kinds_called kinds) to new_to u (call t z)) is
+      subst (λ u. Goes ends notes turns passed (kinds_called kinds) to new_to u (call t z)) is
       (record {
         state = entered t new_to;
         is = ap (λ b. cond b (option_map (entered t) (target t.top.slot z)) None) (ap (λ d. nat_lt (d + 1) max_frames) same ∙ room.0) ∙ mapped (entered t) (target t.top.slot z) new_to en;
@@ -237,9 +256,11 @@ module _ (notes : List (Option Place)) (turns : ℕ) (passed : ℕ → ℕ) wher
             eleven = called_eleven t.top.registers _ h.top.eleven;
             registers = subst (λ d. AllFit (kinds_called kinds) (called s.top.registers own) (called t.top.registers (Some (Pointer (FrameAt (d + 1)) (pos 0))))) (sym same)
                 (called_fit kinds s.top.registers t.top.registers own h.top.eleven_old h.top.eleven h.top.registers);
-            stack = pairs_same empty_stack;
+            long = as_many 512;
+            stack = all_read empty_stack empty_stack (pairs_same empty_stack);
+            slots = λ k lt. subst (λ kind. FitsSlot ends turns passed (register_in (entered s to).top) empty_stack empty_stack k kind) (sym (unset_called kinds k)) (λ j lj. nothing_there 512 (8 * k + j));
           };
-          waiting = (waits off kinds s t h back, h.waiting);
+          waiting = (waits off kinds s t h plain back, h.waiting);
           context_is = h.context_is;
         };
         old_slot = refl;
@@ -248,8 +269,8 @@ module _ (notes : List (Option Place)) (turns : ℕ) (passed : ℕ → ℕ) wher
 
   -- ---- ends
 
-  back_to : (c d : StackFrame) (v : ℕ) → FrameWaits notes turns passed c d
-      → FrameFollows notes turns passed (record { slot = c.slot; registers = Some (Number v) ∷ drop 1 (saved c.registers); stack = c.stack }) (record { slot = d.slot; registers = Some (Number v) ∷ drop 1 (saved d.registers); stack = d.stack })
+  back_to : (c d : StackFrame) (v : ℕ) → FrameWaits ends notes turns passed c d
+      → FrameFollows ends notes turns passed (record { slot = c.slot; registers = Some (Number v) ∷ drop 1 (saved c.registers); stack = c.stack }) (record { slot = d.slot; registers = Some (Number v) ∷ drop 1 (saved d.registers); stack = d.stack })
   back_to c d v w =
       let f = w.follows in
       record {
@@ -260,19 +281,21 @@ module _ (notes : List (Option Place)) (turns : ℕ) (passed : ℕ → ℕ) wher
           eleven_old = left_eleven (Some (Number v)) c.registers f.fits.eleven_old;
           eleven = left_eleven (Some (Number v)) d.registers f.fits.eleven;
           registers = kept_fit (kinds_of f.place) (Some (Number v)) c.registers d.registers f.fits.eleven_old f.fits.eleven w.result w.own f.fits.registers;
+          long = f.fits.long;
           stack = f.fits.stack;
+          slots = λ k lt. slot_given ends turns passed _ c.stack d.stack k (kinds_of f.place (11 + k)) (w.slots k lt) (slot_kept c.stack d.stack k w.kept);
         };
       }
 
-  left_kept : (ws vs : List StackFrame) (v : ℕ) (context new_context : List ℕ) (u : State) → EachPair (FrameWaits notes turns passed) ws vs → new_context ≡ context → left ws v context ≡ Some u → Arrived notes turns passed u (left vs v new_context)
+  left_kept : (ws vs : List StackFrame) (v : ℕ) (context new_context : List ℕ) (u : State) → EachPair (FrameWaits ends notes turns passed) ws vs → new_context ≡ context → left ws v context ≡ Some u → Arrived ends notes turns passed u (left vs v new_context)
   left_kept [] vs v context new_context u h c e = absurd (none-some _ e)
   left_kept (w ∷ ws) [] v context new_context u h c e = absurd h
   left_kept (w ∷ ws) (x ∷ vs) v context new_context u h c e =
-      subst (λ u. Arrived notes turns passed u (left (x ∷ vs) v new_context)) (same_Some _ _ e)
+      subst (λ u. Arrived ends notes turns passed u (left (x ∷ vs) v new_context)) (same_Some _ _ e)
       (record { state = _; is = refl; follows = record { top = back_to w x v h.0; waiting = h.1; context_is = c } })
 
-  pub exit_kept : (order : Order) (kinds : Kinds) (s t u : State) → Between notes turns passed kinds s t → is_same (kinds 0) ≡ true → does order Exit s ≡ Some u → Arrived notes turns passed u (does order Exit t)
+  pub exit_kept : (order : Order) (kinds : Kinds) (s t u : State) → Between ends notes turns passed kinds s t → is_same (kinds 0) ≡ true → does order Exit s ≡ Some u → Arrived ends notes turns passed u (does order Exit t)
   unfolding does
   exit_kept order kinds s t u h same e = option_and_then_some _ (number_of_register s R0) u e (λ v ev e1.
       let a = left_kept s.waiting t.waiting v s.context t.context u h.waiting h.context_is e1 in
-      record { state = a.state; is = bind _ (number_of_register t R0) v _ (number_same notes turns passed kinds s t R0 h same v ev) a.is; follows = a.follows })
+      record { state = a.state; is = bind _ (number_of_register t R0) v _ (number_same ends notes turns passed kinds s t R0 h same v ev) a.is; follows = a.follows })

@@ -1,6 +1,6 @@
 -- Extra instructions of the new program: it does them alone, and what they make of registers is as is said.
 use Rattle.std.proofs.Common.{◌≡◌, ℕ, zero, suc, ◌+◌, ◌-◌, ◌<◌, ◌≤◌, ◌⊎◌, inl, inr, ◌==◌, ◌%◌, ◌^◌, Bool, true, false, cond, List, [], ◌∷◌, Option, Some, None, length, get_or, set, refl, sym, ap, ap₂, ◌∙◌, subst, arith}
-use Rattle.std.specs.Prelude.{◌&&◌, nat_le, ℤ, pos, negsuc, ◌+ℤ◌, ◌-ℤ◌, option_and_then, option_map, if◌then◌else◌}
+use Rattle.std.specs.Prelude.{◌&&◌, nat_le, int_le, ℤ, pos, negsuc, ◌+ℤ◌, ◌-ℤ◌, ◌≤ℤ◌, option_and_then, option_map, if◌then◌else◌}
 use Rattle.std.specs.Option.{option_map_or}
 use Rattle.std.specs.Ordering.{int_eq}
 use Rattle.std.proofs.lemmas.Option.{none-some, same_Some, option_and_then_some}
@@ -9,8 +9,7 @@ use Rattle.std.proofs.lemmas.Bool.Decides.{Decides-int_eq}
 use Rattle.std.proofs.lemmas.Int.{ints}
 use Rattle.std.proofs.lemmas.List.{length-set, get_or-set_same, get_or-set_other}
 use Rattle.bpf_insn.specs.Arithmetic.{modulo, alu, extended}
-use Rattle.bpf_insn.specs.Effects.{Access, access_of}
-use Rattle.bpf_insn.specs.Instruction.{Instructions, register_number, byte_count, insn_at, not_negative}
+use Rattle.bpf_insn.specs.Instruction.{Instructions, register_number, insn_at}
 use Rattle.bpf_insn.specs.declared.order.Order.{Order}
 use Rattle.bpf_insn.specs.declared.instruction.Reg.{Reg}
 use Rattle.bpf_insn.specs.declared.instruction.Operand.{Operand}
@@ -18,44 +17,56 @@ use Rattle.bpf_insn.specs.declared.instruction.Operand.TheVariants.{Imm, Reg as 
 use Rattle.bpf_insn.specs.declared.instruction.Width.TheVariants.{W64}
 use Rattle.bpf_insn.specs.declared.instruction.AluOp.{AluOp}
 use Rattle.bpf_insn.specs.declared.instruction.AluOp.TheVariants.{Add, Mov}
-use Rattle.bpf_insn.specs.declared.instruction.Cond.TheVariants.{Eq, Gt}
+use Rattle.bpf_insn.specs.declared.instruction.Cond.TheVariants.{Eq, Gt, Lt}
 use Rattle.bpf_insn.specs.declared.instruction.Insn.{Insn}
 use Rattle.bpf_insn.specs.declared.instruction.Insn.TheVariants.{Alu, JumpIf}
 use Rattle.bpf_semantics.specs.State.{StackFrame, State, register, with_register, at_slot}
 use Rattle.bpf_semantics.specs.Memory.{Location, location_of, inside}
 use Rattle.bpf_semantics.specs.Memory.Location.{InContext}
 use Rattle.bpf_semantics.specs.Step.{does, next, operand, alu_result, jump, wrapped, Step, step_of}
-use Rattle.bpf_semantics.specs.Run.{Steps}
 use Rattle.bpf_semantics.specs.Flat.{addresses}
 use Rattle.bpf_semantics.specs.declared.value.Value.{Value}
 use Rattle.bpf_semantics.specs.declared.value.Value.TheVariants.{Number, Pointer}
+use Rattle.bpf_semantics.specs.declared.value.Region.{Region}
 use Rattle.bpf_semantics.specs.declared.value.Region.TheVariants.{Context}
 use Rattle.bpf_follows.specs.declared.notes.Kind.{Kind}
-use Rattle.bpf_follows.specs.declared.notes.Kind.TheVariants.{Nothing, Same, Number as NumberKind, Offset, Fixed, Start, Base, Moved, Address, Constant, Counter, Turn}
+use Rattle.bpf_follows.specs.declared.notes.Kind.TheVariants.{Nothing, Unset, Same, Number as NumberKind, Offset, Fixed, Start, Base, Moved, Address, Constant, Counter, Turn}
 use Rattle.bpf_follows.specs.declared.notes.Place.{Place}
+use Rattle.bpf_follows.specs.declared.site.Span.{Span}
+use Rattle.bpf_follows.specs.declared.site.Range.{Range}
 use Rattle.bpf_follows.specs.declared.site.Front.{Front}
-use Rattle.bpf_follows.specs.Relation.{kind_in, HasOffset, as_number, as_pointer, CountsDown, FitsKind, FrameFits, FrameWaits, register_in, settled, known}
-use Rattle.bpf_follows.specs.Extras.{constant_kind, kind_of, offset_in, copied, is_taken, shifted, added, is_base, address, put_kind, put_by, made, is_enough, guards, is_guard, passes, extra, extra_at, behind, most_extras, extras}
-use Rattle.bpf_follows.proofs.Lists.{bind, unmapped, pairs_weaker}
-use Rattle.bpf_follows.proofs.Offsets.{moved_number, pointer_there}
+use Rattle.bpf_follows.specs.Relation.{kind_in, IsKept, HasOffset, as_number, as_pointer, CountsDown, FitsKind, FrameFits, FrameWaits, FitsSlot, register_in, settled, known}
+use Rattle.bpf_follows.specs.Extras.{constant_kind, kind_of, offset_in, copied, is_taken, shifted, added, is_base, address, put_kind, put_by, made, range_of, offset_range, fixed_in, added_to, added_range, range_in, is_most, is_least, passes}
+use Rattle.bpf_follows.proofs.Lists.{bind, unmapped, cond_first, pairs_weaker, Cells}
+use Rattle.bpf_follows.proofs.Offsets.{moved_number, moved_back, pointer_there}
+use Rattle.bpf_follows.proofs.Onward.{room, placed, LieIn}
 use Rattle.bpf_follows.proofs.Between.{Between}
-use Rattle.bpf_follows.proofs.Instruction.{register_below, both_true, plus_zero}
+use Rattle.bpf_follows.proofs.Slots.{register_below}
+use Rattle.bpf_follows.proofs.Instruction.{both_true, plus_zero}
 
 -- ---- kinds that are written
 
 -- a register of a list that is too short is of no kind
-kind_set : (kinds : List Kind) (w : ℕ) (kind : Kind) → (kind_in (set kinds w kind) w ≡ kind) ⊎ (kind_in (set kinds w kind) w ≡ Nothing)
+pub kind_set : (kinds : List Kind) (w : ℕ) (kind : Kind) → (kind_in (set kinds w kind) w ≡ kind) ⊎ (kind_in (set kinds w kind) w ≡ Nothing)
 kind_set [] w kind = inr refl
 kind_set (k ∷ kinds) zero kind = inl refl
 kind_set (k ∷ kinds) (suc w) kind = kind_set kinds w kind
 
 -- ---- what is known of the old machine
 
--- The old machine stands at the slot in front of which extra instructions stand, and its access lies in its region.
+-- A register is added to a pointer, and by the sum these bytes are accessed.
+pub record SumLies (bytes : ℕ) (s : State) (src : Reg) (region : Region) (offset : ℤ) (span : Span) : Type 0 where
+  pub number : ℕ
+  pub fits : number < 2 ^ 64
+  pub is : register s src ≡ Some (Number number)
+  pub lies : LieIn (room bytes region) (placed region (wrapped (offset +ℤ pos number))) span
+
+-- The old machine stands at the slot in front of which extra instructions stand, and what surely is accessed lies in its region.
 pub record InFront (passed : ℕ → ℕ) (turns : ℕ) (front : Front) (s : State) : Type 0 where
   pub few : passed front.slot + 1 ≤ turns
   pub long : length s.context ≡ front.length
-  pub access : (a : Access) → access_of front.insn ≡ Some a → (base : Value) × (at : Location) × (register s a.base ≡ Some base) × (location_of s (byte_count a.size) a.offset base ≡ Some at)
+  pub spans : (r : Reg) (span : Span) (region : Region) (offset : ℤ) → get_or front.spans (register_number r) None ≡ Some span → register_in s.top (register_number r) ≡ Some (Pointer region offset) → LieIn (room front.length region) (placed region offset) span
+  pub sums : (dst src : Reg) (region : Region) (offset : ℤ) (span : Span) → front.insn ≡ Alu Add W64 dst (FromReg src) → front.behind ≡ Some span → register s dst ≡ Some (Pointer region offset) → SumLies front.length s src region offset span
 
 abbrev pub Facts : (ℕ → ℕ) → ℕ → Option Front → State → Type 0
 Facts passed turns None s = Unit {0}
@@ -87,15 +98,15 @@ one_less left more fits = omega arith
 mod_low : (n most : ℕ) → n ≤ most → n % addresses ≤ most
 mod_low n most h = omega arith
 
-free_is : (c : Bool) (w x : Reg × Kind) → (if c then None else Some w) ≡ Some x → (c ≡ false) × (w ≡ x)
+pub free_is : (c : Bool) (w x : Reg × Kind) → (if c then None else Some w) ≡ Some x → (c ≡ false) × (w ≡ x)
 free_is true w x e = absurd (none-some _ e)
 free_is false w x e = (refl, same_Some _ _ e)
 
 -- what is written, and of which kind it is
-record Writes (turns : ℕ) (passed : ℕ → ℕ) (old : ℕ → Option Value) (w : ℕ) (kind : Kind) (o : Option Value) : Type 0 where
-  value : Value
-  is : o ≡ Some value
-  fits : FitsKind turns passed old w kind (Some value)
+pub record Writes (turns : ℕ) (passed : ℕ → ℕ) (old : ℕ → Option Value) (w : ℕ) (kind : Kind) (o : Option Value) : Type 0 where
+  pub value : Value
+  pub is : o ≡ Some value
+  pub fits : FitsKind turns passed old w kind (Some value)
 
 module _ (turns : ℕ) (passed : ℕ → ℕ) (old : ℕ → Option Value) where
   constant_fits : (w : ℕ) (kind : Kind) (new : Option Value) (imm : ℤ) → FitsKind turns passed old w kind new → FitsKind turns passed old w (constant_kind kind imm) (Some (Number (extended imm)))
@@ -106,7 +117,7 @@ module _ (turns : ℕ) (passed : ℕ → ℕ) (old : ℕ → Option Value) where
       by_cases false h = refl
   constant_fits w kind new imm f = refl
 
-  copied_fits : (w : ℕ) (r : Reg) (kind made : Kind) (new : Option Value) → copied r kind ≡ Some made → FitsKind turns passed old (register_number r) kind new → Writes turns passed old w made new
+  pub copied_fits : (w : ℕ) (r : Reg) (kind made : Kind) (new : Option Value) → copied r kind ≡ Some made → FitsKind turns passed old (register_number r) kind new → Writes turns passed old w made new
   copied_fits w r Start made new e f = subst (λ made. Writes turns passed old w made new) (same_Some _ _ e) (record { value = Pointer Context (pos 0); is = f.1; fits = refl })
   copied_fits w r Base made new e f = subst (λ made. Writes turns passed old w made new) (same_Some _ _ e) (record { value = Pointer Context (pos 0); is = f; fits = refl })
   copied_fits w r Offset made new e f = subst (λ made. Writes turns passed old w made new) (same_Some _ _ e) (record { value = as_number (f.offset +ℤ pos 0); is = f.new_is; fits = record { offset = f.offset; fits = f.fits; old_is = f.old_is; new_is = refl } })
@@ -203,24 +214,29 @@ alu_does order op dst src t v e free = option_and_then_some (alu_result W64 op (
     let after : State = with_register (next (Alu op W64 dst src) t) (register_number dst) (Some v) in
     bind _ (operand t src) b _ eb (bind _ (alu_result W64 op (register t dst) b) v _ ev (ap (λ c. cond c None (Some after)) free)))
 
-module _ (notes : List (Option Place)) (turns : ℕ) (passed : ℕ → ℕ) where
+module _ (ends : Order) (notes : List (Option Place)) (turns : ℕ) (passed : ℕ → ℕ) where
   -- the new machine has gone on by one slot
   pub record Goes1 (order : Order) (i : Insn) (made : List Kind) (s t : State) : Type 0 where
     pub state : State
     pub is : does order i t ≡ Some state
     pub at : state.top.slot ≡ t.top.slot + 1
-    pub between : Between notes turns passed (kind_in made) s state
+    pub between : Between ends notes turns passed (kind_in made) s state
 
-  moves : (kinds : List Kind) (s t : State) (y : ℕ) → Between notes turns passed (kind_in kinds) s t → Between notes turns passed (kind_in kinds) s (at_slot y t)
-  moves kinds s t y b = record { top = record { eleven_old = b.top.eleven_old; eleven = b.top.eleven; registers = b.top.registers; stack = b.top.stack }; waiting = b.waiting; context_is = b.context_is }
+  pub moves : (kinds : List Kind) (s t : State) (y : ℕ) → Between ends notes turns passed (kind_in kinds) s t → Between ends notes turns passed (kind_in kinds) s (at_slot y t)
+  moves kinds s t y b = record { top = record { eleven_old = b.top.eleven_old; eleven = b.top.eleven; registers = b.top.registers; long = b.top.long; stack = b.top.stack; slots = b.top.slots }; waiting = b.waiting; context_is = b.context_is }
 
-  writes : (kinds : List Kind) (kind : Kind) (s t : State) (w : ℕ) (v : Option Value) → Between notes turns passed (kind_in kinds) s t → FitsKind turns passed (register_in s.top) w kind v → Between notes turns passed (kind_in (set kinds w kind)) s (with_register t w v)
-  writes kinds kind s t w v b f = record {
-    top = record { eleven_old = b.top.eleven_old; eleven = length-set t.top.registers w v ∙ b.top.eleven; registers = λ r lt. by_cases r lt (cases_Bool (r == w)); stack = b.top.stack };
+  pub writes : (kinds : List Kind) (kind : Kind) (s t : State) (w : ℕ) (v : Option Value) → w < 11 → Between ends notes turns passed (kind_in kinds) s t → FitsKind turns passed (register_in s.top) w kind v → Between ends notes turns passed (kind_in (set kinds w kind)) s (with_register t w v)
+  writes kinds kind s t w v below b f = record {
+    top = record { eleven_old = b.top.eleven_old; eleven = length-set t.top.registers w v ∙ b.top.eleven; registers = λ r lt. by_cases r lt (cases_Bool (r == w)); long = b.top.long; stack = b.top.stack; slots = slots_kept };
     waiting = b.waiting;
     context_is = b.context_is;
   }
     where
+      slots_kept : (k : ℕ) → k < 64 → FitsSlot ends turns passed (register_in s.top) s.top.stack t.top.stack k (kind_in (set kinds w kind) (11 + k))
+      slots_kept k lt =
+          let kept : kind_in (set kinds w kind) (11 + k) ≡ kind_in kinds (11 + k) = get_or-set_other kinds w (11 + k) kind Nothing (λ same. absurd (omega arith)) in
+          subst (λ kind. FitsSlot ends turns passed (register_in s.top) s.top.stack t.top.stack k kind) (sym kept) (b.top.slots k lt)
+
       there : FitsKind turns passed (register_in s.top) w (kind_in (set kinds w kind) w) v
       there = elim (kind_set kinds w kind) [ inl e ↦ subst (λ kind. FitsKind turns passed (register_in s.top) w kind v) (sym e) f | inr e ↦ subst (λ kind. FitsKind turns passed (register_in s.top) w kind v) (sym e) tt ]
 
@@ -237,11 +253,11 @@ module _ (notes : List (Option Place)) (turns : ℕ) (passed : ℕ → ℕ) wher
           subst (λ o. FitsKind turns passed (register_in s.top) r (kind_in (set kinds w kind) r) o) (sym at)
           (subst (λ kind. FitsKind turns passed (register_in s.top) r kind (get_or t.top.registers r None)) (sym kept) (b.top.registers r lt))
 
-  fits_at : (kinds : List Kind) (s t : State) (r : Reg) → Between notes turns passed (kind_in kinds) s t → FitsKind turns passed (register_in s.top) (register_number r) (kind_of kinds r) (register t r)
+  pub fits_at : (kinds : List Kind) (s t : State) (r : Reg) → Between ends notes turns passed (kind_in kinds) s t → FitsKind turns passed (register_in s.top) (register_number r) (kind_of kinds r) (register t r)
   fits_at kinds s t r b = b.top.registers (register_number r) (register_below r)
 
   -- a sum or a move
-  alu_goes : (order : Order) (op : AluOp) (dst : Reg) (src : Operand) (kinds made : List Kind) (kind : Kind) (s t : State) → Between notes turns passed (kind_in kinds) s t
+  alu_goes : (order : Order) (op : AluOp) (dst : Reg) (src : Operand) (kinds made : List Kind) (kind : Kind) (s t : State) → Between ends notes turns passed (kind_in kinds) s t
       → Writes turns passed (register_in s.top) (register_number dst) kind (option_and_then (alu_result W64 op (register t dst)) (operand t src)) → register_number dst == 10 ≡ false → set kinds (register_number dst) kind ≡ made
       → Goes1 order (Alu op W64 dst src) made s t
   alu_goes order op dst src kinds made kind s t b w free is =
@@ -250,12 +266,12 @@ module _ (notes : List (Option Place)) (turns : ℕ) (passed : ℕ → ℕ) wher
         state = with_register (next i t) (register_number dst) (Some w.value);
         is = alu_does order op dst src t w.value w.is free;
         at = refl;
-        between = subst (λ made. Between notes turns passed (kind_in made) s (with_register (next i t) (register_number dst) (Some w.value))) is
-            (writes kinds kind s (next i t) (register_number dst) (Some w.value) (moves kinds s t (t.top.slot + 1) b) w.fits);
+        between = subst (λ made. Between ends notes turns passed (kind_in made) s (with_register (next i t) (register_number dst) (Some w.value))) is
+            (writes kinds kind s (next i t) (register_number dst) (Some w.value) (register_below dst) (moves kinds s t (t.top.slot + 1) b) w.fits);
       }
 
   -- what a sum or a move makes
-  kind_put : (front : Option Front) (op : AluOp) (dst : Reg) (src : Operand) (kinds : List Kind) (kind : Kind) (s t : State) → Facts passed turns front s → Between notes turns passed (kind_in kinds) s t → put_kind front kinds op dst src ≡ Some kind
+  kind_put : (front : Option Front) (op : AluOp) (dst : Reg) (src : Operand) (kinds : List Kind) (kind : Kind) (s t : State) → Facts passed turns front s → Between ends notes turns passed (kind_in kinds) s t → put_kind front kinds op dst src ≡ Some kind
       → Writes turns passed (register_in s.top) (register_number dst) kind (option_and_then (alu_result W64 op (register t dst)) (operand t src))
   kind_put front Mov dst (Imm imm) kinds kind s t facts b e =
       subst (λ kind. Writes turns passed (register_in s.top) (register_number dst) kind (Some (Number (extended imm)))) (same_Some _ _ e)
@@ -269,7 +285,7 @@ module _ (notes : List (Option Place)) (turns : ℕ) (passed : ℕ → ℕ) wher
   kind_put front op dst src kinds kind s t facts b e = absurd (none-some _ e)
 
   -- what is put into a register other than r10
-  put_goes : (order : Order) (front : Option Front) (i : Insn) (kinds changed : List Kind) (w : Reg × Kind) (s t : State) → Facts passed turns front s → Between notes turns passed (kind_in kinds) s t
+  pub put_goes : (order : Order) (front : Option Front) (i : Insn) (kinds changed : List Kind) (w : Reg × Kind) (s t : State) → Facts passed turns front s → Between ends notes turns passed (kind_in kinds) s t
       → put_by front kinds i ≡ Some w → register_number w.0 == 10 ≡ false → set kinds (register_number w.0) w.1 ≡ changed → Goes1 order i changed s t
   put_goes order front (Alu op W64 dst src) kinds changed w s t facts b e free is =
       let m = unmapped (λ kind. (dst, kind)) (put_kind front kinds op dst src) w e in
@@ -279,7 +295,7 @@ module _ (notes : List (Option Place)) (turns : ℕ) (passed : ℕ → ℕ) wher
 
   -- ---- jumps that aren't taken
 
-  jump_passes : (order : Order) (i : Insn) (kinds : List Kind) (s t : State) → Between notes turns passed (kind_in kinds) s t → does order i t ≡ Some (at_slot (t.top.slot + 1) t) → Goes1 order i kinds s t
+  jump_passes : (order : Order) (i : Insn) (kinds : List Kind) (s t : State) → Between ends notes turns passed (kind_in kinds) s t → does order i t ≡ Some (at_slot (t.top.slot + 1) t) → Goes1 order i kinds s t
   jump_passes order i kinds s t b e = record { state = at_slot (t.top.slot + 1) t; is = e; at = refl; between = moves kinds s t (t.top.slot + 1) b }
 
   test_does : (order : Order) (t : State) (dst : Reg) (off : ℤ) (left : ℕ) → register t dst ≡ Some (Number left) → 0 < left → does order (JumpIf Eq W64 dst (Imm (pos 0)) off) t ≡ Some (at_slot (t.top.slot + 1) t)
@@ -291,6 +307,10 @@ module _ (notes : List (Option Place)) (turns : ℕ) (passed : ℕ → ℕ) wher
   guard_does : (order : Order) (t : State) (dst : Reg) (imm off : ℤ) (x : ℕ) → register t dst ≡ Some (Number x) → x ≤ extended imm → does order (JumpIf Gt W64 dst (Imm imm) off) t ≡ Some (at_slot (t.top.slot + 1) t)
   unfolding does
   guard_does order t dst imm off x e low = bind _ (register t dst) (Number x) _ e (ap (λ b. cond b (jump t off) (Some (at_slot (t.top.slot + 1) t))) (le-ltb (extended imm) x low))
+
+  low_does : (order : Order) (t : State) (dst : Reg) (imm off : ℤ) (x : ℕ) → register t dst ≡ Some (Number x) → extended imm ≤ x → does order (JumpIf Lt W64 dst (Imm imm) off) t ≡ Some (at_slot (t.top.slot + 1) t)
+  unfolding does
+  low_does order t dst imm off x e high = bind _ (register t dst) (Number x) _ e (ap (λ b. cond b (jump t off) (Some (at_slot (t.top.slot + 1) t))) (le-ltb x (extended imm) high))
 
   counter_has : (front : Front) (kind : Kind) (old : ℕ → Option Value) (r : ℕ) (new : Option Value) → is_taken (Some front) kind ≡ true → FitsKind turns passed old r kind new → CountsDown turns (passed front.slot) new
   counter_has front (Counter head) old r new e f = subst (λ h. CountsDown turns (passed h) new) (eqb-true head front.slot e) f
@@ -313,39 +333,118 @@ module _ (notes : List (Option Place)) (turns : ℕ) (passed : ℕ → ℕ) wher
           by_cases false eb e = absurd (none-some _ e)
       by_inside (negsuc i) ez e = absurd (none-some _ e)
 
-  -- an offset that is at most a constant, if the access lies in the context
-  low_enough : (bytes k most : ℕ) (by off offset : ℤ) → Lies offset off k bytes → is_enough bytes k most (not_negative (by -ℤ off)) ≡ true → modulo (offset +ℤ by) addresses ≤ most
-  low_enough bytes k most by off offset l e = by_gap (by -ℤ off) refl e
-    where
-      by_gap : (z : ℤ) → by -ℤ off ≡ z → is_enough bytes k most (not_negative z) ≡ true → modulo (offset +ℤ by) addresses ≤ most
-      by_gap (pos gap) ez e =
-          let most_is : bytes + gap - k ≤ most = leb-true (bytes + gap - k) most e in
-          let at = l.is in
-          let there : offset +ℤ by ≡ pos (l.at + gap) = omega (arith, ints) in
-          let fits = l.fits in
-          subst (λ z. modulo z addresses ≤ most) (sym there) (mod_low (l.at + gap) most (omega arith))
-      by_gap (negsuc gap) ez e = absurd (false≢true e)
+  -- a register holds a number of a range
+  record IsIn (range : Range) (new : Option Value) : Type 0 where
+    at : ℤ
+    is : new ≡ Some (as_number at)
+    low : range.least ≤ℤ at
+    high : at ≤ℤ range.most
 
-  guard_goes : (order : Order) (front : Front) (dst : Reg) (imm off : ℤ) (kinds : List Kind) (s t : State) → InFront passed turns front s → Between notes turns passed (kind_in kinds) s t → is_guard front dst (kind_of kinds dst) imm ≡ true → Goes1 order (JumpIf Gt W64 dst (Imm imm) off) kinds s t
-  guard_goes order front dst imm off kinds s t facts b e = by_access (access_of front.insn) refl e
-    where
-      by_access : (o : Option Access) → access_of front.insn ≡ o → option_map_or (λ a. option_map_or (guards front imm a) (offset_in dst (kind_of kinds dst)) false) o false ≡ true → Goes1 order (JumpIf Gt W64 dst (Imm imm) off) kinds s t
-      by_access None eo e = absurd (false≢true e)
-      by_access (Some a) ea e = by_offset (offset_in dst (kind_of kinds dst)) refl e
-        where
-          by_offset : (o : Option (Reg × ℤ)) → offset_in dst (kind_of kinds dst) ≡ o → option_map_or (guards front imm a) o false ≡ true → Goes1 order (JumpIf Gt W64 dst (Imm imm) off) kinds s t
-          by_offset None eo e = absurd (false≢true e)
-          by_offset (Some m) em e =
-              let h = offset_has turns passed (register_in s.top) dst (kind_of kinds dst) m (register t dst) em (fits_at kinds s t dst b) in
-              let g = both_true (register_number m.0 == register_number a.base) _ e in
-              let same : register_number m.0 ≡ register_number a.base = eqb-true (register_number m.0) (register_number a.base) g.0 in
-              let access = facts.access a ea in
-              let is : access.0 ≡ Pointer Context h.offset = same_Some _ _ (sym access.2 ∙ ap (register_in s.top) (sym same) ∙ h.old_is) in
-              let l = lies s (byte_count a.size) front.length a.offset h.offset access.0 access.1 is facts.long access.3 in
-              jump_passes order (JumpIf Gt W64 dst (Imm imm) off) kinds s t b
-              (guard_does order t dst imm off (modulo (h.offset +ℤ m.1) addresses) h.new_is (low_enough front.length (byte_count a.size) (extended imm) m.1 a.offset h.offset l g.1))
+  natural : (z : ℤ) → pos 0 ≤ℤ z → (n : ℕ) × (z ≡ pos n)
+  natural (pos n) h = (n, refl)
+  natural (negsuc n) h = absurd (omega (arith, ints))
 
-  passes_goes : (order : Order) (front : Option Front) (i : Insn) (kinds : List Kind) (s t : State) → Facts passed turns front s → Between notes turns passed (kind_in kinds) s t → passes front kinds i ≡ true → Goes1 order i kinds s t
+  le_of : (a b : ℤ) → int_le a b ≡ true → a ≤ℤ b
+  le_of a b e = omega (arith, ints)
+
+  most_is : (imm : ℤ) (range : Range) (new : Option Value) (h : IsIn range new) → is_most imm range ≡ true → modulo h.at addresses ≤ extended imm
+  most_is imm range new h e =
+      let c = both_true (int_le (pos 0) range.least) (int_le range.most (pos (extended imm))) e in
+      let c0 = le_of (pos 0) range.least c.0 in
+      let c1 = le_of range.most (pos (extended imm)) c.1 in
+      let low = h.low in
+      let high = h.high in
+      let n = natural h.at (omega (arith, ints)) in
+      let n_is : h.at ≡ pos n.0 = n.1 in
+      let below : n.0 ≤ extended imm = omega (arith, ints) in
+      subst (λ z. modulo z addresses ≤ extended imm) (sym n_is) (mod_low n.0 (extended imm) below)
+
+  not_wrapped : (n most least : ℕ) → least ≤ n → n ≤ most → most < addresses → least ≤ n % addresses
+  not_wrapped n most least l h far = omega arith
+
+  least_is : (imm : ℤ) (range : Range) (new : Option Value) (h : IsIn range new) → is_least imm range ≡ true → extended imm ≤ modulo h.at addresses
+  least_is imm range new h e =
+      let c = both_true (int_le (pos (extended imm)) range.least) (int_le range.most (pos (2 ^ 48))) e in
+      let c0 = le_of (pos (extended imm)) range.least c.0 in
+      let c1 = le_of range.most (pos (2 ^ 48)) c.1 in
+      let low = h.low in
+      let high = h.high in
+      let n = natural h.at (omega (arith, ints)) in
+      let n_is : h.at ≡ pos n.0 = n.1 in
+      let above : extended imm ≤ n.0 = omega (arith, ints) in
+      let near : n.0 ≤ 2 ^ 48 = omega (arith, ints) in
+      subst (λ z. extended imm ≤ modulo z addresses) (sym n_is) (not_wrapped n.0 (2 ^ 48) (extended imm) above near (omega arith))
+
+  -- where accesses go that lie in the context, moved
+  ranges : (bytes : ℕ) (span : Span) (up down offset : ℤ) (range : Range) (new : Option Value) → range_of bytes span up down ≡ range → LieIn bytes offset span → new ≡ Some (as_number (offset +ℤ (up -ℤ down))) → IsIn range new
+  ranges bytes span up down offset range new e l is =
+      let first = l.first in
+      let last = l.last in
+      subst (λ range. IsIn range new) e (record { at = offset +ℤ (up -ℤ down); is = is; low = omega (arith, ints); high = omega (arith, ints) })
+
+  offset_in_range : (front : Front) (s t : State) (r : Reg) (kind : Kind) (range : Range) → InFront passed turns front s → FitsKind turns passed (register_in s.top) (register_number r) kind (register t r) → offset_range front r kind ≡ Some range → IsIn range (register t r)
+  offset_in_range front s t r kind range facts f e = option_and_then_some _ (offset_in r kind) range e (λ m em e1.
+      let span = unmapped (λ span. range_of front.length span m.1 (pos 0)) (get_or front.spans (register_number m.0) None) range e1 in
+      let h = offset_has turns passed (register_in s.top) r kind m (register t r) em f in
+      let there : h.offset +ℤ m.1 ≡ h.offset +ℤ (m.1 -ℤ pos 0) = omega (arith, ints) in
+      ranges front.length span.0 m.1 (pos 0) h.offset range (register t r) span.2 (facts.spans m.0 span.0 Context h.offset span.1 h.old_is) (h.new_is ∙ ap (λ z. Some (as_number z)) there))
+
+  -- what is added to an offset that is always the same
+  pub record Adds (kinds : List Kind) (r : Reg) (i : Insn) (offset : ℤ) : Type 0 where
+    pub dst : Reg
+    pub src : Reg
+    pub is : i ≡ Alu Add W64 dst (FromReg src)
+    pub same : register_number src ≡ register_number r
+    pub fixed : kind_of kinds dst ≡ Fixed offset
+
+  fixed_is : (kind : Kind) (offset : ℤ) → fixed_in kind ≡ Some offset → kind ≡ Fixed offset
+  fixed_is (Fixed o) offset e = ap Fixed (same_Some _ _ e)
+  fixed_is kind offset e = absurd (none-some _ e)
+
+  adds : (kinds : List Kind) (r : Reg) (i : Insn) (offset : ℤ) → added_to kinds r i ≡ Some offset → Adds kinds r i offset
+  adds kinds r (Alu Add W64 dst (FromReg src)) offset e =
+      let c = cond_first (register_number src == register_number r) (fixed_in (kind_of kinds dst)) offset e in
+      record { dst = dst; src = src; is = refl; same = eqb-true (register_number src) (register_number r) c.0; fixed = fixed_is (kind_of kinds dst) offset c.1 }
+  adds kinds r i offset e = absurd (none-some _ e)
+
+  added_in_range : (front : Front) (kinds : List Kind) (s t : State) (r : Reg) (range : Range) → InFront passed turns front s → Between ends notes turns passed (kind_in kinds) s t → IsKept (register s r) (register t r) → added_range front kinds r ≡ Some range → IsIn range (register t r)
+  added_in_range front kinds s t r range facts b kept e = option_and_then_some _ (added_to kinds r front.insn) range e (λ offset eo e1.
+      let a = adds kinds r front.insn offset eo in
+      let span = unmapped (λ span. range_of front.length span (pos 0) offset) front.behind range e1 in
+      let f : FitsKind turns passed (register_in s.top) (register_number a.dst) (Fixed offset) (register t a.dst) = subst (λ kind. FitsKind turns passed (register_in s.top) (register_number a.dst) kind (register t a.dst)) a.fixed (fits_at kinds s t a.dst b) in
+      let l = facts.sums a.dst a.src Context offset span.0 a.is span.1 f.1 in
+      let new_is : register t r ≡ Some (Number l.number) = kept (Number l.number) (ap (register_in s.top) (sym a.same) ∙ l.is) in
+      ranges front.length span.0 (pos 0) offset (wrapped (offset +ℤ pos l.number)) range (register t r) span.2 l.lies (new_is ∙ ap (λ n. Some (Number n)) (moved_back offset l.number l.fits)))
+
+  in_range : (front : Front) (kinds : List Kind) (s t : State) (r : Reg) (kind : Kind) (range : Range) → InFront passed turns front s → Between ends notes turns passed (kind_in kinds) s t → FitsKind turns passed (register_in s.top) (register_number r) kind (register t r)
+      → range_in front kinds r kind ≡ Some range → IsIn range (register t r)
+  in_range front kinds s t r Same range facts b f e = added_in_range front kinds s t r range facts b f e
+  in_range front kinds s t r Offset range facts b f e = offset_in_range front s t r Offset range facts f e
+  in_range front kinds s t r (Fixed offset) range facts b f e = offset_in_range front s t r (Fixed offset) range facts f e
+  in_range front kinds s t r (Moved of by) range facts b f e = offset_in_range front s t r (Moved of by) range facts f e
+  in_range front kinds s t r kind range facts b f e = absurd (none-some _ e)
+
+  most_goes : (order : Order) (front : Front) (dst : Reg) (imm off : ℤ) (kinds : List Kind) (s t : State) → InFront passed turns front s → Between ends notes turns passed (kind_in kinds) s t
+      → option_map_or (is_most imm) (range_in front kinds dst (kind_of kinds dst)) false ≡ true → Goes1 order (JumpIf Gt W64 dst (Imm imm) off) kinds s t
+  most_goes order front dst imm off kinds s t facts b e = by_range (range_in front kinds dst (kind_of kinds dst)) refl e
+    where
+      by_range : (o : Option Range) → range_in front kinds dst (kind_of kinds dst) ≡ o → option_map_or (is_most imm) o false ≡ true → Goes1 order (JumpIf Gt W64 dst (Imm imm) off) kinds s t
+      by_range None eo e = absurd (false≢true e)
+      by_range (Some range) eo e =
+          let h = in_range front kinds s t dst (kind_of kinds dst) range facts b (fits_at kinds s t dst b) eo in
+          jump_passes order (JumpIf Gt W64 dst (Imm imm) off) kinds s t b (guard_does order t dst imm off (modulo h.at addresses) h.is (most_is imm range (register t dst) h e))
+
+  least_goes : (order : Order) (front : Front) (dst : Reg) (imm off : ℤ) (kinds : List Kind) (s t : State) → InFront passed turns front s → Between ends notes turns passed (kind_in kinds) s t
+      → option_map_or (is_least imm) (range_in front kinds dst (kind_of kinds dst)) false ≡ true → Goes1 order (JumpIf Lt W64 dst (Imm imm) off) kinds s t
+  least_goes order front dst imm off kinds s t facts b e = by_range (range_in front kinds dst (kind_of kinds dst)) refl e
+    where
+      by_range : (o : Option Range) → range_in front kinds dst (kind_of kinds dst) ≡ o → option_map_or (is_least imm) o false ≡ true → Goes1 order (JumpIf Lt W64 dst (Imm imm) off) kinds s t
+      by_range None eo e = absurd (false≢true e)
+      by_range (Some range) eo e =
+          let h = in_range front kinds s t dst (kind_of kinds dst) range facts b (fits_at kinds s t dst b) eo in
+          jump_passes order (JumpIf Lt W64 dst (Imm imm) off) kinds s t b (low_does order t dst imm off (modulo h.at addresses) h.is (least_is imm range (register t dst) h e))
+
+  pub passes_goes : (order : Order) (front : Option Front) (i : Insn) (kinds : List Kind) (s t : State) → Facts passed turns front s → Between ends notes turns passed (kind_in kinds) s t → passes front kinds i ≡ true → Goes1 order i kinds s t
   passes_goes order (Some front) (JumpIf Eq W64 dst (Imm imm) off) kinds s t facts b e =
       let h = both_true (int_eq imm (pos 0)) (is_taken (Some front) (kind_of kinds dst)) e in
       let zero_is : imm ≡ pos 0 = (Decides-int_eq imm (pos 0)).0 h.0 in
@@ -353,47 +452,9 @@ module _ (notes : List (Option Place)) (turns : ℕ) (passed : ℕ → ℕ) wher
       let few = facts.few in
       let more : 0 < c.0 = omega arith in
       subst (λ imm. Goes1 order (JumpIf Eq W64 dst (Imm imm) off) kinds s t) (sym zero_is) (jump_passes order (JumpIf Eq W64 dst (Imm (pos 0)) off) kinds s t b (test_does order t dst off c.0 c.2 more))
-  passes_goes order (Some front) (JumpIf Gt W64 dst (Imm imm) off) kinds s t facts b e = guard_goes order front dst imm off kinds s t facts b e
+  passes_goes order (Some front) (JumpIf Gt W64 dst (Imm imm) off) kinds s t facts b e = most_goes order front dst imm off kinds s t facts b e
+  passes_goes order (Some front) (JumpIf Lt W64 dst (Imm imm) off) kinds s t facts b e = least_goes order front dst imm off kinds s t facts b e
   passes_goes order front i kinds s t facts b e = absurd (false≢true e)
-
-  -- ---- all of them
-
-  extra_goes : (order : Order) (front : Option Front) (i : Insn) (kinds made_kinds : List Kind) (s t : State) → Facts passed turns front s → Between notes turns passed (kind_in kinds) s t → extra front i kinds ≡ Some made_kinds → Goes1 order i made_kinds s t
-  extra_goes order front i kinds made_kinds s t facts b e = by_cases (passes front kinds i) refl e
-    where
-      by_cases : (c : Bool) → passes front kinds i ≡ c → (if c then Some kinds else option_map (λ (w : Reg × Kind). set kinds (register_number w.0) w.1) (made front kinds i)) ≡ Some made_kinds → Goes1 order i made_kinds s t
-      by_cases true ec e = subst (λ kinds. Goes1 order i kinds s t) (same_Some _ _ e) (passes_goes order front i kinds s t facts b ec)
-      by_cases false ec e =
-          let m = unmapped (λ (w : Reg × Kind). set kinds (register_number w.0) w.1) (made front kinds i) made_kinds e in
-          option_and_then_some _ (put_by front kinds i) m.0 m.1 (λ w ew ec.
-          let c = free_is (register_number w.0 == 10) w m.0 ec in
-          put_goes order front i kinds made_kinds w s t facts b ew c.0 (subst (λ (w : Reg × Kind). set kinds (register_number w.0) w.1 ≡ made_kinds) (sym c.1) m.2))
-
-  -- the new machine has come to a slot
-  pub record Reached (new : Instructions) (made_kinds : List Kind) (slot : ℕ) (s t : State) : Type 0 where
-    pub count : ℕ
-    pub state : State
-    pub steps : Steps new count t state
-    pub at : state.top.slot ≡ slot
-    pub between : Between notes turns passed (kind_in made_kinds) s state
-
-  behind_goes : (new : Instructions) (front : Option Front) (slot n : ℕ) (kinds made_kinds : List Kind) (s t : State) → Facts passed turns front s → Between notes turns passed (kind_in kinds) s t → t.top.slot ≡ slot → behind new front slot n kinds ≡ Some made_kinds → Reached new made_kinds (slot + n) s t
-  behind_goes new front slot zero kinds made_kinds s t facts b at e =
-      record { count = 0; state = t; steps = refl; at = at ∙ omega arith; between = subst (λ kinds. Between notes turns passed (kind_in kinds) s t) (same_Some _ _ e) b }
-  behind_goes new front slot (suc n) kinds made_kinds s t facts b at e = option_and_then_some (extra_at new front (slot + n)) (behind new front slot n kinds) made_kinds e (λ mid em e1. option_and_then_some _ (insn_at new.list (slot + n)) made_kinds e1 (λ i ei ex.
-      let h = behind_goes new front slot n kinds mid s t facts b at em in
-      let g = extra_goes new.order front i mid made_kinds s h.state facts h.between ex in
-      record { count = suc h.count; state = g.state; steps = (h.state, h.steps, new_step new h.state g.state i (slot + n) h.at ei g.is); at = g.at ∙ ap (λ n. n + 1) h.at ∙ omega arith; between = g.between }))
-
-  pub extras_go : (new : Instructions) (front : Option Front) (from to : ℕ) (kinds made_kinds : List Kind) (s t : State) → Facts passed turns front s → Between notes turns passed (kind_in kinds) s t → t.top.slot ≡ from → extras new front from to kinds ≡ Some made_kinds → Reached new made_kinds to s t
-  extras_go new front from to kinds made_kinds s t facts b at e = by_cases (nat_le from to && nat_le (to - from) most_extras) refl e
-    where
-      by_cases : (c : Bool) → (nat_le from to && nat_le (to - from) most_extras) ≡ c → (if c then behind new front from (to - from) kinds else None) ≡ Some made_kinds → Reached new made_kinds to s t
-      by_cases true ec e =
-          let up : from ≤ to = leb-true from to (both_true (nat_le from to) (nat_le (to - from) most_extras) ec).0 in
-          let there : from + (to - from) ≡ to = omega arith in
-          subst (λ slot. Reached new made_kinds slot s t) there (behind_goes new front from (to - from) kinds made_kinds s t facts b at e)
-      by_cases false ec e = absurd (none-some _ e)
 
 -- ---- the instruction's own turn
 
@@ -406,6 +467,7 @@ own_counted passed slot = ap (λ b. passed slot + cond b 1 0) (same_eqb slot)
 
 kind_more : (turns : ℕ) (passed more : ℕ → ℕ) (old : ℕ → Option Value) (r : ℕ) (kind : Kind) (new : Option Value) → ((h : ℕ) → passed h ≤ more h) → FitsKind turns passed old r kind new → FitsKind turns more old r kind new
 kind_more turns passed more old r Nothing new le f = tt
+kind_more turns passed more old r Unset new le f = f
 kind_more turns passed more old r Same new le f = f
 kind_more turns passed more old r NumberKind new le f = f
 kind_more turns passed more old r Offset new le f = f
@@ -418,20 +480,37 @@ kind_more turns passed more old r (Constant value) new le f = f
 kind_more turns passed more old r (Counter head) new le f = let grows = le head in (f.0, f.1, f.2, omega arith)
 kind_more turns passed more old r (Turn head) new le f = let grows = le head in (f.0, f.1, f.2, omega arith)
 
-fits_more : (turns : ℕ) (passed more : ℕ → ℕ) (old new : StackFrame) (kinds : ℕ → Kind) → ((h : ℕ) → passed h ≤ more h) → FrameFits turns passed kinds old new → FrameFits turns more kinds old new
-fits_more turns passed more old new kinds le f = record { eleven_old = f.eleven_old; eleven = f.eleven; registers = λ r lt. kind_more turns passed more (register_in old) r (kinds r) _ le (f.registers r lt); stack = f.stack }
+slot_more : (ends : Order) (turns : ℕ) (passed more : ℕ → ℕ) (registers : ℕ → Option Value) (xs ys : Cells) (k : ℕ) (kind : Kind) → ((h : ℕ) → passed h ≤ more h) → FitsSlot ends turns passed registers xs ys k kind → FitsSlot ends turns more registers xs ys k kind
+slot_more ends turns passed more registers xs ys k Nothing le f = f
+slot_more ends turns passed more registers xs ys k Unset le f = f
+slot_more ends turns passed more registers xs ys k Same le f = f
+slot_more ends turns passed more registers xs ys k NumberKind le f = f
+slot_more ends turns passed more registers xs ys k Offset le f = f
+slot_more ends turns passed more registers xs ys k (Fixed offset) le f = f
+slot_more ends turns passed more registers xs ys k Start le f = f
+slot_more ends turns passed more registers xs ys k Base le f = record { unset = f.unset; value = f.value; holds = f.holds; fits = kind_more turns passed more registers (11 + k) Base (Some f.value) le f.fits }
+slot_more ends turns passed more registers xs ys k (Moved of by) le f = record { unset = f.unset; value = f.value; holds = f.holds; fits = kind_more turns passed more registers (11 + k) (Moved of by) (Some f.value) le f.fits }
+slot_more ends turns passed more registers xs ys k (Address of by) le f = record { unset = f.unset; value = f.value; holds = f.holds; fits = kind_more turns passed more registers (11 + k) (Address of by) (Some f.value) le f.fits }
+slot_more ends turns passed more registers xs ys k (Constant value) le f = record { unset = f.unset; value = f.value; holds = f.holds; fits = kind_more turns passed more registers (11 + k) (Constant value) (Some f.value) le f.fits }
+slot_more ends turns passed more registers xs ys k (Counter head) le f = record { unset = f.unset; value = f.value; holds = f.holds; fits = kind_more turns passed more registers (11 + k) (Counter head) (Some f.value) le f.fits }
+slot_more ends turns passed more registers xs ys k (Turn head) le f = record { unset = f.unset; value = f.value; holds = f.holds; fits = kind_more turns passed more registers (11 + k) (Turn head) (Some f.value) le f.fits }
 
-waits_more : (notes : List (Option Place)) (turns : ℕ) (passed more : ℕ → ℕ) (a b : StackFrame) → ((h : ℕ) → passed h ≤ more h) → FrameWaits notes turns passed a b → FrameWaits notes turns more a b
-waits_more notes turns passed more a b le w = record {
-  follows = record { place = w.follows.place; noted = w.follows.noted; slot_is = w.follows.slot_is; fits = fits_more turns passed more a b _ le w.follows.fits };
+fits_more : (ends : Order) (turns : ℕ) (passed more : ℕ → ℕ) (old new : StackFrame) (kinds : ℕ → Kind) → ((h : ℕ) → passed h ≤ more h) → FrameFits ends turns passed kinds old new → FrameFits ends turns more kinds old new
+fits_more ends turns passed more old new kinds le f = record { eleven_old = f.eleven_old; eleven = f.eleven; registers = λ r lt. kind_more turns passed more (register_in old) r (kinds r) _ le (f.registers r lt); long = f.long; stack = f.stack; slots = λ k lt. slot_more ends turns passed more (register_in old) old.stack new.stack k (kinds (11 + k)) le (f.slots k lt) }
+
+waits_more : (ends : Order) (notes : List (Option Place)) (turns : ℕ) (passed more : ℕ → ℕ) (a b : StackFrame) → ((h : ℕ) → passed h ≤ more h) → FrameWaits ends notes turns passed a b → FrameWaits ends notes turns more a b
+waits_more ends notes turns passed more a b le w = record {
+  follows = record { place = w.follows.place; noted = w.follows.noted; slot_is = w.follows.slot_is; fits = fits_more ends turns passed more a b _ le w.follows.fits };
   result = w.result;
   own = w.own;
+  kept = w.kept;
+  slots = w.slots;
 }
 
-pub between_more : (notes : List (Option Place)) (turns : ℕ) (passed more : ℕ → ℕ) (kinds : ℕ → Kind) (s t : State) → ((h : ℕ) → passed h ≤ more h) → Between notes turns passed kinds s t → Between notes turns more kinds s t
-between_more notes turns passed more kinds s t le b = record {
-  top = fits_more turns passed more s.top t.top kinds le b.top;
-  waiting = pairs_weaker (FrameWaits notes turns passed) (FrameWaits notes turns more) (λ a b. waits_more notes turns passed more a b le) s.waiting t.waiting b.waiting;
+pub between_more : (ends : Order) (notes : List (Option Place)) (turns : ℕ) (passed more : ℕ → ℕ) (kinds : ℕ → Kind) (s t : State) → ((h : ℕ) → passed h ≤ more h) → Between ends notes turns passed kinds s t → Between ends notes turns more kinds s t
+between_more ends notes turns passed more kinds s t le b = record {
+  top = fits_more ends turns passed more s.top t.top kinds le b.top;
+  waiting = pairs_weaker (FrameWaits ends notes turns passed) (FrameWaits ends notes turns more) (λ a b. waits_more ends notes turns passed more a b le) s.waiting t.waiting b.waiting;
   context_is = b.context_is;
 }
 
@@ -445,6 +524,7 @@ kind_settled turns passed slot old r (Turn head) new f = by_cases (cases_Bool (h
         subst (λ b. FitsKind turns (counted passed slot) old r (if b then Counter head else Turn head) new) (sym e) (f.0, f.1, f.2, subst (λ n. turns ≤ f.0 + n) (sym own) f.3)
     by_cases (inr e) = subst (λ b. FitsKind turns (counted passed slot) old r (if b then Counter head else Turn head) new) (sym e) (f.0, f.1, f.2, omega arith)
 kind_settled turns passed slot old r Nothing new f = tt
+kind_settled turns passed slot old r Unset new f = f
 kind_settled turns passed slot old r Same new f = f
 kind_settled turns passed slot old r NumberKind new f = f
 kind_settled turns passed slot old r Offset new f = f
@@ -456,11 +536,30 @@ kind_settled turns passed slot old r (Address of by) new f = f
 kind_settled turns passed slot old r (Constant value) new f = f
 kind_settled turns passed slot old r (Counter head) new f = (f.0, f.1, f.2, omega arith)
 
-pub settles : (notes : List (Option Place)) (turns : ℕ) (passed : ℕ → ℕ) (slot : ℕ) (kinds : List Kind) (s t : State) → Between notes turns passed (kind_in kinds) s t → Between notes turns (counted passed slot) (known slot kinds) s t
-settles notes turns passed slot kinds s t b =
-    let more = between_more notes turns passed (counted passed slot) (kind_in kinds) s t (λ h. omega arith) b in
+slot_settled : (ends : Order) (turns : ℕ) (passed : ℕ → ℕ) (slot : ℕ) (registers : ℕ → Option Value) (xs ys : Cells) (k : ℕ) (kind : Kind) → FitsSlot ends turns passed registers xs ys k kind → FitsSlot ends turns (counted passed slot) registers xs ys k (settled slot kind)
+slot_settled ends turns passed slot registers xs ys k (Turn head) f = by_cases (head == slot) (kind_settled turns passed slot registers (11 + k) (Turn head) (Some f.value) f.fits)
+  where
+    by_cases : (b : Bool) → FitsKind turns (counted passed slot) registers (11 + k) (if b then Counter head else Turn head) (Some f.value) → FitsSlot ends turns (counted passed slot) registers xs ys k (if b then Counter head else Turn head)
+    by_cases true g = record { unset = f.unset; value = f.value; holds = f.holds; fits = g }
+    by_cases false g = record { unset = f.unset; value = f.value; holds = f.holds; fits = g }
+slot_settled ends turns passed slot registers xs ys k Nothing f = f
+slot_settled ends turns passed slot registers xs ys k Unset f = f
+slot_settled ends turns passed slot registers xs ys k Same f = f
+slot_settled ends turns passed slot registers xs ys k NumberKind f = f
+slot_settled ends turns passed slot registers xs ys k Offset f = f
+slot_settled ends turns passed slot registers xs ys k (Fixed offset) f = f
+slot_settled ends turns passed slot registers xs ys k Start f = f
+slot_settled ends turns passed slot registers xs ys k Base f = record { unset = f.unset; value = f.value; holds = f.holds; fits = kind_settled turns passed slot registers (11 + k) Base (Some f.value) f.fits }
+slot_settled ends turns passed slot registers xs ys k (Moved of by) f = record { unset = f.unset; value = f.value; holds = f.holds; fits = kind_settled turns passed slot registers (11 + k) (Moved of by) (Some f.value) f.fits }
+slot_settled ends turns passed slot registers xs ys k (Address of by) f = record { unset = f.unset; value = f.value; holds = f.holds; fits = kind_settled turns passed slot registers (11 + k) (Address of by) (Some f.value) f.fits }
+slot_settled ends turns passed slot registers xs ys k (Constant value) f = record { unset = f.unset; value = f.value; holds = f.holds; fits = kind_settled turns passed slot registers (11 + k) (Constant value) (Some f.value) f.fits }
+slot_settled ends turns passed slot registers xs ys k (Counter head) f = record { unset = f.unset; value = f.value; holds = f.holds; fits = kind_settled turns passed slot registers (11 + k) (Counter head) (Some f.value) f.fits }
+
+pub settles : (ends : Order) (notes : List (Option Place)) (turns : ℕ) (passed : ℕ → ℕ) (slot : ℕ) (kinds : List Kind) (s t : State) → Between ends notes turns passed (kind_in kinds) s t → Between ends notes turns (counted passed slot) (known slot kinds) s t
+settles ends notes turns passed slot kinds s t b =
+    let more = between_more ends notes turns passed (counted passed slot) (kind_in kinds) s t (λ h. omega arith) b in
     record {
-      top = record { eleven_old = b.top.eleven_old; eleven = b.top.eleven; registers = λ r lt. kind_settled turns passed slot (register_in s.top) r (kind_in kinds r) _ (b.top.registers r lt); stack = b.top.stack };
+      top = record { eleven_old = b.top.eleven_old; eleven = b.top.eleven; registers = λ r lt. kind_settled turns passed slot (register_in s.top) r (kind_in kinds r) _ (b.top.registers r lt); long = b.top.long; stack = b.top.stack; slots = λ k lt. slot_settled ends turns passed slot (register_in s.top) s.top.stack t.top.stack k (kind_in kinds (11 + k)) (b.top.slots k lt) };
       waiting = more.waiting;
       context_is = b.context_is;
     }

@@ -1,23 +1,24 @@
 -- The instruction itself, calls and ends aside: where the old machine does it, the new one does it, and goes where the notes say.
-use Rattle.std.proofs.Common.{◌≡◌, ℕ, ◌+◌, ◌<◌, inl, inr, ◌==◌, Bool, true, false, cond, List, Option, Some, None, refl, sym, ap, ◌∙◌, subst, arith}
-use Rattle.std.specs.Prelude.{ℤ, pos, ◌+ℤ◌, ◌&&◌, option_and_then, if◌then◌else◌}
+use Rattle.std.proofs.Common.{◌≡◌, ℕ, ◌+◌, ◌*◌, ◌/◌, ◌%◌, ◌<◌, ◌≤◌, ◌⊎◌, inl, inr, ◌==◌, Bool, true, false, cond, List, Option, Some, None, length, get_or, refl, sym, ap, ap₂, ◌∙◌, subst, arith}
+use Rattle.std.specs.Prelude.{ℤ, pos, ◌+ℤ◌, not, ◌&&◌, ◌||◌, nat_le, option_and_then, if◌then◌else◌}
 use Rattle.std.specs.Ordering.{int_eq}
 use Rattle.std.specs.Option.{option_map_or}
 use Rattle.std.specs.List.{AllByRecursion}
 use Rattle.std.proofs.lemmas.Option.{none-some, same_Some, option_and_then_some}
-use Rattle.std.proofs.lemmas.Bool.{false≢true, eqb-true, leb-true}
+use Rattle.std.proofs.lemmas.Bool.{false≢true, eqb-true, leb-true, cases_Bool, or_right}
 use Rattle.std.proofs.lemmas.Bool.Decides.{Decides-int_eq}
 use Rattle.std.proofs.lemmas.Int.{ints}
 use Rattle.bpf_insn.specs.Arithmetic.{alu, extended, sign_extend, swapped}
-use Rattle.bpf_insn.specs.Effects.{registers_read, operand_register, atomic_registers, fetch_register}
+use Rattle.bpf_insn.specs.Effects.{Access, access_of, register_written, registers_read, operand_register, atomic_registers, fetch_register}
 use Rattle.bpf_insn.specs.Instruction.{register_number, byte_count, word_size, slot_count, distance, target, goes_on}
 use Rattle.bpf_insn.specs.declared.order.Order.{Order}
 use Rattle.bpf_insn.specs.declared.instruction.Reg.{Reg}
-use Rattle.bpf_insn.specs.declared.instruction.Reg.TheVariants.{R0, R1, R2, R3, R4, R5, R6, R7, R8, R9, R10}
+use Rattle.bpf_insn.specs.declared.instruction.Reg.TheVariants.{R0}
 use Rattle.bpf_insn.specs.declared.instruction.Operand.{Operand}
 use Rattle.bpf_insn.specs.declared.instruction.Operand.TheVariants.{Imm, Reg as FromReg}
 use Rattle.bpf_insn.specs.declared.instruction.Width.{Width}
 use Rattle.bpf_insn.specs.declared.instruction.Size.{Size}
+use Rattle.bpf_insn.specs.declared.instruction.Size.TheVariants.{B, H, W, DW}
 use Rattle.bpf_insn.specs.declared.instruction.Cond.{Cond}
 use Rattle.bpf_insn.specs.declared.instruction.AluOp.{AluOp}
 use Rattle.bpf_insn.specs.declared.instruction.AluOp.TheVariants.{Sub, Mov}
@@ -25,33 +26,26 @@ use Rattle.bpf_insn.specs.declared.instruction.AtomicOp.{AtomicOp}
 use Rattle.bpf_insn.specs.declared.instruction.AtomicOp.TheVariants.{Modify as Changes, Xchg, CmpXchg}
 use Rattle.bpf_insn.specs.declared.instruction.Insn.{Insn}
 use Rattle.bpf_insn.specs.declared.instruction.Insn.TheVariants.{Alu, Neg, MovSx, End, LoadImm64, Load, LoadSx, Store, StoreImm, Atomic, Ja, JaLong, JumpIf, CallLocal, Exit}
-use Rattle.bpf_semantics.specs.State.{StackFrame, State, register, number_in, number_of_register, put, at_slot}
-use Rattle.bpf_semantics.specs.Memory.Location.{InContext, InFrame}
-use Rattle.bpf_semantics.specs.Memory.{Location, location_of, number_at, store_number}
+use Rattle.bpf_semantics.specs.State.{Cell, StackFrame, State, depth, register, number_in, number_of_register, put, at_slot}
+use Rattle.bpf_semantics.specs.Memory.Location.{InFrame}
+use Rattle.bpf_semantics.specs.Memory.{Location, location_of, is_within, number_at, stack_of, part_after, with_parts, store_number, store_pointer}
 use Rattle.bpf_semantics.specs.Step.{does, next, operand, alu_result, test_of_values, load, load_extended, store, atomic_result, fetched, jump}
 use Rattle.bpf_semantics.specs.declared.value.Value.{Value}
-use Rattle.bpf_semantics.specs.declared.value.Value.TheVariants.{Number}
+use Rattle.bpf_semantics.specs.declared.value.Value.TheVariants.{Number, Pointer}
+use Rattle.bpf_semantics.specs.declared.value.Region.{Region}
 use Rattle.bpf_follows.specs.declared.notes.Kind.{Kind}
-use Rattle.bpf_follows.specs.declared.notes.Kind.TheVariants.{Same, Offset, Fixed, Start, Base, Moved, Constant, Counter}
+use Rattle.bpf_follows.specs.declared.notes.Kind.TheVariants.{Unset, Same, Offset, Fixed, Start, Base, Moved, Constant, Counter}
 use Rattle.bpf_follows.specs.declared.notes.Place.{Place}
-use Rattle.bpf_follows.specs.Relation.{Kinds, Gives, weaker, kinds_of, place_at, IsKept, HasOffset, as_number, register_in, is_of_other, FitsKind, FrameFits, Follows}
-use Rattle.bpf_follows.specs.Matching.{is_same, is_changed, kinds_after, Arrives, undirected, led}
-use Rattle.bpf_follows.proofs.Lists.{bind, mapped, unmapped, same_is_kept}
+use Rattle.bpf_follows.specs.Relation.{Kinds, places, Gives, weaker, is_free, kinds_of, place_at, IsKept, HasOffset, as_number, register_in, is_of_other, IsRead, EachPair, FitsKind, FitsSlot, FrameFits, Follows}
+use Rattle.bpf_follows.specs.Extras.{is_same, is_r10, slot_of}
+use Rattle.bpf_follows.specs.Matching.{is_call, is_changed, is_plain, is_whole, is_far, whole_slot, IsTame, kinds_after, Arrives, undirected, led}
+use Rattle.bpf_follows.proofs.Lists.{bind, mapped, unmapped, cond_first, same_is_kept, as_long, Cells}
 use Rattle.bpf_semantics.proofs.NumberLemmas.{modulo_below}
-use Rattle.bpf_follows.proofs.Between.{Between, Goes, goes_held, same_depth, stands_at, goes_as, put_kept, location_same, IsLive, live_location, number_kept, load_kept, load_extended_kept, number_stored, store_kept}
-
-pub register_below : (r : Reg) → register_number r < 11
-register_below R0 = omega arith
-register_below R1 = omega arith
-register_below R2 = omega arith
-register_below R3 = omega arith
-register_below R4 = omega arith
-register_below R5 = omega arith
-register_below R6 = omega arith
-register_below R7 = omega arith
-register_below R8 = omega arith
-register_below R9 = omega arith
-register_below R10 = omega arith
+use Rattle.bpf_follows.proofs.Owns.{Owns, live_location, live_next}
+use Rattle.bpf_follows.proofs.Slots.{register_below, unset_kept, free_unset, plain_kept, parts_put, parts_read, each_read}
+use Rattle.bpf_follows.proofs.Frames.{SlotsAre, InSome, no_slots}
+use Rattle.bpf_follows.proofs.Between.{is_double, Between, Goes, goes_held, goes_alike, same_depth, stands_at, goes_as, put_kept, location_same, number_kept, PointersKept, pointers_kept, pointer_at_kept, own_stack, own_stack_of, load_kept, load_extended_kept, number_stored, store_kept, number_near, value_near}
+use Rattle.bpf_follows.proofs.Near.{near, slot_here, stored, stored_are, after_stored, changed_low, in_all, in_some, in_one}
 
 -- ---- an instruction with another distance
 
@@ -110,39 +104,67 @@ is_flow (CallLocal off) = true
 is_flow Exit = true
 is_flow i = false
 
-module _ (notes : List (Option Place)) (turns : ℕ) (passed : ℕ → ℕ) where
+module _ (ends : Order) (notes : List (Option Place)) (turns : ℕ) (passed : ℕ → ℕ) where
   -- ---- arrivals
 
   -- what is made of the new state follows the old one's successor
   pub record Arrived (u : State) (o : Option State) : Type 0 where
     pub state : State
     pub is : o ≡ Some state
-    pub follows : Follows notes turns passed u state
+    pub follows : Follows ends notes turns passed u state
 
-  kind_weaker : (old : ℕ → Option Value) (r : ℕ) (have want : Kind) (new : Option Value) → weaker turns r have want ≡ true → FitsKind turns passed old r have new → FitsKind turns passed old r want new
-  kind_weaker old r (Fixed offset) Offset new e f = record { offset = offset; fits = f.0; old_is = f.1; new_is = f.2 ∙ ap (λ z. Some (as_number z)) (plus_zero offset) }
-  kind_weaker old r Start Same new e f = λ v ev. f.1 ∙ (sym f.0 ∙ ev)
-  kind_weaker old r Start Base new e f = f.1
-  kind_weaker old r (Moved of by) Offset new e f =
+  not_slot : {A : Type 0} (r : ℕ) (have : Kind) → r < 11 → (nat_le 11 r && is_free have) ≡ true → A
+  not_slot r have lt e = let more = leb-true 11 r (both_true (nat_le 11 r) (is_free have) e).0 in absurd (omega arith)
+
+  kind_weaker : (old : ℕ → Option Value) (r : ℕ) (have want : Kind) (new : Option Value) → r < 11 → weaker turns r have want ≡ true → FitsKind turns passed old r have new → FitsKind turns passed old r want new
+  kind_weaker old r (Fixed offset) Offset new lt e f = record { offset = offset; fits = f.0; old_is = f.1; new_is = f.2 ∙ ap (λ z. Some (as_number z)) (plus_zero offset) }
+  kind_weaker old r Start Same new lt e f = λ v ev. f.1 ∙ (sym f.0 ∙ ev)
+  kind_weaker old r Start Base new lt e f = f.1
+  kind_weaker old r (Moved of by) Offset new lt e f =
       let h = both_true (register_number of == r) (int_eq by (pos 0)) e in
       subst (λ q. HasOffset (pos 0) as_number (old q) new) (eqb-true (register_number of) r h.0) (subst (λ by. HasOffset by as_number (old (register_number of)) new) ((Decides-int_eq by (pos 0)).0 h.1) f)
-  kind_weaker old r (Constant value) (Counter head) new e f = let enough = leb-true turns (extended value) e in (extended value, modulo_below value, f, omega arith)
-  kind_weaker old r have want new e f = absurd (false≢true e)
+  kind_weaker old r (Constant value) (Counter head) new lt e f = let enough = leb-true turns (extended value) e in (extended value, modulo_below value, f, omega arith)
+  kind_weaker old r have Same new lt e f = not_slot r have lt e
+  kind_weaker old r have Unset new lt e f = not_slot r have lt e
+  kind_weaker old r have want new lt e f = absurd (false≢true e)
 
-  pub kind_given : (old : ℕ → Option Value) (r : ℕ) (have want : Kind) (new : Option Value) → Gives turns r have want → FitsKind turns passed old r have new → FitsKind turns passed old r want new
-  kind_given old r have want new (inl e) f = subst (λ kind. FitsKind turns passed old r kind new) (sym e) tt
-  kind_given old r have want new (inr (inl e)) f = subst (λ kind. FitsKind turns passed old r kind new) (sym e) f
-  kind_given old r have want new (inr (inr e)) f = kind_weaker old r have want new e f
+  slot_weaker : (registers : ℕ → Option Value) (xs ys : List (Option Cell)) (k : ℕ) (have want : Kind) → weaker turns (11 + k) have want ≡ true → FitsSlot ends turns passed registers xs ys k have → FitsSlot ends turns passed registers xs ys k want
+  slot_weaker registers xs ys k (Fixed offset) Offset e f = absurd f
+  slot_weaker registers xs ys k Start Same e f = absurd f
+  slot_weaker registers xs ys k Start Base e f = absurd f
+  slot_weaker registers xs ys k (Moved of by) Offset e f =
+      let h = both_true (register_number of == 11 + k) (int_eq by (pos 0)) e in
+      let same : register_number of ≡ 11 + k = eqb-true (register_number of) (11 + k) h.0 in
+      let below = register_below of in
+      absurd (omega arith)
+  slot_weaker registers xs ys k (Constant value) (Counter head) e f =
+      let enough = leb-true turns (extended value) e in
+      record { unset = f.unset; value = f.value; holds = f.holds; fits = (extended value, modulo_below value, f.fits, omega arith) }
+  slot_weaker registers xs ys k have Same e f = unset_kept xs ys k (free_unset ends turns passed registers xs ys k have (both_true (nat_le 11 (11 + k)) (is_free have) e).1 f)
+  slot_weaker registers xs ys k have Unset e f = free_unset ends turns passed registers xs ys k have (both_true (nat_le 11 (11 + k)) (is_free have) e).1 f
+  slot_weaker registers xs ys k have want e f = absurd (false≢true e)
 
-  pub fits_given : (have want : Kinds) (old new : StackFrame) → ((r : ℕ) → r < 11 → Gives turns r (have r) (want r)) → FrameFits turns passed have old new → FrameFits turns passed want old new
+  pub kind_given : (old : ℕ → Option Value) (r : ℕ) (have want : Kind) (new : Option Value) → r < 11 → Gives turns r have want → FitsKind turns passed old r have new → FitsKind turns passed old r want new
+  kind_given old r have want new lt (inl e) f = subst (λ kind. FitsKind turns passed old r kind new) (sym e) tt
+  kind_given old r have want new lt (inr (inl e)) f = subst (λ kind. FitsKind turns passed old r kind new) (sym e) f
+  kind_given old r have want new lt (inr (inr e)) f = kind_weaker old r have want new lt e f
+
+  slot_given : (registers : ℕ → Option Value) (xs ys : List (Option Cell)) (k : ℕ) (have want : Kind) → Gives turns (11 + k) have want → FitsSlot ends turns passed registers xs ys k have → FitsSlot ends turns passed registers xs ys k want
+  slot_given registers xs ys k have want (inl e) f = subst (λ kind. FitsSlot ends turns passed registers xs ys k kind) (sym e) tt
+  slot_given registers xs ys k have want (inr (inl e)) f = subst (λ kind. FitsSlot ends turns passed registers xs ys k kind) (sym e) f
+  slot_given registers xs ys k have want (inr (inr e)) f = slot_weaker registers xs ys k have want e f
+
+  pub fits_given : (have want : Kinds) (old new : StackFrame) → ((r : ℕ) → r < places → Gives turns r (have r) (want r)) → FrameFits ends turns passed have old new → FrameFits ends turns passed want old new
   fits_given have want old new gives f = record {
     eleven_old = f.eleven_old;
     eleven = f.eleven;
-    registers = λ r lt. kind_given (register_in old) r (have r) (want r) _ (gives r lt) (f.registers r lt);
+    registers = λ r lt. kind_given (register_in old) r (have r) (want r) _ lt (gives r (omega arith)) (f.registers r lt);
+    long = f.long;
     stack = f.stack;
+    slots = λ k lt. slot_given (register_in old) old.stack new.stack k (have (11 + k)) (want (11 + k)) (gives (11 + k) (omega arith)) (f.slots k lt);
   }
 
-  pub arrived : (kinds : Kinds) (x y : ℕ) (u : State) (o : Option State) → Goes notes turns passed kinds x y u o → Arrives notes turns x y kinds → Arrived u o
+  pub arrived : (kinds : Kinds) (x y : ℕ) (u : State) (o : Option State) → Goes ends notes turns passed kinds x y u o → Arrives notes turns x y kinds → Arrived u o
   arrived kinds x y u o g a = record {
     state = g.state;
     is = g.is;
@@ -168,13 +190,13 @@ module _ (notes : List (Option Place)) (turns : ℕ) (passed : ℕ → ℕ) wher
   same_kept old r Start new e f = λ v ev. f.1 ∙ (sym f.0 ∙ ev)
   same_kept old r kind new e f = absurd (false≢true e)
 
-  pub register_kept : (kinds : Kinds) (s t : State) (r : Reg) → Between notes turns passed kinds s t → is_same (kinds (register_number r)) ≡ true → IsKept (register s r) (register t r)
+  pub register_kept : (kinds : Kinds) (s t : State) (r : Reg) → Between ends notes turns passed kinds s t → is_same (kinds (register_number r)) ≡ true → IsKept (register s r) (register t r)
   register_kept kinds s t r h e = same_kept (register_in s.top) (register_number r) (kinds (register_number r)) (register t r) e (h.top.registers (register_number r) (register_below r))
 
-  pub number_same : (kinds : Kinds) (s t : State) (r : Reg) → Between notes turns passed kinds s t → is_same (kinds (register_number r)) ≡ true → IsKept (number_of_register s r) (number_of_register t r)
+  pub number_same : (kinds : Kinds) (s t : State) (r : Reg) → Between ends notes turns passed kinds s t → is_same (kinds (register_number r)) ≡ true → IsKept (number_of_register s r) (number_of_register t r)
   number_same kinds s t r h same x e = option_and_then_some number_in (register s r) x e (λ v ev en. bind number_in (register t r) v (Some x) (register_kept kinds s t r h same v ev) en)
 
-  operand_kept : (kinds : Kinds) (s t : State) (src : Operand) → Between notes turns passed kinds s t → AllSame kinds (operand_register src) → IsKept (operand s src) (operand t src)
+  operand_kept : (kinds : Kinds) (s t : State) (src : Operand) → Between ends notes turns passed kinds s t → AllSame kinds (operand_register src) → IsKept (operand s src) (operand t src)
   operand_kept kinds s t (Imm imm) h same = same_is_kept _
   operand_kept kinds s t (FromReg r) h same = register_kept kinds s t r h same.0
 
@@ -184,109 +206,226 @@ module _ (notes : List (Option Place)) (turns : ℕ) (passed : ℕ → ℕ) wher
   Writes i r = (q : ℕ) → is_changed i q ≡ (q == register_number r)
 
   pub put_as : (kinds : Kinds) (s t u : State) (i : Insn) (kind : Kind) (r : Reg) (v x : Value) → Writes i r → is_of_other kind ≡ false → FitsKind turns passed (λ q. Some v) 0 kind (Some x)
-      → Between notes turns passed kinds s t → put r v (next i s) ≡ Some u → Goes notes turns passed (kinds_after i kind kinds) (s.top.slot + slot_count i) (t.top.slot + slot_count i) u (put r x (next i t))
-  put_as kinds s t u i kind r v x writes own fit h e = put_kept notes turns passed i kind kinds (next i s) (next i t) u r v x writes own fit (stands_at notes turns passed kinds s t _ _ h) e
+      → Between ends notes turns passed kinds s t → put r v (next i s) ≡ Some u → Goes ends notes turns passed (kinds_after i kind kinds) (s.top.slot + slot_count i) (t.top.slot + slot_count i) u (put r x (next i t))
+  put_as kinds s t u i kind r v x writes own fit h e = put_kept ends notes turns passed i kind kinds (next i s) (next i t) u r v x (λ q lt. writes q) (no_slots i (register_number r) kind kinds (register_below r) writes) own fit (stands_at ends notes turns passed kinds s t _ _ h) e
 
-  put_next : (kinds : Kinds) (s t u : State) (i : Insn) (r : Reg) (v : Value) → Writes i r → Between notes turns passed kinds s t → put r v (next i s) ≡ Some u
-      → Goes notes turns passed (kinds_after i Same kinds) (s.top.slot + slot_count i) (t.top.slot + slot_count i) u (put r v (next i t))
+  put_next : (kinds : Kinds) (s t u : State) (i : Insn) (r : Reg) (v : Value) → Writes i r → Between ends notes turns passed kinds s t → put r v (next i s) ≡ Some u
+      → Goes ends notes turns passed (kinds_after i Same kinds) (s.top.slot + slot_count i) (t.top.slot + slot_count i) u (put r v (next i t))
   put_next kinds s t u i r v writes h e = put_as kinds s t u i Same r v v writes refl (same_is_kept (Some v)) h e
 
-  location_kept : (kinds : Kinds) (s t : State) (k : ℕ) (off : ℤ) (base : Value) (at : Location) → Between notes turns passed kinds s t → location_of s k off base ≡ Some at → location_of t k off base ≡ Some at
-  location_kept kinds s t k off base at h e = location_same notes turns passed s t k off base (same_depth notes turns passed kinds s t h) h.context_is ∙ e
+  location_kept : (kinds : Kinds) (s t : State) (k : ℕ) (off : ℤ) (base : Value) (at : Location) → Between ends notes turns passed kinds s t → location_of s k off base ≡ Some at → location_of t k off base ≡ Some at
+  location_kept kinds s t k off base at h e = location_same ends notes turns passed s t k off base (same_depth ends notes turns passed kinds s t h) h.context_is ∙ e
 
-  fetched_kept : (i : Insn) (kinds : Kinds) (s t u : State) (o : Option Reg) (old : ℕ) → ((q : ℕ) → is_changed i q ≡ option_map_or (λ w. q == register_number w) o false) → Between notes turns passed kinds s t → fetched o old s ≡ Some u
-      → Goes notes turns passed (kinds_after i Same kinds) s.top.slot t.top.slot u (fetched o old t)
-  fetched_kept i kinds s t u None old writes h e =
-      goes_held notes turns passed i Same kinds _ _ u _ writes (subst (λ u. Goes notes turns passed kinds s.top.slot t.top.slot u (Some t)) (same_Some _ _ e) (record { state = t; is = refl; between = h; old_slot = refl; new_slot = refl }))
-  fetched_kept i kinds s t u (Some r) old writes h e = put_kept notes turns passed i Same kinds s t u r (Number old) (Number old) writes refl (same_is_kept (Some (Number old))) h e
+  fetched_kept : (i : Insn) (kinds : Kinds) (s t u : State) (o : Option Reg) (old : ℕ) → ((q : ℕ) → q < 11 → is_changed i q ≡ option_map_or (λ w. q == register_number w) o false) → SlotsAre i Same kinds → Between ends notes turns passed kinds s t → fetched o old s ≡ Some u
+      → Goes ends notes turns passed (kinds_after i Same kinds) s.top.slot t.top.slot u (fetched o old t)
+  fetched_kept i kinds s t u None old writes are h e =
+      goes_held ends notes turns passed i Same kinds _ _ u _ writes are (subst (λ u. Goes ends notes turns passed kinds s.top.slot t.top.slot u (Some t)) (same_Some _ _ e) (record { state = t; is = refl; between = h; old_slot = refl; new_slot = refl }))
+  fetched_kept i kinds s t u (Some r) old writes are h e = put_kept ends notes turns passed i Same kinds s t u r (Number old) (Number old) writes are refl (same_is_kept (Some (Number old))) h e
 
   -- one after the other
-  goes_on_by : (kinds after : Kinds) (x y : ℕ) (u w : State) (o : Option State) (f : State → Option State) (g : Goes notes turns passed kinds x y u o) → Goes notes turns passed after u.top.slot g.state.top.slot w (f g.state) → Goes notes turns passed after x y w (option_and_then f o)
+  goes_on_by : (kinds after : Kinds) (x y : ℕ) (u w : State) (o : Option State) (f : State → Option State) (g : Goes ends notes turns passed kinds x y u o) → Goes ends notes turns passed after u.top.slot g.state.top.slot w (f g.state) → Goes ends notes turns passed after x y w (option_and_then f o)
   goes_on_by kinds after x y u w o f g h = record { state = h.state; is = bind f o g.state (Some h.state) g.is h.is; between = h.between; old_slot = h.old_slot ∙ g.old_slot; new_slot = h.new_slot ∙ g.new_slot }
 
   -- ---- the instructions
 
   abbrev Next : Order → Insn → Kinds → State → State → State → Type 0
-  Next order i kinds s t u = Goes notes turns passed (kinds_after i Same kinds) (s.top.slot + slot_count i) (t.top.slot + slot_count i) u (does order i t)
+  Next order i kinds s t u = Goes ends notes turns passed (kinds_after i Same kinds) (s.top.slot + slot_count i) (t.top.slot + slot_count i) u (does order i t)
 
-  alu_next : (order : Order) (op : AluOp) (width : Width) (dst : Reg) (src : Operand) (kinds : Kinds) (s t u : State) → Between notes turns passed kinds s t
+  alu_next : (order : Order) (op : AluOp) (width : Width) (dst : Reg) (src : Operand) (kinds : Kinds) (s t u : State) → Between ends notes turns passed kinds s t
       → AllSame kinds (operand_register src) → ((b v : Value) → alu_result width op (register s dst) b ≡ Some v → alu_result width op (register t dst) b ≡ Some v)
       → does order (Alu op width dst src) s ≡ Some u → Next order (Alu op width dst src) kinds s t u
   unfolding does
   alu_next order op width dst src kinds s t u h same result e = option_and_then_some _ (operand s src) u e (λ b eb e1. option_and_then_some _ (alu_result width op (register s dst) b) u e1 (λ v ev e2.
-      goes_as notes turns passed _ _ _ u _ _ (bind _ (operand t src) b _ (operand_kept kinds s t src h same b eb) (bind _ (alu_result width op (register t dst) b) v _ (result b v ev) refl))
+      goes_as ends notes turns passed _ _ _ u _ _ (bind _ (operand t src) b _ (operand_kept kinds s t src h same b eb) (bind _ (alu_result width op (register t dst) b) v _ (result b v ev) refl))
       (put_next kinds s t u (Alu op width dst src) dst v (λ q. refl) h e2)))
 
-  number_next : (order : Order) (i : Insn) (kinds : Kinds) (s t u : State) (r dst : Reg) (f : ℕ → ℕ) → Writes i dst → Between notes turns passed kinds s t → is_same (kinds (register_number r)) ≡ true
+  number_next : (order : Order) (i : Insn) (kinds : Kinds) (s t u : State) (r dst : Reg) (f : ℕ → ℕ) → Writes i dst → Between ends notes turns passed kinds s t → is_same (kinds (register_number r)) ≡ true
       → option_and_then (λ a. put dst (Number (f a)) (next i s)) (number_of_register s r) ≡ Some u
-      → Goes notes turns passed (kinds_after i Same kinds) (s.top.slot + slot_count i) (t.top.slot + slot_count i) u (option_and_then (λ a. put dst (Number (f a)) (next i t)) (number_of_register t r))
+      → Goes ends notes turns passed (kinds_after i Same kinds) (s.top.slot + slot_count i) (t.top.slot + slot_count i) u (option_and_then (λ a. put dst (Number (f a)) (next i t)) (number_of_register t r))
   number_next order i kinds s t u r dst f writes h same e = option_and_then_some _ (number_of_register s r) u e (λ a ea e1.
-      goes_as notes turns passed _ _ _ u _ _ (bind _ (number_of_register t r) a _ (number_same kinds s t r h same a ea) refl) (put_next kinds s t u i dst (Number (f a)) writes h e1))
+      goes_as ends notes turns passed _ _ _ u _ _ (bind _ (number_of_register t r) a _ (number_same kinds s t r h same a ea) refl) (put_next kinds s t u i dst (Number (f a)) writes h e1))
 
-  load_next : (i : Insn) (kinds : Kinds) (s t u : State) (k : ℕ) (dst src : Reg) (off : ℤ) (f : State → Location → Option Value) → Writes i dst → Between notes turns passed kinds s t → is_same (kinds (register_number src)) ≡ true
-      → ((at : Location) → IsKept (f s at) (f t at))
+  load_next : (i : Insn) (kinds : Kinds) (s t u : State) (k : ℕ) (dst src : Reg) (off : ℤ) (f : State → Location → Option Value) → Writes i dst → Between ends notes turns passed kinds s t → is_same (kinds (register_number src)) ≡ true
+      → ((base : Value) (at : Location) → register s src ≡ Some base → location_of s k off base ≡ Some at → IsKept (f s at) (f t at))
       → option_and_then (λ base. option_and_then (λ at. option_and_then (λ v. put dst v (next i s)) (f s at)) (location_of s k off base)) (register s src) ≡ Some u
-      → Goes notes turns passed (kinds_after i Same kinds) (s.top.slot + slot_count i) (t.top.slot + slot_count i) u (option_and_then (λ base. option_and_then (λ at. option_and_then (λ v. put dst v (next i t)) (f t at)) (location_of t k off base)) (register t src))
+      → Goes ends notes turns passed (kinds_after i Same kinds) (s.top.slot + slot_count i) (t.top.slot + slot_count i) u (option_and_then (λ base. option_and_then (λ at. option_and_then (λ v. put dst v (next i t)) (f t at)) (location_of t k off base)) (register t src))
   load_next i kinds s t u k dst src off f writes h same loads e = option_and_then_some _ (register s src) u e (λ base eb e1. option_and_then_some _ (location_of s k off base) u e1 (λ at ea e2. option_and_then_some _ (f s at) u e2 (λ v ev e3.
-      goes_as notes turns passed _ _ _ u _ _
-      (bind _ (register t src) base _ (register_kept kinds s t src h same base eb) (bind _ (location_of t k off base) at _ (location_kept kinds s t k off base at h ea) (bind _ (f t at) v _ (loads at v ev) refl)))
+      goes_as ends notes turns passed _ _ _ u _ _
+      (bind _ (register t src) base _ (register_kept kinds s t src h same base eb) (bind _ (location_of t k off base) at _ (location_kept kinds s t k off base at h ea) (bind _ (f t at) v _ (loads base at eb ea v ev) refl)))
       (put_next kinds s t u i dst v writes h e3))))
 
-  live_next : (s : State) (x : ℕ) (at : Location) → IsLive notes turns passed s at → IsLive notes turns passed (at_slot x s) at
-  live_next s x (InContext i) h = h
-  live_next s x (InFrame n i) h = h
+  -- ---- stores
 
-  store_next : (order : Order) (i : Insn) (kinds : Kinds) (s t u : State) (size : Size) (off : ℤ) (base v : Value) → Between notes turns passed kinds s t
+  eighths : (n : ℕ) → n % 8 ≡ 0 → n ≡ 8 * (n / 8)
+  eighths n e = omega arith
+
+  -- a pointer is stored to a whole slot alone
+  whole_stored : (order : Order) (s u : State) (region : Region) (z : ℤ) (n i : ℕ) → store order DW (Pointer region z) (InFrame n i) s ≡ Some u → i % 8 == 0 ≡ true
+  unfolding store_pointer
+  whole_stored order s u region z n i e = (cond_first (i % 8 == 0) _ u e).0
+
+  same_parts : (region : Region) (z : ℤ) (i : ℕ) (xs ys : Cells) → EachPair IsRead xs ys → EachPair IsRead (with_parts region z i xs) (with_parts region z i ys)
+  unfolding with_parts
+  same_parts region z i xs ys h = each_read (part_after region z i) (part_after region z i) 0 xs ys (parts_read region z i) h
+
+  none_written : (i : Insn) → is_call i ≡ false → register_written i ≡ None → (q : ℕ) → q < 11 → is_changed i q ≡ false
+  none_written i call none q lt = changed_low i q call lt ∙ ap (λ o. option_map_or (λ w. q == register_number w) o false) none
+
+  -- behind a store
+  pub behind_store : (i : Insn) (kind : Kind) (kinds : Kinds) (x y : ℕ) (u : State) (o : Option State) → is_call i ≡ false → register_written i ≡ None → Goes ends notes turns passed (stored i kind kinds) x y u o → Goes ends notes turns passed (kinds_after i kind kinds) x y u o
+  behind_store i kind kinds x y u o call none g =
+      goes_alike ends notes turns passed (kinds_after i kind (stored i kind kinds)) (kinds_after i kind kinds) x y u o (after_stored i kind kinds call)
+      (goes_held ends notes turns passed i kind (stored i kind kinds) x y u o (none_written i call none) (stored_are i kind kinds call) g)
+
+  far_is : (i : Insn) (a : Access) → access_of i ≡ Some a → is_r10 a.base ≡ false → a.writes ≡ true → is_far i ≡ true
+  far_is i a ea e ew =
+      or_right (is_call i) _ (ap (λ o. option_map_or (λ a. not (is_r10 a.base) && (a.writes || is_whole i)) o false) ea ∙ ap₂ (λ b w. not b && (w || is_whole i)) e ew)
+
+  -- a number is put somewhere
+  number_put : (order : Order) (i : Insn) (a : Access) (kinds : Kinds) (s t u : State) (x : ℕ) (base : Value) (at : Location) → access_of i ≡ Some a → a.writes ≡ true → Between ends notes turns passed kinds s t → Owns s → IsTame kinds i
+      → register s a.base ≡ Some base → location_of s (byte_count a.size) a.offset base ≡ Some at → store_number order (byte_count a.size) x at (next i s) ≡ Some u
+      → Goes ends notes turns passed (stored i Same kinds) (s.top.slot + slot_count i) (t.top.slot + slot_count i) u (store_number order (byte_count a.size) x at (next i t))
+  number_put order i a kinds s t u x base at ea ew h o tame eb el e = by_cases (cases_Bool (is_r10 a.base))
+    where
+      stands : Between ends notes turns passed kinds (next i s) (next i t)
+      stands = stands_at ends notes turns passed kinds s t _ _ h
+
+      by_cases : (is_r10 a.base ≡ true) ⊎ (is_r10 a.base ≡ false) → Goes ends notes turns passed (stored i Same kinds) (s.top.slot + slot_count i) (t.top.slot + slot_count i) u (store_number order (byte_count a.size) x at (next i t))
+      by_cases (inl r10) =
+          let n = near s a.base (byte_count a.size) a.offset base at o r10 eb el in
+          subst (λ at. Goes ends notes turns passed (stored i Same kinds) (s.top.slot + slot_count i) (t.top.slot + slot_count i) u (store_number order (byte_count a.size) x at (next i t))) (sym n.is)
+          (number_near ends notes turns passed order kinds (stored i Same kinds) (next i s) (next i t) u (byte_count a.size) x n.first stands (in_some i a Same kinds n.first ea ew r10 n.away) (subst (λ at. store_number order (byte_count a.size) x at (next i s) ≡ Some u) n.is e))
+      by_cases (inr far) =
+          number_stored ends notes turns passed order kinds (stored i Same kinds) (next i s) (next i t) u (byte_count a.size) x at stands (tame.far (far_is i a ea far ew)) (in_all i a kinds ea ew far)
+          (live_next s (s.top.slot + slot_count i) at (live_location s (byte_count a.size) a.offset base at el)) e
+
+  -- a pointer is put into a slot
+  pointer_put : (order : Order) (i : Insn) (a : Access) (kinds : Kinds) (s t u : State) (region : Region) (z : ℤ) (base : Value) (at : Location) → access_of i ≡ Some a → a.writes ≡ true → a.size ≡ DW → Between ends notes turns passed kinds s t → Owns s → IsTame kinds i
+      → register s a.base ≡ Some base → location_of s (byte_count a.size) a.offset base ≡ Some at → store order DW (Pointer region z) at (next i s) ≡ Some u
+      → Goes ends notes turns passed (stored i Same kinds) (s.top.slot + slot_count i) (t.top.slot + slot_count i) u (store order DW (Pointer region z) at (next i t))
+  pointer_put order i a kinds s t u region z base at ea ew double h o tame eb el e = by_cases (cases_Bool (is_r10 a.base))
+    where
+      stands : Between ends notes turns passed kinds (next i s) (next i t)
+      stands = stands_at ends notes turns passed kinds s t _ _ h
+
+      old_room : (m : ℕ) → m < 64 → 8 * m + 8 ≤ length s.top.stack
+      old_room m lt = let long : length s.top.stack ≡ 512 = h.top.long in omega arith
+
+      new_room : (m : ℕ) → m < 64 → 8 * m + 8 ≤ length t.top.stack
+      new_room m lt =
+          let long : length s.top.stack ≡ 512 = h.top.long in
+          let same : length t.top.stack ≡ length s.top.stack = as_long IsRead s.top.stack t.top.stack h.top.stack in
+          omega arith
+
+      by_cases : (is_r10 a.base ≡ true) ⊎ (is_r10 a.base ≡ false) → Goes ends notes turns passed (stored i Same kinds) (s.top.slot + slot_count i) (t.top.slot + slot_count i) u (store order DW (Pointer region z) at (next i t))
+      by_cases (inl r10) =
+          let n = near s a.base (byte_count a.size) a.offset base at o r10 eb el in
+          let whole : n.first % 8 == 0 ≡ true = whole_stored order (next i s) u region z (depth s) n.first (subst (λ at. store order DW (Pointer region z) at (next i s) ≡ Some u) n.is e) in
+          let m : ℕ = n.first / 8 in
+          let there : n.first ≡ 8 * (n.first / 8) = eighths n.first (eqb-true (n.first % 8) 0 whole) in
+          let at_is : at ≡ InFrame (depth s) (8 * m) = n.is ∙ ap (InFrame (depth s)) there in
+          let eight : n.first + 8 ≤ 512 = subst (λ size. n.first + byte_count size ≤ 512) double n.fits in
+          let fits_slot : m < 64 = omega arith in
+          let slots = in_some i a Same kinds (8 * m) ea ew r10 (n.away ∙ ap pos there) in
+          subst (λ at. Goes ends notes turns passed (stored i Same kinds) (s.top.slot + slot_count i) (t.top.slot + slot_count i) u (store order DW (Pointer region z) at (next i t))) (sym at_is)
+          (value_near ends notes turns passed order kinds (stored i Same kinds) Same (next i s) (next i t) u m (Pointer region z) (Pointer region z) stands
+          (in_one kinds (stored i Same kinds) m Same (subst (λ size. InSome kinds (stored i Same kinds) (is_within ((8 * m) / 8) ((8 * m + byte_count size + 7) / 8)) Same) double slots))
+          fits_slot
+          (same_parts region z (8 * m) s.top.stack t.top.stack h.top.stack)
+          (λ j lj c ec. parts_put region z m t.top.stack (new_room m fits_slot) j lj ∙ sym (parts_put region z m s.top.stack (old_room m fits_slot) j lj) ∙ ec)
+          (subst (λ at. store order DW (Pointer region z) at (next i s) ≡ Some u) at_is e))
+      by_cases (inr far) =
+          store_kept ends notes turns passed order kinds (stored i Same kinds) (next i s) (next i t) u DW (Pointer region z) at stands (tame.far (far_is i a ea far ew)) (in_all i a kinds ea ew far)
+          (live_next s (s.top.slot + slot_count i) at (live_location s (byte_count a.size) a.offset base at el)) e
+
+  store_next : (order : Order) (i : Insn) (kinds : Kinds) (s t u : State) (dst : Reg) (size : Size) (off : ℤ) (base v : Value) → access_of i ≡ Some (record { base = dst; offset = off; size = size; reads = false; writes = true }) → is_call i ≡ false → register_written i ≡ None
+      → Between ends notes turns passed kinds s t → Owns s → IsTame kinds i → register s dst ≡ Some base
       → option_and_then (λ at. store order size v at (next i s)) (location_of s (byte_count size) off base) ≡ Some u
-      → Goes notes turns passed kinds (s.top.slot + slot_count i) (t.top.slot + slot_count i) u (option_and_then (λ at. store order size v at (next i t)) (location_of t (byte_count size) off base))
-  store_next order i kinds s t u size off base v h e = option_and_then_some _ (location_of s (byte_count size) off base) u e (λ at ea e1.
-      goes_as notes turns passed _ _ _ u _ _ (bind _ (location_of t (byte_count size) off base) at _ (location_kept kinds s t (byte_count size) off base at h ea) refl)
-      (store_kept notes turns passed order kinds (next i s) (next i t) u size v at (stands_at notes turns passed kinds s t _ _ h) (live_next s (s.top.slot + slot_count i) at (live_location notes turns passed s (byte_count size) off base at ea)) e1))
+      → Goes ends notes turns passed (kinds_after i Same kinds) (s.top.slot + slot_count i) (t.top.slot + slot_count i) u (option_and_then (λ at. store order size v at (next i t)) (location_of t (byte_count size) off base))
+  store_next order i kinds s t u dst size off base v ea call none h o tame eb e = option_and_then_some _ (location_of s (byte_count size) off base) u e (λ at el e1.
+      behind_store i Same kinds _ _ u _ call none
+      (goes_as ends notes turns passed _ _ _ u _ _ (bind _ (location_of t (byte_count size) off base) at _ (location_kept kinds s t (byte_count size) off base at h el) refl)
+      (by_value size v ea at el e1)))
+    where
+      by_value : (size : Size) (v : Value) → access_of i ≡ Some (record { base = dst; offset = off; size = size; reads = false; writes = true }) → (at : Location) → location_of s (byte_count size) off base ≡ Some at → store order size v at (next i s) ≡ Some u
+          → Goes ends notes turns passed (stored i Same kinds) (s.top.slot + slot_count i) (t.top.slot + slot_count i) u (store order size v at (next i t))
+      by_value size (Number x) ea at el e1 = number_put order i (record { base = dst; offset = off; size = size; reads = false; writes = true }) kinds s t u x base at ea refl h o tame eb el e1
+      by_value DW (Pointer region z) ea at el e1 = pointer_put order i (record { base = dst; offset = off; size = DW; reads = false; writes = true }) kinds s t u region z base at ea refl refl h o tame eb el e1
+      by_value B (Pointer region z) ea at el e1 = absurd (none-some _ e1)
+      by_value H (Pointer region z) ea at el e1 = absurd (none-some _ e1)
+      by_value W (Pointer region z) ea at el e1 = absurd (none-some _ e1)
 
-  plain : (order : Order) (i : Insn) (kinds : Kinds) (s t u : State) → Between notes turns passed kinds s t → AllSame kinds (registers_read i) → goes_on i ≡ true → distance i ≡ None → does order i s ≡ Some u → Next order i kinds s t u
+  -- a pointer that is loaded whole
+  pointers_loaded : (kinds : Kinds) (s t : State) (size : Size) (dst src : Reg) (off : ℤ) (base : Value) (at : Location) → Between ends notes turns passed kinds s t → Owns s → IsTame kinds (Load size dst src off) → register s src ≡ Some base → location_of s (byte_count size) off base ≡ Some at
+      → is_double size ≡ true → PointersKept ends notes turns passed s t at
+  pointers_loaded kinds s t DW dst src off base at h o tame eb el e = by_cases (cases_Bool (is_r10 src))
+    where
+      by_cases : (is_r10 src ≡ true) ⊎ (is_r10 src ≡ false) → PointersKept ends notes turns passed s t at
+      by_cases (inl r10) =
+          let n = near s src 8 off base at o r10 eb el in
+          subst (PointersKept ends notes turns passed s t) (sym n.is) (λ v ev.
+          let c = cond_first (n.first % 8 == 0) _ v ev in
+          let below = n.fits in
+          let m : ℕ = n.first / 8 in
+          let there : n.first ≡ 8 * (n.first / 8) = eighths n.first (eqb-true (n.first % 8) 0 c.0) in
+          let slot : whole_slot (Load DW dst src off) ≡ Some (n.first / 8) = ap (λ b. if b then slot_of off else None) r10 ∙ slot_here off n.first n.away c.0 (omega arith) in
+          let plain : is_plain (kinds (11 + n.first / 8)) ≡ true = tame.near (n.first / 8) slot in
+          let kept = plain_kept ends turns passed (register_in s.top) s.top.stack t.top.stack (n.first / 8) (kinds (11 + n.first / 8)) plain (h.top.slots (n.first / 8) (omega arith)) 0 (omega arith) in
+          let cell_is : n.first ≡ 8 * (n.first / 8) + 0 = omega arith in
+          pointer_at_kept ends notes turns passed s t (depth s) n.first
+          (subst (λ xs. IsKept (get_or xs n.first None) (get_or (stack_of t (depth s)) n.first None)) (sym (own_stack ends notes turns passed s))
+          (subst (λ ys. IsKept (get_or s.top.stack n.first None) (get_or ys n.first None)) (sym (own_stack_of ends notes turns passed kinds s t h))
+          (subst (λ i. IsKept (get_or s.top.stack i None) (get_or t.top.stack i None)) (sym cell_is) kept))) v ev)
+      by_cases (inr far) = pointers_kept ends notes turns passed kinds s t at h (tame.far (ap (λ b. not b && true) far))
+  pointers_loaded kinds s t B dst src off base at h o tame eb el e = absurd (false≢true e)
+  pointers_loaded kinds s t H dst src off base at h o tame eb el e = absurd (false≢true e)
+  pointers_loaded kinds s t W dst src off base at h o tame eb el e = absurd (false≢true e)
+
+  plain : (order : Order) (i : Insn) (kinds : Kinds) (s t u : State) → Between ends notes turns passed kinds s t → Owns s → AllSame kinds (registers_read i) → IsTame kinds i → goes_on i ≡ true → distance i ≡ None → does order i s ≡ Some u → Next order i kinds s t u
   unfolding does
-  plain order (Alu Mov width dst src) kinds s t u h same on none e = alu_next order Mov width dst src kinds s t u h same (λ b v ev. ev) e
-  plain order (Alu op width dst src) kinds s t u h same on none e = alu_next order op width dst src kinds s t u h same.1 (λ b v ev. alu_kept width op (register s dst) (register t dst) b v (register_kept kinds s t dst h same.0) ev) e
-  plain order (Neg width dst) kinds s t u h same on none e = number_next order (Neg width dst) kinds s t u dst dst (λ a. alu width Sub 0 a) (λ q. refl) h same.0 e
-  plain order (MovSx width bits dst src) kinds s t u h same on none e = number_next order (MovSx width bits dst src) kinds s t u src dst (λ b. sign_extend bits width b) (λ q. refl) h same.0 e
-  plain order (End kind bits dst) kinds s t u h same on none e = number_next order (End kind bits dst) kinds s t u dst dst (λ a. swapped order kind bits a) (λ q. refl) h same.0 e
-  plain order (LoadImm64 dst value) kinds s t u h same on none e = put_next kinds s t u (LoadImm64 dst value) dst (Number value) (λ q. refl) h e
-  plain order (Load size dst src off) kinds s t u h same on none e = load_next (Load size dst src off) kinds s t u (byte_count size) dst src off (λ s at. load order s size at) (λ q. refl) h same.0 (λ at. load_kept notes turns passed order kinds s t size at h) e
-  plain order (LoadSx size dst src off) kinds s t u h same on none e = load_next (LoadSx size dst src off) kinds s t u (byte_count size) dst src off (λ s at. load_extended order s size at) (λ q. refl) h same.0 (λ at. load_extended_kept notes turns passed order kinds s t size at h) e
-  plain order (Store size dst off src) kinds s t u h same on none e = option_and_then_some _ (register s dst) u e (λ base eb e1. option_and_then_some _ (register s src) u e1 (λ v ev e2.
-      goes_as notes turns passed _ _ _ u _ _
+  plain order (Alu Mov width dst src) kinds s t u h o same tame on none e = alu_next order Mov width dst src kinds s t u h same (λ b v ev. ev) e
+  plain order (Alu op width dst src) kinds s t u h o same tame on none e = alu_next order op width dst src kinds s t u h same.1 (λ b v ev. alu_kept width op (register s dst) (register t dst) b v (register_kept kinds s t dst h same.0) ev) e
+  plain order (Neg width dst) kinds s t u h o same tame on none e = number_next order (Neg width dst) kinds s t u dst dst (λ a. alu width Sub 0 a) (λ q. refl) h same.0 e
+  plain order (MovSx width bits dst src) kinds s t u h o same tame on none e = number_next order (MovSx width bits dst src) kinds s t u src dst (λ b. sign_extend bits width b) (λ q. refl) h same.0 e
+  plain order (End kind bits dst) kinds s t u h o same tame on none e = number_next order (End kind bits dst) kinds s t u dst dst (λ a. swapped order kind bits a) (λ q. refl) h same.0 e
+  plain order (LoadImm64 dst value) kinds s t u h o same tame on none e = put_next kinds s t u (LoadImm64 dst value) dst (Number value) (λ q. refl) h e
+  plain order (Load size dst src off) kinds s t u h o same tame on none e = load_next (Load size dst src off) kinds s t u (byte_count size) dst src off (λ s at. load order s size at) (λ q. refl) h same.0 (λ base at eb el. load_kept ends notes turns passed order kinds s t size at h (pointers_loaded kinds s t size dst src off base at h o tame eb el)) e
+  plain order (LoadSx size dst src off) kinds s t u h o same tame on none e = load_next (LoadSx size dst src off) kinds s t u (byte_count size) dst src off (λ s at. load_extended order s size at) (λ q. refl) h same.0 (λ base at eb el. load_extended_kept ends notes turns passed order kinds s t size at h) e
+  plain order (Store size dst off src) kinds s t u h o same tame on none e = option_and_then_some _ (register s dst) u e (λ base eb e1. option_and_then_some _ (register s src) u e1 (λ v ev e2.
+      goes_as ends notes turns passed _ _ _ u _ _
       (bind _ (register t dst) base _ (register_kept kinds s t dst h same.0 base eb) (bind _ (register t src) v _ (register_kept kinds s t src h same.1.0 v ev) refl))
-      (goes_held notes turns passed (Store size dst off src) Same kinds _ _ u _ (λ q. refl) (store_next order (Store size dst off src) kinds s t u size off base v h e2))))
-  plain order (StoreImm size dst off imm) kinds s t u h same on none e = option_and_then_some _ (register s dst) u e (λ base eb e1.
-      goes_as notes turns passed _ _ _ u _ _
+      (store_next order (Store size dst off src) kinds s t u dst size off base v refl refl refl h o tame eb e2)))
+  plain order (StoreImm size dst off imm) kinds s t u h o same tame on none e = option_and_then_some _ (register s dst) u e (λ base eb e1.
+      goes_as ends notes turns passed _ _ _ u _ _
       (bind _ (register t dst) base _ (register_kept kinds s t dst h same.0 base eb) refl)
-      (goes_held notes turns passed (StoreImm size dst off imm) Same kinds _ _ u _ (λ q. refl) (store_next order (StoreImm size dst off imm) kinds s t u size off base (Number (extended imm)) h e1)))
-  plain order (Atomic wide op dst off src) kinds s t u h same on none e =
+      (store_next order (StoreImm size dst off imm) kinds s t u dst size off base (Number (extended imm)) refl refl refl h o tame eb e1))
+  plain order (Atomic wide op dst off src) kinds s t u h o same tame on none e =
       let i : Insn = Atomic wide op dst off src in
       let size : Size = word_size wide in
       let k : ℕ = byte_count size in
       option_and_then_some _ (register s dst) u e (λ base eb e1. option_and_then_some _ (number_of_register s src) u e1 (λ x ex e2. option_and_then_some _ (location_of s k off base) u e2 (λ at ea e3. option_and_then_some _ (number_at order s k at) u e3 (λ old eo e4. option_and_then_some _ (atomic_result op size old x (number_of_register s R0)) u e4 (λ new en e5. option_and_then_some _ (store_number order k new at (next i s)) u e5 (λ mid em e6.
-      let live : IsLive notes turns passed (next i s) at = live_next s (s.top.slot + slot_count i) at (live_location notes turns passed s k off base at ea) in
-      let stored = number_stored notes turns passed order kinds (next i s) (next i t) mid k new at (stands_at notes turns passed kinds s t _ _ h) live em in
-      let fetch = fetched_kept i kinds mid stored.state u (fetch_register op src) old (λ q. refl) stored.between e6 in
-      goes_as notes turns passed _ _ _ u _ _
-      (bind _ (register t dst) base _ (register_kept kinds s t dst h same.0 base eb) (bind _ (number_of_register t src) x _ (number_same kinds s t src h same.1.0 x ex) (bind _ (location_of t k off base) at _ (location_kept kinds s t k off base at h ea) (bind _ (number_at order t k at) old _ (number_kept notes turns passed order kinds s t k old at h eo)
+      let a : Access = record { base = dst; offset = off; size = size; reads = true; writes = true } in
+      let put = number_put order i a kinds s t mid new base at refl refl h o tame eb ea em in
+      let fetch = goes_alike ends notes turns passed (kinds_after i Same (stored i Same kinds)) (kinds_after i Same kinds) _ _ u _ (after_stored i Same kinds refl)
+      (fetched_kept i (stored i Same kinds) mid put.state u (fetch_register op src) old (λ q lt. changed_low i q refl lt) (stored_are i Same kinds refl) put.between e6) in
+      goes_as ends notes turns passed _ _ _ u _ _
+      (bind _ (register t dst) base _ (register_kept kinds s t dst h same.0 base eb) (bind _ (number_of_register t src) x _ (number_same kinds s t src h same.1.0 x ex) (bind _ (location_of t k off base) at _ (location_kept kinds s t k off base at h ea) (bind _ (number_at order t k at) old _ (number_kept ends notes turns passed order kinds s t k old at h eo)
       (bind _ (atomic_result op size old x (number_of_register t R0)) new _ (atomic_kept op size old x new (number_of_register s R0) (number_of_register t R0) (λ r. is_same (kinds (register_number r)) ≡ true) (number_same kinds s t R0 h) same.1.1 en) refl)))))
-      (goes_on_by kinds (kinds_after i Same kinds) _ _ mid u (store_number order k new at (next i t)) (fetched (fetch_register op src) old) stored fetch)))))))
-  plain order (Ja off) kinds s t u h same on none e = absurd (false≢true on)
-  plain order (JaLong off) kinds s t u h same on none e = absurd (false≢true on)
-  plain order (JumpIf cond width dst src off) kinds s t u h same on none e = absurd (none-some _ (sym none))
-  plain order (CallLocal off) kinds s t u h same on none e = absurd (none-some _ (sym none))
-  plain order Exit kinds s t u h same on none e = absurd (false≢true on)
+      (goes_on_by (stored i Same kinds) (kinds_after i Same kinds) _ _ mid u (store_number order k new at (next i t)) (fetched (fetch_register op src) old) put fetch)))))))
+  plain order (Ja off) kinds s t u h o same tame on none e = absurd (false≢true on)
+  plain order (JaLong off) kinds s t u h o same tame on none e = absurd (false≢true on)
+  plain order (JumpIf cond width dst src off) kinds s t u h o same tame on none e = absurd (none-some _ (sym none))
+  plain order (CallLocal off) kinds s t u h o same tame on none e = absurd (none-some _ (sym none))
+  plain order Exit kinds s t u h o same tame on none e = absurd (false≢true on)
 
   -- ---- jumps
 
   -- where the new machine's jump leads, the states stand
-  jump_kept : (kinds : Kinds) (s t u : State) (off x : ℤ) (to new_to : ℕ) → Between notes turns passed kinds s t → target s.top.slot off ≡ Some to → target t.top.slot x ≡ Some new_to → jump s off ≡ Some u → Goes notes turns passed kinds to new_to u (jump t x)
+  jump_kept : (kinds : Kinds) (s t u : State) (off x : ℤ) (to new_to : ℕ) → Between ends notes turns passed kinds s t → target s.top.slot off ≡ Some to → target t.top.slot x ≡ Some new_to → jump s off ≡ Some u → Goes ends notes turns passed kinds to new_to u (jump t x)
   jump_kept kinds s t u off x to new_to h et en e =
       let is : at_slot to s ≡ u = same_Some _ _ (sym (mapped (λ slot. at_slot slot s) (target s.top.slot off) to et) ∙ e) in
-      subst (λ u. Goes notes turns passed kinds to new_to u (jump t x)) is
-      (record { state = at_slot new_to t; is = mapped (λ slot. at_slot slot t) (target t.top.slot x) new_to en; between = stands_at notes turns passed kinds s t to new_to h; old_slot = refl; new_slot = refl })
+      subst (λ u. Goes ends notes turns passed kinds to new_to u (jump t x)) is
+      (record { state = at_slot new_to t; is = mapped (λ slot. at_slot slot t) (target t.top.slot x) new_to en; between = stands_at ends notes turns passed kinds s t to new_to h; old_slot = refl; new_slot = refl })
 
   -- where the notes say that an instruction leads which writes what is of a kind
   abbrev pub JumpArrives : Insn → Insn → Kind → Kinds → ℕ → ℕ → Type 0
@@ -295,15 +434,15 @@ module _ (notes : List (Option Place)) (turns : ℕ) (passed : ℕ → ℕ) wher
   abbrev pub FallArrives : Insn → Kind → Kinds → ℕ → ℕ → Type 0
   FallArrives i kind kinds x y = goes_on i ≡ true → Arrives notes turns (x + slot_count i) (y + slot_count i) (kinds_after i kind kinds)
 
-  jumped : (i j : Insn) (kind : Kind) (kinds : Kinds) (s t u : State) (off x : ℤ) → Between notes turns passed kinds s t → ((q : ℕ) → is_changed i q ≡ false) → led s.top.slot i ≡ target s.top.slot off → led t.top.slot j ≡ target t.top.slot x
+  jumped : (i j : Insn) (kind : Kind) (kinds : Kinds) (s t u : State) (off x : ℤ) → Between ends notes turns passed kinds s t → ((q : ℕ) → is_changed i q ≡ false) → led s.top.slot i ≡ target s.top.slot off → led t.top.slot j ≡ target t.top.slot x
       → JumpArrives i j kind kinds s.top.slot t.top.slot → jump s off ≡ Some u → Arrived u (jump t x)
   jumped i j kind kinds s t u off x h none old new arrives e =
       let to = unmapped (λ slot. at_slot slot s) (target s.top.slot off) u e in
       let a = arrives to.0 (old ∙ to.1) in
-      arrived (kinds_after i kind kinds) to.0 a.0 u (jump t x) (goes_held notes turns passed i kind kinds to.0 a.0 u (jump t x) none (jump_kept kinds s t u off x to.0 a.0 h to.1 (sym new ∙ a.1) e)) a.2
+      arrived (kinds_after i kind kinds) to.0 a.0 u (jump t x) (goes_held ends notes turns passed i kind kinds to.0 a.0 u (jump t x) (λ q lt. none q) (λ k lt c. absurd (false≢true (sym (none (11 + k)) ∙ c))) (jump_kept kinds s t u off x to.0 a.0 h to.1 (sym new ∙ a.1) e)) a.2
 
   -- a test that answers the same in both
-  pub tested : (order : Order) (cond : Cond) (width : Width) (dst : Reg) (src : Operand) (off z : ℤ) (kind : Kind) (kinds : Kinds) (s t u : State) (taken : Bool) → Between notes turns passed kinds s t
+  pub tested : (order : Order) (cond : Cond) (width : Width) (dst : Reg) (src : Operand) (off z : ℤ) (kind : Kind) (kinds : Kinds) (s t u : State) (taken : Bool) → Between ends notes turns passed kinds s t
       → FallArrives (JumpIf cond width dst src off) kind kinds s.top.slot t.top.slot → JumpArrives (JumpIf cond width dst src off) (JumpIf cond width dst src z) kind kinds s.top.slot t.top.slot
       → (if taken then jump s off else Some (next (JumpIf cond width dst src off) s)) ≡ Some u → Arrived u (if taken then jump t z else Some (next (JumpIf cond width dst src z) t))
   tested order cond width dst src off z kind kinds s t u true h falls jumps e = jumped (JumpIf cond width dst src off) (JumpIf cond width dst src z) kind kinds s t u off z h (λ q. refl) refl refl jumps e
@@ -312,15 +451,15 @@ module _ (notes : List (Option Place)) (turns : ℕ) (passed : ℕ → ℕ) wher
       let j : Insn = JumpIf cond width dst src z in
       subst (λ u. Arrived u (Some (next j t))) (same_Some _ _ e)
       (arrived (kinds_after i kind kinds) _ _ _ (Some (next j t))
-      (goes_held notes turns passed i kind kinds _ _ (next i s) (Some (next j t)) (λ q. refl) (record { state = next j t; is = refl; between = stands_at notes turns passed kinds s t _ _ h; old_slot = refl; new_slot = refl })) (falls refl))
+      (goes_held ends notes turns passed i kind kinds _ _ (next i s) (Some (next j t)) (λ q lt. refl) (λ k lt c. absurd (false≢true c)) (record { state = next j t; is = refl; between = stands_at ends notes turns passed kinds s t _ _ h; old_slot = refl; new_slot = refl })) (falls refl))
 
   -- an instruction that neither calls nor ends, on registers that hold the same, with another distance
-  pub same_arrives : (order : Order) (i : Insn) (z : ℤ) (kinds : Kinds) (s t u : State) → Between notes turns passed kinds s t → AllSame kinds (registers_read i) → is_flow i ≡ false
+  pub same_arrives : (order : Order) (i : Insn) (z : ℤ) (kinds : Kinds) (s t u : State) → Between ends notes turns passed kinds s t → Owns s → AllSame kinds (registers_read i) → IsTame kinds i → is_flow i ≡ false
       → FallArrives i Same kinds s.top.slot t.top.slot → JumpArrives i (redirect i z) Same kinds s.top.slot t.top.slot → does order i s ≡ Some u → Arrived u (does order (redirect i z) t)
   unfolding does
-  same_arrives order (Ja off) z kinds s t u h same flow falls jumps e = jumped (Ja off) (Ja z) Same kinds s t u off z h (λ q. refl) refl refl jumps e
-  same_arrives order (JaLong off) z kinds s t u h same flow falls jumps e = jumped (JaLong off) (JaLong z) Same kinds s t u off z h (λ q. refl) refl refl jumps e
-  same_arrives order (JumpIf cond width dst src off) z kinds s t u h same flow falls jumps e =
+  same_arrives order (Ja off) z kinds s t u h o same tame flow falls jumps e = jumped (Ja off) (Ja z) Same kinds s t u off z h (λ q. refl) refl refl jumps e
+  same_arrives order (JaLong off) z kinds s t u h o same tame flow falls jumps e = jumped (JaLong off) (JaLong z) Same kinds s t u off z h (λ q. refl) refl refl jumps e
+  same_arrives order (JumpIf cond width dst src off) z kinds s t u h o same tame flow falls jumps e =
       option_and_then_some _ (register s dst) u e (λ a ea e1. option_and_then_some _ (operand s src) u e1 (λ b eb e2. option_and_then_some _ (test_of_values width cond a b) u e2 (λ taken et e3.
       let way = tested order cond width dst src off z Same kinds s t u taken h falls jumps e3 in
       record {
@@ -328,6 +467,6 @@ module _ (notes : List (Option Place)) (turns : ℕ) (passed : ℕ → ℕ) wher
         is = bind _ (register t dst) a _ (register_kept kinds s t dst h same.0 a ea) (bind _ (operand t src) b _ (operand_kept kinds s t src h same.1 b eb) (bind _ (test_of_values width cond a b) taken _ et way.is));
         follows = way.follows;
       })))
-  same_arrives order (CallLocal off) z kinds s t u h same flow falls jumps e = absurd (false≢true (sym flow))
-  same_arrives order Exit z kinds s t u h same flow falls jumps e = absurd (false≢true (sym flow))
-  same_arrives order i z kinds s t u h same flow falls jumps e = arrived (kinds_after i Same kinds) _ _ u (does order i t) (plain order i kinds s t u h same refl refl e) (falls refl)
+  same_arrives order (CallLocal off) z kinds s t u h o same tame flow falls jumps e = absurd (false≢true (sym flow))
+  same_arrives order Exit z kinds s t u h o same tame flow falls jumps e = absurd (false≢true (sym flow))
+  same_arrives order i z kinds s t u h o same tame flow falls jumps e = arrived (kinds_after i Same kinds) _ _ u (does order i t) (plain order i kinds s t u h o same tame refl refl e) (falls refl)

@@ -1,37 +1,50 @@
 -- The law: by induction on the old machine's steps, each of which the new machine follows by some.
-use Rattle.std.proofs.Common.{◌<◌, ◌⊎◌, inl, inr, ◌^◌, true, None, length, ap₂, ◌≡◌, ℕ, zero, suc, ◌+◌, ◌≤◌, ◌==◌, false, List, [], ◌∷◌, Option, Some, refl, sym, ap, ◌∙◌, subst, arith}
-use Rattle.std.specs.Prelude.{ℤ, IsSome, option_map, if◌then◌else◌}
+use Rattle.std.proofs.Common.{◌<◌, ◌⊎◌, inl, inr, ◌^◌, true, None, length, ap₂, ◌≡◌, ℕ, zero, suc, ◌+◌, ◌*◌, ◌≤◌, ◌==◌, false, List, [], ◌∷◌, Option, Some, refl, sym, ap, ◌∙◌, subst, arith}
+use Rattle.std.specs.Prelude.{get_or, ℤ, pos, ◌+ℤ◌, IsSome, option_map, if◌then◌else◌}
 use Rattle.std.specs.Option.{option_map_or}
 use Rattle.std.proofs.lemmas.Bool.{false≢true}
+use Rattle.std.proofs.lemmas.List.{get_or-set_same, get_or-replicate}
 use Rattle.std.proofs.lemmas.Option.{none-some, same_Some, option_and_then_some}
-use Rattle.bpf_insn.specs.Effects.{Access, access_of, registers_read}
-use Rattle.bpf_insn.specs.Instruction.{Instructions, byte_count, word_size, insn_at, slot_count, goes_on, target}
-use Rattle.bpf_insn.specs.declared.order.Order.{Order}
+use Rattle.bpf_insn.specs.Effects.{registers_read}
+use Rattle.bpf_insn.specs.Image.{IsProgram}
+use Rattle.bpf_insn.specs.Laws.{AreBytes}
+use Rattle.bpf_insn.specs.Instruction.{Instructions, register_number, insn_at, slot_count, goes_on, is_straight, target}
 use Rattle.bpf_insn.specs.declared.instruction.Reg.{Reg}
 use Rattle.bpf_insn.specs.declared.instruction.Reg.TheVariants.{R0}
 use Rattle.bpf_insn.specs.declared.instruction.Insn.{Insn}
-use Rattle.bpf_insn.specs.declared.instruction.Insn.TheVariants.{Load, LoadSx, Store, StoreImm, Atomic, CallLocal, Exit}
-use Rattle.bpf_semantics.specs.State.{StackFrame, State, start, register, number_of_register, empty_stack}
-use Rattle.bpf_semantics.specs.Memory.{Location, location_of}
+use Rattle.bpf_insn.specs.declared.instruction.Insn.TheVariants.{Alu, CallLocal, Exit}
+use Rattle.bpf_insn.specs.declared.instruction.Operand.TheVariants.{Reg as FromReg}
+use Rattle.bpf_insn.specs.declared.instruction.Width.TheVariants.{W64}
+use Rattle.bpf_insn.specs.declared.instruction.AluOp.TheVariants.{Add}
+use Rattle.bpf_semantics.specs.State.{StackFrame, State, IsFrame, IsState, FitsMachine, start, register, number_of_register, with_register, put, at_slot, empty_stack}
 use Rattle.bpf_semantics.specs.declared.value.Value.{Value}
-use Rattle.bpf_semantics.specs.Step.{does, entered, Step, step_of, Finish, finish_of, result_of_exit}
+use Rattle.bpf_semantics.specs.declared.value.Value.TheVariants.{Number, Pointer}
+use Rattle.bpf_semantics.specs.declared.value.Region.{Region}
+use Rattle.bpf_semantics.specs.Step.{does, next, alu_result, wrapped, entered, Step, step_of, Finish, finish_of, result_of_exit}
 use Rattle.bpf_semantics.specs.Run.{Steps}
-use Rattle.bpf_semantics.specs.MachineLaws.{StepsAreComputed, StepKeepsContext}
+use Rattle.bpf_semantics.specs.MachineLaws.{StepsAreComputed, StepKeepsContext, RunsKeepStates}
 use Rattle.bpf_follows.specs.declared.notes.Bounds.{Bounds}
 use Rattle.bpf_follows.specs.declared.notes.Kind.{Kind}
-use Rattle.bpf_follows.specs.declared.notes.Kind.TheVariants.{Same}
+use Rattle.bpf_follows.specs.declared.notes.Kind.TheVariants.{Nothing, Unset, Same}
+use Rattle.bpf_follows.specs.declared.site.Span.{Span}
 use Rattle.bpf_follows.specs.declared.site.Site.{Site}
 use Rattle.bpf_follows.specs.declared.notes.Place.{Place}
 use Rattle.bpf_follows.specs.Meaning.{visits, is_at}
-use Rattle.bpf_follows.specs.Relation.{Kinds, kind_in, kinds_of, known, EachPair, FitsKind, FrameWaits, Follows, register_in}
-use Rattle.bpf_follows.specs.Matching.{undirected, is_same, AreSame, rebased, by_offsets, result_kind, Reads, Pairs, kinds_after, kinds_behind, kinds_called, listed, start_kinds, led, is_call, Arrives, Enters, Falls, Leads, Reaches, Stands, Matches}
+use Rattle.bpf_follows.specs.Relation.{Kinds, kind_in, kinds_of, known, EachPair, FitsKind, FitsSlot, FrameWaits, Follows, register_in}
+use Rattle.bpf_follows.specs.Ahead.{ahead, farthest_ahead, span_ahead, spans_ahead, span_behind}
+use Rattle.bpf_follows.specs.Extras.{is_same}
+use Rattle.bpf_follows.specs.Matching.{front_at, undirected, AreSame, rebased, by_offsets, result_kind, AllPlain, IsTame, Reads, Pairs, kinds_after, kinds_behind, kinds_called, listed, start_kinds, led, is_call, Arrives, Enters, Falls, Leads, Reaches, Stands, Matches}
 use Rattle.bpf_follows.specs.Laws.{MatchingKeepsMeaning}
-use Rattle.bpf_follows.proofs.Lists.{bind, unmapped, same_is_kept, pairs_same, cond_first}
+use Rattle.bpf_follows.proofs.Lists.{bind, unmapped, same_is_kept, pairs_same, cond_first, cond_second}
+use Rattle.bpf_follows.proofs.Onward.{room, placed, LieIn, Ends, Goes as GoesOn, Last, On, goes, exit_is, surely_in}
+use Rattle.bpf_follows.proofs.Owns.{Owns, own_does, own_start, own_step}
+use Rattle.bpf_follows.proofs.Slots.{register_below, all_read, nothing_there, as_many}
 use Rattle.bpf_follows.proofs.Between.{Between, Goes}
 use Rattle.bpf_follows.proofs.Instruction.{redirect, distance_of, moved_is, is_flow, Arrived, arrived, same_arrives, number_same, fits_given, FallArrives, JumpArrives}
 use Rattle.bpf_follows.proofs.OffsetInsn.{offsets_arrive, by_address, is_load}
-use Rattle.bpf_follows.proofs.Calls.{call_kept, exit_kept}
-use Rattle.bpf_follows.proofs.Extra.{InFront, between_more, counted, own_counted, extras_go, settles}
+use Rattle.bpf_follows.proofs.Calls.{unset_called, call_kept, exit_kept}
+use Rattle.bpf_follows.proofs.Extra.{InFront, SumLies, between_more, counted, own_counted, settles}
+use Rattle.bpf_follows.proofs.Kept.{extras_go}
 
 -- ---- runs
 
@@ -47,35 +60,6 @@ no_more x y z h = omega arith
 visits_next : StepsAreComputed → (p : Instructions) (k slot : ℕ) (s t : State) → Steps p k s t → visits p s (suc k) slot ≡ visits p s k slot + (if t.top.slot == slot then 1 else 0)
 visits_next computed p k slot s t run = ap (λ o. visits p s k slot + (if is_at slot o then 1 else 0)) ((computed p k s t).0 run)
 
--- an access that is made
-abbrev LiesAt : State → Access → Type 0
-LiesAt s a = (base : Value) × (at : Location) × (register s a.base ≡ Some base) × (location_of s (byte_count a.size) a.offset base ≡ Some at)
-
-lies_at : (s : State) (a b : Access) → a ≡ b → LiesAt s a → LiesAt s b
-lies_at s a b e h = subst (LiesAt s) e h
-
-lying : (s : State) (r : Reg) (k : ℕ) (off : ℤ) (base : Value) (at : Location) → register s r ≡ Some base → location_of s k off base ≡ Some at → (base : Value) × (at : Location) × (register s r ≡ Some base) × (location_of s k off base ≡ Some at)
-lying s r k off base at eb el = (base, at, eb, el)
-
--- where the old machine makes an access, it lies in a region
-access_lies : (order : Order) (i : Insn) (s u : State) (a : Access) → access_of i ≡ Some a → does order i s ≡ Some u → (base : Value) × (at : Location) × (register s a.base ≡ Some base) × (location_of s (byte_count a.size) a.offset base ≡ Some at)
-unfolding does
-access_lies order (Load size dst src off) s u a ea e =
-    lies_at s (record { base = src; offset = off; size = size; reads = true; writes = false }) a (same_Some _ _ ea) (option_and_then_some _ (register s src) u e (λ base eb e1. option_and_then_some _ (location_of s (byte_count size) off base) u e1 (λ at el e2. lying s src (byte_count size) off base at eb el)))
-access_lies order (LoadSx size dst src off) s u a ea e =
-    lies_at s (record { base = src; offset = off; size = size; reads = true; writes = false }) a (same_Some _ _ ea) (option_and_then_some _ (register s src) u e (λ base eb e1. option_and_then_some _ (location_of s (byte_count size) off base) u e1 (λ at el e2. lying s src (byte_count size) off base at eb el)))
-access_lies order (Store size dst off src) s u a ea e =
-    lies_at s (record { base = dst; offset = off; size = size; reads = false; writes = true }) a (same_Some _ _ ea) (option_and_then_some _ (register s dst) u e (λ base eb e1. option_and_then_some _ (register s src) u e1 (λ v ev e2. option_and_then_some _ (location_of s (byte_count size) off base) u e2 (λ at el e3. lying s dst (byte_count size) off base at eb el))))
-access_lies order (StoreImm size dst off imm) s u a ea e =
-    lies_at s (record { base = dst; offset = off; size = size; reads = false; writes = true }) a (same_Some _ _ ea) (option_and_then_some _ (register s dst) u e (λ base eb e1. option_and_then_some _ (location_of s (byte_count size) off base) u e1 (λ at el e2. lying s dst (byte_count size) off base at eb el)))
-access_lies order (Atomic wide op dst off src) s u a ea e =
-    lies_at s (record { base = dst; offset = off; size = word_size wide; reads = true; writes = true }) a (same_Some _ _ ea) (option_and_then_some _ (register s dst) u e (λ base eb e1. option_and_then_some _ (number_of_register s src) u e1 (λ x ex e2. option_and_then_some _ (location_of s (byte_count (word_size wide)) off base) u e2 (λ at el e3. lying s dst (byte_count (word_size wide)) off base at eb el))))
-access_lies order i s u a ea e = absurd (none-some _ ea)
-
-exit_is : (ws : List StackFrame) (o : Option ℕ) (i : Insn) (v : ℕ) → result_of_exit ws o i ≡ Some v → i ≡ Exit
-exit_is [] o Exit v e = refl
-exit_is ws o i v e = absurd (none-some _ e)
-
 listed_at : (kinds : Kinds) (r : ℕ) → r < 11 → kinds r ≡ kind_in (listed kinds) r
 listed_at kinds zero lt = refl
 listed_at kinds (suc zero) lt = refl
@@ -90,7 +74,24 @@ listed_at kinds (suc (suc (suc (suc (suc (suc (suc (suc (suc zero))))))))) lt = 
 listed_at kinds (suc (suc (suc (suc (suc (suc (suc (suc (suc (suc zero)))))))))) lt = refl
 listed_at kinds (suc (suc (suc (suc (suc (suc (suc (suc (suc (suc (suc r))))))))))) lt = absurd (omega arith)
 
-module _ (computed : StepsAreComputed) (keeps : StepKeepsContext) (old new : Instructions) (notes : List (Option Place)) (bounds : Bounds) (matches : Matches old new notes bounds) where
+unset_listed : (kinds : Kinds) (k : ℕ) → k < 64 → kind_in (listed kinds) (11 + k) ≡ Unset
+unset_listed kinds k lt = let e : 11 + k ≡ suc (suc (suc (suc (suc (suc (suc (suc (suc (suc (suc k)))))))))) = omega arith in ap (kind_in (listed kinds)) e ∙ get_or-replicate 64 k Unset Nothing lt
+
+spans_at : (old : Instructions) (slot r : ℕ) → r < 11 → get_or (spans_ahead old slot) r None ≡ ahead old r slot farthest_ahead None
+spans_at old slot zero lt = refl
+spans_at old slot (suc zero) lt = refl
+spans_at old slot (suc (suc zero)) lt = refl
+spans_at old slot (suc (suc (suc zero))) lt = refl
+spans_at old slot (suc (suc (suc (suc zero)))) lt = refl
+spans_at old slot (suc (suc (suc (suc (suc zero))))) lt = refl
+spans_at old slot (suc (suc (suc (suc (suc (suc zero)))))) lt = refl
+spans_at old slot (suc (suc (suc (suc (suc (suc (suc zero))))))) lt = refl
+spans_at old slot (suc (suc (suc (suc (suc (suc (suc (suc zero)))))))) lt = refl
+spans_at old slot (suc (suc (suc (suc (suc (suc (suc (suc (suc zero))))))))) lt = refl
+spans_at old slot (suc (suc (suc (suc (suc (suc (suc (suc (suc (suc zero)))))))))) lt = refl
+spans_at old slot (suc (suc (suc (suc (suc (suc (suc (suc (suc (suc (suc r))))))))))) lt = absurd (omega arith)
+
+module _ (computed : StepsAreComputed) (keeps : StepKeepsContext) (states : RunsKeepStates) (old new : Instructions) (notes : List (Option Place)) (bounds : Bounds) (valid : IsProgram old.list) (matches : Matches old new notes bounds) where
   turns : ℕ
   turns = bounds.turns
 
@@ -101,44 +102,46 @@ module _ (computed : StepsAreComputed) (keeps : StepKeepsContext) (old new : Ins
     count : ℕ
     state : State
     steps : Steps new count t state
-    follows : Follows notes bounds.turns passed s state
+    follows : Follows old.order notes bounds.turns passed s state
 
-  caught : (passed : ℕ → ℕ) (t u : State) (o : Option State) → o ≡ step_of new t → Arrived notes bounds.turns passed u o → Caught passed u t
+  caught : (passed : ℕ → ℕ) (t u : State) (o : Option State) → o ≡ step_of new t → Arrived old.order notes bounds.turns passed u o → Caught passed u t
   caught passed t u o e a = record { count = 1; state = a.state; steps = (t, refl, sym e ∙ a.is); follows = a.follows }
 
   -- behind an entry
-  entered_by : (passed : ℕ → ℕ) (kinds : List Kind) (s t : State) → Between notes bounds.turns passed (kind_in kinds) s t → Enters notes new bounds.turns s.top.slot t.top.slot kinds → Caught passed s t
-  entered_by passed kinds s t b e =
-      let h = extras_go notes bounds.turns passed new None e.place.entry e.place.first kinds e.made s t tt b e.slot_is e.makes in
+  entered_by : (passed : ℕ → ℕ) (kinds : List Kind) (s t : State) → Owns s → Between old.order notes bounds.turns passed (kind_in kinds) s t → Enters notes new bounds.turns s.top.slot t.top.slot kinds → Caught passed s t
+  entered_by passed kinds s t o b e =
+      let h = extras_go old.order notes bounds.turns passed new None e.place.entry e.place.first kinds e.made s t matches.order_is o tt b e.slot_is e.makes in
       record {
         count = h.count;
         state = h.state;
         steps = h.steps;
         follows = record {
-          top = record { place = e.place; noted = e.noted; slot_is = h.at; fits = fits_given notes bounds.turns passed (kind_in e.made) (kinds_of e.place) s.top h.state.top e.gives h.between.top };
+          top = record { place = e.place; noted = e.noted; slot_is = h.at; fits = fits_given old.order notes bounds.turns passed (kind_in e.made) (kinds_of e.place) s.top h.state.top e.gives h.between.top };
           waiting = h.between.waiting;
           context_is = h.between.context_is;
         };
       }
 
-  called : (passed : ℕ → ℕ) (kinds : Kinds) (to new_to : ℕ) (t u : State) (o : Option State) → o ≡ step_of new t → Goes notes bounds.turns passed kinds to new_to u o → Enters notes new bounds.turns to new_to (listed kinds) → Caught passed u t
-  called passed kinds to new_to t u o e g enters =
+  called : (passed : ℕ → ℕ) (kinds : Kinds) (to new_to : ℕ) (t u : State) (o : Option State) → Owns u → ((k : ℕ) → kinds (11 + k) ≡ Unset) → o ≡ step_of new t → Goes old.order notes bounds.turns passed kinds to new_to u o → Enters notes new bounds.turns to new_to (listed kinds) → Caught passed u t
+  called passed kinds to new_to t u o own unset e g enters =
       let top = g.between.top in
-      let b : Between notes bounds.turns passed (kind_in (listed kinds)) u g.state = record {
+      let b : Between old.order notes bounds.turns passed (kind_in (listed kinds)) u g.state = record {
         top = record {
           eleven_old = top.eleven_old;
           eleven = top.eleven;
           registers = λ r lt. subst (λ kind. FitsKind bounds.turns passed (register_in u.top) r kind (register_in g.state.top r)) (listed_at kinds r lt) (top.registers r lt);
+          long = top.long;
           stack = top.stack;
+          slots = λ k lt. subst (λ kind. FitsSlot old.order bounds.turns passed (register_in u.top) u.top.stack g.state.top.stack k kind) (unset k ∙ sym (unset_listed kinds k lt)) (top.slots k lt);
         };
         waiting = g.between.waiting;
         context_is = g.between.context_is;
       } in
-      let h = entered_by passed (listed kinds) u g.state b (subst (λ x. Enters notes new bounds.turns x g.state.top.slot (listed kinds)) (sym g.old_slot) (subst (λ y. Enters notes new bounds.turns to y (listed kinds)) (sym g.new_slot) enters)) in
+      let h = entered_by passed (listed kinds) u g.state own b (subst (λ x. Enters notes new bounds.turns x g.state.top.slot (listed kinds)) (sym g.old_slot) (subst (λ y. Enters notes new bounds.turns to y (listed kinds)) (sym g.new_slot) enters)) in
       record { count = 1 + h.count; state = h.state; steps = runs new 1 h.count t g.state h.state (t, refl, sym e ∙ g.is) h.steps; follows = h.follows }
 
   -- from the instruction itself, which stands at the slot
-  module _ (passed : ℕ → ℕ) (site : Site) (s t u : State) (b : Between notes bounds.turns passed (known site.slot site.kinds) s t) (old_at : s.top.slot ≡ site.slot) (at : t.top.slot ≡ site.new_slot)
+  module _ (passed : ℕ → ℕ) (site : Site) (s t u : State) (o : Owns s) (b : Between old.order notes bounds.turns passed (known site.slot site.kinds) s t) (old_at : s.top.slot ≡ site.slot) (at : t.top.slot ≡ site.new_slot)
       (stands : insn_at new.list site.new_slot ≡ Some site.moved) (falls : Falls notes bounds.turns site) (leads : Leads notes new bounds.turns site) where
     kinds : Kinds
     kinds = known site.slot site.kinds
@@ -147,7 +150,7 @@ module _ (computed : StepsAreComputed) (keeps : StepKeepsContext) (old new : Ins
     unfolding step_of
     steps_by j e = sym (bind (λ i. does new.order i t) (insn_at new.list t.top.slot) j _ (ap (insn_at new.list) at ∙ stands ∙ ap Some e) (ap (λ order. does order j t) matches.order_is))
 
-    falls_at : (made : Kind) → result_kind (known site.slot site.kinds) site.insn ≡ made → FallArrives notes bounds.turns passed site.insn made (known site.slot site.kinds) s.top.slot t.top.slot
+    falls_at : (made : Kind) → result_kind (known site.slot site.kinds) site.insn ≡ made → FallArrives old.order notes bounds.turns passed site.insn made (known site.slot site.kinds) s.top.slot t.top.slot
     falls_at made e on =
         subst (λ x. Arrives notes bounds.turns (x + slot_count site.insn) (t.top.slot + slot_count site.insn) (kinds_after site.insn made (known site.slot site.kinds))) (sym old_at)
         (subst (λ y. Arrives notes bounds.turns (site.slot + slot_count site.insn) (y + slot_count site.insn) (kinds_after site.insn made (known site.slot site.kinds))) (sym at)
@@ -156,7 +159,7 @@ module _ (computed : StepsAreComputed) (keeps : StepKeepsContext) (old new : Ins
     led_at : (j : Insn) (to : ℕ) → site.moved ≡ j → led site.new_slot site.moved ≡ Some to → led t.top.slot j ≡ Some to
     led_at j to ej e = ap (λ y. led y j) at ∙ ap (λ j. led site.new_slot j) (sym ej) ∙ e
 
-    jumps_at : (j : Insn) (made : Kind) → site.moved ≡ j → result_kind (known site.slot site.kinds) site.insn ≡ made → is_call site.insn ≡ false → JumpArrives notes bounds.turns passed site.insn j made (known site.slot site.kinds) s.top.slot t.top.slot
+    jumps_at : (j : Insn) (made : Kind) → site.moved ≡ j → result_kind (known site.slot site.kinds) site.insn ≡ made → is_call site.insn ≡ false → JumpArrives old.order notes bounds.turns passed site.insn j made (known site.slot site.kinds) s.top.slot t.top.slot
     jumps_at j made ej e no_call to et =
         let a = leads to (ap (λ x. led x site.insn) (sym old_at) ∙ et) in
         (a.0, led_at j a.0 ej a.1, subst (λ made. Arrives notes bounds.turns to a.0 (kinds_after site.insn made (known site.slot site.kinds))) e (subst (λ c. Reaches c notes new bounds.turns to a.0 site.insn (known site.slot site.kinds)) no_call a.2))
@@ -175,22 +178,22 @@ module _ (computed : StepsAreComputed) (keeps : StepKeepsContext) (old new : Ins
         is : site.moved ≡ redirect site.insn (distance_of site.moved)
         is = moved_is site.insn site.moved alike
 
-        by_result : (o : Option Kind) → by_offsets (known site.slot site.kinds) site.insn ≡ o → (IsSome o) ⊎ (AreSame (known site.slot site.kinds) (registers_read site.insn)) → Caught passed u t
+        by_result : (o : Option Kind) → by_offsets (known site.slot site.kinds) site.insn ≡ o → (IsSome o) ⊎ (AreSame (known site.slot site.kinds) (registers_read site.insn) × IsTame (known site.slot site.kinds) site.insn) → Caught passed u t
         by_result (Some made) eo r =
             let made_is : result_kind (known site.slot site.kinds) site.insn ≡ made = ap (λ o. option_map_or (λ (kind : Kind). kind) o Same) eo in
             caught passed t u (does old.order (redirect site.insn (distance_of site.moved)) t) (steps_by (redirect site.insn (distance_of site.moved)) is)
-            (offsets_arrive notes bounds.turns passed old.order site.insn (distance_of site.moved) made (known site.slot site.kinds) s t u b eo (falls_at made made_is)
+            (offsets_arrive old.order notes bounds.turns passed old.order site.insn (distance_of site.moved) made (known site.slot site.kinds) s t u refl o b eo (falls_at made made_is)
             (jumps_at (redirect site.insn (distance_of site.moved)) made is made_is (no_call site.insn flow)) e)
         by_result None eo (inl some) = absurd (false≢true some)
         by_result None eo (inr same) =
             let made_is : result_kind (known site.slot site.kinds) site.insn ≡ Same = ap (λ o. option_map_or (λ (kind : Kind). kind) o Same) eo in
             caught passed t u (does old.order (redirect site.insn (distance_of site.moved)) t) (steps_by (redirect site.insn (distance_of site.moved)) is)
-            (same_arrives notes bounds.turns passed old.order site.insn (distance_of site.moved) (known site.slot site.kinds) s t u b same flow (falls_at Same made_is)
+            (same_arrives old.order notes bounds.turns passed old.order site.insn (distance_of site.moved) (known site.slot site.kinds) s t u b o same.0 same.1 flow (falls_at Same made_is)
             (jumps_at (redirect site.insn (distance_of site.moved)) Same is made_is (no_call site.insn flow)) e)
 
-    call_does : (off : ℤ) → site.insn ≡ CallLocal off → (undirected site.moved ≡ undirected site.insn) → does old.order (CallLocal off) s ≡ Some u → Caught passed u t
+    call_does : (off : ℤ) → site.insn ≡ CallLocal off → AllPlain (known site.slot site.kinds) → (undirected site.moved ≡ undirected site.insn) → does old.order (CallLocal off) s ≡ Some u → Caught passed u t
     unfolding does
-    call_does off ei alike e =
+    call_does off ei plain alike e =
         let z = distance_of site.moved in
         let is : site.moved ≡ CallLocal z = moved_is (CallLocal off) site.moved (alike ∙ ap undirected ei) in
         let room = cond_first _ (option_map (entered s) (target s.top.slot off)) u e in
@@ -199,82 +202,131 @@ module _ (computed : StepsAreComputed) (keeps : StepKeepsContext) (old new : Ins
         let enters : Enters notes new bounds.turns to.0 a.0 (listed (kinds_called (known site.slot site.kinds))) = subst (λ c. Reaches c notes new bounds.turns to.0 a.0 site.insn (known site.slot site.kinds)) (ap is_call ei) a.2 in
         let falls_call : Arrives notes bounds.turns (s.top.slot + 1) (t.top.slot + 1) (kinds_behind (CallLocal off) (known site.slot site.kinds)) =
         subst (λ i. goes_on i ≡ true → Arrives notes bounds.turns (s.top.slot + slot_count i) (t.top.slot + slot_count i) (kinds_behind i (known site.slot site.kinds))) ei (falls_at (result_kind (known site.slot site.kinds) site.insn) refl) refl in
-        called passed (kinds_called (known site.slot site.kinds)) to.0 a.0 t u (does old.order (CallLocal z) t) (steps_by (CallLocal z) is)
-        (call_kept notes bounds.turns passed off z (known site.slot site.kinds) s t u to.0 a.0 b falls_call to.1 (led_at (CallLocal z) a.0 is a.1) e) enters
+        called passed (kinds_called (known site.slot site.kinds)) to.0 a.0 t u (does old.order (CallLocal z) t) (own_does old.order (CallLocal off) s u b.top.eleven_old o e) (unset_called old.order notes bounds.turns passed (known site.slot site.kinds)) (steps_by (CallLocal z) is)
+        (call_kept old.order notes bounds.turns passed off z (known site.slot site.kinds) s t u to.0 a.0 b plain falls_call to.1 (led_at (CallLocal z) a.0 is a.1) e) enters
 
     exit_reads : Reads (known site.slot site.kinds) Exit → is_same (known site.slot site.kinds 0) ≡ true
     exit_reads (inl some) = absurd (false≢true some)
-    exit_reads (inr same) = same.0
+    exit_reads (inr same) = same.0.0
+
+    call_plain : (off : ℤ) → Reads (known site.slot site.kinds) (CallLocal off) → AllPlain (known site.slot site.kinds)
+    call_plain off (inl some) = absurd (false≢true some)
+    call_plain off (inr same) = same.1.far refl
 
     exit_moved : site.insn ≡ Exit → (undirected site.moved ≡ undirected site.insn) → site.moved ≡ Exit
     exit_moved ei alike = moved_is Exit site.moved (alike ∙ ap undirected ei)
 
     alike_does : (i : Insn) → site.insn ≡ i → (undirected site.moved ≡ undirected site.insn) → Reads (known site.slot site.kinds) site.insn → does old.order i s ≡ Some u → Caught passed u t
-    alike_does (CallLocal off) ei alike reads e = call_does off ei alike e
-    alike_does Exit ei alike reads e = caught passed t u (does old.order Exit t) (steps_by Exit (exit_moved ei alike)) (exit_kept notes bounds.turns passed old.order (known site.slot site.kinds) s t u b (exit_reads (subst (Reads (known site.slot site.kinds)) ei reads)) e)
+    alike_does (CallLocal off) ei alike reads e = call_does off ei (call_plain off (subst (Reads (known site.slot site.kinds)) ei reads)) alike e
+    alike_does Exit ei alike reads e = caught passed t u (does old.order Exit t) (steps_by Exit (exit_moved ei alike)) (exit_kept old.order notes bounds.turns passed old.order (known site.slot site.kinds) s t u b (exit_reads (subst (Reads (known site.slot site.kinds)) ei reads)) e)
     alike_does i ei alike reads e = plain_does alike reads (ap is_flow ei) (ap (λ i. does old.order i s) ei ∙ e)
 
     from_body : length s.context < 2 ^ 32 → Pairs (known site.slot site.kinds) site.insn site.moved → does old.order site.insn s ≡ Some u → Caught passed u t
     from_body short (inl (alike, reads)) e = alike_does site.insn refl alike reads e
     from_body short (inr a) e =
-        let h = is_load notes bounds.turns passed site.insn site.moved (known site.slot site.kinds) a in
+        let h = is_load old.order notes bounds.turns passed site.insn site.moved (known site.slot site.kinds) a in
         let made_is : result_kind (known site.slot site.kinds) site.insn ≡ Same = ap (λ o. option_map_or (λ (kind : Kind). kind) o Same) h.1.1 in
         caught passed t u (does old.order site.moved t) (steps_by site.moved refl)
-        (arrived notes bounds.turns passed (kinds_after site.insn Same (known site.slot site.kinds)) _ _ u _ (by_address notes bounds.turns passed old.order site.insn site.moved (known site.slot site.kinds) s t u b short a e) (falls_at Same made_is h.1.0))
+        (arrived old.order notes bounds.turns passed (kinds_after site.insn Same (known site.slot site.kinds)) _ _ u _ (by_address old.order notes bounds.turns passed old.order site.insn site.moved (known site.slot site.kinds) s t u b short a e) (falls_at Same made_is h.1.0))
 
-  between : (passed : ℕ → ℕ) (s t : State) (f : Follows notes bounds.turns passed s t) → Between notes bounds.turns passed (kind_in f.top.place.kinds) s t
+  between : (passed : ℕ → ℕ) (s t : State) (f : Follows old.order notes bounds.turns passed s t) → Between old.order notes bounds.turns passed (kind_in f.top.place.kinds) s t
   between passed s t f = record { top = f.top.fits; waiting = f.waiting; context_is = f.context_is }
+
+  -- what is known of the old machine where its run ends
+
+  -- a register is added to a pointer, and the run goes on
+  sum_lies : (dst src : Reg) (region : Region) (offset : ℤ) (span : Span) (k : ℕ) (s t : State) → length s.context ≡ bounds.length → IsState s → register s dst ≡ Some (Pointer region offset) → does old.order (Alu Add W64 dst (FromReg src)) s ≡ Some t → Step old s t → Ends old k t
+      → span_ahead old (s.top.slot + 1) (register_number dst) ≡ Some span → SumLies bounds.length s src region offset span
+  unfolding does
+  sum_lies dst src region offset span k s t long state is e step ends ea = option_and_then_some _ (register s src) t e (λ x ex e1. option_and_then_some _ (alu_result W64 Add (register s dst) x) t e1 (λ v ev e2. by_value x v ex (sym (ap (λ o. alu_result W64 Add o x) is) ∙ ev) e2))
+    where
+      frame : IsFrame s.top
+      frame = state.each_frame.0
+
+      by_value : (x v : Value) → register s src ≡ Some x → alu_result W64 Add (Some (Pointer region offset)) x ≡ Some v → put dst v (next (Alu Add W64 dst (FromReg src)) s) ≡ Some t → SumLies bounds.length s src region offset span
+      by_value (Pointer other at) v ex ev ep = absurd (none-some _ ev)
+      by_value (Number n) v ex ev ep =
+          let w : ℤ = wrapped (offset +ℤ pos n) in
+          let free = cond_second (register_number dst == 10) (Some (with_register (at_slot (s.top.slot + 1) s) (register_number dst) (Some v))) t ep in
+          let t_is : with_register (at_slot (s.top.slot + 1) s) (register_number dst) (Some v) ≡ t = same_Some _ _ free.1 in
+          let there : register_in t.top (register_number dst) ≡ Some (Pointer region w) = ap (λ t. register_in t.top (register_number dst)) (sym t_is) ∙ get_or-set_same s.top.registers (register_number dst) (Some v) None (rw frame.eleven (register_below dst)) ∙ sym ev in
+          let at : t.top.slot ≡ s.top.slot + 1 = ap (λ t. t.top.slot) (sym t_is) in
+          let lies = surely_in keeps old (register_number dst) bounds.length region w farthest_ahead k t ends (ap length (keeps old s t step) ∙ long) there in
+          record {
+            number = n;
+            fits = subst FitsMachine ex (frame.values (register_number src));
+            is = ex;
+            lies = lies span (ap (λ slot. ahead old (register_number dst) slot farthest_ahead None) at ∙ ea);
+          }
+
+  -- a run of so many more steps ends, from a state that the start leads to
+  record Sure (s : State) : Type 0 where
+    more : ℕ
+    ends : Ends old more s
+    state : IsState s
+    long : length s.context ≡ bounds.length
+
+  no_alu : (dst src : Reg) → Exit ≡ Alu Add W64 dst (FromReg src) → ⊥
+  no_alu dst src e = false≢true (ap is_straight e)
+
+  in_front : (passed : ℕ → ℕ) (i : Insn) (s : State) → insn_at old.list s.top.slot ≡ Some i → Sure s → passed s.top.slot + 1 ≤ bounds.turns → InFront passed bounds.turns (front_at old bounds s.top.slot i) s
+  in_front passed i s ei h few = record { few = few; long = h.long; spans = spans; sums = λ dst src region offset span is eb ed. by_end dst src region offset span is eb ed (goes old i h.more s ei h.ends) }
+    where
+      spans : (r : Reg) (span : Span) (region : Region) (offset : ℤ) → get_or (spans_ahead old s.top.slot) (register_number r) None ≡ Some span → register_in s.top (register_number r) ≡ Some (Pointer region offset) → LieIn (room bounds.length region) (placed region offset) span
+      spans r span region offset es is = surely_in keeps old (register_number r) bounds.length region offset farthest_ahead h.more s h.ends h.long is span (sym (spans_at old s.top.slot (register_number r) (register_below r)) ∙ es)
+
+      by_end : (dst src : Reg) (region : Region) (offset : ℤ) (span : Span) → i ≡ Alu Add W64 dst (FromReg src) → span_behind old s.top.slot i ≡ Some span → register s dst ≡ Some (Pointer region offset) → GoesOn old i s → SumLies bounds.length s src region offset span
+      by_end dst src region offset span is eb ed (Last e) = absurd (no_alu dst src (sym e ∙ is))
+      by_end dst src region offset span is eb ed (On k t e step ends) =
+          sum_lies dst src region offset span k s t h.long h.state ed (ap (λ i. does old.order i s) (sym is) ∙ e) step ends (ap (span_behind old s.top.slot) (sym is) ∙ eb)
 
   -- in front of the instruction itself
   record Before (passed : ℕ → ℕ) (site : Site) (s t : State) : Type 0 where
     count : ℕ
     state : State
     steps : Steps new count t state
-    between : Between notes bounds.turns (counted passed s.top.slot) (known site.slot site.kinds) s state
+    between : Between old.order notes bounds.turns (counted passed s.top.slot) (known site.slot site.kinds) s state
     at : state.top.slot ≡ site.new_slot
 
-  front : (passed : ℕ → ℕ) (i : Insn) (s t : State) (f : Follows notes bounds.turns passed s t) (st : Stands new notes bounds.turns f.top.place (record { slot = s.top.slot; insn = i; length = bounds.length }))
-      → InFront passed bounds.turns (record { slot = s.top.slot; insn = i; length = bounds.length }) s → Before passed st.site s t
-  front passed i s t f st facts =
-      let h = extras_go notes bounds.turns passed new (Some (record { slot = s.top.slot; insn = i; length = bounds.length })) f.top.place.first f.top.place.body f.top.place.kinds st.site.kinds s t facts (between passed s t f) f.top.slot_is st.is_site.reaches in
+  front : (passed : ℕ → ℕ) (i : Insn) (s t : State) (o : Owns s) (f : Follows old.order notes bounds.turns passed s t) (st : Stands new notes bounds.turns f.top.place (front_at old bounds s.top.slot i))
+      → InFront passed bounds.turns (front_at old bounds s.top.slot i) s → Before passed st.site s t
+  front passed i s t o f st facts =
+      let h = extras_go old.order notes bounds.turns passed new (Some (front_at old bounds s.top.slot i)) f.top.place.first f.top.place.body f.top.place.kinds st.site.kinds s t matches.order_is o facts (between passed s t f) f.top.slot_is st.is_site.reaches in
       record {
         count = h.count;
         state = h.state;
         steps = h.steps;
-        between = subst (λ slot. Between notes bounds.turns (counted passed s.top.slot) (known slot st.site.kinds) s h.state) (sym st.is_site.slot_is) (settles notes bounds.turns passed s.top.slot st.site.kinds s h.state h.between);
+        between = subst (λ slot. Between old.order notes bounds.turns (counted passed s.top.slot) (known slot st.site.kinds) s h.state) (sym st.is_site.slot_is) (settles old.order notes bounds.turns passed s.top.slot st.site.kinds s h.state h.between);
         at = h.at ∙ sym st.is_site.at_body;
       }
 
-  step_caught : (passed : ℕ → ℕ) (s t u : State) → Follows notes bounds.turns passed s t → length s.context ≡ bounds.length → Step old s u → passed s.top.slot + 1 ≤ bounds.turns → Caught (counted passed s.top.slot) u t
+  step_caught : (passed : ℕ → ℕ) (s t u : State) → Owns s → Follows old.order notes bounds.turns passed s t → Sure s → Step old s u → passed s.top.slot + 1 ≤ bounds.turns → Caught (counted passed s.top.slot) u t
   unfolding step_of
-  step_caught passed s t u f long e few = option_and_then_some _ (insn_at old.list s.top.slot) u e (λ i ei ed.
+  step_caught passed s t u o f sure e few = option_and_then_some _ (insn_at old.list s.top.slot) u e (λ i ei ed.
       let st = matches.each s.top.slot f.top.place i f.top.noted ei in
-      let h = front passed i s t f st (record { few = few; long = long; access = λ a ea. access_lies old.order i s u a ea ed }) in
+      let h = front passed i s t o f st (in_front passed i s ei sure few) in
       let site = st.is_site in
-      let c = from_body (counted passed s.top.slot) st.site s h.state u h.between (sym site.slot_is) h.at site.stands st.falls st.leads (subst (λ n. n < 2 ^ 32) (sym long) matches.short) site.pairs
+      let c = from_body (counted passed s.top.slot) st.site s h.state u o h.between (sym site.slot_is) h.at site.stands st.falls st.leads (subst (λ n. n < 2 ^ 32) (sym sure.long) matches.short) site.pairs
       (ap (λ i. does old.order i s) site.insn_is ∙ ed) in
       record { count = h.count + c.count; state = c.state; steps = runs new h.count c.count t h.state c.state h.steps c.steps; follows = c.follows })
 
   -- ---- the end
 
-  result_kept : (ws vs : List StackFrame) (o p : Option ℕ) (passed : ℕ → ℕ) (v : ℕ) → EachPair (FrameWaits notes bounds.turns passed) ws vs → result_of_exit ws o Exit ≡ Some v → (o ≡ Some v → p ≡ Some v) → result_of_exit vs p Exit ≡ Some v
+  result_kept : (ws vs : List StackFrame) (o p : Option ℕ) (passed : ℕ → ℕ) (v : ℕ) → EachPair (FrameWaits old.order notes bounds.turns passed) ws vs → result_of_exit ws o Exit ≡ Some v → (o ≡ Some v → p ≡ Some v) → result_of_exit vs p Exit ≡ Some v
   result_kept [] [] o p passed v h e k = k e
   result_kept [] (w ∷ ws) o p passed v h e k = absurd h
   result_kept (w ∷ ws) vs o p passed v h e k = absurd (none-some _ e)
 
-  no_access : (i : Insn) (s : State) → i ≡ Exit → (a : Access) → access_of i ≡ Some a → LiesAt s a
-  no_access i s is a ea = absurd (none-some _ (sym (ap access_of is) ∙ ea))
-
-  finish_caught : (passed : ℕ → ℕ) (s t : State) (v : ℕ) → Follows notes bounds.turns passed s t → length s.context ≡ bounds.length → Finish old s v → passed s.top.slot + 1 ≤ bounds.turns → (n : ℕ) × (u : State) × Steps new n t u × Finish new u v
+  finish_caught : (passed : ℕ → ℕ) (s t : State) (v : ℕ) → Owns s → Follows old.order notes bounds.turns passed s t → Sure s → Finish old s v → passed s.top.slot + 1 ≤ bounds.turns → (n : ℕ) × (u : State) × Steps new n t u × Finish new u v
   unfolding finish_of
-  finish_caught passed s t v f long e few = option_and_then_some _ (insn_at old.list s.top.slot) v e (λ i ei er.
+  finish_caught passed s t v o f sure e few = option_and_then_some _ (insn_at old.list s.top.slot) v e (λ i ei er.
       let is = exit_is s.waiting (number_of_register s R0) i v er in
       let st = matches.each s.top.slot f.top.place i f.top.noted ei in
-      let h = front passed i s t f st (record { few = few; long = long; access = no_access i s is }) in
+      let h = front passed i s t o f st (in_front passed i s ei sure few) in
       let k = counted passed s.top.slot in
       let site_is : st.site.insn ≡ Exit = st.is_site.insn_is ∙ is in
       let ends = ends_alike st.site site_is st.is_site.pairs in
-      let same : number_of_register s R0 ≡ Some v → number_of_register h.state R0 ≡ Some v = number_same notes bounds.turns k (known st.site.slot st.site.kinds) s h.state R0 h.between ends.1 v in
+      let same : number_of_register s R0 ≡ Some v → number_of_register h.state R0 ≡ Some v = number_same old.order notes bounds.turns k (known st.site.slot st.site.kinds) s h.state R0 h.between ends.1 v in
       let r = result_kept s.waiting h.state.waiting (number_of_register s R0) (number_of_register h.state R0) k v h.between.waiting (subst (λ i. result_of_exit s.waiting (number_of_register s R0) i ≡ Some v) is er) same in
       (h.count, h.state, h.steps, bind _ (insn_at new.list h.state.top.slot) Exit (Some v) (ap (insn_at new.list) h.at ∙ st.is_site.stands ∙ ap Some ends.0) r))
     where
@@ -283,7 +335,7 @@ module _ (computed : StepsAreComputed) (keeps : StepKeepsContext) (old new : Ins
         where
           reads_of : (kinds : Kinds) → Reads kinds Exit → is_same (kinds 0) ≡ true
           reads_of kinds (inl some) = absurd (false≢true some)
-          reads_of kinds (inr same) = same.0
+          reads_of kinds (inr same) = same.0.0
 
       ends_alike : (site : Site) → site.insn ≡ Exit → Pairs (known site.slot site.kinds) site.insn site.moved → (site.moved ≡ Exit) × (is_same (known site.slot site.kinds 0) ≡ true)
       ends_alike site ei (inl (alike, reads)) = (moved_is Exit site.moved (alike ∙ ap undirected ei), reads_exit (known site.slot site.kinds) site.insn ei reads)
@@ -291,9 +343,12 @@ module _ (computed : StepsAreComputed) (keeps : StepKeepsContext) (old new : Ins
 
   -- ---- the run
 
-  start_between : (context : List ℕ) → Between notes bounds.turns (visits old (start context) 0) (kind_in start_kinds) (start context) (start context)
-  start_between context = record { top = record { eleven_old = refl; eleven = refl; registers = each; stack = pairs_same empty_stack }; waiting = tt; context_is = refl }
+  start_between : (context : List ℕ) → Between old.order notes bounds.turns (visits old (start context) 0) (kind_in start_kinds) (start context) (start context)
+  start_between context = record { top = record { eleven_old = refl; eleven = refl; registers = each; long = as_many 512; stack = all_read empty_stack empty_stack (pairs_same empty_stack); slots = slots }; waiting = tt; context_is = refl }
     where
+      slots : (k : ℕ) → k < 64 → FitsSlot old.order bounds.turns (visits old (start context) 0) (register_in (start context).top) empty_stack empty_stack k (kind_in start_kinds (11 + k))
+      slots k lt = subst (λ kind. FitsSlot old.order bounds.turns (visits old (start context) 0) (register_in (start context).top) empty_stack empty_stack k kind) (sym (unset_listed (kind_in start_kinds) k lt)) (λ j lj. nothing_there 512 (8 * k + j))
+
       each : (r : ℕ) → r < 11 → FitsKind bounds.turns (visits old (start context) 0) (register_in (start context).top) r (kind_in start_kinds r) (register_in (start context).top r)
       each zero lt = same_is_kept _
       each (suc zero) lt = (refl, refl)
@@ -309,31 +364,40 @@ module _ (computed : StepsAreComputed) (keeps : StepKeepsContext) (old new : Ins
       each (suc (suc (suc (suc (suc (suc (suc (suc (suc (suc (suc r))))))))))) lt = absurd (omega arith)
 
   -- counted in another way
-  counted_as : (passed same : ℕ → ℕ) (s t : State) → ((h : ℕ) → passed h ≡ same h) → Follows notes bounds.turns passed s t → Follows notes bounds.turns same s t
+  counted_as : (passed same : ℕ → ℕ) (s t : State) → ((h : ℕ) → passed h ≡ same h) → Follows old.order notes bounds.turns passed s t → Follows old.order notes bounds.turns same s t
   counted_as passed same s t e f =
-      let b = between_more notes bounds.turns passed same (kinds_of f.top.place) s t (λ h. let k = e h in omega arith) (between passed s t f) in
+      let b = between_more old.order notes bounds.turns passed same (kinds_of f.top.place) s t (λ h. let k = e h in omega arith) (between passed s t f) in
       record { top = record { place = f.top.place; noted = f.top.noted; slot_is = f.top.slot_is; fits = b.top }; waiting = b.waiting; context_is = b.context_is }
 
-  -- after k steps of the old machine
-  follows_run : (context : List ℕ) (k : ℕ) (s : State) → length context ≡ bounds.length → Steps old k (start context) s → ((slot : ℕ) → visits old (start context) k slot ≤ bounds.turns)
-      → (n : ℕ) × (t : State) × Steps new n (start context) t × Follows notes bounds.turns (visits old (start context) k) s t × (length s.context ≡ bounds.length)
-  follows_run context zero s long run few =
-      let h = entered_by (visits old (start context) 0) start_kinds (start context) (start context) (start_between context) matches.start in
-      (h.count, h.state, h.steps, subst (λ s. Follows notes bounds.turns (visits old (start context) 0) s h.state) (sym run) h.follows, ap (λ s. length s.context) run ∙ long)
-  follows_run context (suc k) s long (mid, run, step) few =
-      let before = follows_run context k mid long run (λ slot. no_more _ _ bounds.turns (few slot)) in
+  sure_of : (context : List ℕ) (k more : ℕ) (s : State) → AreBytes context → length context ≡ bounds.length → Steps old k (start context) s → Ends old more s → length s.context ≡ bounds.length → Sure s
+  sure_of context k more s bytes long run ends there =
+      let short = matches.short in
+      let fits : length context < 2 ^ 64 = subst (λ n. n < 2 ^ 64) (sym long) (omega arith) in
+      record { more = more; ends = ends; state = states old context k s valid bytes fits run; long = there }
+
+  -- after k steps of the old machine, of a run that ends
+  follows_run : (context : List ℕ) (k more : ℕ) (s : State) → AreBytes context → length context ≡ bounds.length → Steps old k (start context) s → Ends old more s → ((slot : ℕ) → visits old (start context) k slot ≤ bounds.turns)
+      → (n : ℕ) × (t : State) × Steps new n (start context) t × Follows old.order notes bounds.turns (visits old (start context) k) s t × (length s.context ≡ bounds.length) × Owns s
+  follows_run context zero more s bytes long run ends few =
+      let h = entered_by (visits old (start context) 0) start_kinds (start context) (start context) (own_start context) (start_between context) matches.start in
+      (h.count, h.state, h.steps, subst (λ s. Follows old.order notes bounds.turns (visits old (start context) 0) s h.state) (sym run) h.follows, ap (λ s. length s.context) run ∙ long, subst Owns (sym run) (own_start context))
+  follows_run context (suc k) more s bytes long (mid, run, step) ends few =
+      let before = follows_run context k (suc more) mid bytes long run (s, step, ends) (λ slot. no_more _ _ bounds.turns (few slot)) in
       let next : (slot : ℕ) → visits old (start context) (suc k) slot ≡ counted (visits old (start context) k) mid.top.slot slot = λ slot. visits_next computed old k slot (start context) mid run in
       let once : visits old (start context) k mid.top.slot + 1 ≤ bounds.turns = subst (λ n. n ≤ bounds.turns) (next mid.top.slot ∙ own_counted (visits old (start context) k) mid.top.slot) (few mid.top.slot) in
-      let c = step_caught (visits old (start context) k) mid before.1 s before.3 before.4 step once in
-      (before.0 + c.count, c.state, runs new before.0 c.count (start context) before.1 c.state before.2 c.steps, counted_as _ _ s c.state (λ slot. sym (next slot)) c.follows, ap length (keeps old mid s step) ∙ before.4)
+      let sure : Sure mid = sure_of context k (suc more) mid bytes long run (s, step, ends) before.4 in
+      let c = step_caught (visits old (start context) k) mid before.1 s before.5 before.3 sure step once in
+      (before.0 + c.count, c.state, runs new before.0 c.count (start context) before.1 c.state before.2 c.steps, counted_as _ _ s c.state (λ slot. sym (next slot)) c.follows, ap length (keeps old mid s step) ∙ before.4, own_step old mid s before.3.top.fits.eleven_old before.5 step)
 
-pub matching_keeps_meaning : StepsAreComputed → StepKeepsContext → MatchingKeepsMeaning
-matching_keeps_meaning computed keeps old new notes bounds matches context v zero long ends = absurd ends.done
-matching_keeps_meaning computed keeps old new notes bounds matches context v (suc k) long ends =
+pub matching_keeps_meaning : StepsAreComputed → StepKeepsContext → RunsKeepStates → MatchingKeepsMeaning
+matching_keeps_meaning computed keeps states old new notes bounds valid matches context v zero bytes long ends = absurd ends.done
+matching_keeps_meaning computed keeps states old new notes bounds valid matches context v (suc k) bytes long ends =
     let last : State = ends.done.0 in
     let run = ends.done.1 in
-    let h = follows_run computed keeps old new notes bounds matches context k last long run (λ slot. no_more _ _ bounds.turns (ends.few slot)) in
+    let last_ends : Ends old 0 last = (v, ends.done.2) in
+    let h = follows_run computed keeps states old new notes bounds valid matches context k 0 last bytes long run last_ends (λ slot. no_more _ _ bounds.turns (ends.few slot)) in
     let once : visits old (start context) k last.top.slot + 1 ≤ bounds.turns =
     subst (λ n. n ≤ bounds.turns) (visits_next computed old k last.top.slot (start context) last run ∙ own_counted (visits old (start context) k) last.top.slot) (ends.few last.top.slot) in
-    let f = finish_caught computed keeps old new notes bounds matches (visits old (start context) k) last h.1 v h.3 h.4 ends.done.2 once in
+    let sure = sure_of computed keeps states old new notes bounds valid matches context k 0 last bytes long run last_ends h.4 in
+    let f = finish_caught computed keeps states old new notes bounds valid matches (visits old (start context) k) last h.1 v h.5 h.3 sure ends.done.2 once in
     (suc (h.0 + f.0), (f.1, runs new h.0 f.0 (start context) h.1 f.1 h.2 f.2, f.3))

@@ -8,7 +8,7 @@ use Rattle.bpf_semantics.specs.Memory.{byte_in, bytes_in, pointer_in, each_cell,
 use Rattle.bpf_semantics.specs.declared.value.Value.{Value}
 use Rattle.bpf_semantics.specs.declared.value.Region.{Region}
 use Rattle.std.specs.Prelude.{ℤ, ◌-◌, ◌/◌, slice_index}
-use Rattle.bpf_follows.specs.Relation.{IsKept, EachPair}
+use Rattle.bpf_follows.specs.Relation.{IsKept, IsRead, EachPair}
 
 -- ---- options
 
@@ -92,17 +92,13 @@ abbrev pub Cells : Type 0
 Cells = List (Option Cell)
 
 -- bytes that the old cells have
-pub bytes_kept : (xs ys : Cells) (bytes : List ℕ) → EachPair IsKept xs ys → bytes_in xs ≡ Some bytes → bytes_in ys ≡ Some bytes
+pub bytes_kept : (xs ys : Cells) (bytes : List ℕ) → EachPair IsRead xs ys → bytes_in xs ≡ Some bytes → bytes_in ys ≡ Some bytes
 bytes_kept [] [] bytes h e = e
 bytes_kept [] (y ∷ ys) bytes h e = absurd h
 bytes_kept (x ∷ xs) [] bytes h e = absurd h
 bytes_kept (x ∷ xs) (y ∷ ys) bytes h e = option_and_then_some _ (byte_in x) bytes e (λ b eb e1.
     let rest = unmapped _ (bytes_in xs) bytes e1 in
-    bind _ (byte_in y) b (Some bytes) (first x y b h.0 eb) (mapped _ (bytes_in ys) rest.0 (bytes_kept xs ys rest.0 h.1 rest.1) ∙ ap Some rest.2))
-  where
-    first : (x y : Option Cell) (b : ℕ) → IsKept x y → byte_in x ≡ Some b → byte_in y ≡ Some b
-    first None y b k e = absurd (none-some _ e)
-    first (Some cell) y b k e = ap byte_in (k cell refl) ∙ e
+    bind _ (byte_in y) b (Some bytes) (h.0 b eb) (mapped _ (bytes_in ys) rest.0 (bytes_kept xs ys rest.0 h.1 rest.1) ∙ ap Some rest.2))
 
 pub pointer_kept : (x y : Option Cell) (v : Value) → IsKept x y → pointer_in x ≡ Some v → pointer_in y ≡ Some v
 pointer_kept None y v k e = absurd (none-some _ e)

@@ -1,9 +1,9 @@
 -- Offsets into the context, as numbers modulo 2 ^ 64.
-use Rattle.std.proofs.Common.{◌≡◌, ℕ, ◌+◌, ◌-◌, ◌<◌, ◌≤◌, ◌%◌, ◌^◌, ◌==◌, sym, ap, ap₂, ◌∙◌, arith}
+use Rattle.std.proofs.Common.{◌≡◌, ℕ, ◌+◌, ◌-◌, ◌<◌, ◌≤◌, ◌%◌, ◌^◌, ◌==◌, to_z, of_z, sym, ap, ap₂, ◌∙◌, arith}
 use Rattle.std.specs.Prelude.{ℤ, pos, negsuc, ◌+ℤ◌, ◌-ℤ◌, ◌≤ℤ◌, FitsSigned, unsigned_abs}
 use Rattle.std.specs.Int.{w16, w32, w64, cast_signed}
 use Rattle.std.specs.Ordering.{int_eq}
-use Rattle.std.proofs.lemmas.Int.{ints}
+use Rattle.std.proofs.lemmas.Int.{ints, to_z-of_z}
 use Rattle.std.proofs.Math.Facts.{sfits_to_z}
 use Rattle.bpf_insn.specs.Arithmetic.{modulo}
 use Rattle.bpf_semantics.specs.Step.{wrapped}
@@ -48,6 +48,13 @@ down off b =
 pub apart : (a b : ℤ) → modulo (pos (modulo (a +ℤ pos 0) addresses) -ℤ pos (modulo (b +ℤ pos 0) addresses)) addresses ≡ modulo (a -ℤ b) addresses
 apart a b = modulo_same (same_minus (same_trans (modulo-same (a +ℤ pos 0)) (unmoved a)) (same_trans (modulo-same (b +ℤ pos 0)) (unmoved b)))
 
+-- a number that is added to an offset, back from the sum
+pub moved_back : (off : ℤ) (n : ℕ) → n < addresses → n ≡ modulo (wrapped (off +ℤ pos n) +ℤ (pos 0 -ℤ off)) addresses
+moved_back off n low =
+    let small : n ≡ modulo (pos n) addresses = omega arith in
+    let back : Same ((off +ℤ pos n) +ℤ (pos 0 -ℤ off)) (pos n) = same_equal (omega (arith, ints)) in
+    small ∙ sym (modulo_same (same_trans (same_plus (wrapped-same (off +ℤ pos n)) (same_refl (pos 0 -ℤ off))) back))
+
 -- the pointer that is made of an offset and the context's start
 pub pointer_there : (z : ℤ) → wrapped (pos 0 +ℤ pos (modulo z addresses)) ≡ wrapped z
 pointer_there z = ap (cast_signed w64) (modulo_same {z = pos 0 +ℤ pos (modulo z addresses)} {w = z} (same_trans (same_equal (zero_plus (pos (modulo z addresses)))) (modulo-same z)))
@@ -87,3 +94,58 @@ pub fixed_sum : (off imm : ℤ) → FitsSigned w64 (off +ℤ imm) → wrapped (o
 fixed_sum off imm f =
     let z : ℤ = off +ℤ pos (modulo imm addresses) in
     same_offsets 0 (wrapped z) (off +ℤ imm) (wrapped_fits z) f (modulo_same (same_plus (same_refl (pos 0)) (same_trans (wrapped-same z) (same_plus (same_refl off) (modulo-same imm)))))
+
+-- numbers of 32 bits, in 64
+
+near_32 : (a : ℤ) → FitsSigned w32 a → (negsuc (2 ^ 31) ≤ℤ a) × (a ≤ℤ pos (2 ^ 31))
+near_32 (pos n) f = let k = f.sfits in (omega (arith, ints), omega (arith, ints))
+near_32 (negsuc n) f = let k = f.sfits in (omega (arith, ints), omega (arith, ints))
+
+held_64 : (z : ℤ) → negsuc (2 ^ 40) ≤ℤ z → z ≤ℤ pos (2 ^ 40) → to_z w64 (of_z w64 z) ≡ z
+held_64 z l m = to_z-of_z w64 z (fits_64 z l m)
+
+pub apart_held : (a b : ℤ) → FitsSigned w32 a → FitsSigned w32 b → to_z w64 (of_z w64 (a -ℤ b)) ≡ a -ℤ b
+apart_held a b f g =
+    let ha = near_32 a f in
+    let a1 = ha.0 in
+    let a2 = ha.1 in
+    let hb = near_32 b g in
+    let b1 = hb.0 in
+    let b2 = hb.1 in
+    held_64 (a -ℤ b) (omega (arith, ints)) (omega (arith, ints))
+
+pub least_held : (a b c : ℤ) → FitsSigned w32 a → FitsSigned w32 b → FitsSigned w32 c → to_z w64 (of_z w64 ((a -ℤ b) -ℤ c)) ≡ (a -ℤ b) -ℤ c
+least_held a b c f g h =
+    let ha = near_32 a f in
+    let a1 = ha.0 in
+    let a2 = ha.1 in
+    let hb = near_32 b g in
+    let b1 = hb.0 in
+    let b2 = hb.1 in
+    let hc = near_32 c h in
+    let c1 = hc.0 in
+    let c2 = hc.1 in
+    held_64 ((a -ℤ b) -ℤ c) (omega (arith, ints)) (omega (arith, ints))
+
+pub sum_held : (n : ℕ) (a b : ℤ) → n < 2 ^ 32 → FitsSigned w32 a → FitsSigned w32 b → to_z w64 (of_z w64 (pos n +ℤ (a -ℤ b))) ≡ pos n +ℤ (a -ℤ b)
+sum_held n a b low f g =
+    let ha = near_32 a f in
+    let a1 = ha.0 in
+    let a2 = ha.1 in
+    let hb = near_32 b g in
+    let b1 = hb.0 in
+    let b2 = hb.1 in
+    held_64 (pos n +ℤ (a -ℤ b)) (omega (arith, ints)) (omega (arith, ints))
+
+pub most_fits : (n : ℕ) (a b c : ℤ) → n < 2 ^ 32 → FitsSigned w32 a → FitsSigned w32 b → FitsSigned w32 c → FitsSigned w64 ((pos n +ℤ (a -ℤ b)) -ℤ c)
+most_fits n a b c low f g h =
+    let ha = near_32 a f in
+    let a1 = ha.0 in
+    let a2 = ha.1 in
+    let hb = near_32 b g in
+    let b1 = hb.0 in
+    let b2 = hb.1 in
+    let hc = near_32 c h in
+    let c1 = hc.0 in
+    let c2 = hc.1 in
+    fits_64 ((pos n +ℤ (a -ℤ b)) -ℤ c) (omega (arith, ints)) (omega (arith, ints))

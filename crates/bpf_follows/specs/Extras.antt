@@ -1,23 +1,33 @@
 -- Extra instructions: what they make of the new program's registers, while the old program stands still. Nothing here speaks of runs.
-use Rattle.std.specs.Prelude.{ℕ, zero, suc, ◌+◌, ◌-◌, ◌==◌, nat_le, ◌&&◌, ℤ, pos, negsuc, ◌-ℤ◌, Bool, true, false, List, set, Option, Some, None, option_and_then, option_map, if◌then◌else◌}
-use Rattle.std.specs.Option.{option_map_or}
+use Rattle.std.specs.Prelude.{ℕ, zero, suc, ◌+◌, ◌-◌, ◌/◌, ◌%◌, ◌^◌, ◌==◌, nat_le, nat_lt, int_le, ◌&&◌, ℤ, pos, negsuc, ◌+ℤ◌, ◌-ℤ◌, Bool, true, false, List, set, get_or, Option, Some, None, option_and_then, option_map, if◌then◌else◌}
+use Rattle.std.specs.Option.{option_map_or, option_or}
 use Rattle.std.specs.Ordering.{int_eq}
 use Rattle.bpf_insn.specs.Arithmetic.{extended}
-use Rattle.bpf_insn.specs.Effects.{Access, access_of}
-use Rattle.bpf_insn.specs.Instruction.{Instructions, register_number, byte_count, insn_at, not_negative}
+use Rattle.bpf_insn.specs.Limits.{frame_bytes}
+use Rattle.bpf_insn.specs.Instruction.{Instructions, register_number, insn_at, not_negative}
 use Rattle.bpf_insn.specs.declared.instruction.Reg.{Reg}
 use Rattle.bpf_insn.specs.declared.instruction.AluOp.{AluOp}
 use Rattle.bpf_insn.specs.declared.instruction.Operand.{Operand}
 use Rattle.bpf_insn.specs.declared.instruction.Operand.TheVariants.{Imm, Reg as FromReg}
+use Rattle.bpf_insn.specs.declared.instruction.Size.TheVariants.{DW}
 use Rattle.bpf_insn.specs.declared.instruction.Width.TheVariants.{W64}
 use Rattle.bpf_insn.specs.declared.instruction.AluOp.TheVariants.{Add, Mov}
-use Rattle.bpf_insn.specs.declared.instruction.Cond.TheVariants.{Eq, Gt}
+use Rattle.bpf_insn.specs.declared.instruction.Cond.TheVariants.{Eq, Gt, Lt}
 use Rattle.bpf_insn.specs.declared.instruction.Insn.{Insn}
-use Rattle.bpf_insn.specs.declared.instruction.Insn.TheVariants.{Alu, JumpIf}
+use Rattle.bpf_insn.specs.declared.instruction.Insn.TheVariants.{Alu, Load, Store, StoreImm, JumpIf}
 use Rattle.bpf_follows.specs.declared.notes.Kind.{Kind}
-use Rattle.bpf_follows.specs.declared.notes.Kind.TheVariants.{Offset, Fixed, Start, Base, Moved, Address, Constant, Counter, Turn}
+use Rattle.bpf_follows.specs.declared.notes.Kind.TheVariants.{Same, Offset, Fixed, Start, Base, Moved, Address, Constant, Counter, Turn}
+use Rattle.bpf_follows.specs.declared.site.Span.{Span}
+use Rattle.bpf_follows.specs.declared.site.Range.{Range}
 use Rattle.bpf_follows.specs.declared.site.Front.{Front}
-use Rattle.bpf_follows.specs.Relation.{kind_in}
+use Rattle.bpf_follows.specs.Relation.{kind_in, is_free}
+
+-- ---- what a place holds
+
+abbrev pub is_same : Kind → Bool
+is_same Same = true
+is_same Start = true
+is_same _ = false
 
 abbrev pub kind_of : List Kind → Reg → Kind
 kind_of kinds r = kind_in kinds (register_number r)
@@ -85,30 +95,109 @@ put_by front kinds i = None
 abbrev pub made : Option Front → List Kind → Insn → Option (Reg × Kind)
 made front kinds i = option_and_then (λ w. if register_number w.0 == 10 then None else Some w) (put_by front kinds i)
 
+-- ---- the frame
+
+abbrev pub is_r10 : Reg → Bool
+is_r10 r = register_number r == 10
+
+-- the slot of the frame that begins so far from r10
+abbrev pub whole_at : ℕ → Option ℕ
+whole_at i = if i % 8 == 0 && nat_lt i frame_bytes then Some (i / 8) else None
+
+abbrev pub slot_of : ℤ → Option ℕ
+slot_of off = option_and_then whole_at (not_negative (off +ℤ pos frame_bytes))
+
+-- r10 is the end of the own frame in both
+abbrev pub frame_slot : List Kind → Reg → ℤ → Option ℕ
+frame_slot kinds r off = if is_r10 r && is_same (kind_in kinds 10) then slot_of off else None
+
+-- what the new program's slot has alone
+abbrev pub own_kind : Kind → Option Kind
+own_kind Base = Some Base
+own_kind (Moved of by) = Some (Moved of by)
+own_kind (Address of by) = Some (Address of by)
+own_kind (Constant value) = Some (Constant value)
+own_kind (Counter head) = Some (Counter head)
+own_kind (Turn head) = Some (Turn head)
+own_kind _ = None
+
+-- what is put into a slot
+abbrev pub kept_kind : Reg → Kind → Option Kind
+kept_kind r (Counter head) = Some (Counter head)
+kept_kind r (Turn head) = Some (Turn head)
+kept_kind r kind = copied r kind
+
+-- into a slot in which the old program has nothing
+abbrev pub free_slot : List Kind → Reg → ℤ → Option ℕ
+free_slot kinds r off = option_and_then (λ k. if is_free (kind_in kinds (11 + k)) then Some k else None) (frame_slot kinds r off)
+
+abbrev pub stored : List Kind → Reg → ℤ → Reg → Option (ℕ × Kind)
+stored kinds dst off src = option_and_then (λ k. option_map (λ kind. (11 + k, kind)) (kept_kind src (kind_of kinds src))) (free_slot kinds dst off)
+
+abbrev pub stored_constant : List Kind → Reg → ℤ → ℤ → Option (ℕ × Kind)
+stored_constant kinds dst off imm = option_map (λ k. (11 + k, Constant imm)) (free_slot kinds dst off)
+
+-- what is taken out of one
+abbrev pub taken : List Kind → Reg → Reg → ℤ → Option (ℕ × Kind)
+taken kinds dst src off = if is_r10 dst then None else option_and_then (λ k. option_map (λ kind. (register_number dst, kind)) (own_kind (kind_in kinds (11 + k)))) (frame_slot kinds src off)
+
+-- what an extra instruction puts into a slot, or takes out of one: the place, and what it holds then
+abbrev pub moved_by : List Kind → Insn → Option (ℕ × Kind)
+moved_by kinds (Store DW dst off src) = stored kinds dst off src
+moved_by kinds (StoreImm DW dst off imm) = stored_constant kinds dst off imm
+moved_by kinds (Load DW dst src off) = taken kinds dst src off
+moved_by kinds i = None
+
 -- ---- jumps that aren't taken
 
--- An offset that is `gap` more than where an access of k bytes begins is at most this constant, if the access lies in the context.
-abbrev pub is_enough : ℕ → ℕ → ℕ → Option ℕ → Bool
-is_enough length k most None = false
-is_enough length k most (Some gap) = nat_le (length + gap - k) most
+-- where accesses go that lie in a context of so many bytes, moved up and down: between which numbers that is
+abbrev pub range_of : ℕ → Span → ℤ → ℤ → Range
+range_of length span up down = record { least = (up -ℤ down) -ℤ span.from; most = (pos length +ℤ (up -ℤ down)) -ℤ span.to }
 
-abbrev pub guards : Front → ℤ → Access → Reg × ℤ → Bool
-guards front imm a m = register_number m.0 == register_number a.base && is_enough front.length (byte_count a.size) (extended imm) (not_negative (m.1 -ℤ a.offset))
+-- the offset that a register holds, by the accesses that surely follow
+abbrev pub offset_range : Front → Reg → Kind → Option Range
+offset_range front r kind = option_and_then (λ m. option_map (λ span. range_of front.length span m.1 (pos 0)) (get_or front.spans (register_number m.0) None)) (offset_in r kind)
 
--- the instruction's own access is by the pointer whose offset is tested
-abbrev pub is_guard : Front → Reg → Kind → ℤ → Bool
-is_guard front r kind imm = option_map_or (λ a. option_map_or (guards front imm a) (offset_in r kind) false) (access_of front.insn) false
+abbrev pub fixed_in : Kind → Option ℤ
+fixed_in (Fixed offset) = Some offset
+fixed_in _ = None
+
+-- the offset to which the instruction adds a register, if it is always the same
+abbrev pub added_to : List Kind → Reg → Insn → Option ℤ
+added_to kinds r (Alu Add W64 dst (FromReg src)) = if register_number src == register_number r then fixed_in (kind_of kinds dst) else None
+added_to kinds r i = None
+
+-- the number that it adds, by the accesses that surely follow by the sum
+abbrev pub added_range : Front → List Kind → Reg → Option Range
+added_range front kinds r = option_and_then (λ offset. option_map (λ span. range_of front.length span (pos 0) offset) front.behind) (added_to kinds r front.insn)
+
+-- between which numbers a register's lies, if the old program's run goes on to its end
+abbrev pub range_in : Front → List Kind → Reg → Kind → Option Range
+range_in front kinds r Same = added_range front kinds r
+range_in front kinds r kind = offset_range front r kind
+
+-- numbers wrap, so none of the range may be below 0 or far away
+abbrev pub is_most : ℤ → Range → Bool
+is_most imm range = int_le (pos 0) range.least && int_le range.most (pos (extended imm))
+
+abbrev pub is_least : ℤ → Range → Bool
+is_least imm range = int_le (pos (extended imm)) range.least && int_le range.most (pos (2 ^ 48))
 
 abbrev pub passes : Option Front → List Kind → Insn → Bool
 passes (Some front) kinds (JumpIf Eq W64 dst (Imm imm) off) = int_eq imm (pos 0) && is_taken (Some front) (kind_of kinds dst)
-passes (Some front) kinds (JumpIf Gt W64 dst (Imm imm) off) = is_guard front dst (kind_of kinds dst) imm
+passes (Some front) kinds (JumpIf Gt W64 dst (Imm imm) off) = option_map_or (is_most imm) (range_in front kinds dst (kind_of kinds dst)) false
+passes (Some front) kinds (JumpIf Lt W64 dst (Imm imm) off) = option_map_or (is_least imm) (range_in front kinds dst (kind_of kinds dst)) false
 passes front kinds i = false
 
 -- ---- all of them
 
--- what registers hold behind an extra instruction
+-- what an extra instruction writes, and what it holds then
+abbrev pub written : Option Front → List Kind → Insn → Option (ℕ × Kind)
+written front kinds i = option_or (moved_by kinds i) (option_map (λ w. (register_number w.0, w.1)) (made front kinds i))
+
+-- what places hold behind an extra instruction
 abbrev pub extra : Option Front → Insn → List Kind → Option (List Kind)
-extra front i kinds = if passes front kinds i then Some kinds else option_map (λ w. set kinds (register_number w.0) w.1) (made front kinds i)
+extra front i kinds = if passes front kinds i then Some kinds else option_map (λ w. set kinds w.0 w.1) (written front kinds i)
 
 abbrev pub extra_at : Instructions → Option Front → ℕ → List Kind → Option (List Kind)
 extra_at new front slot kinds = option_and_then (λ i. extra front i kinds) (insn_at new.list slot)

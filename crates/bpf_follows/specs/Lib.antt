@@ -3,6 +3,8 @@
 pub mod Meaning
 -- the simulation relation between states of the old and the new machine
 pub mod Relation
+-- which accesses of the old program surely follow
+pub mod Ahead
 -- what extra instructions of the new program make of registers
 pub mod Extras
 -- what the notes have to say at each slot

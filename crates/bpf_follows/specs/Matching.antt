@@ -1,31 +1,35 @@
 -- What has to hold of the notes at each slot. Nothing here speaks of runs.
-use Rattle.std.specs.Prelude.{◌≡◌, ◌≢◌, ℕ, ◌+◌, ◌-◌, ◌^◌, ◌<◌, nat_le, unsigned_abs, ◌==◌, nat_lt, ℤ, pos, ◌+ℤ◌, FitsSigned, ◌⊎◌, true, false, Bool, ◌&&◌, ◌||◌, List, [], ◌∷◌, Option, Some, None, IsSome, option_and_then, if◌then◌else◌}
+use Rattle.std.specs.Prelude.{◌≡◌, ◌≢◌, ℕ, ◌+◌, ◌-◌, ◌/◌, ◌^◌, ◌<◌, nat_le, unsigned_abs, ◌==◌, nat_lt, ℤ, pos, ◌+ℤ◌, FitsSigned, ◌⊎◌, true, false, Bool, not, ◌&&◌, ◌||◌, List, [], ◌∷◌, ◌++◌, replicate, Option, Some, None, IsSome, option_and_then, option_map, if◌then◌else◌}
 use Rattle.std.specs.Int.{w16}
 use Rattle.std.specs.List.{AllByRecursion}
 use Rattle.std.specs.Option.{option_map_or}
 use Rattle.std.specs.Ordering.{int_eq}
 use Rattle.bpf_insn.specs.Effects.{Access, access_of, registers_read, register_written}
-use Rattle.bpf_insn.specs.Instruction.{Instructions, register_number, slot_count, insn_at, distance, target, goes_on}
+use Rattle.bpf_insn.specs.Instruction.{Instructions, register_number, byte_count, slot_count, insn_at, distance, target, goes_on, not_negative}
+use Rattle.bpf_insn.specs.Limits.{frame_bytes}
 use Rattle.bpf_insn.specs.declared.instruction.Reg.{Reg}
 use Rattle.bpf_insn.specs.declared.instruction.Operand.{Operand}
 use Rattle.bpf_insn.specs.declared.instruction.Operand.TheVariants.{Imm, Reg as FromReg}
+use Rattle.bpf_insn.specs.declared.instruction.Size.TheVariants.{DW}
 use Rattle.bpf_insn.specs.declared.instruction.Width.TheVariants.{W64}
 use Rattle.bpf_insn.specs.declared.instruction.AluOp.{AluOp}
 use Rattle.bpf_insn.specs.declared.instruction.AluOp.TheVariants.{Add, Sub, Mov}
 use Rattle.bpf_insn.specs.declared.instruction.Cond.{Cond}
 use Rattle.bpf_insn.specs.declared.instruction.Cond.TheVariants.{Eq, Ne}
 use Rattle.bpf_insn.specs.declared.instruction.Insn.{Insn}
-use Rattle.bpf_insn.specs.declared.instruction.Insn.TheVariants.{Alu, Load, LoadSx, Ja, JaLong, JumpIf, CallLocal}
+use Rattle.bpf_insn.specs.declared.instruction.Insn.TheVariants.{Alu, Load, LoadSx, Store, Ja, JaLong, JumpIf, CallLocal}
+use Rattle.bpf_semantics.specs.Memory.{is_within}
 use Rattle.bpf_follows.specs.declared.notes.Kind.{Kind}
-use Rattle.bpf_follows.specs.declared.notes.Kind.TheVariants.{Nothing, Same, Offset, Fixed, Start, Moved, Address}
+use Rattle.bpf_follows.specs.declared.notes.Kind.TheVariants.{Nothing, Unset, Same, Offset, Fixed, Start, Moved, Address}
 use Rattle.bpf_follows.specs.declared.notes.Bounds.{Bounds}
 use Rattle.bpf_follows.specs.declared.notes.Place.{Place}
 use Rattle.bpf_follows.specs.declared.site.Front.{Front}
 use Rattle.bpf_follows.specs.declared.site.Site.{Site}
 use Rattle.bpf_follows.specs.declared.mismatch.Mismatch.{Mismatch}
 use Rattle.bpf_follows.specs.declared.mismatch.Mismatch.TheVariants.{Order, Start as AtStart, At}
-use Rattle.bpf_follows.specs.Relation.{Kinds, Gives, kind_in, kinds_of, known, place_at}
-use Rattle.bpf_follows.specs.Extras.{is_base, extras}
+use Rattle.bpf_follows.specs.Relation.{places, Kinds, Gives, kind_in, kinds_of, known, place_at}
+use Rattle.bpf_follows.specs.Ahead.{spans_ahead, span_behind}
+use Rattle.bpf_follows.specs.Extras.{is_same, is_base, is_r10, slot_of, extras}
 
 -- ---- instructions
 
@@ -42,11 +46,6 @@ is_call (CallLocal off) = true
 is_call _ = false
 
 -- ---- the same instruction, on registers that hold the same, or on offsets
-
-abbrev pub is_same : Kind → Bool
-is_same Same = true
-is_same Start = true
-is_same _ = false
 
 -- the register, if there is one, holds the same in both
 abbrev pub IsSame : Kinds → Option Reg → Type 0
@@ -97,17 +96,65 @@ is_equality Eq = true
 is_equality Ne = true
 is_equality _ = false
 
+abbrev pub is_spilled : Kind → Bool
+is_spilled Offset = true
+is_spilled _ = false
+
 abbrev pub are_offsets : Kinds → Reg → Reg → Bool
 are_offsets kinds dst src = is_offset (kinds (register_number dst)) && is_offset (kinds (register_number src))
+
+-- an offset that a slot of the frame holds, and one that is put there
+abbrev pub slot_offset : Kinds → ℕ → Option Kind
+slot_offset kinds k = if is_spilled (kinds (11 + k)) then Some Offset else None
+
+abbrev pub loaded : Kinds → Reg → ℤ → Option Kind
+loaded kinds src off = if is_r10 src && is_same (kinds 10) then option_and_then (slot_offset kinds) (slot_of off) else None
+
+abbrev pub spilled : Kinds → Reg → ℤ → Reg → Option Kind
+spilled kinds dst off src = if (is_r10 dst && is_same (kinds 10)) && is_offset (kinds (register_number src)) then option_map (λ k. Offset) (slot_of off) else None
 
 -- what the instruction writes, where it does on offsets what the old program does on pointers; of a test nothing
 abbrev pub by_offsets : Kinds → Insn → Option Kind
 by_offsets kinds (Alu op W64 dst src) = of_operand kinds op dst src
 by_offsets kinds (JumpIf cond W64 dst (FromReg src) off) = if is_equality cond && are_offsets kinds dst src then Some Nothing else None
+by_offsets kinds (Load DW dst src off) = loaded kinds src off
+by_offsets kinds (Store DW dst off src) = spilled kinds dst off src
 by_offsets kinds i = None
 
+-- ---- the same instruction, on the frame
+
+-- each cell of a slot is the same, wherever the old program has something there
+abbrev pub is_plain : Kind → Bool
+is_plain Nothing = false
+is_plain Offset = false
+is_plain _ = true
+
+abbrev pub AllPlain : Kinds → Type 0
+AllPlain kinds = (k : ℕ) → k < 64 → is_plain (kinds (11 + k)) ≡ true
+
+-- the instruction reads a whole slot, if it reads one
+abbrev pub is_whole : Insn → Bool
+is_whole (Load DW dst src off) = true
+is_whole _ = false
+
+-- it may go to any slot of any frame, and writes there or reads it whole
+abbrev pub is_far_access : Insn → Access → Bool
+is_far_access i a = not (is_r10 a.base) && (a.writes || is_whole i)
+
+abbrev pub is_far : Insn → Bool
+is_far i = is_call i || option_map_or (is_far_access i) (access_of i) false
+
+-- the slot of its own frame that it reads whole
+abbrev pub whole_slot : Insn → Option ℕ
+whole_slot (Load DW dst src off) = if is_r10 src then slot_of off else None
+whole_slot _ = None
+
+pub record IsTame (kinds : Kinds) (i : Insn) : Type 0 where
+  pub far : is_far i ≡ true → AllPlain kinds
+  pub near : (k : ℕ) → whole_slot i ≡ Some k → is_plain (kinds (11 + k)) ≡ true
+
 abbrev pub Reads : Kinds → Insn → Type 0
-Reads kinds i = IsSome (by_offsets kinds i) ⊎ AreSame kinds (registers_read i)
+Reads kinds i = IsSome (by_offsets kinds i) ⊎ (AreSame kinds (registers_read i) × IsTame kinds i)
 
 -- what the instruction writes
 abbrev pub result_kind : Kinds → Insn → Kind
@@ -137,6 +184,7 @@ pub record ByAddress (kinds : Kinds) (i moved : Insn) : Type 0 where
   pub new_is : access_of moved ≡ Some new
   pub alike : rebased i new.base new.offset ≡ Some moved
   pub same_place : is_same_place kinds old new ≡ true
+  pub other : is_r10 old.base ≡ false
   pub near : FitsSigned w16 new.offset
 
 -- the new instruction does what the old one does
@@ -145,9 +193,23 @@ Pairs kinds i moved = ((undirected moved ≡ undirected i) × Reads kinds i) ⊎
 
 -- ---- kinds along an edge
 
--- a call leaves r0 to r5 to the callee, and gives its caller r0 alone; any other instruction writes what it writes
+-- whether an access by r10 goes to slot k of the frame
+abbrev pub touches : Access → ℕ → Bool
+touches a k = option_map_or (λ i. is_within (i / 8) ((i + byte_count a.size + 7) / 8) k) (not_negative (a.offset +ℤ pos frame_bytes)) false
+
+-- an access by another register may write to any slot
+abbrev pub is_written : ℕ → Access → Bool
+is_written r a = a.writes && (nat_le 11 r && (if is_r10 a.base then touches a (r - 11) else true))
+
+abbrev pub writes_slot : Insn → ℕ → Bool
+writes_slot i r = option_map_or (is_written r) (access_of i) false
+
+-- A call leaves r0 to r5 and the frame to the callee, and gives its caller r0 alone; any other instruction writes what it writes.
 abbrev pub is_changed : Insn → ℕ → Bool
-is_changed i r = if is_call i then nat_lt r 6 else option_map_or (λ w. r == register_number w) (register_written i) false
+is_changed i r =
+    if is_call i then nat_lt r 6 || nat_le 11 r
+    else if writes_slot i r then true
+    else option_map_or (λ w. r == register_number w) (register_written i) false
 
 -- what is said by another register is gone with it
 abbrev pub held : Insn → Kind → Kind
@@ -155,7 +217,7 @@ held i (Moved of by) = if is_call i || is_changed i (register_number of) then No
 held i (Address of by) = if is_call i || is_changed i (register_number of) then Nothing else Address of by
 held i kind = kind
 
--- what registers are behind an instruction that writes what is of a kind
+-- what is said of places behind an instruction that writes what is of a kind
 abbrev pub kinds_after : Insn → Kind → Kinds → Kinds
 kinds_after i kind kinds r = if is_changed i r then kind else held i (kinds r)
 
@@ -167,19 +229,24 @@ handed (Moved of by) = Nothing
 handed (Address of by) = Nothing
 handed kind = kind
 
--- at the entry of a function: r1 to r5 are the caller's, r10 is its own frame in both, and the old program has nothing in the others
+-- at the entry of a function: r1 to r5 are the caller's, r10 is its own frame in both, and the old program has nothing in the others, nor in
+-- the frame
 abbrev pub kinds_called : Kinds → Kinds
-kinds_called kinds r = if r == 0 || nat_lt 5 r then Same else handed (kinds r)
+kinds_called kinds r = if nat_le 11 r then Unset else if r == 0 || nat_lt 5 r then Same else handed (kinds r)
+
+-- in a new frame there is nothing
+abbrev pub in_new_frame : List Kind → List Kind
+in_new_frame kinds = kinds ++ replicate 64 Unset
 
 abbrev pub listed : Kinds → List Kind
-listed kinds = kinds 0 ∷ kinds 1 ∷ kinds 2 ∷ kinds 3 ∷ kinds 4 ∷ kinds 5 ∷ kinds 6 ∷ kinds 7 ∷ kinds 8 ∷ kinds 9 ∷ kinds 10 ∷ []
+listed kinds = in_new_frame (kinds 0 ∷ kinds 1 ∷ kinds 2 ∷ kinds 3 ∷ kinds 4 ∷ kinds 5 ∷ kinds 6 ∷ kinds 7 ∷ kinds 8 ∷ kinds 9 ∷ kinds 10 ∷ [])
 
 -- an edge leads to what stands for the slot, with kinds that are enough for it
 pub record Arrives (notes : List (Option Place)) (turns slot new_slot : ℕ) (kinds : Kinds) : Type 0 where
   pub place : Place
   pub noted : place_at notes slot ≡ Some place
   pub slot_is : new_slot ≡ place.first
-  pub gives : (r : ℕ) → r < 11 → Gives turns r (kinds r) (kinds_of place r)
+  pub gives : (r : ℕ) → r < places → Gives turns r (kinds r) (kinds_of place r)
 
 -- a call, or the start, leads to the entry, behind which extra instructions make of what is given what is wanted
 pub record Enters (notes : List (Option Place)) (new : Instructions) (turns slot new_slot : ℕ) (kinds : List Kind) : Type 0 where
@@ -188,7 +255,7 @@ pub record Enters (notes : List (Option Place)) (new : Instructions) (turns slot
   pub slot_is : new_slot ≡ place.entry
   pub made : List Kind
   pub makes : extras new None place.entry place.first kinds ≡ Some made
-  pub gives : (r : ℕ) → r < 11 → Gives turns r (kind_in made r) (kinds_of place r)
+  pub gives : (r : ℕ) → r < places → Gives turns r (kind_in made r) (kinds_of place r)
 
 -- ---- an instruction
 
@@ -228,13 +295,16 @@ pub record Stands (new : Instructions) (notes : List (Option Place)) (turns : �
 
 -- ---- the notes match
 
+abbrev pub front_at : Instructions → Bounds → ℕ → Insn → Front
+front_at old bounds slot i = record { slot = slot; insn = i; length = bounds.length; spans = spans_ahead old slot; behind = span_behind old slot i }
+
 -- at a slot that is noted, where an instruction of the old program begins
 abbrev pub StandsAt : Instructions → Instructions → List (Option Place) → Bounds → ℕ → Type 0
 StandsAt old new notes bounds slot = (place : Place) (i : Insn) → place_at notes slot ≡ Some place → insn_at old.list slot ≡ Some i
-    → Stands new notes bounds.turns place (record { slot = slot; insn = i; length = bounds.length })
+    → Stands new notes bounds.turns place (front_at old bounds slot i)
 
 abbrev pub start_kinds : List Kind
-start_kinds = Same ∷ Start ∷ Same ∷ Same ∷ Same ∷ Same ∷ Same ∷ Same ∷ Same ∷ Same ∷ Same ∷ []
+start_kinds = in_new_frame (Same ∷ Start ∷ Same ∷ Same ∷ Same ∷ Same ∷ Same ∷ Same ∷ Same ∷ Same ∷ Same ∷ [])
 
 pub record Matches (old new : Instructions) (notes : List (Option Place)) (bounds : Bounds) : Type 0 where
   pub short : bounds.length < 2 ^ 32

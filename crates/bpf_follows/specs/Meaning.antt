@@ -1,5 +1,6 @@
 -- What it means that a new program keeps the meaning of an old one.
 use Rattle.std.specs.Prelude.{◌≡◌, ℕ, zero, suc, ◌+◌, ◌≤◌, ◌==◌, Bool, false, List, length, Option, Some, None, if◌then◌else◌}
+use Rattle.bpf_insn.specs.Laws.{AreBytes}
 use Rattle.bpf_insn.specs.Instruction.{Instructions}
 use Rattle.bpf_semantics.specs.State.{State, start}
 use Rattle.bpf_semantics.specs.Run.{IsDone, state_after}
@@ -19,6 +20,6 @@ pub record EndsInTurns (p : Instructions) (context : List ℕ) (turns v k : ℕ)
   pub done : IsDone p context v k
   pub few : (slot : ℕ) → visits p (start context) k slot ≤ turns
 
--- On each context of so many bytes on which the old program ends so, the new one ends with the same number.
+-- On each context of so many bytes, which are below 256, on which the old program ends so, the new one ends with the same number.
 abbrev pub KeepsMeaning : Instructions → Instructions → Bounds → Type 0
-KeepsMeaning old new bounds = (context : List ℕ) (v k : ℕ) → length context ≡ bounds.length → EndsInTurns old context bounds.turns v k → (n : ℕ) × IsDone new context v n
+KeepsMeaning old new bounds = (context : List ℕ) (v k : ℕ) → AreBytes context → length context ≡ bounds.length → EndsInTurns old context bounds.turns v k → (n : ℕ) × IsDone new context v n

@@ -1,19 +1,28 @@
 -- The simulation relation: how a state of the new machine follows one of the old machine.
-use Rattle.std.specs.Prelude.{◌≡◌, ℕ, ◌+◌, ◌^◌, ◌<◌, ◌≤◌, ◌⊎◌, ◌==◌, nat_le, ◌&&◌, Bool, true, false, ℤ, pos, ◌+ℤ◌, FitsSigned, List, [], ◌∷◌, length, get_or, Option, Some, None, if◌then◌else◌}
+use Rattle.std.specs.Prelude.{◌≡◌, ℕ, ◌+◌, ◌*◌, ◌^◌, ◌<◌, ◌≤◌, ◌⊎◌, ◌==◌, nat_le, ◌&&◌, Bool, true, false, ℤ, pos, ◌+ℤ◌, FitsSigned, List, [], ◌∷◌, length, get_or, slice_index, Option, Some, None, if◌then◌else◌}
 use Rattle.std.specs.Int.{w64}
 use Rattle.std.specs.Ordering.{int_eq}
 use Rattle.bpf_insn.specs.Arithmetic.{modulo, extended}
 use Rattle.bpf_insn.specs.Instruction.{register_number}
-use Rattle.bpf_semantics.specs.State.{StackFrame, State}
+use Rattle.bpf_insn.specs.Limits.{frame_bytes}
+use Rattle.bpf_insn.specs.Order.{bytes_of}
+use Rattle.bpf_insn.specs.declared.order.Order.{Order}
+use Rattle.bpf_semantics.specs.State.{Cell, StackFrame, State, FitsMachine, cell}
+use Rattle.bpf_semantics.specs.State.Cell.{Byte, Part}
+use Rattle.bpf_semantics.specs.Memory.{byte_in}
 use Rattle.bpf_semantics.specs.Step.{wrapped}
 use Rattle.bpf_semantics.specs.declared.value.Value.{Value}
 use Rattle.bpf_semantics.specs.declared.value.Value.TheVariants.{Number as ANumber, Pointer}
 use Rattle.bpf_semantics.specs.declared.value.Region.TheVariants.{Context}
 use Rattle.bpf_follows.specs.declared.notes.Kind.{Kind}
-use Rattle.bpf_follows.specs.declared.notes.Kind.TheVariants.{Nothing, Same, Number, Offset, Fixed, Start, Base, Moved, Address, Constant, Counter, Turn}
+use Rattle.bpf_follows.specs.declared.notes.Kind.TheVariants.{Nothing, Unset, Same, Number, Offset, Fixed, Start, Base, Moved, Address, Constant, Counter, Turn}
 use Rattle.bpf_follows.specs.declared.notes.Place.{Place}
 
--- what is said of r0 to r10 in front of an instruction
+-- Notes speak of 75 places: r0 to r10, and the frame's 64 slots of eight bytes, the lowest first.
+abbrev pub places : ℕ
+places = 75
+
+-- what is said of each place in front of an instruction
 abbrev pub Kinds : Type 0
 Kinds = ℕ → Kind
 
@@ -31,16 +40,29 @@ settled slot kind = kind
 abbrev pub known : ℕ → List Kind → Kinds
 known slot kinds r = settled slot (kind_in kinds r)
 
--- one kind of register r says more than another
+-- a slot of the frame in which the old program has nothing
+abbrev pub is_free : Kind → Bool
+is_free Unset = true
+is_free Base = true
+is_free (Moved of by) = true
+is_free (Address of by) = true
+is_free (Constant value) = true
+is_free (Counter head) = true
+is_free (Turn head) = true
+is_free _ = false
+
+-- one kind of a place says more than another
 abbrev pub weaker : ℕ → ℕ → Kind → Kind → Bool
 weaker turns r (Fixed offset) Offset = true
 weaker turns r Start Same = true
 weaker turns r Start Base = true
 weaker turns r (Moved of by) Offset = register_number of == r && int_eq by (pos 0)
 weaker turns r (Constant value) (Counter head) = nat_le turns (extended value)
+weaker turns r have Same = nat_le 11 r && is_free have
+weaker turns r have Unset = nat_le 11 r && is_free have
 weaker turns r _ _ = false
 
--- one kind of register r is enough for another
+-- one kind of a place is enough for another
 abbrev pub Gives : ℕ → ℕ → Kind → Kind → Type 0
 Gives turns r have want = (want ≡ Nothing) ⊎ ((want ≡ have) ⊎ (weaker turns r have want ≡ true))
 
@@ -79,6 +101,7 @@ CountsDown turns spent new = (left : ℕ) × (left < 2 ^ 64) × (new ≡ Some (A
 -- each slot so far.
 abbrev pub FitsKind : ℕ → (ℕ → ℕ) → (ℕ → Option Value) → ℕ → Kind → Option Value → Type 0
 FitsKind turns passed old r Nothing new = Unit {0}
+FitsKind turns passed old r Unset new = old r ≡ None
 FitsKind turns passed old r Same new = IsKept (old r) new
 FitsKind turns passed old r Number new = (v : Value) → old r ≡ Some v → (x : ℕ) × (v ≡ ANumber x) × (new ≡ Some (ANumber x))
 FitsKind turns passed old r Offset new = HasOffset (pos 0) as_number (old r) new
@@ -94,19 +117,69 @@ FitsKind turns passed old r (Turn head) new = CountsDown turns (passed head + 1)
 abbrev pub register_in : StackFrame → ℕ → Option Value
 register_in frame r = get_or frame.registers r None
 
--- registers are as their kinds say, and each cell of the stack is kept
-pub record FrameFits (turns : ℕ) (passed : ℕ → ℕ) (kinds : Kinds) (old new : StackFrame) : Type 0 where
+-- ---- the frame's slots
+
+abbrev pub cell_of : Order → Value → ℕ → Cell
+cell_of order (ANumber n) j = Byte (slice_index (bytes_of order 8 n) j)
+cell_of order (Pointer region off) j = Part j region off
+
+-- the eight cells of slot k hold the value
+pub record Holds (order : Order) (stack : List (Option Cell)) (k : ℕ) (value : Value) : Type 0 where
+  pub fits : FitsMachine (Some value)
+  pub cells : (j : ℕ) → j < 8 → cell stack (8 * k + j) ≡ Some (cell_of order value j)
+
+-- they hold nothing
+abbrev pub IsUnset : List (Option Cell) → ℕ → Type 0
+IsUnset stack k = (j : ℕ) → j < 8 → cell stack (8 * k + j) ≡ None
+
+-- what the old machine holds in them the new one holds
+abbrev pub SlotKept : List (Option Cell) → List (Option Cell) → ℕ → Type 0
+SlotKept old new k = (j : ℕ) → j < 8 → IsKept (cell old (8 * k + j)) (cell new (8 * k + j))
+
+-- The old machine holds a pointer into the context, and the new one its offset as a number.
+pub record HoldsOffset (order : Order) (old new : List (Option Cell)) (k : ℕ) : Type 0 where
+  pub offset : ℤ
+  pub fits : FitsSigned w64 offset
+  pub old_is : Holds order old k (Pointer Context offset)
+  pub new_is : Holds order new k (as_number offset)
+
+-- The old machine holds nothing, and the new one a value of the kind.
+pub record HoldsOwn (order : Order) (turns : ℕ) (passed : ℕ → ℕ) (registers : ℕ → Option Value) (old new : List (Option Cell)) (k : ℕ) (kind : Kind) : Type 0 where
+  pub unset : IsUnset old k
+  pub value : Value
+  pub holds : Holds order new k value
+  pub fits : FitsKind turns passed registers (11 + k) kind (Some value)
+
+-- A slot of the new machine's frame by its kind, where the old machine has these registers and these cells.
+abbrev pub FitsSlot : Order → ℕ → (ℕ → ℕ) → (ℕ → Option Value) → List (Option Cell) → List (Option Cell) → ℕ → Kind → Type 0
+FitsSlot order turns passed registers old new k Nothing = Unit {0}
+FitsSlot order turns passed registers old new k Unset = IsUnset old k
+FitsSlot order turns passed registers old new k Same = SlotKept old new k
+FitsSlot order turns passed registers old new k Number = ⊥
+FitsSlot order turns passed registers old new k Offset = HoldsOffset order old new k
+FitsSlot order turns passed registers old new k (Fixed offset) = ⊥
+FitsSlot order turns passed registers old new k Start = ⊥
+FitsSlot order turns passed registers old new k kind = HoldsOwn order turns passed registers old new k kind
+
+-- a byte of the old machine is one of the new one
+abbrev pub IsRead : Option Cell → Option Cell → Type 0
+IsRead old new = IsKept (byte_in old) (byte_in new)
+
+-- registers and slots are as their kinds say, and each byte of the stack is kept
+pub record FrameFits (order : Order) (turns : ℕ) (passed : ℕ → ℕ) (kinds : Kinds) (old new : StackFrame) : Type 0 where
   pub eleven_old : length old.registers ≡ 11
   pub eleven : length new.registers ≡ 11
   pub registers : (r : ℕ) → r < 11 → FitsKind turns passed (register_in old) r (kinds r) (register_in new r)
-  pub stack : EachPair IsKept old.stack new.stack
+  pub long : length old.stack ≡ frame_bytes
+  pub stack : EachPair IsRead old.stack new.stack
+  pub slots : (k : ℕ) → k < 64 → FitsSlot order turns passed (register_in old) old.stack new.stack k (kinds (11 + k))
 
 -- and the new frame goes on where the notes say
-pub record FrameFollows (notes : List (Option Place)) (turns : ℕ) (passed : ℕ → ℕ) (old new : StackFrame) : Type 0 where
+pub record FrameFollows (order : Order) (notes : List (Option Place)) (turns : ℕ) (passed : ℕ → ℕ) (old new : StackFrame) : Type 0 where
   pub place : Place
   pub noted : place_at notes old.slot ≡ Some place
   pub slot_is : new.slot ≡ place.first
-  pub fits : FrameFits turns passed (kinds_of place) old new
+  pub fits : FrameFits order turns passed (kinds_of place) old new
 
 -- it is said of a register by another register's value
 abbrev pub is_of_other : Kind → Bool
@@ -114,14 +187,16 @@ is_of_other (Moved of by) = true
 is_of_other (Address of by) = true
 is_of_other _ = false
 
--- A frame that waits for a call. What the call gives it, and what it loses by it, is the same in both.
-pub record FrameWaits (notes : List (Option Place)) (turns : ℕ) (passed : ℕ → ℕ) (old new : StackFrame) : Type 0 where
-  pub follows : FrameFollows notes turns passed old new
+-- A frame that waits for a call. What the call gives it, and what it loses by it, is the same in both, and each cell of its stack is kept.
+pub record FrameWaits (order : Order) (notes : List (Option Place)) (turns : ℕ) (passed : ℕ → ℕ) (old new : StackFrame) : Type 0 where
+  pub follows : FrameFollows order notes turns passed old new
   pub result : (r : ℕ) → r < 6 → Gives turns r Same (kinds_of follows.place r)
   pub own : (r : ℕ) → r < 11 → is_of_other (kinds_of follows.place r) ≡ false
+  pub kept : EachPair IsKept old.stack new.stack
+  pub slots : (k : ℕ) → k < 64 → Gives turns (11 + k) Same (kinds_of follows.place (11 + k))
 
 -- The new state follows the old one: as many frames are live, each follows, and the context is the same.
-pub record Follows (notes : List (Option Place)) (turns : ℕ) (passed : ℕ → ℕ) (old new : State) : Type 0 where
-  pub top : FrameFollows notes turns passed old.top new.top
-  pub waiting : EachPair (FrameWaits notes turns passed) old.waiting new.waiting
+pub record Follows (order : Order) (notes : List (Option Place)) (turns : ℕ) (passed : ℕ → ℕ) (old new : State) : Type 0 where
+  pub top : FrameFollows order notes turns passed old.top new.top
+  pub waiting : EachPair (FrameWaits order notes turns passed) old.waiting new.waiting
   pub context_is : new.context ≡ old.context

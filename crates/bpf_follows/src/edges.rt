@@ -1,12 +1,12 @@
 //! Edges: where an instruction leads, and what the notes say there.
 
 ghost use Rattle.std.specs.Prelude.{◌≡◌, ◌<◌, ◌↔◌, ℕ, IsTrue};
-ghost use Rattle.bpf_follows.specs.Relation.{kind_in, kinds_of, known, Gives};
+ghost use Rattle.bpf_follows.specs.Relation.{places, kind_in, kinds_of, known, Gives};
 ghost use Rattle.bpf_follows.specs.Matching.{kinds_behind, start_kinds, Arrives, Enters};
 
 use crate::extras::extras;
-use crate::kinds::{REGISTERS, gives, kind_behind, kind_of, place_at};
-use crate::notes::{Kind, Place};
+use crate::kinds::{gives, kind_behind, kind_of, place_at, start_kinds};
+use crate::notes::{Kinds, PLACES, Place};
 use crate::site::Site;
 use bpf_insn::Code;
 
@@ -19,11 +19,11 @@ pub struct Edge {
 
 // ---- jumps, and the ways to the next instruction
 
-/// Whether what registers hold behind an instruction is enough for a place.
+/// Whether what places hold behind an instruction is enough for a place.
 fn all_given(turns: u32, site: &Site, to: &Place) -> bool
-    ensures { IsTrue result ↔ ((r : ℕ) → r < 11 → Gives turns r (kinds_behind site.now.insn (known site.now.slot site.now.kinds) r) (kinds_of to.now r)) }
+    ensures { IsTrue result ↔ ((r : ℕ) → r < places → Gives turns r (kinds_behind site.now.insn (known site.now.slot site.now.kinds) r) (kinds_of to.now r)) }
 {
-    for r in 0..REGISTERS {
+    for r in 0..PLACES as u8 {
         if !gives(turns, r, kind_behind(site, r), kind_of(&to.kinds, r)) {
             return false;
         }
@@ -43,11 +43,11 @@ pub fn arrives(notes: &[Option<Place>], turns: u32, site: &Site, edge: Edge) -> 
 
 // ---- calls, and the start
 
-/// Whether what registers hold behind an entry is enough for a place.
-fn all_entered(turns: u32, kinds: &[Kind; 11], to: &Place) -> bool
-    ensures { IsTrue result ↔ ((r : ℕ) → r < 11 → Gives turns r (kind_in kinds.now r) (kinds_of to.now r)) }
+/// Whether what places hold behind an entry is enough for a place.
+fn all_entered(turns: u32, kinds: &Kinds, to: &Place) -> bool
+    ensures { IsTrue result ↔ ((r : ℕ) → r < places → Gives turns r (kind_in kinds.now r) (kinds_of to.now r)) }
 {
-    for r in 0..REGISTERS {
+    for r in 0..PLACES as u8 {
         if !gives(turns, r, kind_of(kinds, r), kind_of(&to.kinds, r)) {
             return false;
         }
@@ -60,7 +60,7 @@ pub fn enters<N: Code>(
     new: &N,
     notes: &[Option<Place>],
     turns: u32,
-    kinds: [Kind; 11],
+    kinds: Kinds,
     edge: Edge,
 ) -> bool
     ensures { IsTrue result ↔ Enters notes.now (N.program new.now) turns edge.slot edge.new_slot kinds }
@@ -81,11 +81,9 @@ pub fn enters<N: Code>(
 pub fn starts<N: Code>(new: &N, notes: &[Option<Place>], turns: u32) -> bool
     ensures { IsTrue result ↔ Enters notes.now (N.program new.now) turns 0 0 start_kinds }
 {
-    let mut kinds = [Kind::Same; 11];
-    kinds[1] = Kind::Start;
     let edge = Edge {
         slot: 0,
         new_slot: 0,
     };
-    enters(new, notes, turns, kinds, edge)
+    enters(new, notes, turns, start_kinds(), edge)
 }

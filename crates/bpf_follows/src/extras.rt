@@ -1,19 +1,26 @@
 //! Extra instructions of the new program: they put the context's start away and set counters at an entry, and take turns, guard
 //! and make addresses in front of an instruction.
 
-ghost use Rattle.std.specs.Prelude.{◌≡◌, ◌-ℤ◌};
-ghost use Rattle.bpf_insn.specs.Instruction.{not_negative};
-ghost use Rattle.bpf_follows.specs.Extras.{constant_kind, offset_in, copied, is_taken, added, is_base, address, put_kind, put_by, made, is_enough, guards, is_guard, passes, extra, extra_at, extras};
+ghost use Rattle.std.specs.Prelude.{◌≡◌, ◌<◌, pos, ◌+ℤ◌, ◌-ℤ◌, IfSome};
+ghost use Rattle.bpf_follows.specs.Extras.{is_same, constant_kind, offset_in, copied, is_taken, added, is_base, address, put_kind, put_by, made, range_of, offset_range, fixed_in, added_to, added_range, range_in, is_most, is_least, passes, written, extra, extra_at, extras};
 
+use crate::keeps::moved_by;
 use crate::kinds::{is_register, kind_in};
-use crate::notes::Kind;
-use crate::site::Front;
-use bpf_insn::{Access, AluOp, Code, Cond, Insn, Operand, Reg, Width, extended};
+use crate::notes::{Kind, Kinds};
+use crate::site::{Front, Range, Span};
+use bpf_insn::{AluOp, Code, Cond, Insn, Operand, Reg, Width, extended};
 
 /// The most extra instructions in one place.
 const MOST_EXTRAS: u32 = 32;
 
 // ---- what an instruction writes
+
+/// Whether a register of this kind holds the same value.
+pub fn is_same(kind: Kind) -> bool
+    ensures { result ≡ is_same kind }
+{
+    matches!(kind, Kind::Same | Kind::Start)
+}
 
 /// What a constant makes of a register.
 fn constant_kind(kind: Kind, imm: i32) -> Kind
@@ -38,7 +45,7 @@ fn offset_in(r: Reg, kind: Kind) -> Option<(Reg, i32)>
 }
 
 /// What a copy of a register holds.
-fn copied(r: Reg, kind: Kind) -> Option<Kind>
+pub fn copied(r: Reg, kind: Kind) -> Option<Kind>
     ensures { result ≡ copied r kind }
 {
     match kind {
@@ -95,13 +102,7 @@ fn address(dst: Reg, kind: Kind, src: Reg, other: Kind) -> Option<Kind>
 }
 
 /// What a 64-bit operation makes of a register.
-fn put_kind(
-    front: Option<Front>,
-    kinds: &[Kind; 11],
-    op: AluOp,
-    dst: Reg,
-    src: Operand,
-) -> Option<Kind>
+fn put_kind(front: Option<Front>, kinds: &Kinds, op: AluOp, dst: Reg, src: Operand) -> Option<Kind>
     ensures { result ≡ put_kind front kinds.now op dst src }
 {
     let kind = kind_in(kinds, dst);
@@ -115,7 +116,7 @@ fn put_kind(
 }
 
 /// The register that an extra instruction writes, and what it holds then.
-fn put_by(front: Option<Front>, kinds: &[Kind; 11], insn: &Insn) -> Option<(Reg, Kind)>
+fn put_by(front: Option<Front>, kinds: &Kinds, insn: &Insn) -> Option<(Reg, Kind)>
     ensures { result ≡ put_by front kinds.now insn.now }
 {
     let Insn::Alu {
@@ -132,7 +133,7 @@ fn put_by(front: Option<Front>, kinds: &[Kind; 11], insn: &Insn) -> Option<(Reg,
 }
 
 /// The same, unless the register is r10.
-fn made(front: Option<Front>, kinds: &[Kind; 11], insn: &Insn) -> Option<(Reg, Kind)>
+fn made(front: Option<Front>, kinds: &Kinds, insn: &Insn) -> Option<(Reg, Kind)>
     ensures { result ≡ made front kinds.now insn.now }
 {
     let (dst, kind) = put_by(front, kinds, insn)?;
@@ -145,53 +146,109 @@ fn made(front: Option<Front>, kinds: &[Kind; 11], insn: &Insn) -> Option<(Reg, K
 
 // ---- jumps that aren't taken
 
-/// How far an offset that is moved is behind where an access begins.
-fn gap(by: i32, off: i16) -> Option<u32>
-    ensures { result ≡ not_negative (by -ℤ off) }
+/// The least number of a range: bytes that begin at a region's first one, moved up and down.
+fn least_of(from: i32, up: i32, down: i32) -> i64
+    ensures { result ≡ ((up -ℤ down) -ℤ from) }
 {
-    u32::try_from(i64::from(by) - i64::from(off)).ok()
+    let by = i64::from(up) - i64::from(down);
+    by - i64::from(from)
 }
 
-/// Whether a constant is no less than such an offset, if the access lies in the context.
-fn is_enough(length: u32, bytes: u8, most: u64, gap: Option<u32>) -> bool
-    ensures { result ≡ is_enough length bytes most gap }
+/// The greatest: bytes that end at its end.
+fn most_of(length: u32, to: i32, up: i32, down: i32) -> i64
+    ensures { result ≡ ((pos length +ℤ (up -ℤ down)) -ℤ to) }
 {
-    let Some(gap) = gap else {
-        return false;
-    };
-    let end = u64::from(length) + u64::from(gap);
-    end.saturating_sub(u64::from(bytes)) <= most
+    let by = i64::from(up) - i64::from(down);
+    i64::from(length) + by - i64::from(to)
 }
 
-/// Whether an access by the pointer whose offset is tested lies in the context only if the test fails.
-fn guards(front: &Front, imm: i32, access: Access, moved: (Reg, i32)) -> bool
-    ensures { result ≡ guards front.now imm access moved }
+/// Where accesses go that lie in a context of so many bytes, moved up and down: between which numbers that is.
+fn range_of(length: u32, span: Span, up: i32, down: i32) -> Range
+    ensures { result ≡ range_of length span up down }
 {
-    let (of, by) = moved;
-    is_register(of, access.base)
-        && is_enough(
-            front.length,
-            access.size.bytes(),
-            extended(imm),
-            gap(by, access.off),
-        )
-}
-
-/// Whether the access of the instruction lies in the context only if the offset in a register is no greater than a constant.
-fn is_guard(front: &Front, r: Reg, kind: Kind, imm: i32) -> bool
-    ensures { result ≡ is_guard front.now r kind imm }
-{
-    let Some(access) = front.insn.access() else {
-        return false;
-    };
-    match offset_in(r, kind) {
-        Some(moved) => guards(front, imm, access, moved),
-        None => false,
+    Range {
+        least: least_of(span.from, up, down),
+        most: most_of(length, span.to, up, down),
     }
 }
 
+/// Between which numbers the offset in a register lies, by the accesses that surely follow.
+fn offset_range(front: &Front, r: Reg, kind: Kind) -> Option<Range>
+    ensures { result ≡ offset_range front.now r kind }
+{
+    let (of, by) = offset_in(r, kind)?;
+    let span = front.spans[usize::from(of as u8)]?;
+    Some(range_of(front.length, span, by, 0))
+}
+
+/// The offset that is always the same, if a register holds one.
+fn fixed_in(kind: Kind) -> Option<i32>
+    ensures { result ≡ fixed_in kind }
+{
+    match kind {
+        Kind::Fixed { offset } => Some(offset),
+        _ => None,
+    }
+}
+
+/// The offset to which the instruction adds a register, if it is always the same.
+fn added_to(kinds: &Kinds, r: Reg, insn: &Insn) -> Option<i32>
+    ensures { result ≡ added_to kinds.now r insn.now }
+{
+    let Insn::Alu {
+        op: AluOp::Add,
+        width: Width::W64,
+        dst,
+        src: Operand::Reg(src),
+    } = *insn
+    else {
+        return None;
+    };
+    if is_register(src, r) {
+        fixed_in(kind_in(kinds, dst))
+    } else {
+        None
+    }
+}
+
+/// Between which numbers the one lies that the instruction adds, by the accesses that surely follow by the sum.
+fn added_range(front: &Front, kinds: &Kinds, r: Reg) -> Option<Range>
+    ensures { result ≡ added_range front.now kinds.now r }
+{
+    let offset = added_to(kinds, r, &front.insn)?;
+    let span = front.behind?;
+    Some(range_of(front.length, span, 0, offset))
+}
+
+/// Between which numbers a register's lies, if the old program's run goes on to its end.
+fn range_in(front: &Front, kinds: &Kinds, r: Reg, kind: Kind) -> Option<Range>
+    ensures { result ≡ range_in front.now kinds.now r kind }
+{
+    match kind {
+        Kind::Same => added_range(front, kinds, r),
+        _ => offset_range(front, r, kind),
+    }
+}
+
+/// Whether no number of a range is above a constant.
+fn is_most(imm: i32, range: Range) -> bool
+    ensures { result ≡ is_most imm range }
+{
+    0 <= range.least && i128::from(range.most) <= i128::from(extended(imm))
+}
+
+/// The greatest number of a range that is looked at.
+const FARTHEST: i64 = 0x1_0000_0000_0000;
+
+/// Whether no number of a range is below a constant.
+fn is_least(imm: i32, range: Range) -> bool
+    ensures { result ≡ is_least imm range }
+{
+    i128::from(extended(imm)) <= i128::from(range.least) && range.most <= FARTHEST
+}
+
 /// Whether a jump isn't taken: a counter is tested that has turns left, or a guard stands in front of an access.
-fn passes(front: Option<Front>, kinds: &[Kind; 11], insn: &Insn) -> bool
+fn passes(front: Option<Front>, kinds: &Kinds, insn: &Insn) -> bool
     ensures { result ≡ passes front kinds.now insn.now }
 {
     let (
@@ -210,33 +267,47 @@ fn passes(front: Option<Front>, kinds: &[Kind; 11], insn: &Insn) -> bool
     let kind = kind_in(kinds, dst);
     match cond {
         Cond::Eq => imm == 0 && is_taken(Some(front), kind),
-        Cond::Gt => is_guard(&front, dst, kind, imm),
+        Cond::Gt => match range_in(&front, kinds, dst, kind) {
+            Some(range) => is_most(imm, range),
+            None => false,
+        },
+        Cond::Lt => match range_in(&front, kinds, dst, kind) {
+            Some(range) => is_least(imm, range),
+            None => false,
+        },
         _ => false,
     }
 }
 
 // ---- all of them
 
-/// What the registers hold behind an extra instruction, if it is one that is known.
-fn extra(front: Option<Front>, kinds: [Kind; 11], insn: &Insn) -> Option<[Kind; 11]>
+/// What an extra instruction writes, and what it holds then.
+fn written(front: Option<Front>, kinds: &Kinds, insn: &Insn) -> Option<(u8, Kind)>
+    ensures exact { result ≡ written front kinds.now insn.now }
+    ensures inside { IfSome result (λ w. w.0 < 75) }
+{
+    if let Some(found) = moved_by(kinds, insn) {
+        return Some(found);
+    }
+    let (dst, kind) = made(front, kinds, insn)?;
+    Some((dst as u8, kind))
+}
+
+/// What the places hold behind an extra instruction, if it is one that is known.
+fn extra(front: Option<Front>, kinds: Kinds, insn: &Insn) -> Option<Kinds>
     ensures { result ≡ extra front insn.now kinds }
 {
     if passes(front, &kinds, insn) {
         return Some(kinds);
     }
-    let (dst, kind) = made(front, &kinds, insn)?;
+    let (place, kind) = written(front, &kinds, insn)?;
     let mut kinds = kinds;
-    kinds[usize::from(dst as u8)] = kind;
+    kinds[usize::from(place)] = kind;
     Some(kinds)
 }
 
 /// What the registers hold behind the extra instruction at a new slot.
-fn extra_at<N: Code>(
-    new: &N,
-    front: Option<Front>,
-    slot: u32,
-    kinds: [Kind; 11],
-) -> Option<[Kind; 11]>
+fn extra_at<N: Code>(new: &N, front: Option<Front>, slot: u32, kinds: Kinds) -> Option<Kinds>
     ensures { result ≡ extra_at (N.program new.now) front slot kinds }
 {
     let insn = new.insn(slot)?;
@@ -249,8 +320,8 @@ pub fn extras<N: Code>(
     front: Option<Front>,
     from: u32,
     to: u32,
-    kinds: [Kind; 11],
-) -> Option<[Kind; 11]>
+    kinds: Kinds,
+) -> Option<Kinds>
     ensures { result ≡ extras (N.program new.now) front from to kinds }
 {
     if to < from || MOST_EXTRAS < to - from {

@@ -2,10 +2,11 @@
 
 ghost use Rattle.std.specs.Prelude.{◌≡◌, ◌<◌, ◌==◌, ◌↔◌, IsTrue, option_copied};
 ghost use Rattle.bpf_insn.specs.Instruction.{register_number};
-ghost use Rattle.bpf_follows.specs.Relation.{kind_in, place_at, weaker, Gives, known};
-ghost use Rattle.bpf_follows.specs.Matching.{is_call, is_changed, held, kinds_behind, kinds_called, listed};
+ghost use Rattle.bpf_follows.specs.Relation.{kind_in, place_at, is_free, weaker, Gives, known};
+ghost use Rattle.bpf_follows.specs.Matching.{is_call, is_changed, held, kinds_behind, kinds_called, listed, start_kinds};
 
-use crate::notes::{Kind, Place};
+use crate::frame::writes_slot;
+use crate::notes::{Kind, Kinds, PLACES, Place};
 use crate::pairs::result_kind;
 use crate::site::Site;
 use bpf_insn::{Insn, Reg, extended};
@@ -23,16 +24,16 @@ pub fn place_at(notes: &[Option<Place>], slot: u32) -> Option<&Place>
     }
 }
 
-/// What is said of a register by its number.
-pub fn kind_of(kinds: &[Kind; 11], r: u8) -> Kind
-    requires { r < 11 }
+/// What is said of a place.
+pub fn kind_of(kinds: &Kinds, r: u8) -> Kind
+    requires { r < 75 }
     ensures { result ≡ kind_in kinds.now r }
 {
     kinds[usize::from(r)]
 }
 
 /// What is said of a register.
-pub fn kind_in(kinds: &[Kind; 11], r: Reg) -> Kind
+pub fn kind_in(kinds: &Kinds, r: Reg) -> Kind
     ensures { result ≡ kind_in kinds.now (register_number r) }
 {
     kinds[usize::from(r as u8)]
@@ -45,7 +46,18 @@ pub fn is_register(a: Reg, b: Reg) -> bool
     a as u8 == b as u8
 }
 
-/// Whether one kind of the register says more than another.
+/// Whether the old program has nothing in a slot of this kind.
+pub fn is_free(kind: Kind) -> bool
+    ensures { result ≡ is_free kind }
+{
+    match kind {
+        Kind::Unset | Kind::Base | Kind::Moved { .. } | Kind::Address { .. } => true,
+        Kind::Constant { .. } | Kind::Counter { .. } | Kind::Turn { .. } => true,
+        _ => false,
+    }
+}
+
+/// Whether one kind of the place says more than another.
 fn weaker(turns: u32, r: u8, have: Kind, want: Kind) -> bool
     ensures { result ≡ weaker turns r have want }
 {
@@ -54,15 +66,23 @@ fn weaker(turns: u32, r: u8, have: Kind, want: Kind) -> bool
         (Kind::Start, Kind::Same | Kind::Base) => true,
         (Kind::Moved { of, by }, Kind::Offset) => of as u8 == r && by == 0,
         (Kind::Constant { value }, Kind::Counter { .. }) => u64::from(turns) <= extended(value),
+        (_, Kind::Same | Kind::Unset) => r >= REGISTERS && is_free(have),
         _ => false,
     }
 }
 
-/// Whether one kind of the register is enough for another.
+/// Whether two kinds are the same.
+fn is_same(a: Kind, b: Kind) -> bool
+    ensures { IsTrue result ↔ (a ≡ b) }
+{
+    a == b
+}
+
+/// Whether one kind of the place is enough for another.
 pub fn gives(turns: u32, r: u8, have: Kind, want: Kind) -> bool
     ensures { IsTrue result ↔ Gives turns r have want }
 {
-    want == Kind::Nothing || want == have || weaker(turns, r, have, want)
+    is_same(want, Kind::Nothing) || is_same(want, have) || weaker(turns, r, have, want)
 }
 
 // ---- behind an instruction
@@ -74,12 +94,15 @@ pub fn is_call(insn: &Insn) -> bool
     matches!(*insn, Insn::CallLocal { .. })
 }
 
-/// Whether a register is another one behind the instruction.
+/// Whether a place is another one behind the instruction.
 fn is_changed(insn: &Insn, r: u8) -> bool
     ensures { result ≡ is_changed insn.now r }
 {
     if is_call(insn) {
-        return r < 6;
+        return r < 6 || r >= REGISTERS;
+    }
+    if writes_slot(insn, r) {
+        return true;
     }
     match insn.register_written() {
         Some(written) => written as u8 == r,
@@ -103,9 +126,9 @@ fn held(insn: &Insn, kind: Kind) -> Kind
     }
 }
 
-/// What a register holds in front of the instruction itself, by the register's number.
+/// What a place holds in front of the instruction itself.
 pub fn known(site: &Site, r: u8) -> Kind
-    requires { r < 11 }
+    requires { r < 75 }
     ensures { result ≡ known site.now.slot site.now.kinds r }
 {
     match kind_of(&site.kinds, r) {
@@ -121,9 +144,9 @@ pub fn known_in(site: &Site, r: Reg) -> Kind
     known(site, r as u8)
 }
 
-/// What a register holds behind the instruction.
+/// What a place holds behind the instruction.
 pub fn kind_behind(site: &Site, r: u8) -> Kind
-    requires { r < 11 }
+    requires { r < 75 }
     ensures { result ≡ kinds_behind site.now.insn (known site.now.slot site.now.kinds) r }
 {
     if is_changed(&site.insn, r) {
@@ -147,21 +170,40 @@ fn kind_called(site: &Site, r: u8) -> Kind
     }
 }
 
-/// What r0 to r10 hold at the entry of a function that is called.
-pub fn all_called(site: &Site) -> [Kind; 11]
+/// What places hold at the entry of a function that is called.
+pub fn all_called(site: &Site) -> Kinds
     ensures { result ≡ listed (kinds_called (known site.now.slot site.now.kinds)) }
 {
-    [
-        kind_called(site, 0),
-        kind_called(site, 1),
-        kind_called(site, 2),
-        kind_called(site, 3),
-        kind_called(site, 4),
-        kind_called(site, 5),
-        kind_called(site, 6),
-        kind_called(site, 7),
-        kind_called(site, 8),
-        kind_called(site, 9),
-        kind_called(site, 10),
-    ]
+    let mut kinds = [Kind::Unset; PLACES];
+    kinds[0] = kind_called(site, 0);
+    kinds[1] = kind_called(site, 1);
+    kinds[2] = kind_called(site, 2);
+    kinds[3] = kind_called(site, 3);
+    kinds[4] = kind_called(site, 4);
+    kinds[5] = kind_called(site, 5);
+    kinds[6] = kind_called(site, 6);
+    kinds[7] = kind_called(site, 7);
+    kinds[8] = kind_called(site, 8);
+    kinds[9] = kind_called(site, 9);
+    kinds[10] = kind_called(site, 10);
+    kinds
+}
+
+/// What places hold at the start.
+pub fn start_kinds() -> Kinds
+    ensures { result ≡ start_kinds }
+{
+    let mut kinds = [Kind::Unset; PLACES];
+    kinds[0] = Kind::Same;
+    kinds[1] = Kind::Start;
+    kinds[2] = Kind::Same;
+    kinds[3] = Kind::Same;
+    kinds[4] = Kind::Same;
+    kinds[5] = Kind::Same;
+    kinds[6] = Kind::Same;
+    kinds[7] = Kind::Same;
+    kinds[8] = Kind::Same;
+    kinds[9] = Kind::Same;
+    kinds[10] = Kind::Same;
+    kinds
 }

@@ -2,7 +2,7 @@
 
 ghost use Rattle.bpf_follows.specs.Laws.{MatchingKeepsMeaning};
 
-use bpf_semantics::{step_keeps_context, steps_are_computed};
+use bpf_semantics::{runs_keep_states, step_keeps_context, steps_are_computed};
 
 /// Where notes match, the new program ends with the old one's number, on each context of so many bytes on which the old one ends and
 /// comes to no slot more often than the counters allow.
@@ -11,4 +11,5 @@ pub fn matching_keeps_meaning()
 {
     steps_are_computed();
     step_keeps_context();
+    runs_keep_states();
 }

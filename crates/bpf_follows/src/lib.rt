@@ -1,8 +1,11 @@
 //! Whether a program keeps the meaning of another one: a simulation along the old program's run, from notes that nobody trusts.
 #![tactic(auto)]
 
+mod ahead;
 mod edges;
 mod extras;
+mod frame;
+mod keeps;
 mod kinds;
 mod laws;
 pub mod mismatch;
@@ -11,8 +14,9 @@ mod pairs;
 mod pass;
 pub mod site;
 pub mod stands;
+mod tame;
 
 pub use laws::matching_keeps_meaning;
 pub use mismatch::{Fault, Mismatch};
-pub use notes::{Bounds, Kind, Place};
+pub use notes::{Bounds, Kind, Kinds, PLACES, Place};
 pub use pass::follows;

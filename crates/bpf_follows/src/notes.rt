@@ -2,11 +2,14 @@
 
 use bpf_insn::Reg;
 
-/// What the new program has in a register in front of an old instruction. Where a kind names a register, that is one of the old program.
+/// What the new program has in a register, or in a slot of its frame, in front of an old instruction. Where a kind names a register, that is
+/// one of the old program.
 #[derive(Clone, Copy, PartialEq)]
 pub enum Kind {
     /// Nothing is said.
     Nothing,
+    /// The old program has nothing there. Of the new one nothing is said.
+    Unset,
     /// The same value, if the old program has one there.
     Same,
     /// The same number, if the old program has a value there; it has no pointer there.
@@ -31,6 +34,12 @@ pub enum Kind {
     Turn { head: u32 },
 }
 
+/// How many places notes speak of: r0 to r10, and the 64 slots of eight bytes of the frame.
+pub const PLACES: usize = 75;
+
+/// What r0 to r10 hold, and then the slots of the frame, the lowest first.
+pub type Kinds = [Kind; PLACES];
+
 /// What stands in the new program for the instruction at a slot of the old one.
 #[derive(Clone, Copy)]
 pub struct Place {
@@ -41,8 +50,8 @@ pub struct Place {
     pub first: u32,
     /// The new slot of the instruction itself.
     pub body: u32,
-    /// What r0 to r10 hold in front of all that.
-    pub kinds: [Kind; 11],
+    /// What registers and slots hold in front of all that.
+    pub kinds: Kinds,
 }
 
 /// How many bytes a context has, and how often a run comes to a slot at most.

@@ -1,17 +1,20 @@
 //! An instruction of the old program and the one that stands for it.
 
-ghost use Rattle.std.specs.Prelude.{◌≡◌, ◌+ℤ◌, ◌↔◌, IsTrue, IsOk};
+ghost use Rattle.std.specs.Prelude.{◌≡◌, ◌<◌, ◌+ℤ◌, ◌↔◌, IsTrue, IsOk};
 ghost use Rattle.std.specs.List.{filter_map};
 ghost use Rattle.std.specs.Ordering.{int_eq};
 ghost use Rattle.bpf_follows.specs.Relation.{known};
-ghost use Rattle.bpf_follows.specs.Matching.{undirected, is_same, IsSame, AreSame, is_offset, copy_kind, computed, fixed_at, moved_kind, of_operand, is_equality, are_offsets, by_offsets, result_kind, Reads, rebased, are_same_place, is_same_place, ByAddress, Pairs};
+ghost use Rattle.bpf_follows.specs.Extras.{is_same};
+ghost use Rattle.bpf_follows.specs.Matching.{undirected, IsSame, AreSame, is_offset, copy_kind, computed, fixed_at, moved_kind, of_operand, is_equality, are_offsets, is_spilled, slot_offset, loaded, spilled, by_offsets, result_kind, Reads, rebased, are_same_place, is_same_place, ByAddress, Pairs};
 
-use crate::extras::is_base;
-use crate::kinds::{is_register, known_in};
+use crate::extras::{is_base, is_same};
+use crate::frame::{is_r10, slot_of};
+use crate::kinds::{is_register, known, known_in};
 use crate::mismatch::Fault;
 use crate::notes::Kind;
 use crate::site::Site;
-use bpf_insn::{Access, AluOp, Cond, Insn, Operand, Reg, Width};
+use crate::tame::is_tame;
+use bpf_insn::{Access, AluOp, Cond, Insn, Operand, Reg, Size, Width};
 
 /// Whether two instructions are the same.
 fn same(a: Insn, b: Insn) -> bool
@@ -46,13 +49,6 @@ fn undirected(insn: Insn) -> Insn
 }
 
 // ---- the same instruction
-
-/// Whether a register of this kind holds the same value.
-fn is_same(kind: Kind) -> bool
-    ensures { result ≡ is_same kind }
-{
-    matches!(kind, Kind::Same | Kind::Start)
-}
 
 /// Whether the register that is read, if one is, holds the same.
 fn reads_same(site: &Site, read: Option<Reg>) -> bool
@@ -160,6 +156,39 @@ fn are_offsets(site: &Site, dst: Reg, src: Reg) -> bool
     is_offset(known_in(site, dst)) && is_offset(known_in(site, src))
 }
 
+/// The offset that a slot of the frame holds.
+fn slot_offset(site: &Site, slot: u32) -> Option<Kind>
+    requires { slot < 64 }
+    ensures { result ≡ slot_offset (known site.now.slot site.now.kinds) slot }
+{
+    match known(site, 11 + slot as u8) {
+        Kind::Offset => Some(Kind::Offset),
+        _ => None,
+    }
+}
+
+/// The offset that is loaded from the frame.
+fn loaded(site: &Site, src: Reg, off: i16) -> Option<Kind>
+    ensures { result ≡ loaded (known site.now.slot site.now.kinds) src off }
+{
+    if !is_r10(src) || !is_same(known(site, 10)) {
+        return None;
+    }
+    let slot = slot_of(off)?;
+    slot_offset(site, slot)
+}
+
+/// The offset that is stored to the frame.
+fn spilled(site: &Site, dst: Reg, off: i16, src: Reg) -> Option<Kind>
+    ensures { result ≡ spilled (known site.now.slot site.now.kinds) dst off src }
+{
+    if !is_r10(dst) || !is_same(known(site, 10)) || !is_offset(known_in(site, src)) {
+        return None;
+    }
+    let _slot = slot_of(off)?;
+    Some(Kind::Offset)
+}
+
 /// What the instruction writes, if it does on offsets what the old program does on pointers.
 fn by_offsets(site: &Site) -> Option<Kind>
     ensures { result ≡ by_offsets (known site.now.slot site.now.kinds) site.now.insn }
@@ -185,6 +214,24 @@ fn by_offsets(site: &Site) -> Option<Kind>
             return Some(Kind::Nothing);
         }
     }
+    if let Insn::Load {
+        size: Size::DW,
+        dst: _dst,
+        src,
+        off,
+    } = site.insn
+    {
+        return loaded(site, src, off);
+    }
+    if let Insn::Store {
+        size: Size::DW,
+        dst,
+        off,
+        src,
+    } = site.insn
+    {
+        return spilled(site, dst, off, src);
+    }
     None
 }
 
@@ -203,7 +250,7 @@ fn reads(site: &Site) -> bool
         return true;
     }
     let reads = site.insn.registers_read();
-    all_same(site, &reads)
+    all_same(site, &reads) && is_tame(site)
 }
 
 // ---- loads by another register
@@ -274,7 +321,9 @@ fn by_address(site: &Site) -> bool
         return false;
     };
     match rebased(&site.insn, new.base, new.off) {
-        Some(insn) => same(site.moved, insn) && is_same_place(site, old, new),
+        Some(insn) => {
+            same(site.moved, insn) && is_same_place(site, old, new) && !is_r10(old.base)
+        }
         None => false,
     }
 }

@@ -70,6 +70,7 @@ pub fn follows<O: Code, N: Code>(
     ensures exact { IsOk result ↔ Matches (O.program old.now) (N.program new.now) notes.now bounds }
     ensures err { IfErr result (IsMismatch (O.program old.now) (N.program new.now) notes.now bounds) }
 {
+    let _slots = old.slots();
     matching_keeps_meaning();
     matches(old, new, notes, bounds)
 }

@@ -1,6 +1,6 @@
 //! An instruction of the old program, and what stands for it in the new one.
 
-use crate::notes::Kind;
+use crate::notes::Kinds;
 use bpf_insn::Insn;
 
 /// An instruction of the old program, what stands for it in the new one, and what the registers hold in front of both. Each slot is
@@ -11,13 +11,30 @@ pub struct Site {
     pub insn: Insn,
     pub new_slot: u32,
     pub moved: Insn,
-    pub kinds: [Kind; 11],
+    pub kinds: Kinds,
 }
 
-/// In front of which old instruction extra ones stand, and the bytes of a context.
+/// Bytes beside what a register holds, by their displacements: from the first one to before the end.
+#[derive(Clone, Copy)]
+pub struct Span {
+    pub from: i32,
+    pub to: i32,
+}
+
+/// Between which numbers one lies.
+#[derive(Clone, Copy)]
+pub struct Range {
+    pub least: i64,
+    pub most: i64,
+}
+
+/// In front of which old instruction extra ones stand, the bytes of a context, and which bytes are surely accessed: beside what each register
+/// holds there, and beside what the instruction writes.
 #[derive(Clone, Copy)]
 pub struct Front {
     pub slot: u32,
     pub insn: Insn,
     pub length: u32,
+    pub spans: [Option<Span>; 11],
+    pub behind: Option<Span>,
 }

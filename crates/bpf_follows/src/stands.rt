@@ -5,8 +5,9 @@ ghost use Rattle.std.specs.Prelude.{◌≡◌, ◌<◌, ◌↔◌, IsOk, IsTrue,
 ghost use Rattle.bpf_insn.specs.Instruction.{insn_at};
 ghost use Rattle.bpf_insn.specs.declared.instruction.Insn.{Insn};
 ghost use Rattle.bpf_follows.specs.declared.site.Site.{Site};
-ghost use Rattle.bpf_follows.specs.Matching.{led, Falls, Leads, IsSite, StandsAt};
+ghost use Rattle.bpf_follows.specs.Matching.{led, front_at, Falls, Leads, IsSite, StandsAt};
 
+use crate::ahead::{span_behind, spans_ahead};
 use crate::edges::{Edge, arrives, enters};
 use crate::extras::extras;
 use crate::kinds::{all_called, is_call, place_at};
@@ -97,6 +98,20 @@ fn leads<N: Code>(new: &N, notes: &[Option<Place>], turns: u32, site: &Site) -> 
     }
 }
 
+/// In front of which instruction extra ones stand.
+fn front_at<O: Code>(old: &O, bounds: Bounds, slot: u32, insn: Insn) -> Front
+    requires { slot < max_slots }
+    ensures { result ≡ front_at (O.program old.now) bounds slot insn }
+{
+    Front {
+        slot,
+        insn,
+        length: bounds.length,
+        spans: spans_ahead(old, slot),
+        behind: span_behind(old, slot, &insn),
+    }
+}
+
 /// Whether what the notes say of an old slot holds. What fails first is told.
 pub fn stands_at<O: Code, N: Code>(
     old: &O,
@@ -114,11 +129,7 @@ pub fn stands_at<O: Code, N: Code>(
     let Some(insn) = old.insn(slot) else {
         return Ok(());
     };
-    let front = Front {
-        slot,
-        insn,
-        length: bounds.length,
-    };
+    let front = front_at(old, bounds, slot, insn);
     let site = match site_of(new, place, front) {
         Ok(site) => site,
         Err(fault) => return Err(fault),

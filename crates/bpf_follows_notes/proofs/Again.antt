@@ -12,7 +12,7 @@ use Rattle.bpf_insn.specs.Limits.{max_slots}
 use Rattle.bpf_insn.specs.declared.instruction.Reg.{Reg}
 use Rattle.bpf_insn.specs.declared.instruction.Reg.TheVariants.{R0, R1, R2, R3, R4, R5, R6, R7, R8, R9, R10}
 use Rattle.bpf_follows.specs.declared.notes.Kind.{Kind}
-use Rattle.bpf_follows.specs.declared.notes.Kind.TheVariants.{Nothing, Same, Number, Offset, Fixed, Start, Base, Moved, Address, Constant, Counter, Turn}
+use Rattle.bpf_follows.specs.declared.notes.Kind.TheVariants.{Nothing, Unset, Same, Number, Offset, Fixed, Start, Base, Moved, Address, Constant, Counter, Turn}
 use Rattle.bpf_follows.specs.declared.notes.Place.{Place}
 use Rattle.bpf_follows_notes.specs.declared.error.NotesError.{NotesError}
 use Rattle.bpf_follows_notes.specs.declared.error.NotesError.TheVariants.{Form}
@@ -109,6 +109,10 @@ same_again : (c : ℕ) (rest : List ℕ) → kind_in (codes "same" ++ c ∷ rest
 unfolding kind_in plain_in word_in behind
 same_again c rest = refl
 
+unset_again : (c : ℕ) (rest : List ℕ) → kind_in (codes "unset" ++ c ∷ rest) ≡ Some (Unset, c ∷ rest)
+unfolding kind_in plain_in word_in behind
+unset_again c rest = refl
+
 number_word_again : (c : ℕ) (rest : List ℕ) → kind_in (codes "number" ++ c ∷ rest) ≡ Some (Number, c ∷ rest)
 unfolding kind_in plain_in word_in behind
 number_word_again c rest = refl
@@ -167,6 +171,7 @@ address_again of by fits c rest h = rw (no_moved (codes "ddress:r" ++ (behind_te
 held_is : (r : ℕ) (kind : Kind) → KindFits kind → (kind ≡ Nothing) ⊎ Worded r kind
 unfolding held_text
 held_is r Nothing fits = inl refl
+held_is r Unset fits = inr (record { word = codes "unset"; text = refl; again = λ c rest h. unset_again c rest })
 held_is r Same fits = inr (record { word = codes "same"; text = refl; again = λ c rest h. same_again c rest })
 held_is r Number fits = inr (record { word = codes "number"; text = refl; again = λ c rest h. number_word_again c rest })
 held_is r Offset fits = inr (record { word = codes "offset"; text = refl; again = λ c rest h. offset_again c rest })
@@ -222,10 +227,10 @@ kinds_front r (kind ∷ kinds) fits rest = by_kind (held_is r kind fits.0) (kind
 
 -- the kinds that are read so far, and what is left
 ReadsKinds : List Kind → List Kind → Type 0
-ReadsKinds done kinds = (k : ℕ) (rest : List ℕ) → length kinds ≤ k → length done + length kinds ≤ 11 → AllByRecursion KindFits kinds →
+ReadsKinds done kinds = (k : ℕ) (rest : List ℕ) → length kinds ≤ k → length done + length kinds ≤ 75 → AllByRecursion KindFits kinds →
     kinds_in k (done ++ replicate (length kinds) Nothing) (kinds_text (length done) kinds ++ 10 ∷ rest) ≡ Some (done ++ kinds)
 
-one_more : (done : List Kind) (kind : Kind) (kinds : List Kind) → ReadsKinds (done ++ kind ∷ []) kinds → (k : ℕ) (rest : List ℕ) → length kinds ≤ k → length done + suc (length kinds) ≤ 11 → AllByRecursion KindFits kinds
+one_more : (done : List Kind) (kind : Kind) (kinds : List Kind) → ReadsKinds (done ++ kind ∷ []) kinds → (k : ℕ) (rest : List ℕ) → length kinds ≤ k → length done + suc (length kinds) ≤ 75 → AllByRecursion KindFits kinds
     → kinds_in k (done ++ kind ∷ replicate (length kinds) Nothing) (kinds_text (length done + 1) kinds ++ 10 ∷ rest) ≡ Some (done ++ kind ∷ kinds)
 unfolding ReadsKinds
 one_more done kind kinds reads k rest long few fits =
@@ -240,9 +245,9 @@ unfolding kinds_in
 kinds_end zero kinds rest = refl
 kinds_end (suc k) kinds rest = rw (no_entry rest) refl
 
-pub kinds_step : (k : ℕ) (kinds : List Kind) (text : List ℕ) (r : ℕ) (kind : Kind) (more : List ℕ) → entry_in text ≡ Some (r, kind, more) → r < 11 → kinds_in (suc k) kinds text ≡ kinds_in k (set kinds r kind) more
+pub kinds_step : (k : ℕ) (kinds : List Kind) (text : List ℕ) (r : ℕ) (kind : Kind) (more : List ℕ) → entry_in text ≡ Some (r, kind, more) → r < 75 → kinds_in (suc k) kinds text ≡ kinds_in k (set kinds r kind) more
 unfolding kinds_in
-kinds_step k kinds text r kind more e h = rw (e, lt-ltb r 11 h) refl
+kinds_step k kinds text r kind more e h = rw (e, lt-ltb r 75 h) refl
 
 kinds_again : (done kinds : List Kind) → ReadsKinds done kinds
 unfolding ReadsKinds
@@ -276,9 +281,9 @@ place_again : (place : Place) → PlaceFits place → (rest : List ℕ) → plac
 unfolding place_in place_text
 place_again place fits rest =
     let front = kinds_front 0 place.kinds fits.kinds rest in
-    let kinds : kinds_in 11 nothing_said (kinds_text 0 place.kinds ++ 10 ∷ rest) ≡ Some place.kinds
-    = subst (λ n. kinds_in 11 (replicate n Nothing) (kinds_text 0 place.kinds ++ 10 ∷ rest) ≡ Some place.kinds) fits.eleven
-    (unfold ReadsKinds in kinds_again [] place.kinds 11 rest (omega (arith, fits.eleven)) (omega (arith, fits.eleven)) fits.kinds) in
+    let kinds : kinds_in 75 nothing_said (kinds_text 0 place.kinds ++ 10 ∷ rest) ≡ Some place.kinds
+    = subst (λ n. kinds_in 75 (replicate n Nothing) (kinds_text 0 place.kinds ++ 10 ∷ rest) ≡ Some place.kinds) fits.all
+    (unfold ReadsKinds in kinds_again [] place.kinds 75 rest (omega (arith, fits.all)) (omega (arith, fits.all)) fits.kinds) in
     let body : number_in (codes " body ") (codes " body " ++ (decimal place.body ++ (kinds_text 0 place.kinds ++ 10 ∷ rest))) ≡ Some (place.body, kinds_text 0 place.kinds ++ 10 ∷ rest)
     = subst (λ t. number_in (codes " body ") (codes " body " ++ (decimal place.body ++ t)) ≡ Some (place.body, t)) (sym front.text_is) (number_again (codes " body ") place.body front.c front.cs fits.body front.ends) in
     let entry = number_again (codes " entry ") place.entry 32 (codes "body " ++ (decimal place.body ++ (kinds_text 0 place.kinds ++ 10 ∷ rest))) fits.entry (refl, refl) in
@@ -341,9 +346,9 @@ unfolding kinds_in
 kinds_stop zero kinds text e = refl
 kinds_stop (suc k) kinds text e = rw e refl
 
-pub kinds_over : (k : ℕ) (kinds : List Kind) (text : List ℕ) (r : ℕ) (kind : Kind) (more : List ℕ) → entry_in text ≡ Some (r, kind, more) → 11 ≤ r → kinds_in (suc k) kinds text ≡ None
+pub kinds_over : (k : ℕ) (kinds : List Kind) (text : List ℕ) (r : ℕ) (kind : Kind) (more : List ℕ) → entry_in text ≡ Some (r, kind, more) → 75 ≤ r → kinds_in (suc k) kinds text ≡ None
 unfolding kinds_in
-kinds_over k kinds text r kind more e h = rw (e, le-ltb r 11 h) refl
+kinds_over k kinds text r kind more e h = rw (e, le-ltb r 75 h) refl
 
 pub kinds_full : (kinds : List Kind) (text : List ℕ) → kinds_in 0 kinds text ≡ Some kinds
 unfolding kinds_in

@@ -6,7 +6,7 @@ use Rattle.bpf_insn.specs.Limits.{max_slots}
 use Rattle.bpf_insn.specs.Instruction.{register_number}
 use Rattle.bpf_insn.specs.declared.instruction.Reg.{Reg}
 use Rattle.bpf_follows.specs.declared.notes.Kind.{Kind}
-use Rattle.bpf_follows.specs.declared.notes.Kind.TheVariants.{Nothing, Same, Number, Offset, Fixed, Start, Base, Moved, Address, Constant, Counter, Turn}
+use Rattle.bpf_follows.specs.declared.notes.Kind.TheVariants.{Nothing, Unset, Same, Number, Offset, Fixed, Start, Base, Moved, Address, Constant, Counter, Turn}
 use Rattle.bpf_follows.specs.declared.notes.Place.{Place}
 
 -- ---- what has a text
@@ -19,6 +19,7 @@ IntFits (negsuc n) = n < 2 ^ 31
 -- the numbers that a kind names have 32 bits
 abbrev pub KindFits : Kind → Type 0
 KindFits Nothing = Unit {0}
+KindFits Unset = Unit {0}
 KindFits Same = Unit {0}
 KindFits Number = Unit {0}
 KindFits Offset = Unit {0}
@@ -35,7 +36,7 @@ pub record PlaceFits (place : Place) : Type 0 where
   pub entry : place.entry < 2 ^ 32
   pub first : place.first < 2 ^ 32
   pub body : place.body < 2 ^ 32
-  pub eleven : length place.kinds ≡ 11
+  pub all : length place.kinds ≡ 75
   pub kinds : AllByRecursion KindFits place.kinds
 
 abbrev pub NoteFits : Option Place → Type 0
@@ -49,7 +50,7 @@ pub record AreNotes (notes : List (Option Place)) : Type 0 where
 
 -- ---- the text
 
--- a register, and a word for what it holds
+-- a place, and a word for what it holds
 unfoldable pub entry_text : ℕ → List ℕ → List ℕ
 entry_text r word = codes " r" ++ (decimal r ++ (codes "=" ++ word))
 
@@ -59,6 +60,7 @@ behind_text r by = decimal (register_number r) ++ (codes ":" ++ signed_decimal b
 
 unfoldable pub held_text : ℕ → Kind → List ℕ
 held_text r Nothing = []
+held_text r Unset = entry_text r (codes "unset")
 held_text r Same = entry_text r (codes "same")
 held_text r Number = entry_text r (codes "number")
 held_text r Offset = entry_text r (codes "offset")
@@ -71,7 +73,7 @@ held_text r (Constant value) = entry_text r (codes "constant:" ++ signed_decimal
 held_text r (Counter head) = entry_text r (codes "turns:" ++ decimal head)
 held_text r (Turn head) = entry_text r (codes "turn:" ++ decimal head)
 
--- what registers hold from r on; one that holds nothing is left out
+-- what places hold from r on; one of which nothing is said is left out
 unfoldable pub kinds_text : ℕ → List Kind → List ℕ
 kinds_text r [] = []
 kinds_text r (kind ∷ kinds) = held_text r kind ++ kinds_text (r + 1) kinds

@@ -4,7 +4,7 @@ ghost use Rattle.std.specs.Prelude.{◌≡◌, option_map};
 ghost use Rattle.bpf_follows_notes.specs.code.Reading.{register_at, plain_in, value_in, behind_in, beside_in, numbered_in, kind_in, entry_in, kinds_in, nothing_said, place_in, note_in};
 
 use crate::digits::{behind, int_in, number_in};
-use bpf_follows::{Kind, Place};
+use bpf_follows::{Kind, Kinds, PLACES, Place};
 use bpf_insn::Reg;
 
 /// How many registers there are.
@@ -39,6 +39,9 @@ fn plain_in(text: &[u8]) -> Option<(Kind, &[u8])>
 {
     if let Some(rest) = behind(text, b"same") {
         return Some((Kind::Same, rest));
+    }
+    if let Some(rest) = behind(text, b"unset") {
+        return Some((Kind::Unset, rest));
     }
     if let Some(rest) = behind(text, b"number") {
         return Some((Kind::Number, rest));
@@ -118,7 +121,7 @@ fn kind_in(text: &[u8]) -> Option<(Kind, &[u8])>
     beside_in(text)
 }
 
-/// A register's number and its kind, and what stands behind them.
+/// A place's number and its kind, and what stands behind them.
 #[tactic(auto, unfolding(crate::specs::code::Reading::entry_in))]
 fn entry_in(text: &[u8]) -> Option<(u32, Kind, &[u8])>
     ensures { option_map (λ x. (x.0, x.1, x.2.now)) result ≡ entry_in text.now }
@@ -129,21 +132,21 @@ fn entry_in(text: &[u8]) -> Option<(u32, Kind, &[u8])>
     Some((number, kind, rest))
 }
 
-/// What the registers hold, as far as it is said.
-fn kinds_in(text: &[u8]) -> Option<[Kind; REGISTERS]>
-    ensures { result ≡ kinds_in 11 nothing_said text.now }
+/// What the places hold, as far as it is said.
+fn kinds_in(text: &[u8]) -> Option<Kinds>
+    ensures { result ≡ kinds_in 75 nothing_said text.now }
 {
-    let mut kinds = [Kind::Nothing; REGISTERS];
+    let mut kinds = [Kind::Nothing; PLACES];
     let mut rest = text;
-    for _ in 0..REGISTERS {
+    for _ in 0..PLACES {
         let Some((number, kind, more)) = entry_in(rest) else {
             return Some(kinds);
         };
-        let register = number as usize;
-        if register >= REGISTERS {
+        let place = number as usize;
+        if place >= PLACES {
             return None;
         }
-        kinds[register] = kind;
+        kinds[place] = kind;
         rest = more;
     }
     Some(kinds)

@@ -4,7 +4,7 @@ ghost use Rattle.std.specs.Prelude.{◌≡◌, ◌++◌, decimal, IfOk, OnOk, op
 ghost use Rattle.std.specs.Fmt.{signed_decimal};
 ghost use Rattle.bpf_follows_notes.specs.NotesText.{entry_text, behind_text, held_text, kinds_text, place_text, note_line, notes_text};
 
-use bpf_follows::{Kind, Place};
+use bpf_follows::{Kind, Kinds, PLACES, Place};
 use bpf_insn::Reg;
 use itoa::{Buffer, Integer};
 use std::alloc::{AllocError, Global};
@@ -72,6 +72,7 @@ fn put_held(text: &mut Vec<u8>, register: u8, kind: Kind) -> Result<(), AllocErr
 {
     match kind {
         Kind::Nothing => Ok(()),
+        Kind::Unset => put_entry(text, register, b"unset"),
         Kind::Same => put_entry(text, register, b"same"),
         Kind::Number => put_entry(text, register, b"number"),
         Kind::Offset => put_entry(text, register, b"offset"),
@@ -86,11 +87,11 @@ fn put_held(text: &mut Vec<u8>, register: u8, kind: Kind) -> Result<(), AllocErr
     }
 }
 
-/// Puts what r0 to r10 hold.
-fn put_kinds(text: &mut Vec<u8>, kinds: &[Kind; 11]) -> Result<(), AllocError>
+/// Puts what registers and slots hold.
+fn put_kinds(text: &mut Vec<u8>, kinds: &Kinds) -> Result<(), AllocError>
     ensures { OnOk result (text.new.items ≡ text.old.items ++ kinds_text 0 kinds.now) }
 {
-    for register in 0..11u8 {
+    for register in 0..PLACES as u8 {
         put_held(text, register, kinds[usize::from(register)])?;
     }
     Ok(())

@@ -1,8 +1,8 @@
 //! What registers hold behind an old instruction and what stands for it.
 
-use crate::facts::{Facts, is_offset};
+use crate::facts::{Facts, REGISTERS, is_offset, slot_at};
 use bpf_follows::Kind;
-use bpf_insn::{AluOp, Insn, Operand, Reg, Width};
+use bpf_insn::{Access, AluOp, FRAME_BYTES, Insn, Operand, Reg, Size, Width};
 
 /// What a copy of a register holds.
 fn copied(facts: &Facts, src: Reg) -> Kind {
@@ -65,8 +65,75 @@ fn computed(facts: &Facts, op: AluOp, dst: Reg, src: Operand) -> Kind {
     }
 }
 
+// ---- the frame
+
+/// What a slot is behind a store to it.
+fn stored(facts: &Facts, insn: &Insn) -> Kind {
+    if let Insn::Store {
+        size: Size::DW,
+        src,
+        ..
+    } = *insn
+    {
+        if is_offset(src, facts.get(src)) {
+            return Kind::Offset;
+        }
+    }
+    Kind::Same
+}
+
+/// How many slots the frame has.
+const SLOTS: u8 = 64;
+
+/// Whether an access by r10 goes to a slot.
+fn touches(access: Access, slot: u8) -> bool {
+    let first = i64::from(access.off).saturating_add(FRAME_BYTES as i64);
+    let end = first.saturating_add(i64::from(access.size.bytes()));
+    let low = i64::from(slot).saturating_mul(8);
+    first < low.saturating_add(8) && low < end
+}
+
+/// Whether the instruction writes to a slot, or may do so.
+fn writes(insn: &Insn, slot: u8) -> bool {
+    if let Insn::CallLocal { .. } = *insn {
+        return true;
+    }
+    let Some(access) = insn.access() else {
+        return false;
+    };
+    access.writes && (access.base != Reg::R10 || touches(access, slot))
+}
+
+/// The instruction writes to the frame, or may do so.
+fn write_frame(facts: &mut Facts, insn: &Insn) {
+    let kind = stored(facts, insn);
+    for slot in 0..SLOTS {
+        if writes(insn, slot) {
+            facts.put(usize::from(slot).saturating_add(REGISTERS), kind);
+        }
+    }
+}
+
+/// What a load puts into its register.
+fn loaded(facts: &Facts, insn: &Insn) -> Kind {
+    let Insn::Load {
+        size: Size::DW,
+        src: Reg::R10,
+        off,
+        ..
+    } = *insn
+    else {
+        return Kind::Same;
+    };
+    match slot_at(off) {
+        Some(place) if facts.at(place) == Kind::Offset => Kind::Offset,
+        _ => Kind::Same,
+    }
+}
+
 /// The instruction was done in both programs.
 pub fn step(facts: &mut Facts, insn: &Insn) {
+    write_frame(facts, insn);
     if let Insn::CallLocal { .. } = *insn {
         for r in [Reg::R0, Reg::R1, Reg::R2, Reg::R3, Reg::R4, Reg::R5] {
             facts.write(r, Kind::Same);
@@ -82,7 +149,7 @@ pub fn step(facts: &mut Facts, insn: &Insn) {
         {
             computed(facts, op, dst, src)
         } else {
-            Kind::Same
+            loaded(facts, insn)
         };
         facts.write(r, kind);
     }

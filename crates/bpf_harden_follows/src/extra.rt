@@ -1,8 +1,8 @@
 //! Extra instructions: what they leave in the new program's registers, while the old one stands still.
 
-use crate::facts::Facts;
+use crate::facts::{Facts, is_free, slot_at};
 use bpf_follows::Kind;
-use bpf_insn::{AluOp, Cond, Insn, Operand, Reg, Width};
+use bpf_insn::{AluOp, Cond, Insn, Operand, Reg, Size, Width};
 
 /// The old register whose offset a register holds, and what it was moved by.
 fn offset_in(r: Reg, kind: Kind) -> Option<(Reg, i32)> {
@@ -98,11 +98,66 @@ pub fn tested(insn: &Insn) -> Option<Reg> {
     Some(dst)
 }
 
+/// What is put into a slot.
+fn kept(facts: &Facts, src: Reg) -> Kind {
+    match facts.get(src) {
+        Kind::Counter { head } => Kind::Counter { head },
+        kind => copied(src, kind),
+    }
+}
+
+/// The slot to which the new program alone puts something, and what it puts there.
+fn kept_in(facts: &Facts, insn: &Insn) -> Option<(usize, Kind)> {
+    if let Insn::Store {
+        size: Size::DW,
+        dst: Reg::R10,
+        off,
+        src,
+    } = *insn
+    {
+        return Some((slot_at(off)?, kept(facts, src)));
+    }
+    if let Insn::StoreImm {
+        size: Size::DW,
+        dst: Reg::R10,
+        off,
+        imm: value,
+    } = *insn
+    {
+        return Some((slot_at(off)?, Kind::Constant { value }));
+    }
+    None
+}
+
+/// What is taken out of a slot.
+pub fn taken(insn: &Insn) -> Option<(Reg, usize)> {
+    if let Insn::Load {
+        size: Size::DW,
+        dst,
+        src: Reg::R10,
+        off,
+    } = *insn
+    {
+        return Some((dst, slot_at(off)?));
+    }
+    None
+}
+
 /// As `pass` for another instruction.
 fn pass_other(facts: &mut Facts, slot: u32, insn: &Insn) {
     if let Some(r) = tested(insn) {
         if facts.get(r) == (Kind::Counter { head: slot }) {
             facts.set(r, Kind::Turn { head: slot });
+        }
+    }
+    if let Some((place, kind)) = kept_in(facts, insn) {
+        let is_known = is_free(facts.at(place)) && is_free(kind);
+        facts.put(place, if is_known { kind } else { Kind::Nothing });
+    }
+    if let Some((dst, place)) = taken(insn) {
+        if is_free(facts.at(place)) && facts.at(place) != Kind::Unset {
+            facts.set(dst, facts.at(place));
+            return;
         }
     }
     if let Some(r) = insn.register_written() {

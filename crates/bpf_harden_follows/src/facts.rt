@@ -1,15 +1,47 @@
-//! What registers hold at a place.
+//! What registers and slots of the frame hold at a place.
 
-use bpf_follows::Kind;
-use bpf_insn::Reg;
+use bpf_follows::{Kind, Kinds, PLACES};
+use bpf_insn::{FRAME_BYTES, Reg};
 
-/// How many registers there are.
-const REGISTERS: usize = 11;
+/// How many registers there are. Behind them come the frame's slots, the lowest first.
+pub const REGISTERS: usize = 11;
 
-/// What r0 to r10 of the new program hold.
+/// What r0 to r10 of the new program hold, and the slots of its frame.
 #[derive(Clone, Copy)]
 pub struct Facts {
-    pub kinds: [Kind; REGISTERS],
+    pub kinds: Kinds,
+}
+
+/// The place of the slot that begins so far from r10.
+pub fn slot_at(off: i16) -> Option<usize> {
+    let byte = usize::try_from(i64::from(off).saturating_add(FRAME_BYTES as i64)).ok()?;
+    if byte % 8 == 0 && byte < FRAME_BYTES {
+        Some((byte / 8).saturating_add(REGISTERS))
+    } else {
+        None
+    }
+}
+
+/// Whether the old program has nothing in a slot of this kind.
+pub fn is_free(kind: Kind) -> bool {
+    match kind {
+        Kind::Unset | Kind::Base | Kind::Moved { .. } | Kind::Address { .. } => true,
+        Kind::Constant { .. } | Kind::Counter { .. } | Kind::Turn { .. } => true,
+        _ => false,
+    }
+}
+
+/// What holds of a slot on both ways to a place.
+fn joined_slot(a: Kind, b: Kind) -> Kind {
+    let is_same = (is_free(a) || a == Kind::Same) && (is_free(b) || b == Kind::Same);
+    match (a, b) {
+        (Kind::Constant { .. }, Kind::Counter { head })
+        | (Kind::Counter { head }, Kind::Constant { .. }) => Kind::Counter { head },
+        _ if a == b => a,
+        _ if is_free(a) && is_free(b) => Kind::Unset,
+        _ if is_same => Kind::Same,
+        _ => Kind::Nothing,
+    }
 }
 
 /// The register whose offset a kind is beside.
@@ -47,13 +79,37 @@ fn joined(r: Reg, a: Kind, b: Kind) -> Kind {
 }
 
 impl Facts {
+    /// At an entry all registers are the same, and the old program has nothing in the frame.
+    fn entered() -> Facts {
+        let mut facts = Facts {
+            kinds: [Kind::Unset; PLACES],
+        };
+        for number in 0..REGISTERS as u8 {
+            facts.set(Reg::numbered(number), Kind::Same);
+        }
+        facts
+    }
+
     /// At the start both programs have the same, and r1 points to the context's start.
     pub fn start() -> Facts {
-        let mut facts = Facts {
-            kinds: [Kind::Same; REGISTERS],
-        };
+        let mut facts = Facts::entered();
         facts.set(Reg::R1, Kind::Start);
         facts
+    }
+
+    /// What a place holds.
+    pub fn at(&self, place: usize) -> Kind {
+        match self.kinds.get(place) {
+            Some(kind) => *kind,
+            None => Kind::Nothing,
+        }
+    }
+
+    /// The new program's place holds this from now on.
+    pub fn put(&mut self, place: usize, kind: Kind) {
+        if let Some(held) = self.kinds.get_mut(place) {
+            *held = kind;
+        }
     }
 
     /// What a register holds.
@@ -68,10 +124,9 @@ impl Facts {
 
     /// Both programs write the register: what others hold beside its offset is no longer so.
     pub fn write(&mut self, r: Reg, kind: Kind) {
-        for number in 0..REGISTERS as u8 {
-            let other = Reg::numbered(number);
-            if beside(self.get(other)) == Some(r) {
-                self.set(other, Kind::Nothing);
+        for place in 0..PLACES {
+            if beside(self.at(place)) == Some(r) {
+                self.put(place, Kind::Nothing);
             }
         }
         self.set(r, kind);
@@ -79,9 +134,7 @@ impl Facts {
 
     /// At the entry of a function that is called.
     pub fn called(&self) -> Facts {
-        let mut facts = Facts {
-            kinds: [Kind::Same; REGISTERS],
-        };
+        let mut facts = Facts::entered();
         for r in [Reg::R1, Reg::R2, Reg::R3, Reg::R4, Reg::R5] {
             if beside(self.get(r)).is_none() {
                 facts.set(r, self.get(r));
@@ -100,6 +153,11 @@ impl Facts {
             let kind = joined(r, self.get(r), other.get(r));
             is_less = is_less || kind != self.get(r);
             self.set(r, kind);
+        }
+        for place in REGISTERS..PLACES {
+            let kind = joined_slot(self.at(place), other.at(place));
+            is_less = is_less || kind != self.at(place);
+            self.put(place, kind);
         }
         is_less
     }

@@ -1,7 +1,7 @@
 //! The places of a hardened program, by the slots of the old one.
 
 use crate::behind::step;
-use crate::extra::{pass, tested};
+use crate::extra::{pass, taken, tested};
 use crate::facts::Facts;
 use bpf_follows::{Kind, Place};
 use bpf_harden_notes::{Change, Hardened};
@@ -145,14 +145,21 @@ impl<'a> Finder<'a> {
         facts
     }
 
-    /// The register from which a turn is taken in front of an old slot.
-    fn counter(&self, old: u32) -> Option<Reg> {
+    /// The place from which a turn is taken in front of an old slot.
+    fn counter(&self, old: u32) -> Option<usize> {
         let first = self.first(old)?;
-        let counter = tested(self.new.program.at(first)?)?;
-        let next = self.new.program.at(self.behind(first))?;
-        let is_turn = at(&self.changes, first) == Some(Change::Turn);
-        if is_turn && takes_from(next, counter) {
-            Some(counter)
+        if at(&self.changes, first) != Some(Change::Turn) {
+            return None;
+        }
+        let begin = self.new.program.at(first)?;
+        let (test, place) = match taken(begin) {
+            Some((_, place)) => (self.behind(first), place),
+            None => (first, usize::from(tested(begin)? as u8)),
+        };
+        let counter = tested(self.new.program.at(test)?)?;
+        let next = self.new.program.at(self.behind(test))?;
+        if takes_from(next, counter) {
+            Some(place)
         } else {
             None
         }
@@ -172,8 +179,8 @@ impl<'a> Finder<'a> {
             is_new = found.join(facts);
         }
         if let Some(counter) = self.counter(slot) {
-            if let Kind::Constant { .. } = found.get(counter) {
-                found.set(counter, Kind::Counter { head: slot });
+            if let Kind::Constant { .. } = found.at(counter) {
+                found.put(counter, Kind::Counter { head: slot });
             }
         }
         if is_new {

@@ -2,15 +2,17 @@
 //! other.
 //!
 //! Each line of standard input is a case: `little` or `big`, the length of contexts, the turns that a loop has, an image in hex, and
-//! contexts in hex, `none` for an empty one. The line that answers it has `OLD/NEW` for each context, what the old and the new
-//! program end with: a number, `trap`, the number of a fault, as `F3`, or `on` where it goes on. Where there is no new program it has
-//! the number of the refusal, as `E3` or `H2`.
+//! contexts in hex, `none` for an empty one. The line that answers it has `yes` where the new program is shown to keep the meaning, else the
+//! number of what fails, as `M3`, and then `OLD/NEW` for each context, what the old and the new program end with: a number, `trap`, the
+//! number of a fault, as `F3`, or `on` where it goes on. Where there is no new program it has the number of the refusal, as `E3` or `H2`.
 #![tactic(auto)]
 
 ghost use Rattle.std.specs.Prelude.{◌≤◌, IfSome, length};
 ghost use Rattle.bpf_insn.specs.Limits.{max_context};
 
+use bpf_follows::{Bounds, Mismatch, follows};
 use bpf_harden::{Options, harden};
+use bpf_harden_follows::places_of;
 use bpf_insn::{MAX_CONTEXT, Order, Program, decode};
 use bpf_machine::{Outcome, run};
 use std::alloc::Global;
@@ -44,11 +46,12 @@ enum Refusal {
     Hardening(u8),
 }
 
-/// An old program, and the new one.
+/// An old program, and the new one, with what fails of its notes.
 #[derive(Drop)]
 struct Pair {
     old: Program,
     new: Program,
+    mismatch: Option<Mismatch>,
 }
 
 /// A number, 0 where the word isn't one.
@@ -90,12 +93,31 @@ impl Pair {
             padded: false,
             everywhere: true,
         };
-        match harden(alloc, &old, case.length.min(MAX_CONTEXT as u32), &options) {
-            Ok(hardened) => Ok(Pair {
-                old,
-                new: hardened.program,
-            }),
-            Err(error) => Err(Refusal::Hardening(error.number())),
+        let length = case.length.min(MAX_CONTEXT as u32);
+        let hardened = match harden(alloc, &old, length, &options) {
+            Ok(hardened) => hardened,
+            Err(error) => return Err(Refusal::Hardening(error.number())),
+        };
+        let Ok(notes) = places_of(alloc, &old, &hardened) else {
+            return Err(Refusal::Hex);
+        };
+        let turns = case.turns;
+        let verdict = follows(&old, &hardened.program, &notes, Bounds { length, turns });
+        Ok(Pair {
+            old,
+            new: hardened.program,
+            mismatch: verdict.err(),
+        })
+    }
+
+    /// Writes whether the new program is shown to keep the meaning.
+    fn tell_shown(&self, out: &mut impl Write) -> io::Result<()> {
+        match self.mismatch {
+            Some(mismatch) => {
+                let number = mismatch.number();
+                write!(out, "M{number}")
+            }
+            None => write!(out, "yes"),
         }
     }
 
@@ -150,6 +172,7 @@ fn answer(alloc: Global, out: &mut impl Write, line: &str) -> io::Result<()> {
         Ok(pair) => pair,
         Err(refusal) => return tell_refusal(out, refusal),
     };
+    pair.tell_shown(out)?;
     for word in words {
         match context_of(alloc, word) {
             Some(context) => pair.tell(out, &context)?,

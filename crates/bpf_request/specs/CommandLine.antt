@@ -13,9 +13,10 @@ use Rattle.bpf_insn.specs.declared.order.Order.{Order}
 use Rattle.bpf_insn.specs.declared.order.Order.TheVariants.{Little, Big}
 use Rattle.bpf_request.specs.declared.contexts.Contexts.{Contexts}
 use Rattle.bpf_request.specs.declared.contexts.Contexts.TheVariants.{Word, Bytes, Lines, Nothing, Several}
+use Rattle.bpf_request.specs.declared.following.Following.{Following}
 use Rattle.bpf_request.specs.declared.hardening.Hardening.{Hardening}
 use Rattle.bpf_request.specs.declared.words.Request.{Request}
-use Rattle.bpf_request.specs.declared.words.Request.TheVariants.{Groups, Asm, List as ListOf, Run, Check, RunChecked, Infer, Harden, Migrate, Explain}
+use Rattle.bpf_request.specs.declared.words.Request.TheVariants.{Groups, Asm, List as ListOf, Run, Check, RunChecked, Infer, Harden, Follows, Migrate, Explain}
 use Rattle.bpf_request.specs.declared.subject.Aspect.{Aspect}
 use Rattle.bpf_request.specs.declared.subject.Aspect.TheVariants.{Listing, Slot as OneSlot, Graph as Drawn}
 use Rattle.bpf_request.specs.declared.subject.Clash.{Clash}
@@ -119,7 +120,15 @@ abbrev pub harden_places : App
 harden_places = with_rule (with_rule (with_rule (new_app (codes "harden")) (place (codes "IN"))) context_length) (place (codes "OUT"))
 
 abbrev pub harden : App
-harden = with_rule (with_rule (with_rule (with_rule (with_rule harden_places turns) otherwise) (flag (codes "padded"))) (file (codes "notes"))) big
+harden =
+    with_rule (with_rule (with_rule (with_rule (with_rule (with_rule (with_rule harden_places turns) otherwise) (flag (codes "padded"))) (flag (codes "proved")))
+    (file (codes "notes"))) (file (codes "changes"))) big
+
+abbrev pub follows_places : App
+follows_places = with_rule (with_rule (with_rule (with_rule (new_app (codes "follows")) (place (codes "OLD"))) (place (codes "NEW"))) (place (codes "NOTES"))) context_length
+
+abbrev pub follows : App
+follows = with_rule (with_rule follows_places turns) big
 
 abbrev pub migrate : App
 migrate = with_rule (with_rule (new_app (codes "migrate")) (place (codes "CERT"))) (place (codes "OUT"))
@@ -142,9 +151,9 @@ explain = with_rule (with_rule (with_rule (with_rule (with_rule (with_rule (with
 abbrev pub with_proposals : App
 with_proposals = with_subcommand (with_subcommand (with_subcommand (with_subcommand without_certificates check.top) run_checked.top) infer.top) harden.top
 
--- `bpf` with all ten
+-- `bpf` with all eleven
 abbrev pub bpf : App
-bpf = with_subcommand (with_subcommand with_proposals migrate.top) explain.top
+bpf = with_subcommand (with_subcommand (with_subcommand with_proposals follows.top) migrate.top) explain.top
 
 -- the kinds of what is wrong with the words, by the first step of the parse that fails; none of words that are taken
 abbrev pub faults_in : List Text → Kinds
@@ -261,13 +270,20 @@ abbrev pub IsHardening : List Row → Hardening → Type 0
 IsHardening rows h =
     IsInput rows h.input.now h.order × IsCount 32 0 (one_of (codes "LEN") rows) h.length × (h.output.now ≡ word_of (codes "OUT") rows)
     × IsCount 32 usual_turns (one_of (codes "turns") rows) h.turns × IsCount 64 0 (one_of (codes "otherwise") rows) h.otherwise
-    × IsFlag (one_of (codes "padded") rows) h.padded × (option_map (λ s. s.now) h.notes ≡ first_of (codes "notes") rows)
+    × IsFlag (one_of (codes "padded") rows) h.padded × IsFlag (one_of (codes "proved") rows) h.proved
+    × (option_map (λ s. s.now) h.notes ≡ first_of (codes "notes") rows) × (option_map (λ s. s.now) h.changes ≡ first_of (codes "changes") rows)
+
+-- which programs are to be compared, by which notes, for which contexts and turns
+abbrev pub IsFollowing : List Row → Following → Type 0
+IsFollowing rows f =
+    (f.original.now ≡ word_of (codes "OLD") rows) × (f.rewritten.now ≡ word_of (codes "NEW") rows) × (f.notes.now ≡ word_of (codes "NOTES") rows)
+    × IsCount 32 0 (one_of (codes "LEN") rows) f.length × IsCount 32 usual_turns (one_of (codes "turns") rows) f.turns × IsOrder rows f.order
 
 -- the request of a subcommand with these matches
 abbrev pub Asks : Text → List Row → Request → Type 0
 Asks name rows (Groups input order) =
     (name ≢ codes "asm") × (name ≢ codes "list") × (name ≢ codes "run") × (name ≢ codes "check") × (name ≢ codes "run-checked") × (name ≢ codes "infer")
-    × (name ≢ codes "harden") × (name ≢ codes "migrate") × (name ≢ codes "explain") × IsInput rows input.now order
+    × (name ≢ codes "harden") × (name ≢ codes "follows") × (name ≢ codes "migrate") × (name ≢ codes "explain") × IsInput rows input.now order
 Asks name rows (Asm input output order) = (name ≡ codes "asm") × IsInput rows input.now order × (output.now ≡ word_of (codes "OUT") rows)
 Asks name rows (ListOf input slots bytes order) =
     (name ≡ codes "list") × IsInput rows input.now order × IsFlag (one_of (codes "slots") rows) slots × IsFlag (one_of (codes "bytes") rows) bytes
@@ -282,6 +298,7 @@ Asks name rows (Infer input least most deep output order) =
     (name ≡ codes "infer") × IsInput rows input.now order × IsCount 32 0 (one_of (codes "LEN") rows) least
     × IsCount 32 least (one_of (codes "most") rows) most × IsFlag (one_of (codes "deep") rows) deep × (output.now ≡ word_of (codes "OUT") rows)
 Asks name rows (Harden hardening) = (name ≡ codes "harden") × IsHardening rows hardening
+Asks name rows (Follows following) = (name ≡ codes "follows") × IsFollowing rows following
 Asks name rows (Explain input subject lines order) =
     (name ≡ codes "explain") × IsInput rows input.now order × IsSubject rows subject × (option_map (λ s. s.now) lines ≡ first_of (codes "lines") rows)
 Asks name rows (Migrate certificate output) = (name ≡ codes "migrate") × (certificate.now ≡ word_of (codes "CERT") rows) × (output.now ≡ word_of (codes "OUT") rows)

@@ -2,14 +2,14 @@
 
 ghost use Rattle.std.specs.Prelude.{◌≡◌, false};
 ghost use Rattle.clap.specs.Words.{App, Rule, new_app, new_rule, rule_of, with_rule, with_subcommand};
-ghost use Rattle.bpf_request.specs.CommandLine.{Grows, asm, big, bpf, check, context_length, explain, explain_places, file, flag, groups, harden, harden_places, infer, inferred, list, migrate, most, one_slot, otherwise, place, run, run_checked, steps, top, trace, turns, with_contexts, with_proposals, without_certificates};
+ghost use Rattle.bpf_request.specs.CommandLine.{Grows, asm, big, bpf, check, context_length, explain, explain_places, file, flag, follows, follows_places, groups, harden, harden_places, infer, inferred, list, migrate, most, one_slot, otherwise, place, run, run_checked, steps, top, trace, turns, with_contexts, with_proposals, without_certificates};
 
 use bpf_insn::{MAX_CONTEXT, MAX_SLOTS};
 use clap::{Arg, ArgAction, Command, value_parser};
 use std::alloc::{AllocError, Global};
 
 /// The command's version, and in a line of its own the kit that it is proved with, as `rt version` names it.
-const VERSION: &str = "0.1.0\nrattle-kit-13f logic dac8208d650f15bf";
+const VERSION: &str = "0.1.0\nrattle-kit-13b logic dac8208d650f15bf";
 
 /// A command with what was added to it, or the want of memory that ended that.
 type Grown<'a> = Result<Command<'a>, AllocError>;
@@ -150,7 +150,7 @@ fn one_slot<'a>(alloc: Global) -> Arg<'a>
 }
 
 /// The option for the turns of a loop.
-fn turns<'a>(alloc: Global) -> Arg<'a>
+fn turns<'a>(alloc: Global, help: &'a str) -> Arg<'a>
     ensures rule { rule_of result ≡ turns }
     ensures local { result.global ≡ false }
 {
@@ -158,7 +158,7 @@ fn turns<'a>(alloc: Global) -> Arg<'a>
         .long("turns")
         .value_name("N")
         .value_parser(value_parser!(u32).range(1..=u32::MAX as i64))
-        .help("how often a loop that gets a counter may turn, else 65536")
+        .help(help)
 }
 
 /// The option for the number with which a trap ends the program.
@@ -324,7 +324,13 @@ fn harden_places<'a>(alloc: Global) -> Grown<'a>
 fn harden_command<'a>(alloc: Global) -> Grown<'a>
     ensures { Grows result harden }
 {
-    let command = taking(harden_places(alloc), turns(alloc));
+    let command = taking(
+        harden_places(alloc),
+        turns(
+            alloc,
+            "how often a loop that gets a counter may turn, else 65536",
+        ),
+    );
     let command = taking(command, otherwise(alloc));
     let command = taking(
         command,
@@ -336,10 +342,56 @@ fn harden_command<'a>(alloc: Global) -> Grown<'a>
     );
     let command = taking(
         command,
+        flag(
+            alloc,
+            "proved",
+            "writes nothing unless `follows` says yes to the hardened image",
+        ),
+    );
+    let command = taking(
+        command,
+        file(alloc, "notes", "the notes that `follows` reads go to FILE"),
+    );
+    let command = taking(
+        command,
         file(
             alloc,
-            "notes",
+            "changes",
             "what was done goes to FILE, a line for each change",
+        ),
+    );
+    taking(command, big(alloc))
+}
+
+/// `follows` with its words for names and the length.
+fn follows_places<'a>(alloc: Global) -> Grown<'a>
+    ensures { Grows result follows_places }
+{
+    let about = "Judges whether notes show that one image keeps the meaning of another";
+    let command = named(alloc, "follows", about);
+    let command = taking(
+        command,
+        place(alloc, "OLD", "the image whose meaning is kept"),
+    );
+    let command = taking(command, place(alloc, "NEW", "the image that keeps it"));
+    let command = taking(
+        command,
+        place(alloc, "NOTES", "what stands in NEW for what in OLD"),
+    );
+    taking(
+        command,
+        context_length(alloc, "the length of the contexts in bytes, at most 4096"),
+    )
+}
+
+fn follows_command<'a>(alloc: Global) -> Grown<'a>
+    ensures { Grows result follows }
+{
+    let command = taking(
+        follows_places(alloc),
+        turns(
+            alloc,
+            "how often a run of OLD comes to one slot at most, else 65536",
         ),
     );
     taking(command, big(alloc))
@@ -433,6 +485,7 @@ fn with_proposals<'a>(alloc: Global) -> Grown<'a>
 pub fn command<'a>(alloc: Global) -> Result<Command<'a>, AllocError>
     ensures { Grows result bpf }
 {
-    let command = over(with_proposals(alloc), migrate_command(alloc));
+    let command = over(with_proposals(alloc), follows_command(alloc));
+    let command = over(command, migrate_command(alloc));
     over(command, explain_command(alloc))
 }

@@ -17,7 +17,11 @@ pub struct Hardening<'a> {
     pub otherwise: u64,
     /// Contexts are blocks: a packet's length in eight bytes, the packet, and padding.
     pub padded: bool,
-    /// Where notes of what was done go.
+    /// Nothing goes anywhere unless it is shown that the hardened program keeps the meaning.
+    pub proved: bool,
+    /// Where the notes go by which that is shown.
     pub notes: Option<&'a str>,
+    /// Where a line for each change goes.
+    pub changes: Option<&'a str>,
     pub order: Order,
 }

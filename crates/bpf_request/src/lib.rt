@@ -3,11 +3,13 @@
 
 mod commands;
 mod contexts;
+mod following;
 mod hardening;
 mod subject;
 mod words;
 
 pub use contexts::Contexts;
+pub use following::Following;
 pub use hardening::Hardening;
 pub use subject::{Aspect, Clash, Subject};
 pub use words::{Request, request_of};

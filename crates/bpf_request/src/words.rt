@@ -3,11 +3,12 @@
 ghost use Rattle.std.specs.Prelude.{◌≡◌, IfOk, IfErr, map, option_map, true};
 ghost use Rattle.std.specs.String.{string_bytes};
 ghost use Rattle.clap.specs.Words.{FailsBy, first_of, found_of, kind_of, one_of, rows_of, subcommand_of, takes};
-ghost use Rattle.bpf_request.specs.CommandLine.{AreContexts, Asks, GivenBy, IsAsked, IsCount, IsFlag, IsHardening, IsNumber, IsOrder, IsSubject, bpf, faults_in, word_of};
+ghost use Rattle.bpf_request.specs.CommandLine.{AreContexts, Asks, GivenBy, IsAsked, IsCount, IsFlag, IsFollowing, IsHardening, IsNumber, IsOrder, IsSubject, bpf, faults_in, word_of};
 ghost use Rattle.clap.specs.declared.error.ErrorKind.TheVariants.{OutOfMemory};
 
 use crate::commands::command;
 use crate::contexts::Contexts;
+use crate::following::Following;
 use crate::hardening::Hardening;
 use crate::subject::{Subject, subject_of};
 use bpf_insn::Order;
@@ -72,6 +73,8 @@ pub enum Request<'a> {
     },
     /// A hardened image.
     Harden(Hardening<'a>),
+    /// Whether notes show that one program keeps the meaning of another.
+    Follows(Following<'a>),
     /// What the checker or the inferrer sees of a program, or why an input is refused, in words, with the lines of its source at a
     /// name.
     Explain {
@@ -189,7 +192,23 @@ fn hardening_in<'a>(matches: &ArgMatches<'a>) -> Hardening<'a>
         turns: number(matches, "turns", USUAL_TURNS),
         otherwise: wide_number(matches, "otherwise", 0),
         padded: has_flag(matches, "padded"),
+        proved: has_flag(matches, "proved"),
         notes: word_if(matches, "notes"),
+        changes: word_if(matches, "changes"),
+        order: order_of(matches),
+    }
+}
+
+/// Which programs are to be compared.
+fn following_in<'a>(matches: &ArgMatches<'a>) -> Following<'a>
+    ensures { IsFollowing (rows_of (found_of matches.now)) result }
+{
+    Following {
+        original: word(matches, "OLD"),
+        rewritten: word(matches, "NEW"),
+        notes: word(matches, "NOTES"),
+        length: number(matches, "LEN", 0),
+        turns: number(matches, "turns", USUAL_TURNS),
         order: order_of(matches),
     }
 }
@@ -243,6 +262,7 @@ fn request_in<'a>(name: &str, matches: &ArgMatches<'a>) -> Request<'a>
             }
         }
         "harden" => Request::Harden(hardening_in(matches)),
+        "follows" => Request::Follows(following_in(matches)),
         "explain" => Request::Explain {
             input,
             subject: subject_in(matches),

@@ -1,24 +1,35 @@
 //! `bpf harden IN LEN OUT`.
 
 ghost use Rattle.bpf_insn.specs.Written.{AppendsBeginning};
-ghost use Rattle.std.specs.Prelude.{◌≡◌, ◌<◌, IfOk, IfErr};
+ghost use Rattle.std.specs.Prelude.{◌≡◌, ◌<◌, List, Option, IfOk, IfErr, IfSome, true};
 ghost use Rattle.bpf_insn.specs.Instruction.{slots};
 ghost use Rattle.bpf_insn.specs.Image.{IsProgram};
 ghost use Rattle.bpf_harden_notes.specs.RefusalNumbers.{harden_slot};
 ghost use Rattle.bpf_answers.specs.Answer.{Answered, Says, Unfinished, text_of as answer_text};
-ghost use Rattle.bpf_answers.specs.Answer.Answer.{NotHardened};
-ghost use Rattle.bpf_command.specs.Hardened.{HardenFails, HardenSays, NotesAt, NotesFail, NotBothMade, NotesNotAt};
+ghost use Rattle.bpf_answers.specs.Answer.Answer.{NotHardened, NotShown};
+ghost use Rattle.bpf_follows.specs.declared.notes.Place.{Place};
+ghost use Rattle.bpf_follows.specs.Matching.{Matches};
+ghost use Rattle.bpf_follows_notes.specs.NotesText.{notes_text};
+ghost use Rattle.bpf_command.specs.Hardened.{BothStand, HardenFails, HardenSays, IsLeft, IsUnshown, NotAllMade, NotBothPut, NotBothStand, Stands, Unput, bounds_of};
 ghost use Rattle.bpf_places.specs.Made.{making};
 ghost use Rattle.bpf_answers.specs.Told.{OutputFails};
 
-use crate::commands::notes::notes_text;
-use bpf_answers::{DONE, Failure, program_at, put, refuse_at, refuse_image};
+use crate::advice::{after_mismatch, after_proof, after_unshown};
+use crate::aside::Aside;
+use crate::commands::changes::changes_text;
+use bpf_answers::{Content, DONE, Failure, program_at, put, refuse_at, refuse_image};
+use bpf_follows::{Bounds, Mismatch, Place, follows, matching_keeps_meaning};
+use bpf_follows_notes::write;
 use bpf_harden::{HardenError, Hardened, Options, harden};
+use bpf_harden_follows::places_of;
 use bpf_insn::{Code, MAX_CONTEXT, Program};
 use bpf_places::Places;
 use bpf_request::Hardening;
 use std::alloc::{AllocError, Global};
 use std::io::Write;
+
+/// The number of the refusal of a hardened program that isn't shown to keep the meaning, behind those of hardening itself.
+const NOT_SHOWN: u8 = 13;
 
 /// Prints why a program isn't hardened.
 fn refuse_hardening<'a, W: Write>(
@@ -32,6 +43,23 @@ fn refuse_hardening<'a, W: Write>(
 {
     let slot = u64::from(error.slot());
     refuse_at(alloc, out, "H", error.number(), " at slot ", slot)
+}
+
+/// Prints that a hardened program isn't shown to keep the meaning, and tells people what of its notes fails.
+fn refuse_unshown<'a, W: Write, H: Aside>(
+    alloc: Global,
+    out: &mut W,
+    aside: &H,
+    mismatch: Mismatch,
+) -> Result<u8, Failure<'a>>
+    ensures ok { IfOk result (λ status. Says (NotShown mismatch) status (W.contents out.old) (W.contents out.new)) }
+    ensures err { IfErr result OutputFails }
+    ensures begun { IfErr result (λ _. AppendsBeginning (W.contents out.old) (W.contents out.new) (answer_text (NotShown mismatch))) }
+{
+    let slot = u64::from(mismatch.slot());
+    let answer = refuse_at(alloc, out, "H", NOT_SHOWN, " at slot ", slot);
+    after_unshown(aside, mismatch);
+    answer
 }
 
 /// The hardened program, with what was done.
@@ -56,35 +84,149 @@ fn answer_of(
     Ok(hardened)
 }
 
-/// The text of the notes, empty where none are asked for.
-fn text_of(alloc: Global, asked: Hardening<'_>, hardened: &Hardened) -> Result<String, AllocError> {
+/// Why a hardened program isn't shown to keep the meaning.
+#[derive(Clone, Copy)]
+pub enum Unshown {
+    /// Memory ran out.
+    Memory,
+    /// Its notes fail.
+    Differs(Mismatch),
+}
+
+impl From<AllocError> for Unshown {
+    ghost use Rattle.std.specs.Prelude.{◌≡◌};
+    ghost use Rattle.bpf_command.specs.declared.commands.harden.Unshown.TheVariants.{Memory};
+
+    ghost from_gives = { λ _ why. why ≡ Memory };
+
+    fn from(_error: AllocError) -> Unshown {
+        Unshown::Memory
+    }
+}
+
+/// Notes of a hardened program. With `--proved` they show that it keeps the meaning, or it is refused. People are told whether they show it.
+fn shown<H: Aside>(
+    alloc: Global,
+    aside: &H,
+    program: &Program,
+    hardened: &Hardened,
+    asked: Hardening<'_>,
+) -> Result<Vec<Option<Place>>, Unshown>
+    ensures matches { IfOk result (λ notes. asked.entry.proved ≡ true → Matches program.now hardened.now.program notes.items (bounds_of asked.entry)) }
+    ensures err { IfErr result (IsUnshown program.now hardened.now.program asked.entry) }
+{
+    let notes = places_of(alloc, program, hardened)?;
+    let bounds = Bounds {
+        length: asked.length,
+        turns: asked.turns,
+    };
+    match follows(program, &hardened.program, &notes, bounds) {
+        Ok(()) => {
+            after_proof(aside);
+            Ok(notes)
+        }
+        Err(mismatch) if asked.proved => Err(Unshown::Differs(mismatch)),
+        Err(mismatch) => {
+            after_mismatch(aside, mismatch);
+            Ok(notes)
+        }
+    }
+}
+
+/// What goes beside the hardened image: the text of its notes and that of the changes, empty where no name for it is given.
+#[derive(Drop)]
+struct Beside {
+    notes: Vec<u8>,
+    changes: String,
+}
+
+/// The text of notes, if a name for it is given.
+fn text_of(
+    alloc: Global,
+    asked: Hardening<'_>,
+    notes: &[Option<Place>],
+) -> Result<Vec<u8>, AllocError>
+    ensures { IfOk result (λ text. IfSome asked.entry.notes (λ _. text.items ≡ notes_text notes.now)) }
+{
     match asked.notes {
-        Some(_name) => notes_text(alloc, hardened),
+        Some(_name) => write(alloc, notes),
+        None => Ok(Vec::new(alloc)),
+    }
+}
+
+/// The text of the changes, if a name for it is given.
+fn changes_of(
+    alloc: Global,
+    asked: Hardening<'_>,
+    hardened: &Hardened,
+) -> Result<String, AllocError> {
+    match asked.changes {
+        Some(_name) => changes_text(alloc, hardened),
         None => Ok(String::new(alloc)),
     }
 }
 
-/// Writes the notes where a name for them is given.
-fn put_notes<'a, P: Places>(
-    places: &mut P,
-    notes: Option<&'a str>,
-    text: &String,
-) -> Result<u8, Failure<'a>>
-    ensures ok { IfOk result (λ status. (status ≡ 0) × NotesAt (making P.creates P.ends P.Writer.contents) places.old notes.entry places.new) }
-    ensures err { IfErr result (NotesFail (making P.creates P.ends P.Writer.contents) places.old notes.entry places.new) }
-    ensures names { IfErr result (λ _. NotesNotAt (making P.creates P.ends P.Writer.contents) places.old notes.entry places.new) }
+/// What goes beside a hardened program.
+fn beside_of<H: Aside>(
+    alloc: Global,
+    aside: &H,
+    program: &Program,
+    hardened: &Hardened,
+    asked: Hardening<'_>,
+) -> Result<Beside, Unshown>
+    ensures shown { IfOk result (λ beside. (notes : List (Option Place))
+        × (asked.entry.proved ≡ true → Matches program.now hardened.now.program notes (bounds_of asked.entry))
+        × IfSome asked.entry.notes (λ _. beside.notes.items ≡ notes_text notes)) }
+    ensures err { IfErr result (IsUnshown program.now hardened.now.program asked.entry) }
 {
-    match notes {
-        Some(name) => put(places, name, text),
+    let notes = shown(alloc, aside, program, hardened, asked)?;
+    let text = text_of(alloc, asked, &notes)?;
+    let changes = changes_of(alloc, asked, hardened)?;
+    Ok(Beside {
+        notes: text,
+        changes,
+    })
+}
+
+/// Puts content at a name, if one is given.
+fn put_if<'a, P: Places, C: Content>(
+    places: &mut P,
+    name: Option<&'a str>,
+    content: &C,
+) -> Result<u8, Failure<'a>>
+    ensures ok { IfOk result (λ status. (status ≡ 0) × Stands (making P.creates P.ends P.Writer.contents) places.old name.entry (C.bytes content.now)
+        places.new) }
+    ensures err { IfErr result (Unput (making P.creates P.ends P.Writer.contents) places.old name.entry places.new) }
+    ensures names { IfErr result (λ _. IsLeft (making P.creates P.ends P.Writer.contents) places.old name.entry places.new) }
+{
+    match name {
+        Some(name) => put(places, name, content),
         None => Ok(DONE),
     }
 }
 
-/// Writes the hardened image of an image, and notes of what was done. The places for them are made only where there is one.
-pub fn hardened<'a, P: Places, W: Write>(
+/// Writes the texts, each where a name for it is given: the notes, and then the changes.
+fn put_beside<'a, P: Places>(
+    places: &mut P,
+    asked: Hardening<'a>,
+    beside: &Beside,
+) -> Result<u8, Failure<'a>>
+    ensures ok { IfOk result (λ status. (status ≡ 0) × BothStand (making P.creates P.ends P.Writer.contents) places.old asked.entry
+        beside.now.notes.items places.new) }
+    ensures err { IfErr result (NotBothPut (making P.creates P.ends P.Writer.contents) places.old asked.entry places.new) }
+    ensures names { IfErr result (λ _. NotBothStand (making P.creates P.ends P.Writer.contents) places.old asked.entry places.new) }
+{
+    put_if(places, asked.notes, &beside.notes)?;
+    put_if(places, asked.changes, &beside.changes)
+}
+
+/// Writes the hardened image of an image, notes that `follows` reads, and what was done. The places for them are made only where there is
+/// an image to write.
+pub fn hardened<'a, P: Places, W: Write, H: Aside>(
     alloc: Global,
     places: &mut P,
     out: &mut W,
+    aside: &H,
     asked: Hardening<'a>,
 ) -> Result<u8, Failure<'a>>
     ensures ok { IfOk result (Answered (HardenSays P.opens (making P.creates P.ends P.Writer.contents) places.old asked.entry places.new)
@@ -92,8 +234,9 @@ pub fn hardened<'a, P: Places, W: Write>(
     ensures err { IfErr result (HardenFails P.opens (making P.creates P.ends P.Writer.contents) places.old asked.entry places.new) }
     ensures begun { IfErr result (λ _. Unfinished (HardenSays P.opens (making P.creates P.ends P.Writer.contents) places.old asked.entry places.new)
         (W.contents out.old) (W.contents out.new)) }
-    ensures names { IfErr result (λ _. NotBothMade P.opens (making P.creates P.ends P.Writer.contents) places.old asked.entry places.new) }
+    ensures names { IfErr result (λ _. NotAllMade P.opens (making P.creates P.ends P.Writer.contents) places.old asked.entry places.new) }
 {
+    matching_keeps_meaning();
     let program = match program_at(alloc, places, asked.input, asked.order)? {
         Ok(program) => program,
         Err(error) => return refuse_image(alloc, out, error),
@@ -102,9 +245,11 @@ pub fn hardened<'a, P: Places, W: Write>(
         Ok(hardened) => hardened,
         Err(error) => return refuse_hardening(alloc, out, error),
     };
-    let Ok(text) = text_of(alloc, asked, &hardened) else {
-        return refuse_hardening(alloc, out, HardenError::Memory);
+    let beside = match beside_of(alloc, aside, &program, &hardened, asked) {
+        Ok(beside) => beside,
+        Err(Unshown::Memory) => return refuse_hardening(alloc, out, HardenError::Memory),
+        Err(Unshown::Differs(mismatch)) => return refuse_unshown(alloc, out, aside, mismatch),
     };
     put(places, asked.output, &hardened.program)?;
-    put_notes(places, asked.notes, &text)
+    put_beside(places, asked, &beside)
 }

@@ -6,7 +6,7 @@ use Rattle.bpf_insn.specs.Limits.{max_slots}
 use Rattle.bpf_insn.specs.declared.instruction.Reg.{Reg}
 use Rattle.bpf_insn.specs.declared.instruction.Reg.TheVariants.{R0, R1, R2, R3, R4, R5, R6, R7, R8, R9, R10}
 use Rattle.bpf_follows.specs.declared.notes.Kind.{Kind}
-use Rattle.bpf_follows.specs.declared.notes.Kind.TheVariants.{Nothing, Same, Number, Offset, Fixed, Start, Base, Moved, Address, Constant, Counter, Turn}
+use Rattle.bpf_follows.specs.declared.notes.Kind.TheVariants.{Nothing, Unset, Same, Number, Offset, Fixed, Start, Base, Moved, Address, Constant, Counter, Turn}
 use Rattle.bpf_follows.specs.declared.notes.Place.{Place}
 use Rattle.bpf_follows_notes.specs.declared.error.NotesError.{NotesError}
 use Rattle.bpf_follows_notes.specs.declared.error.NotesError.TheVariants.{Form, Memory}
@@ -89,9 +89,10 @@ behind_in word text = do
 unfoldable pub plain_in : List ℕ → Option (Kind × List ℕ)
 plain_in text =
     or_else (word_in (codes "same") Same text)
+    (or_else (word_in (codes "unset") Unset text)
     (or_else (word_in (codes "number") Number text)
     (or_else (word_in (codes "offset") Offset text)
-    (or_else (word_in (codes "start") Start text) (word_in (codes "base") Base text))))
+    (or_else (word_in (codes "start") Start text) (word_in (codes "base") Base text)))))
 
 unfoldable pub numbered_in : List ℕ → Option (Kind × List ℕ)
 numbered_in text =
@@ -118,17 +119,17 @@ entry_in text = do
 -- at most so many entries, over what was said before
 unfoldable pub kinds_in : ℕ → List Kind → List ℕ → Option (List Kind)
 kinds_in zero kinds text = Some kinds
-kinds_in (suc k) kinds text = option_map_or (λ x. if nat_lt x.0 11 then kinds_in k (set kinds x.0 x.1) x.2 else None) (entry_in text) (Some kinds)
+kinds_in (suc k) kinds text = option_map_or (λ x. if nat_lt x.0 75 then kinds_in k (set kinds x.0 x.1) x.2 else None) (entry_in text) (Some kinds)
 
 abbrev pub nothing_said : List Kind
-nothing_said = replicate 11 Nothing
+nothing_said = replicate 75 Nothing
 
 unfoldable pub place_in : List ℕ → Option Place
 place_in text = do
   first ← number_in (codes "first ") text
   entry ← number_in (codes " entry ") first.1
   body ← number_in (codes " body ") entry.1
-  kinds ← kinds_in 11 nothing_said body.1
+  kinds ← kinds_in 75 nothing_said body.1
   Some (record { entry = entry.0; first = first.0; body = body.0; kinds = kinds })
 
 abbrev pub note_from : List ℕ → Option (List ℕ) → Option (Option Place)

@@ -1,7 +1,9 @@
-use Rattle.std.proofs.Common.{sym, ap, ◌∙◌, subst}
+use Rattle.std.proofs.Common.{◌≡◌, refl, sym, ap, ◌∙◌, subst}
 use Rattle.std.specs.Prelude.{option_copied}
 use Rattle.std.proofs.lemmas.Bool.{false≢true}
-use Rattle.bpf_follows.specs.Matching.{Falls, Leads}
+use Rattle.std.proofs.lemmas.Option.{same_Some}
+use Rattle.bpf_insn.specs.Instruction.{Instructions}
+use Rattle.bpf_follows.specs.Matching.{front_at, IsSite, Falls, Leads, Stands}
 use Rattle.bpf_follows.proofs.SiteLemmas.{one_site}
 use Rattle.bpf_follows.proofs.stands.stands_at.Goals as goal
 
@@ -10,7 +12,7 @@ returns-in-Err g c = (
   λ h. absurd (false≢true h),
   λ all.
       let s = all c.in-Some.place.now c.in-Some-insn.insn (sym c.place_at.ensures ∙ ap option_copied c.in-Some.is) (sym c.insn.ensures ∙ c.in-Some-insn.is) in
-      absurd (c.in-Err.ensures.err s.site s.is_site),
+      absurd (c.in-Err.ensures.err s.site (subst (λ front. IsSite (g.N.Code.program c.args.new.now) c.in-Some.place.now front s.site) (sym c.front_at-front.ensures) s.is_site)),
 )
 
 pub returns-then-not-falls : goal.returns-then-not-falls
@@ -18,7 +20,7 @@ returns-then-not-falls g c = (
   λ h. absurd (false≢true h),
   λ all.
       let s = all c.in-Some.place.now c.in-Some-insn.insn (sym c.place_at.ensures ∙ ap option_copied c.in-Some.is) (sym c.insn.ensures ∙ c.in-Some-insn.is) in
-      let same = one_site (g.N.Code.program c.args.new.now) c.in-Some.place.now _ s.site c.in-Ok.site s.is_site c.in-Ok.ensures.ok.0 in
+      let same = one_site (g.N.Code.program c.args.new.now) c.in-Some.place.now _ s.site c.in-Ok.site s.is_site (subst (λ front. IsSite (g.N.Code.program c.args.new.now) c.in-Some.place.now front c.in-Ok.site) c.front_at-front.ensures c.in-Ok.ensures.ok.0) in
       sym c.if-not-falls.true ∙ c.falls.ensures.1 (subst (λ site. Falls c.args.notes.now c.args.bounds.turns site) same s.falls),
 )
 
@@ -27,6 +29,19 @@ returns-then-not-leads g c = (
   λ h. absurd (false≢true h),
   λ all.
       let s = all c.in-Some.place.now c.in-Some-insn.insn (sym c.place_at.ensures ∙ ap option_copied c.in-Some.is) (sym c.insn.ensures ∙ c.in-Some-insn.is) in
-      let same = one_site (g.N.Code.program c.args.new.now) c.in-Some.place.now _ s.site c.in-Ok.site s.is_site c.in-Ok.ensures.ok.0 in
+      let same = one_site (g.N.Code.program c.args.new.now) c.in-Some.place.now _ s.site c.in-Ok.site s.is_site (subst (λ front. IsSite (g.N.Code.program c.args.new.now) c.in-Some.place.now front c.in-Ok.site) c.front_at-front.ensures c.in-Ok.ensures.ok.0) in
       sym c.if-not-leads.true ∙ c.leads.ensures.1 (subst (λ site. Leads c.args.notes.now (g.N.Code.program c.args.new.now) c.args.bounds.turns site) same s.leads),
+)
+
+pub returns : goal.returns
+returns g c = (
+  λ h place i noted stands.
+      let new : Instructions = g.N.Code.program c.args.new.now in
+      let same_place : c.in-Some.place.now ≡ place = same_Some _ _ (sym (sym c.place_at.ensures ∙ ap option_copied c.in-Some.is) ∙ noted) in
+      let same_insn : c.in-Some-insn.insn ≡ i = same_Some _ _ (sym (sym c.insn.ensures ∙ c.in-Some-insn.is) ∙ stands) in
+      subst (λ place. Stands new c.args.notes.now c.args.bounds.turns place (front_at (g.O.Code.program c.args.old.now) c.args.bounds c.args.slot i)) same_place
+      (subst (λ i. Stands new c.args.notes.now c.args.bounds.turns c.in-Some.place.now (front_at (g.O.Code.program c.args.old.now) c.args.bounds c.args.slot i)) same_insn
+      (subst (λ front. Stands new c.args.notes.now c.args.bounds.turns c.in-Some.place.now front) c.front_at-front.ensures
+      (record { site = c.in-Ok.site; is_site = c.in-Ok.ensures.ok.0; falls = c.falls.ensures.0 c.if-not-falls.false; leads = c.leads.ensures.0 c.if-not-leads.false }))),
+  λ all. refl,
 )

@@ -1,13 +1,15 @@
-use Rattle.std.proofs.Common.{inl, inr, rules, ◌≡◌, ◌⊎◌, true, false, IfErr}
+use Rattle.std.proofs.Common.{inl, inr, rules, ◌≡◌, ◌⊎◌, ◌<◌, true, false, IfErr}
+use Rattle.bpf_insn.specs.Instruction.{slots}
 use Rattle.bpf_insn.specs.Image.{image as image_of}
 use Rattle.bpf_answers.specs.Loaded.{LoadsImage}
 use Rattle.bpf_places.specs.Made.{making}
-use Rattle.bpf_command.specs.Hardened.{Hardens}
-use Rattle.bpf_answers.specs.declared.failure.Failure.TheVariants.{CannotWrite, NoMemory}
-use Rattle.bpf_command.proofs.HardenedLemmas.{both_stand, notes_fail, notes_left, out_fails}
 use Rattle.bpf_harden_notes.specs.declared.error.HardenError.TheVariants.{Memory as NoSpace}
-use Rattle.bpf_answers.specs.Answer.Answer.{NoImage, NotHardened}
+use Rattle.bpf_answers.specs.declared.failure.Failure.TheVariants.{CannotWrite, NoMemory}
+use Rattle.bpf_command.proofs.HardenedLemmas.{all_stand, answered, made_of, out_fails, texts_fail, texts_left}
+use Rattle.bpf_answers.specs.Answer.Answer.{NoImage, NotHardened, NotShown}
 use Rattle.bpf_answers.proofs.MadeLemmas.{not_all_printed, on_failure}
+use Rattle.bpf_command.specs.Hardened.{IsUnshown}
+use Rattle.bpf_command.specs.declared.commands.harden.Unshown.TheVariants.{Differs}
 use Rattle.bpf_command.proofs.commands.harden.hardened.Goals as goal
 
 pub returns-in_err-put-clause-err : goal.returns-in_err-put-clause-err
@@ -16,10 +18,11 @@ returns-in_err-put-clause-err g c =
     let puts = making g.P.Places.creates g.P.Places.ends g.P.Writer.Write.contents in
     let asked = c.args.asked in
     let made = c.in-Ok-answer_of.hardened.program in
+    let shown = c.in-Ok-beside_of.ensures.shown in
     let image : LoadsImage at asked.order c.args.places.now asked.input.now c.program_at.new.places c.in-Ok.program = search rules in
-    let hardens : Hardens at c.args.places.now asked c.program_at.new.places made = (c.in-Ok.program, image, c.in-Ok-answer_of.ensures.program) in
+    let hardens = made_of at c.args.places.now asked c.program_at.new.places c.in-Ok.program made shown.0 c.matching_keeps_meaning.ensures image c.in-Ok-answer_of.ensures.program shown.1 in
     let fails : IfErr c.from_residual-in_err-put.result (λ f. ((f ≡ CannotWrite asked.output) ⊎ (f ≡ NoMemory)) × puts c.program_at.new.places asked.output.now (image_of made.order made.list) false c.put.new.places) = search rules in
-    out_fails c.from_residual-in_err-put.result at puts c.args.places.now asked c.program_at.new.places c.put.new.places made hardens fails
+    out_fails c.from_residual-in_err-put.result at puts c.args.places.now asked c.program_at.new.places c.put.new.places made shown.0 hardens fails
 
 pub returns-clause-ok : goal.returns-clause-ok
 returns-clause-ok g c =
@@ -27,10 +30,11 @@ returns-clause-ok g c =
     let puts = making g.P.Places.creates g.P.Places.ends g.P.Writer.Write.contents in
     let asked = c.args.asked in
     let made = c.in-Ok-answer_of.hardened.program in
+    let shown = c.in-Ok-beside_of.ensures.shown in
     let image : LoadsImage at asked.order c.args.places.now asked.input.now c.program_at.new.places c.in-Ok.program = search rules in
-    let hardens : Hardens at c.args.places.now asked c.program_at.new.places made = (c.in-Ok.program, image, c.in-Ok-answer_of.ensures.program) in
+    let hardens = made_of at c.args.places.now asked c.program_at.new.places c.in-Ok.program made shown.0 c.matching_keeps_meaning.ensures image c.in-Ok-answer_of.ensures.program shown.1 in
     let whole : puts c.program_at.new.places asked.output.now (image_of made.order made.list) true c.put.new.places = c.in_ok-put.ensures.ok.1 in
-    both_stand c.put_notes.result _ at puts c.args.places.now asked c.program_at.new.places c.put.new.places c.put_notes.new.places made hardens whole c.put_notes.ensures.ok
+    all_stand c.put_beside.result _ at puts c.args.places.now asked c.program_at.new.places c.put.new.places c.put_beside.new.places made shown.0 _ hardens whole shown.2 c.put_beside.ensures.ok
 
 pub returns-clause-err : goal.returns-clause-err
 returns-clause-err g c =
@@ -38,10 +42,11 @@ returns-clause-err g c =
     let puts = making g.P.Places.creates g.P.Places.ends g.P.Writer.Write.contents in
     let asked = c.args.asked in
     let made = c.in-Ok-answer_of.hardened.program in
+    let shown = c.in-Ok-beside_of.ensures.shown in
     let image : LoadsImage at asked.order c.args.places.now asked.input.now c.program_at.new.places c.in-Ok.program = search rules in
-    let hardens : Hardens at c.args.places.now asked c.program_at.new.places made = (c.in-Ok.program, image, c.in-Ok-answer_of.ensures.program) in
+    let hardens = made_of at c.args.places.now asked c.program_at.new.places c.in-Ok.program made shown.0 c.matching_keeps_meaning.ensures image c.in-Ok-answer_of.ensures.program shown.1 in
     let whole : puts c.program_at.new.places asked.output.now (image_of made.order made.list) true c.put.new.places = c.in_ok-put.ensures.ok.1 in
-    notes_fail c.put_notes.result at puts c.args.places.now asked c.program_at.new.places c.put.new.places c.put_notes.new.places made hardens whole c.put_notes.ensures.err
+    texts_fail c.put_beside.result at puts c.args.places.now asked c.program_at.new.places c.put.new.places c.put_beside.new.places made shown.0 hardens whole c.put_beside.ensures.err
 
 pub returns-in-Err-clause-begun : goal.returns-in-Err-clause-begun
 returns-in-Err-clause-begun g c = not_all_printed c.refuse_image.result _ _ (NoImage c.in-Err.error) _ c.refuse_image.ensures.begun (search rules)
@@ -49,8 +54,28 @@ returns-in-Err-clause-begun g c = not_all_printed c.refuse_image.result _ _ (NoI
 pub returns-in-Err-answer_of-clause-begun : goal.returns-in-Err-answer_of-clause-begun
 returns-in-Err-answer_of-clause-begun g c = not_all_printed c.refuse_hardening.result _ _ (NotHardened c.in-Err-answer_of.error) _ c.refuse_hardening.ensures.begun (search rules)
 
-pub returns-in_default-clause-begun : goal.returns-in_default-clause-begun
-returns-in_default-clause-begun g c = not_all_printed c.refuse_hardening-in_default.result _ _ (NotHardened NoSpace) _ c.refuse_hardening-in_default.ensures.begun (search rules)
+pub returns-in-Err-Memory-clause-ok : goal.returns-in-Err-Memory-clause-ok
+returns-in-Err-Memory-clause-ok g c =
+    let image : LoadsImage g.P.Places.opens c.args.asked.order c.args.places.now c.args.asked.input.now c.program_at.new.places c.in-Ok.program = search rules in
+    let some : 0 < slots c.in-Ok.program.list = search rules in
+    answered c.refuse_hardening-in-Err-Memory.result _ _ (NotHardened NoSpace) _ c.refuse_hardening-in-Err-Memory.ensures.ok (c.in-Ok.program, image, some)
+
+pub returns-in-Err-Memory-clause-begun : goal.returns-in-Err-Memory-clause-begun
+returns-in-Err-Memory-clause-begun g c = not_all_printed c.refuse_hardening-in-Err-Memory.result _ _ (NotHardened NoSpace) _ c.refuse_hardening-in-Err-Memory.ensures.begun (search rules)
+
+pub returns-in-Err-Differs-clause-ok : goal.returns-in-Err-Differs-clause-ok
+returns-in-Err-Differs-clause-ok g c =
+    let made = c.in-Ok-answer_of.hardened.program in
+    let image : LoadsImage g.P.Places.opens c.args.asked.order c.args.places.now c.args.asked.input.now c.program_at.new.places c.in-Ok.program = search rules in
+    let unshown : IsUnshown c.in-Ok.program made c.args.asked (Differs c.in-Err-Differs.mismatch) = search rules in
+    answered c.refuse_unshown.result _ _ (NotShown c.in-Err-Differs.mismatch) _ c.refuse_unshown.ensures.ok (c.in-Ok.program, made, image, c.in-Ok-answer_of.ensures.program, unshown)
+
+pub returns-in-Err-Differs-clause-begun : goal.returns-in-Err-Differs-clause-begun
+returns-in-Err-Differs-clause-begun g c =
+    let made = c.in-Ok-answer_of.hardened.program in
+    let image : LoadsImage g.P.Places.opens c.args.asked.order c.args.places.now c.args.asked.input.now c.program_at.new.places c.in-Ok.program = search rules in
+    let unshown : IsUnshown c.in-Ok.program made c.args.asked (Differs c.in-Err-Differs.mismatch) = search rules in
+    not_all_printed c.refuse_unshown.result _ _ (NotShown c.in-Err-Differs.mismatch) _ c.refuse_unshown.ensures.begun (c.in-Ok.program, made, image, c.in-Ok-answer_of.ensures.program, unshown)
 
 pub returns-in_err-put-clause-names : goal.returns-in_err-put-clause-names
 returns-in_err-put-clause-names g c =
@@ -58,9 +83,10 @@ returns-in_err-put-clause-names g c =
     let puts = making g.P.Places.creates g.P.Places.ends g.P.Writer.Write.contents in
     let asked = c.args.asked in
     let made = c.in-Ok-answer_of.hardened.program in
+    let shown = c.in-Ok-beside_of.ensures.shown in
     let image : LoadsImage at asked.order c.args.places.now asked.input.now c.program_at.new.places c.in-Ok.program = search rules in
-    let hardens : Hardens at c.args.places.now asked c.program_at.new.places made = (c.in-Ok.program, image, c.in-Ok-answer_of.ensures.program) in
-    on_failure c.from_residual-in_err-put.result _ (inr (inl (c.program_at.new.places, made, hardens, c.in_err-put.ensures.err.1)))
+    let hardens = made_of at c.args.places.now asked c.program_at.new.places c.in-Ok.program made shown.0 c.matching_keeps_meaning.ensures image c.in-Ok-answer_of.ensures.program shown.1 in
+    on_failure c.from_residual-in_err-put.result _ (inr (inl (c.program_at.new.places, made, shown.0, hardens, c.in_err-put.ensures.err.1)))
 
 pub returns-clause-names : goal.returns-clause-names
 returns-clause-names g c =
@@ -68,7 +94,8 @@ returns-clause-names g c =
     let puts = making g.P.Places.creates g.P.Places.ends g.P.Writer.Write.contents in
     let asked = c.args.asked in
     let made = c.in-Ok-answer_of.hardened.program in
+    let shown = c.in-Ok-beside_of.ensures.shown in
     let image : LoadsImage at asked.order c.args.places.now asked.input.now c.program_at.new.places c.in-Ok.program = search rules in
-    let hardens : Hardens at c.args.places.now asked c.program_at.new.places made = (c.in-Ok.program, image, c.in-Ok-answer_of.ensures.program) in
+    let hardens = made_of at c.args.places.now asked c.program_at.new.places c.in-Ok.program made shown.0 c.matching_keeps_meaning.ensures image c.in-Ok-answer_of.ensures.program shown.1 in
     let whole : puts c.program_at.new.places asked.output.now (image_of made.order made.list) true c.put.new.places = c.in_ok-put.ensures.ok.1 in
-    notes_left c.put_notes.result at puts c.args.places.now asked c.program_at.new.places c.put.new.places c.put_notes.new.places made hardens whole c.put_notes.ensures.names
+    texts_left c.put_beside.result at puts c.args.places.now asked c.program_at.new.places c.put.new.places c.put_beside.new.places made shown.0 hardens whole c.put_beside.ensures.names

@@ -1,0 +1,30 @@
+-- Notes at a name.
+use Rattle.std.specs.Prelude.{◌≡◌, ◌⊎◌, ◌<◌, ℕ, List, length, Option}
+use Rattle.bpf_follows.specs.declared.notes.Place.{Place}
+use Rattle.bpf_follows_notes.specs.NotesText.{notes_text}
+use Rattle.bpf_follows_notes.specs.Refused.{IsRefused}
+use Rattle.bpf_follows_notes.specs.declared.error.NotesError.{NotesError}
+use Rattle.bpf_places.specs.Opened.{Opening, Unreadable}
+use Rattle.bpf_answers.specs.Loaded.{TextAt}
+use Rattle.bpf_answers.specs.Told.{OutputFails}
+use Rattle.bpf_answers.specs.declared.failure.Failure.{Failure}
+use Rattle.bpf_answers.specs.declared.failure.Failure.TheVariants.{CannotRead}
+
+-- the greatest length of a text of notes that is read, in bytes; those of a program are shorter
+abbrev pub max_notes : ℕ
+max_notes = 33554432
+
+-- the text at the name is that of the notes
+abbrev pub LoadsNotes : {S : Type 0} → Opening S → S → List ℕ → S → List (Option Place) → Type 0
+LoadsNotes opening old name new notes = TextAt opening old name new (λ text. text ≡ notes_text notes)
+
+abbrev pub NotesRefused : {S : Type 0} → Opening S → S → List ℕ → S → NotesError → Type 0
+NotesRefused opening old name new e = TextAt opening old name new (λ text. IsRefused text e)
+
+-- the name can't be opened, its reader fails, or its text is longer
+abbrev pub NotesUnread : {S : Type 0} → Opening S → S → List ℕ → S → Type 0
+NotesUnread opening old name new = Unreadable opening old name new ⊎ TextAt opening old name new (λ text. max_notes < length text)
+
+abbrev pub NotesFail : {S : Type 0} → Opening S → S → List ℕ → S → Failure → Type 0
+NotesFail opening old notes new (CannotRead name) = (name.now ≡ notes) × NotesUnread opening old notes new
+NotesFail opening old notes new failure = OutputFails failure

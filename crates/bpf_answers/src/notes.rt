@@ -1,0 +1,112 @@
+//! Notes at a name, why they are refused, and what they show.
+
+ghost use Rattle.std.specs.Prelude.{◌≡◌, IfOk, IfErr, MatchResult};
+ghost use Rattle.std.specs.String.{string_bytes};
+ghost use Rattle.bpf_insn.specs.Written.{AppendsBeginning};
+ghost use Rattle.bpf_answers.specs.Answer.{Says, text_of};
+ghost use Rattle.bpf_answers.specs.Answer.Answer.{Follows, NoNotes, NotFollowed};
+ghost use Rattle.bpf_answers.specs.Loaded.{TextAt, Tried};
+ghost use Rattle.bpf_answers.specs.Notes.{LoadsNotes, NotesFail, NotesRefused};
+ghost use Rattle.bpf_answers.specs.Told.{OutputFails};
+
+use crate::failure::{DONE, Failure, say};
+use crate::refusal::refuse_at;
+use bpf_follows::{Mismatch, Place};
+use bpf_follows_notes::{NotesError, read};
+use bpf_places::{PlaceError, Places, read_up_to};
+use std::alloc::{AllocError, Global};
+use std::io::Write;
+
+/// The greatest length of a text of notes that is read, in bytes. Those of a program are shorter.
+const MAX_NOTES: usize = 33_554_432;
+
+/// All bytes at a name, which may be a text of notes.
+fn bytes_at<'a, P: Places>(
+    alloc: Global,
+    places: &mut P,
+    name: &'a str,
+) -> Result<Vec<u8>, Failure<'a>>
+    ensures ok { IfOk result (λ v. TextAt P.opens places.old name.entry.now places.new (λ text. v.items ≡ text)) }
+    ensures err { IfErr result (NotesFail P.opens places.old name.entry.now places.new) }
+    ensures names { Tried P.opens places.old name.entry.now places.new }
+{
+    let mut reader = match places.open(name) {
+        Ok(reader) => reader,
+        Err(PlaceError::Refused) => return Err(Failure::CannotRead(name)),
+        Err(PlaceError::Memory) => return Err(Failure::NoMemory),
+    };
+    let Some(bytes) = read_up_to(alloc, &mut reader, MAX_NOTES)? else {
+        return Err(Failure::CannotRead(name));
+    };
+    if bytes.len() > MAX_NOTES {
+        return Err(Failure::CannotRead(name));
+    }
+    Ok(bytes)
+}
+
+/// The notes at a name, or why they are refused. They can't be read where the text is longer than that of any notes of a program.
+pub fn notes_at<'a, P: Places>(
+    alloc: Global,
+    places: &mut P,
+    name: &'a str,
+) -> Result<Result<Vec<Option<Place>>, NotesError>, Failure<'a>>
+    ensures ok { IfOk result (λ read. MatchResult read (λ v. LoadsNotes P.opens places.old name.entry.now places.new v.items)
+        (NotesRefused P.opens places.old name.entry.now places.new)) }
+    ensures err { IfErr result (NotesFail P.opens places.old name.entry.now places.new) }
+    ensures names { Tried P.opens places.old name.entry.now places.new }
+{
+    let text = bytes_at(alloc, places, name)?;
+    Ok(read(alloc, &text))
+}
+
+/// Prints why a text is none of notes; where that fails, standard output has a beginning of the line.
+pub fn refuse_notes<'a, W: Write>(
+    alloc: Global,
+    out: &mut W,
+    error: NotesError,
+) -> Result<u8, Failure<'a>>
+    ensures ok { IfOk result (λ status. Says (NoNotes error) status (W.contents out.old) (W.contents out.new)) }
+    ensures err { IfErr result OutputFails }
+    ensures begun { IfErr result (λ _. AppendsBeginning (W.contents out.old) (W.contents out.new) (text_of (NoNotes error))) }
+{
+    let line = error.line() as u64;
+    refuse_at(alloc, out, "N", error.number(), " at line ", line)
+}
+
+/// Prints what of the notes fails; where that fails, standard output has a beginning of the line.
+pub fn refuse_match<'a, W: Write>(
+    alloc: Global,
+    out: &mut W,
+    mismatch: Mismatch,
+) -> Result<u8, Failure<'a>>
+    ensures ok { IfOk result (λ status. Says (NotFollowed mismatch) status (W.contents out.old) (W.contents out.new)) }
+    ensures err { IfErr result OutputFails }
+    ensures begun { IfErr result (λ _. AppendsBeginning (W.contents out.old) (W.contents out.new) (text_of (NotFollowed mismatch))) }
+{
+    let slot = u64::from(mismatch.slot());
+    refuse_at(alloc, out, "M", mismatch.number(), " at slot ", slot)
+}
+
+/// The line of what notes show.
+fn line_of(alloc: Global, length: u32, turns: u32) -> Result<String, AllocError>
+    ensures { IfOk result (λ line. string_bytes line ≡ text_of (Follows length turns)) }
+{
+    format!(in alloc; "yes length {length} turns {turns}\n")
+}
+
+/// Prints for which contexts, and how many turns, notes show that a meaning is kept; where that fails, standard output has a beginning of
+/// the line.
+pub fn say_followed<'a, W: Write>(
+    alloc: Global,
+    out: &mut W,
+    length: u32,
+    turns: u32,
+) -> Result<u8, Failure<'a>>
+    ensures ok { IfOk result (λ status. Says (Follows length turns) status (W.contents out.old) (W.contents out.new)) }
+    ensures err { IfErr result OutputFails }
+    ensures begun { IfErr result (λ _. AppendsBeginning (W.contents out.old) (W.contents out.new) (text_of (Follows length turns))) }
+{
+    let line = line_of(alloc, length, turns)?;
+    say(out, line.as_str())?;
+    Ok(DONE)
+}

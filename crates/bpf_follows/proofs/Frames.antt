@@ -1,0 +1,219 @@
+-- A frame of both machines: what is said of its registers and slots behind an instruction.
+use Rattle.std.proofs.Common.{◌≡◌, ℕ, ◌+◌, ◌<◌, inl, inr, ◌==◌, Bool, true, false, Option, Some, None, length, get_or, set, refl, sym, ◌∙◌, subst, arith}
+use Rattle.std.specs.Prelude.{pos, if◌then◌else◌, nat_le, ◌||◌}
+use Rattle.std.proofs.lemmas.Bool.{eqb-true, eqb-false, false≢true, and_right}
+use Rattle.std.proofs.lemmas.List.{length-set, get_or-set_same, get_or-set_other}
+use Rattle.bpf_insn.specs.Limits.{frame_bytes}
+use Rattle.bpf_insn.specs.Instruction.{register_number}
+use Rattle.bpf_insn.specs.declared.order.Order.{Order}
+use Rattle.bpf_insn.specs.declared.instruction.Insn.{Insn}
+use Rattle.bpf_semantics.specs.State.{StackFrame, put}
+use Rattle.bpf_semantics.specs.Memory.{with_stack_in}
+use Rattle.bpf_semantics.specs.declared.value.Value.{Value}
+use Rattle.bpf_follows.specs.declared.notes.Kind.{Kind}
+use Rattle.bpf_follows.specs.declared.notes.Kind.TheVariants.{Nothing, Unset, Same, Number as NumberKind, Offset, Fixed, Start, Base, Moved, Address, Constant, Counter, Turn}
+use Rattle.bpf_follows.specs.Relation.{Kinds, Gives, weaker, is_free, IsRead, EachPair, HasOffset, as_number, as_pointer, FitsKind, SlotKept, FitsSlot, FrameFits, register_in, is_of_other}
+use Rattle.bpf_follows.specs.Matching.{is_call, is_changed, held, kinds_after}
+use Rattle.bpf_follows.proofs.Lists.{Cells}
+use Rattle.bpf_follows.proofs.Slots.{register_below}
+
+-- ---- registers of the old machine that are others
+
+false_true : {A : Type 0} → true ≡ false → A
+false_true e = absurd (false≢true (sym e))
+
+-- what is said by its own value is said of a register with the same value
+pub fits_moved : (turns : ℕ) (passed : ℕ → ℕ) (old more : ℕ → Option Value) (q r : ℕ) (kind : Kind) (new : Option Value) → is_of_other kind ≡ false → more r ≡ old q → FitsKind turns passed old q kind new → FitsKind turns passed more r kind new
+fits_moved turns passed old more q r Nothing new own e f = tt
+fits_moved turns passed old more q r Unset new own e f = e ∙ f
+fits_moved turns passed old more q r Same new own e f = λ v ev. f v (sym e ∙ ev)
+fits_moved turns passed old more q r NumberKind new own e f = λ v ev. f v (sym e ∙ ev)
+fits_moved turns passed old more q r Offset new own e f = subst (λ o. HasOffset (pos 0) as_number o new) (sym e) f
+fits_moved turns passed old more q r (Fixed offset) new own e f = (f.0, e ∙ f.1, f.2)
+fits_moved turns passed old more q r Start new own e f = (e ∙ f.0, f.1)
+fits_moved turns passed old more q r Base new own e f = f
+fits_moved turns passed old more q r (Moved of by) new own e f = false_true own
+fits_moved turns passed old more q r (Address of by) new own e f = false_true own
+fits_moved turns passed old more q r (Constant value) new own e f = f
+fits_moved turns passed old more q r (Counter head) new own e f = f
+fits_moved turns passed old more q r (Turn head) new own e f = f
+
+or_false : (a b : Bool) → (a || b) ≡ false → b ≡ false
+or_false true b e = false_true e
+or_false false b e = e
+
+-- what is said of a register that an instruction doesn't change, where the old machine's others are those behind it
+pub fits_held : (turns : ℕ) (passed : ℕ → ℕ) (i : Insn) (old more : ℕ → Option Value) (r : ℕ) (kind : Kind) (new : Option Value) → ((q : ℕ) → q < 11 → is_changed i q ≡ false → more q ≡ old q) → more r ≡ old r
+    → FitsKind turns passed old r kind new → FitsKind turns passed more r (held i kind) new
+fits_held turns passed i old more r (Moved of by) new kept same f = by_cases (is_call i || is_changed i (register_number of)) (or_false (is_call i) (is_changed i (register_number of)))
+  where
+    by_cases : (b : Bool) → (b ≡ false → is_changed i (register_number of) ≡ false) → FitsKind turns passed more r (if b then Nothing else Moved of by) new
+    by_cases true h = tt
+    by_cases false h = subst (λ o. HasOffset by as_number o new) (sym (kept (register_number of) (register_below of) (h refl))) f
+fits_held turns passed i old more r (Address of by) new kept same f = by_cases (is_call i || is_changed i (register_number of)) (or_false (is_call i) (is_changed i (register_number of)))
+  where
+    by_cases : (b : Bool) → (b ≡ false → is_changed i (register_number of) ≡ false) → FitsKind turns passed more r (if b then Nothing else Address of by) new
+    by_cases true h = tt
+    by_cases false h = subst (λ o. HasOffset by as_pointer o new) (sym (kept (register_number of) (register_below of) (h refl))) f
+fits_held turns passed i old more r Nothing new kept same f = tt
+fits_held turns passed i old more r Unset new kept same f = fits_moved turns passed old more r r Unset new refl same f
+fits_held turns passed i old more r Same new kept same f = fits_moved turns passed old more r r Same new refl same f
+fits_held turns passed i old more r NumberKind new kept same f = fits_moved turns passed old more r r NumberKind new refl same f
+fits_held turns passed i old more r Offset new kept same f = fits_moved turns passed old more r r Offset new refl same f
+fits_held turns passed i old more r (Fixed offset) new kept same f = fits_moved turns passed old more r r (Fixed offset) new refl same f
+fits_held turns passed i old more r Start new kept same f = fits_moved turns passed old more r r Start new refl same f
+fits_held turns passed i old more r Base new kept same f = f
+fits_held turns passed i old more r (Constant value) new kept same f = f
+fits_held turns passed i old more r (Counter head) new kept same f = f
+fits_held turns passed i old more r (Turn head) new kept same f = f
+
+-- registers behind an instruction: what it changes is of a kind, the others are as they were
+pub fits_behind : (turns : ℕ) (passed : ℕ → ℕ) (i : Insn) (kind : Kind) (kinds : Kinds) (old more : ℕ → Option Value) (new after : ℕ → Option Value)
+    → ((q : ℕ) → q < 11 → is_changed i q ≡ false → more q ≡ old q) → ((q : ℕ) → q < 11 → is_changed i q ≡ false → after q ≡ new q) → ((q : ℕ) → q < 11 → is_changed i q ≡ true → FitsKind turns passed more q kind (after q))
+    → ((r : ℕ) → r < 11 → FitsKind turns passed old r (kinds r) (new r)) → (r : ℕ) → r < 11 → FitsKind turns passed more r (kinds_after i kind kinds r) (after r)
+fits_behind turns passed i kind kinds old more new after kept kept_new put h r lt = by_cases (is_changed i r) refl
+  where
+    by_cases : (b : Bool) → is_changed i r ≡ b → FitsKind turns passed more r (if b then kind else held i (kinds r)) (after r)
+    by_cases true e = put r lt e
+    by_cases false e = subst (λ o. FitsKind turns passed more r (held i (kinds r)) o) (sym (kept_new r lt e)) (fits_held turns passed i old more r (kinds r) (new r) kept (kept r lt e) (h r lt))
+
+-- ---- slots
+
+-- what is said of a slot whose cells stay, where the old machine's registers are those behind an instruction
+pub slot_held : (ends : Order) (turns : ℕ) (passed : ℕ → ℕ) (i : Insn) (old more : ℕ → Option Value) (xs ys : Cells) (k : ℕ) (kind : Kind) → ((q : ℕ) → q < 11 → is_changed i q ≡ false → more q ≡ old q)
+    → FitsSlot ends turns passed old xs ys k kind → FitsSlot ends turns passed more xs ys k (held i kind)
+slot_held ends turns passed i old more xs ys k (Moved of by) kept f = by_cases (is_call i || is_changed i (register_number of)) (or_false (is_call i) (is_changed i (register_number of)))
+  where
+    by_cases : (b : Bool) → (b ≡ false → is_changed i (register_number of) ≡ false) → FitsSlot ends turns passed more xs ys k (if b then Nothing else Moved of by)
+    by_cases true h = tt
+    by_cases false h = record { unset = f.unset; value = f.value; holds = f.holds; fits = subst (λ o. HasOffset by as_number o (Some f.value)) (sym (kept (register_number of) (register_below of) (h refl))) f.fits }
+slot_held ends turns passed i old more xs ys k (Address of by) kept f = by_cases (is_call i || is_changed i (register_number of)) (or_false (is_call i) (is_changed i (register_number of)))
+  where
+    by_cases : (b : Bool) → (b ≡ false → is_changed i (register_number of) ≡ false) → FitsSlot ends turns passed more xs ys k (if b then Nothing else Address of by)
+    by_cases true h = tt
+    by_cases false h = record { unset = f.unset; value = f.value; holds = f.holds; fits = subst (λ o. HasOffset by as_pointer o (Some f.value)) (sym (kept (register_number of) (register_below of) (h refl))) f.fits }
+slot_held ends turns passed i old more xs ys k Nothing kept f = tt
+slot_held ends turns passed i old more xs ys k Unset kept f = f
+slot_held ends turns passed i old more xs ys k Same kept f = f
+slot_held ends turns passed i old more xs ys k NumberKind kept f = f
+slot_held ends turns passed i old more xs ys k Offset kept f = f
+slot_held ends turns passed i old more xs ys k (Fixed offset) kept f = f
+slot_held ends turns passed i old more xs ys k Start kept f = f
+slot_held ends turns passed i old more xs ys k Base kept f = record { unset = f.unset; value = f.value; holds = f.holds; fits = f.fits }
+slot_held ends turns passed i old more xs ys k (Constant value) kept f = record { unset = f.unset; value = f.value; holds = f.holds; fits = f.fits }
+slot_held ends turns passed i old more xs ys k (Counter head) kept f = record { unset = f.unset; value = f.value; holds = f.holds; fits = f.fits }
+slot_held ends turns passed i old more xs ys k (Turn head) kept f = record { unset = f.unset; value = f.value; holds = f.holds; fits = f.fits }
+
+-- what isn't said by registers is said whatever they are
+pub slot_moved : (ends : Order) (turns : ℕ) (passed : ℕ → ℕ) (old more : ℕ → Option Value) (xs ys : Cells) (k : ℕ) (kind : Kind) → is_of_other kind ≡ false → FitsSlot ends turns passed old xs ys k kind → FitsSlot ends turns passed more xs ys k kind
+slot_moved ends turns passed old more xs ys k (Moved of by) own f = false_true own
+slot_moved ends turns passed old more xs ys k (Address of by) own f = false_true own
+slot_moved ends turns passed old more xs ys k Nothing own f = tt
+slot_moved ends turns passed old more xs ys k Unset own f = f
+slot_moved ends turns passed old more xs ys k Same own f = f
+slot_moved ends turns passed old more xs ys k NumberKind own f = f
+slot_moved ends turns passed old more xs ys k Offset own f = f
+slot_moved ends turns passed old more xs ys k (Fixed offset) own f = f
+slot_moved ends turns passed old more xs ys k Start own f = f
+slot_moved ends turns passed old more xs ys k Base own f = record { unset = f.unset; value = f.value; holds = f.holds; fits = f.fits }
+slot_moved ends turns passed old more xs ys k (Constant value) own f = record { unset = f.unset; value = f.value; holds = f.holds; fits = f.fits }
+slot_moved ends turns passed old more xs ys k (Counter head) own f = record { unset = f.unset; value = f.value; holds = f.holds; fits = f.fits }
+slot_moved ends turns passed old more xs ys k (Turn head) own f = record { unset = f.unset; value = f.value; holds = f.holds; fits = f.fits }
+
+-- of the slots that the instruction writes it is said already
+abbrev pub SlotsAre : Insn → Kind → Kinds → Type 0
+SlotsAre i kind kinds = (k : ℕ) → k < 64 → is_changed i (11 + k) ≡ true → kinds (11 + k) ≡ kind
+
+-- an instruction that writes a register alone
+pub no_slots : (i : Insn) (w : ℕ) (kind : Kind) (kinds : Kinds) → w < 11 → ((q : ℕ) → is_changed i q ≡ (q == w)) → SlotsAre i kind kinds
+no_slots i w kind kinds below changed k lt e = let same : 11 + k ≡ w = eqb-true (11 + k) w (sym (changed (11 + k)) ∙ e) in absurd (omega arith)
+
+-- what is said of each slot behind an instruction
+pub slots_behind : (ends : Order) (turns : ℕ) (passed : ℕ → ℕ) (i : Insn) (kind : Kind) (kinds : Kinds) (old more : ℕ → Option Value) (xs ys : Cells) → ((q : ℕ) → q < 11 → is_changed i q ≡ false → more q ≡ old q)
+    → ((k : ℕ) → FitsSlot ends turns passed old xs ys k kind → FitsSlot ends turns passed more xs ys k kind) → SlotsAre i kind kinds
+    → ((k : ℕ) → k < 64 → FitsSlot ends turns passed old xs ys k (kinds (11 + k))) → (k : ℕ) → k < 64 → FitsSlot ends turns passed more xs ys k (kinds_after i kind kinds (11 + k))
+slots_behind ends turns passed i kind kinds old more xs ys kept moved are h k lt = by_cases (is_changed i (11 + k)) refl
+  where
+    by_cases : (b : Bool) → is_changed i (11 + k) ≡ b → FitsSlot ends turns passed more xs ys k (if b then kind else held i (kinds (11 + k)))
+    by_cases true e = moved k (subst (λ kind. FitsSlot ends turns passed old xs ys k kind) (are k lt e) (h k lt))
+    by_cases false e = slot_held ends turns passed i old more xs ys k (kinds (11 + k)) kept (h k lt)
+
+-- what is kept is enough for what is said of a slot behind a call
+pub slot_given : (ends : Order) (turns : ℕ) (passed : ℕ → ℕ) (registers : ℕ → Option Value) (xs ys : Cells) (k : ℕ) (want : Kind) → Gives turns (11 + k) Same want → SlotKept xs ys k → FitsSlot ends turns passed registers xs ys k want
+slot_given ends turns passed registers xs ys k want (inl e) f = subst (λ kind. FitsSlot ends turns passed registers xs ys k kind) (sym e) tt
+slot_given ends turns passed registers xs ys k want (inr (inl e)) f = subst (λ kind. FitsSlot ends turns passed registers xs ys k kind) (sym e) f
+slot_given ends turns passed registers xs ys k want (inr (inr e)) f = absurd (none_weaker want e)
+  where
+    none_weaker : (want : Kind) → weaker turns (11 + k) Same want ≡ true → ⊥
+    none_weaker Same e = false≢true (sym (and_right (nat_le 11 (11 + k)) (is_free Same) refl) ∙ e)
+    none_weaker Unset e = false≢true (sym (and_right (nat_le 11 (11 + k)) (is_free Same) refl) ∙ e)
+    none_weaker want e = false≢true e
+
+-- ---- a frame
+
+-- both stacks are others
+pub fits_stack : (ends : Order) (turns : ℕ) (passed : ℕ → ℕ) (kinds kinds' : Kinds) (old new : StackFrame) (xs ys : Cells) → FrameFits ends turns passed kinds old new → ((r : ℕ) → r < 11 → kinds' r ≡ kinds r) → length xs ≡ frame_bytes → EachPair IsRead xs ys
+    → ((k : ℕ) → k < 64 → FitsSlot ends turns passed (register_in old) xs ys k (kinds' (11 + k))) → FrameFits ends turns passed kinds' (with_stack_in old xs) (with_stack_in new ys)
+fits_stack ends turns passed kinds kinds' old new xs ys h low long stack slots = record {
+  eleven_old = h.eleven_old;
+  eleven = h.eleven;
+  registers = λ r lt. subst (λ kind. FitsKind turns passed (register_in old) r kind (register_in new r)) (sym (low r lt)) (h.registers r lt);
+  long = long;
+  stack = stack;
+  slots = slots;
+}
+
+-- of other kinds that are the same
+pub fits_alike : (ends : Order) (turns : ℕ) (passed : ℕ → ℕ) (kinds same : Kinds) (old new : StackFrame) → ((r : ℕ) → kinds r ≡ same r) → FrameFits ends turns passed kinds old new → FrameFits ends turns passed same old new
+fits_alike ends turns passed kinds same old new e h = record {
+  eleven_old = h.eleven_old;
+  eleven = h.eleven;
+  registers = λ r lt. subst (λ kind. FitsKind turns passed (register_in old) r kind (register_in new r)) (e r) (h.registers r lt);
+  long = h.long;
+  stack = h.stack;
+  slots = λ k lt. subst (λ kind. FitsSlot ends turns passed (register_in old) old.stack new.stack k kind) (e (11 + k)) (h.slots k lt);
+}
+
+pub fits_at : (ends : Order) (turns : ℕ) (passed : ℕ → ℕ) (kinds : Kinds) (old new : StackFrame) (x y : ℕ) → FrameFits ends turns passed kinds old new
+    → FrameFits ends turns passed kinds (record { slot = x; registers = old.registers; stack = old.stack }) (record { slot = y; registers = new.registers; stack = new.stack })
+fits_at ends turns passed kinds old new x y h = record { eleven_old = h.eleven_old; eleven = h.eleven; registers = h.registers; long = h.long; stack = h.stack; slots = h.slots }
+
+-- Both frames get values, of a kind that a value decides.
+pub fits_put : (ends : Order) (turns : ℕ) (passed : ℕ → ℕ) (i : Insn) (kind : Kind) (kinds : Kinds) (old new : StackFrame) (w : ℕ) (v x : Value) → ((q : ℕ) → q < 11 → is_changed i q ≡ (q == w)) → SlotsAre i kind kinds → is_of_other kind ≡ false
+    → FitsKind turns passed (λ q. Some v) 0 kind (Some x) → FrameFits ends turns passed kinds old new
+    → FrameFits ends turns passed (kinds_after i kind kinds) (record { slot = old.slot; registers = set old.registers w (Some v); stack = old.stack }) (record { slot = new.slot; registers = set new.registers w (Some x); stack = new.stack })
+fits_put ends turns passed i kind kinds old new w v x changed are own fit h = record {
+  eleven_old = length-set old.registers w (Some v) ∙ h.eleven_old;
+  eleven = length-set new.registers w (Some x) ∙ h.eleven;
+  registers = fits_behind turns passed i kind kinds (register_in old) (λ q. get_or (set old.registers w (Some v)) q None) (register_in new) (λ q. get_or (set new.registers w (Some x)) q None)
+      kept
+      (λ q lt e. get_or-set_other new.registers w q (Some x) None (eqb-false q w (sym (changed q lt) ∙ e)))
+      put
+      h.registers;
+  long = h.long;
+  stack = h.stack;
+  slots = slots_behind ends turns passed i kind kinds (register_in old) (λ q. get_or (set old.registers w (Some v)) q None) old.stack new.stack kept
+      (λ k f. slot_moved ends turns passed (register_in old) (λ q. get_or (set old.registers w (Some v)) q None) old.stack new.stack k kind own f) are h.slots;
+}
+  where
+    kept : (q : ℕ) → q < 11 → is_changed i q ≡ false → get_or (set old.registers w (Some v)) q None ≡ get_or old.registers q None
+    kept q lt e = get_or-set_other old.registers w q (Some v) None (eqb-false q w (sym (changed q lt) ∙ e))
+
+    put : (q : ℕ) → q < 11 → is_changed i q ≡ true → FitsKind turns passed (λ q. get_or (set old.registers w (Some v)) q None) q kind (get_or (set new.registers w (Some x)) q None)
+    put q lt e =
+        let same : q ≡ w = eqb-true q w (sym (changed q lt) ∙ e) in
+        let a : get_or (set old.registers w (Some v)) q None ≡ Some v = rw same (get_or-set_same old.registers w (Some v) None (rw h.eleven_old (subst (λ z. z < 11) same lt))) in
+        let b : get_or (set new.registers w (Some x)) q None ≡ Some x = rw same (get_or-set_same new.registers w (Some x) None (rw h.eleven (subst (λ z. z < 11) same lt))) in
+        subst (λ o. FitsKind turns passed (λ q. get_or (set old.registers w (Some v)) q None) q kind o) (sym b)
+        (fits_moved turns passed (λ q. Some v) (λ q. get_or (set old.registers w (Some v)) q None) 0 q kind (Some x) own a fit)
+
+-- what is said of the registers stays, and all slots are the same
+pub record InAll (kinds same : Kinds) : Type 0 where
+  pub low : (r : ℕ) → r < 11 → same r ≡ kinds r
+  pub slots : (k : ℕ) → k < 64 → same (11 + k) ≡ Same
+
+-- what is said of the registers stays, and some slots are of a kind
+pub record InSome (kinds after : Kinds) (written : ℕ → Bool) (kind : Kind) : Type 0 where
+  pub low : (r : ℕ) → r < 11 → after r ≡ kinds r
+  pub put : (k : ℕ) → k < 64 → written k ≡ true → after (11 + k) ≡ kind
+  pub others : (k : ℕ) → k < 64 → written k ≡ false → after (11 + k) ≡ kinds (11 + k)

@@ -1,0 +1,123 @@
+//! Extra instructions that put what the new program keeps into its frame, and take it out again.
+
+ghost use Rattle.std.specs.Prelude.{◌≡◌, ◌<◌, IfSome};
+ghost use Rattle.bpf_follows.specs.Extras.{frame_slot, own_kind, kept_kind, free_slot, stored, stored_constant, taken, moved_by};
+
+use crate::extras::{copied, is_same};
+use crate::frame::{is_r10, slot_of};
+use crate::kinds::{REGISTERS, is_free, kind_in, kind_of};
+use crate::notes::{Kind, Kinds};
+use bpf_insn::{Insn, Reg, Size};
+
+/// The slot of the own frame that begins so far from a register.
+fn frame_slot(kinds: &Kinds, r: Reg, off: i16) -> Option<u8>
+    ensures exact { result ≡ frame_slot kinds.now r off }
+    ensures inside { IfSome result (λ slot. slot < 64) }
+{
+    if !is_r10(r) || !is_same(kind_of(kinds, 10)) {
+        return None;
+    }
+    let slot = slot_of(off)?;
+    Some(slot as u8)
+}
+
+/// What a slot holds in the new program alone.
+fn own_kind(kind: Kind) -> Option<Kind>
+    ensures { result ≡ own_kind kind }
+{
+    match kind {
+        Kind::Base | Kind::Moved { .. } | Kind::Address { .. } => Some(kind),
+        Kind::Constant { .. } | Kind::Counter { .. } | Kind::Turn { .. } => Some(kind),
+        _ => None,
+    }
+}
+
+/// What a register puts into a slot.
+fn kept_kind(r: Reg, kind: Kind) -> Option<Kind>
+    ensures { result ≡ kept_kind r kind }
+{
+    match kind {
+        Kind::Counter { .. } | Kind::Turn { .. } => Some(kind),
+        _ => copied(r, kind),
+    }
+}
+
+/// The same slot, if the old program has nothing there.
+fn free_slot(kinds: &Kinds, r: Reg, off: i16) -> Option<u8>
+    ensures exact { result ≡ free_slot kinds.now r off }
+    ensures inside { IfSome result (λ slot. slot < 64) }
+{
+    let slot = frame_slot(kinds, r, off)?;
+    if is_free(kind_of(kinds, REGISTERS + slot)) {
+        Some(slot)
+    } else {
+        None
+    }
+}
+
+/// What a slot holds behind a store of a register.
+fn stored(kinds: &Kinds, dst: Reg, off: i16, src: Reg) -> Option<(u8, Kind)>
+    ensures exact { result ≡ stored kinds.now dst off src }
+    ensures inside { IfSome result (λ w. w.0 < 75) }
+{
+    let slot = free_slot(kinds, dst, off)?;
+    let kind = kept_kind(src, kind_in(kinds, src))?;
+    Some((REGISTERS + slot, kind))
+}
+
+/// What a slot holds behind a store of a constant.
+fn stored_constant(kinds: &Kinds, dst: Reg, off: i16, imm: i32) -> Option<(u8, Kind)>
+    ensures exact { result ≡ stored_constant kinds.now dst off imm }
+    ensures inside { IfSome result (λ w. w.0 < 75) }
+{
+    let slot = free_slot(kinds, dst, off)?;
+    Some((REGISTERS + slot, Kind::Constant { value: imm }))
+}
+
+/// What a register holds behind a load of a slot.
+fn taken(kinds: &Kinds, dst: Reg, src: Reg, off: i16) -> Option<(u8, Kind)>
+    ensures exact { result ≡ taken kinds.now dst src off }
+    ensures inside { IfSome result (λ w. w.0 < 75) }
+{
+    if is_r10(dst) {
+        return None;
+    }
+    let slot = frame_slot(kinds, src, off)?;
+    let kind = own_kind(kind_of(kinds, REGISTERS + slot))?;
+    Some((dst as u8, kind))
+}
+
+/// What an extra instruction puts into a slot, or takes out of one: the place, and what it holds then.
+pub fn moved_by(kinds: &Kinds, insn: &Insn) -> Option<(u8, Kind)>
+    ensures exact { result ≡ moved_by kinds.now insn.now }
+    ensures inside { IfSome result (λ w. w.0 < 75) }
+{
+    if let Insn::Store {
+        size: Size::DW,
+        dst,
+        off,
+        src,
+    } = *insn
+    {
+        return stored(kinds, dst, off, src);
+    }
+    if let Insn::StoreImm {
+        size: Size::DW,
+        dst,
+        off,
+        imm,
+    } = *insn
+    {
+        return stored_constant(kinds, dst, off, imm);
+    }
+    if let Insn::Load {
+        size: Size::DW,
+        dst,
+        src,
+        off,
+    } = *insn
+    {
+        return taken(kinds, dst, src, off);
+    }
+    None
+}

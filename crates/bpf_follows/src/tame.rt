@@ -1,0 +1,49 @@
+//! Whether an instruction does the same on the frame, where slots of the new program hold offsets.
+
+ghost use Rattle.std.specs.Prelude.{◌≡◌, ◌<◌, ◌+◌, ◌↔◌, ℕ, IsTrue, Some, true};
+ghost use Rattle.bpf_follows.specs.Relation.{known};
+ghost use Rattle.bpf_follows.specs.Matching.{is_plain, AllPlain, whole_slot, IsTame};
+
+use crate::frame::{is_far, whole_slot};
+use crate::kinds::{REGISTERS, known};
+use crate::notes::{Kind, PLACES};
+use crate::site::Site;
+
+/// Whether each cell of a slot of this kind is the same, wherever the old program has something there.
+fn is_plain(kind: Kind) -> bool
+    ensures { result ≡ is_plain kind }
+{
+    !matches!(kind, Kind::Nothing | Kind::Offset)
+}
+
+/// Whether that holds of all slots.
+fn all_plain(site: &Site) -> bool
+    ensures { IsTrue result ↔ AllPlain (known site.now.slot site.now.kinds) }
+{
+    for slot in 0..PLACES as u8 - REGISTERS {
+        if !is_plain(known(site, REGISTERS + slot)) {
+            return false;
+        }
+    }
+    true
+}
+
+/// Whether the slot that the instruction reads whole is so, if it reads one of its own frame.
+fn is_near_plain(site: &Site) -> bool
+    ensures { IsTrue result ↔ ((k : ℕ) → whole_slot site.now.insn ≡ Some k → is_plain (known site.now.slot site.now.kinds (11 + k)) ≡ true) }
+{
+    match whole_slot(&site.insn) {
+        Some(slot) => is_plain(known(site, REGISTERS + slot as u8)),
+        None => true,
+    }
+}
+
+/// Whether the instruction does the same on the frame, wherever it goes.
+pub fn is_tame(site: &Site) -> bool
+    ensures { IsTrue result ↔ IsTame (known site.now.slot site.now.kinds) site.now.insn }
+{
+    if is_far(&site.insn) && !all_plain(site) {
+        return false;
+    }
+    is_near_plain(site)
+}
