@@ -296,8 +296,8 @@ struct bpf_hardening {
  * null: 65,536 turns, no blocks, 0 otherwise. BPF_YES: the new image stands in the first *wanted bytes of `hardened`. BPF_TOO_SMALL:
  * it has *wanted bytes, at most 524,288, and `hardened`, which may be null with the length 0, is as it was. BPF_NO: *refusal says why, by
  * E or H. BPF_NO_MEMORY. BPF_BAD_CALL: an order or `padded` that isn't one, `size` above 4,096, no bytes, `hardened` lies in the
- * image, or an answer in either. Nobody relies on it: a certificate of the new image is found by bpf_infer, and judged by bpf_load or
- * bpf_verify. */
+ * image, or an answer in either. For safety nobody relies on it: a certificate of the new image is found by bpf_infer, and judged by
+ * bpf_load or bpf_verify. That the new image answers as the old one did, the command's `follows` shows. */
 static inline int32_t bpf_harden(const void *image, size_t image_len, uint32_t order, uint32_t size, const struct bpf_hardening *asked,
                                  void *hardened, size_t hardened_len, size_t *wanted, struct bpf_refusal *refusal) {
     struct bpf_hardening usual = {65536, 0, 0};

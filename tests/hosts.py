@@ -232,44 +232,28 @@ def fill(table):
     return proposals
 
 
-def errors_of(crate, file):
-    """The texts of a crate's errors, as its sources have them, without the slot or the line that they are of."""
-    source = (EXAMPLES.parent / 'crates' / crate / 'src' / file).read_text()
-    texts = re.findall(r'#\[error\("([^"]*)"\)\]', source)
-    return [re.sub('^line {line}', 'the line', re.sub(' at (slot {slot}|line {line})', '', text)) for text in texts]
-
-
-def conditions():
-    """The words of C1 to C13, of which C3 to C7 are an instruction's faults on a state, as the sources have them."""
-    others, faults = [re.findall('=> "([^"]*)"', (EXAMPLES.parent / 'crates/bpf_state/src' / file).read_text()) for file in ('condition.rt', 'fault.rt')]
-    return others[:2] + faults + others[2:]
-
-
-def texts_by_number(crate):
-    """The sentences of a crate's refusals, in the order of their numbers."""
-    found = re.findall(r'^ *([0-9]+) => Some\("([^"]*)"', (EXAMPLES.parent / 'crates' / crate / 'src/error.rt').read_text(), re.M)
+def texts_by_number(crate, file='error.rt'):
+    """The sentences of a crate's refusals, in the order of their numbers, as its sources have them."""
+    found = re.findall(r'^ *([0-9]+) => Some\("([^"]*)"', (EXAMPLES.parent / 'crates' / crate / 'src' / file).read_text(), re.M)
     assert [int(number) for number, _ in found] == [*range(1, len(found) + 1)], found
     return [text for _, text in found]
 
 
 def texts():
-    """What hosts are told of a refusal is what the crates' errors say, I4 and H7 apart from the condition that they name; faults where the
-    crate has texts for them."""
+    """What hosts are told of a refusal is what the crates' errors say, I4 and H7 apart from the condition that they name."""
     done = subprocess.run([HOSTS, 'texts'], capture_output=True, text=True, timeout=60, check=True)
     told = {'C': [], 'E': [], 'F': [], 'H': [], 'I': [], 'K': []}
     for line in done.stdout.splitlines():
         number, _, text = line.partition(' ')
         told[number[0]].append(text)
         assert number[1:] == str(len(told[number[0]])), line
-    image = errors_of('bpf_insn', 'refusal.rt')
-    of_slot, of_image = image[:6], image[10:]
     want = {
-        'C': conditions(),
-        'E': [of_image[0], *of_slot, *of_image[2:]],
-        'F': errors_of('bpf_semantics', 'reason.rt') or told['F'],
+        'C': texts_by_number('bpf_state', 'condition.rt'),
+        'E': texts_by_number('bpf_insn', 'refusal.rt'),
+        'F': texts_by_number('bpf_semantics', 'reason.rt'),
         'H': texts_by_number('bpf_harden_notes'),
         'I': texts_by_number('bpf_infer_error'),
-        'K': errors_of('bpf_cert', 'error.rt'),
+        'K': texts_by_number('bpf_cert'),
     }
     assert told == want, (told, want)
     assert [len(it) for it in told.values()] == [13, 10, 9, 12, 5, 5], told

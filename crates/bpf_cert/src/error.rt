@@ -1,7 +1,7 @@
 //! Why a text, or a list of parts, is no certificate.
 
-ghost use Rattle.std.specs.Prelude.{◌≡◌};
-ghost use Rattle.bpf_cert.specs.RefusalNumbers.{refusal_number, refusal_line};
+ghost use Rattle.std.specs.Prelude.{◌≡◌, ◌<◌, ◌≤◌, ◌↔◌, [], IsSome, IfSome, MatchOption, get_or, length};
+ghost use Rattle.bpf_cert.specs.RefusalNumbers.{refusal_number, refusal_line, certificate_texts};
 
 use thiserror::Error;
 
@@ -9,19 +9,19 @@ use thiserror::Error;
 #[derive(Clone, Copy, Debug, PartialEq, Eq, Error)]
 pub enum CertError {
     /// K1: the line has no form of a certificate's lines, or not one that may stand there.
-    #[error("line {line} has no form of a certificate's lines")]
+    #[error("at line {line}: {}", self.text())]
     Syntax { line: usize },
     /// K2: the line says what another spelling or another order says.
-    #[error("line {line} is not canonical")]
+    #[error("at line {line}: {}", self.text())]
     NotCanonical { line: usize },
     /// K3: the line goes past a limit.
-    #[error("line {line} goes past a limit")]
+    #[error("at line {line}: {}", self.text())]
     Limit { line: usize },
     /// K4: memory ran out.
-    #[error("out of memory")]
+    #[error("{}", self.text())]
     Memory,
     /// K5: the reader failed in the line.
-    #[error("reading failed at line {line}")]
+    #[error("at line {line}: {}", self.text())]
     Read { line: usize },
 }
 
@@ -36,6 +36,32 @@ impl CertError {
             CertError::Limit { .. } => 3,
             CertError::Memory => 4,
             CertError::Read { .. } => 5,
+        }
+    }
+
+    /// What is told of the refusal with a number, without the line's; None where that isn't from 1 to 5.
+    pub fn text_numbered(number: u32) -> Option<&'static str>
+        ensures numbered { IsSome result ↔ ((1 ≤ number) × (number ≤ 5)) }
+        ensures told { IfSome result (λ text. 0 < length text.now) }
+        ensures text { MatchOption result (get_or certificate_texts number [] ≡ []) (λ text. text.now ≡ get_or certificate_texts number []) }
+    {
+        match number {
+            1 => Some("the line has no form of a certificate's lines"),
+            2 => Some("the line is not canonical"),
+            3 => Some("the line goes past a limit"),
+            4 => Some("out of memory"),
+            5 => Some("reading failed"),
+            _ => None,
+        }
+    }
+
+    /// What is told of the refusal, without the line's number.
+    pub fn text(&self) -> &'static str
+        ensures { result.now ≡ get_or certificate_texts (refusal_number self.now) [] }
+    {
+        match CertError::text_numbered(u32::from(self.number())) {
+            Some(text) => text,
+            None => "",
         }
     }
 

@@ -191,3 +191,7 @@ end_work p c slot o work (j ∷ js) stand = absurd (none-some j (stand ∙ first
 
 pub work_at_last : (p : Instructions) (c : CertificateView) (first : Counts) (slot : ℕ) (o : Option Arrival) (work : Counts) → IsAt p c first slot o work → None ≡ insn_at p.list slot → work ≡ worked_through p c (visits p c) first
 work_at_last p c first slot o work w stand = sym (w.worked ∙ end_work p c slot o work w.rest (stand ∙ stands p c first slot o work w))
+
+-- what holds of a certificate, a slot and an instruction holds of those that they are
+pub along : (P : CertificateView → ℕ → Insn → Type 0) (c' c : CertificateView) (slot' slot : ℕ) (i' i : Insn) → c' ≡ c → slot' ≡ slot → i' ≡ i → P c' slot' i' → P c slot i
+along P c' c slot' slot i' i ec es ei x = subst (λ k. P k slot i) ec (subst (λ n. P c' n i) es (subst (λ k. P c' slot' k) ei x))

@@ -1,6 +1,6 @@
 -- A visit of straight code: of its conditions those on registers and memory are left, and of its work the transfer.
-use Rattle.std.proofs.Common.{◌≡◌, ℕ, ◌+◌, ◌<◌, ◌≤◌, ℤ, pos, Bool, true, false, not, ◌&&◌, ◌||◌, List, [], ◌∷◌, ◌++◌, count_by, Option, Some, None, Bor, refl, sym, ap, ap₂, subst, ◌∙◌, arith}
-use Rattle.std.specs.Prelude.{if◌then◌else◌, is_none, is_some, option_map, option_copied, option_and_then, IfSome, Ok, Err, ◌==◌, nat_le, ◌+ℤ◌}
+use Rattle.std.proofs.Common.{◌≡◌, ℕ, ◌+◌, ◌<◌, ℤ, pos, Bool, true, false, not, ◌&&◌, ◌||◌, [], ◌∷◌, ◌++◌, count_by, Option, Some, None, Bor, refl, sym, ap, ap₂, subst, ◌∙◌, arith}
+use Rattle.std.specs.Prelude.{if◌then◌else◌, is_none, is_some, option_map, option_copied, option_and_then, IfSome, Ok, ◌==◌, nat_le, ◌+ℤ◌}
 use Rattle.std.specs.List.{list_any}
 use Rattle.std.proofs.lemmas.Bool.{false≢true, true≢false, eq-eqb, ne_eqb}
 use Rattle.bpf_insn.specs.declared.instruction.Insn.{Insn}

@@ -14,20 +14,20 @@ use Rattle.bpf_state.specs.Transfer.{after, transfer, Faulty, Dead, Live, live, 
 use Rattle.bpf_state.specs.Work.{Counts, counted, with_transfer}
 use Rattle.bpf_state.specs.Answer.{outcome_told, edge_told}
 use Rattle.bpf_state.specs.Condition.{fault_number}
-use Rattle.bpf_cert.specs.View.{CertificateView, label_view}
+use Rattle.bpf_cert.specs.View.{CertificateView, LabelView, label_view}
 use Rattle.bpf_safety.specs.Flow.{Arrival, Visit, sound_arrival, next_state, cost_after}
 use Rattle.bpf_safety.specs.Work.{leads_into_label, edges_from, one_if, enters_label, returns_result}
 use Rattle.bpf_safety.specs.Flaw.{Edge, edges, is_negative_if, is_refused_by, is_unpaid, enters_wrongly, returns_wrongly, exits_unpaid, is_not_entailed, is_over_budget}
 use Rattle.bpf_check.specs.code.Slack.{IsWithin}
 use Rattle.bpf_check.specs.code.Arrivals.{arrival_of, IsReaching}
-use Rattle.bpf_check.specs.code.Edges.{visit, next_of, edges_of, unpaid_from}
+use Rattle.bpf_check.specs.code.Edges.{visit, next_of, edges_of, unpaid_from, seen_of, edge_seen, jump_seen, next_seen}
 use Rattle.bpf_check.specs.code.Visits.{IsJudgment, judged_of, visit_with}
 use Rattle.bpf_check.specs.code.Counting.{counted_times, compared, worked_at}
 use Rattle.bpf_check.specs.declared.arrival.Here.{Here}
 use Rattle.bpf_check.specs.declared.judge.JudgedEdge.{JudgedEdge}
 use Rattle.bpf_check.specs.declared.visit.Judged.{Judged}
 use Rattle.bpf_check.proofs.CountLemmas.{times_more}
-use Rattle.bpf_check.proofs.EdgeLemmas.{edges_live, edges_dead, next_live, next_dead}
+use Rattle.bpf_check.proofs.EdgeLemmas.{edges_live, edges_dead, next_live, next_dead, jump_live, jump_dead}
 use Rattle.bpf_check.proofs.PassLemmas.{one_slot}
 
 -- a cost at the next slot fits
@@ -87,12 +87,12 @@ dead_judged p c slot i s h s' t aside alive enters returns exits cost dead told 
     }
 
 -- where no edge is live, the entry, the result and the exit are left
-none_live : (cost left : Option ℤ) (alive enters returns : Bool) (next : JudgedEdge) → next.is_refused ≡ false → next.slack ≡ None → ◌≡◌ {A = Judged} (record { not_entailed = enters || returns; over_budget = is_negative_if left; past_end = false }) (judged_of (record { cost = cost; is_alive = alive; jump = None; next = next; enters_wrongly = enters; returns_wrongly = returns; left_at_exit = left; past_end = false }))
-none_live cost left alive enters returns next refused slack = sym (ap₂ (λ b o. record { not_entailed = (b || enters) || returns; over_budget = is_negative_if (option_map (λ s. s.left) o) || is_negative_if left; past_end = false }) refused slack)
+none_live : (c : CertificateView) (old : LabelView) (spent : Option ℤ) (to : ℕ) (cost left : Option ℤ) (alive enters returns : Bool) (next : JudgedEdge) → seen_of next ≡ edge_seen c old spent to None → ◌≡◌ {A = Judged} (record { not_entailed = enters || returns; over_budget = is_negative_if left; past_end = false }) (judged_of (record { cost = cost; is_alive = alive; jump = None; next = next; enters_wrongly = enters; returns_wrongly = returns; left_at_exit = left; past_end = false }))
+none_live c old spent to cost left alive enters returns next seen = sym (ap (λ x. record { not_entailed = (x.is_refused || enters) || returns; over_budget = is_negative_if x.left || is_negative_if left; past_end = false }) seen)
 
-pub dead_seen : (p : Instructions) (c : CertificateView) (slot : ℕ) (i : Insn) (s : AbstractState) (h : Here) (s' t aside : AbstractState) (alive enters returns : Bool) (left cost : Option ℤ) (next : JudgedEdge) → next.is_refused ≡ false → next.slack ≡ None → alive ≡ false → outcome_told (Ok alive) s' ≡ transfer p.order i c.least s → cost ≡ cost_after c slot i (arrival_of s h) → enters ≡ enters_wrongly c (visit slot i) (arrival_of s h) → returns ≡ returns_wrongly c (visit slot i) (arrival_of s h) i → is_negative_if left ≡ exits_unpaid (visit slot i) (arrival_of s h) cost i → IsJudgment p c slot i (arrival_of s h) (record { state = t; aside = aside; here = None }) (judged_of (record { cost = cost; is_alive = alive; jump = None; next = next; enters_wrongly = enters; returns_wrongly = returns; left_at_exit = left; past_end = false }))
-dead_seen p c slot i s h s' t aside alive enters returns left cost next refused slack dead told spent en re ex =
-    subst (IsJudgment p c slot i (arrival_of s h) (record { state = t; aside = aside; here = None })) (none_live cost left alive enters returns next refused slack)
+pub dead_seen : (p : Instructions) (c : CertificateView) (slot : ℕ) (i : Insn) (s : AbstractState) (h : Here) (s' t aside : AbstractState) (alive enters returns : Bool) (left cost : Option ℤ) (next : JudgedEdge) (to : ℕ) → seen_of next ≡ edge_seen c (label_view h.label.now) cost to None → alive ≡ false → outcome_told (Ok alive) s' ≡ transfer p.order i c.least s → cost ≡ cost_after c slot i (arrival_of s h) → enters ≡ enters_wrongly c (visit slot i) (arrival_of s h) → returns ≡ returns_wrongly c (visit slot i) (arrival_of s h) i → is_negative_if left ≡ exits_unpaid (visit slot i) (arrival_of s h) cost i → IsJudgment p c slot i (arrival_of s h) (record { state = t; aside = aside; here = None }) (judged_of (record { cost = cost; is_alive = alive; jump = None; next = next; enters_wrongly = enters; returns_wrongly = returns; left_at_exit = left; past_end = false }))
+dead_seen p c slot i s h s' t aside alive enters returns left cost next to seen dead told spent en re ex =
+    subst (IsJudgment p c slot i (arrival_of s h) (record { state = t; aside = aside; here = None })) (none_live c (label_view h.label.now) cost to cost left alive enters returns next seen)
     (dead_judged p c slot i s h s' t aside alive enters returns (is_negative_if left) cost dead told spent en re ex)
 
 -- what both ends of a live state share
@@ -138,6 +138,26 @@ pass_judged p c slot i s h s' s'' aside alive refused unpaid enters returns exit
       over_budget = all.over_budget;
       past_end = at_end ∙ and_true (slot + slot_count i == slots p.list) ∙ ap (λ o. (slot + slot_count i == slots p.list) && is_some o) (sym next);
     }
+
+-- ---- what is seen of the edges, from in front of the instruction
+
+pub dead_alive : (order : Order) (i : Insn) (least : ℕ) (s s' : AbstractState) (alive : Bool) → alive ≡ false → outcome_told (Ok alive) s' ≡ transfer order i least s → alive ≡ is_some (after order i s)
+dead_alive order i least s s' alive dead told = dead ∙ sym (ap is_some (transfer_dead order i least s s' alive dead told).1)
+
+pub live_alive : (order : Order) (i : Insn) (least : ℕ) (s s' : AbstractState) (alive : Bool) → alive ≡ true → outcome_told (Ok alive) s' ≡ transfer order i least s → alive ≡ is_some (after order i s)
+live_alive order i least s s' alive is_alive told = is_alive ∙ sym (ap is_some (transfer_live order i least s s' alive is_alive told).1)
+
+pub dead_jump : (order : Order) (c : CertificateView) (old : LabelView) (cost : Option ℤ) (slot : ℕ) (i : Insn) (s s' : AbstractState) (alive : Bool) → alive ≡ false → outcome_told (Ok alive) s' ≡ transfer order i c.least s → None ≡ jump_seen c old cost slot i s
+dead_jump order c old cost slot i s s' alive dead told = jump_dead order c old cost slot i s (transfer_dead order i c.least s s' alive dead told).1
+
+pub live_jump : (order : Order) (c : CertificateView) (old : LabelView) (cost : Option ℤ) (slot : ℕ) (i : Insn) (s s' : AbstractState) (alive : Bool) → alive ≡ true → outcome_told (Ok alive) s' ≡ transfer order i c.least s → jump_seen c old cost slot i s' ≡ jump_seen c old cost slot i s
+live_jump order c old cost slot i s s' alive is_alive told = jump_live order c old cost slot i s s' (transfer_live order i c.least s s' alive is_alive told).1
+
+pub dead_next : (p : Instructions) (c : CertificateView) (old : LabelView) (cost : Option ℤ) (slot to : ℕ) (i : Insn) (s s' : AbstractState) (alive : Bool) → alive ≡ false → outcome_told (Ok alive) s' ≡ transfer p.order i c.least s → to ≡ slot + slot_count i → edge_seen c old cost to None ≡ edge_seen c old cost (slot + slot_count i) (next_state p c slot i s)
+dead_next p c old cost slot to i s s' alive dead told at = ap₂ (edge_seen c old cost) at (sym (next_dead p c slot i s (transfer_dead p.order i c.least s s' alive dead told).1))
+
+pub live_next : (p : Instructions) (c : CertificateView) (old : LabelView) (cost : Option ℤ) (slot : ℕ) (i : Insn) (s s' : AbstractState) (alive : Bool) → alive ≡ true → outcome_told (Ok alive) s' ≡ transfer p.order i c.least s → next_seen c old cost slot i s' ≡ edge_seen c old cost (slot + slot_count i) (next_state p c slot i s)
+live_next p c old cost slot i s s' alive is_alive told = ap (edge_seen c old cost (slot + slot_count i)) (sym (next_live p c slot i s s' (transfer_live p.order i c.least s s' alive is_alive told).1))
 
 -- ---- the work of a visit
 

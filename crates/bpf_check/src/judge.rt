@@ -1,19 +1,18 @@
 //! What is judged with a state: where it leads to, and whether that is paid.
 
-ghost use Rattle.std.specs.Prelude.{◌≡◌, ◌+◌, ◌*◌, ◌^◌, ◌≤◌, ◌||◌, ◌∷◌, [], true, false, count_by, IfSome, IsSome, IsTrue, None, option_map, option_and_then, option_copied};
-ghost use Rattle.std.specs.List.{list_any};
-ghost use Rattle.bpf_cert.specs.View.{CertificateView, label_view};
+ghost use Rattle.std.specs.Prelude.{◌≡◌, ℤ, ◌+◌, ◌*◌, ◌^◌, ◌≤◌, ◌∷◌, [], true, false, count_by, Option, IfSome, IsSome, IsTrue, Some, None, option_map, option_and_then, option_copied};
+ghost use Rattle.bpf_cert.specs.View.{CertificateView, LabelView, label_view};
 ghost use Rattle.bpf_cert.specs.Limits.{is_limited_label};
 ghost use Rattle.bpf_state.specs.State.{AbstractState};
 ghost use Rattle.bpf_state.specs.Answer.{edge_told};
 ghost use Rattle.bpf_state.specs.Fault.{some_passes};
 ghost use Rattle.bpf_safety.specs.Labels.{label_at};
-ghost use Rattle.bpf_safety.specs.Flow.{Arrival, label_state, jump_target};
-ghost use Rattle.bpf_safety.specs.Flaw.{is_negative_if, is_refused_by, enters_wrongly, returns_wrongly, exits_unpaid};
+ghost use Rattle.bpf_safety.specs.Flow.{Arrival, label_state};
+ghost use Rattle.bpf_safety.specs.Flaw.{is_negative_if, enters_wrongly, returns_wrongly, exits_unpaid};
 ghost use Rattle.bpf_check.specs.code.Slack.{IsWithin};
 ghost use Rattle.bpf_check.specs.code.Arrivals.{arrival_of, IsReaching};
 ghost use Rattle.bpf_safety.specs.Work.{leads_into_label, one_if, enters_label, returns_result};
-ghost use Rattle.bpf_check.specs.code.Edges.{slack_from, slack_to, unpaid_from, left_at_exit, next_of, edges_of, is_unpaid, has_refused, has_unpaid};
+ghost use Rattle.bpf_check.specs.code.Edges.{slack_to, left_at_exit, next_of, edges_of, is_unpaid, seen_of, edge_seen, jump_seen, next_seen};
 ghost use Rattle.bpf_check.specs.code.Sites.{IsSpot, IsSite, visit_at, jump_edge};
 ghost use Rattle.bpf_check.specs.code.Counting.{compared};
 
@@ -43,11 +42,8 @@ pub struct JudgedEdge<'a> {
 impl<'a> JudgedEdge<'a> {
     /// An edge that no state goes along.
     pub fn dead(to: &Spot<'a>) -> JudgedEdge<'a>
-        ensures to { result.to ≡ to.now.slot }
         ensures live { result.is_live ≡ false }
-        ensures label { result.label ≡ to.now.label }
-        ensures refused { result.is_refused ≡ false }
-        ensures slack { result.slack ≡ None }
+        ensures seen { (c : CertificateView) (old : LabelView) (cost : Option ℤ) → IsSpot c to.now → seen_of result ≡ edge_seen c old cost to.now.slot None }
     {
         JudgedEdge {
             to: to.slot,
@@ -95,11 +91,8 @@ pub fn judge_edge<'a>(
     requires old { IsTrue (is_limited_label (label_view old.now)) }
     requires alive { IsSome (label_state (label_view old.now)) }
     requires cost { IfSome cost (λ z. IsWithin (2 ^ 112) z) }
-    ensures to { result.to ≡ to.now.slot }
     ensures live { result.is_live ≡ true }
-    ensures label { result.label ≡ to.now.label }
-    ensures refused { (c : CertificateView) → IsSpot c to.now → result.is_refused ≡ is_refused_by c (record { slot = to.now.slot; state = state.now }) }
-    ensures slack { (c : CertificateView) → IsSpot c to.now → option_map (λ s. s.left) result.slack ≡ slack_from c (label_view old.now) cost (record { slot = to.now.slot; state = state.now }) }
+    ensures seen { (c : CertificateView) → IsSpot c to.now → seen_of result ≡ edge_seen c (label_view old.now) cost to.now.slot (Some state.now) }
     ensures work { (c : CertificateView) → IsSpot c to.now → work.new ≡ compared (count_by (leads_into_label c) (record { slot = to.now.slot; state = state.now } ∷ [])) work.old }
 {
     let is_refused = match to.label {
@@ -182,9 +175,7 @@ pub fn judge_jump<'a>(
     requires old { IsTrue (is_limited_label (label_view old.now)) }
     requires alive { IsSome (label_state (label_view old.now)) }
     requires cost { IfSome cost (λ z. IsWithin (2 ^ 112) z) }
-    ensures to { option_map (λ e. e.to) result ≡ jump_target site.now.here.slot site.now.insn }
-    ensures refused { has_refused result ≡ list_any (is_refused_by site.now.certificate.now) (jump_edge site.now state.now) }
-    ensures unpaid { has_unpaid result ≡ list_any (unpaid_from site.now.certificate.now (label_view old.now) cost) (jump_edge site.now state.now) }
+    ensures seen { option_map seen_of result ≡ jump_seen site.now.certificate.now (label_view old.now) cost site.now.here.slot site.now.insn state.now }
     ensures work { work.new ≡ compared (count_by (leads_into_label site.now.certificate.now) (jump_edge site.now state.now)) work.old }
 {
     let Some(to) = site.jump else {
@@ -242,11 +233,8 @@ pub fn judge_edges<'a>(
     requires old { IsTrue (is_limited_label (label_view old.now)) }
     requires alive { IsSome (label_state (label_view old.now)) }
     requires cost { IfSome cost (λ z. IsWithin (2 ^ 112) z) }
-    ensures jump { option_map (λ e. e.to) result.0 ≡ jump_target site.now.here.slot site.now.insn }
-    ensures next { result.1.to ≡ site.now.next.slot }
-    ensures label { result.1.label ≡ site.now.next.label }
-    ensures refused { (has_refused result.0 || result.1.is_refused) ≡ list_any (is_refused_by site.now.certificate.now) (edges_of site.now.certificate.now site.now.here.slot site.now.insn state.old) }
-    ensures unpaid { (has_unpaid result.0 || is_unpaid result.1) ≡ list_any (unpaid_from site.now.certificate.now (label_view old.now) cost) (edges_of site.now.certificate.now site.now.here.slot site.now.insn state.old) }
+    ensures jump { option_map seen_of result.0 ≡ jump_seen site.now.certificate.now (label_view old.now) cost site.now.here.slot site.now.insn state.old }
+    ensures next { seen_of result.1 ≡ next_seen site.now.certificate.now (label_view old.now) cost site.now.here.slot site.now.insn state.old }
     ensures goes { edge_told result.1.is_live state.new ≡ next_of site.now.certificate.now site.now.here.slot site.now.insn state.old }
     ensures work { work.new ≡ compared (count_by (leads_into_label site.now.certificate.now) (edges_of site.now.certificate.now site.now.here.slot site.now.insn state.old)) work.old }
 {

@@ -22,40 +22,60 @@ use crate::visit::visit;
 use bpf_insn::{Code, Insn};
 use bpf_state::Work;
 
-/// Visits an instruction at a spot, and tells the next spot: as a step of straight code where it is one.
+/// Visits an instruction at a spot with all that is looked up for it, and makes the spot the next one.
+#[inline(never)]
+fn visit_spot<'a, P: Code>(
+    program: &P,
+    certificate: &'a Index<'a>,
+    here: &mut Spot<'a>,
+    insn: Insn,
+    walk: &mut Walk<'a>,
+    work: &mut Work,
+) -> Option<Refusal>
+    requires few { here.old.slot ≤ greatest_slot }
+    requires here { IsSpot certificate.now here.old }
+    requires valid { IfSome walk.old.here (λ h. IsReaching here.old.slot h) }
+    ensures refusal { IsLeastIn (at here.old.slot (numbers_of_visit (P.program program.now) certificate.now (visit_of certificate.now here.old.slot insn (walk_of walk.old)))) (option_map flaw_of result) }
+    ensures passed { walk_of walk.new ≡ passed_with (P.program program.now) certificate.now here.old.slot insn (arrives certificate.now here.old.slot (walk_of walk.old)) }
+    ensures work { work.new ≡ worked_at (P.program program.now) certificate.now (visit_of certificate.now here.old.slot insn (walk_of walk.old)) work.old }
+    ensures valid { IfSome walk.new.here (λ h. IsReaching (here.old.slot + slot_count insn) h) }
+    ensures slot { here.new.slot ≡ here.old.slot + slot_count insn }
+    ensures spot { IsSpot certificate.now here.new }
+{
+    let site = Site::of(certificate, *here, insn);
+    let refusal = visit(program, &site, walk, work);
+    *here = site.next;
+    refusal
+}
+
+/// Visits an instruction at a spot, and makes the spot the next one: as a step of straight code where it is one. Of the spot
+/// only the slot changes then, and nothing else of it is written.
 #[inline(always)]
 fn pass_over<'a, P: Code>(
     program: &P,
     certificate: &'a Index<'a>,
-    here: Spot<'a>,
+    here: &mut Spot<'a>,
     insn: Insn,
     walk: &mut Walk<'a>,
     work: &mut Work,
-) -> (Option<Refusal>, Spot<'a>)
-    requires few { here.slot ≤ greatest_slot }
-    requires here { IsSpot certificate.now here }
-    requires valid { IfSome walk.old.here (λ h. IsReaching here.slot h) }
-    ensures refusal { IsLeastIn (at here.entry.slot (numbers_of_visit (P.program program.now) certificate.now (visit_of certificate.now here.entry.slot insn (walk_of walk.old)))) (option_map flaw_of result.0) }
-    ensures passed { walk_of walk.new ≡ passed_with (P.program program.now) certificate.now here.entry.slot insn (arrives certificate.now here.entry.slot (walk_of walk.old)) }
-    ensures work { work.new ≡ worked_at (P.program program.now) certificate.now (visit_of certificate.now here.entry.slot insn (walk_of walk.old)) work.old }
-    ensures valid { IfSome walk.new.here (λ h. IsReaching (here.entry.slot + slot_count insn) h) }
-    ensures slot { result.1.slot ≡ here.entry.slot + slot_count insn }
-    ensures spot { IsSpot certificate.now result.1 }
+) -> Option<Refusal>
+    requires few { here.old.slot ≤ greatest_slot }
+    requires here { IsSpot certificate.now here.old }
+    requires valid { IfSome walk.old.here (λ h. IsReaching here.old.slot h) }
+    ensures refusal { IsLeastIn (at here.old.slot (numbers_of_visit (P.program program.now) certificate.now (visit_of certificate.now here.old.slot insn (walk_of walk.old)))) (option_map flaw_of result) }
+    ensures passed { walk_of walk.new ≡ passed_with (P.program program.now) certificate.now here.old.slot insn (arrives certificate.now here.old.slot (walk_of walk.old)) }
+    ensures work { work.new ≡ worked_at (P.program program.now) certificate.now (visit_of certificate.now here.old.slot insn (walk_of walk.old)) work.old }
+    ensures valid { IfSome walk.new.here (λ h. IsReaching (here.old.slot + slot_count insn) h) }
+    ensures slot { here.new.slot ≡ here.old.slot + slot_count insn }
+    ensures spot { IsSpot certificate.now here.new }
 {
     let end = program.slots();
-    if let Some(step) = Step::of(certificate, end, &here, insn, walk.here) {
+    if let Some(step) = Step::of(certificate, end, &*here, insn, walk.here) {
         let refusal = visit_straight(program, &step, walk, work);
-        let next = Spot {
-            slot: step.next,
-            function: here.function,
-            label: here.label,
-            until: here.until,
-        };
-        return (refusal, next);
+        here.slot = step.next;
+        return refusal;
     }
-    let site = Site::of(certificate, here, insn);
-    let refusal = visit(program, &site, walk, work);
-    (refusal, site.next)
+    visit_spot(program, certificate, here, insn, walk, work)
 }
 
 /// The least refusal of a program's instructions: the slots are visited in their order, so the first is the least.
@@ -67,11 +87,10 @@ pub fn visit_flaw<P: Code>(program: &P, certificate: &Index, work: &mut Work) ->
     let mut here = Spot::of(&*certificate, 0);
     let mut walk = Walk::new();
     'visits: while let Some(insn) = program.insn(here.slot) {
-        let (refusal, next) = pass_over(program, &*certificate, here, insn, &mut walk, work);
+        let refusal = pass_over(program, &*certificate, &mut here, insn, &mut walk, work);
         if refusal.is_some() {
             return refusal;
         }
-        here = next;
     }
     None
 }

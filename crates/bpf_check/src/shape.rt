@@ -171,16 +171,15 @@ fn flaw_of_function<C: Code>(
     )
 }
 
-/// The least flaw of functions and labels: C2, C9 or C13 at a label, or C13 where a function begins.
-pub fn label_flaw<C: Code>(program: &C, certificate: &Index) -> Option<Refusal>
+/// The least flaw of functions and labels, with room for a label's state tightened: C2, C9 or C13 at a label, or C13 where a function begins.
+pub fn label_flaw<C: Code>(program: &C, certificate: &Index, room: &mut State) -> Option<Refusal>
     ensures { IsLeastIn (flat_map (function_flaws (C.program program.now) certificate.now) certificate.now.functions) (option_map flaw_of result) }
 {
     certificate.valid();
-    let mut room = State::blank();
     let mut least = None;
     let functions = certificate.functions();
     for function in functions {
-        let flaw = flaw_of_function(program, certificate, function, &mut room);
+        let flaw = flaw_of_function(program, certificate, function, room);
         least = lesser(least, flaw);
     }
     least

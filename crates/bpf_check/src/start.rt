@@ -31,52 +31,64 @@ pub fn begins_elsewhere(functions: &[Function]) -> bool
     }
 }
 
-/// The state at the start: r2 is the length of a context, from the least to the greatest.
-fn start_state(certificate: &Index) -> State
-    ensures { result ≡ first_state certificate.now.least certificate.now.most }
+/// Makes a state the one at the start: r2 is the length of a context, from the least to the greatest.
+fn put_start(certificate: &Index, state: &mut State)
+    ensures { state.new ≡ first_state certificate.now.least certificate.now.most }
 {
     certificate.valid();
-    State::start(certificate.least(), certificate.most())
+    state.begin(certificate.least(), certificate.most());
 }
 
 /// The state at the start doesn't lie in the label at slot 0.
-fn starts_outside(certificate: &Index, work: &mut Work) -> bool
+fn starts_outside(certificate: &Index, start: &State, work: &mut Work) -> bool
+    requires { start.now ≡ first_state certificate.now.least certificate.now.most }
     ensures answer { result ≡ some_passes (λ l. not (state_entails (first_state certificate.now.least certificate.now.most) l.state)) (label_at certificate.now 0) }
     ensures work { work.new ≡ compared (compared_at_start certificate.now) work.old }
 {
     let Some(label) = label_at(certificate, 0) else {
         return false;
     };
-    !work.entails_label_counted(&start_state(certificate), &label.state)
+    !work.entails_label_counted(start, &label.state)
 }
 
-fn begins_wrongly(certificate: &Index, work: &mut Work) -> bool
+fn begins_wrongly(certificate: &Index, start: &State, work: &mut Work) -> bool
+    requires { start.now ≡ first_state certificate.now.least certificate.now.most }
     ensures answer { result ≡ begins_wrongly certificate.now }
     ensures work { work.new ≡ compared (compared_at_start certificate.now) work.old }
 {
-    let outside = starts_outside(certificate, work);
+    let outside = starts_outside(certificate, start, work);
     begins_elsewhere(certificate.functions()) || outside
 }
 
 /// The budget at the start may be above the steps that are promised.
-pub fn starts_over_budget(certificate: &Index) -> bool
+pub fn starts_over_budget(certificate: &Index, start: &State) -> bool
+    requires { start.now ≡ first_state certificate.now.least certificate.now.most }
     ensures { result ≡ starts_over_budget certificate.now }
 {
     let Some(label) = label_at(certificate, 0) else {
         return false;
     };
-    match greatest_budget(label, &start_state(certificate)) {
+    match greatest_budget(label, start) {
         Some(most) => i128::from(certificate.steps()) < most,
         None => false,
     }
 }
 
-/// The least flaw at the start: C9 or C13 at slot 0.
-pub fn start_flaw(certificate: &Index, work: &mut Work) -> Option<Refusal>
+/// The least flaw at the start, with room for the state there: C9 or C13 at slot 0.
+pub fn start_flaw(certificate: &Index, room: &mut State, work: &mut Work) -> Option<Refusal>
     ensures refusal { IsLeastIn (at 0 (fails Misshapen (begins_wrongly certificate.now) ++ fails OverBudget (starts_over_budget certificate.now))) (option_map flaw_of result) }
     ensures work { work.new ≡ compared (compared_at_start certificate.now) work.old }
 {
-    let misshapen = refused_if(begins_wrongly(certificate, work), 0, Condition::Misshapen);
-    let over = refused_if(starts_over_budget(certificate), 0, Condition::OverBudget);
+    put_start(certificate, room);
+    let misshapen = refused_if(
+        begins_wrongly(certificate, room, work),
+        0,
+        Condition::Misshapen,
+    );
+    let over = refused_if(
+        starts_over_budget(certificate, room),
+        0,
+        Condition::OverBudget,
+    );
     lesser(misshapen, over)
 }

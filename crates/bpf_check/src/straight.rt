@@ -91,17 +91,22 @@ pub fn visit_straight<'a, P: Code>(
     ensures valid { IfSome walk.new.here (λ h. IsReaching (step.now.slot + slot_count step.now.insn) h) }
 {
     let reached = step.reached;
-    walk.here = None;
+    // Of its own, so that the step needs no place in memory.
+    let insn = step.insn;
     let alive = match work.transfer_counted(
-        &step.insn,
+        &insn,
         step.certificate.least(),
         program.order(),
         &mut walk.state,
     ) {
         Ok(alive) => alive,
-        Err(fault) => return refused_if(true, step.slot, Condition::State(fault)),
+        Err(fault) => {
+            walk.here = None;
+            return refused_if(true, step.slot, Condition::State(fault));
+        }
     };
     if !alive {
+        walk.here = None;
         return None;
     }
     let cost = one_more(step.slot, reached.cost);

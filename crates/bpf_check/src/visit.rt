@@ -1,21 +1,22 @@
 //! Visits: each instruction with what reaches it.
 
-ghost use Rattle.std.specs.Prelude.{◌≡◌, ℕ, ◌+◌, ◌≤◌, List, ◌++◌, option_map, is_some, if◌then◌else◌, IfSome, IfOk, IfErr, IsTrue, Some, None};
+ghost use Rattle.std.specs.Prelude.{◌≡◌, ℕ, ◌+◌, ◌≤◌, List, ◌++◌, option_map, is_some, IfSome, IfOk, IfErr, IsTrue, Some, None};
 ghost use Rattle.bpf_cert.specs.View.{CertificateView, label_view};
 ghost use Rattle.bpf_cert.specs.Limits.{is_limited_label};
 ghost use Rattle.bpf_insn.specs.Instruction.{slot_count};
 ghost use Rattle.bpf_state.specs.Fault.{fault_of};
 ghost use Rattle.bpf_state.specs.declared.condition.Condition.TheVariants.{NoLabel, NotEntailed, OverBudget, NoDeeper, FallsOff, LeavesFunction};
 ghost use Rattle.bpf_state.specs.Condition.{fault_number};
-ghost use Rattle.bpf_safety.specs.Flow.{arrives, cost_after, jump_target};
-ghost use Rattle.bpf_safety.specs.Flaw.{at, fails, is_negative_if, numbers_of_visit};
+ghost use Rattle.bpf_state.specs.Transfer.{after};
+ghost use Rattle.bpf_safety.specs.Flow.{arrives, cost_after, next_state};
+ghost use Rattle.bpf_safety.specs.Flaw.{at, fails, is_negative_if, numbers_of_visit, enters_wrongly, returns_wrongly};
 ghost use Rattle.bpf_check.specs.code.Least.{IsLeastIn};
 ghost use Rattle.bpf_check.specs.RefusalNumbers.{flaw_of};
 ghost use Rattle.bpf_check.specs.code.Arrivals.{arrival_of, walk_of, IsReaching};
-ghost use Rattle.bpf_check.specs.code.Edges.{left_at_exit};
+ghost use Rattle.bpf_check.specs.code.Edges.{left_at_exit, seen_of, edge_seen, jump_seen};
 ghost use Rattle.bpf_check.specs.code.Visits.{IsJudgment, judged_of, numbers_with, passed_with, never_reached, visit_of, visit_with};
 ghost use Rattle.bpf_check.specs.code.Counting.{worked_at};
-ghost use Rattle.bpf_check.specs.code.Sites.{IsSpot, IsSite};
+ghost use Rattle.bpf_check.specs.code.Sites.{IsSpot, IsSite, visit_at};
 
 use crate::arrival::{Here, Walk, cost_after, start_at};
 use crate::edge::{calls_no_deeper, lacks_label, leaves_function};
@@ -98,8 +99,11 @@ pub fn judge<'a, P: Code>(
     ensures ok { IfOk result (λ s. IsJudgment (P.program program.now) site.now.certificate.now site.now.here.slot site.now.insn (arrival_of walk.old.state here.entry) walk.new (judged_of s)) }
     ensures cost { IfOk result (λ s. s.cost ≡ cost_after site.now.certificate.now site.now.here.slot site.now.insn (arrival_of walk.old.state here.entry)) }
     ensures left { IfOk result (λ s. s.left_at_exit ≡ left_at_exit (arrival_of walk.old.state here.entry) s.cost site.now.insn) }
-    ensures next { IfOk result (λ s. (s.next.to ≡ site.now.next.slot) × (s.next.label ≡ site.now.next.label) × (s.next.is_live ≡ is_some walk.new.here)) }
-    ensures jump { IfOk result (λ s. option_map (λ e. e.to) s.jump ≡ (if s.is_alive then jump_target site.now.here.slot site.now.insn else None)) }
+    ensures alive { IfOk result (λ s. s.is_alive ≡ is_some (after (P.program program.now).order site.now.insn walk.old.state)) }
+    ensures jump { IfOk result (λ s. option_map seen_of s.jump ≡ jump_seen site.now.certificate.now (label_view here.entry.label.now) s.cost site.now.here.slot site.now.insn walk.old.state) }
+    ensures next { IfOk result (λ s. seen_of s.next ≡ edge_seen site.now.certificate.now (label_view here.entry.label.now) s.cost (site.now.here.slot + slot_count site.now.insn) (next_state (P.program program.now) site.now.certificate.now site.now.here.slot site.now.insn walk.old.state)) }
+    ensures enters { IfOk result (λ s. s.enters_wrongly ≡ enters_wrongly site.now.certificate.now (visit_at site.now) (arrival_of walk.old.state here.entry)) }
+    ensures returns { IfOk result (λ s. s.returns_wrongly ≡ returns_wrongly site.now.certificate.now (visit_at site.now) (arrival_of walk.old.state here.entry) site.now.insn) }
     ensures err { IfErr result (λ e. fault_of site.now.certificate.now.least walk.old.state site.now.insn ≡ Some (fault_number e)) }
     ensures stops { IfErr result (λ e. walk.new.here ≡ None) }
     ensures work { work.new ≡ worked_at (P.program program.now) site.now.certificate.now (visit_with site.now.here.slot site.now.insn (Some (arrival_of walk.old.state here.entry))) work.old }

@@ -236,8 +236,10 @@ fn tell_error<W: Tell>(out: &mut W, bytes: &[u8], error: CertError) {
         CertError::Syntax { .. } => tell_syntax(out, found),
         CertError::NotCanonical { .. } => tell_spelling(out, found.line),
         CertError::Limit { .. } => tell_limit(out, found.line),
-        CertError::Memory => write!(out, "memory ran out\n"),
-        CertError::Read { .. } => write!(out, "the reader failed\n"),
+        CertError::Memory | CertError::Read { .. } => {
+            let text = error.text();
+            write!(out, "{text}\n");
+        }
     }
 }
 

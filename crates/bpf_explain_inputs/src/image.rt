@@ -276,8 +276,8 @@ fn tell_error<W: Tell>(out: &mut W, order: Order, bytes: &[u8], error: DecodeErr
         DecodeError::Length => tell_length(out, bytes.len()),
         DecodeError::Slot { slot, fault } => tell_slot(out, order, bytes, slot, fault),
         DecodeError::Target { slot } => tell_target(out, order, bytes, slot),
-        DecodeError::Memory => write!(out, "E9: memory ran out\n"),
-        DecodeError::Read { slot } => write!(out, "E10 at slot {slot}: the reader failed\n"),
+        DecodeError::Memory => write!(out, "E9: {error}\n"),
+        DecodeError::Read { .. } => write!(out, "E10 {error}\n"),
     }
 }
 

@@ -237,7 +237,8 @@ fn tell_number<'a, W: Tell>(alloc: Global, out: &mut W, line: &[u8], stop: &Stop
 fn tell_line<W: Tell>(alloc: Global, out: &mut W, text: &[u8], number: usize) {
     let line = code_at(text, number);
     let Ok(Some(stop)) = line_stop(alloc, line) else {
-        return write!(out, ": memory ran out\n");
+        let memory = TextError::Memory;
+        return write!(out, ": {memory}\n");
     };
     match (stop.fault, no_label(&stop)) {
         (LineFault::OutOfRange, _) => tell_number(alloc, out, line, &stop),
@@ -309,27 +310,26 @@ fn second_label(
 
 /// A3: which label is defined again, and where it was before.
 fn tell_second<W: Tell>(alloc: Global, out: &mut W, text: &[u8], number: usize) {
-    write!(out, "A3 at line {number}: ");
     match second_label(alloc, text, number) {
         Ok(Some((name, above))) => {
             let word = Word(name);
-            write!(out, "the label {word} is defined at line {above}, too\n");
+            write!(out, ": the label {word} is defined at line {above}, too\n");
         }
-        Ok(None) => write!(out, "a label is defined twice in the line\n"),
-        Err(_) => write!(out, "a label is defined again\n"),
+        Ok(None) => write!(out, ": a label is defined twice in the line\n"),
+        Err(_) => write!(out, ": a label is defined again\n"),
     }
 }
 
 /// A4 and A5: what is wrong with the label that a jump names.
-fn tell_target<W: Tell>(out: &mut W, text: &[u8], number: usize, cause: u8, words: &str) {
+fn tell_target<W: Tell>(out: &mut W, text: &[u8], number: usize, words: &str) {
     let word = Word(target_name(code_at(text, number)).unwrap_or(&[]));
-    write!(out, "A{cause} at line {number}: the label {word} {words}\n");
+    write!(out, ": the label {word} {words}\n");
 }
 
 /// A6: why the instructions are no program.
-fn tell_program<W: Tell>(out: &mut W, number: usize, error: BuildError) {
+fn tell_program<W: Tell>(out: &mut W, error: BuildError) {
     let cause = error.number();
-    write!(out, "A6 at line {number} (E{cause}): ");
+    write!(out, " (E{cause}): ");
     match error {
         BuildError::Length => write!(
             out,
@@ -339,36 +339,29 @@ fn tell_program<W: Tell>(out: &mut W, number: usize, error: BuildError) {
             out,
             "the jump or call leads to no instruction: in front of the program, behind it, or into a 64-bit constant\n"
         ),
-        BuildError::NoEncoding { .. } => write!(out, "the instruction has no encoding\n"),
-        BuildError::Memory => write!(out, "memory ran out\n"),
+        BuildError::NoEncoding { .. } | BuildError::Memory => write!(out, "{error}\n"),
     }
 }
 
 /// Tells a refusal.
 fn tell_error<W: Tell>(alloc: Global, out: &mut W, text: &[u8], error: TextError) {
+    let (number, line) = (error.number(), error.line());
+    if error == TextError::Memory {
+        return write!(out, "A{number}: {error}\n");
+    }
+    write!(out, "A{number} at line {line}");
     match error {
-        TextError::Form { line } => {
-            write!(out, "A1 at line {line}");
-            tell_line(alloc, out, text, line);
-        }
-        TextError::Range { line } => {
-            write!(out, "A2 at line {line}");
-            tell_line(alloc, out, text, line);
-        }
-        TextError::DefinedAgain { line } => tell_second(alloc, out, text, line),
-        TextError::Undefined { line } => tell_target(out, text, line, 4, "isn't defined"),
-        TextError::TooFar { line } => tell_target(
+        TextError::Form { .. } | TextError::Range { .. } => tell_line(alloc, out, text, line),
+        TextError::DefinedAgain { .. } => tell_second(alloc, out, text, line),
+        TextError::Undefined { .. } => tell_target(out, text, line, "isn't defined"),
+        TextError::TooFar { .. } => tell_target(
             out,
             text,
             line,
-            5,
             "is more than 32767 slots away: `gotol` reaches it",
         ),
-        TextError::Program { line, error } => tell_program(out, line, error),
-        _ => {
-            let cause = error.number();
-            write!(out, "A{cause}: {error}\n");
-        }
+        TextError::Program { error, .. } => tell_program(out, error),
+        TextError::Memory => {}
     }
 }
 

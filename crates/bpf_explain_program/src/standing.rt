@@ -145,7 +145,10 @@ pub fn start_flaws(certificate: &Index) -> Flaws {
     let mut flaws = Flaws::NONE;
     let is_elsewhere = begins_elsewhere(certificate.functions());
     flaws.add_if(is_elsewhere || is_outside, Condition::Misshapen);
-    flaws.add_if(starts_over_budget(certificate), Condition::OverBudget);
+    flaws.add_if(
+        starts_over_budget(certificate, &start),
+        Condition::OverBudget,
+    );
     flaws
 }
 

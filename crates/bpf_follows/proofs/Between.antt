@@ -24,7 +24,7 @@ use Rattle.bpf_semantics.specs.declared.value.Region.TheVariants.{Context, Frame
 use Rattle.bpf_follows.specs.declared.notes.Kind.{Kind}
 use Rattle.bpf_follows.specs.declared.notes.Kind.TheVariants.{Same}
 use Rattle.bpf_follows.specs.declared.notes.Place.{Place}
-use Rattle.bpf_follows.specs.Relation.{Kinds, kinds_of, IsKept, IsRead, EachPair, FitsKind, SlotKept, FitsSlot, FrameFits, FrameWaits, register_in, is_of_other}
+use Rattle.bpf_follows.specs.Relation.{Kinds, kinds_of, IsKept, IsRead, EachPair, FitsKind, SlotKept, FitsSlot, FrameFits, FrameWaits, register_in, is_of_other, is_alone}
 use Rattle.bpf_follows.specs.Matching.{is_changed, kinds_after, AllPlain}
 use Rattle.bpf_follows.proofs.Lists.{mapped, unmapped, cond_first, cond_second, same_is_kept, as_long, pairs_weaker, pair_at, pair_inside, pairs_set, pairs_drop, pairs_take, Cells, bytes_kept, pointer_kept, no_pointer, each_kept, bytes_keep, parts_keep}
 use Rattle.bpf_follows.proofs.Owns.{top_stack, waiting_with, waiting_stack, IsLive}
@@ -132,7 +132,7 @@ module _ (ends : Order) (notes : List (Option Place)) (turns : ℕ) (passed : �
 
   -- the bytes of all frames are kept
   pub stacks_read : (kinds : Kinds) (s t : State) (n : ℕ) → Between kinds s t → EachPair IsRead (stack_of s n) (stack_of t n)
-  stacks_read kinds s t n h = stacks_in IsRead kinds s t n h h.top.stack (λ a b f. all_read a.stack b.stack f.kept)
+  stacks_read kinds s t n h = stacks_in IsRead kinds s t n h h.top.stack (λ a b f. f.follows.fits.stack)
 
   -- where no slot holds an offset all cells are kept
   pub top_plain : (kinds : Kinds) (s t : State) → Between kinds s t → AllPlain kinds → EachPair IsKept s.top.stack t.top.stack
@@ -140,8 +140,12 @@ module _ (ends : Order) (notes : List (Option Place)) (turns : ℕ) (passed : �
       all_kept s.top.stack t.top.stack h.top.long (as_long IsRead s.top.stack t.top.stack h.top.stack)
       (λ k lt. plain_kept ends turns passed (register_in s.top) s.top.stack t.top.stack k (kinds (11 + k)) (plain k lt) (h.top.slots k lt))
 
-  pub stacks_kept : (kinds : Kinds) (s t : State) (n : ℕ) → Between kinds s t → AllPlain kinds → EachPair IsKept (stack_of s n) (stack_of t n)
-  stacks_kept kinds s t n h plain = stacks_in IsKept kinds s t n h (top_plain kinds s t h plain) (λ a b f. f.kept)
+  -- all slots are so, and those of frames that wait, too
+  abbrev pub Calm : Kinds → Type 0
+  Calm kinds = AllPlain kinds × (is_alone notes ≡ false)
+
+  pub stacks_kept : (kinds : Kinds) (s t : State) (n : ℕ) → Between kinds s t → Calm kinds → EachPair IsKept (stack_of s n) (stack_of t n)
+  stacks_kept kinds s t n h plain = stacks_in IsKept kinds s t n h (top_plain kinds s t h plain.0) (λ a b f. f.kept plain.1)
 
   -- loads
 
@@ -161,7 +165,7 @@ module _ (ends : Order) (notes : List (Option Place)) (turns : ℕ) (passed : �
       let c = cond_first (i % 8 == 0) (pointer_in (get_or (stack_of s n) i None)) v e in
       ap (λ b. cond b (pointer_in (get_or (stack_of t n) i None)) None) c.0 ∙ pointer_kept _ _ v kept c.1
 
-  pub pointers_kept : (kinds : Kinds) (s t : State) (at : Location) → Between kinds s t → AllPlain kinds → PointersKept s t at
+  pub pointers_kept : (kinds : Kinds) (s t : State) (at : Location) → Between kinds s t → Calm kinds → PointersKept s t at
   pointers_kept kinds s t (InContext i) h plain = λ v e. e
   pointers_kept kinds s t (InFrame n i) h plain = pointer_at_kept s t n i (pair_at IsKept (stack_of s n) (stack_of t n) i None None (same_is_kept None) (stacks_kept kinds s t n h plain))
 
@@ -201,18 +205,18 @@ module _ (ends : Order) (notes : List (Option Place)) (turns : ℕ) (passed : �
 
   -- stores
 
-  waits_stack : (a b : StackFrame) (xs ys : Cells) → FrameWaits ends notes turns passed a b → length xs ≡ length a.stack → EachPair IsKept xs ys → FrameWaits ends notes turns passed (with_stack_in a xs) (with_stack_in b ys)
-  waits_stack a b xs ys f same h = record {
+  waits_stack : (a b : StackFrame) (xs ys : Cells) → is_alone notes ≡ false → FrameWaits ends notes turns passed a b → length xs ≡ length a.stack → EachPair IsKept xs ys → FrameWaits ends notes turns passed (with_stack_in a xs) (with_stack_in b ys)
+  waits_stack a b xs ys reached f same h = record {
     follows = record {
       place = f.follows.place;
       noted = f.follows.noted;
       slot_is = f.follows.slot_is;
       fits = fits_stack ends turns passed (kinds_of f.follows.place) (kinds_of f.follows.place) a b xs ys f.follows.fits (λ r lt. refl) (same ∙ f.follows.fits.long) (all_read xs ys h)
-          (λ k lt. slot_given ends turns passed (register_in a) xs ys k (kinds_of f.follows.place (11 + k)) (f.slots k lt) (slot_kept xs ys k h));
+          (λ k lt. slot_given ends turns passed (register_in a) xs ys k (kinds_of f.follows.place (11 + k)) (f.slots reached k lt) (slot_kept xs ys k h));
     };
     result = f.result;
     own = f.own;
-    kept = h;
+    kept = λ e. h;
     slots = f.slots;
   }
 
@@ -220,7 +224,7 @@ module _ (ends : Order) (notes : List (Option Place)) (turns : ℕ) (passed : �
   same_slot same registers xs ys k e f = subst (λ kind. FitsSlot ends turns passed registers xs ys k kind) (sym e) f
 
   -- both stacks at a depth get other cells
-  stack_put : (kinds same : Kinds) (s t : State) (n : ℕ) (xs ys : Cells) → Between kinds s t → AllPlain kinds → InAll kinds same → n ≤ depth s → length xs ≡ length (stack_of s n) → EachPair IsKept xs ys
+  stack_put : (kinds same : Kinds) (s t : State) (n : ℕ) (xs ys : Cells) → Between kinds s t → Calm kinds → InAll kinds same → n ≤ depth s → length xs ≡ length (stack_of s n) → EachPair IsKept xs ys
       → Goes same s.top.slot t.top.slot (with_stack s n xs) (Some (with_stack t n ys))
   stack_put kinds same s t n xs ys h plain all live long k = by_cases (cases_Bool (n == depth s))
     where
@@ -255,8 +259,8 @@ module _ (ends : Order) (notes : List (Option Place)) (turns : ℕ) (passed : �
           let a = waiting_stack s n m xs e more in
           let b = waiting_stack t n m ys (ap (λ d. n == d) deep ∙ e) (ap (λ d. d - n) deep ∙ more) in
           let there : length xs ≡ length (get_or s.waiting m s.top).stack = long ∙ ap (λ d. length (get_or (frames s) d s.top).stack) more in
-          let pair = waits_stack _ _ xs ys (pair_inside (FrameWaits ends notes turns passed) s.waiting t.waiting m s.top t.top inside h.waiting) there k in
-          let top_kept = top_plain kinds s t h plain in
+          let pair = waits_stack _ _ xs ys plain.1 (pair_inside (FrameWaits ends notes turns passed) s.waiting t.waiting m s.top t.top inside h.waiting) there k in
+          let top_kept = top_plain kinds s t h plain.0 in
           subst (λ u. Goes same s.top.slot t.top.slot u (Some (with_stack t n ys))) (sym a)
           (record {
             state = waiting_with t m ys;
@@ -271,14 +275,14 @@ module _ (ends : Order) (notes : List (Option Place)) (turns : ℕ) (passed : �
             new_slot = refl;
           })
 
-  pub number_stored : (order : Order) (kinds same : Kinds) (s t u : State) (k x : ℕ) (at : Location) → Between kinds s t → AllPlain kinds → InAll kinds same → IsLive s at → store_number order k x at s ≡ Some u → Goes same s.top.slot t.top.slot u (store_number order k x at t)
+  pub number_stored : (order : Order) (kinds same : Kinds) (s t u : State) (k x : ℕ) (at : Location) → Between kinds s t → Calm kinds → InAll kinds same → IsLive s at → store_number order k x at s ≡ Some u → Goes same s.top.slot t.top.slot u (store_number order k x at t)
   unfolding store_number with_bytes
   number_stored order kinds same s t u k x (InContext i) h plain all live e = absurd (none-some _ e)
   number_stored order kinds same s t u k x (InFrame n i) h plain all live e =
       subst (λ u. Goes same s.top.slot t.top.slot u (store_number order k x (InFrame n i) t)) (same_Some _ _ e)
       (stack_put kinds same s t n _ _ h plain all live (length-each_cell (cell_after (bytes_of order k x) i) 0 (stack_of s n)) (each_kept (cell_after (bytes_of order k x) i) 0 (stack_of s n) (stack_of t n) (bytes_keep (bytes_of order k x) i) (stacks_kept kinds s t n h plain)))
 
-  pointer_stored : (kinds same : Kinds) (s t u : State) (region : Region) (off : ℤ) (at : Location) → Between kinds s t → AllPlain kinds → InAll kinds same → IsLive s at → store_pointer region off at s ≡ Some u → Goes same s.top.slot t.top.slot u (store_pointer region off at t)
+  pointer_stored : (kinds same : Kinds) (s t u : State) (region : Region) (off : ℤ) (at : Location) → Between kinds s t → Calm kinds → InAll kinds same → IsLive s at → store_pointer region off at s ≡ Some u → Goes same s.top.slot t.top.slot u (store_pointer region off at t)
   unfolding store_pointer with_parts
   pointer_stored kinds same s t u region off (InContext i) h plain all live e = absurd (none-some _ e)
   pointer_stored kinds same s t u region off (InFrame n i) h plain all live e =
@@ -287,7 +291,7 @@ module _ (ends : Order) (notes : List (Option Place)) (turns : ℕ) (passed : �
       subst (λ u. Goes same s.top.slot t.top.slot u (store_pointer region off (InFrame n i) t)) (same_Some _ _ c.1)
       (goes_as same s.top.slot t.top.slot _ _ _ (ap (λ b. cond b (Some (with_stack t n (with_parts region off i (stack_of t n)))) None) c.0) g)
 
-  pub store_kept : (order : Order) (kinds same : Kinds) (s t u : State) (size : Size) (v : Value) (at : Location) → Between kinds s t → AllPlain kinds → InAll kinds same → IsLive s at → store order size v at s ≡ Some u → Goes same s.top.slot t.top.slot u (store order size v at t)
+  pub store_kept : (order : Order) (kinds same : Kinds) (s t u : State) (size : Size) (v : Value) (at : Location) → Between kinds s t → Calm kinds → InAll kinds same → IsLive s at → store order size v at s ≡ Some u → Goes same s.top.slot t.top.slot u (store order size v at t)
   store_kept order kinds same s t u size (Number x) at h plain all live e = number_stored order kinds same s t u (byte_count size) x at h plain all live e
   store_kept order kinds same s t u DW (Pointer region off) at h plain all live e = pointer_stored kinds same s t u region off at h plain all live e
   store_kept order kinds same s t u B (Pointer region off) at h plain all live e = absurd (none-some _ e)

@@ -1,8 +1,8 @@
 -- Calls, and the ends of functions.
 use Rattle.std.proofs.Common.{◌≡◌, ℕ, zero, suc, ◌+◌, ◌<◌, cond, List, [], ◌∷◌, ◌++◌, Option, Some, None, length, get_or, take, drop, refl, sym, ap, ◌∙◌, subst, arith}
-use Rattle.std.specs.Prelude.{ℤ, pos, Bool, true, false, ◌*◌, ◌==◌, ◌||◌, nat_lt, nat_le, replicate, option_map, if◌then◌else◌}
+use Rattle.std.specs.Prelude.{ℤ, pos, Bool, true, false, ◌*◌, ◌==◌, ◌&&◌, ◌||◌, nat_lt, nat_le, replicate, option_map, if◌then◌else◌}
 use Rattle.std.proofs.Common.{inl, inr}
-use Rattle.std.proofs.lemmas.Bool.{false≢true, or_right, le-leb}
+use Rattle.std.proofs.lemmas.Bool.{false≢true, or_right, le-leb, lt-leb}
 use Rattle.std.proofs.lemmas.Option.{none-some, same_Some, option_and_then_some}
 use Rattle.bpf_insn.specs.Instruction.{target}
 use Rattle.bpf_insn.specs.declared.order.Order.{Order}
@@ -14,14 +14,14 @@ use Rattle.bpf_semantics.specs.declared.value.Value.{Value}
 use Rattle.bpf_semantics.specs.declared.value.Value.TheVariants.{Number, Pointer}
 use Rattle.bpf_semantics.specs.declared.value.Region.TheVariants.{Frame as FrameAt}
 use Rattle.bpf_follows.specs.declared.notes.Kind.{Kind}
-use Rattle.bpf_follows.specs.declared.notes.Kind.TheVariants.{Nothing, Unset, Same, Number as NumberKind, Offset, Fixed, Start, Base, Moved, Address, Constant, Counter, Turn}
+use Rattle.bpf_follows.specs.declared.notes.Kind.TheVariants.{Nothing, Unset, Same, Number as NumberKind, Offset, Fixed, Start, Base, Moved, Address, Constant, Counter, Turn, Alone}
 use Rattle.bpf_follows.specs.declared.notes.Place.{Place}
-use Rattle.bpf_follows.specs.Relation.{Kinds, Gives, weaker, kinds_of, EachPair, FitsKind, FitsSlot, FrameFollows, FrameWaits, register_in, is_of_other}
+use Rattle.bpf_follows.specs.Relation.{Kinds, Gives, weaker, kinds_of, EachPair, FitsKind, FitsSlot, FrameFollows, FrameWaits, register_in, is_of_other, is_alone}
 use Rattle.bpf_follows.specs.Extras.{is_same}
-use Rattle.bpf_follows.specs.Matching.{held, handed, kinds_behind, kinds_called, AllPlain, Arrives}
+use Rattle.bpf_follows.specs.Matching.{held, handed, kinds_behind, kinds_beyond, kinds_called, AllPlain, Arrives}
 use Rattle.bpf_follows.proofs.Lists.{bind, mapped, cond_first, same_is_kept, pairs_same}
 use Rattle.bpf_follows.proofs.Slots.{all_read, slot_kept, nothing_there, as_many}
-use Rattle.bpf_follows.proofs.Frames.{fits_moved, slot_given}
+use Rattle.bpf_follows.proofs.Frames.{fits_moved, slot_held, slot_moved}
 use Rattle.bpf_follows.proofs.Between.{Between, Goes, same_depth, top_plain}
 use Rattle.bpf_follows.proofs.Instruction.{Arrived, kind_given, fits_given, number_same}
 
@@ -59,7 +59,7 @@ held_by_call off (Address of by) = refl
 held_by_call off Nothing = refl
 held_by_call off Unset = refl
 held_by_call off Same = refl
-held_by_call off NumberKind = refl
+held_by_call off (NumberKind least most) = refl
 held_by_call off Offset = refl
 held_by_call off (Fixed offset) = refl
 held_by_call off Start = refl
@@ -67,6 +67,7 @@ held_by_call off Base = refl
 held_by_call off (Constant value) = refl
 held_by_call off (Counter head) = refl
 held_by_call off (Turn head) = refl
+held_by_call off Alone = refl
 
 own_held : (off : ℤ) (kind : Kind) → is_of_other (held (CallLocal off) kind) ≡ false
 own_held off (Moved of by) = refl
@@ -74,7 +75,7 @@ own_held off (Address of by) = refl
 own_held off Nothing = refl
 own_held off Unset = refl
 own_held off Same = refl
-own_held off NumberKind = refl
+own_held off (NumberKind least most) = refl
 own_held off Offset = refl
 own_held off (Fixed offset) = refl
 own_held off Start = refl
@@ -82,6 +83,7 @@ own_held off Base = refl
 own_held off (Constant value) = refl
 own_held off (Counter head) = refl
 own_held off (Turn head) = refl
+own_held off Alone = refl
 
 module _ (ends : Order) (notes : List (Option Place)) (turns : ℕ) (passed : ℕ → ℕ) where
   abbrev AllFit : Kinds → Registers → Registers → Type 0
@@ -94,7 +96,7 @@ module _ (ends : Order) (notes : List (Option Place)) (turns : ℕ) (passed : �
   handed_fits old more r Nothing new e f = tt
   handed_fits old more r Unset new e f = fits_moved turns passed old more r r Unset new refl e f
   handed_fits old more r Same new e f = fits_moved turns passed old more r r Same new refl e f
-  handed_fits old more r NumberKind new e f = fits_moved turns passed old more r r NumberKind new refl e f
+  handed_fits old more r (NumberKind least most) new e f = fits_moved turns passed old more r r (NumberKind least most) new refl e f
   handed_fits old more r Offset new e f = fits_moved turns passed old more r r Offset new refl e f
   handed_fits old more r (Fixed offset) new e f = fits_moved turns passed old more r r (Fixed offset) new refl e f
   handed_fits old more r Start new e f = fits_moved turns passed old more r r Start new refl e f
@@ -102,6 +104,7 @@ module _ (ends : Order) (notes : List (Option Place)) (turns : ℕ) (passed : �
   handed_fits old more r (Constant value) new e f = f
   handed_fits old more r (Counter head) new e f = f
   handed_fits old more r (Turn head) new e f = f
+  handed_fits old more r Alone new e f = fits_moved turns passed old more r r Alone new refl e f
 
   called_fit : (kinds : Kinds) (xs ys : Registers) (own : Option Value) → length xs ≡ 11 → length ys ≡ 11 → AllFit kinds xs ys → AllFit (kinds_called kinds) (called xs own) (called ys own)
   called_fit kinds xs ys own hx hy =
@@ -153,14 +156,14 @@ module _ (ends : Order) (notes : List (Option Place)) (turns : ℕ) (passed : �
   held_fits : (off : ℤ) (old more : ℕ → Option Value) (r : ℕ) (kind : Kind) (new : Option Value) → more r ≡ old r → FitsKind turns passed old r kind new → FitsKind turns passed more r (held (CallLocal off) kind) new
   held_fits off old more r kind new e f = subst (λ kind. FitsKind turns passed more r kind new) (sym (held_by_call off kind)) (handed_fits old more r kind new e f)
 
-  behind_call : (off : ℤ) (kinds : Kinds) (xs ys : Registers) → length xs ≡ 11 → length ys ≡ 11 → AllFit kinds xs ys → AllFit (kinds_behind (CallLocal off) kinds) (saved xs) (saved ys)
+  behind_call : (off : ℤ) (kinds : Kinds) (xs ys : Registers) → length xs ≡ 11 → length ys ≡ 11 → AllFit kinds xs ys → AllFit (kinds_behind false (CallLocal off) kinds) (saved xs) (saved ys)
   behind_call off kinds xs ys hx hy =
-      six xs hx (λ xs. AllFit kinds xs ys → AllFit (kinds_behind (CallLocal off) kinds) (saved xs) (saved ys)) (λ a b c d e f rest n.
-      six ys hy (λ ys. AllFit kinds (a ∷ b ∷ c ∷ d ∷ e ∷ f ∷ rest) ys → AllFit (kinds_behind (CallLocal off) kinds) (saved (a ∷ b ∷ c ∷ d ∷ e ∷ f ∷ rest)) (saved ys)) (λ a' b' c' d' e' f' rest' n'.
+      six xs hx (λ xs. AllFit kinds xs ys → AllFit (kinds_behind false (CallLocal off) kinds) (saved xs) (saved ys)) (λ a b c d e f rest n.
+      six ys hy (λ ys. AllFit kinds (a ∷ b ∷ c ∷ d ∷ e ∷ f ∷ rest) ys → AllFit (kinds_behind false (CallLocal off) kinds) (saved (a ∷ b ∷ c ∷ d ∷ e ∷ f ∷ rest)) (saved ys)) (λ a' b' c' d' e' f' rest' n'.
       each a b c d e f rest a' b' c' d' e' f' rest'))
     where
       each : (a b c d e f : Option Value) (rest : Registers) (a' b' c' d' e' f' : Option Value) (rest' : Registers) → AllFit kinds (a ∷ b ∷ c ∷ d ∷ e ∷ f ∷ rest) (a' ∷ b' ∷ c' ∷ d' ∷ e' ∷ f' ∷ rest')
-          → AllFit (kinds_behind (CallLocal off) kinds) (saved (a ∷ b ∷ c ∷ d ∷ e ∷ f ∷ rest)) (saved (a' ∷ b' ∷ c' ∷ d' ∷ e' ∷ f' ∷ rest'))
+          → AllFit (kinds_behind false (CallLocal off) kinds) (saved (a ∷ b ∷ c ∷ d ∷ e ∷ f ∷ rest)) (saved (a' ∷ b' ∷ c' ∷ d' ∷ e' ∷ f' ∷ rest'))
       each a b c d e f rest a' b' c' d' e' f' rest' h zero lt = same_is_kept None
       each a b c d e f rest a' b' c' d' e' f' rest' h (suc zero) lt = same_is_kept None
       each a b c d e f rest a' b' c' d' e' f' rest' h (suc (suc zero)) lt = same_is_kept None
@@ -188,6 +191,9 @@ module _ (ends : Order) (notes : List (Option Place)) (turns : ℕ) (passed : �
   own_weaker r Start Base e = refl
   own_weaker r (Moved of by) Offset e = refl
   own_weaker r (Constant value) (Counter head) e = refl
+  own_weaker r (NumberKind least most) (NumberKind low high) e = refl
+  own_weaker r (NumberKind least most) Same e = refl
+  own_weaker r Same Alone e = refl
   own_weaker r have Same e = refl
   own_weaker r have Unset e = refl
   own_weaker r have want e = absurd (false≢true e)
@@ -197,7 +203,7 @@ module _ (ends : Order) (notes : List (Option Place)) (turns : ℕ) (passed : �
   own_given r have want own (inr (inl e)) = ap is_of_other e ∙ own
   own_given r have want own (inr (inr e)) = own_weaker r have want e
 
-  own_behind : (off : ℤ) (kinds : Kinds) (r : ℕ) → is_of_other (kinds_behind (CallLocal off) kinds r) ≡ false
+  own_behind : (off : ℤ) (kinds : Kinds) (r : ℕ) → is_of_other (kinds_behind false (CallLocal off) kinds r) ≡ false
   own_behind off kinds r = by_cases (nat_lt r 6 || nat_le 11 r)
     where
       by_cases : (b : Bool) → is_of_other (if b then Same else held (CallLocal off) (kinds r)) ≡ false
@@ -205,41 +211,74 @@ module _ (ends : Order) (notes : List (Option Place)) (turns : ℕ) (passed : �
       by_cases false = own_held off (kinds r)
 
   -- the slots of a frame from which a call is made
-  same_behind : (off : ℤ) (kinds : Kinds) (k : ℕ) → kinds_behind (CallLocal off) kinds (11 + k) ≡ Same
+  same_behind : (off : ℤ) (kinds : Kinds) (k : ℕ) → kinds_behind false (CallLocal off) kinds (11 + k) ≡ Same
   same_behind off kinds k = ap (λ c. if c then Same else held (CallLocal off) (kinds (11 + k))) (or_right (nat_lt (11 + k) 6) (nat_le 11 (11 + k)) (le-leb 11 (11 + k) (omega arith)))
 
-  waits : (off : ℤ) (kinds : Kinds) (s t : State) → Between ends notes turns passed kinds s t → AllPlain kinds → Arrives notes turns (s.top.slot + 1) (t.top.slot + 1) (kinds_behind (CallLocal off) kinds) → FrameWaits ends notes turns passed (caller s) (caller t)
+  pick_low : (a b c : Bool) (x y : Kind) → c ≡ false → (if a && (b && c) then x else y) ≡ y
+  pick_low true true c x y e = ap (λ c. if c then x else y) e
+  pick_low true false c x y e = refl
+  pick_low false b c x y e = refl
+
+  -- registers are as they would be
+  beyond_low : (alone : Bool) (off : ℤ) (kinds : Kinds) (r : ℕ) → r < 11 → kinds_behind false (CallLocal off) kinds r ≡ kinds_beyond alone false (CallLocal off) kinds r
+  beyond_low alone off kinds r lt = sym (pick_low true alone (nat_le 11 r) (held (CallLocal off) (kinds r)) (kinds_behind false (CallLocal off) kinds r) (lt-leb 11 r lt))
+
+  -- the slots hold what they held
+  beyond_slot : (off : ℤ) (kinds : Kinds) (k : ℕ) → held (CallLocal off) (kinds (11 + k)) ≡ kinds_beyond true false (CallLocal off) kinds (11 + k)
+  beyond_slot off kinds k = ap (λ c. if c then held (CallLocal off) (kinds (11 + k)) else kinds_behind false (CallLocal off) kinds (11 + k)) (sym (le-leb 11 (11 + k) (omega arith)))
+
+  own_beyond : (alone : Bool) (off : ℤ) (kinds : Kinds) (r : ℕ) → is_of_other (kinds_beyond alone false (CallLocal off) kinds r) ≡ false
+  own_beyond alone off kinds r = by_cases (alone && nat_le 11 r)
+    where
+      by_cases : (b : Bool) → is_of_other (if b then held (CallLocal off) (kinds r) else kinds_behind false (CallLocal off) kinds r) ≡ false
+      by_cases true = own_held off (kinds r)
+      by_cases false = own_behind off kinds r
+
+  slot_beyond : (alone : Bool) (off : ℤ) (kinds : Kinds) (s t : State) (k : ℕ) → k < 64 → Between ends notes turns passed kinds s t → (alone ≡ false → AllPlain kinds)
+      → FitsSlot ends turns passed (register_in (caller s)) s.top.stack t.top.stack k (kinds_beyond alone false (CallLocal off) kinds (11 + k))
+  slot_beyond true off kinds s t k lt h plain =
+      let same = slot_held ends turns passed (CallLocal off) (register_in s.top) (register_in s.top) s.top.stack t.top.stack k (kinds (11 + k)) (λ q lq e. refl) (h.top.slots k lt) in
+      subst (λ kind. FitsSlot ends turns passed (register_in (caller s)) s.top.stack t.top.stack k kind) (beyond_slot off kinds k)
+      (slot_moved ends turns passed (register_in s.top) (register_in (caller s)) s.top.stack t.top.stack k (held (CallLocal off) (kinds (11 + k))) (own_held off (kinds (11 + k))) same)
+  slot_beyond false off kinds s t k lt h plain =
+      subst (λ kind. FitsSlot ends turns passed (register_in (caller s)) s.top.stack t.top.stack k kind) (sym (same_behind off kinds k)) (slot_kept s.top.stack t.top.stack k (top_plain ends notes turns passed kinds s t h (plain refl)))
+
+  waits : (off : ℤ) (kinds : Kinds) (s t : State) → Between ends notes turns passed kinds s t → (is_alone notes ≡ false → AllPlain kinds) → Arrives notes turns (s.top.slot + 1) (t.top.slot + 1) (kinds_beyond (is_alone notes) false (CallLocal off) kinds)
+      → FrameWaits ends notes turns passed (caller s) (caller t)
   waits off kinds s t h plain a = record {
     follows = record {
       place = a.place;
       noted = a.noted;
       slot_is = a.slot_is;
-      fits = fits_given ends notes turns passed (kinds_behind (CallLocal off) kinds) (kinds_of a.place) (caller s) (caller t) a.gives
+      fits = fits_given ends notes turns passed (kinds_beyond (is_alone notes) false (CallLocal off) kinds) (kinds_of a.place) (caller s) (caller t) a.gives
           (record {
             eleven_old = saved_eleven s.top.registers h.top.eleven_old;
             eleven = saved_eleven t.top.registers h.top.eleven;
-            registers = behind_call off kinds s.top.registers t.top.registers h.top.eleven_old h.top.eleven h.top.registers;
+            registers = λ r lt. subst (λ kind. FitsKind turns passed (register_in (caller s)) r kind (register_in (caller t) r)) (beyond_low (is_alone notes) off kinds r lt) (behind_call off kinds s.top.registers t.top.registers h.top.eleven_old h.top.eleven h.top.registers r lt);
             long = h.top.long;
             stack = h.top.stack;
-            slots = λ k lt. subst (λ kind. FitsSlot ends turns passed (register_in (caller s)) s.top.stack t.top.stack k kind) (sym (same_behind off kinds k)) (slot_kept s.top.stack t.top.stack k (top_plain ends notes turns passed kinds s t h plain));
+            slots = λ k lt. slot_beyond (is_alone notes) off kinds s t k lt h plain;
           });
     };
     result = low;
-    own = λ r lt. own_given r (kinds_behind (CallLocal off) kinds r) (kinds_of a.place r) (own_behind off kinds r) (a.gives r (omega arith));
-    kept = top_plain ends notes turns passed kinds s t h plain;
-    slots = λ k lt. subst (λ have. Gives turns (11 + k) have (kinds_of a.place (11 + k))) (same_behind off kinds k) (a.gives (11 + k) (omega arith));
+    own = λ r lt. own_given r (kinds_beyond (is_alone notes) false (CallLocal off) kinds r) (kinds_of a.place r) (own_beyond (is_alone notes) off kinds r) (a.gives r lt);
+    kept = λ e. top_plain ends notes turns passed kinds s t h (plain e);
+    slots = λ e k lt. subst (λ have. Gives turns (11 + k) have (kinds_of a.place (11 + k))) (ap (λ alone. kinds_beyond alone false (CallLocal off) kinds (11 + k)) e ∙ same_behind off kinds k) (a.gives (11 + k) (omega arith));
   }
     where
+      gives_low : (r : ℕ) → r < 11 → Gives turns r (kinds_behind false (CallLocal off) kinds r) (kinds_of a.place r)
+      gives_low r lt = subst (λ have. Gives turns r have (kinds_of a.place r)) (sym (beyond_low (is_alone notes) off kinds r lt)) (a.gives r (omega arith))
+
       low : (r : ℕ) → r < 6 → Gives turns r Same (kinds_of a.place r)
-      low zero lt = a.gives 0 (omega arith)
-      low (suc zero) lt = a.gives 1 (omega arith)
-      low (suc (suc zero)) lt = a.gives 2 (omega arith)
-      low (suc (suc (suc zero))) lt = a.gives 3 (omega arith)
-      low (suc (suc (suc (suc zero)))) lt = a.gives 4 (omega arith)
-      low (suc (suc (suc (suc (suc zero))))) lt = a.gives 5 (omega arith)
+      low zero lt = gives_low 0 (omega arith)
+      low (suc zero) lt = gives_low 1 (omega arith)
+      low (suc (suc zero)) lt = gives_low 2 (omega arith)
+      low (suc (suc (suc zero))) lt = gives_low 3 (omega arith)
+      low (suc (suc (suc (suc zero)))) lt = gives_low 4 (omega arith)
+      low (suc (suc (suc (suc (suc zero))))) lt = gives_low 5 (omega arith)
       low (suc (suc (suc (suc (suc (suc r)))))) lt = absurd (omega arith)
 
-  pub call_kept : (off z : ℤ) (kinds : Kinds) (s t u : State) (to new_to : ℕ) → Between ends notes turns passed kinds s t → AllPlain kinds → Arrives notes turns (s.top.slot + 1) (t.top.slot + 1) (kinds_behind (CallLocal off) kinds)
+  pub call_kept : (off z : ℤ) (kinds : Kinds) (s t u : State) (to new_to : ℕ) → Between ends notes turns passed kinds s t → (is_alone notes ≡ false → AllPlain kinds) → Arrives notes turns (s.top.slot + 1) (t.top.slot + 1) (kinds_beyond (is_alone notes) false (CallLocal off) kinds)
       → target s.top.slot off ≡ Some to → target t.top.slot z ≡ Some new_to → call s off ≡ Some u → Goes ends notes turns passed (kinds_called kinds) to new_to u (call t z)
   call_kept off z kinds s t u to new_to h plain back et en e =
       let same : depth t ≡ depth s = same_depth ends notes turns passed kinds s t h in
@@ -280,10 +319,10 @@ module _ (ends : Order) (notes : List (Option Place)) (turns : ℕ) (passed : �
         fits = record {
           eleven_old = left_eleven (Some (Number v)) c.registers f.fits.eleven_old;
           eleven = left_eleven (Some (Number v)) d.registers f.fits.eleven;
-          registers = kept_fit (kinds_of f.place) (Some (Number v)) c.registers d.registers f.fits.eleven_old f.fits.eleven w.result w.own f.fits.registers;
+          registers = kept_fit (kinds_of f.place) (Some (Number v)) c.registers d.registers f.fits.eleven_old f.fits.eleven w.result (λ r lt. w.own r (omega arith)) f.fits.registers;
           long = f.fits.long;
           stack = f.fits.stack;
-          slots = λ k lt. slot_given ends turns passed _ c.stack d.stack k (kinds_of f.place (11 + k)) (w.slots k lt) (slot_kept c.stack d.stack k w.kept);
+          slots = λ k lt. slot_moved ends turns passed (register_in c) _ c.stack d.stack k (kinds_of f.place (11 + k)) (w.own (11 + k) (omega arith)) (f.fits.slots k lt);
         };
       }
 

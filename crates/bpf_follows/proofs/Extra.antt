@@ -1,12 +1,13 @@
 -- Extra instructions of the new program: it does them alone, and what they make of registers is as is said.
 use Rattle.std.proofs.Common.{◌≡◌, ℕ, zero, suc, ◌+◌, ◌-◌, ◌<◌, ◌≤◌, ◌⊎◌, inl, inr, ◌==◌, ◌%◌, ◌^◌, Bool, true, false, cond, List, [], ◌∷◌, Option, Some, None, length, get_or, set, refl, sym, ap, ap₂, ◌∙◌, subst, arith}
-use Rattle.std.specs.Prelude.{◌&&◌, nat_le, int_le, ℤ, pos, negsuc, ◌+ℤ◌, ◌-ℤ◌, ◌≤ℤ◌, option_and_then, option_map, if◌then◌else◌}
-use Rattle.std.specs.Option.{option_map_or}
+use Rattle.std.specs.Prelude.{◌&&◌, nat_le, int_le, ℤ, pos, negsuc, ◌+ℤ◌, ◌-ℤ◌, ◌≤ℤ◌, nat_lt, option_and_then, option_map, if◌then◌else◌}
+use Rattle.std.specs.Int.{int_min, int_max}
+use Rattle.std.specs.Option.{option_map_or, option_or}
 use Rattle.std.specs.Ordering.{int_eq}
 use Rattle.std.proofs.lemmas.Option.{none-some, same_Some, option_and_then_some}
-use Rattle.std.proofs.lemmas.Bool.{leb-true, cases_Bool, eqb-true, eqb-false, ne_eqb, le-ltb, false≢true}
+use Rattle.std.proofs.lemmas.Bool.{leb-true, ltb-true, cases_Bool, eqb-true, eqb-false, ne_eqb, le-ltb, false≢true}
 use Rattle.std.proofs.lemmas.Bool.Decides.{Decides-int_eq}
-use Rattle.std.proofs.lemmas.Int.{ints}
+use Rattle.std.proofs.lemmas.Int.{ints, clamps}
 use Rattle.std.proofs.lemmas.List.{length-set, get_or-set_same, get_or-set_other}
 use Rattle.bpf_insn.specs.Arithmetic.{modulo, alu, extended}
 use Rattle.bpf_insn.specs.Instruction.{Instructions, register_number, insn_at}
@@ -30,13 +31,13 @@ use Rattle.bpf_semantics.specs.declared.value.Value.TheVariants.{Number, Pointer
 use Rattle.bpf_semantics.specs.declared.value.Region.{Region}
 use Rattle.bpf_semantics.specs.declared.value.Region.TheVariants.{Context}
 use Rattle.bpf_follows.specs.declared.notes.Kind.{Kind}
-use Rattle.bpf_follows.specs.declared.notes.Kind.TheVariants.{Nothing, Unset, Same, Number as NumberKind, Offset, Fixed, Start, Base, Moved, Address, Constant, Counter, Turn}
+use Rattle.bpf_follows.specs.declared.notes.Kind.TheVariants.{Nothing, Unset, Same, Number as NumberKind, Offset, Fixed, Start, Base, Moved, Address, Constant, Counter, Turn, Alone}
 use Rattle.bpf_follows.specs.declared.notes.Place.{Place}
 use Rattle.bpf_follows.specs.declared.site.Span.{Span}
 use Rattle.bpf_follows.specs.declared.site.Range.{Range}
 use Rattle.bpf_follows.specs.declared.site.Front.{Front}
-use Rattle.bpf_follows.specs.Relation.{kind_in, IsKept, HasOffset, as_number, as_pointer, CountsDown, FitsKind, FrameFits, FrameWaits, FitsSlot, register_in, settled, known}
-use Rattle.bpf_follows.specs.Extras.{constant_kind, kind_of, offset_in, copied, is_taken, shifted, added, is_base, address, put_kind, put_by, made, range_of, offset_range, fixed_in, added_to, added_range, range_in, is_most, is_least, passes}
+use Rattle.bpf_follows.specs.Relation.{kind_in, IsKept, HasOffset, as_number, as_pointer, CountsDown, IsOneNumber, FitsKind, FrameFits, FrameWaits, FitsSlot, register_in, settled, known}
+use Rattle.bpf_follows.specs.Extras.{constant_kind, kind_of, offset_in, copied, is_taken, shifted, added, is_base, address, put_kind, put_by, made, range_of, offset_range, is_near, clipped, bounds_range, fixed_in, added_to, added_range, range_in, is_most, is_least, passes}
 use Rattle.bpf_follows.proofs.Lists.{bind, unmapped, cond_first, pairs_weaker, Cells}
 use Rattle.bpf_follows.proofs.Offsets.{moved_number, moved_back, pointer_there}
 use Rattle.bpf_follows.proofs.Onward.{room, placed, LieIn}
@@ -91,6 +92,13 @@ pub base_has : (turns : ℕ) (passed : ℕ → ℕ) (old : ℕ → Option Value)
 base_has turns passed old r Start new e f = f.1
 base_has turns passed old r Base new e f = f
 base_has turns passed old r kind new e f = absurd (false≢true e)
+
+abbrev number_value : Value → ℕ
+number_value (Number n) = n
+number_value (Pointer region off) = 0
+
+number_same : {a b : ℕ} → Number a ≡ Number b → a ≡ b
+number_same e = ap number_value e
 
 one_less : (left : ℕ) → 0 < left → left < 2 ^ 64 → alu W64 Add left (extended (negsuc 0)) ≡ left - 1
 one_less left more fits = omega arith
@@ -416,9 +424,62 @@ module _ (ends : Order) (notes : List (Option Place)) (turns : ℕ) (passed : �
       let new_is : register t r ≡ Some (Number l.number) = kept (Number l.number) (ap (register_in s.top) (sym a.same) ∙ l.is) in
       ranges front.length span.0 (pos 0) offset (wrapped (offset +ℤ pos l.number)) range (register t r) span.2 l.lies (new_is ∙ ap (λ n. Some (Number n)) (moved_back offset l.number l.fits)))
 
+  bounds_in : (least most : ℕ) (range : Range) (old new : Option Value) → IsOneNumber least most old new → bounds_range least most ≡ Some range → IsIn range new
+  bounds_in least most range old new f e =
+      let c = cond_first (nat_lt most (2 ^ 32)) (Some (record { least = pos least; most = pos most })) range e in
+      let small = ltb-true most (2 ^ 32) c.0 in
+      let low = f.low in
+      let high = f.high in
+      let same : f.number ≡ f.number % addresses = omega arith in
+      subst (λ range. IsIn range new) (same_Some _ _ c.1) (record { at = pos f.number; is = f.new_is ∙ ap (λ n. Some (Number n)) same; low = omega (arith, ints); high = omega (arith, ints) })
+
+  -- of the numbers of a range those that lie between the bounds
+  clipped_in : (least most : ℕ) (range : Range) (old new : Option Value) → IsIn range new → IsOneNumber least most old new → IsIn (clipped least most range) new
+  clipped_in least most range old new h f = by_cases (nat_lt most (2 ^ 32)) (is_near range) refl refl
+    where
+      same : (z : ℤ) → h.at ≡ z → modulo z (2 ^ 64) ≡ f.number
+      same z ez = ap (λ z. modulo z (2 ^ 64)) (sym ez) ∙ number_same (same_Some _ _ (sym h.is ∙ f.new_is))
+
+      by_sign : (z : ℤ) → h.at ≡ z → most < 2 ^ 32 → is_near range ≡ true → IsIn (record { least = int_max (pos least) range.least; most = int_min (pos most) range.most }) new
+      by_sign (pos n) ez small near =
+          let k = both_true (int_le (negsuc (2 ^ 48)) range.least) (int_le range.most (pos (2 ^ 48))) near in
+          let far = le_of range.most (pos (2 ^ 48)) k.1 in
+          let low = f.low in
+          let high = f.high in
+          let low_is = subst (λ z. range.least ≤ℤ z) ez h.low in
+          let high_is = subst (λ z. z ≤ℤ range.most) ez h.high in
+          let below : n ≤ 2 ^ 48 = omega (arith, ints) in
+          let same_is = same (pos n) ez in
+          let is : n ≡ f.number = omega arith in
+          record { at = pos n; is = subst (λ z. new ≡ Some (as_number z)) ez h.is; low = omega (arith, ints, clamps); high = omega (arith, ints, clamps) }
+      by_sign (negsuc n) ez small near =
+          let k = both_true (int_le (negsuc (2 ^ 48)) range.least) (int_le range.most (pos (2 ^ 48))) near in
+          let far = le_of (negsuc (2 ^ 48)) range.least k.0 in
+          let high = f.high in
+          let low_is = subst (λ z. range.least ≤ℤ z) ez h.low in
+          let below : n ≤ 2 ^ 48 = omega (arith, ints) in
+          let same_is = same (negsuc n) ez in
+          absurd (omega arith)
+
+      by_cases : (a b : Bool) → nat_lt most (2 ^ 32) ≡ a → is_near range ≡ b → IsIn (if a && b then record { least = int_max (pos least) range.least; most = int_min (pos most) range.most } else range) new
+      by_cases true true ea eb = by_sign h.at refl (ltb-true most (2 ^ 32) ea) eb
+      by_cases true false ea eb = h
+      by_cases false b ea eb = h
+
+  number_in_range : (front : Front) (kinds : List Kind) (s t : State) (r : Reg) (least most : ℕ) (range : Range) → InFront passed turns front s → Between ends notes turns passed (kind_in kinds) s t → IsOneNumber least most (register s r) (register t r)
+      → range_in front kinds r (NumberKind least most) ≡ Some range → IsIn range (register t r)
+  number_in_range front kinds s t r least most range facts b f e = by_added (added_range front kinds r) refl e
+    where
+      by_added : (o : Option Range) → added_range front kinds r ≡ o → option_or (option_map (clipped least most) o) (bounds_range least most) ≡ Some range → IsIn range (register t r)
+      by_added (Some found) eo e =
+          subst (λ range. IsIn range (register t r)) (same_Some _ _ e)
+          (clipped_in least most found (register s r) (register t r) (added_in_range front kinds s t r found facts b (λ v ev. f.new_is ∙ (sym f.old_is ∙ ev)) eo) f)
+      by_added None eo e = bounds_in least most range (register s r) (register t r) f e
+
   in_range : (front : Front) (kinds : List Kind) (s t : State) (r : Reg) (kind : Kind) (range : Range) → InFront passed turns front s → Between ends notes turns passed (kind_in kinds) s t → FitsKind turns passed (register_in s.top) (register_number r) kind (register t r)
       → range_in front kinds r kind ≡ Some range → IsIn range (register t r)
   in_range front kinds s t r Same range facts b f e = added_in_range front kinds s t r range facts b f e
+  in_range front kinds s t r (NumberKind least most) range facts b f e = number_in_range front kinds s t r least most range facts b f e
   in_range front kinds s t r Offset range facts b f e = offset_in_range front s t r Offset range facts f e
   in_range front kinds s t r (Fixed offset) range facts b f e = offset_in_range front s t r (Fixed offset) range facts f e
   in_range front kinds s t r (Moved of by) range facts b f e = offset_in_range front s t r (Moved of by) range facts f e
@@ -469,7 +530,7 @@ kind_more : (turns : ℕ) (passed more : ℕ → ℕ) (old : ℕ → Option Valu
 kind_more turns passed more old r Nothing new le f = tt
 kind_more turns passed more old r Unset new le f = f
 kind_more turns passed more old r Same new le f = f
-kind_more turns passed more old r NumberKind new le f = f
+kind_more turns passed more old r (NumberKind least most) new le f = f
 kind_more turns passed more old r Offset new le f = f
 kind_more turns passed more old r (Fixed offset) new le f = f
 kind_more turns passed more old r Start new le f = f
@@ -479,12 +540,13 @@ kind_more turns passed more old r (Address of by) new le f = f
 kind_more turns passed more old r (Constant value) new le f = f
 kind_more turns passed more old r (Counter head) new le f = let grows = le head in (f.0, f.1, f.2, omega arith)
 kind_more turns passed more old r (Turn head) new le f = let grows = le head in (f.0, f.1, f.2, omega arith)
+kind_more turns passed more old r Alone new le f = f
 
 slot_more : (ends : Order) (turns : ℕ) (passed more : ℕ → ℕ) (registers : ℕ → Option Value) (xs ys : Cells) (k : ℕ) (kind : Kind) → ((h : ℕ) → passed h ≤ more h) → FitsSlot ends turns passed registers xs ys k kind → FitsSlot ends turns more registers xs ys k kind
 slot_more ends turns passed more registers xs ys k Nothing le f = f
 slot_more ends turns passed more registers xs ys k Unset le f = f
 slot_more ends turns passed more registers xs ys k Same le f = f
-slot_more ends turns passed more registers xs ys k NumberKind le f = f
+slot_more ends turns passed more registers xs ys k (NumberKind least most) le f = f
 slot_more ends turns passed more registers xs ys k Offset le f = f
 slot_more ends turns passed more registers xs ys k (Fixed offset) le f = f
 slot_more ends turns passed more registers xs ys k Start le f = f
@@ -494,6 +556,7 @@ slot_more ends turns passed more registers xs ys k (Address of by) le f = record
 slot_more ends turns passed more registers xs ys k (Constant value) le f = record { unset = f.unset; value = f.value; holds = f.holds; fits = kind_more turns passed more registers (11 + k) (Constant value) (Some f.value) le f.fits }
 slot_more ends turns passed more registers xs ys k (Counter head) le f = record { unset = f.unset; value = f.value; holds = f.holds; fits = kind_more turns passed more registers (11 + k) (Counter head) (Some f.value) le f.fits }
 slot_more ends turns passed more registers xs ys k (Turn head) le f = record { unset = f.unset; value = f.value; holds = f.holds; fits = kind_more turns passed more registers (11 + k) (Turn head) (Some f.value) le f.fits }
+slot_more ends turns passed more registers xs ys k Alone le f = f
 
 fits_more : (ends : Order) (turns : ℕ) (passed more : ℕ → ℕ) (old new : StackFrame) (kinds : ℕ → Kind) → ((h : ℕ) → passed h ≤ more h) → FrameFits ends turns passed kinds old new → FrameFits ends turns more kinds old new
 fits_more ends turns passed more old new kinds le f = record { eleven_old = f.eleven_old; eleven = f.eleven; registers = λ r lt. kind_more turns passed more (register_in old) r (kinds r) _ le (f.registers r lt); long = f.long; stack = f.stack; slots = λ k lt. slot_more ends turns passed more (register_in old) old.stack new.stack k (kinds (11 + k)) le (f.slots k lt) }
@@ -526,7 +589,7 @@ kind_settled turns passed slot old r (Turn head) new f = by_cases (cases_Bool (h
 kind_settled turns passed slot old r Nothing new f = tt
 kind_settled turns passed slot old r Unset new f = f
 kind_settled turns passed slot old r Same new f = f
-kind_settled turns passed slot old r NumberKind new f = f
+kind_settled turns passed slot old r (NumberKind least most) new f = f
 kind_settled turns passed slot old r Offset new f = f
 kind_settled turns passed slot old r (Fixed offset) new f = f
 kind_settled turns passed slot old r Start new f = f
@@ -535,6 +598,7 @@ kind_settled turns passed slot old r (Moved of by) new f = f
 kind_settled turns passed slot old r (Address of by) new f = f
 kind_settled turns passed slot old r (Constant value) new f = f
 kind_settled turns passed slot old r (Counter head) new f = (f.0, f.1, f.2, omega arith)
+kind_settled turns passed slot old r Alone new f = f
 
 slot_settled : (ends : Order) (turns : ℕ) (passed : ℕ → ℕ) (slot : ℕ) (registers : ℕ → Option Value) (xs ys : Cells) (k : ℕ) (kind : Kind) → FitsSlot ends turns passed registers xs ys k kind → FitsSlot ends turns (counted passed slot) registers xs ys k (settled slot kind)
 slot_settled ends turns passed slot registers xs ys k (Turn head) f = by_cases (head == slot) (kind_settled turns passed slot registers (11 + k) (Turn head) (Some f.value) f.fits)
@@ -545,7 +609,7 @@ slot_settled ends turns passed slot registers xs ys k (Turn head) f = by_cases (
 slot_settled ends turns passed slot registers xs ys k Nothing f = f
 slot_settled ends turns passed slot registers xs ys k Unset f = f
 slot_settled ends turns passed slot registers xs ys k Same f = f
-slot_settled ends turns passed slot registers xs ys k NumberKind f = f
+slot_settled ends turns passed slot registers xs ys k (NumberKind least most) f = f
 slot_settled ends turns passed slot registers xs ys k Offset f = f
 slot_settled ends turns passed slot registers xs ys k (Fixed offset) f = f
 slot_settled ends turns passed slot registers xs ys k Start f = f
@@ -554,6 +618,7 @@ slot_settled ends turns passed slot registers xs ys k (Moved of by) f = record {
 slot_settled ends turns passed slot registers xs ys k (Address of by) f = record { unset = f.unset; value = f.value; holds = f.holds; fits = kind_settled turns passed slot registers (11 + k) (Address of by) (Some f.value) f.fits }
 slot_settled ends turns passed slot registers xs ys k (Constant value) f = record { unset = f.unset; value = f.value; holds = f.holds; fits = kind_settled turns passed slot registers (11 + k) (Constant value) (Some f.value) f.fits }
 slot_settled ends turns passed slot registers xs ys k (Counter head) f = record { unset = f.unset; value = f.value; holds = f.holds; fits = kind_settled turns passed slot registers (11 + k) (Counter head) (Some f.value) f.fits }
+slot_settled ends turns passed slot registers xs ys k Alone f = f
 
 pub settles : (ends : Order) (notes : List (Option Place)) (turns : ℕ) (passed : ℕ → ℕ) (slot : ℕ) (kinds : List Kind) (s t : State) → Between ends notes turns passed (kind_in kinds) s t → Between ends notes turns (counted passed slot) (known slot kinds) s t
 settles ends notes turns passed slot kinds s t b =

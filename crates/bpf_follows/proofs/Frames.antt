@@ -1,7 +1,7 @@
 -- A frame of both machines: what is said of its registers and slots behind an instruction.
 use Rattle.std.proofs.Common.{◌≡◌, ℕ, ◌+◌, ◌<◌, inl, inr, ◌==◌, Bool, true, false, Option, Some, None, length, get_or, set, refl, sym, ◌∙◌, subst, arith}
 use Rattle.std.specs.Prelude.{pos, if◌then◌else◌, nat_le, ◌||◌}
-use Rattle.std.proofs.lemmas.Bool.{eqb-true, eqb-false, false≢true, and_right}
+use Rattle.std.proofs.lemmas.Bool.{eqb-true, eqb-false, false≢true, and_right, ltb-true}
 use Rattle.std.proofs.lemmas.List.{length-set, get_or-set_same, get_or-set_other}
 use Rattle.bpf_insn.specs.Limits.{frame_bytes}
 use Rattle.bpf_insn.specs.Instruction.{register_number}
@@ -11,7 +11,7 @@ use Rattle.bpf_semantics.specs.State.{StackFrame, put}
 use Rattle.bpf_semantics.specs.Memory.{with_stack_in}
 use Rattle.bpf_semantics.specs.declared.value.Value.{Value}
 use Rattle.bpf_follows.specs.declared.notes.Kind.{Kind}
-use Rattle.bpf_follows.specs.declared.notes.Kind.TheVariants.{Nothing, Unset, Same, Number as NumberKind, Offset, Fixed, Start, Base, Moved, Address, Constant, Counter, Turn}
+use Rattle.bpf_follows.specs.declared.notes.Kind.TheVariants.{Nothing, Unset, Same, Number as NumberKind, Offset, Fixed, Start, Base, Moved, Address, Constant, Counter, Turn, Alone}
 use Rattle.bpf_follows.specs.Relation.{Kinds, Gives, weaker, is_free, IsRead, EachPair, HasOffset, as_number, as_pointer, FitsKind, SlotKept, FitsSlot, FrameFits, register_in, is_of_other}
 use Rattle.bpf_follows.specs.Matching.{is_call, is_changed, held, kinds_after}
 use Rattle.bpf_follows.proofs.Lists.{Cells}
@@ -27,7 +27,7 @@ pub fits_moved : (turns : ℕ) (passed : ℕ → ℕ) (old more : ℕ → Option
 fits_moved turns passed old more q r Nothing new own e f = tt
 fits_moved turns passed old more q r Unset new own e f = e ∙ f
 fits_moved turns passed old more q r Same new own e f = λ v ev. f v (sym e ∙ ev)
-fits_moved turns passed old more q r NumberKind new own e f = λ v ev. f v (sym e ∙ ev)
+fits_moved turns passed old more q r (NumberKind least most) new own e f = record { number = f.number; low = f.low; high = f.high; old_is = e ∙ f.old_is; new_is = f.new_is }
 fits_moved turns passed old more q r Offset new own e f = subst (λ o. HasOffset (pos 0) as_number o new) (sym e) f
 fits_moved turns passed old more q r (Fixed offset) new own e f = (f.0, e ∙ f.1, f.2)
 fits_moved turns passed old more q r Start new own e f = (e ∙ f.0, f.1)
@@ -37,6 +37,7 @@ fits_moved turns passed old more q r (Address of by) new own e f = false_true ow
 fits_moved turns passed old more q r (Constant value) new own e f = f
 fits_moved turns passed old more q r (Counter head) new own e f = f
 fits_moved turns passed old more q r (Turn head) new own e f = f
+fits_moved turns passed old more q r Alone new own e f = λ v ev. f v (sym e ∙ ev)
 
 or_false : (a b : Bool) → (a || b) ≡ false → b ≡ false
 or_false true b e = false_true e
@@ -58,7 +59,7 @@ fits_held turns passed i old more r (Address of by) new kept same f = by_cases (
 fits_held turns passed i old more r Nothing new kept same f = tt
 fits_held turns passed i old more r Unset new kept same f = fits_moved turns passed old more r r Unset new refl same f
 fits_held turns passed i old more r Same new kept same f = fits_moved turns passed old more r r Same new refl same f
-fits_held turns passed i old more r NumberKind new kept same f = fits_moved turns passed old more r r NumberKind new refl same f
+fits_held turns passed i old more r (NumberKind least most) new kept same f = fits_moved turns passed old more r r (NumberKind least most) new refl same f
 fits_held turns passed i old more r Offset new kept same f = fits_moved turns passed old more r r Offset new refl same f
 fits_held turns passed i old more r (Fixed offset) new kept same f = fits_moved turns passed old more r r (Fixed offset) new refl same f
 fits_held turns passed i old more r Start new kept same f = fits_moved turns passed old more r r Start new refl same f
@@ -66,6 +67,7 @@ fits_held turns passed i old more r Base new kept same f = f
 fits_held turns passed i old more r (Constant value) new kept same f = f
 fits_held turns passed i old more r (Counter head) new kept same f = f
 fits_held turns passed i old more r (Turn head) new kept same f = f
+fits_held turns passed i old more r Alone new kept same f = fits_moved turns passed old more r r Alone new refl same f
 
 -- registers behind an instruction: what it changes is of a kind, the others are as they were
 pub fits_behind : (turns : ℕ) (passed : ℕ → ℕ) (i : Insn) (kind : Kind) (kinds : Kinds) (old more : ℕ → Option Value) (new after : ℕ → Option Value)
@@ -95,7 +97,7 @@ slot_held ends turns passed i old more xs ys k (Address of by) kept f = by_cases
 slot_held ends turns passed i old more xs ys k Nothing kept f = tt
 slot_held ends turns passed i old more xs ys k Unset kept f = f
 slot_held ends turns passed i old more xs ys k Same kept f = f
-slot_held ends turns passed i old more xs ys k NumberKind kept f = f
+slot_held ends turns passed i old more xs ys k (NumberKind least most) kept f = f
 slot_held ends turns passed i old more xs ys k Offset kept f = f
 slot_held ends turns passed i old more xs ys k (Fixed offset) kept f = f
 slot_held ends turns passed i old more xs ys k Start kept f = f
@@ -103,6 +105,7 @@ slot_held ends turns passed i old more xs ys k Base kept f = record { unset = f.
 slot_held ends turns passed i old more xs ys k (Constant value) kept f = record { unset = f.unset; value = f.value; holds = f.holds; fits = f.fits }
 slot_held ends turns passed i old more xs ys k (Counter head) kept f = record { unset = f.unset; value = f.value; holds = f.holds; fits = f.fits }
 slot_held ends turns passed i old more xs ys k (Turn head) kept f = record { unset = f.unset; value = f.value; holds = f.holds; fits = f.fits }
+slot_held ends turns passed i old more xs ys k Alone kept f = f
 
 -- what isn't said by registers is said whatever they are
 pub slot_moved : (ends : Order) (turns : ℕ) (passed : ℕ → ℕ) (old more : ℕ → Option Value) (xs ys : Cells) (k : ℕ) (kind : Kind) → is_of_other kind ≡ false → FitsSlot ends turns passed old xs ys k kind → FitsSlot ends turns passed more xs ys k kind
@@ -111,7 +114,7 @@ slot_moved ends turns passed old more xs ys k (Address of by) own f = false_true
 slot_moved ends turns passed old more xs ys k Nothing own f = tt
 slot_moved ends turns passed old more xs ys k Unset own f = f
 slot_moved ends turns passed old more xs ys k Same own f = f
-slot_moved ends turns passed old more xs ys k NumberKind own f = f
+slot_moved ends turns passed old more xs ys k (NumberKind least most) own f = f
 slot_moved ends turns passed old more xs ys k Offset own f = f
 slot_moved ends turns passed old more xs ys k (Fixed offset) own f = f
 slot_moved ends turns passed old more xs ys k Start own f = f
@@ -119,6 +122,7 @@ slot_moved ends turns passed old more xs ys k Base own f = record { unset = f.un
 slot_moved ends turns passed old more xs ys k (Constant value) own f = record { unset = f.unset; value = f.value; holds = f.holds; fits = f.fits }
 slot_moved ends turns passed old more xs ys k (Counter head) own f = record { unset = f.unset; value = f.value; holds = f.holds; fits = f.fits }
 slot_moved ends turns passed old more xs ys k (Turn head) own f = record { unset = f.unset; value = f.value; holds = f.holds; fits = f.fits }
+slot_moved ends turns passed old more xs ys k Alone own f = f
 
 -- of the slots that the instruction writes it is said already
 abbrev pub SlotsAre : Insn → Kind → Kinds → Type 0
@@ -147,6 +151,7 @@ slot_given ends turns passed registers xs ys k want (inr (inr e)) f = absurd (no
     none_weaker : (want : Kind) → weaker turns (11 + k) Same want ≡ true → ⊥
     none_weaker Same e = false≢true (sym (and_right (nat_le 11 (11 + k)) (is_free Same) refl) ∙ e)
     none_weaker Unset e = false≢true (sym (and_right (nat_le 11 (11 + k)) (is_free Same) refl) ∙ e)
+    none_weaker Alone e = let low = ltb-true (11 + k) 11 e in absurd (omega arith)
     none_weaker want e = false≢true e
 
 -- ---- a frame

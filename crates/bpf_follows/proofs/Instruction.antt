@@ -5,7 +5,7 @@ use Rattle.std.specs.Ordering.{int_eq}
 use Rattle.std.specs.Option.{option_map_or}
 use Rattle.std.specs.List.{AllByRecursion}
 use Rattle.std.proofs.lemmas.Option.{none-some, same_Some, option_and_then_some}
-use Rattle.std.proofs.lemmas.Bool.{false≢true, eqb-true, leb-true, cases_Bool, or_right}
+use Rattle.std.proofs.lemmas.Bool.{false≢true, eqb-true, leb-true, ltb-true, cases_Bool}
 use Rattle.std.proofs.lemmas.Bool.Decides.{Decides-int_eq}
 use Rattle.std.proofs.lemmas.Int.{ints}
 use Rattle.bpf_insn.specs.Arithmetic.{alu, extended, sign_extend, swapped}
@@ -26,7 +26,7 @@ use Rattle.bpf_insn.specs.declared.instruction.AtomicOp.{AtomicOp}
 use Rattle.bpf_insn.specs.declared.instruction.AtomicOp.TheVariants.{Modify as Changes, Xchg, CmpXchg}
 use Rattle.bpf_insn.specs.declared.instruction.Insn.{Insn}
 use Rattle.bpf_insn.specs.declared.instruction.Insn.TheVariants.{Alu, Neg, MovSx, End, LoadImm64, Load, LoadSx, Store, StoreImm, Atomic, Ja, JaLong, JumpIf, CallLocal, Exit}
-use Rattle.bpf_semantics.specs.State.{Cell, StackFrame, State, depth, register, number_in, number_of_register, put, at_slot}
+use Rattle.bpf_semantics.specs.State.{Cell, StackFrame, State, IsState, depth, register, number_in, number_of_register, put, at_slot}
 use Rattle.bpf_semantics.specs.Memory.Location.{InFrame}
 use Rattle.bpf_semantics.specs.Memory.{Location, location_of, is_within, number_at, stack_of, part_after, with_parts, store_number, store_pointer}
 use Rattle.bpf_semantics.specs.Step.{does, next, operand, alu_result, test_of_values, load, load_extended, store, atomic_result, fetched, jump}
@@ -34,17 +34,19 @@ use Rattle.bpf_semantics.specs.declared.value.Value.{Value}
 use Rattle.bpf_semantics.specs.declared.value.Value.TheVariants.{Number, Pointer}
 use Rattle.bpf_semantics.specs.declared.value.Region.{Region}
 use Rattle.bpf_follows.specs.declared.notes.Kind.{Kind}
-use Rattle.bpf_follows.specs.declared.notes.Kind.TheVariants.{Unset, Same, Offset, Fixed, Start, Base, Moved, Constant, Counter}
+use Rattle.bpf_follows.specs.declared.notes.Kind.TheVariants.{Unset, Same, Number as NumberKind, Offset, Fixed, Start, Base, Moved, Constant, Counter, Alone}
 use Rattle.bpf_follows.specs.declared.notes.Place.{Place}
-use Rattle.bpf_follows.specs.Relation.{Kinds, places, Gives, weaker, is_free, kinds_of, place_at, IsKept, HasOffset, as_number, register_in, is_of_other, IsRead, EachPair, FitsKind, FitsSlot, FrameFits, Follows}
+use Rattle.bpf_follows.specs.Relation.{Kinds, places, Gives, weaker, is_free, kinds_of, place_at, IsKept, HasOffset, as_number, register_in, is_of_other, IsRead, EachPair, FitsKind, FitsSlot, FrameFits, is_alone, Follows}
+use Rattle.bpf_follows.specs.Numbers.{loaded_number, number_kind, told}
 use Rattle.bpf_follows.specs.Extras.{is_same, is_r10, slot_of}
-use Rattle.bpf_follows.specs.Matching.{is_call, is_changed, is_plain, is_whole, is_far, whole_slot, IsTame, kinds_after, Arrives, undirected, led}
+use Rattle.bpf_follows.specs.Matching.{is_call, is_changed, is_plain, is_whole, is_far, whole_slot, AllPlain, kinds_after, Arrives, undirected, led}
 use Rattle.bpf_follows.proofs.Lists.{bind, mapped, unmapped, cond_first, same_is_kept, as_long, Cells}
 use Rattle.bpf_semantics.proofs.NumberLemmas.{modulo_below}
 use Rattle.bpf_follows.proofs.Owns.{Owns, live_location, live_next}
 use Rattle.bpf_follows.proofs.Slots.{register_below, unset_kept, free_unset, plain_kept, parts_put, parts_read, each_read}
 use Rattle.bpf_follows.proofs.Frames.{SlotsAre, InSome, no_slots}
 use Rattle.bpf_follows.proofs.Between.{is_double, Between, Goes, goes_held, goes_alike, same_depth, stands_at, goes_as, put_kept, location_same, number_kept, PointersKept, pointers_kept, pointer_at_kept, own_stack, own_stack_of, load_kept, load_extended_kept, number_stored, store_kept, number_near, value_near}
+use Rattle.bpf_follows.proofs.Known.{alu_known, alu_own, load_own, load_known, told_between}
 use Rattle.bpf_follows.proofs.Near.{near, slot_here, stored, stored_are, after_stored, changed_low, in_all, in_some, in_one}
 
 -- ---- an instruction with another distance
@@ -104,6 +106,11 @@ is_flow (CallLocal off) = true
 is_flow Exit = true
 is_flow i = false
 
+-- what the instruction does on the frame is the same
+pub record Tame (notes : List (Option Place)) (kinds : Kinds) (i : Insn) : Type 0 where
+  pub far : is_far i ≡ true → AllPlain kinds × (is_alone notes ≡ false)
+  pub near : (k : ℕ) → whole_slot i ≡ Some k → is_plain (kinds (11 + k)) ≡ true
+
 module _ (ends : Order) (notes : List (Option Place)) (turns : ℕ) (passed : ℕ → ℕ) where
   -- ---- arrivals
 
@@ -124,12 +131,21 @@ module _ (ends : Order) (notes : List (Option Place)) (turns : ℕ) (passed : �
       let h = both_true (register_number of == r) (int_eq by (pos 0)) e in
       subst (λ q. HasOffset (pos 0) as_number (old q) new) (eqb-true (register_number of) r h.0) (subst (λ by. HasOffset by as_number (old (register_number of)) new) ((Decides-int_eq by (pos 0)).0 h.1) f)
   kind_weaker old r (Constant value) (Counter head) new lt e f = let enough = leb-true turns (extended value) e in (extended value, modulo_below value, f, omega arith)
+  kind_weaker old r (NumberKind least most) (NumberKind low high) new lt e f =
+      let h = both_true (nat_le low least) (nat_le most high) e in
+      let above = leb-true low least h.0 in
+      let below = leb-true most high h.1 in
+      let low_is = f.low in
+      let high_is = f.high in
+      record { number = f.number; low = omega arith; high = omega arith; old_is = f.old_is; new_is = f.new_is }
+  kind_weaker old r (NumberKind least most) Same new lt e f = λ v ev. f.new_is ∙ (sym f.old_is ∙ ev)
+  kind_weaker old r Same Alone new lt e f = f
   kind_weaker old r have Same new lt e f = not_slot r have lt e
   kind_weaker old r have Unset new lt e f = not_slot r have lt e
   kind_weaker old r have want new lt e f = absurd (false≢true e)
 
   slot_weaker : (registers : ℕ → Option Value) (xs ys : List (Option Cell)) (k : ℕ) (have want : Kind) → weaker turns (11 + k) have want ≡ true → FitsSlot ends turns passed registers xs ys k have → FitsSlot ends turns passed registers xs ys k want
-  slot_weaker registers xs ys k (Fixed offset) Offset e f = absurd f
+  slot_weaker registers xs ys k (Fixed offset) Offset e f = record { offset = offset; fits = f.fits; old_is = f.old_is; new_is = f.new_is }
   slot_weaker registers xs ys k Start Same e f = absurd f
   slot_weaker registers xs ys k Start Base e f = absurd f
   slot_weaker registers xs ys k (Moved of by) Offset e f =
@@ -140,6 +156,9 @@ module _ (ends : Order) (notes : List (Option Place)) (turns : ℕ) (passed : �
   slot_weaker registers xs ys k (Constant value) (Counter head) e f =
       let enough = leb-true turns (extended value) e in
       record { unset = f.unset; value = f.value; holds = f.holds; fits = (extended value, modulo_below value, f.fits, omega arith) }
+  slot_weaker registers xs ys k (NumberKind least most) (NumberKind low high) e f = absurd f
+  slot_weaker registers xs ys k (NumberKind least most) Same e f = absurd f
+  slot_weaker registers xs ys k Same Alone e f = let low = ltb-true (11 + k) 11 e in absurd (omega arith)
   slot_weaker registers xs ys k have Same e f = unset_kept xs ys k (free_unset ends turns passed registers xs ys k have (both_true (nat_le 11 (11 + k)) (is_free have) e).1 f)
   slot_weaker registers xs ys k have Unset e f = free_unset ends turns passed registers xs ys k have (both_true (nat_le 11 (11 + k)) (is_free have) e).1 f
   slot_weaker registers xs ys k have want e f = absurd (false≢true e)
@@ -188,6 +207,8 @@ module _ (ends : Order) (notes : List (Option Place)) (turns : ℕ) (passed : �
   pub same_kept : (old : ℕ → Option Value) (r : ℕ) (kind : Kind) (new : Option Value) → is_same kind ≡ true → FitsKind turns passed old r kind new → IsKept (old r) new
   same_kept old r Same new e f = f
   same_kept old r Start new e f = λ v ev. f.1 ∙ (sym f.0 ∙ ev)
+  same_kept old r (NumberKind least most) new e f = λ v ev. f.new_is ∙ (sym f.old_is ∙ ev)
+  same_kept old r Alone new e f = f
   same_kept old r kind new e f = absurd (false≢true e)
 
   pub register_kept : (kinds : Kinds) (s t : State) (r : Reg) → Between ends notes turns passed kinds s t → is_same (kinds (register_number r)) ≡ true → IsKept (register s r) (register t r)
@@ -229,15 +250,15 @@ module _ (ends : Order) (notes : List (Option Place)) (turns : ℕ) (passed : �
   -- ---- the instructions
 
   abbrev Next : Order → Insn → Kinds → State → State → State → Type 0
-  Next order i kinds s t u = Goes ends notes turns passed (kinds_after i Same kinds) (s.top.slot + slot_count i) (t.top.slot + slot_count i) u (does order i t)
+  Next order i kinds s t u = Goes ends notes turns passed (kinds_after i (number_kind kinds i) kinds) (s.top.slot + slot_count i) (t.top.slot + slot_count i) u (does order i t)
 
-  alu_next : (order : Order) (op : AluOp) (width : Width) (dst : Reg) (src : Operand) (kinds : Kinds) (s t u : State) → Between ends notes turns passed kinds s t
+  alu_next : (order : Order) (op : AluOp) (width : Width) (dst : Reg) (src : Operand) (kinds : Kinds) (s t u : State) → IsState s → Between ends notes turns passed kinds s t
       → AllSame kinds (operand_register src) → ((b v : Value) → alu_result width op (register s dst) b ≡ Some v → alu_result width op (register t dst) b ≡ Some v)
       → does order (Alu op width dst src) s ≡ Some u → Next order (Alu op width dst src) kinds s t u
   unfolding does
-  alu_next order op width dst src kinds s t u h same result e = option_and_then_some _ (operand s src) u e (λ b eb e1. option_and_then_some _ (alu_result width op (register s dst) b) u e1 (λ v ev e2.
+  alu_next order op width dst src kinds s t u state h same result e = option_and_then_some _ (operand s src) u e (λ b eb e1. option_and_then_some _ (alu_result width op (register s dst) b) u e1 (λ v ev e2.
       goes_as ends notes turns passed _ _ _ u _ _ (bind _ (operand t src) b _ (operand_kept kinds s t src h same b eb) (bind _ (alu_result width op (register t dst) b) v _ (result b v ev) refl))
-      (put_next kinds s t u (Alu op width dst src) dst v (λ q. refl) h e2)))
+      (put_as kinds s t u (Alu op width dst src) (number_kind kinds (Alu op width dst src)) dst v v (λ q. refl) (alu_own ends notes turns passed width op dst src kinds) (alu_known ends notes turns passed width op dst src kinds s t b v state h eb ev) h e2)))
 
   number_next : (order : Order) (i : Insn) (kinds : Kinds) (s t u : State) (r dst : Reg) (f : ℕ → ℕ) → Writes i dst → Between ends notes turns passed kinds s t → is_same (kinds (register_number r)) ≡ true
       → option_and_then (λ a. put dst (Number (f a)) (next i s)) (number_of_register s r) ≡ Some u
@@ -245,14 +266,15 @@ module _ (ends : Order) (notes : List (Option Place)) (turns : ℕ) (passed : �
   number_next order i kinds s t u r dst f writes h same e = option_and_then_some _ (number_of_register s r) u e (λ a ea e1.
       goes_as ends notes turns passed _ _ _ u _ _ (bind _ (number_of_register t r) a _ (number_same kinds s t r h same a ea) refl) (put_next kinds s t u i dst (Number (f a)) writes h e1))
 
-  load_next : (i : Insn) (kinds : Kinds) (s t u : State) (k : ℕ) (dst src : Reg) (off : ℤ) (f : State → Location → Option Value) → Writes i dst → Between ends notes turns passed kinds s t → is_same (kinds (register_number src)) ≡ true
+  load_next : (i : Insn) (kind : Kind) (kinds : Kinds) (s t u : State) (k : ℕ) (dst src : Reg) (off : ℤ) (f : State → Location → Option Value) → Writes i dst → is_of_other kind ≡ false → ((at : Location) (v : Value) → f s at ≡ Some v → FitsKind turns passed (λ q. Some v) 0 kind (Some v))
+      → Between ends notes turns passed kinds s t → is_same (kinds (register_number src)) ≡ true
       → ((base : Value) (at : Location) → register s src ≡ Some base → location_of s k off base ≡ Some at → IsKept (f s at) (f t at))
       → option_and_then (λ base. option_and_then (λ at. option_and_then (λ v. put dst v (next i s)) (f s at)) (location_of s k off base)) (register s src) ≡ Some u
-      → Goes ends notes turns passed (kinds_after i Same kinds) (s.top.slot + slot_count i) (t.top.slot + slot_count i) u (option_and_then (λ base. option_and_then (λ at. option_and_then (λ v. put dst v (next i t)) (f t at)) (location_of t k off base)) (register t src))
-  load_next i kinds s t u k dst src off f writes h same loads e = option_and_then_some _ (register s src) u e (λ base eb e1. option_and_then_some _ (location_of s k off base) u e1 (λ at ea e2. option_and_then_some _ (f s at) u e2 (λ v ev e3.
+      → Goes ends notes turns passed (kinds_after i kind kinds) (s.top.slot + slot_count i) (t.top.slot + slot_count i) u (option_and_then (λ base. option_and_then (λ at. option_and_then (λ v. put dst v (next i t)) (f t at)) (location_of t k off base)) (register t src))
+  load_next i kind kinds s t u k dst src off f writes own known h same loads e = option_and_then_some _ (register s src) u e (λ base eb e1. option_and_then_some _ (location_of s k off base) u e1 (λ at ea e2. option_and_then_some _ (f s at) u e2 (λ v ev e3.
       goes_as ends notes turns passed _ _ _ u _ _
       (bind _ (register t src) base _ (register_kept kinds s t src h same base eb) (bind _ (location_of t k off base) at _ (location_kept kinds s t k off base at h ea) (bind _ (f t at) v _ (loads base at eb ea v ev) refl)))
-      (put_next kinds s t u i dst v writes h e3))))
+      (put_as kinds s t u i kind dst v v writes own (known at v ev) h e3))))
 
   -- ---- stores
 
@@ -279,10 +301,10 @@ module _ (ends : Order) (notes : List (Option Place)) (turns : ℕ) (passed : �
 
   far_is : (i : Insn) (a : Access) → access_of i ≡ Some a → is_r10 a.base ≡ false → a.writes ≡ true → is_far i ≡ true
   far_is i a ea e ew =
-      or_right (is_call i) _ (ap (λ o. option_map_or (λ a. not (is_r10 a.base) && (a.writes || is_whole i)) o false) ea ∙ ap₂ (λ b w. not b && (w || is_whole i)) e ew)
+      ap (λ o. option_map_or (λ a. not (is_r10 a.base) && (a.writes || is_whole i)) o false) ea ∙ ap₂ (λ b w. not b && (w || is_whole i)) e ew
 
   -- a number is put somewhere
-  number_put : (order : Order) (i : Insn) (a : Access) (kinds : Kinds) (s t u : State) (x : ℕ) (base : Value) (at : Location) → access_of i ≡ Some a → a.writes ≡ true → Between ends notes turns passed kinds s t → Owns s → IsTame kinds i
+  number_put : (order : Order) (i : Insn) (a : Access) (kinds : Kinds) (s t u : State) (x : ℕ) (base : Value) (at : Location) → access_of i ≡ Some a → a.writes ≡ true → Between ends notes turns passed kinds s t → Owns s → Tame notes kinds i
       → register s a.base ≡ Some base → location_of s (byte_count a.size) a.offset base ≡ Some at → store_number order (byte_count a.size) x at (next i s) ≡ Some u
       → Goes ends notes turns passed (stored i Same kinds) (s.top.slot + slot_count i) (t.top.slot + slot_count i) u (store_number order (byte_count a.size) x at (next i t))
   number_put order i a kinds s t u x base at ea ew h o tame eb el e = by_cases (cases_Bool (is_r10 a.base))
@@ -300,7 +322,7 @@ module _ (ends : Order) (notes : List (Option Place)) (turns : ℕ) (passed : �
           (live_next s (s.top.slot + slot_count i) at (live_location s (byte_count a.size) a.offset base at el)) e
 
   -- a pointer is put into a slot
-  pointer_put : (order : Order) (i : Insn) (a : Access) (kinds : Kinds) (s t u : State) (region : Region) (z : ℤ) (base : Value) (at : Location) → access_of i ≡ Some a → a.writes ≡ true → a.size ≡ DW → Between ends notes turns passed kinds s t → Owns s → IsTame kinds i
+  pointer_put : (order : Order) (i : Insn) (a : Access) (kinds : Kinds) (s t u : State) (region : Region) (z : ℤ) (base : Value) (at : Location) → access_of i ≡ Some a → a.writes ≡ true → a.size ≡ DW → Between ends notes turns passed kinds s t → Owns s → Tame notes kinds i
       → register s a.base ≡ Some base → location_of s (byte_count a.size) a.offset base ≡ Some at → store order DW (Pointer region z) at (next i s) ≡ Some u
       → Goes ends notes turns passed (stored i Same kinds) (s.top.slot + slot_count i) (t.top.slot + slot_count i) u (store order DW (Pointer region z) at (next i t))
   pointer_put order i a kinds s t u region z base at ea ew double h o tame eb el e = by_cases (cases_Bool (is_r10 a.base))
@@ -339,7 +361,7 @@ module _ (ends : Order) (notes : List (Option Place)) (turns : ℕ) (passed : �
           (live_next s (s.top.slot + slot_count i) at (live_location s (byte_count a.size) a.offset base at el)) e
 
   store_next : (order : Order) (i : Insn) (kinds : Kinds) (s t u : State) (dst : Reg) (size : Size) (off : ℤ) (base v : Value) → access_of i ≡ Some (record { base = dst; offset = off; size = size; reads = false; writes = true }) → is_call i ≡ false → register_written i ≡ None
-      → Between ends notes turns passed kinds s t → Owns s → IsTame kinds i → register s dst ≡ Some base
+      → Between ends notes turns passed kinds s t → Owns s → Tame notes kinds i → register s dst ≡ Some base
       → option_and_then (λ at. store order size v at (next i s)) (location_of s (byte_count size) off base) ≡ Some u
       → Goes ends notes turns passed (kinds_after i Same kinds) (s.top.slot + slot_count i) (t.top.slot + slot_count i) u (option_and_then (λ at. store order size v at (next i t)) (location_of t (byte_count size) off base))
   store_next order i kinds s t u dst size off base v ea call none h o tame eb e = option_and_then_some _ (location_of s (byte_count size) off base) u e (λ at el e1.
@@ -356,7 +378,7 @@ module _ (ends : Order) (notes : List (Option Place)) (turns : ℕ) (passed : �
       by_value W (Pointer region z) ea at el e1 = absurd (none-some _ e1)
 
   -- a pointer that is loaded whole
-  pointers_loaded : (kinds : Kinds) (s t : State) (size : Size) (dst src : Reg) (off : ℤ) (base : Value) (at : Location) → Between ends notes turns passed kinds s t → Owns s → IsTame kinds (Load size dst src off) → register s src ≡ Some base → location_of s (byte_count size) off base ≡ Some at
+  pointers_loaded : (kinds : Kinds) (s t : State) (size : Size) (dst src : Reg) (off : ℤ) (base : Value) (at : Location) → Between ends notes turns passed kinds s t → Owns s → Tame notes kinds (Load size dst src off) → register s src ≡ Some base → location_of s (byte_count size) off base ≡ Some at
       → is_double size ≡ true → PointersKept ends notes turns passed s t at
   pointers_loaded kinds s t DW dst src off base at h o tame eb el e = by_cases (cases_Bool (is_r10 src))
     where
@@ -381,25 +403,25 @@ module _ (ends : Order) (notes : List (Option Place)) (turns : ℕ) (passed : �
   pointers_loaded kinds s t H dst src off base at h o tame eb el e = absurd (false≢true e)
   pointers_loaded kinds s t W dst src off base at h o tame eb el e = absurd (false≢true e)
 
-  plain : (order : Order) (i : Insn) (kinds : Kinds) (s t u : State) → Between ends notes turns passed kinds s t → Owns s → AllSame kinds (registers_read i) → IsTame kinds i → goes_on i ≡ true → distance i ≡ None → does order i s ≡ Some u → Next order i kinds s t u
+  plain : (order : Order) (i : Insn) (kinds : Kinds) (s t u : State) → IsState s → Between ends notes turns passed kinds s t → Owns s → AllSame kinds (registers_read i) → Tame notes kinds i → goes_on i ≡ true → distance i ≡ None → does order i s ≡ Some u → Next order i kinds s t u
   unfolding does
-  plain order (Alu Mov width dst src) kinds s t u h o same tame on none e = alu_next order Mov width dst src kinds s t u h same (λ b v ev. ev) e
-  plain order (Alu op width dst src) kinds s t u h o same tame on none e = alu_next order op width dst src kinds s t u h same.1 (λ b v ev. alu_kept width op (register s dst) (register t dst) b v (register_kept kinds s t dst h same.0) ev) e
-  plain order (Neg width dst) kinds s t u h o same tame on none e = number_next order (Neg width dst) kinds s t u dst dst (λ a. alu width Sub 0 a) (λ q. refl) h same.0 e
-  plain order (MovSx width bits dst src) kinds s t u h o same tame on none e = number_next order (MovSx width bits dst src) kinds s t u src dst (λ b. sign_extend bits width b) (λ q. refl) h same.0 e
-  plain order (End kind bits dst) kinds s t u h o same tame on none e = number_next order (End kind bits dst) kinds s t u dst dst (λ a. swapped order kind bits a) (λ q. refl) h same.0 e
-  plain order (LoadImm64 dst value) kinds s t u h o same tame on none e = put_next kinds s t u (LoadImm64 dst value) dst (Number value) (λ q. refl) h e
-  plain order (Load size dst src off) kinds s t u h o same tame on none e = load_next (Load size dst src off) kinds s t u (byte_count size) dst src off (λ s at. load order s size at) (λ q. refl) h same.0 (λ base at eb el. load_kept ends notes turns passed order kinds s t size at h (pointers_loaded kinds s t size dst src off base at h o tame eb el)) e
-  plain order (LoadSx size dst src off) kinds s t u h o same tame on none e = load_next (LoadSx size dst src off) kinds s t u (byte_count size) dst src off (λ s at. load_extended order s size at) (λ q. refl) h same.0 (λ base at eb el. load_extended_kept ends notes turns passed order kinds s t size at h) e
-  plain order (Store size dst off src) kinds s t u h o same tame on none e = option_and_then_some _ (register s dst) u e (λ base eb e1. option_and_then_some _ (register s src) u e1 (λ v ev e2.
+  plain order (Alu Mov width dst src) kinds s t u state h o same tame on none e = alu_next order Mov width dst src kinds s t u state h same (λ b v ev. ev) e
+  plain order (Alu op width dst src) kinds s t u state h o same tame on none e = alu_next order op width dst src kinds s t u state h same.1 (λ b v ev. alu_kept width op (register s dst) (register t dst) b v (register_kept kinds s t dst h same.0) ev) e
+  plain order (Neg width dst) kinds s t u state h o same tame on none e = number_next order (Neg width dst) kinds s t u dst dst (λ a. alu width Sub 0 a) (λ q. refl) h same.0 e
+  plain order (MovSx width bits dst src) kinds s t u state h o same tame on none e = number_next order (MovSx width bits dst src) kinds s t u src dst (λ b. sign_extend bits width b) (λ q. refl) h same.0 e
+  plain order (End kind bits dst) kinds s t u state h o same tame on none e = number_next order (End kind bits dst) kinds s t u dst dst (λ a. swapped order kind bits a) (λ q. refl) h same.0 e
+  plain order (LoadImm64 dst value) kinds s t u state h o same tame on none e = put_next kinds s t u (LoadImm64 dst value) dst (Number value) (λ q. refl) h e
+  plain order (Load size dst src off) kinds s t u state h o same tame on none e = load_next (Load size dst src off) (loaded_number size) kinds s t u (byte_count size) dst src off (λ s at. load order s size at) (λ q. refl) (load_own ends notes turns passed size) (λ at v ev. load_known ends notes turns passed order s size at v state ev) h same.0 (λ base at eb el. load_kept ends notes turns passed order kinds s t size at h (pointers_loaded kinds s t size dst src off base at h o tame eb el)) e
+  plain order (LoadSx size dst src off) kinds s t u state h o same tame on none e = load_next (LoadSx size dst src off) Same kinds s t u (byte_count size) dst src off (λ s at. load_extended order s size at) (λ q. refl) refl (λ at v ev. same_is_kept (Some v)) h same.0 (λ base at eb el. load_extended_kept ends notes turns passed order kinds s t size at h) e
+  plain order (Store size dst off src) kinds s t u state h o same tame on none e = option_and_then_some _ (register s dst) u e (λ base eb e1. option_and_then_some _ (register s src) u e1 (λ v ev e2.
       goes_as ends notes turns passed _ _ _ u _ _
       (bind _ (register t dst) base _ (register_kept kinds s t dst h same.0 base eb) (bind _ (register t src) v _ (register_kept kinds s t src h same.1.0 v ev) refl))
       (store_next order (Store size dst off src) kinds s t u dst size off base v refl refl refl h o tame eb e2)))
-  plain order (StoreImm size dst off imm) kinds s t u h o same tame on none e = option_and_then_some _ (register s dst) u e (λ base eb e1.
+  plain order (StoreImm size dst off imm) kinds s t u state h o same tame on none e = option_and_then_some _ (register s dst) u e (λ base eb e1.
       goes_as ends notes turns passed _ _ _ u _ _
       (bind _ (register t dst) base _ (register_kept kinds s t dst h same.0 base eb) refl)
       (store_next order (StoreImm size dst off imm) kinds s t u dst size off base (Number (extended imm)) refl refl refl h o tame eb e1))
-  plain order (Atomic wide op dst off src) kinds s t u h o same tame on none e =
+  plain order (Atomic wide op dst off src) kinds s t u state h o same tame on none e =
       let i : Insn = Atomic wide op dst off src in
       let size : Size = word_size wide in
       let k : ℕ = byte_count size in
@@ -412,11 +434,11 @@ module _ (ends : Order) (notes : List (Option Place)) (turns : ℕ) (passed : �
       (bind _ (register t dst) base _ (register_kept kinds s t dst h same.0 base eb) (bind _ (number_of_register t src) x _ (number_same kinds s t src h same.1.0 x ex) (bind _ (location_of t k off base) at _ (location_kept kinds s t k off base at h ea) (bind _ (number_at order t k at) old _ (number_kept ends notes turns passed order kinds s t k old at h eo)
       (bind _ (atomic_result op size old x (number_of_register t R0)) new _ (atomic_kept op size old x new (number_of_register s R0) (number_of_register t R0) (λ r. is_same (kinds (register_number r)) ≡ true) (number_same kinds s t R0 h) same.1.1 en) refl)))))
       (goes_on_by (stored i Same kinds) (kinds_after i Same kinds) _ _ mid u (store_number order k new at (next i t)) (fetched (fetch_register op src) old) put fetch)))))))
-  plain order (Ja off) kinds s t u h o same tame on none e = absurd (false≢true on)
-  plain order (JaLong off) kinds s t u h o same tame on none e = absurd (false≢true on)
-  plain order (JumpIf cond width dst src off) kinds s t u h o same tame on none e = absurd (none-some _ (sym none))
-  plain order (CallLocal off) kinds s t u h o same tame on none e = absurd (none-some _ (sym none))
-  plain order Exit kinds s t u h o same tame on none e = absurd (false≢true on)
+  plain order (Ja off) kinds s t u state h o same tame on none e = absurd (false≢true on)
+  plain order (JaLong off) kinds s t u state h o same tame on none e = absurd (false≢true on)
+  plain order (JumpIf cond width dst src off) kinds s t u state h o same tame on none e = absurd (none-some _ (sym none))
+  plain order (CallLocal off) kinds s t u state h o same tame on none e = absurd (none-some _ (sym none))
+  plain order Exit kinds s t u state h o same tame on none e = absurd (false≢true on)
 
   -- ---- jumps
 
@@ -428,45 +450,50 @@ module _ (ends : Order) (notes : List (Option Place)) (turns : ℕ) (passed : �
       (record { state = at_slot new_to t; is = mapped (λ slot. at_slot slot t) (target t.top.slot x) new_to en; between = stands_at ends notes turns passed kinds s t to new_to h; old_slot = refl; new_slot = refl })
 
   -- where the notes say that an instruction leads which writes what is of a kind
+  abbrev pub JumpLeads : Insn → Insn → Kind → Kinds → ℕ → ℕ → Type 0
+  JumpLeads i j kind kinds x y = (to : ℕ) → led x i ≡ Some to → (new_to : ℕ) × (led y j ≡ Some new_to) × Arrives notes turns to new_to (kinds_after i kind kinds)
+
+  -- with what it tells where it leads away, and where it goes on
   abbrev pub JumpArrives : Insn → Insn → Kind → Kinds → ℕ → ℕ → Type 0
-  JumpArrives i j kind kinds x y = (to : ℕ) → led x i ≡ Some to → (new_to : ℕ) × (led y j ≡ Some new_to) × Arrives notes turns to new_to (kinds_after i kind kinds)
+  JumpArrives i j kind kinds x y = JumpLeads i j kind (told true i kinds) x y
 
   abbrev pub FallArrives : Insn → Kind → Kinds → ℕ → ℕ → Type 0
-  FallArrives i kind kinds x y = goes_on i ≡ true → Arrives notes turns (x + slot_count i) (y + slot_count i) (kinds_after i kind kinds)
+  FallArrives i kind kinds x y = goes_on i ≡ true → Arrives notes turns (x + slot_count i) (y + slot_count i) (kinds_after i kind (told false i kinds))
 
   jumped : (i j : Insn) (kind : Kind) (kinds : Kinds) (s t u : State) (off x : ℤ) → Between ends notes turns passed kinds s t → ((q : ℕ) → is_changed i q ≡ false) → led s.top.slot i ≡ target s.top.slot off → led t.top.slot j ≡ target t.top.slot x
-      → JumpArrives i j kind kinds s.top.slot t.top.slot → jump s off ≡ Some u → Arrived u (jump t x)
+      → JumpLeads i j kind kinds s.top.slot t.top.slot → jump s off ≡ Some u → Arrived u (jump t x)
   jumped i j kind kinds s t u off x h none old new arrives e =
       let to = unmapped (λ slot. at_slot slot s) (target s.top.slot off) u e in
       let a = arrives to.0 (old ∙ to.1) in
       arrived (kinds_after i kind kinds) to.0 a.0 u (jump t x) (goes_held ends notes turns passed i kind kinds to.0 a.0 u (jump t x) (λ q lt. none q) (λ k lt c. absurd (false≢true (sym (none (11 + k)) ∙ c))) (jump_kept kinds s t u off x to.0 a.0 h to.1 (sym new ∙ a.1) e)) a.2
 
   -- a test that answers the same in both
-  pub tested : (order : Order) (cond : Cond) (width : Width) (dst : Reg) (src : Operand) (off z : ℤ) (kind : Kind) (kinds : Kinds) (s t u : State) (taken : Bool) → Between ends notes turns passed kinds s t
-      → FallArrives (JumpIf cond width dst src off) kind kinds s.top.slot t.top.slot → JumpArrives (JumpIf cond width dst src off) (JumpIf cond width dst src z) kind kinds s.top.slot t.top.slot
+  pub tested : (order : Order) (cond : Cond) (width : Width) (dst : Reg) (src : Operand) (off z : ℤ) (kind : Kind) (kinds : Kinds) (s t u : State) (taken : Bool) → Between ends notes turns passed (told taken (JumpIf cond width dst src off) kinds) s t
+      → (taken ≡ false → FallArrives (JumpIf cond width dst src off) kind kinds s.top.slot t.top.slot) → (taken ≡ true → JumpArrives (JumpIf cond width dst src off) (JumpIf cond width dst src z) kind kinds s.top.slot t.top.slot)
       → (if taken then jump s off else Some (next (JumpIf cond width dst src off) s)) ≡ Some u → Arrived u (if taken then jump t z else Some (next (JumpIf cond width dst src z) t))
-  tested order cond width dst src off z kind kinds s t u true h falls jumps e = jumped (JumpIf cond width dst src off) (JumpIf cond width dst src z) kind kinds s t u off z h (λ q. refl) refl refl jumps e
+  tested order cond width dst src off z kind kinds s t u true h falls jumps e = jumped (JumpIf cond width dst src off) (JumpIf cond width dst src z) kind (told true (JumpIf cond width dst src off) kinds) s t u off z h (λ q. refl) refl refl (jumps refl) e
   tested order cond width dst src off z kind kinds s t u false h falls jumps e =
       let i : Insn = JumpIf cond width dst src off in
       let j : Insn = JumpIf cond width dst src z in
+      let after : Kinds = told false i kinds in
       subst (λ u. Arrived u (Some (next j t))) (same_Some _ _ e)
-      (arrived (kinds_after i kind kinds) _ _ _ (Some (next j t))
-      (goes_held ends notes turns passed i kind kinds _ _ (next i s) (Some (next j t)) (λ q lt. refl) (λ k lt c. absurd (false≢true c)) (record { state = next j t; is = refl; between = stands_at ends notes turns passed kinds s t _ _ h; old_slot = refl; new_slot = refl })) (falls refl))
+      (arrived (kinds_after i kind after) _ _ _ (Some (next j t))
+      (goes_held ends notes turns passed i kind after _ _ (next i s) (Some (next j t)) (λ q lt. refl) (λ k lt c. absurd (false≢true c)) (record { state = next j t; is = refl; between = stands_at ends notes turns passed after s t _ _ h; old_slot = refl; new_slot = refl })) (falls refl refl))
 
   -- an instruction that neither calls nor ends, on registers that hold the same, with another distance
-  pub same_arrives : (order : Order) (i : Insn) (z : ℤ) (kinds : Kinds) (s t u : State) → Between ends notes turns passed kinds s t → Owns s → AllSame kinds (registers_read i) → IsTame kinds i → is_flow i ≡ false
-      → FallArrives i Same kinds s.top.slot t.top.slot → JumpArrives i (redirect i z) Same kinds s.top.slot t.top.slot → does order i s ≡ Some u → Arrived u (does order (redirect i z) t)
+  pub same_arrives : (order : Order) (i : Insn) (z : ℤ) (kinds : Kinds) (s t u : State) → IsState s → Between ends notes turns passed kinds s t → Owns s → AllSame kinds (registers_read i) → Tame notes kinds i → is_flow i ≡ false
+      → FallArrives i (number_kind kinds i) kinds s.top.slot t.top.slot → JumpArrives i (redirect i z) (number_kind kinds i) kinds s.top.slot t.top.slot → does order i s ≡ Some u → Arrived u (does order (redirect i z) t)
   unfolding does
-  same_arrives order (Ja off) z kinds s t u h o same tame flow falls jumps e = jumped (Ja off) (Ja z) Same kinds s t u off z h (λ q. refl) refl refl jumps e
-  same_arrives order (JaLong off) z kinds s t u h o same tame flow falls jumps e = jumped (JaLong off) (JaLong z) Same kinds s t u off z h (λ q. refl) refl refl jumps e
-  same_arrives order (JumpIf cond width dst src off) z kinds s t u h o same tame flow falls jumps e =
+  same_arrives order (Ja off) z kinds s t u state h o same tame flow falls jumps e = jumped (Ja off) (Ja z) Same kinds s t u off z h (λ q. refl) refl refl jumps e
+  same_arrives order (JaLong off) z kinds s t u state h o same tame flow falls jumps e = jumped (JaLong off) (JaLong z) Same kinds s t u off z h (λ q. refl) refl refl jumps e
+  same_arrives order (JumpIf cond width dst src off) z kinds s t u state h o same tame flow falls jumps e =
       option_and_then_some _ (register s dst) u e (λ a ea e1. option_and_then_some _ (operand s src) u e1 (λ b eb e2. option_and_then_some _ (test_of_values width cond a b) u e2 (λ taken et e3.
-      let way = tested order cond width dst src off z Same kinds s t u taken h falls jumps e3 in
+      let way = tested order cond width dst src off z Same kinds s t u taken (told_between ends notes turns passed cond width dst src off taken kinds s t a b state h ea eb et) (λ no. falls) (λ yes. jumps) e3 in
       record {
         state = way.state;
         is = bind _ (register t dst) a _ (register_kept kinds s t dst h same.0 a ea) (bind _ (operand t src) b _ (operand_kept kinds s t src h same.1 b eb) (bind _ (test_of_values width cond a b) taken _ et way.is));
         follows = way.follows;
       })))
-  same_arrives order (CallLocal off) z kinds s t u h o same tame flow falls jumps e = absurd (false≢true (sym flow))
-  same_arrives order Exit z kinds s t u h o same tame flow falls jumps e = absurd (false≢true (sym flow))
-  same_arrives order i z kinds s t u h o same tame flow falls jumps e = arrived (kinds_after i Same kinds) _ _ u (does order i t) (plain order i kinds s t u h o same tame refl refl e) (falls refl)
+  same_arrives order (CallLocal off) z kinds s t u state h o same tame flow falls jumps e = absurd (false≢true (sym flow))
+  same_arrives order Exit z kinds s t u state h o same tame flow falls jumps e = absurd (false≢true (sym flow))
+  same_arrives order i z kinds s t u state h o same tame flow falls jumps e = arrived (kinds_after i (number_kind kinds i) kinds) _ _ u (does order i t) (plain order i kinds s t u state h o same tame refl refl e) (falls refl)

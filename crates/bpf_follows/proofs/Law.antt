@@ -1,7 +1,7 @@
 -- The law: by induction on the old machine's steps, each of which the new machine follows by some.
 use Rattle.std.proofs.Common.{◌<◌, ◌⊎◌, inl, inr, ◌^◌, true, None, length, ap₂, ◌≡◌, ℕ, zero, suc, ◌+◌, ◌*◌, ◌≤◌, ◌==◌, false, List, [], ◌∷◌, Option, Some, refl, sym, ap, ◌∙◌, subst, arith}
-use Rattle.std.specs.Prelude.{get_or, ℤ, pos, ◌+ℤ◌, IsSome, option_map, if◌then◌else◌}
-use Rattle.std.specs.Option.{option_map_or}
+use Rattle.std.specs.Prelude.{get_or, ℤ, pos, ◌+ℤ◌, Bool, not, nat_le, ◌&&◌, IsSome, option_map, if◌then◌else◌}
+use Rattle.std.specs.Option.{option_map_or, option_or}
 use Rattle.std.proofs.lemmas.Bool.{false≢true}
 use Rattle.std.proofs.lemmas.List.{get_or-set_same, get_or-replicate}
 use Rattle.std.proofs.lemmas.Option.{none-some, same_Some, option_and_then_some}
@@ -25,23 +25,27 @@ use Rattle.bpf_semantics.specs.Run.{Steps}
 use Rattle.bpf_semantics.specs.MachineLaws.{StepsAreComputed, StepKeepsContext, RunsKeepStates}
 use Rattle.bpf_follows.specs.declared.notes.Bounds.{Bounds}
 use Rattle.bpf_follows.specs.declared.notes.Kind.{Kind}
-use Rattle.bpf_follows.specs.declared.notes.Kind.TheVariants.{Nothing, Unset, Same}
+use Rattle.bpf_follows.specs.declared.notes.Kind.TheVariants.{Nothing, Unset}
 use Rattle.bpf_follows.specs.declared.site.Span.{Span}
 use Rattle.bpf_follows.specs.declared.site.Site.{Site}
 use Rattle.bpf_follows.specs.declared.notes.Place.{Place}
 use Rattle.bpf_follows.specs.Meaning.{visits, is_at}
-use Rattle.bpf_follows.specs.Relation.{Kinds, kind_in, kinds_of, known, EachPair, FitsKind, FitsSlot, FrameWaits, Follows, register_in}
+use Rattle.bpf_follows.specs.Relation.{Kinds, Gives, kind_in, kinds_of, known, EachPair, FitsKind, FitsSlot, FrameWaits, is_alone, Follows, register_in}
 use Rattle.bpf_follows.specs.Ahead.{ahead, farthest_ahead, span_ahead, spans_ahead, span_behind}
+use Rattle.bpf_follows.specs.Numbers.{number_kind, told}
 use Rattle.bpf_follows.specs.Extras.{is_same}
-use Rattle.bpf_follows.specs.Matching.{front_at, undirected, AreSame, rebased, by_offsets, result_kind, AllPlain, IsTame, Reads, Pairs, kinds_after, kinds_behind, kinds_called, listed, start_kinds, led, is_call, Arrives, Enters, Falls, Leads, Reaches, Stands, Matches}
+use Rattle.bpf_follows.specs.Exact.{by_exact, decided, may_fall, may_lead}
+use Rattle.bpf_follows.specs.Matching.{front_at, undirected, AreSame, rebased, by_offsets, by_kinds, result_kind, AllPlain, IsTame, Reads, widened, Pairs, IsLone, held, kinds_after, kinds_behind, kinds_beyond, kinds_called, listed, start_kinds, led, is_call, Arrives, Enters, Falls, Leads, Reaches, Stands, Matches}
 use Rattle.bpf_follows.specs.Laws.{MatchingKeepsMeaning}
 use Rattle.bpf_follows.proofs.Lists.{bind, unmapped, same_is_kept, pairs_same, cond_first, cond_second}
 use Rattle.bpf_follows.proofs.Onward.{room, placed, LieIn, Ends, Goes as GoesOn, Last, On, goes, exit_is, surely_in}
 use Rattle.bpf_follows.proofs.Owns.{Owns, own_does, own_start, own_step}
 use Rattle.bpf_follows.proofs.Slots.{register_below, all_read, nothing_there, as_many}
 use Rattle.bpf_follows.proofs.Between.{Between, Goes}
-use Rattle.bpf_follows.proofs.Instruction.{redirect, distance_of, moved_is, is_flow, Arrived, arrived, same_arrives, number_same, fits_given, FallArrives, JumpArrives}
+use Rattle.bpf_follows.proofs.Instruction.{redirect, distance_of, moved_is, is_flow, Arrived, same_arrives, number_same, fits_given, FallArrives, JumpArrives}
 use Rattle.bpf_follows.proofs.OffsetInsn.{offsets_arrive, by_address, is_load}
+use Rattle.bpf_follows.proofs.ExactInsn.{exact_arrives, decided_arrives}
+use Rattle.bpf_follows.proofs.Wide.{narrow, widened_arrives}
 use Rattle.bpf_follows.proofs.Calls.{unset_called, call_kept, exit_kept}
 use Rattle.bpf_follows.proofs.Extra.{InFront, SumLies, between_more, counted, own_counted, settles}
 use Rattle.bpf_follows.proofs.Kept.{extras_go}
@@ -141,8 +145,8 @@ module _ (computed : StepsAreComputed) (keeps : StepKeepsContext) (states : Runs
       record { count = 1 + h.count; state = h.state; steps = runs new 1 h.count t g.state h.state (t, refl, sym e ∙ g.is) h.steps; follows = h.follows }
 
   -- from the instruction itself, which stands at the slot
-  module _ (passed : ℕ → ℕ) (site : Site) (s t u : State) (o : Owns s) (b : Between old.order notes bounds.turns passed (known site.slot site.kinds) s t) (old_at : s.top.slot ≡ site.slot) (at : t.top.slot ≡ site.new_slot)
-      (stands : insn_at new.list site.new_slot ≡ Some site.moved) (falls : Falls notes bounds.turns site) (leads : Leads notes new bounds.turns site) where
+  module _ (passed : ℕ → ℕ) (site : Site) (s t u : State) (state : IsState s) (o : Owns s) (b : Between old.order notes bounds.turns passed (known site.slot site.kinds) s t) (old_at : s.top.slot ≡ site.slot) (at : t.top.slot ≡ site.new_slot)
+      (stands : insn_at new.list site.new_slot ≡ Some site.moved) (falls : Falls notes bounds.turns site) (leads : Leads notes new bounds.turns site) (lone : IsLone (is_alone notes) (known site.slot site.kinds) site.insn) where
     kinds : Kinds
     kinds = known site.slot site.kinds
 
@@ -150,19 +154,31 @@ module _ (computed : StepsAreComputed) (keeps : StepKeepsContext) (states : Runs
     unfolding step_of
     steps_by j e = sym (bind (λ i. does new.order i t) (insn_at new.list t.top.slot) j _ (ap (insn_at new.list) at ∙ stands ∙ ap Some e) (ap (λ order. does order j t) matches.order_is))
 
-    falls_at : (made : Kind) → result_kind (known site.slot site.kinds) site.insn ≡ made → FallArrives old.order notes bounds.turns passed site.insn made (known site.slot site.kinds) s.top.slot t.top.slot
-    falls_at made e on =
-        subst (λ x. Arrives notes bounds.turns (x + slot_count site.insn) (t.top.slot + slot_count site.insn) (kinds_after site.insn made (known site.slot site.kinds))) (sym old_at)
-        (subst (λ y. Arrives notes bounds.turns (site.slot + slot_count site.insn) (y + slot_count site.insn) (kinds_after site.insn made (known site.slot site.kinds))) (sym at)
-        (subst (λ made. Arrives notes bounds.turns (site.slot + slot_count site.insn) (site.new_slot + slot_count site.insn) (kinds_after site.insn made (known site.slot site.kinds))) e (falls on)))
+    falls_beyond : may_fall (known site.slot site.kinds) site.insn ≡ true → goes_on site.insn ≡ true → Arrives notes bounds.turns (s.top.slot + slot_count site.insn) (t.top.slot + slot_count site.insn) (kinds_beyond (is_alone notes) false site.insn (known site.slot site.kinds))
+    falls_beyond may on =
+        subst (λ x. Arrives notes bounds.turns (x + slot_count site.insn) (t.top.slot + slot_count site.insn) (kinds_beyond (is_alone notes) false site.insn (known site.slot site.kinds))) (sym old_at)
+        (subst (λ y. Arrives notes bounds.turns (site.slot + slot_count site.insn) (y + slot_count site.insn) (kinds_beyond (is_alone notes) false site.insn (known site.slot site.kinds))) (sym at) (falls on may))
+
+    -- an instruction that isn't a call leaves what it leaves, whatever frames there are
+    arrives_behind : (taken : Bool) (x y : ℕ) (made : Kind) → result_kind (known site.slot site.kinds) site.insn ≡ made → is_call site.insn ≡ false → Arrives notes bounds.turns x y (kinds_beyond (is_alone notes) taken site.insn (known site.slot site.kinds))
+        → Arrives notes bounds.turns x y (kinds_after site.insn made (told taken site.insn (known site.slot site.kinds)))
+    arrives_behind taken x y made e no_call a = record { place = a.place; noted = a.noted; slot_is = a.slot_is; gives = λ r lt. subst (λ have. Gives bounds.turns r have (kinds_of a.place r)) (same r) (a.gives r lt) }
+      where
+        same : (r : ℕ) → kinds_beyond (is_alone notes) taken site.insn (known site.slot site.kinds) r ≡ kinds_after site.insn made (told taken site.insn (known site.slot site.kinds)) r
+        same r =
+            ap (λ c. if c && (is_alone notes && nat_le 11 r) then held site.insn (known site.slot site.kinds r) else kinds_behind taken site.insn (known site.slot site.kinds) r) no_call
+            ∙ ap (λ made. kinds_after site.insn made (told taken site.insn (known site.slot site.kinds)) r) e
+
+    falls_at : (made : Kind) → result_kind (known site.slot site.kinds) site.insn ≡ made → is_call site.insn ≡ false → may_fall (known site.slot site.kinds) site.insn ≡ true → FallArrives old.order notes bounds.turns passed site.insn made (known site.slot site.kinds) s.top.slot t.top.slot
+    falls_at made e no_call may on = arrives_behind false _ _ made e no_call (falls_beyond may on)
 
     led_at : (j : Insn) (to : ℕ) → site.moved ≡ j → led site.new_slot site.moved ≡ Some to → led t.top.slot j ≡ Some to
     led_at j to ej e = ap (λ y. led y j) at ∙ ap (λ j. led site.new_slot j) (sym ej) ∙ e
 
-    jumps_at : (j : Insn) (made : Kind) → site.moved ≡ j → result_kind (known site.slot site.kinds) site.insn ≡ made → is_call site.insn ≡ false → JumpArrives old.order notes bounds.turns passed site.insn j made (known site.slot site.kinds) s.top.slot t.top.slot
-    jumps_at j made ej e no_call to et =
-        let a = leads to (ap (λ x. led x site.insn) (sym old_at) ∙ et) in
-        (a.0, led_at j a.0 ej a.1, subst (λ made. Arrives notes bounds.turns to a.0 (kinds_after site.insn made (known site.slot site.kinds))) e (subst (λ c. Reaches c notes new bounds.turns to a.0 site.insn (known site.slot site.kinds)) no_call a.2))
+    jumps_at : (j : Insn) (made : Kind) → site.moved ≡ j → result_kind (known site.slot site.kinds) site.insn ≡ made → is_call site.insn ≡ false → may_lead (known site.slot site.kinds) site.insn ≡ true → JumpArrives old.order notes bounds.turns passed site.insn j made (known site.slot site.kinds) s.top.slot t.top.slot
+    jumps_at j made ej e no_call may to et =
+        let a = leads to (ap (λ x. led x site.insn) (sym old_at) ∙ et) may in
+        (a.0, led_at j a.0 ej a.1, arrives_behind true to a.0 made e no_call (subst (λ c. Reaches c notes new bounds.turns to a.0 site.insn (known site.slot site.kinds)) no_call a.2))
 
     no_call : (i : Insn) → is_flow i ≡ false → is_call i ≡ false
     no_call (CallLocal off) e = absurd (false≢true (sym e))
@@ -170,7 +186,7 @@ module _ (computed : StepsAreComputed) (keeps : StepKeepsContext) (states : Runs
 
     -- the same instruction
     plain_does : (undirected site.moved ≡ undirected site.insn) → Reads (known site.slot site.kinds) site.insn → is_flow site.insn ≡ false → does old.order site.insn s ≡ Some u → Caught passed u t
-    plain_does alike reads flow e = by_result (by_offsets (known site.slot site.kinds) site.insn) refl reads
+    plain_does alike reads flow e = by_way (decided (known site.slot site.kinds) site.insn) refl
       where
         z : ℤ
         z = distance_of site.moved
@@ -178,30 +194,46 @@ module _ (computed : StepsAreComputed) (keeps : StepKeepsContext) (states : Runs
         is : site.moved ≡ redirect site.insn (distance_of site.moved)
         is = moved_is site.insn site.moved alike
 
-        by_result : (o : Option Kind) → by_offsets (known site.slot site.kinds) site.insn ≡ o → (IsSome o) ⊎ (AreSame (known site.slot site.kinds) (registers_read site.insn) × IsTame (known site.slot site.kinds) site.insn) → Caught passed u t
-        by_result (Some made) eo r =
-            let made_is : result_kind (known site.slot site.kinds) site.insn ≡ made = ap (λ o. option_map_or (λ (kind : Kind). kind) o Same) eo in
-            caught passed t u (does old.order (redirect site.insn (distance_of site.moved)) t) (steps_by (redirect site.insn (distance_of site.moved)) is)
-            (offsets_arrive old.order notes bounds.turns passed old.order site.insn (distance_of site.moved) made (known site.slot site.kinds) s t u refl o b eo (falls_at made made_is)
-            (jumps_at (redirect site.insn (distance_of site.moved)) made is made_is (no_call site.insn flow)) e)
-        by_result None eo (inl some) = absurd (false≢true some)
-        by_result None eo (inr same) =
-            let made_is : result_kind (known site.slot site.kinds) site.insn ≡ Same = ap (λ o. option_map_or (λ (kind : Kind). kind) o Same) eo in
-            caught passed t u (does old.order (redirect site.insn (distance_of site.moved)) t) (steps_by (redirect site.insn (distance_of site.moved)) is)
-            (same_arrives old.order notes bounds.turns passed old.order site.insn (distance_of site.moved) (known site.slot site.kinds) s t u b o same.0 same.1 flow (falls_at Same made_is)
-            (jumps_at (redirect site.insn (distance_of site.moved)) Same is made_is (no_call site.insn flow)) e)
+        -- what is always the same comes first
+        by_some : (made : Kind) (o : Option Kind) → by_exact (known site.slot site.kinds) site.insn ≡ o → option_or o (by_offsets (known site.slot site.kinds) site.insn) ≡ Some made → FallArrives old.order notes bounds.turns passed site.insn made (known site.slot site.kinds) s.top.slot t.top.slot
+            → JumpArrives old.order notes bounds.turns passed site.insn (redirect site.insn z) made (known site.slot site.kinds) s.top.slot t.top.slot → Arrived old.order notes bounds.turns passed u (does old.order (redirect site.insn z) t)
+        by_some made (Some kind) eo em falls leads = exact_arrives old.order notes bounds.turns passed old.order site.insn z made (known site.slot site.kinds) s t u b (eo ∙ em) falls e
+        by_some made None eo em falls leads = offsets_arrive old.order notes bounds.turns passed old.order site.insn z made (known site.slot site.kinds) s t u refl state o b em falls leads e
 
-    call_does : (off : ℤ) → site.insn ≡ CallLocal off → AllPlain (known site.slot site.kinds) → (undirected site.moved ≡ undirected site.insn) → does old.order (CallLocal off) s ≡ Some u → Caught passed u t
+        by_result : (o : Option Kind) → by_kinds (known site.slot site.kinds) site.insn ≡ o → (IsSome o) ⊎ (AreSame (known site.slot site.kinds) (registers_read site.insn) × IsTame (known site.slot site.kinds) site.insn)
+            → may_fall (known site.slot site.kinds) site.insn ≡ true → may_lead (known site.slot site.kinds) site.insn ≡ true → Caught passed u t
+        by_result (Some made) eo r fall lead =
+            let made_is : result_kind (known site.slot site.kinds) site.insn ≡ made = ap (λ o. option_map_or (λ (kind : Kind). kind) o (number_kind (known site.slot site.kinds) site.insn)) eo in
+            caught passed t u (does old.order (redirect site.insn (distance_of site.moved)) t) (steps_by (redirect site.insn (distance_of site.moved)) is)
+            (by_some made (by_exact (known site.slot site.kinds) site.insn) refl eo (falls_at made made_is (no_call site.insn flow) fall)
+            (jumps_at (redirect site.insn (distance_of site.moved)) made is made_is (no_call site.insn flow) lead))
+        by_result None eo (inl some) fall lead = absurd (false≢true some)
+        by_result None eo (inr same) fall lead =
+            let made_is : result_kind (known site.slot site.kinds) site.insn ≡ number_kind (known site.slot site.kinds) site.insn = ap (λ o. option_map_or (λ (kind : Kind). kind) o (number_kind (known site.slot site.kinds) site.insn)) eo in
+            caught passed t u (does old.order (redirect site.insn (distance_of site.moved)) t) (steps_by (redirect site.insn (distance_of site.moved)) is)
+            (same_arrives old.order notes bounds.turns passed old.order site.insn (distance_of site.moved) (known site.slot site.kinds) s t u state b o same.0 (record { far = λ f. (same.1.far f, lone.far f); near = same.1.near }) flow (falls_at (number_kind (known site.slot site.kinds) site.insn) made_is (no_call site.insn flow) fall)
+            (jumps_at (redirect site.insn (distance_of site.moved)) (number_kind (known site.slot site.kinds) site.insn) is made_is (no_call site.insn flow) lead) e)
+
+        by_way : (o : Option Bool) → decided (known site.slot site.kinds) site.insn ≡ o → Caught passed u t
+        by_way None ed = by_result (by_kinds (known site.slot site.kinds) site.insn) refl reads (ap (λ o. option_map_or not o true) ed) (ap (λ o. option_map_or (λ (taken : Bool). taken) o true) ed)
+        by_way (Some way) ed =
+            let kinds : Kinds = known site.slot site.kinds in
+            caught passed t u (does old.order (redirect site.insn (distance_of site.moved)) t) (steps_by (redirect site.insn (distance_of site.moved)) is)
+            (decided_arrives old.order notes bounds.turns passed old.order site.insn (distance_of site.moved) (result_kind (known site.slot site.kinds) site.insn) (known site.slot site.kinds) s t u way state b ed
+            (λ no. falls_at (result_kind (known site.slot site.kinds) site.insn) refl (no_call site.insn flow) (ap (λ o. option_map_or not o true) (ed ∙ ap Some no)))
+            (λ yes. jumps_at (redirect site.insn (distance_of site.moved)) (result_kind (known site.slot site.kinds) site.insn) is refl (no_call site.insn flow) (ap (λ o. option_map_or (λ (taken : Bool). taken) o true) (ed ∙ ap Some yes))) e)
+
+    call_does : (off : ℤ) → site.insn ≡ CallLocal off → (is_alone notes ≡ false → AllPlain (known site.slot site.kinds)) → (undirected site.moved ≡ undirected site.insn) → does old.order (CallLocal off) s ≡ Some u → Caught passed u t
     unfolding does
     call_does off ei plain alike e =
         let z = distance_of site.moved in
         let is : site.moved ≡ CallLocal z = moved_is (CallLocal off) site.moved (alike ∙ ap undirected ei) in
         let room = cond_first _ (option_map (entered s) (target s.top.slot off)) u e in
         let to = unmapped (entered s) (target s.top.slot off) u room.1 in
-        let a = leads to.0 (ap₂ (λ x i. led x i) (sym old_at) ei ∙ to.1) in
+        let a = leads to.0 (ap₂ (λ x i. led x i) (sym old_at) ei ∙ to.1) (ap (may_lead (known site.slot site.kinds)) ei) in
         let enters : Enters notes new bounds.turns to.0 a.0 (listed (kinds_called (known site.slot site.kinds))) = subst (λ c. Reaches c notes new bounds.turns to.0 a.0 site.insn (known site.slot site.kinds)) (ap is_call ei) a.2 in
-        let falls_call : Arrives notes bounds.turns (s.top.slot + 1) (t.top.slot + 1) (kinds_behind (CallLocal off) (known site.slot site.kinds)) =
-        subst (λ i. goes_on i ≡ true → Arrives notes bounds.turns (s.top.slot + slot_count i) (t.top.slot + slot_count i) (kinds_behind i (known site.slot site.kinds))) ei (falls_at (result_kind (known site.slot site.kinds) site.insn) refl) refl in
+        let falls_call : Arrives notes bounds.turns (s.top.slot + 1) (t.top.slot + 1) (kinds_beyond (is_alone notes) false (CallLocal off) (known site.slot site.kinds)) =
+        subst (λ i. goes_on i ≡ true → Arrives notes bounds.turns (s.top.slot + slot_count i) (t.top.slot + slot_count i) (kinds_beyond (is_alone notes) false i (known site.slot site.kinds))) ei (falls_beyond (ap (may_fall (known site.slot site.kinds)) ei)) refl in
         called passed (kinds_called (known site.slot site.kinds)) to.0 a.0 t u (does old.order (CallLocal z) t) (own_does old.order (CallLocal off) s u b.top.eleven_old o e) (unset_called old.order notes bounds.turns passed (known site.slot site.kinds)) (steps_by (CallLocal z) is)
         (call_kept old.order notes bounds.turns passed off z (known site.slot site.kinds) s t u to.0 a.0 b plain falls_call to.1 (led_at (CallLocal z) a.0 is a.1) e) enters
 
@@ -209,25 +241,26 @@ module _ (computed : StepsAreComputed) (keeps : StepKeepsContext) (states : Runs
     exit_reads (inl some) = absurd (false≢true some)
     exit_reads (inr same) = same.0.0
 
-    call_plain : (off : ℤ) → Reads (known site.slot site.kinds) (CallLocal off) → AllPlain (known site.slot site.kinds)
-    call_plain off (inl some) = absurd (false≢true some)
-    call_plain off (inr same) = same.1.far refl
-
     exit_moved : site.insn ≡ Exit → (undirected site.moved ≡ undirected site.insn) → site.moved ≡ Exit
     exit_moved ei alike = moved_is Exit site.moved (alike ∙ ap undirected ei)
 
     alike_does : (i : Insn) → site.insn ≡ i → (undirected site.moved ≡ undirected site.insn) → Reads (known site.slot site.kinds) site.insn → does old.order i s ≡ Some u → Caught passed u t
-    alike_does (CallLocal off) ei alike reads e = call_does off ei (call_plain off (subst (Reads (known site.slot site.kinds)) ei reads)) alike e
+    alike_does (CallLocal off) ei alike reads e = call_does off ei (lone.calls (ap is_call ei)) alike e
     alike_does Exit ei alike reads e = caught passed t u (does old.order Exit t) (steps_by Exit (exit_moved ei alike)) (exit_kept old.order notes bounds.turns passed old.order (known site.slot site.kinds) s t u b (exit_reads (subst (Reads (known site.slot site.kinds)) ei reads)) e)
     alike_does i ei alike reads e = plain_does alike reads (ap is_flow ei) (ap (λ i. does old.order i s) ei ∙ e)
 
     from_body : length s.context < 2 ^ 32 → Pairs (known site.slot site.kinds) site.insn site.moved → does old.order site.insn s ≡ Some u → Caught passed u t
     from_body short (inl (alike, reads)) e = alike_does site.insn refl alike reads e
-    from_body short (inr a) e =
+    from_body short (inr (inl a)) e =
+        let made : Kind = number_kind (known site.slot site.kinds) site.insn in
         let h = is_load old.order notes bounds.turns passed site.insn site.moved (known site.slot site.kinds) a in
-        let made_is : result_kind (known site.slot site.kinds) site.insn ≡ Same = ap (λ o. option_map_or (λ (kind : Kind). kind) o Same) h.1.1 in
+        let made_is : result_kind (known site.slot site.kinds) site.insn ≡ number_kind (known site.slot site.kinds) site.insn = ap (λ o. option_map_or (λ (kind : Kind). kind) o (number_kind (known site.slot site.kinds) site.insn)) h.1.1 in
         caught passed t u (does old.order site.moved t) (steps_by site.moved refl)
-        (arrived old.order notes bounds.turns passed (kinds_after site.insn Same (known site.slot site.kinds)) _ _ u _ (by_address old.order notes bounds.turns passed old.order site.insn site.moved (known site.slot site.kinds) s t u b short a e) (falls_at Same made_is h.1.0))
+        (by_address old.order notes bounds.turns passed old.order site.insn site.moved (known site.slot site.kinds) s t u state b short a (falls_at made made_is (no_call site.insn h.0) h.1.0) e)
+    from_body short (inr (inr w)) e =
+        let h = narrow old.order notes bounds.turns passed (known site.slot site.kinds) site.insn site.moved w in
+        caught passed t u (does old.order site.moved t) (steps_by site.moved refl)
+        (widened_arrives old.order notes bounds.turns passed old.order site.insn site.moved (known site.slot site.kinds) s t u state b o w (falls_at (result_kind (known site.slot site.kinds) site.insn) refl (no_call site.insn h.0) h.1) e)
 
   between : (passed : ℕ → ℕ) (s t : State) (f : Follows old.order notes bounds.turns passed s t) → Between old.order notes bounds.turns passed (kind_in f.top.place.kinds) s t
   between passed s t f = record { top = f.top.fits; waiting = f.waiting; context_is = f.context_is }
@@ -306,7 +339,7 @@ module _ (computed : StepsAreComputed) (keeps : StepKeepsContext) (states : Runs
       let st = matches.each s.top.slot f.top.place i f.top.noted ei in
       let h = front passed i s t o f st (in_front passed i s ei sure few) in
       let site = st.is_site in
-      let c = from_body (counted passed s.top.slot) st.site s h.state u o h.between (sym site.slot_is) h.at site.stands st.falls st.leads (subst (λ n. n < 2 ^ 32) (sym sure.long) matches.short) site.pairs
+      let c = from_body (counted passed s.top.slot) st.site s h.state u sure.state o h.between (sym site.slot_is) h.at site.stands st.falls st.leads st.lone (subst (λ n. n < 2 ^ 32) (sym sure.long) matches.short) site.pairs
       (ap (λ i. does old.order i s) site.insn_is ∙ ed) in
       record { count = h.count + c.count; state = c.state; steps = runs new h.count c.count t h.state c.state h.steps c.steps; follows = c.follows })
 
@@ -339,20 +372,21 @@ module _ (computed : StepsAreComputed) (keeps : StepKeepsContext) (states : Runs
 
       ends_alike : (site : Site) → site.insn ≡ Exit → Pairs (known site.slot site.kinds) site.insn site.moved → (site.moved ≡ Exit) × (is_same (known site.slot site.kinds 0) ≡ true)
       ends_alike site ei (inl (alike, reads)) = (moved_is Exit site.moved (alike ∙ ap undirected ei), reads_exit (known site.slot site.kinds) site.insn ei reads)
-      ends_alike site ei (inr a) = absurd (none-some _ (sym (ap (λ i. rebased i a.new.base a.new.offset) ei) ∙ a.alike))
+      ends_alike site ei (inr (inl a)) = absurd (none-some _ (sym (ap (λ i. rebased i a.new.base a.new.offset) ei) ∙ a.alike))
+      ends_alike site ei (inr (inr w)) = absurd (none-some _ (sym (ap (widened (known site.slot site.kinds)) ei) ∙ w))
 
   -- ---- the run
 
-  start_between : (context : List ℕ) → Between old.order notes bounds.turns (visits old (start context) 0) (kind_in start_kinds) (start context) (start context)
-  start_between context = record { top = record { eleven_old = refl; eleven = refl; registers = each; long = as_many 512; stack = all_read empty_stack empty_stack (pairs_same empty_stack); slots = slots }; waiting = tt; context_is = refl }
+  start_between : (context : List ℕ) → length context ≡ bounds.length → Between old.order notes bounds.turns (visits old (start context) 0) (kind_in (start_kinds bounds.length)) (start context) (start context)
+  start_between context long = record { top = record { eleven_old = refl; eleven = refl; registers = each; long = as_many 512; stack = all_read empty_stack empty_stack (pairs_same empty_stack); slots = slots }; waiting = tt; context_is = refl }
     where
-      slots : (k : ℕ) → k < 64 → FitsSlot old.order bounds.turns (visits old (start context) 0) (register_in (start context).top) empty_stack empty_stack k (kind_in start_kinds (11 + k))
-      slots k lt = subst (λ kind. FitsSlot old.order bounds.turns (visits old (start context) 0) (register_in (start context).top) empty_stack empty_stack k kind) (sym (unset_listed (kind_in start_kinds) k lt)) (λ j lj. nothing_there 512 (8 * k + j))
+      slots : (k : ℕ) → k < 64 → FitsSlot old.order bounds.turns (visits old (start context) 0) (register_in (start context).top) empty_stack empty_stack k (kind_in (start_kinds bounds.length) (11 + k))
+      slots k lt = subst (λ kind. FitsSlot old.order bounds.turns (visits old (start context) 0) (register_in (start context).top) empty_stack empty_stack k kind) (sym (unset_listed (kind_in (start_kinds bounds.length)) k lt)) (λ j lj. nothing_there 512 (8 * k + j))
 
-      each : (r : ℕ) → r < 11 → FitsKind bounds.turns (visits old (start context) 0) (register_in (start context).top) r (kind_in start_kinds r) (register_in (start context).top r)
+      each : (r : ℕ) → r < 11 → FitsKind bounds.turns (visits old (start context) 0) (register_in (start context).top) r (kind_in (start_kinds bounds.length) r) (register_in (start context).top r)
       each zero lt = same_is_kept _
       each (suc zero) lt = (refl, refl)
-      each (suc (suc zero)) lt = same_is_kept _
+      each (suc (suc zero)) lt = record { number = length context; low = omega (arith, long); high = omega (arith, long); old_is = refl; new_is = refl }
       each (suc (suc (suc zero))) lt = same_is_kept _
       each (suc (suc (suc (suc zero)))) lt = same_is_kept _
       each (suc (suc (suc (suc (suc zero))))) lt = same_is_kept _
@@ -379,7 +413,7 @@ module _ (computed : StepsAreComputed) (keeps : StepKeepsContext) (states : Runs
   follows_run : (context : List ℕ) (k more : ℕ) (s : State) → AreBytes context → length context ≡ bounds.length → Steps old k (start context) s → Ends old more s → ((slot : ℕ) → visits old (start context) k slot ≤ bounds.turns)
       → (n : ℕ) × (t : State) × Steps new n (start context) t × Follows old.order notes bounds.turns (visits old (start context) k) s t × (length s.context ≡ bounds.length) × Owns s
   follows_run context zero more s bytes long run ends few =
-      let h = entered_by (visits old (start context) 0) start_kinds (start context) (start context) (own_start context) (start_between context) matches.start in
+      let h = entered_by (visits old (start context) 0) (start_kinds bounds.length) (start context) (start context) (own_start context) (start_between context long) matches.start in
       (h.count, h.state, h.steps, subst (λ s. Follows old.order notes bounds.turns (visits old (start context) 0) s h.state) (sym run) h.follows, ap (λ s. length s.context) run ∙ long, subst Owns (sym run) (own_start context))
   follows_run context (suc k) more s bytes long (mid, run, step) ends few =
       let before = follows_run context k (suc more) mid bytes long run (s, step, ends) (λ slot. no_more _ _ bounds.turns (few slot)) in

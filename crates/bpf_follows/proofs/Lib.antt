@@ -10,11 +10,15 @@ mod Slots
 mod Frames
 mod Between
 mod Near
+mod Bytes
+mod Known
 mod Instruction
 mod Onward
 mod Offsets
 mod Extra
 mod Kept
 mod OffsetInsn
+mod ExactInsn
+mod Wide
 mod Calls
 mod Law

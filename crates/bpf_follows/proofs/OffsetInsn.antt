@@ -9,12 +9,13 @@ use Rattle.std.proofs.lemmas.Bool.Decides.{Decides-int_eq}
 use Rattle.std.proofs.lemmas.Int.{ints}
 use Rattle.bpf_insn.specs.Arithmetic.{modulo, extended}
 use Rattle.bpf_insn.specs.Effects.{Access}
-use Rattle.bpf_insn.specs.Instruction.{register_number, byte_count, slot_count, goes_on}
+use Rattle.bpf_insn.specs.Instruction.{register_number, byte_count}
 use Rattle.bpf_insn.specs.declared.order.Order.{Order}
 use Rattle.bpf_insn.specs.declared.instruction.Reg.{Reg}
 use Rattle.bpf_insn.specs.declared.instruction.Operand.{Operand}
 use Rattle.bpf_insn.specs.declared.instruction.Operand.TheVariants.{Imm, Reg as FromReg}
 use Rattle.bpf_insn.specs.declared.instruction.Size.TheVariants.{DW}
+use Rattle.bpf_insn.specs.declared.instruction.Width.{Width}
 use Rattle.bpf_insn.specs.declared.instruction.Width.TheVariants.{W64}
 use Rattle.bpf_insn.specs.declared.instruction.AluOp.{AluOp}
 use Rattle.bpf_insn.specs.declared.instruction.AluOp.TheVariants.{Add, Sub, Mov}
@@ -22,7 +23,7 @@ use Rattle.bpf_insn.specs.declared.instruction.Cond.{Cond}
 use Rattle.bpf_insn.specs.declared.instruction.Cond.TheVariants.{Eq, Ne}
 use Rattle.bpf_insn.specs.declared.instruction.Insn.{Insn}
 use Rattle.bpf_insn.specs.declared.instruction.Insn.TheVariants.{Alu, Load, LoadSx, Store, JumpIf}
-use Rattle.bpf_semantics.specs.State.{State, depth, register, put}
+use Rattle.bpf_semantics.specs.State.{State, IsState, depth, register, put}
 use Rattle.bpf_semantics.specs.Memory.{Location, location_of, inside}
 use Rattle.bpf_semantics.specs.Memory.Location.{InContext, InFrame}
 use Rattle.bpf_semantics.specs.Step.{does, next, operand, alu_of_values, alu_result, test_of_values, load, load_extended, store, jump, wrapped}
@@ -33,8 +34,10 @@ use Rattle.bpf_follows.specs.declared.notes.Kind.{Kind}
 use Rattle.bpf_follows.specs.declared.notes.Kind.TheVariants.{Nothing, Same, Offset, Fixed, Start, Address}
 use Rattle.bpf_follows.specs.declared.notes.Place.{Place}
 use Rattle.bpf_follows.specs.Relation.{Kinds, HasOffset, as_number, as_pointer, IsRead, EachPair, Holds, FitsKind, FitsSlot, register_in, is_of_other}
+use Rattle.bpf_follows.specs.Numbers.{loaded_number, number_kind}
 use Rattle.bpf_follows.specs.Extras.{is_same, is_base, is_r10, slot_of}
-use Rattle.bpf_follows.specs.Matching.{is_offset, copy_kind, computed, farthest, fixed_at, moved_kind, is_equality, are_offsets, is_spilled, slot_offset, loaded, spilled, by_offsets, are_same_place, is_same_place, ByAddress, kinds_after}
+use Rattle.bpf_follows.specs.Exact.{farthest, fixed_at, may_fall}
+use Rattle.bpf_follows.specs.Matching.{is_offset, copy_kind, computed, moved_kind, is_equality, are_offsets, slot_offset, loaded, spilled, by_offsets, by_kinds, are_same_place, is_same_place, ByAddress, kinds_after}
 use Rattle.bpf_semantics.proofs.NumberLemmas.{modulo_below}
 use Rattle.bpf_follows.proofs.Lists.{bind, unmapped, cond_first, same_is_kept, as_long, Cells}
 use Rattle.bpf_follows.proofs.Owns.{Owns}
@@ -42,10 +45,11 @@ use Rattle.bpf_follows.proofs.Slots.{register_below, load_holds, with_value, val
 use Rattle.bpf_follows.proofs.Near.{near, whole_slot_at, at_slot_whole, stored, in_some, in_one}
 use Rattle.bpf_follows.proofs.Offsets.{up, up_from, down, apart, wrapped_fits, wrapped_near, equal_offsets, fits_64, moved_number, near_zero, fixed_sum}
 use Rattle.bpf_follows.proofs.Between.{Between, Goes, goes_as, same_depth, stands_at, location_same, PointersKept, own_stack, own_stack_of, load_kept, load_extended_kept, value_near}
+use Rattle.bpf_follows.proofs.Known.{load_own, load_known, told_between}
 use Rattle.bpf_follows.proofs.Instruction.{both_true, plus_zero, same_kept, put_as, behind_store, Arrived, arrived, tested, FallArrives, JumpArrives, redirect, is_flow}
 use Rattle.bpf_follows.proofs.Extra.{base_has, lies}
 
-cond_is : {A : Type 0} (b : Bool) (x y : A) → (if b then Some x else None) ≡ Some y → (b ≡ true) × (x ≡ y)
+pub cond_is : {A : Type 0} (b : Bool) (x y : A) → (if b then Some x else None) ≡ Some y → (b ≡ true) × (x ≡ y)
 cond_is true x y e = (refl, same_Some _ _ e)
 cond_is false x y e = absurd (none-some _ e)
 
@@ -61,14 +65,14 @@ module _ (ends : Order) (notes : List (Option Place)) (turns : ℕ) (passed : �
   offset_has old r kind new e f = absurd (false≢true e)
 
   -- what the new machine computes, where the old one computes v
-  record Computes (kind : Kind) (v : Value) (o : Option Value) : Type 0 where
-    value : Value
-    is : o ≡ Some value
-    own : is_of_other kind ≡ false
-    fits : FitsKind turns passed (λ q. Some v) 0 kind (Some value)
+  pub record Computes (kind : Kind) (v : Value) (o : Option Value) : Type 0 where
+    pub value : Value
+    pub is : o ≡ Some value
+    pub own : is_of_other kind ≡ false
+    pub fits : FitsKind turns passed (λ q. Some v) 0 kind (Some value)
 
   -- a pointer that is moved, and the number
-  moves_to : (z : ℤ) (v : Value) (n : ℕ) (o : Option Value) → Pointer Context (wrapped z) ≡ v → o ≡ Some (Number n) → n ≡ modulo (wrapped z +ℤ pos 0) (2 ^ 64) → Computes Offset v o
+  pub moves_to : (z : ℤ) (v : Value) (n : ℕ) (o : Option Value) → Pointer Context (wrapped z) ≡ v → o ≡ Some (Number n) → n ≡ modulo (wrapped z +ℤ pos 0) (2 ^ 64) → Computes Offset v o
   moves_to z v n o ev eo en = record { value = Number n; is = eo; own = refl; fits = record { offset = wrapped z; fits = wrapped_fits z; old_is = ap Some (sym ev); new_is = ap (λ n. Some (Number n)) en } }
 
   -- a pointer into the context at an offset that is always the same, and a constant
@@ -181,16 +185,16 @@ module _ (ends : Order) (notes : List (Option Place)) (turns : ℕ) (passed : �
 
   -- ---- the instructions
 
-  fits_in : (kinds : Kinds) (s t : State) (r : Reg) → Between ends notes turns passed kinds s t → FitsKind turns passed (register_in s.top) (register_number r) (kinds (register_number r)) (register t r)
+  pub fits_in : (kinds : Kinds) (s t : State) (r : Reg) → Between ends notes turns passed kinds s t → FitsKind turns passed (register_in s.top) (register_number r) (kinds (register_number r)) (register t r)
   fits_in kinds s t r b = b.top.registers (register_number r) (register_below r)
 
-  alu_arrives : (order : Order) (op : AluOp) (dst : Reg) (src : Operand) (made : Kind) (kinds : Kinds) (s t u : State) (v : Value) → Between ends notes turns passed kinds s t
-      → Computes made v (option_and_then (alu_result W64 op (register t dst)) (operand t src)) → put dst v (next (Alu op W64 dst src) s) ≡ Some u
-      → Goes ends notes turns passed (kinds_after (Alu op W64 dst src) made kinds) (s.top.slot + 1) (t.top.slot + 1) u (does order (Alu op W64 dst src) t)
+  pub alu_arrives : (order : Order) (width : Width) (op : AluOp) (dst : Reg) (src : Operand) (made : Kind) (kinds : Kinds) (s t u : State) (v : Value) → Between ends notes turns passed kinds s t
+      → Computes made v (option_and_then (alu_result width op (register t dst)) (operand t src)) → put dst v (next (Alu op width dst src) s) ≡ Some u
+      → Goes ends notes turns passed (kinds_after (Alu op width dst src) made kinds) (s.top.slot + 1) (t.top.slot + 1) u (does order (Alu op width dst src) t)
   unfolding does
-  alu_arrives order op dst src made kinds s t u v b c e = option_and_then_some (alu_result W64 op (register t dst)) (operand t src) c.value c.is (λ x ex ev.
-      goes_as ends notes turns passed _ _ _ u _ _ (bind _ (operand t src) x _ ex (bind _ (alu_result W64 op (register t dst) x) c.value _ ev refl))
-      (put_as ends notes turns passed kinds s t u (Alu op W64 dst src) made dst v c.value (λ q. refl) c.own c.fits b e))
+  alu_arrives order width op dst src made kinds s t u v b c e = option_and_then_some (alu_result width op (register t dst)) (operand t src) c.value c.is (λ x ex ev.
+      goes_as ends notes turns passed _ _ _ u _ _ (bind _ (operand t src) x _ ex (bind _ (alu_result width op (register t dst) x) c.value _ ev refl))
+      (put_as ends notes turns passed kinds s t u (Alu op width dst src) made dst v c.value (λ q. refl) c.own c.fits b e))
 
   eq_tests : (a b : ℤ) → FitsSigned w64 a → FitsSigned w64 b → test_of_values W64 Eq (as_number (a +ℤ pos 0)) (as_number (b +ℤ pos 0)) ≡ test_of_values W64 Eq (Pointer Context a) (Pointer Context b)
   eq_tests a b fa fb = ap Some (equal_offsets a b fa fb)
@@ -206,11 +210,11 @@ module _ (ends : Order) (notes : List (Option Place)) (turns : ℕ) (passed : �
   -- two offsets are tested as the pointers are
   offsets_tested : (order : Order) (cond : Cond) (dst src : Reg) (off z : ℤ) (kind : Kind) (kinds : Kinds) (s t u : State)
       → ((a b : ℤ) → FitsSigned w64 a → FitsSigned w64 b → test_of_values W64 cond (as_number (a +ℤ pos 0)) (as_number (b +ℤ pos 0)) ≡ test_of_values W64 cond (Pointer Context a) (Pointer Context b))
-      → Between ends notes turns passed kinds s t → are_offsets kinds dst src ≡ true
+      → IsState s → Between ends notes turns passed kinds s t → are_offsets kinds dst src ≡ true
       → FallArrives ends notes turns passed (JumpIf cond W64 dst (FromReg src) off) kind kinds s.top.slot t.top.slot → JumpArrives ends notes turns passed (JumpIf cond W64 dst (FromReg src) off) (JumpIf cond W64 dst (FromReg src) z) kind kinds s.top.slot t.top.slot
       → does order (JumpIf cond W64 dst (FromReg src) off) s ≡ Some u → Arrived ends notes turns passed u (does order (JumpIf cond W64 dst (FromReg src) z) t)
   unfolding does
-  offsets_tested order cond dst src off z kind kinds s t u tests b both falls jumps e =
+  offsets_tested order cond dst src off z kind kinds s t u tests state b both falls jumps e =
       option_and_then_some _ (register s dst) u e (λ x ex e1. option_and_then_some _ (register s src) u e1 (λ y ey e2. option_and_then_some _ (test_of_values W64 cond x y) u e2 (λ taken et e3.
       let k = both_true (is_offset (kinds (register_number dst))) (is_offset (kinds (register_number src))) both in
       let h = offset_has (register_in s.top) (register_number dst) (kinds (register_number dst)) (register t dst) k.0 (fits_in kinds s t dst b) in
@@ -218,7 +222,7 @@ module _ (ends : Order) (notes : List (Option Place)) (turns : ℕ) (passed : �
       let x_is : x ≡ Pointer Context h.offset = same_Some _ _ (sym ex ∙ h.old_is) in
       let y_is : y ≡ Pointer Context l.offset = same_Some _ _ (sym ey ∙ l.old_is) in
       let answer : test_of_values W64 cond (as_number (h.offset +ℤ pos 0)) (as_number (l.offset +ℤ pos 0)) ≡ Some taken = tests h.offset l.offset h.fits l.fits ∙ ap₂ (λ x y. test_of_values W64 cond x y) (sym x_is) (sym y_is) ∙ et in
-      let way = tested ends notes turns passed order cond W64 dst (FromReg src) off z kind kinds s t u taken b falls jumps e3 in
+      let way = tested ends notes turns passed order cond W64 dst (FromReg src) off z kind kinds s t u taken (told_between ends notes turns passed cond W64 dst (FromReg src) off taken kinds s t x y state b ex ey et) (λ no. falls) (λ yes. jumps) e3 in
       record {
         state = way.state;
         is = bind _ (register t dst) (as_number (h.offset +ℤ pos 0)) _ h.new_is (bind _ (register t src) (as_number (l.offset +ℤ pos 0)) _ l.new_is (bind (λ c. if c then jump t z else Some (next (JumpIf cond W64 dst (FromReg src) z) t)) (test_of_values W64 cond (as_number (h.offset +ℤ pos 0)) (as_number (l.offset +ℤ pos 0))) taken _ answer way.is));
@@ -231,9 +235,45 @@ module _ (ends : Order) (notes : List (Option Place)) (turns : ℕ) (passed : �
       let number : register_number r ≡ 10 = eqb-true (register_number r) 10 r10 in
       same_kept ends notes turns passed (register_in s.top) (register_number r) (kinds (register_number r)) (register t r) (subst (λ n. is_same (kinds n) ≡ true) (sym number) same) (fits_in kinds s t r b) base eb
 
-  spilled_is : (kind : Kind) → is_spilled kind ≡ true → kind ≡ Offset
-  spilled_is Offset e = refl
-  spilled_is kind e = absurd (false≢true e)
+  -- an offset that a slot holds
+  record Spilled (xs ys : Cells) (k : ℕ) (kind : Kind) : Type 0 where
+    offset : ℤ
+    fits : FitsSigned w64 offset
+    old_is : Holds ends xs k (Pointer Context offset)
+    new_is : Holds ends ys k (as_number offset)
+    own : is_of_other kind ≡ false
+    in_register : FitsKind turns passed (λ q. Some (Pointer Context offset)) 0 kind (Some (as_number offset))
+
+  spilled_has : (registers : ℕ → Option Value) (xs ys : Cells) (k : ℕ) (kind : Kind) → is_offset kind ≡ true → FitsSlot ends turns passed registers xs ys k kind → Spilled xs ys k kind
+  spilled_has registers xs ys k Offset e f = record {
+    offset = f.offset;
+    fits = f.fits;
+    old_is = f.old_is;
+    new_is = f.new_is;
+    own = refl;
+    in_register = record { offset = f.offset; fits = f.fits; old_is = refl; new_is = ap (λ z. Some (as_number z)) (plus_zero f.offset) };
+  }
+  spilled_has registers xs ys k (Fixed offset) e f = record { offset = offset; fits = f.fits; old_is = f.old_is; new_is = f.new_is; own = refl; in_register = (f.fits, refl, refl) }
+  spilled_has registers xs ys k kind e f = absurd (false≢true e)
+
+  -- an offset that is put into a slot
+  record Spills (kind : Kind) (old new : Option Value) : Type 0 where
+    offset : ℤ
+    fits : FitsSigned w64 offset
+    old_is : old ≡ Some (Pointer Context offset)
+    new_is : new ≡ Some (as_number offset)
+    in_slot : (registers : ℕ → Option Value) (xs ys : Cells) (k : ℕ) → Holds ends xs k (Pointer Context offset) → Holds ends ys k (as_number offset) → FitsSlot ends turns passed registers xs ys k kind
+
+  spills : (old : ℕ → Option Value) (r : ℕ) (kind : Kind) (new : Option Value) → is_offset kind ≡ true → FitsKind turns passed old r kind new → Spills kind (old r) new
+  spills old r Offset new e f = record {
+    offset = f.offset;
+    fits = f.fits;
+    old_is = f.old_is;
+    new_is = f.new_is ∙ ap (λ z. Some (as_number z)) (sym (plus_zero f.offset));
+    in_slot = λ registers xs ys k a b. record { offset = f.offset; fits = f.fits; old_is = a; new_is = b };
+  }
+  spills old r (Fixed offset) new e f = record { offset = offset; fits = f.0; old_is = f.1; new_is = f.2; in_slot = λ registers xs ys k a b. record { fits = f.0; old_is = a; new_is = b } }
+  spills old r kind new e f = absurd (false≢true e)
 
   -- an offset is loaded from the frame
   loads_offset : (dst src : Reg) (off : ℤ) (made : Kind) (kinds : Kinds) (s t u : State) → Owns s → Between ends notes turns passed kinds s t → loaded kinds src off ≡ Some made → does ends (Load DW dst src off) s ≡ Some u
@@ -244,10 +284,10 @@ module _ (ends : Order) (notes : List (Option Place)) (turns : ℕ) (passed : �
       let c = cond_first (is_r10 src && is_same (kinds 10)) (option_and_then (slot_offset kinds) (slot_of off)) made e in
       let k = both_true (is_r10 src) (is_same (kinds 10)) c.0 in
       option_and_then_some (slot_offset kinds) (slot_of off) made c.1 (λ m em ek.
-      let made_is = cond_is (is_spilled (kinds (11 + m))) Offset made ek in
+      let made_is = cond_is (is_offset (kinds (11 + m))) (kinds (11 + m)) made ek in
       let w = whole_slot_at off m em in
       let at_is : at ≡ InFrame (depth s) (8 * m) = at_slot_whole s 8 off at m (near s src 8 off base at o k.0 eb el) w in
-      let h = subst (λ kind. FitsSlot ends turns passed (register_in s.top) s.top.stack t.top.stack m kind) (spilled_is (kinds (11 + m)) made_is.0) (b.top.slots m w.below) in
+      let h = spilled_has (register_in s.top) s.top.stack t.top.stack m (kinds (11 + m)) made_is.0 (b.top.slots m w.below) in
       let old_holds = subst (λ xs. Holds ends xs m (Pointer Context h.offset)) (sym (own_stack ends notes turns passed s)) h.old_is in
       let new_holds = subst (λ xs. Holds ends xs m (as_number h.offset)) (sym (own_stack_of ends notes turns passed kinds s t b)) h.new_is in
       let v_is : Pointer Context h.offset ≡ v = same_Some _ _ (sym (load_holds ends s (depth s) m (Pointer Context h.offset) old_holds) ∙ subst (λ at. load ends s DW at ≡ Some v) at_is ev) in
@@ -256,7 +296,7 @@ module _ (ends : Order) (notes : List (Option Place)) (turns : ℕ) (passed : �
       subst (λ made. Goes ends notes turns passed (kinds_after (Load DW dst src off) made kinds) (s.top.slot + 1) (t.top.slot + 1) u (does ends (Load DW dst src off) t)) made_is.1
       (goes_as ends notes turns passed _ _ _ u _ _
       (bind _ (register t src) base _ (own_base kinds s t src base b k.0 k.1 eb) (bind _ (location_of t 8 off base) at _ (location_same ends notes turns passed s t 8 off base (same_depth ends notes turns passed kinds s t b) b.context_is ∙ el) (bind _ (load ends t DW at) x _ loads refl)))
-      (put_as ends notes turns passed kinds s t u (Load DW dst src off) Offset dst v x (λ q. refl) refl (record { offset = h.offset; fits = h.fits; old_is = ap Some (sym v_is); new_is = ap (λ z. Some (as_number z)) (plus_zero h.offset) }) b e3))))))
+      (put_as ends notes turns passed kinds s t u (Load DW dst src off) (kinds (11 + m)) dst v x (λ q. refl) h.own (subst (λ v. FitsKind turns passed (λ q. Some v) 0 (kinds (11 + m)) (Some (as_number h.offset))) v_is h.in_register) b e3))))))
 
   -- an offset is stored to the frame
   stores_offset : (dst src : Reg) (off : ℤ) (made : Kind) (kinds : Kinds) (s t u : State) → Owns s → Between ends notes turns passed kinds s t → spilled kinds dst off src ≡ Some made → does ends (Store DW dst off src) s ≡ Some u
@@ -265,69 +305,65 @@ module _ (ends : Order) (notes : List (Option Place)) (turns : ℕ) (passed : �
   stores_offset dst src off made kinds s t u o b e es =
       option_and_then_some _ (register s dst) u es (λ base eb e1. option_and_then_some _ (register s src) u e1 (λ v ev e2. option_and_then_some _ (location_of s 8 off base) u e2 (λ at el e3.
       let i : Insn = Store DW dst off src in
-      let c = cond_first ((is_r10 dst && is_same (kinds 10)) && is_offset (kinds (register_number src))) (option_map (λ k. Offset) (slot_of off)) made e in
+      let c = cond_first ((is_r10 dst && is_same (kinds 10)) && is_offset (kinds (register_number src))) (option_map (λ k. kinds (register_number src)) (slot_of off)) made e in
       let k = both_true (is_r10 dst && is_same (kinds 10)) (is_offset (kinds (register_number src))) c.0 in
       let l = both_true (is_r10 dst) (is_same (kinds 10)) k.0 in
-      let m = unmapped (λ k. Offset) (slot_of off) made c.1 in
+      let m = unmapped (λ k. kinds (register_number src)) (slot_of off) made c.1 in
       let w = whole_slot_at off m.0 m.1 in
       let n = near s dst 8 off base at o l.0 eb el in
       let at_is : at ≡ InFrame (depth s) (8 * m.0) = at_slot_whole s 8 off at m.0 n w in
-      let h = offset_has (register_in s.top) (register_number src) (kinds (register_number src)) (register t src) k.1 (fits_in kinds s t src b) in
+      let h = spills (register_in s.top) (register_number src) (kinds (register_number src)) (register t src) k.1 (fits_in kinds s t src b) in
       let v_is : v ≡ Pointer Context h.offset = same_Some _ _ (sym ev ∙ h.old_is) in
-      let x : Value = as_number (h.offset +ℤ pos 0) in
+      let x : Value = as_number h.offset in
       let a : Access = record { base = dst; offset = off; size = DW; reads = false; writes = true } in
       let stands = stands_at ends notes turns passed kinds s t (s.top.slot + 1) (t.top.slot + 1) b in
       let step : store ends DW (Pointer Context h.offset) (InFrame (depth s) (8 * m.0)) (next i s) ≡ Some u = subst (λ v. store ends DW v (InFrame (depth s) (8 * m.0)) (next i s) ≡ Some u) v_is (subst (λ at. store ends DW v at (next i s) ≡ Some u) at_is e3) in
-      let puts = value_near ends notes turns passed ends kinds (stored i Offset kinds) Offset (next i s) (next i t) u m.0 (Pointer Context h.offset) x stands
-      (in_one kinds (stored i Offset kinds) m.0 Offset (in_some i a Offset kinds (8 * m.0) refl refl l.0 w.away)) w.below
+      let puts = value_near ends notes turns passed ends kinds (stored i (kinds (register_number src)) kinds) (kinds (register_number src)) (next i s) (next i t) u m.0 (Pointer Context h.offset) x stands
+      (in_one kinds (stored i (kinds (register_number src)) kinds) m.0 (kinds (register_number src)) (in_some i a (kinds (register_number src)) kinds (8 * m.0) refl refl l.0 w.away)) w.below
       (offset_parts h.offset x m.0 s.top.stack t.top.stack b.top.stack)
-      (offset_slot kinds s t h.offset m.0 h.fits w.below b)
+      (offset_slot kinds s t h.offset m.0 (kinds (register_number src)) h.fits w.below b h.in_slot)
       step in
       subst (λ made. Goes ends notes turns passed (kinds_after i made kinds) (s.top.slot + 1) (t.top.slot + 1) u (does ends i t)) m.2
-      (behind_store ends notes turns passed i Offset kinds _ _ u _ refl refl
+      (behind_store ends notes turns passed i (kinds (register_number src)) kinds _ _ u _ refl refl
       (goes_as ends notes turns passed _ _ _ u _ _
       (bind _ (register t dst) base _ (own_base kinds s t dst base b l.0 l.1 eb) (bind _ (register t src) x _ h.new_is (bind _ (location_of t 8 off base) at _ (location_same ends notes turns passed s t 8 off base (same_depth ends notes turns passed kinds s t b) b.context_is ∙ el) (ap (λ at. store ends DW x at (next i t)) at_is))))
       puts)))))
     where
-      offset_parts : (offset : ℤ) (x : Value) (m : ℕ) (xs ys : Cells) → EachPair IsRead xs ys → EachPair IsRead (with_value ends (Pointer Context offset) (8 * m) xs) (with_value ends (as_number (offset +ℤ pos 0)) (8 * m) ys)
-      offset_parts offset x m xs ys h = offset_put ends (modulo (offset +ℤ pos 0) (2 ^ 64)) Context offset (8 * m) xs ys h
+      offset_parts : (offset : ℤ) (x : Value) (m : ℕ) (xs ys : Cells) → EachPair IsRead xs ys → EachPair IsRead (with_value ends (Pointer Context offset) (8 * m) xs) (with_value ends (as_number offset) (8 * m) ys)
+      offset_parts offset x m xs ys h = offset_put ends (modulo offset (2 ^ 64)) Context offset (8 * m) xs ys h
 
-      offset_slot : (kinds : Kinds) (s t : State) (offset : ℤ) (m : ℕ) → FitsSigned w64 offset → m < 64 → Between ends notes turns passed kinds s t
-          → FitsSlot ends turns passed (register_in s.top) (with_value ends (Pointer Context offset) (8 * m) s.top.stack) (with_value ends (as_number (offset +ℤ pos 0)) (8 * m) t.top.stack) m Offset
-      offset_slot kinds s t offset m f below b =
+      offset_slot : (kinds : Kinds) (s t : State) (offset : ℤ) (m : ℕ) (kind : Kind) → FitsSigned w64 offset → m < 64 → Between ends notes turns passed kinds s t
+          → ((registers : ℕ → Option Value) (xs ys : Cells) (k : ℕ) → Holds ends xs k (Pointer Context offset) → Holds ends ys k (as_number offset) → FitsSlot ends turns passed registers xs ys k kind)
+          → FitsSlot ends turns passed (register_in s.top) (with_value ends (Pointer Context offset) (8 * m) s.top.stack) (with_value ends (as_number offset) (8 * m) t.top.stack) m kind
+      offset_slot kinds s t offset m kind f below b in_slot =
           let long : length s.top.stack ≡ 512 = b.top.long in
           let same : length t.top.stack ≡ length s.top.stack = as_long IsRead s.top.stack t.top.stack b.top.stack in
-          record {
-            offset = offset;
-            fits = f;
-            old_is = value_put ends (Pointer Context offset) m s.top.stack (omega arith) f;
-            new_is = subst (λ z. Holds ends (with_value ends (as_number (offset +ℤ pos 0)) (8 * m) t.top.stack) m (as_number z)) (sym (plus_zero offset)) (value_put ends (as_number (offset +ℤ pos 0)) m t.top.stack (omega arith) (modulo_below (offset +ℤ pos 0)));
-          }
+          in_slot (register_in s.top) _ _ m (value_put ends (Pointer Context offset) m s.top.stack (omega arith) f) (value_put ends (as_number offset) m t.top.stack (omega arith) (modulo_below offset))
 
   -- what is said of each instruction that does on offsets what the old one does on pointers
-  pub offsets_arrive : (order : Order) (i : Insn) (z : ℤ) (made : Kind) (kinds : Kinds) (s t u : State) → order ≡ ends → Owns s → Between ends notes turns passed kinds s t → by_offsets kinds i ≡ Some made
+  pub offsets_arrive : (order : Order) (i : Insn) (z : ℤ) (made : Kind) (kinds : Kinds) (s t u : State) → order ≡ ends → IsState s → Owns s → Between ends notes turns passed kinds s t → by_offsets kinds i ≡ Some made
       → FallArrives ends notes turns passed i made kinds s.top.slot t.top.slot → JumpArrives ends notes turns passed i (redirect i z) made kinds s.top.slot t.top.slot → does order i s ≡ Some u → Arrived ends notes turns passed u (does order (redirect i z) t)
   unfolding does
-  offsets_arrive order (Alu op W64 dst (Imm imm)) z made kinds s t u same o b e falls jumps es = option_and_then_some _ (alu_result W64 op (register s dst) (Number (extended imm))) u es (λ v ev ep.
+  offsets_arrive order (Alu op W64 dst (Imm imm)) z made kinds s t u same state o b e falls jumps es = option_and_then_some _ (alu_result W64 op (register s dst) (Number (extended imm))) u es (λ v ev ep.
       arrived ends notes turns passed _ _ _ u _
-      (alu_arrives order op dst (Imm imm) made kinds s t u v b (moved_by op (kinds (register_number dst)) made (register_in s.top) (register_number dst) (register t dst) imm v e (fits_in kinds s t dst b) ev) ep) (falls refl))
-  offsets_arrive order (Alu op W64 dst (FromReg src)) z made kinds s t u same o b e falls jumps es = option_and_then_some _ (register s src) u es (λ x ex e1. option_and_then_some _ (alu_result W64 op (register s dst) x) u e1 (λ v ev ep.
+      (alu_arrives order W64 op dst (Imm imm) made kinds s t u v b (moved_by op (kinds (register_number dst)) made (register_in s.top) (register_number dst) (register t dst) imm v e (fits_in kinds s t dst b) ev) ep) (falls refl))
+  offsets_arrive order (Alu op W64 dst (FromReg src)) z made kinds s t u same state o b e falls jumps es = option_and_then_some _ (register s src) u es (λ x ex e1. option_and_then_some _ (alu_result W64 op (register s dst) x) u e1 (λ v ev ep.
       arrived ends notes turns passed _ _ _ u _
-      (alu_arrives order op dst (FromReg src) made kinds s t u v b
+      (alu_arrives order W64 op dst (FromReg src) made kinds s t u v b
       (computed_by op (kinds (register_number dst)) (kinds (register_number src)) made (register_in s.top) (register_number dst) (register_number src) (register t dst) (register t src) x v e (fits_in kinds s t dst b) (fits_in kinds s t src b) ex ev) ep) (falls refl)))
-  offsets_arrive order (JumpIf cond W64 dst (FromReg src) off) z made kinds s t u same o b e falls jumps es =
+  offsets_arrive order (JumpIf cond W64 dst (FromReg src) off) z made kinds s t u same state o b e falls jumps es =
       let c = cond_is (is_equality cond && are_offsets kinds dst src) Nothing made e in
       let k = both_true (is_equality cond) (are_offsets kinds dst src) c.0 in
-      offsets_tested order cond dst src off z made kinds s t u (equality_tests cond k.0) b k.1 falls jumps es
-  offsets_arrive order (Load DW dst src off) z made kinds s t u same o b e falls jumps es =
+      offsets_tested order cond dst src off z made kinds s t u (equality_tests cond k.0) state b k.1 falls jumps es
+  offsets_arrive order (Load DW dst src off) z made kinds s t u same state o b e falls jumps es =
       arrived ends notes turns passed _ _ _ u _
       (subst (λ order. Goes ends notes turns passed (kinds_after (Load DW dst src off) made kinds) (s.top.slot + 1) (t.top.slot + 1) u (does order (Load DW dst src off) t)) (sym same)
       (loads_offset dst src off made kinds s t u o b e (subst (λ order. does order (Load DW dst src off) s ≡ Some u) same es))) (falls refl)
-  offsets_arrive order (Store DW dst off src) z made kinds s t u same o b e falls jumps es =
+  offsets_arrive order (Store DW dst off src) z made kinds s t u same state o b e falls jumps es =
       arrived ends notes turns passed _ _ _ u _
       (subst (λ order. Goes ends notes turns passed (kinds_after (Store DW dst off src) made kinds) (s.top.slot + 1) (t.top.slot + 1) u (does order (Store DW dst off src) t)) (sym same)
       (stores_offset dst src off made kinds s t u o b e (subst (λ order. does order (Store DW dst off src) s ≡ Some u) same es))) (falls refl)
-  offsets_arrive order i z made kinds s t u same o b e falls jumps es = absurd (none-some _ e)
+  offsets_arrive order i z made kinds s t u same state o b e falls jumps es = absurd (none-some _ e)
 
   -- ---- loads by other registers
 
@@ -385,35 +421,37 @@ module _ (ends : Order) (notes : List (Option Place)) (turns : ℕ) (passed : �
       by_kinds kind other f g e = absurd (false≢true e)
 
   -- a load by another register loads the same
-  pub by_address : (order : Order) (i moved : Insn) (kinds : Kinds) (s t u : State) → Between ends notes turns passed kinds s t → length s.context < 2 ^ 32 → ByAddress kinds i moved → does order i s ≡ Some u
-      → Goes ends notes turns passed (kinds_after i Same kinds) (s.top.slot + slot_count i) (t.top.slot + slot_count i) u (does order moved t)
+  pub by_address : (order : Order) (i moved : Insn) (kinds : Kinds) (s t u : State) → IsState s → Between ends notes turns passed kinds s t → length s.context < 2 ^ 32 → ByAddress kinds i moved → FallArrives ends notes turns passed i (number_kind kinds i) kinds s.top.slot t.top.slot
+      → does order i s ≡ Some u → Arrived ends notes turns passed u (does order moved t)
   unfolding does
-  by_address order (Load size dst src off) moved kinds s t u b short a e =
+  by_address order (Load size dst src off) moved kinds s t u state b short a falls e =
       let k : ℕ = byte_count size in
       let old : Access = record { base = src; offset = off; size = size; reads = true; writes = false } in
       option_and_then_some _ (register s src) u e (λ base eb e1. option_and_then_some _ (location_of s k off base) u e1 (λ at ea e2. option_and_then_some _ (load order s size at) u e2 (λ v ev e3.
       let old_is : old ≡ a.old = same_Some _ _ a.old_is in
       let place : SamePlace s t old a.new base at = same_place kinds s t old a.new base at b short a.near (subst (λ old. is_same_place kinds old a.new ≡ true) (sym old_is) a.same_place) eb ea in
       let moved_is : Load size dst a.new.base a.new.offset ≡ moved = same_Some _ _ a.alike in
-      subst (λ m. Goes ends notes turns passed (kinds_after (Load size dst src off) Same kinds) (s.top.slot + 1) (t.top.slot + 1) u (does order m t)) moved_is
+      arrived ends notes turns passed _ _ _ u _
+      (subst (λ m. Goes ends notes turns passed (kinds_after (Load size dst src off) (loaded_number size) kinds) (s.top.slot + 1) (t.top.slot + 1) u (does order m t)) moved_is
       (goes_as ends notes turns passed _ _ _ u _ _
       (bind _ (register t a.new.base) place.value _ place.is (bind _ (location_of t k a.new.offset place.value) at _ place.there (bind _ (load order t size at) v _ (load_kept ends notes turns passed order kinds s t size at b (λ d. place.kept) v ev) refl)))
-      (put_as ends notes turns passed kinds s t u (Load size dst src off) Same dst v v (λ q. refl) refl (same_is_kept (Some v)) b e3)))))
-  by_address order (LoadSx size dst src off) moved kinds s t u b short a e =
+      (put_as ends notes turns passed kinds s t u (Load size dst src off) (loaded_number size) dst v v (λ q. refl) (load_own ends notes turns passed size) (load_known ends notes turns passed order s size at v state ev) b e3))) (falls refl))))
+  by_address order (LoadSx size dst src off) moved kinds s t u state b short a falls e =
       let k : ℕ = byte_count size in
       let old : Access = record { base = src; offset = off; size = size; reads = true; writes = false } in
       option_and_then_some _ (register s src) u e (λ base eb e1. option_and_then_some _ (location_of s k off base) u e1 (λ at ea e2. option_and_then_some _ (load_extended order s size at) u e2 (λ v ev e3.
       let old_is : old ≡ a.old = same_Some _ _ a.old_is in
       let place : SamePlace s t old a.new base at = same_place kinds s t old a.new base at b short a.near (subst (λ old. is_same_place kinds old a.new ≡ true) (sym old_is) a.same_place) eb ea in
       let moved_is : LoadSx size dst a.new.base a.new.offset ≡ moved = same_Some _ _ a.alike in
-      subst (λ m. Goes ends notes turns passed (kinds_after (LoadSx size dst src off) Same kinds) (s.top.slot + 1) (t.top.slot + 1) u (does order m t)) moved_is
+      arrived ends notes turns passed _ _ _ u _
+      (subst (λ m. Goes ends notes turns passed (kinds_after (LoadSx size dst src off) Same kinds) (s.top.slot + 1) (t.top.slot + 1) u (does order m t)) moved_is
       (goes_as ends notes turns passed _ _ _ u _ _
       (bind _ (register t a.new.base) place.value _ place.is (bind _ (location_of t k a.new.offset place.value) at _ place.there (bind _ (load_extended order t size at) v _ (load_extended_kept ends notes turns passed order kinds s t size at b v ev) refl)))
-      (put_as ends notes turns passed kinds s t u (LoadSx size dst src off) Same dst v v (λ q. refl) refl (same_is_kept (Some v)) b e3)))))
-  by_address order i moved kinds s t u b short a e = absurd (none-some _ a.alike)
+      (put_as ends notes turns passed kinds s t u (LoadSx size dst src off) Same dst v v (λ q. refl) refl (same_is_kept (Some v)) b e3))) (falls refl))))
+  by_address order i moved kinds s t u state b short a falls e = absurd (none-some _ a.alike)
 
   -- only loads go by other registers
-  pub is_load : (i moved : Insn) (kinds : Kinds) → ByAddress kinds i moved → (is_flow i ≡ false) × ((goes_on i ≡ true) × (by_offsets kinds i ≡ None))
+  pub is_load : (i moved : Insn) (kinds : Kinds) → ByAddress kinds i moved → (is_flow i ≡ false) × ((may_fall kinds i ≡ true) × (by_kinds kinds i ≡ None))
   is_load (Load DW dst src off) moved kinds a = (
     refl,
     (refl, ap (λ b. if b && is_same (kinds 10) then option_and_then (slot_offset kinds) (slot_of off) else None) (ap (λ (x : Access). is_r10 x.base) (same_Some _ _ a.old_is) ∙ a.other)),

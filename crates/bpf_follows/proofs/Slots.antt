@@ -25,7 +25,7 @@ use Rattle.bpf_semantics.proofs.NumberLemmas.{length-bytes_of}
 use Rattle.bpf_semantics.proofs.FlatBytes.{number-bytes}
 use Rattle.bpf_semantics.proofs.StateLemmas.{get_each, length-each_cell, without_is}
 use Rattle.bpf_follows.specs.declared.notes.Kind.{Kind}
-use Rattle.bpf_follows.specs.declared.notes.Kind.TheVariants.{Nothing, Unset, Same, Number as NumberKind, Offset, Fixed, Start}
+use Rattle.bpf_follows.specs.declared.notes.Kind.TheVariants.{Nothing, Unset, Same, Number as NumberKind, Offset, Fixed, Start, Alone}
 use Rattle.bpf_follows.specs.Relation.{IsKept, EachPair, IsRead, cell_of, Holds, IsUnset, SlotKept, FitsSlot, as_number, is_free}
 use Rattle.bpf_follows.specs.Matching.{is_plain}
 use Rattle.bpf_follows.proofs.Lists.{mapped, same_is_kept, pairs_weaker, pair_at, Cells}
@@ -101,10 +101,11 @@ module _ (order : Order) (turns : ℕ) (passed : ℕ → ℕ) (registers : ℕ �
   plain_kept xs ys k Nothing e f = absurd (false≢true e)
   plain_kept xs ys k Unset e f = unset_kept xs ys k f
   plain_kept xs ys k Same e f = f
-  plain_kept xs ys k NumberKind e f = absurd f
+  plain_kept xs ys k (NumberKind least most) e f = absurd f
   plain_kept xs ys k Offset e f = absurd (false≢true e)
-  plain_kept xs ys k (Fixed offset) e f = absurd f
+  plain_kept xs ys k (Fixed offset) e f = absurd (false≢true e)
   plain_kept xs ys k Start e f = absurd f
+  plain_kept xs ys k Alone e f = absurd f
   plain_kept xs ys k kind e f = unset_kept xs ys k f.unset
 
   -- in a free slot the old machine has nothing
@@ -112,10 +113,11 @@ module _ (order : Order) (turns : ℕ) (passed : ℕ → ℕ) (registers : ℕ �
   free_unset xs ys k Nothing e f = absurd (false≢true e)
   free_unset xs ys k Unset e f = f
   free_unset xs ys k Same e f = absurd (false≢true e)
-  free_unset xs ys k NumberKind e f = absurd f
+  free_unset xs ys k (NumberKind least most) e f = absurd f
   free_unset xs ys k Offset e f = absurd (false≢true e)
-  free_unset xs ys k (Fixed offset) e f = absurd f
+  free_unset xs ys k (Fixed offset) e f = absurd (false≢true e)
   free_unset xs ys k Start e f = absurd f
+  free_unset xs ys k Alone e f = absurd f
   free_unset xs ys k kind e f = f.unset
 
   -- the same cells
@@ -124,15 +126,20 @@ module _ (order : Order) (turns : ℕ) (passed : ℕ → ℕ) (registers : ℕ �
   slot_as xs ys xs' ys' k Nothing ex ey f = tt
   slot_as xs ys xs' ys' k Unset ex ey f = λ j lt. ex j lt ∙ f j lt
   slot_as xs ys xs' ys' k Same ex ey f = λ j lt c e. ey j lt ∙ f j lt c (sym (ex j lt) ∙ e)
-  slot_as xs ys xs' ys' k NumberKind ex ey f = f
+  slot_as xs ys xs' ys' k (NumberKind least most) ex ey f = f
   slot_as xs ys xs' ys' k Offset ex ey f = record {
     offset = f.offset;
     fits = f.fits;
     old_is = holds_as order xs xs' k (Pointer Context f.offset) ex f.old_is;
     new_is = holds_as order ys ys' k (as_number f.offset) ey f.new_is;
   }
-  slot_as xs ys xs' ys' k (Fixed offset) ex ey f = f
+  slot_as xs ys xs' ys' k (Fixed offset) ex ey f = record {
+    fits = f.fits;
+    old_is = holds_as order xs xs' k (Pointer Context offset) ex f.old_is;
+    new_is = holds_as order ys ys' k (as_number offset) ey f.new_is;
+  }
   slot_as xs ys xs' ys' k Start ex ey f = f
+  slot_as xs ys xs' ys' k Alone ex ey f = f
   slot_as xs ys xs' ys' k kind ex ey f = record {
     unset = λ j lt. ex j lt ∙ f.unset j lt;
     value = f.value;

@@ -1,5 +1,6 @@
 -- Extra instructions: what they make of the new program's registers, while the old program stands still. Nothing here speaks of runs.
 use Rattle.std.specs.Prelude.{ℕ, zero, suc, ◌+◌, ◌-◌, ◌/◌, ◌%◌, ◌^◌, ◌==◌, nat_le, nat_lt, int_le, ◌&&◌, ℤ, pos, negsuc, ◌+ℤ◌, ◌-ℤ◌, Bool, true, false, List, set, get_or, Option, Some, None, option_and_then, option_map, if◌then◌else◌}
+use Rattle.std.specs.Int.{int_min, int_max}
 use Rattle.std.specs.Option.{option_map_or, option_or}
 use Rattle.std.specs.Ordering.{int_eq}
 use Rattle.bpf_insn.specs.Arithmetic.{extended}
@@ -16,7 +17,7 @@ use Rattle.bpf_insn.specs.declared.instruction.Cond.TheVariants.{Eq, Gt, Lt}
 use Rattle.bpf_insn.specs.declared.instruction.Insn.{Insn}
 use Rattle.bpf_insn.specs.declared.instruction.Insn.TheVariants.{Alu, Load, Store, StoreImm, JumpIf}
 use Rattle.bpf_follows.specs.declared.notes.Kind.{Kind}
-use Rattle.bpf_follows.specs.declared.notes.Kind.TheVariants.{Same, Offset, Fixed, Start, Base, Moved, Address, Constant, Counter, Turn}
+use Rattle.bpf_follows.specs.declared.notes.Kind.TheVariants.{Same, Number, Offset, Fixed, Start, Base, Moved, Address, Constant, Counter, Turn, Alone}
 use Rattle.bpf_follows.specs.declared.site.Span.{Span}
 use Rattle.bpf_follows.specs.declared.site.Range.{Range}
 use Rattle.bpf_follows.specs.declared.site.Front.{Front}
@@ -27,6 +28,8 @@ use Rattle.bpf_follows.specs.Relation.{kind_in, is_free}
 abbrev pub is_same : Kind → Bool
 is_same Same = true
 is_same Start = true
+is_same (Number least most) = true
+is_same Alone = true
 is_same _ = false
 
 abbrev pub kind_of : List Kind → Reg → Kind
@@ -141,14 +144,17 @@ stored_constant kinds dst off imm = option_map (λ k. (11 + k, Constant imm)) (f
 abbrev pub taken : List Kind → Reg → Reg → ℤ → Option (ℕ × Kind)
 taken kinds dst src off = if is_r10 dst then None else option_and_then (λ k. option_map (λ kind. (register_number dst, kind)) (own_kind (kind_in kinds (11 + k)))) (frame_slot kinds src off)
 
+abbrev pub constant_put : List Kind → Insn → Option (ℕ × Kind)
+constant_put kinds (StoreImm DW dst off imm) = stored_constant kinds dst off imm
+constant_put kinds i = None
+
 -- what an extra instruction puts into a slot, or takes out of one: the place, and what it holds then
 abbrev pub moved_by : List Kind → Insn → Option (ℕ × Kind)
 moved_by kinds (Store DW dst off src) = stored kinds dst off src
-moved_by kinds (StoreImm DW dst off imm) = stored_constant kinds dst off imm
 moved_by kinds (Load DW dst src off) = taken kinds dst src off
-moved_by kinds i = None
+moved_by kinds i = constant_put kinds i
 
--- ---- jumps that aren't taken
+-- ---- guards, and tests of counters: jumps that aren't taken
 
 -- where accesses go that lie in a context of so many bytes, moved up and down: between which numbers that is
 abbrev pub range_of : ℕ → Span → ℤ → ℤ → Range
@@ -171,9 +177,23 @@ added_to kinds r i = None
 abbrev pub added_range : Front → List Kind → Reg → Option Range
 added_range front kinds r = option_and_then (λ offset. option_map (λ span. range_of front.length span (pos 0) offset) front.behind) (added_to kinds r front.insn)
 
+-- neither end is far away, so that numbers that wrap are others
+abbrev pub is_near : Range → Bool
+is_near range = int_le (negsuc (2 ^ 48)) range.least && int_le range.most (pos (2 ^ 48))
+
+-- the numbers of a range that lie between these two
+abbrev pub clipped : ℕ → ℕ → Range → Range
+clipped least most range =
+    if nat_lt most (2 ^ 32) && is_near range then record { least = int_max (pos least) range.least; most = int_min (pos most) range.most } else range
+
+-- where nothing is known of what follows, all of them
+abbrev pub bounds_range : ℕ → ℕ → Option Range
+bounds_range least most = if nat_lt most (2 ^ 32) then Some (record { least = pos least; most = pos most }) else None
+
 -- between which numbers a register's lies, if the old program's run goes on to its end
 abbrev pub range_in : Front → List Kind → Reg → Kind → Option Range
 range_in front kinds r Same = added_range front kinds r
+range_in front kinds r (Number least most) = option_or (option_map (clipped least most) (added_range front kinds r)) (bounds_range least most)
 range_in front kinds r kind = offset_range front r kind
 
 -- numbers wrap, so none of the range may be below 0 or far away
@@ -208,7 +228,7 @@ behind new front slot zero kinds = Some kinds
 behind new front slot (suc n) kinds = option_and_then (extra_at new front (slot + n)) (behind new front slot n kinds)
 
 abbrev pub most_extras : ℕ
-most_extras = 32
+most_extras = 128
 
 -- from one new slot to another
 abbrev pub extras : Instructions → Option Front → ℕ → ℕ → List Kind → Option (List Kind)

@@ -5,8 +5,12 @@ pub mod Meaning
 pub mod Relation
 -- which accesses of the old program surely follow
 pub mod Ahead
+-- what is known of numbers
+pub mod Numbers
 -- what extra instructions of the new program make of registers
 pub mod Extras
+-- registers that hold one number always
+pub mod Exact
 -- what the notes have to say at each slot
 pub mod Matching
 -- the numbers of what fails

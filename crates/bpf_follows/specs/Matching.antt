@@ -1,8 +1,8 @@
 -- What has to hold of the notes at each slot. Nothing here speaks of runs.
-use Rattle.std.specs.Prelude.{◌≡◌, ◌≢◌, ℕ, ◌+◌, ◌-◌, ◌/◌, ◌^◌, ◌<◌, nat_le, unsigned_abs, ◌==◌, nat_lt, ℤ, pos, ◌+ℤ◌, FitsSigned, ◌⊎◌, true, false, Bool, not, ◌&&◌, ◌||◌, List, [], ◌∷◌, ◌++◌, replicate, Option, Some, None, IsSome, option_and_then, option_map, if◌then◌else◌}
+use Rattle.std.specs.Prelude.{◌≡◌, ◌≢◌, ℕ, ◌+◌, ◌-◌, ◌/◌, ◌^◌, ◌<◌, nat_le, ◌==◌, nat_lt, ℤ, pos, negsuc, ◌+ℤ◌, FitsSigned, ◌⊎◌, true, false, Bool, not, ◌&&◌, ◌||◌, List, [], ◌∷◌, ◌++◌, replicate, Option, Some, None, IsSome, option_and_then, option_map, if◌then◌else◌}
 use Rattle.std.specs.Int.{w16}
 use Rattle.std.specs.List.{AllByRecursion}
-use Rattle.std.specs.Option.{option_map_or}
+use Rattle.std.specs.Option.{option_map_or, option_or}
 use Rattle.std.specs.Ordering.{int_eq}
 use Rattle.bpf_insn.specs.Effects.{Access, access_of, registers_read, register_written}
 use Rattle.bpf_insn.specs.Instruction.{Instructions, register_number, byte_count, slot_count, insn_at, distance, target, goes_on, not_negative}
@@ -11,7 +11,7 @@ use Rattle.bpf_insn.specs.declared.instruction.Reg.{Reg}
 use Rattle.bpf_insn.specs.declared.instruction.Operand.{Operand}
 use Rattle.bpf_insn.specs.declared.instruction.Operand.TheVariants.{Imm, Reg as FromReg}
 use Rattle.bpf_insn.specs.declared.instruction.Size.TheVariants.{DW}
-use Rattle.bpf_insn.specs.declared.instruction.Width.TheVariants.{W64}
+use Rattle.bpf_insn.specs.declared.instruction.Width.TheVariants.{W32, W64}
 use Rattle.bpf_insn.specs.declared.instruction.AluOp.{AluOp}
 use Rattle.bpf_insn.specs.declared.instruction.AluOp.TheVariants.{Add, Sub, Mov}
 use Rattle.bpf_insn.specs.declared.instruction.Cond.{Cond}
@@ -20,16 +20,18 @@ use Rattle.bpf_insn.specs.declared.instruction.Insn.{Insn}
 use Rattle.bpf_insn.specs.declared.instruction.Insn.TheVariants.{Alu, Load, LoadSx, Store, Ja, JaLong, JumpIf, CallLocal}
 use Rattle.bpf_semantics.specs.Memory.{is_within}
 use Rattle.bpf_follows.specs.declared.notes.Kind.{Kind}
-use Rattle.bpf_follows.specs.declared.notes.Kind.TheVariants.{Nothing, Unset, Same, Offset, Fixed, Start, Moved, Address}
+use Rattle.bpf_follows.specs.declared.notes.Kind.TheVariants.{Nothing, Unset, Same, Number, Offset, Fixed, Start, Moved, Address}
 use Rattle.bpf_follows.specs.declared.notes.Bounds.{Bounds}
 use Rattle.bpf_follows.specs.declared.notes.Place.{Place}
 use Rattle.bpf_follows.specs.declared.site.Front.{Front}
 use Rattle.bpf_follows.specs.declared.site.Site.{Site}
 use Rattle.bpf_follows.specs.declared.mismatch.Mismatch.{Mismatch}
 use Rattle.bpf_follows.specs.declared.mismatch.Mismatch.TheVariants.{Order, Start as AtStart, At}
-use Rattle.bpf_follows.specs.Relation.{places, Kinds, Gives, kind_in, kinds_of, known, place_at}
+use Rattle.bpf_follows.specs.Relation.{places, Kinds, Gives, kind_in, kinds_of, known, place_at, is_alone}
 use Rattle.bpf_follows.specs.Ahead.{spans_ahead, span_behind}
+use Rattle.bpf_follows.specs.Numbers.{is_bounded, number_kind, told}
 use Rattle.bpf_follows.specs.Extras.{is_same, is_base, is_r10, slot_of, extras}
+use Rattle.bpf_follows.specs.Exact.{fixed_at, by_exact, may_fall, may_lead}
 
 -- ---- instructions
 
@@ -74,13 +76,6 @@ computed Add a b = if (is_offset a && is_same b) || (is_same a && is_offset b) t
 computed Sub a b = if is_offset a && is_offset b then Some Same else None
 computed _ a b = None
 
--- an offset that is always the same, if it isn't too far away
-abbrev pub farthest : ℕ
-farthest = 2 ^ 31 - 1
-
-abbrev pub fixed_at : ℤ → Kind
-fixed_at offset = if nat_le (unsigned_abs offset) farthest then Fixed offset else Offset
-
 abbrev pub moved_kind : AluOp → Kind → ℤ → Option Kind
 moved_kind Add (Fixed offset) imm = Some (fixed_at (offset +ℤ imm))
 moved_kind Add kind imm = if is_offset kind then Some Offset else None
@@ -96,22 +91,18 @@ is_equality Eq = true
 is_equality Ne = true
 is_equality _ = false
 
-abbrev pub is_spilled : Kind → Bool
-is_spilled Offset = true
-is_spilled _ = false
-
 abbrev pub are_offsets : Kinds → Reg → Reg → Bool
 are_offsets kinds dst src = is_offset (kinds (register_number dst)) && is_offset (kinds (register_number src))
 
 -- an offset that a slot of the frame holds, and one that is put there
 abbrev pub slot_offset : Kinds → ℕ → Option Kind
-slot_offset kinds k = if is_spilled (kinds (11 + k)) then Some Offset else None
+slot_offset kinds k = if is_offset (kinds (11 + k)) then Some (kinds (11 + k)) else None
 
 abbrev pub loaded : Kinds → Reg → ℤ → Option Kind
 loaded kinds src off = if is_r10 src && is_same (kinds 10) then option_and_then (slot_offset kinds) (slot_of off) else None
 
 abbrev pub spilled : Kinds → Reg → ℤ → Reg → Option Kind
-spilled kinds dst off src = if (is_r10 dst && is_same (kinds 10)) && is_offset (kinds (register_number src)) then option_map (λ k. Offset) (slot_of off) else None
+spilled kinds dst off src = if (is_r10 dst && is_same (kinds 10)) && is_offset (kinds (register_number src)) then option_map (λ k. kinds (register_number src)) (slot_of off) else None
 
 -- what the instruction writes, where it does on offsets what the old program does on pointers; of a test nothing
 abbrev pub by_offsets : Kinds → Insn → Option Kind
@@ -121,12 +112,17 @@ by_offsets kinds (Load DW dst src off) = loaded kinds src off
 by_offsets kinds (Store DW dst off src) = spilled kinds dst off src
 by_offsets kinds i = None
 
+-- the same, or where what it writes is always the same
+abbrev pub by_kinds : Kinds → Insn → Option Kind
+by_kinds kinds i = option_or (by_exact kinds i) (by_offsets kinds i)
+
 -- ---- the same instruction, on the frame
 
 -- each cell of a slot is the same, wherever the old program has something there
 abbrev pub is_plain : Kind → Bool
 is_plain Nothing = false
 is_plain Offset = false
+is_plain (Fixed offset) = false
 is_plain _ = true
 
 abbrev pub AllPlain : Kinds → Type 0
@@ -142,7 +138,7 @@ abbrev pub is_far_access : Insn → Access → Bool
 is_far_access i a = not (is_r10 a.base) && (a.writes || is_whole i)
 
 abbrev pub is_far : Insn → Bool
-is_far i = is_call i || option_map_or (is_far_access i) (access_of i) false
+is_far i = option_map_or (is_far_access i) (access_of i) false
 
 -- the slot of its own frame that it reads whole
 abbrev pub whole_slot : Insn → Option ℕ
@@ -153,12 +149,17 @@ pub record IsTame (kinds : Kinds) (i : Insn) : Type 0 where
   pub far : is_far i ≡ true → AllPlain kinds
   pub near : (k : ℕ) → whole_slot i ≡ Some k → is_plain (kinds (11 + k)) ≡ true
 
+-- Where functions leave the frames of others alone the instruction goes to the own frame alone; else it calls only where all slots are so.
+pub record IsLone (alone : Bool) (kinds : Kinds) (i : Insn) : Type 0 where
+  pub far : is_far i ≡ true → alone ≡ false
+  pub calls : is_call i ≡ true → alone ≡ false → AllPlain kinds
+
 abbrev pub Reads : Kinds → Insn → Type 0
-Reads kinds i = IsSome (by_offsets kinds i) ⊎ (AreSame kinds (registers_read i) × IsTame kinds i)
+Reads kinds i = IsSome (by_kinds kinds i) ⊎ (AreSame kinds (registers_read i) × IsTame kinds i)
 
 -- what the instruction writes
 abbrev pub result_kind : Kinds → Insn → Kind
-result_kind kinds i = option_map_or (λ kind. kind) (by_offsets kinds i) Same
+result_kind kinds i = option_map_or (λ kind. kind) (by_kinds kinds i) (number_kind kinds i)
 
 -- ---- a load by another register
 
@@ -187,9 +188,38 @@ pub record ByAddress (kinds : Kinds) (i moved : Insn) : Type 0 where
   pub other : is_r10 old.base ≡ false
   pub near : FitsSigned w16 new.offset
 
+-- ---- 32 bits or 64
+
+-- a sum of numbers that doesn't wrap at 32 bits, nor, where the constant is below 0, at 0
+abbrev pub is_sum : Kind → Kind → Bool
+is_sum (Number least most) (Number low high) = nat_lt (most + high) (2 ^ 32)
+is_sum a b = false
+
+abbrev pub is_moved : Kind → ℤ → Bool
+is_moved (Number least most) (pos n) = nat_lt (most + n) (2 ^ 32)
+is_moved (Number least most) (negsuc n) = nat_lt n least && nat_lt most (2 ^ 32)
+is_moved kind imm = false
+
+-- a constant of 32 bits that isn't below 0
+abbrev pub is_natural : ℤ → Bool
+is_natural (pos n) = nat_lt n (2 ^ 32)
+is_natural (negsuc n) = false
+
+-- the operation gives the same at both widths
+abbrev pub is_wide : Kinds → AluOp → Reg → Operand → Bool
+is_wide kinds Mov dst (Imm imm) = is_natural imm
+is_wide kinds Mov dst (FromReg src) = is_bounded (kinds (register_number src))
+is_wide kinds Add dst (Imm imm) = is_moved (kinds (register_number dst)) imm
+is_wide kinds Add dst (FromReg src) = is_sum (kinds (register_number dst)) (kinds (register_number src))
+is_wide kinds _ dst src = false
+
+abbrev pub widened : Kinds → Insn → Option Insn
+widened kinds (Alu op W32 dst src) = if is_wide kinds op dst src then Some (Alu op W64 dst src) else None
+widened kinds i = None
+
 -- the new instruction does what the old one does
 abbrev pub Pairs : Kinds → Insn → Insn → Type 0
-Pairs kinds i moved = ((undirected moved ≡ undirected i) × Reads kinds i) ⊎ ByAddress kinds i moved
+Pairs kinds i moved = ((undirected moved ≡ undirected i) × Reads kinds i) ⊎ (ByAddress kinds i moved ⊎ (widened kinds i ≡ Some moved))
 
 -- ---- kinds along an edge
 
@@ -221,8 +251,13 @@ held i kind = kind
 abbrev pub kinds_after : Insn → Kind → Kinds → Kinds
 kinds_after i kind kinds r = if is_changed i r then kind else held i (kinds r)
 
-abbrev pub kinds_behind : Insn → Kinds → Kinds
-kinds_behind i kinds = kinds_after i (result_kind kinds i) kinds
+-- where it leads away (`taken`), or goes on
+abbrev pub kinds_behind : Bool → Insn → Kinds → Kinds
+kinds_behind taken i kinds = kinds_after i (result_kind kinds i) (told taken i kinds)
+
+-- behind a call that leaves its frame alone the slots hold what they held
+abbrev pub kinds_beyond : Bool → Bool → Insn → Kinds → Kinds
+kinds_beyond alone taken i kinds r = if is_call i && (alone && nat_le 11 r) then held i (kinds r) else kinds_behind taken i kinds r
 
 abbrev pub handed : Kind → Kind
 handed (Moved of by) = Nothing
@@ -274,22 +309,24 @@ pub record IsSite (new : Instructions) (place : Place) (front : Front) (site : S
 
 -- the next instruction, where it may follow, stands behind
 abbrev pub Falls : List (Option Place) → ℕ → Site → Type 0
-Falls notes turns site = goes_on site.insn ≡ true
-    → Arrives notes turns (site.slot + slot_count site.insn) (site.new_slot + slot_count site.insn) (kinds_behind site.insn (known site.slot site.kinds))
+Falls notes turns site = goes_on site.insn ≡ true → may_fall (known site.slot site.kinds) site.insn ≡ true
+    → Arrives notes turns (site.slot + slot_count site.insn) (site.new_slot + slot_count site.insn) (kinds_beyond (is_alone notes) false site.insn (known site.slot site.kinds))
 
 -- where the old one leads to a slot the new one leads: a call to the entry
 abbrev pub Reaches : Bool → List (Option Place) → Instructions → ℕ → ℕ → ℕ → Insn → Kinds → Type 0
 Reaches true notes new turns to new_to i kinds = Enters notes new turns to new_to (listed (kinds_called kinds))
-Reaches false notes new turns to new_to i kinds = Arrives notes turns to new_to (kinds_behind i kinds)
+Reaches false notes new turns to new_to i kinds = Arrives notes turns to new_to (kinds_beyond (is_alone notes) true i kinds)
 
 abbrev pub Leads : List (Option Place) → Instructions → ℕ → Site → Type 0
 Leads notes new turns site =
-    (to : ℕ) → led site.slot site.insn ≡ Some to → (new_to : ℕ) × (led site.new_slot site.moved ≡ Some new_to) × Reaches (is_call site.insn) notes new turns to new_to site.insn (known site.slot site.kinds)
+    (to : ℕ) → led site.slot site.insn ≡ Some to → may_lead (known site.slot site.kinds) site.insn ≡ true
+    → (new_to : ℕ) × (led site.new_slot site.moved ≡ Some new_to) × Reaches (is_call site.insn) notes new turns to new_to site.insn (known site.slot site.kinds)
 
 -- what stands for the old instruction at a slot
 pub record Stands (new : Instructions) (notes : List (Option Place)) (turns : ℕ) (place : Place) (front : Front) : Type 0 where
   pub site : Site
   pub is_site : IsSite new place front site
+  pub lone : IsLone (is_alone notes) (known site.slot site.kinds) site.insn
   pub falls : Falls notes turns site
   pub leads : Leads notes new turns site
 
@@ -303,13 +340,14 @@ abbrev pub StandsAt : Instructions → Instructions → List (Option Place) → 
 StandsAt old new notes bounds slot = (place : Place) (i : Insn) → place_at notes slot ≡ Some place → insn_at old.list slot ≡ Some i
     → Stands new notes bounds.turns place (front_at old bounds slot i)
 
-abbrev pub start_kinds : List Kind
-start_kinds = in_new_frame (Same ∷ Start ∷ Same ∷ Same ∷ Same ∷ Same ∷ Same ∷ Same ∷ Same ∷ Same ∷ Same ∷ [])
+-- r1 is the context, and r2 its length
+abbrev pub start_kinds : ℕ → List Kind
+start_kinds length = in_new_frame (Same ∷ Start ∷ Number length length ∷ Same ∷ Same ∷ Same ∷ Same ∷ Same ∷ Same ∷ Same ∷ Same ∷ [])
 
 pub record Matches (old new : Instructions) (notes : List (Option Place)) (bounds : Bounds) : Type 0 where
   pub short : bounds.length < 2 ^ 32
   pub order_is : new.order ≡ old.order
-  pub start : Enters notes new bounds.turns 0 0 start_kinds
+  pub start : Enters notes new bounds.turns 0 0 (start_kinds bounds.length)
   pub each : (slot : ℕ) → StandsAt old new notes bounds slot
 
 -- ---- why they don't
@@ -317,5 +355,5 @@ pub record Matches (old new : Instructions) (notes : List (Option Place)) (bound
 -- The byte orders differ; or the start isn't entered; or the slot is the lowest one at which what is noted doesn't hold.
 abbrev pub IsMismatch : Instructions → Instructions → List (Option Place) → Bounds → Mismatch → Type 0
 IsMismatch old new notes bounds Order = new.order ≢ old.order
-IsMismatch old new notes bounds AtStart = Enters notes new bounds.turns 0 0 start_kinds → ⊥
+IsMismatch old new notes bounds AtStart = Enters notes new bounds.turns 0 0 (start_kinds bounds.length) → ⊥
 IsMismatch old new notes bounds (At slot fault) = (StandsAt old new notes bounds slot → ⊥) × ((lower : ℕ) → lower < slot → StandsAt old new notes bounds lower)

@@ -1,6 +1,7 @@
 -- The simulation relation: how a state of the new machine follows one of the old machine.
-use Rattle.std.specs.Prelude.{◌≡◌, ℕ, ◌+◌, ◌*◌, ◌^◌, ◌<◌, ◌≤◌, ◌⊎◌, ◌==◌, nat_le, ◌&&◌, Bool, true, false, ℤ, pos, ◌+ℤ◌, FitsSigned, List, [], ◌∷◌, length, get_or, slice_index, Option, Some, None, if◌then◌else◌}
+use Rattle.std.specs.Prelude.{◌≡◌, ℕ, ◌+◌, ◌*◌, ◌^◌, ◌<◌, ◌≤◌, ◌⊎◌, ◌==◌, nat_le, nat_lt, ◌&&◌, Bool, true, false, ℤ, pos, ◌+ℤ◌, FitsSigned, List, [], ◌∷◌, length, get_or, slice_index, Option, Some, None, if◌then◌else◌}
 use Rattle.std.specs.Int.{w64}
+use Rattle.std.specs.Option.{option_map_or}
 use Rattle.std.specs.Ordering.{int_eq}
 use Rattle.bpf_insn.specs.Arithmetic.{modulo, extended}
 use Rattle.bpf_insn.specs.Instruction.{register_number}
@@ -15,7 +16,7 @@ use Rattle.bpf_semantics.specs.declared.value.Value.{Value}
 use Rattle.bpf_semantics.specs.declared.value.Value.TheVariants.{Number as ANumber, Pointer}
 use Rattle.bpf_semantics.specs.declared.value.Region.TheVariants.{Context}
 use Rattle.bpf_follows.specs.declared.notes.Kind.{Kind}
-use Rattle.bpf_follows.specs.declared.notes.Kind.TheVariants.{Nothing, Unset, Same, Number, Offset, Fixed, Start, Base, Moved, Address, Constant, Counter, Turn}
+use Rattle.bpf_follows.specs.declared.notes.Kind.TheVariants.{Nothing, Unset, Same, Number, Offset, Fixed, Start, Base, Moved, Address, Constant, Counter, Turn, Alone}
 use Rattle.bpf_follows.specs.declared.notes.Place.{Place}
 
 -- Notes speak of 75 places: r0 to r10, and the frame's 64 slots of eight bytes, the lowest first.
@@ -58,6 +59,9 @@ weaker turns r Start Same = true
 weaker turns r Start Base = true
 weaker turns r (Moved of by) Offset = register_number of == r && int_eq by (pos 0)
 weaker turns r (Constant value) (Counter head) = nat_le turns (extended value)
+weaker turns r (Number least most) (Number low high) = nat_le low least && nat_le most high
+weaker turns r (Number least most) Same = true
+weaker turns r Same Alone = nat_lt r 11
 weaker turns r have Same = nat_le 11 r && is_free have
 weaker turns r have Unset = nat_le 11 r && is_free have
 weaker turns r _ _ = false
@@ -97,13 +101,21 @@ as_pointer offset = Pointer Context (wrapped offset)
 abbrev pub CountsDown : ℕ → ℕ → Option Value → Type 0
 CountsDown turns spent new = (left : ℕ) × (left < 2 ^ 64) × (new ≡ Some (ANumber left)) × (turns ≤ left + spent)
 
+-- both values are one number, which lies between these two
+pub record IsOneNumber (least most : ℕ) (old new : Option Value) : Type 0 where
+  pub number : ℕ
+  pub low : least ≤ number
+  pub high : number ≤ most
+  pub old_is : old ≡ Some (ANumber number)
+  pub new_is : new ≡ Some (ANumber number)
+
 -- A register of the new machine by its kind, where the old machine has these registers. `passed` says how often the old run has come to
 -- each slot so far.
 abbrev pub FitsKind : ℕ → (ℕ → ℕ) → (ℕ → Option Value) → ℕ → Kind → Option Value → Type 0
 FitsKind turns passed old r Nothing new = Unit {0}
 FitsKind turns passed old r Unset new = old r ≡ None
 FitsKind turns passed old r Same new = IsKept (old r) new
-FitsKind turns passed old r Number new = (v : Value) → old r ≡ Some v → (x : ℕ) × (v ≡ ANumber x) × (new ≡ Some (ANumber x))
+FitsKind turns passed old r (Number least most) new = IsOneNumber least most (old r) new
 FitsKind turns passed old r Offset new = HasOffset (pos 0) as_number (old r) new
 FitsKind turns passed old r (Fixed offset) new = FitsSigned w64 offset × (old r ≡ Some (Pointer Context offset)) × (new ≡ Some (as_number offset))
 FitsKind turns passed old r Start new = (old r ≡ Some (Pointer Context (pos 0))) × (new ≡ Some (Pointer Context (pos 0)))
@@ -111,6 +123,7 @@ FitsKind turns passed old r Base new = new ≡ Some (Pointer Context (pos 0))
 FitsKind turns passed old r (Moved of by) new = HasOffset by as_number (old (register_number of)) new
 FitsKind turns passed old r (Address of by) new = HasOffset by as_pointer (old (register_number of)) new
 FitsKind turns passed old r (Constant value) new = new ≡ Some (ANumber (extended value))
+FitsKind turns passed old r Alone new = IsKept (old r) new
 FitsKind turns passed old r (Counter head) new = CountsDown turns (passed head) new
 FitsKind turns passed old r (Turn head) new = CountsDown turns (passed head + 1) new
 
@@ -143,6 +156,12 @@ pub record HoldsOffset (order : Order) (old new : List (Option Cell)) (k : ℕ) 
   pub old_is : Holds order old k (Pointer Context offset)
   pub new_is : Holds order new k (as_number offset)
 
+-- The same, and the offset is this one.
+pub record HoldsFixed (order : Order) (offset : ℤ) (old new : List (Option Cell)) (k : ℕ) : Type 0 where
+  pub fits : FitsSigned w64 offset
+  pub old_is : Holds order old k (Pointer Context offset)
+  pub new_is : Holds order new k (as_number offset)
+
 -- The old machine holds nothing, and the new one a value of the kind.
 pub record HoldsOwn (order : Order) (turns : ℕ) (passed : ℕ → ℕ) (registers : ℕ → Option Value) (old new : List (Option Cell)) (k : ℕ) (kind : Kind) : Type 0 where
   pub unset : IsUnset old k
@@ -155,10 +174,11 @@ abbrev pub FitsSlot : Order → ℕ → (ℕ → ℕ) → (ℕ → Option Value)
 FitsSlot order turns passed registers old new k Nothing = Unit {0}
 FitsSlot order turns passed registers old new k Unset = IsUnset old k
 FitsSlot order turns passed registers old new k Same = SlotKept old new k
-FitsSlot order turns passed registers old new k Number = ⊥
+FitsSlot order turns passed registers old new k (Number least most) = ⊥
 FitsSlot order turns passed registers old new k Offset = HoldsOffset order old new k
-FitsSlot order turns passed registers old new k (Fixed offset) = ⊥
+FitsSlot order turns passed registers old new k (Fixed offset) = HoldsFixed order offset old new k
 FitsSlot order turns passed registers old new k Start = ⊥
+FitsSlot order turns passed registers old new k Alone = ⊥
 FitsSlot order turns passed registers old new k kind = HoldsOwn order turns passed registers old new k kind
 
 -- a byte of the old machine is one of the new one
@@ -187,13 +207,22 @@ is_of_other (Moved of by) = true
 is_of_other (Address of by) = true
 is_of_other _ = false
 
--- A frame that waits for a call. What the call gives it, and what it loses by it, is the same in both, and each cell of its stack is kept.
+-- what r10 holds in front of the first instruction says whether each function leaves the frames of others alone
+abbrev pub is_lone : Kind → Bool
+is_lone Alone = true
+is_lone _ = false
+
+abbrev pub is_alone : List (Option Place) → Bool
+is_alone notes = option_map_or (λ place. is_lone (kind_in place.kinds 10)) (place_at notes 0) false
+
+-- A frame that waits for a call. What the call gives it, and what it loses by it, is the same in both; and so is each cell of its stack, if the
+-- functions that are called may reach it.
 pub record FrameWaits (order : Order) (notes : List (Option Place)) (turns : ℕ) (passed : ℕ → ℕ) (old new : StackFrame) : Type 0 where
   pub follows : FrameFollows order notes turns passed old new
   pub result : (r : ℕ) → r < 6 → Gives turns r Same (kinds_of follows.place r)
-  pub own : (r : ℕ) → r < 11 → is_of_other (kinds_of follows.place r) ≡ false
-  pub kept : EachPair IsKept old.stack new.stack
-  pub slots : (k : ℕ) → k < 64 → Gives turns (11 + k) Same (kinds_of follows.place (11 + k))
+  pub own : (r : ℕ) → r < places → is_of_other (kinds_of follows.place r) ≡ false
+  pub kept : is_alone notes ≡ false → EachPair IsKept old.stack new.stack
+  pub slots : is_alone notes ≡ false → (k : ℕ) → k < 64 → Gives turns (11 + k) Same (kinds_of follows.place (11 + k))
 
 -- The new state follows the old one: as many frames are live, each follows, and the context is the same.
 pub record Follows (order : Order) (notes : List (Option Place)) (turns : ℕ) (passed : ℕ → ℕ) (old new : State) : Type 0 where

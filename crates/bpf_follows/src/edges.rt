@@ -1,12 +1,12 @@
 //! Edges: where an instruction leads, and what the notes say there.
 
 ghost use Rattle.std.specs.Prelude.{◌≡◌, ◌<◌, ◌↔◌, ℕ, IsTrue};
-ghost use Rattle.bpf_follows.specs.Relation.{places, kind_in, kinds_of, known, Gives};
-ghost use Rattle.bpf_follows.specs.Matching.{kinds_behind, start_kinds, Arrives, Enters};
+ghost use Rattle.bpf_follows.specs.Relation.{places, kind_in, kinds_of, known, is_alone, Gives};
+ghost use Rattle.bpf_follows.specs.Matching.{kinds_beyond, start_kinds, Arrives, Enters};
 
 use crate::extras::extras;
-use crate::kinds::{gives, kind_behind, kind_of, place_at, start_kinds};
-use crate::notes::{Kinds, PLACES, Place};
+use crate::kinds::{gives, is_alone, kind_beyond, kind_of, place_at, start_kinds};
+use crate::notes::{Bounds, Kinds, PLACES, Place};
 use crate::site::Site;
 use bpf_insn::Code;
 
@@ -15,16 +15,23 @@ use bpf_insn::Code;
 pub struct Edge {
     pub slot: u32,
     pub new_slot: u32,
+    /// Whether an instruction leads away there, and doesn't go on.
+    pub taken: bool,
 }
 
 // ---- jumps, and the ways to the next instruction
 
 /// Whether what places hold behind an instruction is enough for a place.
-fn all_given(turns: u32, site: &Site, to: &Place) -> bool
-    ensures { IsTrue result ↔ ((r : ℕ) → r < places → Gives turns r (kinds_behind site.now.insn (known site.now.slot site.now.kinds) r) (kinds_of to.now r)) }
+fn all_given(alone: bool, turns: u32, site: &Site, taken: bool, to: &Place) -> bool
+    ensures { IsTrue result ↔ ((r : ℕ) → r < places → Gives turns r (kinds_beyond alone taken site.now.insn (known site.now.slot site.now.kinds) r) (kinds_of to.now r)) }
 {
     for r in 0..PLACES as u8 {
-        if !gives(turns, r, kind_behind(site, r), kind_of(&to.kinds, r)) {
+        if !gives(
+            turns,
+            r,
+            kind_beyond(alone, site, taken, r),
+            kind_of(&to.kinds, r),
+        ) {
             return false;
         }
     }
@@ -33,10 +40,12 @@ fn all_given(turns: u32, site: &Site, to: &Place) -> bool
 
 /// Whether an edge leads where the notes say, and they ask no more there than they give here.
 pub fn arrives(notes: &[Option<Place>], turns: u32, site: &Site, edge: Edge) -> bool
-    ensures { IsTrue result ↔ Arrives notes.now turns edge.slot edge.new_slot (kinds_behind site.now.insn (known site.now.slot site.now.kinds)) }
+    ensures { IsTrue result ↔ Arrives notes.now turns edge.slot edge.new_slot (kinds_beyond (is_alone notes.now) edge.taken site.now.insn (known site.now.slot site.now.kinds)) }
 {
     match place_at(notes, edge.slot) {
-        Some(to) => edge.new_slot == to.first && all_given(turns, site, to),
+        Some(to) => {
+            edge.new_slot == to.first && all_given(is_alone(notes), turns, site, edge.taken, to)
+        },
         None => false,
     }
 }
@@ -78,12 +87,13 @@ pub fn enters<N: Code>(
 }
 
 /// Whether the new program begins with the entry of what stands for the old one's start.
-pub fn starts<N: Code>(new: &N, notes: &[Option<Place>], turns: u32) -> bool
-    ensures { IsTrue result ↔ Enters notes.now (N.program new.now) turns 0 0 start_kinds }
+pub fn starts<N: Code>(new: &N, notes: &[Option<Place>], bounds: Bounds) -> bool
+    ensures { IsTrue result ↔ Enters notes.now (N.program new.now) bounds.turns 0 0 (start_kinds bounds.length) }
 {
     let edge = Edge {
         slot: 0,
         new_slot: 0,
+        taken: true,
     };
-    enters(new, notes, turns, start_kinds(), edge)
+    enters(new, notes, bounds.turns, start_kinds(bounds.length), edge)
 }

@@ -2,7 +2,7 @@
 //! and make addresses in front of an instruction.
 
 ghost use Rattle.std.specs.Prelude.{◌≡◌, ◌<◌, pos, ◌+ℤ◌, ◌-ℤ◌, IfSome};
-ghost use Rattle.bpf_follows.specs.Extras.{is_same, constant_kind, offset_in, copied, is_taken, added, is_base, address, put_kind, put_by, made, range_of, offset_range, fixed_in, added_to, added_range, range_in, is_most, is_least, passes, written, extra, extra_at, extras};
+ghost use Rattle.bpf_follows.specs.Extras.{is_same, constant_kind, offset_in, copied, is_taken, added, is_base, address, put_kind, put_by, made, range_of, offset_range, fixed_in, added_to, added_range, is_near, clipped, bounds_range, range_in, is_most, is_least, passes, written, extra, extra_at, extras};
 
 use crate::keeps::moved_by;
 use crate::kinds::{is_register, kind_in};
@@ -11,7 +11,7 @@ use crate::site::{Front, Range, Span};
 use bpf_insn::{AluOp, Code, Cond, Insn, Operand, Reg, Width, extended};
 
 /// The most extra instructions in one place.
-const MOST_EXTRAS: u32 = 32;
+const MOST_EXTRAS: u32 = 128;
 
 // ---- what an instruction writes
 
@@ -19,7 +19,10 @@ const MOST_EXTRAS: u32 = 32;
 pub fn is_same(kind: Kind) -> bool
     ensures { result ≡ is_same kind }
 {
-    matches!(kind, Kind::Same | Kind::Start)
+    matches!(
+        kind,
+        Kind::Same | Kind::Start | Kind::Number { .. } | Kind::Alone
+    )
 }
 
 /// What a constant makes of a register.
@@ -144,7 +147,7 @@ fn made(front: Option<Front>, kinds: &Kinds, insn: &Insn) -> Option<(Reg, Kind)>
     }
 }
 
-// ---- jumps that aren't taken
+// ---- guards, and tests of counters: jumps that aren't taken
 
 /// The least number of a range: bytes that begin at a region's first one, moved up and down.
 fn least_of(from: i32, up: i32, down: i32) -> i64
@@ -220,12 +223,56 @@ fn added_range(front: &Front, kinds: &Kinds, r: Reg) -> Option<Range>
     Some(range_of(front.length, span, 0, offset))
 }
 
+/// The greatest number of a range that is looked at, and the least.
+const FARTHEST: i64 = 0x1_0000_0000_0000;
+
+const LEAST: i64 = -0x1_0000_0000_0001;
+
+/// Whether neither end is far away, so that numbers that wrap are others.
+fn is_near(range: Range) -> bool
+    ensures { result ≡ is_near range }
+{
+    LEAST <= range.least && range.most <= FARTHEST
+}
+
+/// The numbers of a range that lie between these two.
+fn clipped(least: u32, most: u32, range: Range) -> Range
+    ensures { result ≡ clipped least most range }
+{
+    if u64::from(most) < 1 << 32 && is_near(range) {
+        Range {
+            least: i64::from(least).max(range.least),
+            most: i64::from(most).min(range.most),
+        }
+    } else {
+        range
+    }
+}
+
+/// All numbers between these two, where nothing is known of what follows.
+fn bounds_range(least: u32, most: u32) -> Option<Range>
+    ensures { result ≡ bounds_range least most }
+{
+    if u64::from(most) < 1 << 32 {
+        Some(Range {
+            least: i64::from(least),
+            most: i64::from(most),
+        })
+    } else {
+        None
+    }
+}
+
 /// Between which numbers a register's lies, if the old program's run goes on to its end.
 fn range_in(front: &Front, kinds: &Kinds, r: Reg, kind: Kind) -> Option<Range>
     ensures { result ≡ range_in front.now kinds.now r kind }
 {
     match kind {
         Kind::Same => added_range(front, kinds, r),
+        Kind::Number { least, most } => match added_range(front, kinds, r) {
+            Some(range) => Some(clipped(least, most, range)),
+            None => bounds_range(least, most),
+        },
         _ => offset_range(front, r, kind),
     }
 }
@@ -236,9 +283,6 @@ fn is_most(imm: i32, range: Range) -> bool
 {
     0 <= range.least && i128::from(range.most) <= i128::from(extended(imm))
 }
-
-/// The greatest number of a range that is looked at.
-const FARTHEST: i64 = 0x1_0000_0000_0000;
 
 /// Whether no number of a range is below a constant.
 fn is_least(imm: i32, range: Range) -> bool

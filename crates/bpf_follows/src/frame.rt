@@ -6,7 +6,7 @@ ghost use Rattle.bpf_insn.specs.Instruction.{not_negative};
 ghost use Rattle.bpf_follows.specs.Extras.{is_r10, whole_at, slot_of};
 ghost use Rattle.bpf_follows.specs.Matching.{touches, is_written, writes_slot, is_whole, is_far_access, is_far, whole_slot};
 
-use crate::kinds::{REGISTERS, is_call};
+use crate::kinds::REGISTERS;
 use bpf_insn::{Access, FRAME_BYTES, Insn, Reg, Size};
 
 /// Whether the register is r10, the end of the own frame.
@@ -97,9 +97,6 @@ fn is_far_access(insn: &Insn, access: Access) -> bool
 pub fn is_far(insn: &Insn) -> bool
     ensures { result ≡ is_far insn.now }
 {
-    if is_call(insn) {
-        return true;
-    }
     match insn.access() {
         Some(access) => is_far_access(insn, access),
         None => false,

@@ -1,7 +1,7 @@
 //! Extra instructions that put what the new program keeps into its frame, and take it out again.
 
 ghost use Rattle.std.specs.Prelude.{◌≡◌, ◌<◌, IfSome};
-ghost use Rattle.bpf_follows.specs.Extras.{frame_slot, own_kind, kept_kind, free_slot, stored, stored_constant, taken, moved_by};
+ghost use Rattle.bpf_follows.specs.Extras.{frame_slot, own_kind, kept_kind, free_slot, stored, taken, constant_put, moved_by};
 
 use crate::extras::{copied, is_same};
 use crate::frame::{is_r10, slot_of};
@@ -65,15 +65,6 @@ fn stored(kinds: &Kinds, dst: Reg, off: i16, src: Reg) -> Option<(u8, Kind)>
     Some((REGISTERS + slot, kind))
 }
 
-/// What a slot holds behind a store of a constant.
-fn stored_constant(kinds: &Kinds, dst: Reg, off: i16, imm: i32) -> Option<(u8, Kind)>
-    ensures exact { result ≡ stored_constant kinds.now dst off imm }
-    ensures inside { IfSome result (λ w. w.0 < 75) }
-{
-    let slot = free_slot(kinds, dst, off)?;
-    Some((REGISTERS + slot, Kind::Constant { value: imm }))
-}
-
 /// What a register holds behind a load of a slot.
 fn taken(kinds: &Kinds, dst: Reg, src: Reg, off: i16) -> Option<(u8, Kind)>
     ensures exact { result ≡ taken kinds.now dst src off }
@@ -85,6 +76,24 @@ fn taken(kinds: &Kinds, dst: Reg, src: Reg, off: i16) -> Option<(u8, Kind)>
     let slot = frame_slot(kinds, src, off)?;
     let kind = own_kind(kind_of(kinds, REGISTERS + slot))?;
     Some((dst as u8, kind))
+}
+
+/// The slot to which an instruction stores a constant, and what it holds then.
+fn constant_put(kinds: &Kinds, insn: &Insn) -> Option<(u8, Kind)>
+    ensures exact { result ≡ constant_put kinds.now insn.now }
+    ensures inside { IfSome result (λ w. w.0 < 75) }
+{
+    let Insn::StoreImm {
+        size: Size::DW,
+        dst,
+        off,
+        imm,
+    } = *insn
+    else {
+        return None;
+    };
+    let slot = free_slot(kinds, dst, off)?;
+    Some((REGISTERS + slot, Kind::Constant { value: imm }))
 }
 
 /// What an extra instruction puts into a slot, or takes out of one: the place, and what it holds then.
@@ -101,15 +110,6 @@ pub fn moved_by(kinds: &Kinds, insn: &Insn) -> Option<(u8, Kind)>
     {
         return stored(kinds, dst, off, src);
     }
-    if let Insn::StoreImm {
-        size: Size::DW,
-        dst,
-        off,
-        imm,
-    } = *insn
-    {
-        return stored_constant(kinds, dst, off, imm);
-    }
     if let Insn::Load {
         size: Size::DW,
         dst,
@@ -119,5 +119,5 @@ pub fn moved_by(kinds: &Kinds, insn: &Insn) -> Option<(u8, Kind)>
     {
         return taken(kinds, dst, src, off);
     }
-    None
+    constant_put(kinds, insn)
 }

@@ -2,11 +2,12 @@
 
 ghost use Rattle.std.specs.Prelude.{◌≡◌, ◌<◌, ◌==◌, ◌↔◌, IsTrue, option_copied};
 ghost use Rattle.bpf_insn.specs.Instruction.{register_number};
-ghost use Rattle.bpf_follows.specs.Relation.{kind_in, place_at, is_free, weaker, Gives, known};
-ghost use Rattle.bpf_follows.specs.Matching.{is_call, is_changed, held, kinds_behind, kinds_called, listed, start_kinds};
+ghost use Rattle.bpf_follows.specs.Relation.{kind_in, place_at, is_lone, is_alone, is_free, weaker, Gives, known};
+ghost use Rattle.bpf_follows.specs.Matching.{is_call, is_changed, held, kinds_behind, kinds_beyond, kinds_called, listed, start_kinds};
 
 use crate::frame::writes_slot;
 use crate::notes::{Kind, Kinds, PLACES, Place};
+use crate::numbers::told;
 use crate::pairs::result_kind;
 use crate::site::Site;
 use bpf_insn::{Insn, Reg, extended};
@@ -22,6 +23,23 @@ pub fn place_at(notes: &[Option<Place>], slot: u32) -> Option<&Place>
         Some(Some(place)) => Some(place),
         _ => None,
     }
+}
+
+/// Whether the notes say that each function leaves the frames of others alone.
+pub fn is_alone(notes: &[Option<Place>]) -> bool
+    ensures { result ≡ is_alone notes.now }
+{
+    match place_at(notes, 0) {
+        Some(place) => is_lone(kind_in(&place.kinds, Reg::R10)),
+        None => false,
+    }
+}
+
+/// Whether a kind says so.
+fn is_lone(kind: Kind) -> bool
+    ensures { result ≡ is_lone kind }
+{
+    matches!(kind, Kind::Alone)
 }
 
 /// What is said of a place.
@@ -66,6 +84,15 @@ fn weaker(turns: u32, r: u8, have: Kind, want: Kind) -> bool
         (Kind::Start, Kind::Same | Kind::Base) => true,
         (Kind::Moved { of, by }, Kind::Offset) => of as u8 == r && by == 0,
         (Kind::Constant { value }, Kind::Counter { .. }) => u64::from(turns) <= extended(value),
+        (
+            Kind::Number { least, most },
+            Kind::Number {
+                least: low,
+                most: high,
+            },
+        ) => { low <= least && most <= high }
+        (Kind::Number { .. }, Kind::Same) => true,
+        (Kind::Same, Kind::Alone) => r < REGISTERS,
         (_, Kind::Same | Kind::Unset) => r >= REGISTERS && is_free(have),
         _ => false,
     }
@@ -144,15 +171,27 @@ pub fn known_in(site: &Site, r: Reg) -> Kind
     known(site, r as u8)
 }
 
-/// What a place holds behind the instruction.
-pub fn kind_behind(site: &Site, r: u8) -> Kind
+/// What a place holds behind the instruction, where it leads away (`taken`) or goes on.
+fn kind_behind(site: &Site, taken: bool, r: u8) -> Kind
     requires { r < 75 }
-    ensures { result ≡ kinds_behind site.now.insn (known site.now.slot site.now.kinds) r }
+    ensures { result ≡ kinds_behind taken site.now.insn (known site.now.slot site.now.kinds) r }
 {
     if is_changed(&site.insn, r) {
         result_kind(site)
     } else {
+        held(&site.insn, told(site, taken, r))
+    }
+}
+
+/// The same, where each function leaves the frames of others alone, if it does.
+pub fn kind_beyond(alone: bool, site: &Site, taken: bool, r: u8) -> Kind
+    requires { r < 75 }
+    ensures { result ≡ kinds_beyond alone taken site.now.insn (known site.now.slot site.now.kinds) r }
+{
+    if is_call(&site.insn) && alone && r >= REGISTERS {
         held(&site.insn, known(site, r))
+    } else {
+        kind_behind(site, taken, r)
     }
 }
 
@@ -189,14 +228,17 @@ pub fn all_called(site: &Site) -> Kinds
     kinds
 }
 
-/// What places hold at the start.
-pub fn start_kinds() -> Kinds
-    ensures { result ≡ start_kinds }
+/// What places hold at the start, on contexts of so many bytes.
+pub fn start_kinds(length: u32) -> Kinds
+    ensures { result ≡ start_kinds length }
 {
     let mut kinds = [Kind::Unset; PLACES];
     kinds[0] = Kind::Same;
     kinds[1] = Kind::Start;
-    kinds[2] = Kind::Same;
+    kinds[2] = Kind::Number {
+        least: length,
+        most: length,
+    };
     kinds[3] = Kind::Same;
     kinds[4] = Kind::Same;
     kinds[5] = Kind::Same;

@@ -3,6 +3,7 @@
 
 mod ahead;
 mod edges;
+mod exact;
 mod extras;
 mod frame;
 mod keeps;
@@ -10,12 +11,14 @@ mod kinds;
 mod laws;
 pub mod mismatch;
 pub mod notes;
+pub mod numbers;
 mod pairs;
 mod pass;
 pub mod site;
 pub mod stands;
 mod tame;
 
+pub use exact::{by_exact, may_fall, may_lead};
 pub use laws::matching_keeps_meaning;
 pub use mismatch::{Fault, Mismatch};
 pub use notes::{Bounds, Kind, Kinds, PLACES, Place};

@@ -12,8 +12,8 @@ pub enum Kind {
     Unset,
     /// The same value, if the old program has one there.
     Same,
-    /// The same number, if the old program has a value there; it has no pointer there.
-    Number,
+    /// The same number, from the least to the most. Both have one there.
+    Number { least: u32, most: u32 },
     /// The offset, modulo 2^64, of the pointer into the context that the old program has there.
     Offset,
     /// The same, and the offset is always this one.
@@ -32,6 +32,8 @@ pub enum Kind {
     Counter { head: u32 },
     /// The same, behind the taking of a turn for the head's instruction, which isn't done yet.
     Turn { head: u32 },
+    /// The same value, in r10. In front of the first instruction: each function leaves the frames of others alone.
+    Alone,
 }
 
 /// How many places notes speak of: r0 to r10, and the 64 slots of eight bytes of the frame.

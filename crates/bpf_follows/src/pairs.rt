@@ -1,17 +1,19 @@
 //! An instruction of the old program and the one that stands for it.
 
-ghost use Rattle.std.specs.Prelude.{◌≡◌, ◌<◌, ◌+ℤ◌, ◌↔◌, IsTrue, IsOk};
+ghost use Rattle.std.specs.Prelude.{◌≡◌, ◌<◌, ◌+ℤ◌, ◌↔◌, IsTrue, IsOk, Some};
 ghost use Rattle.std.specs.List.{filter_map};
 ghost use Rattle.std.specs.Ordering.{int_eq};
 ghost use Rattle.bpf_follows.specs.Relation.{known};
 ghost use Rattle.bpf_follows.specs.Extras.{is_same};
-ghost use Rattle.bpf_follows.specs.Matching.{undirected, IsSame, AreSame, is_offset, copy_kind, computed, fixed_at, moved_kind, of_operand, is_equality, are_offsets, is_spilled, slot_offset, loaded, spilled, by_offsets, result_kind, Reads, rebased, are_same_place, is_same_place, ByAddress, Pairs};
+ghost use Rattle.bpf_follows.specs.Matching.{undirected, IsSame, AreSame, is_offset, copy_kind, computed, moved_kind, of_operand, is_equality, are_offsets, slot_offset, loaded, spilled, by_offsets, by_kinds, result_kind, Reads, is_sum, is_moved, is_natural, is_wide, widened, rebased, are_same_place, is_same_place, ByAddress, Pairs};
 
+use crate::exact::{by_exact, fixed_at};
 use crate::extras::{is_base, is_same};
 use crate::frame::{is_r10, slot_of};
 use crate::kinds::{is_register, known, known_in};
 use crate::mismatch::Fault;
 use crate::notes::Kind;
+use crate::numbers::{is_bounded, number_kind};
 use crate::site::Site;
 use crate::tame::is_tame;
 use bpf_insn::{Access, AluOp, Cond, Insn, Operand, Reg, Size, Width};
@@ -102,22 +104,6 @@ fn computed(op: AluOp, a: Kind, b: Kind) -> Option<Kind>
     }
 }
 
-/// How far away an offset may be that is always the same.
-const FARTHEST: u64 = 0x7fff_ffff;
-
-/// An offset that is always the same, if it isn't too far away.
-fn fixed_at(offset: i64) -> Kind
-    ensures { result ≡ fixed_at offset }
-{
-    if offset.unsigned_abs() <= FARTHEST {
-        Kind::Fixed {
-            offset: offset as i32,
-        }
-    } else {
-        Kind::Offset
-    }
-}
-
 /// What a 64-bit operation makes of an offset and a constant.
 fn moved(op: AluOp, kind: Kind, imm: i32) -> Option<Kind>
     ensures { result ≡ moved_kind op kind imm }
@@ -161,10 +147,8 @@ fn slot_offset(site: &Site, slot: u32) -> Option<Kind>
     requires { slot < 64 }
     ensures { result ≡ slot_offset (known site.now.slot site.now.kinds) slot }
 {
-    match known(site, 11 + slot as u8) {
-        Kind::Offset => Some(Kind::Offset),
-        _ => None,
-    }
+    let kind = known(site, 11 + slot as u8);
+    if is_offset(kind) { Some(kind) } else { None }
 }
 
 /// The offset that is loaded from the frame.
@@ -186,7 +170,7 @@ fn spilled(site: &Site, dst: Reg, off: i16, src: Reg) -> Option<Kind>
         return None;
     }
     let _slot = slot_of(off)?;
-    Some(Kind::Offset)
+    Some(known_in(site, src))
 }
 
 /// What the instruction writes, if it does on offsets what the old program does on pointers.
@@ -235,18 +219,31 @@ fn by_offsets(site: &Site) -> Option<Kind>
     None
 }
 
+/// What the instruction writes, if it does so, or if that is always the same.
+fn by_kinds(site: &Site) -> Option<Kind>
+    ensures { result ≡ by_kinds (known site.now.slot site.now.kinds) site.now.insn }
+{
+    match by_exact(site) {
+        Some(kind) => Some(kind),
+        None => by_offsets(site),
+    }
+}
+
 /// What the instruction writes.
 pub fn result_kind(site: &Site) -> Kind
     ensures { result ≡ result_kind (known site.now.slot site.now.kinds) site.now.insn }
 {
-    by_offsets(site).unwrap_or(Kind::Same)
+    match by_kinds(site) {
+        Some(kind) => kind,
+        None => number_kind(site),
+    }
 }
 
 /// Whether the same instruction does the same on what the registers hold.
 fn reads(site: &Site) -> bool
     ensures { IsTrue result ↔ Reads (known site.now.slot site.now.kinds) site.now.insn }
 {
-    if by_offsets(site).is_some() {
+    if by_kinds(site).is_some() {
         return true;
     }
     let reads = site.insn.registers_read();
@@ -328,12 +325,96 @@ fn by_address(site: &Site) -> bool
     }
 }
 
+// ---- 32 bits or 64
+
+/// Whether a sum doesn't wrap at 32 bits.
+fn is_sum(a: Kind, b: Kind) -> bool
+    ensures { result ≡ is_sum a b }
+{
+    match (a, b) {
+        (Kind::Number { most, .. }, Kind::Number { most: high, .. }) => {
+            u64::from(most) + u64::from(high) < 1 << 32
+        }
+        _ => false,
+    }
+}
+
+/// Whether a sum with a constant doesn't wrap, neither at 32 bits nor at 0.
+fn is_moved(kind: Kind, imm: i32) -> bool
+    ensures { result ≡ is_moved kind imm }
+{
+    match kind {
+        Kind::Number { least, most } => {
+            if imm < 0 {
+                (-1 - i64::from(imm)).unsigned_abs() < u64::from(least) && u64::from(most) < 1 << 32
+            } else {
+                u64::from(most) + u64::from(imm.unsigned_abs()) < 1 << 32
+            }
+        }
+        _ => false,
+    }
+}
+
+/// Whether a constant isn't below 0.
+fn is_natural(imm: i32) -> bool
+    ensures { result ≡ is_natural imm }
+{
+    0 <= imm
+}
+
+/// Whether an operation gives the same at both widths.
+fn is_wide(site: &Site, op: AluOp, dst: Reg, src: Operand) -> bool
+    ensures { result ≡ is_wide (known site.now.slot site.now.kinds) op dst src }
+{
+    match (op, src) {
+        (AluOp::Mov, Operand::Imm(imm)) => is_natural(imm),
+        (AluOp::Mov, Operand::Reg(src)) => is_bounded(known_in(site, src)),
+        (AluOp::Add, Operand::Imm(imm)) => is_moved(known_in(site, dst), imm),
+        (AluOp::Add, Operand::Reg(src)) => is_sum(known_in(site, dst), known_in(site, src)),
+        _ => false,
+    }
+}
+
+/// The operation on 64 bits that gives the same.
+fn widened(site: &Site) -> Option<Insn>
+    ensures { result ≡ widened (known site.now.slot site.now.kinds) site.now.insn }
+{
+    let Insn::Alu {
+        op,
+        width: Width::W32,
+        dst,
+        src,
+    } = site.insn
+    else {
+        return None;
+    };
+    if !is_wide(site, op, dst, src) {
+        return None;
+    }
+    Some(Insn::Alu {
+        op,
+        width: Width::W64,
+        dst,
+        src,
+    })
+}
+
+/// Whether the new instruction is the old one on 64 bits, where that gives the same.
+fn is_widened(site: &Site) -> bool
+    ensures { IsTrue result ↔ (widened (known site.now.slot site.now.kinds) site.now.insn ≡ Some site.now.moved) }
+{
+    match widened(site) {
+        Some(insn) => same(insn, site.moved),
+        None => false,
+    }
+}
+
 /// Whether the new instruction does what the old one does. What fails is told.
 pub fn pairs(site: &Site) -> Result<(), Fault>
     ensures { IsOk result ↔ Pairs (known site.now.slot site.now.kinds) site.now.insn site.now.moved }
 {
     let is_alike = same(undirected(site.moved), undirected(site.insn));
-    if is_alike && reads(site) || by_address(site) {
+    if is_alike && reads(site) || by_address(site) || is_widened(site) {
         Ok(())
     } else if is_alike {
         Err(Fault::Read)

@@ -51,7 +51,7 @@ fn matches<O: Code, N: Code>(
     if !same_order(new.order(), old.order()) {
         return Err(Mismatch::Order);
     }
-    if !starts(new, notes, bounds.turns) {
+    if !starts(new, notes, bounds) {
         return Err(Mismatch::Start);
     }
     all_stand(old, new, notes, bounds)

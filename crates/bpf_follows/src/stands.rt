@@ -9,12 +9,14 @@ ghost use Rattle.bpf_follows.specs.Matching.{led, front_at, Falls, Leads, IsSite
 
 use crate::ahead::{span_behind, spans_ahead};
 use crate::edges::{Edge, arrives, enters};
+use crate::exact::{may_fall, may_lead};
 use crate::extras::extras;
 use crate::kinds::{all_called, is_call, place_at};
 use crate::mismatch::Fault;
 use crate::notes::{Bounds, Place};
 use crate::pairs::pairs;
 use crate::site::{Front, Site};
+use crate::tame::is_lone;
 use bpf_insn::{Code, Insn, target};
 
 /// Whether a program has the slot.
@@ -58,13 +60,14 @@ fn falls(notes: &[Option<Place>], turns: u32, site: &Site) -> bool
     requires new_below { site.now.new_slot < max_slots }
     ensures { IsTrue result ↔ Falls notes.now turns site.now }
 {
-    if !site.insn.goes_on() {
+    if !site.insn.goes_on() || !may_fall(site) {
         return true;
     }
     let count = site.insn.slots();
     let edge = Edge {
         slot: site.slot + count,
         new_slot: site.new_slot + count,
+        taken: false,
     };
     arrives(notes, turns, site, edge)
 }
@@ -87,10 +90,17 @@ fn leads<N: Code>(new: &N, notes: &[Option<Place>], turns: u32, site: &Site) -> 
     let Some(slot) = led(site.slot, &site.insn) else {
         return true;
     };
+    if !may_lead(site) {
+        return true;
+    }
     let Some(new_slot) = led(site.new_slot, &site.moved) else {
         return false;
     };
-    let edge = Edge { slot, new_slot };
+    let edge = Edge {
+        slot,
+        new_slot,
+        taken: true,
+    };
     if is_call(&site.insn) {
         enters(new, notes, turns, all_called(site), edge)
     } else {
@@ -134,6 +144,9 @@ pub fn stands_at<O: Code, N: Code>(
         Ok(site) => site,
         Err(fault) => return Err(fault),
     };
+    if !is_lone(notes, &site) {
+        return Err(Fault::Read);
+    }
     if !falls(notes, bounds.turns, &site) {
         return Err(Fault::Next);
     }

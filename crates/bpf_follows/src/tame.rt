@@ -1,19 +1,19 @@
 //! Whether an instruction does the same on the frame, where slots of the new program hold offsets.
 
 ghost use Rattle.std.specs.Prelude.{◌≡◌, ◌<◌, ◌+◌, ◌↔◌, ℕ, IsTrue, Some, true};
-ghost use Rattle.bpf_follows.specs.Relation.{known};
-ghost use Rattle.bpf_follows.specs.Matching.{is_plain, AllPlain, whole_slot, IsTame};
+ghost use Rattle.bpf_follows.specs.Relation.{known, is_alone};
+ghost use Rattle.bpf_follows.specs.Matching.{is_plain, AllPlain, whole_slot, IsTame, IsLone};
 
 use crate::frame::{is_far, whole_slot};
-use crate::kinds::{REGISTERS, known};
-use crate::notes::{Kind, PLACES};
+use crate::kinds::{REGISTERS, is_alone, is_call, known};
+use crate::notes::{Kind, PLACES, Place};
 use crate::site::Site;
 
 /// Whether each cell of a slot of this kind is the same, wherever the old program has something there.
 fn is_plain(kind: Kind) -> bool
     ensures { result ≡ is_plain kind }
 {
-    !matches!(kind, Kind::Nothing | Kind::Offset)
+    !matches!(kind, Kind::Nothing | Kind::Offset | Kind::Fixed { .. })
 }
 
 /// Whether that holds of all slots.
@@ -46,4 +46,14 @@ pub fn is_tame(site: &Site) -> bool
         return false;
     }
     is_near_plain(site)
+}
+
+/// Whether it leaves the frames of others alone, if the notes say that all do; else, if it is a call, whether those may reach this one.
+pub fn is_lone(notes: &[Option<Place>], site: &Site) -> bool
+    ensures { IsTrue result ↔ IsLone (is_alone notes.now) (known site.now.slot site.now.kinds) site.now.insn }
+{
+    if is_alone(notes) {
+        return !is_far(&site.insn);
+    }
+    !is_call(&site.insn) || all_plain(site)
 }

@@ -1,9 +1,8 @@
 -- What is spelled is read again.
-use Rattle.std.proofs.Common.{◌≡◌, ℕ, zero, suc, ◌+◌, ◌*◌, ◌-◌, ◌/◌, ◌%◌, ◌^◌, ◌<◌, ◌≤◌, ◌⊎◌, inl, inr, Bool, true, false, cond, eqb, leb, ltb, List, [], ◌∷◌, ◌++◌, length, replicate, Option, Some, None, ℤ, pos, negsuc, refl, sym, ap, subst, ◌∙◌, append_assoc, append-nil, length-append, arith}
-use Rattle.std.specs.Prelude.{◌&&◌, codes, decimal, option_map, set, Result, Ok, Err}
+use Rattle.std.proofs.Common.{◌≡◌, ℕ, zero, suc, ◌+◌, ◌*◌, ◌-◌, ◌/◌, ◌%◌, ◌^◌, ◌<◌, ◌≤◌, ◌⊎◌, inl, inr, Bool, true, false, eqb, List, [], ◌∷◌, ◌++◌, length, replicate, Option, Some, None, ℤ, pos, negsuc, refl, sym, ap, subst, ◌∙◌, append_assoc, append-nil, length-append, arith}
+use Rattle.std.specs.Prelude.{◌&&◌, codes, decimal, set, Result, Ok, Err}
 use Rattle.std.specs.Fmt.{signed_decimal}
 use Rattle.std.specs.List.{AllByRecursion}
-use Rattle.std.specs.Option.{option_map_or}
 use Rattle.std.proofs.Math.Seq.{set-append_seam}
 use Rattle.std.proofs.lemmas.Bool.{le-leb, lt-ltb, le-ltb}
 use Rattle.std.proofs.lemmas.Fmt.{decimal_by_steps}
@@ -12,12 +11,12 @@ use Rattle.bpf_insn.specs.Limits.{max_slots}
 use Rattle.bpf_insn.specs.declared.instruction.Reg.{Reg}
 use Rattle.bpf_insn.specs.declared.instruction.Reg.TheVariants.{R0, R1, R2, R3, R4, R5, R6, R7, R8, R9, R10}
 use Rattle.bpf_follows.specs.declared.notes.Kind.{Kind}
-use Rattle.bpf_follows.specs.declared.notes.Kind.TheVariants.{Nothing, Unset, Same, Number, Offset, Fixed, Start, Base, Moved, Address, Constant, Counter, Turn}
+use Rattle.bpf_follows.specs.declared.notes.Kind.TheVariants.{Nothing, Unset, Same, Number, Offset, Fixed, Start, Base, Moved, Address, Constant, Counter, Turn, Alone}
 use Rattle.bpf_follows.specs.declared.notes.Place.{Place}
 use Rattle.bpf_follows_notes.specs.declared.error.NotesError.{NotesError}
 use Rattle.bpf_follows_notes.specs.declared.error.NotesError.TheVariants.{Form}
-use Rattle.bpf_follows_notes.specs.NotesText.{IntFits, KindFits, PlaceFits, NoteFits, AreNotes, entry_text, behind_text, held_text, kinds_text, place_text, note_text, note_line, note_lines}
-use Rattle.bpf_follows_notes.specs.code.Reading.{◌>>=◌, or_else, behind, is_digit, with_digit, digits_in, number_in, signed_of, minus_in, plus_in, int_in, register_at, word_in, value_in, behind_in, plain_in, numbered_in, beside_in, kind_in, entry_in, kinds_in, nothing_said, place_in, note_from, note_in, taken_at, with_front, lines_in, after_lines}
+use Rattle.bpf_follows_notes.specs.NotesText.{IntFits, KindFits, PlaceFits, NoteFits, entry_text, behind_text, bounds_text, held_text, kinds_text, place_text, note_text, note_line, note_lines}
+use Rattle.bpf_follows_notes.specs.code.Reading.{behind, is_digit, digits_in, number_in, minus_in, plus_in, int_in, register_at, word_in, value_in, bounds_in, behind_in, plain_in, numbered_in, beside_in, kind_in, entry_in, kinds_in, nothing_said, place_in, note_in, taken_at, with_front, lines_in, after_lines}
 use Rattle.bpf_follows_notes.proofs.Spelled.{behind_word}
 
 -- ---- numbers
@@ -113,10 +112,6 @@ unset_again : (c : ℕ) (rest : List ℕ) → kind_in (codes "unset" ++ c ∷ re
 unfolding kind_in plain_in word_in behind
 unset_again c rest = refl
 
-number_word_again : (c : ℕ) (rest : List ℕ) → kind_in (codes "number" ++ c ∷ rest) ≡ Some (Number, c ∷ rest)
-unfolding kind_in plain_in word_in behind
-number_word_again c rest = refl
-
 offset_again : (c : ℕ) (rest : List ℕ) → kind_in (codes "offset" ++ c ∷ rest) ≡ Some (Offset, c ∷ rest)
 unfolding kind_in plain_in word_in behind
 offset_again c rest = refl
@@ -129,6 +124,10 @@ base_again : (c : ℕ) (rest : List ℕ) → kind_in (codes "base" ++ c ∷ rest
 unfolding kind_in plain_in word_in behind
 base_again c rest = refl
 
+alone_again : (c : ℕ) (rest : List ℕ) → kind_in (codes "alone" ++ c ∷ rest) ≡ Some (Alone, c ∷ rest)
+unfolding kind_in plain_in word_in behind
+alone_again c rest = refl
+
 fixed_again : (offset : ℤ) → IntFits offset → (c : ℕ) (rest : List ℕ) → Ends c → kind_in ((codes "fixed:" ++ signed_decimal offset) ++ c ∷ rest) ≡ Some (Fixed offset, c ∷ rest)
 unfolding kind_in plain_in word_in numbered_in value_in behind
 fixed_again offset fits c rest h = rw (int_again offset c rest fits h) refl
@@ -137,12 +136,25 @@ constant_again : (value : ℤ) → IntFits value → (c : ℕ) (rest : List ℕ)
 unfolding kind_in plain_in word_in numbered_in value_in behind
 constant_again value fits c rest h = rw (int_again value c rest fits h) refl
 
+both_again : (word : List ℕ) (least most : ℕ) → least < 2 ^ 32 → most < 2 ^ 32 → (c : ℕ) (rest : List ℕ) → Ends c → bounds_in word (word ++ (bounds_text least most ++ c ∷ rest)) ≡ Some (least, most, c ∷ rest)
+unfolding bounds_in
+both_again word least most low high c rest h =
+    rw (
+      append_assoc (decimal least) (58 ∷ decimal most) (c ∷ rest),
+      number_again word least 58 (decimal most ++ c ∷ rest) low (refl, refl),
+      number_again (codes ":") most c rest high h,
+    ) refl
+
+bounds_again : (least most : ℕ) → least < 2 ^ 32 → most < 2 ^ 32 → (c : ℕ) (rest : List ℕ) → Ends c → kind_in ((codes "number:" ++ bounds_text least most) ++ c ∷ rest) ≡ Some (Number least most, c ∷ rest)
+unfolding kind_in plain_in word_in numbered_in value_in behind
+bounds_again least most low high c rest h = rw (both_again (codes "number:") least most low high c rest h) refl
+
 turns_again : (head : ℕ) → head < 2 ^ 32 → (c : ℕ) (rest : List ℕ) → Ends c → kind_in ((codes "turns:" ++ decimal head) ++ c ∷ rest) ≡ Some (Counter head, c ∷ rest)
-unfolding kind_in plain_in word_in numbered_in value_in number_in behind
+unfolding kind_in plain_in word_in numbered_in value_in bounds_in number_in behind
 turns_again head fits c rest h = rw (digits_again head c rest fits h) refl
 
 turn_again : (head : ℕ) → head < 2 ^ 32 → (c : ℕ) (rest : List ℕ) → Ends c → kind_in ((codes "turn:" ++ decimal head) ++ c ∷ rest) ≡ Some (Turn head, c ∷ rest)
-unfolding kind_in plain_in word_in numbered_in value_in number_in behind
+unfolding kind_in plain_in word_in numbered_in value_in bounds_in number_in behind
 turn_again head fits c rest h = rw (digits_again head c rest fits h) refl
 
 beside_again : (word : List ℕ) (of : Reg) (by : ℤ) → IntFits by → (c : ℕ) (rest : List ℕ) → Ends c → behind_in word (word ++ (behind_text of by ++ c ∷ rest)) ≡ Some (of, by, c ∷ rest)
@@ -156,7 +168,7 @@ beside_again word of by fits c rest h =
     ) refl
 
 moved_again : (of : Reg) (by : ℤ) → IntFits by → (c : ℕ) (rest : List ℕ) → Ends c → kind_in ((codes "moved:r" ++ behind_text of by) ++ c ∷ rest) ≡ Some (Moved of by, c ∷ rest)
-unfolding kind_in plain_in word_in numbered_in value_in number_in beside_in behind
+unfolding kind_in plain_in word_in numbered_in value_in bounds_in number_in beside_in behind
 moved_again of by fits c rest h = rw (beside_again (codes "moved:r") of by fits c rest h) refl
 
 -- no other such word stands there
@@ -165,7 +177,7 @@ unfolding behind_in number_in behind
 no_moved text = refl
 
 address_again : (of : Reg) (by : ℤ) → IntFits by → (c : ℕ) (rest : List ℕ) → Ends c → kind_in ((codes "address:r" ++ behind_text of by) ++ c ∷ rest) ≡ Some (Address of by, c ∷ rest)
-unfolding kind_in plain_in word_in numbered_in value_in number_in beside_in behind
+unfolding kind_in plain_in word_in numbered_in value_in bounds_in number_in beside_in behind
 address_again of by fits c rest h = rw (no_moved (codes "ddress:r" ++ (behind_text of by ++ c ∷ rest)), beside_again (codes "address:r") of by fits c rest h) refl
 
 held_is : (r : ℕ) (kind : Kind) → KindFits kind → (kind ≡ Nothing) ⊎ Worded r kind
@@ -173,7 +185,7 @@ unfolding held_text
 held_is r Nothing fits = inl refl
 held_is r Unset fits = inr (record { word = codes "unset"; text = refl; again = λ c rest h. unset_again c rest })
 held_is r Same fits = inr (record { word = codes "same"; text = refl; again = λ c rest h. same_again c rest })
-held_is r Number fits = inr (record { word = codes "number"; text = refl; again = λ c rest h. number_word_again c rest })
+held_is r (Number least most) fits = inr (record { word = codes "number:" ++ bounds_text least most; text = refl; again = bounds_again least most fits.0 fits.1 })
 held_is r Offset fits = inr (record { word = codes "offset"; text = refl; again = λ c rest h. offset_again c rest })
 held_is r (Fixed offset) fits = inr (record { word = codes "fixed:" ++ signed_decimal offset; text = refl; again = fixed_again offset fits })
 held_is r Start fits = inr (record { word = codes "start"; text = refl; again = λ c rest h. start_again c rest })
@@ -183,6 +195,7 @@ held_is r (Address of by) fits = inr (record { word = codes "address:r" ++ behin
 held_is r (Constant value) fits = inr (record { word = codes "constant:" ++ signed_decimal value; text = refl; again = constant_again value fits })
 held_is r (Counter head) fits = inr (record { word = codes "turns:" ++ decimal head; text = refl; again = turns_again head fits })
 held_is r (Turn head) fits = inr (record { word = codes "turn:" ++ decimal head; text = refl; again = turn_again head fits })
+held_is r Alone fits = inr (record { word = codes "alone"; text = refl; again = λ c rest h. alone_again c rest })
 
 -- ---- entries
 

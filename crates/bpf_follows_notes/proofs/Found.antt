@@ -1,12 +1,12 @@
 -- What is read is spelled so, and where reading stops no line stands.
-use Rattle.std.proofs.Common.{◌≡◌, ◌≢◌, ℕ, zero, suc, ◌+◌, ◌≤◌, ◌⊎◌, inl, inr, List, [], ◌∷◌, ◌++◌, length, Option, Some, None, refl, sym, ap, subst, ◌∙◌, append_assoc, arith}
+use Rattle.std.proofs.Common.{◌≡◌, ℕ, zero, suc, ◌+◌, ◌≤◌, ◌⊎◌, inl, inr, List, [], ◌∷◌, ◌++◌, length, Option, Some, None, refl, sym, ap, subst, ◌∙◌, append_assoc, arith}
 use Rattle.std.specs.Prelude.{option_map, Result, Ok, Err}
 use Rattle.std.specs.Option.{option_map_or}
 use Rattle.bpf_insn.specs.Limits.{max_slots}
 use Rattle.bpf_follows.specs.declared.notes.Place.{Place}
 use Rattle.bpf_follows_notes.specs.declared.error.NotesError.{NotesError}
-use Rattle.bpf_follows_notes.specs.declared.error.NotesError.TheVariants.{Form, Memory}
-use Rattle.bpf_follows_notes.specs.NotesText.{NoteFits, note_line, note_lines}
+use Rattle.bpf_follows_notes.specs.declared.error.NotesError.TheVariants.{Form}
+use Rattle.bpf_follows_notes.specs.NotesText.{note_line, note_lines}
 use Rattle.bpf_follows_notes.specs.Refused.{NoLine, StopsAt}
 use Rattle.bpf_follows_notes.specs.code.Reading.{◌>>=◌, behind, note_in, taken_at, with_front, lines_in}
 use Rattle.bpf_follows_notes.proofs.Spelled.{behind_is}

@@ -6,7 +6,7 @@ use Rattle.bpf_insn.specs.Limits.{max_slots}
 use Rattle.bpf_insn.specs.Instruction.{register_number}
 use Rattle.bpf_insn.specs.declared.instruction.Reg.{Reg}
 use Rattle.bpf_follows.specs.declared.notes.Kind.{Kind}
-use Rattle.bpf_follows.specs.declared.notes.Kind.TheVariants.{Nothing, Unset, Same, Number, Offset, Fixed, Start, Base, Moved, Address, Constant, Counter, Turn}
+use Rattle.bpf_follows.specs.declared.notes.Kind.TheVariants.{Nothing, Unset, Same, Number, Offset, Fixed, Start, Base, Moved, Address, Constant, Counter, Turn, Alone}
 use Rattle.bpf_follows.specs.declared.notes.Place.{Place}
 
 -- ---- what has a text
@@ -21,7 +21,7 @@ abbrev pub KindFits : Kind → Type 0
 KindFits Nothing = Unit {0}
 KindFits Unset = Unit {0}
 KindFits Same = Unit {0}
-KindFits Number = Unit {0}
+KindFits (Number least most) = (least < 2 ^ 32) × (most < 2 ^ 32)
 KindFits Offset = Unit {0}
 KindFits (Fixed offset) = IntFits offset
 KindFits Start = Unit {0}
@@ -31,6 +31,7 @@ KindFits (Address of by) = IntFits by
 KindFits (Constant value) = IntFits value
 KindFits (Counter head) = head < 2 ^ 32
 KindFits (Turn head) = head < 2 ^ 32
+KindFits Alone = Unit {0}
 
 pub record PlaceFits (place : Place) : Type 0 where
   pub entry : place.entry < 2 ^ 32
@@ -58,11 +59,15 @@ entry_text r word = codes " r" ++ (decimal r ++ (codes "=" ++ word))
 abbrev pub behind_text : Reg → ℤ → List ℕ
 behind_text r by = decimal (register_number r) ++ (codes ":" ++ signed_decimal by)
 
+-- the least number and the most
+abbrev pub bounds_text : ℕ → ℕ → List ℕ
+bounds_text least most = decimal least ++ (codes ":" ++ decimal most)
+
 unfoldable pub held_text : ℕ → Kind → List ℕ
 held_text r Nothing = []
 held_text r Unset = entry_text r (codes "unset")
 held_text r Same = entry_text r (codes "same")
-held_text r Number = entry_text r (codes "number")
+held_text r (Number least most) = entry_text r (codes "number:" ++ bounds_text least most)
 held_text r Offset = entry_text r (codes "offset")
 held_text r (Fixed offset) = entry_text r (codes "fixed:" ++ signed_decimal offset)
 held_text r Start = entry_text r (codes "start")
@@ -72,6 +77,7 @@ held_text r (Address of by) = entry_text r (codes "address:r" ++ behind_text of 
 held_text r (Constant value) = entry_text r (codes "constant:" ++ signed_decimal value)
 held_text r (Counter head) = entry_text r (codes "turns:" ++ decimal head)
 held_text r (Turn head) = entry_text r (codes "turn:" ++ decimal head)
+held_text r Alone = entry_text r (codes "alone")
 
 -- what places hold from r on; one of which nothing is said is left out
 unfoldable pub kinds_text : ℕ → List Kind → List ℕ

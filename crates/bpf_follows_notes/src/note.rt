@@ -1,7 +1,7 @@
 //! What a line says, if it is one of notes: what is read here is spelled again, and compared.
 
 ghost use Rattle.std.specs.Prelude.{◌≡◌, option_map};
-ghost use Rattle.bpf_follows_notes.specs.code.Reading.{register_at, plain_in, value_in, behind_in, beside_in, numbered_in, kind_in, entry_in, kinds_in, nothing_said, place_in, note_in};
+ghost use Rattle.bpf_follows_notes.specs.code.Reading.{register_at, plain_in, value_in, bounds_in, behind_in, beside_in, numbered_in, kind_in, entry_in, kinds_in, nothing_said, place_in, note_in};
 
 use crate::digits::{behind, int_in, number_in};
 use bpf_follows::{Kind, Kinds, PLACES, Place};
@@ -43,17 +43,17 @@ fn plain_in(text: &[u8]) -> Option<(Kind, &[u8])>
     if let Some(rest) = behind(text, b"unset") {
         return Some((Kind::Unset, rest));
     }
-    if let Some(rest) = behind(text, b"number") {
-        return Some((Kind::Number, rest));
-    }
     if let Some(rest) = behind(text, b"offset") {
         return Some((Kind::Offset, rest));
     }
     if let Some(rest) = behind(text, b"start") {
         return Some((Kind::Start, rest));
     }
-    let rest = behind(text, b"base")?;
-    Some((Kind::Base, rest))
+    if let Some(rest) = behind(text, b"base") {
+        return Some((Kind::Base, rest));
+    }
+    let rest = behind(text, b"alone")?;
+    Some((Kind::Alone, rest))
 }
 
 /// The signed number behind a word, and what stands behind it.
@@ -75,6 +75,16 @@ fn behind_in<'a>(text: &'a [u8], word: &[u8]) -> Option<(Reg, i32, &'a [u8])>
     let rest = behind(rest, b":")?;
     let (by, rest) = int_in(rest)?;
     Some((of, by, rest))
+}
+
+/// The least number and the most behind a word, and what stands behind them.
+#[tactic(auto, unfolding(crate::specs::code::Reading::bounds_in))]
+fn bounds_in<'a>(text: &'a [u8], word: &[u8]) -> Option<(u32, u32, &'a [u8])>
+    ensures { option_map (λ x. (x.0, x.1, x.2.now)) result ≡ bounds_in word.now text.now }
+{
+    let (least, rest) = number_in(text, word)?;
+    let (most, rest) = number_in(rest, b":")?;
+    Some((least, most, rest))
 }
 
 /// The kind with a register.
@@ -99,6 +109,9 @@ fn numbered_in(text: &[u8]) -> Option<(Kind, &[u8])>
     }
     if let Some((value, rest)) = value_in(text, b"constant:") {
         return Some((Kind::Constant { value }, rest));
+    }
+    if let Some((least, most, rest)) = bounds_in(text, b"number:") {
+        return Some((Kind::Number { least, most }, rest));
     }
     if let Some((head, rest)) = number_in(text, b"turns:") {
         return Some((Kind::Counter { head }, rest));

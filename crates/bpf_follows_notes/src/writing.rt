@@ -1,8 +1,8 @@
 //! Spelling notes.
 
-ghost use Rattle.std.specs.Prelude.{◌≡◌, ◌++◌, decimal, IfOk, OnOk, option_copied};
+ghost use Rattle.std.specs.Prelude.{◌≡◌, ◌++◌, codes, decimal, IfOk, OnOk, option_copied};
 ghost use Rattle.std.specs.Fmt.{signed_decimal};
-ghost use Rattle.bpf_follows_notes.specs.NotesText.{entry_text, behind_text, held_text, kinds_text, place_text, note_line, notes_text};
+ghost use Rattle.bpf_follows_notes.specs.NotesText.{entry_text, behind_text, bounds_text, held_text, kinds_text, place_text, note_line, notes_text};
 
 use bpf_follows::{Kind, Kinds, PLACES, Place};
 use bpf_insn::Reg;
@@ -65,6 +65,15 @@ fn put_beside(
     put_number(text, b":", by)
 }
 
+/// Puts a register, and that it holds a number from the least to the most.
+#[tactic(auto, using(crate::proofs::Spelled::texts), unfolding(crate::specs::NotesText::entry_text))]
+fn put_bounds(text: &mut Vec<u8>, register: u8, least: u32, most: u32) -> Result<(), AllocError>
+    ensures { OnOk result (text.new.items ≡ text.old.items ++ entry_text register (codes "number:" ++ bounds_text least most)) }
+{
+    put_head(text, register, b"number:", least)?;
+    put_number(text, b":", most)
+}
+
 /// Puts what a register holds, if that is something.
 #[tactic(auto, using(crate::proofs::Spelled::texts), unfolding(crate::specs::NotesText::held_text))]
 fn put_held(text: &mut Vec<u8>, register: u8, kind: Kind) -> Result<(), AllocError>
@@ -74,7 +83,7 @@ fn put_held(text: &mut Vec<u8>, register: u8, kind: Kind) -> Result<(), AllocErr
         Kind::Nothing => Ok(()),
         Kind::Unset => put_entry(text, register, b"unset"),
         Kind::Same => put_entry(text, register, b"same"),
-        Kind::Number => put_entry(text, register, b"number"),
+        Kind::Number { least, most } => put_bounds(text, register, least, most),
         Kind::Offset => put_entry(text, register, b"offset"),
         Kind::Fixed { offset } => put_value(text, register, b"fixed:", offset),
         Kind::Start => put_entry(text, register, b"start"),
@@ -84,6 +93,7 @@ fn put_held(text: &mut Vec<u8>, register: u8, kind: Kind) -> Result<(), AllocErr
         Kind::Constant { value } => put_value(text, register, b"constant:", value),
         Kind::Counter { head } => put_head(text, register, b"turns:", head),
         Kind::Turn { head } => put_head(text, register, b"turn:", head),
+        Kind::Alone => put_entry(text, register, b"alone"),
     }
 }
 

@@ -1,7 +1,9 @@
 //! What registers hold behind an old instruction and what stands for it.
 
 use crate::facts::{Facts, REGISTERS, is_offset, slot_at};
-use bpf_follows::Kind;
+use bpf_follows::numbers::{number_kind, told};
+use bpf_follows::site::Site;
+use bpf_follows::{Kind, by_exact};
 use bpf_insn::{Access, AluOp, FRAME_BYTES, Insn, Operand, Reg, Size, Width};
 
 /// What a copy of a register holds.
@@ -75,8 +77,10 @@ fn stored(facts: &Facts, insn: &Insn) -> Kind {
         ..
     } = *insn
     {
-        if is_offset(src, facts.get(src)) {
-            return Kind::Offset;
+        match facts.get(src) {
+            Kind::Fixed { offset } => return Kind::Fixed { offset },
+            kind if is_offset(src, kind) => return Kind::Offset,
+            _ => {}
         }
     }
     Kind::Same
@@ -95,9 +99,6 @@ fn touches(access: Access, slot: u8) -> bool {
 
 /// Whether the instruction writes to a slot, or may do so.
 fn writes(insn: &Insn, slot: u8) -> bool {
-    if let Insn::CallLocal { .. } = *insn {
-        return true;
-    }
     let Some(access) = insn.access() else {
         return false;
     };
@@ -125,32 +126,68 @@ fn loaded(facts: &Facts, insn: &Insn) -> Kind {
     else {
         return Kind::Same;
     };
-    match slot_at(off) {
-        Some(place) if facts.at(place) == Kind::Offset => Kind::Offset,
+    let Some(place) = slot_at(off) else {
+        return Kind::Same;
+    };
+    match facts.at(place) {
+        Kind::Offset | Kind::Fixed { .. } => facts.at(place),
         _ => Kind::Same,
     }
 }
 
-/// The instruction was done in both programs.
-pub fn step(facts: &mut Facts, insn: &Insn) {
-    write_frame(facts, insn);
-    if let Insn::CallLocal { .. } = *insn {
-        for r in [Reg::R0, Reg::R1, Reg::R2, Reg::R3, Reg::R4, Reg::R5] {
-            facts.write(r, Kind::Same);
+/// What the instruction leaves in its register, where that is an offset.
+fn moved_by(facts: &Facts, insn: &Insn) -> Kind {
+    let Insn::Alu {
+        op,
+        width: Width::W64,
+        dst,
+        src,
+    } = *insn
+    else {
+        return loaded(facts, insn);
+    };
+    computed(facts, op, dst, src)
+}
+
+/// What the instruction puts into its register.
+fn written(facts: &Facts, site: &Site) -> Kind {
+    if let Some(kind) = by_exact(site) {
+        return kind;
+    }
+    match moved_by(facts, &site.insn) {
+        Kind::Same => number_kind(site),
+        kind => kind,
+    }
+}
+
+/// What a test tells where it leads away (`taken`), or goes on.
+fn tell(facts: &mut Facts, site: &Site, taken: bool) {
+    for number in 0..REGISTERS as u8 {
+        if let Kind::Number { .. } = facts.get(Reg::numbered(number)) {
+            facts.set(Reg::numbered(number), told(site, taken, number));
         }
     }
-    if let Some(r) = insn.register_written() {
-        let kind = if let Insn::Alu {
-            op,
-            width: Width::W64,
-            dst,
-            src,
-        } = *insn
-        {
-            computed(facts, op, dst, src)
-        } else {
-            loaded(facts, insn)
-        };
+}
+
+/// Whether an instruction writes by another register than r10, or reads a whole slot by one.
+pub fn is_far(insn: &Insn) -> bool {
+    let is_whole = matches!(*insn, Insn::Load { size: Size::DW, .. });
+    match insn.access() {
+        Some(access) => access.base != Reg::R10 && (access.writes || is_whole),
+        None => false,
+    }
+}
+
+/// The instruction was done in both programs, and led away (`taken`) or went on. A call may write to the frame, unless functions leave the
+/// frames of others alone.
+pub fn step(facts: &mut Facts, site: &Site, taken: bool, is_alone: bool) {
+    tell(facts, site, taken);
+    write_frame(facts, &site.insn);
+    if let Insn::CallLocal { .. } = site.insn {
+        facts.call(is_alone);
+    }
+    if let Some(r) = site.insn.register_written() {
+        let kind = written(facts, site);
         facts.write(r, kind);
     }
 }

@@ -38,6 +38,8 @@ fn joined_slot(a: Kind, b: Kind) -> Kind {
         (Kind::Constant { .. }, Kind::Counter { head })
         | (Kind::Counter { head }, Kind::Constant { .. }) => Kind::Counter { head },
         _ if a == b => a,
+        (Kind::Fixed { .. }, Kind::Fixed { .. } | Kind::Offset)
+        | (Kind::Offset, Kind::Fixed { .. }) => Kind::Offset,
         _ if is_free(a) && is_free(b) => Kind::Unset,
         _ if is_same => Kind::Same,
         _ => Kind::Nothing,
@@ -61,6 +63,56 @@ pub fn is_offset(r: Reg, kind: Kind) -> bool {
     }
 }
 
+/// Whether both programs have the same.
+fn is_same(kind: Kind) -> bool {
+    matches!(kind, Kind::Same | Kind::Start | Kind::Number { .. })
+}
+
+/// The bounds of both.
+fn joined_numbers(a: Kind, b: Kind) -> Kind {
+    match (a, b) {
+        (
+            Kind::Number { least, most },
+            Kind::Number {
+                least: low,
+                most: high,
+            },
+        ) => Kind::Number {
+            least: least.min(low),
+            most: most.max(high),
+        },
+        _ => Kind::Same,
+    }
+}
+
+/// Bounds that grew again and again, and now grow at once.
+pub fn grown(before: Kind, after: Kind) -> Kind {
+    let (
+        Kind::Number { least, most },
+        Kind::Number {
+            least: low,
+            most: high,
+        },
+    ) = (before, after)
+    else {
+        return after;
+    };
+    let low = if low < least { low.min(1) } else { low };
+    let high = if high <= most {
+        high
+    } else if high <= 0xffff {
+        0xffff
+    } else if high <= 0x7fff_ffff {
+        0x7fff_ffff
+    } else {
+        0xffff_ffff
+    };
+    Kind::Number {
+        least: low,
+        most: high,
+    }
+}
+
 /// What holds on both ways to a place.
 fn joined(r: Reg, a: Kind, b: Kind) -> Kind {
     if a == b {
@@ -69,8 +121,10 @@ fn joined(r: Reg, a: Kind, b: Kind) -> Kind {
     if is_offset(r, a) && is_offset(r, b) {
         return Kind::Offset;
     }
+    if is_same(a) && is_same(b) {
+        return joined_numbers(a, b);
+    }
     match (a, b) {
-        (Kind::Start, Kind::Same) | (Kind::Same, Kind::Start) => Kind::Same,
         (Kind::Start, Kind::Base) | (Kind::Base, Kind::Start) => Kind::Base,
         (Kind::Constant { .. }, Kind::Counter { head })
         | (Kind::Counter { head }, Kind::Constant { .. }) => Kind::Counter { head },
@@ -90,10 +144,21 @@ impl Facts {
         facts
     }
 
-    /// At the start both programs have the same, and r1 points to the context's start.
-    pub fn start() -> Facts {
+    /// At the start both programs have the same, r1 points to the context's start, and r2 is its length. Functions may leave the frames of
+    /// others alone.
+    pub fn start(length: u32, is_alone: bool) -> Facts {
         let mut facts = Facts::entered();
+        if is_alone {
+            facts.set(Reg::R10, Kind::Alone);
+        }
         facts.set(Reg::R1, Kind::Start);
+        facts.set(
+            Reg::R2,
+            Kind::Number {
+                least: length,
+                most: length,
+            },
+        );
         facts
     }
 
@@ -132,6 +197,21 @@ impl Facts {
         self.set(r, kind);
     }
 
+    /// A call is made: what is said by another register is gone.
+    pub fn call(&mut self, is_alone: bool) {
+        for place in 0..PLACES {
+            if beside(self.at(place)).is_some() {
+                self.put(place, Kind::Nothing);
+            }
+            if place >= REGISTERS && !is_alone {
+                self.put(place, Kind::Same);
+            }
+        }
+        for r in [Reg::R0, Reg::R1, Reg::R2, Reg::R3, Reg::R4, Reg::R5] {
+            self.set(r, Kind::Same);
+        }
+    }
+
     /// At the entry of a function that is called.
     pub fn called(&self) -> Facts {
         let mut facts = Facts::entered();
@@ -145,12 +225,15 @@ impl Facts {
         facts
     }
 
-    /// What holds on both ways. Whether that is less than this.
-    pub fn join(&mut self, other: &Facts) -> bool {
+    /// What holds on both ways, where bounds grow step by step, or at once (`far`). Whether that is less than this.
+    pub fn join(&mut self, other: &Facts, far: bool) -> bool {
         let mut is_less = false;
         for number in 0..REGISTERS as u8 {
             let r = Reg::numbered(number);
-            let kind = joined(r, self.get(r), other.get(r));
+            let mut kind = joined(r, self.get(r), other.get(r));
+            if far {
+                kind = grown(self.get(r), kind);
+            }
             is_less = is_less || kind != self.get(r);
             self.set(r, kind);
         }

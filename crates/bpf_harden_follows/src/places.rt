@@ -1,18 +1,22 @@
 //! The places of a hardened program, by the slots of the old one.
 
-use crate::behind::step;
+use crate::behind::{is_far, step};
 use crate::extra::{pass, taken, tested};
 use crate::facts::Facts;
-use bpf_follows::{Kind, Place};
+use bpf_follows::site::Site;
+use bpf_follows::{Kind, Place, may_fall, may_lead};
 use bpf_harden_notes::{Change, Hardened};
 use bpf_insn::{AluOp, Insn, Operand, Program, Reg, Width};
 use std::alloc::{AllocError, Global};
 
 /// The most instructions that are looked at in front of an old one.
-const MOST_EXTRA: u32 = 32;
+const MOST_EXTRA: u32 = 128;
 
 /// The most rounds over all slots. What isn't stable by then isn't shown.
 const ROUNDS: u32 = 64;
+
+/// How often bounds grow at a slot before they grow at once.
+const PATIENCE: u32 = 3;
 
 /// Both programs, and what is found so far.
 #[derive(Drop)]
@@ -27,6 +31,10 @@ struct Finder<'a> {
     facts: Vec<Option<Facts>>,
     /// By old slots, whether that was changed since it was looked at.
     is_new: Vec<bool>,
+    /// Whether each function of the old program leaves the frames of others alone.
+    is_alone: bool,
+    /// By old slots, how often that was changed.
+    times: Vec<u32>,
 }
 
 /// An element, if the list is so long.
@@ -64,6 +72,18 @@ fn takes_from(insn: &Insn, r: Reg) -> bool {
     *insn == take
 }
 
+/// Whether no instruction writes by another register than r10, or reads a whole slot by one.
+fn is_alone(old: &Program) -> bool {
+    for slot in 0..old.slots() {
+        if let Some(insn) = old.at(slot) {
+            if is_far(insn) {
+                return false;
+            }
+        }
+    }
+    true
+}
+
 impl<'a> Finder<'a> {
     /// Nothing is found.
     fn new(alloc: Global, old: &'a Program, new: &'a Hardened) -> Result<Finder<'a>, AllocError> {
@@ -82,6 +102,8 @@ impl<'a> Finder<'a> {
             entries,
             facts: vec![in alloc; None; old.slots() as usize]?,
             is_new: vec![in alloc; false; old.slots() as usize]?,
+            is_alone: is_alone(old),
+            times: vec![in alloc; 0; old.slots() as usize]?,
         })
     }
 
@@ -174,9 +196,10 @@ impl<'a> Finder<'a> {
         }
         let mut found = *facts;
         let mut is_new = true;
+        let times = self.times.get(slot as usize).copied().unwrap_or(0);
         if let Some(before) = at(&self.facts, slot) {
             found = before;
-            is_new = found.join(facts);
+            is_new = found.join(facts, PATIENCE < times);
         }
         if let Some(counter) = self.counter(slot) {
             if let Kind::Constant { .. } = found.at(counter) {
@@ -184,6 +207,7 @@ impl<'a> Finder<'a> {
             }
         }
         if is_new {
+            put(&mut self.times, slot, times.saturating_add(1));
             put(&mut self.facts, slot, Some(found));
             put(&mut self.is_new, slot, true);
         }
@@ -194,6 +218,17 @@ impl<'a> Finder<'a> {
         if let (Some(entry), Some(first)) = (self.entry(slot), self.first(slot)) {
             let set = self.passed(facts, slot, entry, first);
             self.arrive(slot, &set);
+        }
+    }
+
+    /// An instruction leads to an old slot.
+    fn lead(&mut self, target: u32, site: &Site, before: &Facts) {
+        if let Insn::CallLocal { .. } = site.insn {
+            self.enter(target, &before.called());
+        } else {
+            let mut behind = *before;
+            step(&mut behind, site, true, self.is_alone);
+            self.arrive(target, &behind);
         }
     }
 
@@ -208,17 +243,21 @@ impl<'a> Finder<'a> {
         };
         let insn = *insn;
         let before = self.passed(facts, slot, first, body);
-        let mut behind = before;
-        step(&mut behind, &insn);
-        if insn.goes_on() {
+        let site = Site {
+            slot,
+            insn,
+            new_slot: body,
+            moved: insn,
+            kinds: before.kinds,
+        };
+        if insn.goes_on() && may_fall(&site) {
+            let mut behind = before;
+            step(&mut behind, &site, false, self.is_alone);
             self.arrive(slot.saturating_add(insn.slots()), &behind);
         }
-        if let Some(target) = led(slot, &insn) {
-            if let Insn::CallLocal { .. } = insn {
-                self.enter(target, &before.called());
-            } else {
-                self.arrive(target, &behind);
-            }
+        match led(slot, &insn) {
+            Some(target) if may_lead(&site) => self.lead(target, &site, &before),
+            _ => {}
         }
     }
 
@@ -250,15 +289,17 @@ impl<'a> Finder<'a> {
     }
 }
 
-/// By the slots of a program, what stands in the hardened one for its instructions, as `follows` of `bpf_follows` takes it. None
-/// where no way is known to lead, and at second slots.
+/// By the slots of a program, what stands in the one that it was hardened to, for contexts of so many bytes, for its instructions, as
+/// `follows` of `bpf_follows` takes it. None where no way is known to lead, and at second slots.
 pub fn places_of(
     alloc: Global,
     old: &Program,
     new: &Hardened,
+    length: u32,
 ) -> Result<Vec<Option<Place>>, AllocError> {
     let mut finder = Finder::new(alloc, old, new)?;
-    finder.enter(0, &Facts::start());
+    let is_alone = finder.is_alone;
+    finder.enter(0, &Facts::start(length, is_alone));
     for _ in 0..ROUNDS {
         if !finder.round() {
             break;

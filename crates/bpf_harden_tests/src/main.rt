@@ -98,7 +98,7 @@ impl Pair {
             Ok(hardened) => hardened,
             Err(error) => return Err(Refusal::Hardening(error.number())),
         };
-        let Ok(notes) = places_of(alloc, &old, &hardened) else {
+        let Ok(notes) = places_of(alloc, &old, &hardened, length) else {
             return Err(Refusal::Hex);
         };
         let turns = case.turns;

@@ -1,56 +1,15 @@
 //! The calls that explain.
 
-ghost use Rattle.std.specs.Prelude.{◌≡◌, ◌⊎◌, ◌↔◌, ◌<◌, ◌≤◌, Some, length, pos, negsuc};
+ghost use Rattle.std.specs.Prelude.{◌≡◌, ◌⊎◌, ◌↔◌, ◌<◌, length, pos, negsuc};
 ghost use Rattle.bpf_insn.specs.Limits.{max_context};
-ghost use Rattle.bpf_host.specs.Told.{order_named};
-ghost use Rattle.bpf_host.specs.Answers.{IsRefusedAsTold};
-ghost use Rattle.bpf_host.specs.Explained.{IsSomeImage, IsRefusedImage, IsCertifiedBySome, IsFound, IsNotFound, GivesWords};
-ghost use Rattle.bpf_host.specs.declared.explanation.Judged.TheVariants.{Accepted, Refused};
+ghost use Rattle.bpf_host_runs.specs.Told.{order_named};
+ghost use Rattle.bpf_host_runs.specs.Answers.{IsRefusedAsTold};
+ghost use Rattle.bpf_host_advice.specs.Explained.{IsSomeImage, IsRefusedImage, IsCertifiedBySome, IsFound, IsNotFound, GivesWords};
 
-use crate::answers::{BAD_CALL, BpfRefusal, DONE, NO_MEMORY, REFUSED, order_of};
-use crate::explanation::{Given, Judged, checked, read_alone, searched, shown_of};
-use crate::proposal::{Wanted, give};
-use bpf_insn::MAX_CONTEXT;
+use bpf_host_runs::BpfRefusal;
 use std::alloc::Global;
 
-/// Gives the words of an explanation where there is room for them, and says how the image was judged; None where memory ran out.
-fn answer(
-    judged: Option<Judged>,
-    words: &[u8],
-    text: &mut [u8],
-    wanted: &mut usize,
-    refusal: &mut BpfRefusal,
-) -> i32
-    ensures yes { result ≡ pos 1 → judged ≡ Some Accepted }
-    ensures no { result ≡ pos 0 → judged ≡ Some (Refused refusal.new) }
-    ensures given { (result ≡ pos 1) ⊎ (result ≡ pos 0) → GivesWords wanted.new text.old text.new }
-    ensures small { result ≡ negsuc 2 → length text.old < wanted.new }
-    ensures answers { (result ≡ pos 1) ⊎ (result ≡ pos 0) ⊎ (result ≡ negsuc 0) ⊎ (result ≡ negsuc 2) }
-    ensures text_kept { (result ≡ pos 1) ⊎ (result ≡ pos 0) ⊎ (text.new ≡ text.old) }
-    ensures wanted_kept { (result ≡ pos 1) ⊎ (result ≡ pos 0) ⊎ (result ≡ negsuc 2) ⊎ (wanted.new ≡ wanted.old) }
-    ensures refusal_kept { (result ≡ pos 0) ⊎ (refusal.new ≡ refusal.old) }
-{
-    let Some(judged) = judged else {
-        return NO_MEMORY;
-    };
-    let given = give(words, text, wanted);
-    if given != DONE {
-        return given;
-    }
-    match judged {
-        Judged::Accepted => DONE,
-        Judged::Refused(told) => {
-            *refusal = told;
-            REFUSED
-        }
-    }
-}
-
-/// Explains an image with a certificate, in the words of `bpf explain IN CERT`, which stand in the first `wanted` bytes of `text`:
-/// 1 where the certificate certifies the image, 0 where it doesn't, and `refusal` says why. What is shown is 0 the listing, 1 the
-/// instruction at `slot`, 2 the graph; `lines` is the table of the source's lines, and may be empty. -1: memory ran out. -2: the order
-/// is neither 0 nor 1, there is no aspect `shown`, or `lines` isn't such a table. -3: `text` has less than `wanted` bytes.
-/// What isn't answered stays as it was.
+/// `explain` of `bpf_host_advice`, for C.
 #[unsafe(no_mangle)]
 pub extern "C" fn bpf_host_explain(
     alloc: Global,
@@ -75,27 +34,21 @@ pub extern "C" fn bpf_host_explain(
     ensures wanted_kept { (result ≡ pos 1) ⊎ (result ≡ pos 0) ⊎ (result ≡ negsuc 2) ⊎ (wanted.new ≡ wanted.old) }
     ensures refusal_kept { (result ≡ pos 0) ⊎ (refusal.new ≡ refusal.old) }
 {
-    let Some(order) = order_of(u64::from(order)) else {
-        return BAD_CALL;
-    };
-    let Some(shown) = shown_of(shown, slot, lines) else {
-        return BAD_CALL;
-    };
-    let mut words = Vec::new(alloc);
-    let judged = checked(
+    bpf_host_advice::explain(
         alloc,
-        &mut words,
-        Given { image, order },
+        image,
+        order,
         certificate,
         shown,
-    );
-    answer(judged, &words, text, wanted, refusal)
+        slot,
+        lines,
+        text,
+        wanted,
+        refusal,
+    )
 }
 
-/// Explains what a search finds for an image on contexts of `least` to `most` bytes, the deep one where `deep` is 1, in the words of
-/// `bpf explain IN --infer`: 1 where it finds a certificate which certifies the image, 0 where it doesn't, and `refusal` says why, by
-/// E, I or C. What is shown is as of `bpf_host_explain`. -1: memory ran out. -2: as of that one, `least` is above `most`, `most` above
-/// 4,096, or `deep` neither 0 nor 1. -3: `text` has less than `wanted` bytes. What isn't answered stays as it was.
+/// `explain_search` of `bpf_host_advice`, for C.
 #[unsafe(no_mangle)]
 pub extern "C" fn bpf_host_explain_search(
     alloc: Global,
@@ -122,28 +75,12 @@ pub extern "C" fn bpf_host_explain_search(
     ensures wanted_kept { (result ≡ pos 1) ⊎ (result ≡ pos 0) ⊎ (result ≡ negsuc 2) ⊎ (wanted.new ≡ wanted.old) }
     ensures refusal_kept { (result ≡ pos 0) ⊎ (refusal.new ≡ refusal.old) }
 {
-    let Some(order) = order_of(u64::from(order)) else {
-        return BAD_CALL;
-    };
-    if least > most || most > MAX_CONTEXT as u32 || deep > 1 {
-        return BAD_CALL;
-    }
-    let Some(shown) = shown_of(shown, slot, lines) else {
-        return BAD_CALL;
-    };
-    let wanted_of = Wanted {
-        least,
-        most,
-        deep: deep == 1,
-    };
-    let mut words = Vec::new(alloc);
-    let judged = searched(alloc, &mut words, Given { image, order }, wanted_of, shown);
-    answer(judged, &words, text, wanted, refusal)
+    bpf_host_advice::explain_search(
+        alloc, image, order, least, most, deep, shown, slot, lines, text, wanted, refusal,
+    )
 }
 
-/// Explains an image by itself, in the words of `bpf explain IN`, or draws the graph of its program where `graph` is 1: 1 of an image, 0
-/// of bytes that are none, and `refusal` says why. -1: memory ran out. -2: the order or `graph` is neither 0 nor 1. -3: `text` has
-/// less than `wanted` bytes. What isn't answered stays as it was.
+/// `explain_image` of `bpf_host_advice`, for C.
 #[unsafe(no_mangle)]
 pub extern "C" fn bpf_host_explain_image(
     alloc: Global,
@@ -164,13 +101,5 @@ pub extern "C" fn bpf_host_explain_image(
     ensures wanted_kept { (result ≡ pos 1) ⊎ (result ≡ pos 0) ⊎ (result ≡ negsuc 2) ⊎ (wanted.new ≡ wanted.old) }
     ensures refusal_kept { (result ≡ pos 0) ⊎ (refusal.new ≡ refusal.old) }
 {
-    let Some(order) = order_of(u64::from(order)) else {
-        return BAD_CALL;
-    };
-    if graph > 1 {
-        return BAD_CALL;
-    }
-    let mut words = Vec::new(alloc);
-    let judged = read_alone(&mut words, Given { image, order }, graph == 1);
-    answer(judged, &words, text, wanted, refusal)
+    bpf_host_advice::explain_image(alloc, image, order, graph, text, wanted, refusal)
 }

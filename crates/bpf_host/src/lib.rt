@@ -1,62 +1,36 @@
 //! The checker, the machine and the inferrer for hosts in C and in Rust. `include/bpf.h` declares these calls, and hands
-//! over no pointer that is null.
+//! over no pointer that is null. Each is one call of `bpf_host_runs` or `bpf_host_advice`, and promises what that one does.
 #![tactic(auto)]
 
-ghost use Rattle.std.specs.Prelude.{◌≡◌, ◌≢◌, ◌++◌, ◌⊎◌, ◌↔◌, ◌<◌, ◌≤◌, ◌+◌, ◌*◌, ◌%◌, ℕ, List, length, take, drop, pos, negsuc};
+ghost use Rattle.std.specs.Prelude.{◌≡◌, ◌≢◌, ◌++◌, ◌⊎◌, ◌↔◌, ◌<◌, ◌≤◌, ◌+◌, ◌*◌, ◌%◌, List, length, take, drop, pos, negsuc};
 ghost use Rattle.bpf_insn.specs.Limits.{max_context};
 ghost use Rattle.bpf_insn.specs.Laws.{IsImageOfProgram};
 ghost use Rattle.bpf_insn.specs.declared.instruction.Insn.{Insn as Instruction};
 ghost use Rattle.bpf_cert.specs.View.{CertificateView};
 ghost use Rattle.bpf_check.specs.Verdicts.{Verified, Promises, Certifies};
-ghost use Rattle.bpf_host.specs.Texts.{refusal_text};
-ghost use Rattle.bpf_host.specs.Told.{order_named, IsNumbered};
-ghost use Rattle.bpf_host.specs.Prepared.{IsPrepared, IsMarked, version};
-ghost use Rattle.bpf_host.specs.Loaded.{IsLoaded, IsMarkedHandle, HoldsLoaded, EndsAsLoaded, loaded_least, loaded_most};
-ghost use Rattle.bpf_host.specs.Answers.{IsRefusedAsTold, IsNoImage, RanImage, IsUnrun, MayRun, EndsAsPrepared, GivesProposal, WantsRoom, IsNotProposed, GivesImage, WantsImageRoom, IsNotHardened};
+ghost use Rattle.bpf_host_runs.specs.Told.{order_named};
+ghost use Rattle.bpf_host_runs.specs.Prepared.{IsPrepared, IsMarked, version};
+ghost use Rattle.bpf_host_runs.specs.Loaded.{IsLoaded, IsMarkedHandle, HoldsLoaded, EndsAsLoaded, loaded_least, loaded_most};
+ghost use Rattle.bpf_host_runs.specs.Answers.{IsRefusedAsTold, IsNoImage, RanImage, IsUnrun, MayRun, EndsAsPrepared};
+ghost use Rattle.bpf_host_advice.specs.Texts.{refusal_text, IsNumbered};
+ghost use Rattle.bpf_host_advice.specs.Proposals.{GivesProposal, WantsRoom, IsNotProposed};
+ghost use Rattle.bpf_host_advice.specs.Hardened.{GivesImage, WantsImageRoom, IsNotHardened};
 
-mod answers;
-mod checked;
 mod explaining;
-mod explanation;
-mod hardening;
-mod loaded;
-mod ordered;
-mod prepared;
-mod proposal;
-mod runs;
-mod texts;
 
-pub use answers::{BpfOutcome, BpfRefusal, BpfVerdict};
-use answers::{
-    BAD_CALL, DONE, NO_MEMORY, REFUSED, TOO_LONG, TOO_SMALL, of_outcome, of_verify, order_of, unrun,
-};
-use bpf_check::verify;
-use bpf_harden::Options;
-use bpf_insn::{MAX_CONTEXT, MAX_IMAGE, ProgramView};
-use checked::end_of;
+use bpf_host_runs::{BpfOutcome, BpfRefusal, BpfVerdict};
 pub use explaining::{bpf_host_explain, bpf_host_explain_image, bpf_host_explain_search};
-use hardening::{Unhardened, hardened};
-use loaded::{end_of_loaded, handle_size, has_handle_room, put_loaded, takes};
-use prepared::{has_room, put, size_for};
-use proposal::{Unproposed, Wanted, give, proposal};
-use runs::outcome_of;
 use std::alloc::Global;
-use texts::{give_beginning, text_of};
 
-/// Version 0.1.0.
-const VERSION: u32 = 100;
-
-/// The library's version as one number: 10,000 times its first part, 100 times its second, and its third, together.
+/// `version` of `bpf_host_runs`, for C.
 #[unsafe(no_mangle)]
 pub extern "C" fn bpf_host_version() -> u32
     ensures { result ≡ version }
 {
-    VERSION
+    bpf_host_runs::version()
 }
 
-/// Whether a certificate certifies an image in a byte order, 0 little-endian or 1 big-endian. 1: yes, and `verdict` is what
-/// is promised. 0: no, and `refusal` says why. -1: memory ran out while the certificate was read. -2: the order is neither 0
-/// nor 1. What isn't answered stays as it was.
+/// `verify` of `bpf_host_runs`, for C.
 #[unsafe(no_mangle)]
 pub extern "C" fn bpf_host_verify(
     alloc: Global,
@@ -76,31 +50,10 @@ pub extern "C" fn bpf_host_verify(
     ensures verdict_kept { (result ≡ pos 1) ⊎ (verdict.new ≡ verdict.old) }
     ensures refusal_kept { (result ≡ pos 0) ⊎ (refusal.new ≡ refusal.old) }
 {
-    let Some(order) = order_of(u64::from(order)) else {
-        return BAD_CALL;
-    };
-    match verify(alloc, image, order, certificate) {
-        Ok(yes) => {
-            *verdict = BpfVerdict {
-                least: yes.least,
-                most: yes.most,
-                bound: yes.bound,
-            };
-            DONE
-        }
-        Err(error) => match of_verify(error) {
-            Some(told) => {
-                *refusal = told;
-                REFUSED
-            }
-            None => NO_MEMORY,
-        },
-    }
+    bpf_host_runs::verify(alloc, image, order, certificate, verdict, refusal)
 }
 
-/// Runs a program that nobody verified on a context of at most 4,096 bytes, for at most `fuel` instructions, on the exact
-/// machine. 1: it ran, and `outcome` says how it ended. 0: the image is refused, and `outcome` says why. -2: the order is
-/// neither 0 nor 1, or the context is too long, and `outcome` stays as it was. It takes no memory.
+/// `run` of `bpf_host_runs`, for C.
 #[unsafe(no_mangle)]
 pub extern "C" fn bpf_host_run(
     image: &[u8],
@@ -115,39 +68,19 @@ pub extern "C" fn bpf_host_run(
     ensures answers { (result ≡ pos 1) ⊎ (result ≡ pos 0) ⊎ (result ≡ negsuc 1) }
     ensures kept { result ≡ negsuc 1 → outcome.new ≡ outcome.old }
 {
-    let Some(order) = order_of(u64::from(order)) else {
-        return BAD_CALL;
-    };
-    if context.len() > MAX_CONTEXT {
-        return BAD_CALL;
-    }
-    match ProgramView::of(image, order) {
-        Ok(_program) => {
-            *outcome = of_outcome(outcome_of(image, order, context, fuel));
-            DONE
-        }
-        Err(error) => {
-            *outcome = unrun(error);
-            REFUSED
-        }
-    }
+    bpf_host_runs::run(image, order, context, fuel, outcome)
 }
 
-/// How many words of eight bytes the prepared program of an image of `image_len` bytes takes; 0 where no image is as long.
+/// `prepared_size` of `bpf_host_runs`, for C.
 #[unsafe(no_mangle)]
 pub extern "C" fn bpf_host_prepared_size(image_len: usize) -> usize
     ensures words { image_len ≤ 524288 → image_len % 8 ≡ 0 → 0 < image_len → 8 * result ≡ 16 + image_len }
     ensures none { (524288 < image_len) ⊎ ((image_len ≡ 0) ⊎ (0 < image_len % 8)) → result ≡ 0 }
 {
-    if image_len == 0 || image_len > MAX_IMAGE || image_len % 8 != 0 {
-        return 0;
-    }
-    size_for(image_len) / 8
+    bpf_host_runs::prepared_size(image_len)
 }
 
-/// Prepares the program of an image for `bpf_host_run_checked`, in `memory` of 8 times `bpf_host_prepared_size` bytes.
-/// 1: it is prepared. 0: the image is refused. -2: the order is neither 0 nor 1. -3: the memory has another size. But for
-/// 1 the memory stays as it was. It takes no other memory.
+/// `prepare` of `bpf_host_runs`, for C.
 #[unsafe(no_mangle)]
 pub extern "C" fn bpf_host_prepare(image: &[u8], order: u32, memory: &mut [u8]) -> i32
     ensures prepared { result ≡ pos 1 → IsPrepared (order_named order) image.now memory.new }
@@ -159,21 +92,10 @@ pub extern "C" fn bpf_host_prepare(image: &[u8], order: u32, memory: &mut [u8]) 
     ensures answers { (result ≡ pos 1) ⊎ (result ≡ pos 0) ⊎ (result ≡ negsuc 1) ⊎ (result ≡ negsuc 2) }
     ensures kept { (result ≡ pos 1) ⊎ (memory.new ≡ memory.old) }
 {
-    let Some(order) = order_of(u64::from(order)) else {
-        return BAD_CALL;
-    };
-    let Ok(_program) = ProgramView::of(image, order) else {
-        return REFUSED;
-    };
-    if !has_room(memory, image.len()) {
-        return TOO_SMALL;
-    }
-    put(image, order, memory);
-    DONE
+    bpf_host_runs::prepare(image, order, memory)
 }
 
-/// Runs a prepared program whose image `bpf_host_verify` says yes to, on a context of a length within that verdict. 1: it ended
-/// with `value`, within the bound. -2: another version prepared it, and `value` stays as it was. It takes no memory.
+/// `run_checked` of `bpf_host_runs`, for C.
 #[unsafe(no_mangle)]
 pub extern "C" fn bpf_host_run_checked(memory: &[u8], context: &[u8], value: &mut u64) -> i32
     requires head { 16 ≤ length memory.now }
@@ -183,30 +105,19 @@ pub extern "C" fn bpf_host_run_checked(memory: &[u8], context: &[u8], value: &mu
     ensures answers { (result ≡ pos 1) ⊎ (result ≡ negsuc 1) }
     ensures kept { (result ≡ pos 1) ⊎ (value.new ≡ value.old) }
 {
-    let Some(end) = end_of(memory, context) else {
-        return BAD_CALL;
-    };
-    *value = end;
-    DONE
+    bpf_host_runs::run_checked(memory, context, value)
 }
 
-/// How many words of eight bytes the handle of an image of `image_len` bytes takes; 0 where no image is as long.
+/// `loaded_size` of `bpf_host_runs`, for C.
 #[unsafe(no_mangle)]
 pub extern "C" fn bpf_host_loaded_size(image_len: usize) -> usize
     ensures words { image_len ≤ 524288 → image_len % 8 ≡ 0 → 0 < image_len → 8 * result ≡ 40 + image_len }
     ensures none { (524288 < image_len) ⊎ ((image_len ≡ 0) ⊎ (0 < image_len % 8)) → result ≡ 0 }
 {
-    if image_len == 0 || image_len > MAX_IMAGE || image_len % 8 != 0 {
-        return 0;
-    }
-    handle_size(image_len) / 8
+    bpf_host_runs::loaded_size(image_len)
 }
 
-/// Judges an image by a certificate, as `bpf_host_verify` does, and writes a handle for `bpf_host_run_loaded`, in `memory` of
-/// 8 times `bpf_host_loaded_size` bytes. 1: `memory` is the handle, and `verdict` is what is promised. 0: the image is
-/// refused, and `refusal` says why. -1: memory ran out while the certificate was read. -2: the order is neither 0 nor 1.
-/// -3: the memory has another size. -4: the bound is above `limit`, and `verdict` is what is promised. What isn't answered
-/// stays as it was, and but for 1 so does the memory.
+/// `load` of `bpf_host_runs`, for C.
 #[unsafe(no_mangle)]
 pub extern "C" fn bpf_host_load(
     alloc: Global,
@@ -235,31 +146,19 @@ pub extern "C" fn bpf_host_load(
     ensures verdict_kept { (result ≡ pos 1) ⊎ (result ≡ negsuc 3) ⊎ (verdict.new ≡ verdict.old) }
     ensures refusal_kept { (result ≡ pos 0) ⊎ (refusal.new ≡ refusal.old) }
 {
-    let Some(byte_order) = order_of(u64::from(order)) else {
-        return BAD_CALL;
-    };
-    let mut promised = BpfVerdict {
-        least: 0,
-        most: 0,
-        bound: 0,
-    };
-    let answer = bpf_host_verify(alloc, image, order, certificate, &mut promised, refusal);
-    if answer != DONE {
-        return answer;
-    }
-    if !has_handle_room(memory, image.len()) {
-        return TOO_SMALL;
-    }
-    *verdict = promised;
-    if promised.bound > limit {
-        return TOO_LONG;
-    }
-    put_loaded(image, byte_order, promised, memory);
-    DONE
+    bpf_host_runs::load(
+        alloc,
+        image,
+        order,
+        certificate,
+        limit,
+        memory,
+        verdict,
+        refusal,
+    )
 }
 
-/// Runs the program of a handle that `bpf_host_load` wrote. 1: it ended with `value`, within the handle's bound. -2: another
-/// version wrote it, or the context's length is out of the handle's range; `value` stays as it was. It takes no memory.
+/// `run_loaded` of `bpf_host_runs`, for C.
 #[unsafe(no_mangle)]
 pub extern "C" fn bpf_host_run_loaded(memory: &[u8], context: &[u8], value: &mut u64) -> i32
     requires head { 40 ≤ length memory.now }
@@ -269,20 +168,10 @@ pub extern "C" fn bpf_host_run_loaded(memory: &[u8], context: &[u8], value: &mut
     ensures answers { (result ≡ pos 1) ⊎ (result ≡ negsuc 1) }
     ensures kept { (result ≡ pos 1) ⊎ (value.new ≡ value.old) }
 {
-    if !takes(memory, context.len()) {
-        return BAD_CALL;
-    }
-    let Some(number) = end_of_loaded(memory, context) else {
-        return BAD_CALL;
-    };
-    *value = number;
-    DONE
+    bpf_host_runs::run_loaded(memory, context, value)
 }
 
-/// Proposes a certificate for the program of an image, on contexts of `least` to `most` bytes: 1, and its text stands in the
-/// first `wanted` bytes of `text`. 0: none is proposed, and `refusal` says why, by E or I. -1: memory ran out. -2: the order
-/// is neither 0 nor 1, `least` is above `most`, or `most` above 4,096. -3: `text` is too small for `wanted` bytes. What isn't
-/// answered stays as it was. Nobody relies on a proposal: `bpf_host_verify` judges it.
+/// `infer` of `bpf_host_advice`, for C.
 #[unsafe(no_mangle)]
 pub extern "C" fn bpf_host_infer(
     alloc: Global,
@@ -304,32 +193,12 @@ pub extern "C" fn bpf_host_infer(
     ensures wanted_kept { (result ≡ pos 1) ⊎ (result ≡ negsuc 2) ⊎ (wanted.new ≡ wanted.old) }
     ensures refusal_kept { (result ≡ pos 0) ⊎ (refusal.new ≡ refusal.old) }
 {
-    let Some(order) = order_of(u64::from(order)) else {
-        return BAD_CALL;
-    };
-    if least > most || most > MAX_CONTEXT as u32 || deep > 1 {
-        return BAD_CALL;
-    }
-    let wanted_of = Wanted {
-        least,
-        most,
-        deep: deep == 1,
-    };
-    match proposal(alloc, image, order, wanted_of) {
-        Ok(words) => give(&words, text, wanted),
-        Err(Unproposed::Memory) => NO_MEMORY,
-        Err(Unproposed::Refused(told)) => {
-            *refusal = told;
-            REFUSED
-        }
-    }
+    bpf_host_advice::infer(
+        alloc, image, order, least, most, deep, text, wanted, refusal,
+    )
 }
-/// Hardens an image for contexts of exactly `size` bytes: loops that nothing counts turn at most `turns` times, and where a
-/// trap ends the program, r0 is `otherwise`. With `padded` 1 the context is a block: eight bytes that say how long the packet is,
-/// the packet, and padding. 1: the new image stands in the first `wanted` bytes of `text`. 0: the image is refused, or its
-/// program isn't hardened, and `refusal` says why. -1: memory ran out. -2: the order or `padded` is neither 0 nor 1, or
-/// `size` is above 4,096. -3: `text` has less than `wanted` bytes. What isn't answered stays as it was. Nobody relies on it:
-/// a certificate of the new image has to be found and judged.
+
+/// `harden` of `bpf_host_advice`, for C.
 #[unsafe(no_mangle)]
 pub extern "C" fn bpf_host_harden(
     alloc: Global,
@@ -352,41 +221,17 @@ pub extern "C" fn bpf_host_harden(
     ensures wanted_kept { (result ≡ pos 1) ⊎ (result ≡ negsuc 2) ⊎ (wanted.new ≡ wanted.old) }
     ensures refusal_kept { (result ≡ pos 0) ⊎ (refusal.new ≡ refusal.old) }
 {
-    let Some(order) = order_of(u64::from(order)) else {
-        return BAD_CALL;
-    };
-    if size > MAX_CONTEXT as u32 || padded > 1 {
-        return BAD_CALL;
-    }
-    let options = Options {
-        turns,
-        otherwise,
-        padded: padded == 1,
-        everywhere: false,
-    };
-    match hardened(alloc, image, order, size, &options) {
-        Ok(bytes) => give(&bytes, text, wanted),
-        Err(Unhardened::Memory) => NO_MEMORY,
-        Err(Unhardened::Refused(told)) => {
-            *refusal = told;
-            REFUSED
-        }
-    }
+    bpf_host_advice::harden(
+        alloc, image, order, size, turns, otherwise, padded, text, wanted, refusal,
+    )
 }
 
-/// What a refusal or a fault says in English, without an end of line: the kind is the letter C, E, F, I or K. The answer is
-/// how many bytes that is, 0 where there is no such refusal; as many as have room stand in `text`.
+/// `refusal_text` of `bpf_host_advice`, for C.
 #[unsafe(no_mangle)]
 pub extern "C" fn bpf_host_refusal_text(kind: u32, number: u32, text: &mut [u8]) -> usize
     ensures numbered { (0 < result) ↔ IsNumbered kind number }
     ensures length { result ≡ length (refusal_text kind number) }
     ensures given { text.new ≡ take (length text.old) (refusal_text kind number) ++ drop result text.old }
 {
-    match text_of(kind, number) {
-        Some(words) => {
-            give_beginning(words, text);
-            words.len()
-        }
-        None => 0,
-    }
+    bpf_host_advice::refusal_text(kind, number, text)
 }

@@ -18,7 +18,8 @@ use Rattle.std.proofs.Math.Seq.{take-add}
 use Rattle.bpf_insn.specs.declared.instruction.Insn.{Insn}
 use Rattle.bpf_insn.specs.declared.instruction.Insn.TheVariants.{LoadImm64}
 use Rattle.bpf_insn.proofs.ProgramLemmas.{instructions_in-layout}
-use Rattle.bpf_insn.proofs.FaultLemmas.{begins, no_fault, insn_in_bytes-insn}
+use Rattle.bpf_insn.proofs.BeginLemmas.{begins}
+use Rattle.bpf_insn.proofs.FaultLemmas.{no_fault, insn_in_bytes-insn}
 use Rattle.bpf_insn.proofs.WalkLemmas.{image_length, cells_from-image}
 
 -- the instructions of an image, from its slots

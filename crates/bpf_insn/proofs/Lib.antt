@@ -3,6 +3,8 @@ pub mod ProgramLemmas
 pub mod TableLemmas
 pub mod FormLemmas
 pub mod SlotLemmas
+pub mod FormFields
+pub mod BeginLemmas
 pub mod FaultLemmas
 pub mod WalkLemmas
 pub mod ViewLemmas

@@ -13,8 +13,8 @@ use Rattle.bpf_insn.specs.declared.refusal.SlotFault.{SlotFault}
 use Rattle.bpf_insn.specs.Refusal.{table, uses_in, is_one_of, each_field, is_selected, is_zero_if_unused, wrong_fields, is_left_out, left_out, reserved_is_zero, fields_in, refusal_by_uses, refusal_of_fields, refusal_here}
 use Rattle.bpf_insn.specs.declared.order.Order.{Order}
 use Rattle.bpf_insn.specs.declared.fields.Fields.{Fields}
-use Rattle.bpf_insn.specs.declared.limits.Limits.{Limits}
-use Rattle.bpf_insn.specs.declared.limits.TheConstants.{LIMITS}
+use Rattle.bpf_insn.specs.declared.field_limits.Limits.{Limits}
+use Rattle.bpf_insn.specs.declared.field_limits.TheConstants.{LIMITS}
 use Rattle.bpf_insn.specs.declared.refusal.SlotFault.TheVariants.{LeftOut, Register, Selector, Unused, Truncated}
 use Rattle.bpf_insn.proofs.TableLemmas.{same_in_range, numbers_from}
 

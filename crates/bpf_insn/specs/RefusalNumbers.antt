@@ -1,5 +1,5 @@
--- The number of each refusal (RFC 9669, sections 3 to 5), from 1 to 10, and the slot that it names.
-use Rattle.std.specs.Prelude.{ℕ}
+-- The number of each refusal (RFC 9669, sections 3 to 5), from 1 to 10, what is told of it, and the slot that it names.
+use Rattle.std.specs.Prelude.{ℕ, List, [], ◌∷◌, codes}
 use Rattle.bpf_insn.specs.declared.refusal.SlotFault.{SlotFault}
 use Rattle.bpf_insn.specs.declared.refusal.SlotFault.TheVariants.{Opcode, Register, Unused, Selector, Truncated, LeftOut}
 use Rattle.bpf_insn.specs.declared.refusal.BuildError.{BuildError}
@@ -33,6 +33,22 @@ decode_number (Slot slot fault) = slot_fault_number fault
 decode_number (BadTarget slot) = 8
 decode_number NoMemory = 9
 decode_number (Read slot) = 10
+
+-- what is told of E1 to E10, by their numbers and without the slots; there is no number 0
+abbrev pub image_texts : List (List ℕ)
+image_texts =
+    [] ∷
+    codes "length is zero, no multiple of 8, or above 524,288 bytes" ∷
+    codes "unknown opcode" ∷
+    codes "register above r10" ∷
+    codes "unused field is not zero" ∷
+    codes "undefined value of a selecting field" ∷
+    codes "second slot of a wide instruction is missing" ∷
+    codes "instruction is left out of this profile" ∷
+    codes "target of the jump is no instruction" ∷
+    codes "out of memory" ∷
+    codes "reading failed" ∷
+    []
 
 abbrev pub decode_slot : DecodeError → ℕ
 decode_slot BadLength = 0

@@ -106,6 +106,7 @@ pub fn atomic_of(imm: i32) -> AtomicOp
 }
 
 /// The instruction of a form with these fields; `high` is the imm of the second slot.
+#[inline(always)]
 fn insn_of(form: Form, dst: Reg, src: Reg, f: &Fields, high: u32) -> Insn
     ensures { result ≡ insn_of_form form dst src f.now high }
 {
@@ -203,6 +204,7 @@ fn high_of(order: Order, bytes: &[u8]) -> u32
 
 /// The instruction that begins in these bytes of an image; None in the second slot of a wide one.
 #[tactic(auto, unfolding(crate::specs::code::Decoding::insn_in_bytes))]
+#[inline(always)]
 pub fn insn_from(order: Order, bytes: &[u8]) -> Option<Insn>
     requires { 8 ≤ length bytes.now }
     ensures { result ≡ insn_in_bytes order bytes.now }

@@ -4,6 +4,7 @@ ghost use Rattle.std.specs.Prelude.{◌≡◌};
 ghost use Rattle.bpf_insn.specs.code.Form.{reach_in, group_in};
 
 use crate::instruction::{AluOp, Cond, EndKind, Group, Size, Width};
+use crate::opcodes::{ATOMIC, ATOMIC_WIDE, CALL, EXIT, JA_LONG};
 
 /// Where the second operand comes from: bit 3 of an opcode of arithmetic or of a jump.
 #[derive(Clone, Copy)]
@@ -77,9 +78,9 @@ pub enum Form {
 pub fn reach_of(opcode: u8) -> Reach
     ensures { result ≡ reach_in opcode }
 {
-    if opcode % 8 != 5 && opcode % 8 != 6 || opcode == 0x95 {
+    if opcode % 8 != 5 && opcode % 8 != 6 || opcode == EXIT {
         Reach::Nowhere
-    } else if opcode == 0x06 || opcode == 0x85 {
+    } else if opcode == JA_LONG || opcode == CALL {
         Reach::ByImm
     } else {
         Reach::ByOffset
@@ -90,7 +91,7 @@ pub fn reach_of(opcode: u8) -> Reach
 pub fn group_by(opcode: u8) -> Group
     ensures { result ≡ group_in opcode }
 {
-    if opcode == 0xc3 || opcode == 0xdb {
+    if opcode == ATOMIC || opcode == ATOMIC_WIDE {
         Group::Atomic
     } else if opcode % 8 != 4 && opcode % 8 != 7 {
         Group::Base

@@ -8,10 +8,10 @@ ghost use Rattle.bpf_insn.specs.Reading.{max_read, ReadsImage, FailsAfter, Fails
 ghost use Rattle.bpf_insn.specs.declared.instruction.Insn.{Insn};
 ghost use Rattle.bpf_insn.specs.declared.refusal.DecodeError.TheVariants.{Memory};
 
+use crate::limits::MAX_IMAGE;
 use crate::order::Order;
 use crate::program::Program;
 use crate::refusal::DecodeError;
-use crate::sizes::MAX_IMAGE;
 use crate::view::ProgramView;
 use std::alloc::Global;
 use std::io::Read;
@@ -36,6 +36,9 @@ pub fn decode(alloc: Global, bytes: &[u8], order: Order) -> Result<Program, Deco
     }
 }
 
+/// How many bytes are asked for at once.
+const PIECE: usize = 4_096;
+
 /// The bytes of a reader to its end, or the first 524,289, one more than the largest image has, and not a byte more: E9 if
 /// memory runs out, E10 at the first fault of the reader, with the slot in which that came.
 pub fn read_image<R: Read>(alloc: Global, reader: &mut R) -> Result<Vec<u8>, DecodeError>
@@ -46,7 +49,7 @@ pub fn read_image<R: Read>(alloc: Global, reader: &mut R) -> Result<Vec<u8>, Dec
     ensures used { GivesAtMost max_read (R.remaining reader.old) (R.remaining reader.new) }
 {
     let mut bytes = Vec::new(alloc);
-    let mut chunk = [0; 4096];
+    let mut chunk = [0; PIECE];
     'reads: while bytes.len() < MAX_READ {
         let room = chunk.len().min(MAX_READ - bytes.len());
         let Ok(count) = reader.read(&mut chunk[..room]) else {
@@ -72,8 +75,10 @@ pub fn decode_from<R: Read + Drop>(
 ) -> Result<Program, DecodeError>
     ensures ok { IfOk result (λ p. IfSome (R.remaining reader) (λ bytes. IsImage order p.list (take max_read bytes))) }
     ensures program { IfOk result (λ p. IsProgram p.list × (p.order ≡ order)) }
-    ensures err { IfErr result (λ e. (e ≡ Memory) ⊎ FailsAfter (R.remaining reader) e ⊎ IfSome (R.remaining reader) (λ bytes. IsRefused order (take max_read bytes) e)) }
-    ensures accepts { (is : List Insn) → IsProgram is → R.remaining reader ≡ Some (image order is) → MatchResult result (λ p. p.list ≡ is) (λ e. (e ≡ Memory) ⊎ FailsAfter (R.remaining reader) e) }
+    ensures err { IfErr result (λ e. (e ≡ Memory) ⊎ FailsAfter (R.remaining reader) e
+        ⊎ IfSome (R.remaining reader) (λ bytes. IsRefused order (take max_read bytes) e)) }
+    ensures accepts { (is : List Insn) → IsProgram is → R.remaining reader ≡ Some (image order is) →
+        MatchResult result (λ p. p.list ≡ is) (λ e. (e ≡ Memory) ⊎ FailsAfter (R.remaining reader) e) }
 {
     let mut reader = reader;
     match read_image(alloc, &mut reader) {

@@ -10,6 +10,7 @@ mod decoding;
 mod effects;
 mod encoding;
 mod field_codes;
+mod field_limits;
 mod fields;
 mod form;
 mod forms;
@@ -20,10 +21,10 @@ mod laws;
 mod layout;
 mod limits;
 mod numbers;
-pub mod order;
+pub mod opcodes;
+mod order;
 mod program;
 pub mod refusal;
-mod sizes;
 mod slot_fault;
 mod uses;
 mod view;
@@ -48,10 +49,10 @@ pub use laws::{
     image_is_injective, image_length, list_is_one_of_both, list_never_both, list_refused_once,
     never_both, orders_exchange, reads_back, refusal_is_exact, refused_once,
 };
+pub use limits::{FRAME_BYTES, MAX_CONTEXT, MAX_FRAMES, MAX_IMAGE, MAX_SLOTS};
 pub use numbers::{number_in, put_number};
 pub use order::Order;
 pub use program::Program;
 pub use refusal::{BuildError, DecodeError, LeftOut, SlotFault};
-pub use sizes::{FRAME_BYTES, MAX_CONTEXT, MAX_FRAMES, MAX_IMAGE, MAX_SLOTS};
 pub use uses::{Choice, FieldSet, Use, Uses, uses_of};
 pub use view::ProgramView;

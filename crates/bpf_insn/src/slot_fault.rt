@@ -4,8 +4,9 @@ ghost use Rattle.std.specs.Prelude.{◌≡◌, ◌≤◌, length, Some, None, tr
 ghost use Rattle.bpf_insn.specs.Refusal.{is_left_out, left_out, reserved_is_zero, refusal_by_uses, refusal_here};
 
 use crate::bytes::{fields_from, registers_in, u16_in, u32_in};
+use crate::field_limits::limits_of;
 use crate::fields::Fields;
-use crate::limits::limits_of;
+use crate::opcodes::{CALL, WIDE};
 use crate::order::Order;
 use crate::refusal::{LeftOut, SlotFault};
 use crate::uses::{Uses, uses_of};
@@ -16,12 +17,12 @@ fn left_out_in(f: &Fields) -> Option<LeftOut>
 {
     match f.opcode {
         0x20 | 0x28 | 0x30 | 0x40 | 0x48 | 0x50 => Some(LeftOut::Packet),
-        0x18 => if f.src == 0 {
+        WIDE => if f.src == 0 {
             None
         } else {
             Some(LeftOut::Constant)
         },
-        0x85 => match f.src {
+        CALL => match f.src {
             0 => Some(LeftOut::Helper),
             2 => Some(LeftOut::KernelFunction),
             _ => None,
@@ -44,7 +45,7 @@ fn fault_of(uses: Option<Uses>, f: &Fields, bytes: &[u8]) -> Option<SlotFault>
     let Some(uses) = uses else {
         return Some(SlotFault::Opcode);
     };
-    let is_wide = f.opcode == 0x18;
+    let is_wide = f.opcode == WIDE;
     let is_reserved_wrong = is_wide && !reserved_bits_are_zero(bytes);
     if f.dst > 10 || f.src > 10 {
         Some(SlotFault::Register)
@@ -62,6 +63,7 @@ fn fault_of(uses: Option<Uses>, f: &Fields, bytes: &[u8]) -> Option<SlotFault>
 }
 
 /// Whether the opcode has limits, and the fields in these bytes are within them: then an instruction begins here.
+#[inline(always)]
 fn is_within_limits(order: Order, bytes: &[u8]) -> bool
     requires { 8 ≤ length bytes.now }
     ensures { result ≡ true → refusal_here order bytes.now ≡ None }
@@ -92,6 +94,7 @@ fn named_fault(order: Order, bytes: &[u8]) -> Option<SlotFault>
 }
 
 /// Why no instruction begins in these bytes; None if one does. The faults come in the order E7, E2, E3, E5, E4, E6.
+#[inline(always)]
 pub fn fault_in(order: Order, bytes: &[u8]) -> Option<SlotFault>
     requires { 8 ≤ length bytes.now }
     ensures { result ≡ refusal_here order bytes.now }

@@ -1,7 +1,6 @@
 //! What a command line asks for.
 #![tactic(auto)]
 
-mod commands;
 mod contexts;
 mod following;
 mod hardening;

@@ -6,12 +6,12 @@ ghost use Rattle.clap.specs.Words.{FailsBy, first_of, found_of, kind_of, one_of,
 ghost use Rattle.bpf_request.specs.CommandLine.{AreContexts, Asks, GivenBy, IsAsked, IsCount, IsFlag, IsFollowing, IsHardening, IsNumber, IsOrder, IsSubject, bpf, faults_in, word_of};
 ghost use Rattle.clap.specs.declared.error.ErrorKind.TheVariants.{OutOfMemory};
 
-use crate::commands::command;
 use crate::contexts::Contexts;
 use crate::following::Following;
 use crate::hardening::Hardening;
 use crate::subject::{Subject, subject_of};
 use bpf_insn::Order;
+use bpf_words::command;
 use clap::{ArgMatches, Error};
 use std::alloc::Global;
 

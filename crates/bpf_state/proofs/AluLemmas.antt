@@ -2,6 +2,7 @@
 use Rattle.std.proofs.Common.{◌≡◌, ℕ, ℤ, refl, ◌+ℤ◌, ◌-ℤ◌, sym, ◌∙◌, ap, ap₂, arith, to_z, of_z, true, false, Bool, Option, Some, None}
 use Rattle.std.specs.Prelude.{FitsSigned, ◌||◌, not, is_some, Ok, Err, option_map, option_and_then, if◌then◌else◌}
 use Rattle.std.specs.Int.{w64, w128}
+use Rattle.std.proofs.lemmas.Bool.{false≢true}
 use Rattle.std.proofs.lemmas.Int.{ints, to_z-of_z}
 use Rattle.bpf_insn.specs.Effects.{is_frame_pointer}
 use Rattle.bpf_insn.specs.declared.order.Order.{Order}
@@ -15,7 +16,7 @@ use Rattle.bpf_insn.specs.declared.instruction.Insn.TheVariants.{Alu}
 use Rattle.bpf_num.specs.Tristate.{bits_top}
 use Rattle.bpf_num.specs.Interval.{unsigned_top}
 use Rattle.bpf_num.specs.SignedInterval.{SignedInterval, signed_interval, signed_sub}
-use Rattle.bpf_num.specs.Number.{Number, number, tighten}
+use Rattle.bpf_num.specs.Number.{Number, number, constant, tighten}
 use Rattle.bpf_num.specs.Operation.{num_alu}
 use Rattle.bpf_state.specs.declared.known.RegState.{RegState}
 use Rattle.bpf_state.specs.declared.known.RegState.TheVariants.{Any, Num, Ptr}
@@ -24,7 +25,7 @@ use Rattle.bpf_state.specs.declared.fault.StateFault.TheVariants.{WrongKinds, Ou
 use Rattle.bpf_state.specs.declared.known.Tag.{Tag}
 use Rattle.bpf_state.specs.State.{AbstractState, register, put_register, same_area}
 use Rattle.bpf_state.specs.Fault.{operand, difference, some_passes, leaves_bounds, alu_of_kinds, reads_any}
-use Rattle.bpf_state.specs.Transfer.{Outcome, Faulty, live, unless, transfer, alu_tag}
+use Rattle.bpf_state.specs.Transfer.{Outcome, Faulty, Live, live, unless, transfer, operand_tag, alu_tag}
 use Rattle.bpf_state.specs.Condition.{fault_number}
 use Rattle.bpf_state.specs.code.Results.{Known, judged_result, numbers_result, result_of, written}
 
@@ -149,3 +150,29 @@ alu_known order op width dst src least s k e f =
     let tag = alu_tag s width op dst src in
     ap (λ x. judged x dst tag s) f
     ∙ sym (alu_told order op width dst src least s ∙ ap (λ unset. told op unset kinds dst tag s) e ∙ judged_is op kinds dst tag s)
+
+-- a number that is computed at once, in a register without a counter
+pub exact_done : (order : Order) (op : AluOp) (width : Width) (dst : Reg) (src : Operand) (least : ℕ) (s : AbstractState) (z : ℕ) → reads_any s (Alu op width dst src) ≡ false → is_frame_pointer dst ≡ false → alu_tag s width op dst src ≡ None → ◌≡◌ {A = Known} (result_of width op (register s dst) (operand s src)) (Ok (Some (Num (constant z)))) → Live (put_register dst (Num (constant z)) None s) ≡ transfer order (Alu op width dst src) least s
+exact_done order op width dst src least s z e f t v =
+    ap (λ tag. Live (put_register dst (Num (constant z)) tag s)) (sym t)
+    ∙ sym (ap (λ ten. if ten then Faulty 7 else Live (put_register dst (Num (constant z)) (alu_tag s width op dst src) s)) f)
+    ∙ alu_known order op width dst src least s (Ok (Some (Num (constant z)))) e (sym v)
+
+-- a move of 64 bits
+told_first : (b : Bool) (rest : Option ℕ) (o : Outcome) → b ≡ true → Faulty 3 ≡ unless (if b then Some 3 else rest) o
+told_first true rest o e = refl
+told_first false rest o e = absurd (false≢true e)
+
+pub move_unset : (order : Order) (dst : Reg) (src : Operand) (least : ℕ) (s : AbstractState) → reads_any s (Alu Mov W64 dst src) ≡ true → Faulty 3 ≡ transfer order (Alu Mov W64 dst src) least s
+move_unset order dst src least s e = told_first (reads_any s (Alu Mov W64 dst src)) _ _ e
+
+move_told : (order : Order) (dst : Reg) (src : Operand) (least : ℕ) (s : AbstractState) (ten : Bool) → reads_any s (Alu Mov W64 dst src) ≡ false → is_frame_pointer dst ≡ ten → (if ten then Faulty 7 else Live (put_register dst (operand s src) (operand_tag s src) s)) ≡ transfer order (Alu Mov W64 dst src) least s
+move_told order dst src least s ten e f =
+    sym (ap (λ b. if b then Faulty 7 else Live (put_register dst (operand s src) (operand_tag s src) s)) f)
+    ∙ alu_known order Mov W64 dst src least s (Ok (Some (operand s src))) e refl
+
+pub move_protected : (order : Order) (dst : Reg) (src : Operand) (least : ℕ) (s : AbstractState) → reads_any s (Alu Mov W64 dst src) ≡ false → is_frame_pointer dst ≡ true → Faulty 7 ≡ transfer order (Alu Mov W64 dst src) least s
+move_protected order dst src least s e f = move_told order dst src least s true e f
+
+pub move_done : (order : Order) (dst : Reg) (src : Operand) (least : ℕ) (s : AbstractState) → reads_any s (Alu Mov W64 dst src) ≡ false → is_frame_pointer dst ≡ false → Live (put_register dst (operand s src) (operand_tag s src) s) ≡ transfer order (Alu Mov W64 dst src) least s
+move_done order dst src least s e f = move_told order dst src least s false e f

@@ -1,6 +1,6 @@
 -- The slots as their masks and what they hold as a whole.
 use Rattle.std.proofs.Common.{◌≡◌, ℕ, zero, suc, ◌<◌, ◌≤◌, List, [], ◌∷◌, length, get_or, refl, sym, ◌∙◌, ap, ap₂, subst, arith, Some, inl, inr}
-use Rattle.std.specs.Prelude.{◌==◌, set, replicate, pos, bit_and, ◌%◌}
+use Rattle.std.specs.Prelude.{◌==◌, set, replicate, bit_and, ◌%◌}
 use Rattle.std.proofs.lemmas.Bool.{cases_eq, cases_lt, eq-eqb, ne_eqb, cond-true, cond-false}
 use Rattle.std.proofs.lemmas.Grind.{and_numeral}
 use Rattle.std.proofs.lemmas.List.{get_or_past}

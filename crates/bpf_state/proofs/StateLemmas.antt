@@ -1,5 +1,5 @@
 -- What every state keeps.
-use Rattle.std.proofs.Common.{◌≡◌, sym, subst, pos, List, [], ◌∷◌, length, replicate, Option, refl, arith}
+use Rattle.std.proofs.Common.{◌≡◌, sym, subst, List, [], ◌∷◌, length, replicate, Option, refl, arith}
 use Rattle.std.specs.Prelude.{All}
 use Rattle.bpf_state.specs.declared.known.RegState.{RegState}
 use Rattle.std.proofs.lemmas.Int.{ints}

@@ -1,5 +1,5 @@
 -- What the calls that change a state answer, against the definitions.
-use Rattle.std.specs.Prelude.{◌≡◌, ℕ, Bool, true, false, List, Option, Some, None, Result, Ok, Err, if◌then◌else◌}
+use Rattle.std.specs.Prelude.{◌≡◌, Bool, true, false, List, Option, Some, None, Result, Ok, Err, if◌then◌else◌}
 use Rattle.bpf_state.specs.declared.fault.StateFault.{StateFault}
 use Rattle.bpf_state.specs.State.{AbstractState, no_tags}
 use Rattle.bpf_state.specs.Condition.{fault_number}

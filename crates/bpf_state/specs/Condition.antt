@@ -1,5 +1,5 @@
 -- The conditions of the checker: the number of each, and what is told where it fails.
-use Rattle.std.specs.Prelude.{ℕ, List, codes}
+use Rattle.std.specs.Prelude.{ℕ, List, [], ◌∷◌, codes}
 use Rattle.bpf_state.specs.declared.fault.StateFault.{StateFault}
 use Rattle.bpf_state.specs.declared.fault.StateFault.TheVariants.{UnsetRegister, WrongKinds, OutOfBounds, UnsetByte, Protected}
 use Rattle.bpf_state.specs.declared.condition.Condition.{Condition}
@@ -25,21 +25,21 @@ condition_number FallsOff = 11
 condition_number LeavesFunction = 12
 condition_number Misshapen = 13
 
-abbrev pub fault_text : StateFault → List ℕ
-fault_text UnsetRegister = codes "a register is read that may be uninitialised"
-fault_text WrongKinds = codes "the kinds of operands or slots are wrong"
-fault_text OutOfBounds = codes "an access or a pointer may leave its bounds"
-fault_text UnsetByte = codes "a stack byte is read that may be uninitialised"
-fault_text Protected = codes "the context or r10 is written"
-
--- without the slot, which stands apart
-abbrev pub condition_text : Condition → List ℕ
-condition_text NoLabel = codes "no label stands at the jump's target"
-condition_text MisplacedLabel = codes "the label is at no instruction's first slot"
-condition_text (State fault) = fault_text fault
-condition_text NotEntailed = codes "a state doesn't entail what is claimed where it leads to"
-condition_text OverBudget = codes "the budget doesn't cover the cost"
-condition_text NoDeeper = codes "the callee's depth isn't below its caller's"
-condition_text FallsOff = codes "the program's end can be passed, or nothing leads here"
-condition_text LeavesFunction = codes "the function is left otherwise than by an exit"
-condition_text Misshapen = codes "the functions and labels don't fit, or the start doesn't"
+-- what is told where C1 to C13 fail, by their numbers and without the slots; there is no number 0
+abbrev pub condition_texts : List (List ℕ)
+condition_texts =
+    [] ∷
+    codes "no label stands at the jump's target" ∷
+    codes "the label is at no instruction's first slot" ∷
+    codes "a register is read that may be uninitialised" ∷
+    codes "the kinds of operands or slots are wrong" ∷
+    codes "an access or a pointer may leave its bounds" ∷
+    codes "a stack byte is read that may be uninitialised" ∷
+    codes "the context or r10 is written" ∷
+    codes "a state doesn't entail what is claimed where it leads to" ∷
+    codes "the budget doesn't cover the cost" ∷
+    codes "the callee's depth isn't below its caller's" ∷
+    codes "the program's end can be passed, or nothing leads here" ∷
+    codes "the function is left otherwise than by an exit" ∷
+    codes "the functions and labels don't fit, or the start doesn't" ∷
+    []

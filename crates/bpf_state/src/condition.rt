@@ -1,7 +1,7 @@
 //! The conditions of the checker, by number and in words.
 
-ghost use Rattle.std.specs.Prelude.{◌≡◌, ◌≤◌, ◌↔◌, IfSome, IsSome};
-ghost use Rattle.bpf_state.specs.Condition.{condition_number, condition_text};
+ghost use Rattle.std.specs.Prelude.{◌≡◌, ◌<◌, ◌≤◌, ◌↔◌, [], IfSome, IsSome, MatchOption, get_or, length};
+ghost use Rattle.bpf_state.specs.Condition.{condition_number, condition_texts};
 
 use crate::fault::StateFault;
 use thiserror::Error;
@@ -71,20 +71,37 @@ impl Condition {
         }
     }
 
+    /// What is told where the condition with a number fails, without the slot; None where that isn't from 1 to 13.
+    pub fn text_numbered(number: u32) -> Option<&'static str>
+        ensures numbered { IsSome result ↔ ((1 ≤ number) × (number ≤ 13)) }
+        ensures told { IfSome result (λ text. 0 < length text.now) }
+        ensures text { MatchOption result (get_or condition_texts number [] ≡ []) (λ text. text.now ≡ get_or condition_texts number []) }
+    {
+        match number {
+            1 => Some("no label stands at the jump's target"),
+            2 => Some("the label is at no instruction's first slot"),
+            3 => Some("a register is read that may be uninitialised"),
+            4 => Some("the kinds of operands or slots are wrong"),
+            5 => Some("an access or a pointer may leave its bounds"),
+            6 => Some("a stack byte is read that may be uninitialised"),
+            7 => Some("the context or r10 is written"),
+            8 => Some("a state doesn't entail what is claimed where it leads to"),
+            9 => Some("the budget doesn't cover the cost"),
+            10 => Some("the callee's depth isn't below its caller's"),
+            11 => Some("the program's end can be passed, or nothing leads here"),
+            12 => Some("the function is left otherwise than by an exit"),
+            13 => Some("the functions and labels don't fit, or the start doesn't"),
+            _ => None,
+        }
+    }
+
     /// What is told where the condition fails, without the slot.
     pub fn text(&self) -> &'static str
-        ensures { result.now ≡ condition_text self.now }
+        ensures { result.now ≡ get_or condition_texts (condition_number self.now) [] }
     {
-        match self {
-            Condition::NoLabel => "no label stands at the jump's target",
-            Condition::MisplacedLabel => "the label is at no instruction's first slot",
-            Condition::State(fault) => fault.text(),
-            Condition::NotEntailed => "a state doesn't entail what is claimed where it leads to",
-            Condition::OverBudget => "the budget doesn't cover the cost",
-            Condition::NoDeeper => "the callee's depth isn't below its caller's",
-            Condition::FallsOff => "the program's end can be passed, or nothing leads here",
-            Condition::LeavesFunction => "the function is left otherwise than by an exit",
-            Condition::Misshapen => "the functions and labels don't fit, or the start doesn't",
+        match Condition::text_numbered(u32::from(self.number())) {
+            Some(text) => text,
+            None => "",
         }
     }
 }

@@ -1,13 +1,14 @@
 //! Why an instruction is refused.
 
 ghost use Rattle.std.specs.Prelude.{◌≡◌};
-ghost use Rattle.bpf_state.specs.Condition.{fault_number, fault_text};
+ghost use Rattle.bpf_state.specs.Condition.{fault_number};
 
+use crate::condition::Condition;
 use thiserror::Error;
 
 /// Why an instruction is refused in an abstract state.
 #[derive(Clone, Copy, Debug, PartialEq, Eq, Error)]
-#[error("{}", self.text())]
+#[error("{}", Condition::State(*self).text())]
 pub enum StateFault {
     /// C3: a register that is read may be uninitialised.
     UnsetRegister,
@@ -32,19 +33,6 @@ impl StateFault {
             StateFault::OutOfBounds => 5,
             StateFault::UnsetByte => 6,
             StateFault::Protected => 7,
-        }
-    }
-
-    /// What is told of the refusal, without the slot.
-    pub fn text(&self) -> &'static str
-        ensures { result.now ≡ fault_text self.now }
-    {
-        match self {
-            StateFault::UnsetRegister => "a register is read that may be uninitialised",
-            StateFault::WrongKinds => "the kinds of operands or slots are wrong",
-            StateFault::OutOfBounds => "an access or a pointer may leave its bounds",
-            StateFault::UnsetByte => "a stack byte is read that may be uninitialised",
-            StateFault::Protected => "the context or r10 is written",
         }
     }
 }

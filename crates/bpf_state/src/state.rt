@@ -167,6 +167,16 @@ impl State {
         state
     }
 
+    /// Makes this the state at the start of a program, as `start` gives it.
+    pub fn begin(&mut self, least: u32, most: u32)
+        requires { least ≤ most }
+        ensures { self.new ≡ first_state least most }
+    {
+        self.clear();
+        self.registers[1] = RegState::Ptr(Pointer::start_of(Area::Context));
+        self.registers[2] = length_between(least, most);
+    }
+
     /// The same state once more.
     pub fn copy(&self) -> Self
         ensures { result ≡ self.now }

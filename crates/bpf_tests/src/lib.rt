@@ -5,8 +5,6 @@
 #[cfg(test)]
 mod cert;
 #[cfg(test)]
-mod follows;
-#[cfg(test)]
 mod insn;
 #[cfg(test)]
 mod machine;

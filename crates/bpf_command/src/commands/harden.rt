@@ -115,7 +115,7 @@ fn shown<H: Aside>(
     ensures matches { IfOk result (λ notes. asked.entry.proved ≡ true → Matches program.now hardened.now.program notes.items (bounds_of asked.entry)) }
     ensures err { IfErr result (IsUnshown program.now hardened.now.program asked.entry) }
 {
-    let notes = places_of(alloc, program, hardened)?;
+    let notes = places_of(alloc, program, hardened, asked.length)?;
     let bounds = Bounds {
         length: asked.length,
         turns: asked.turns,

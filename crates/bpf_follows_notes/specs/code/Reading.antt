@@ -1,15 +1,14 @@
 -- What stands at the front of a text, and what is left behind it. What is read so is spelled again and compared, so it needn't be strict.
-use Rattle.std.specs.Prelude.{◌≡◌, ℕ, zero, suc, ◌+◌, ◌*◌, ◌-◌, ◌^◌, ◌==◌, ◌&&◌, nat_le, nat_lt, List, [], ◌∷◌, ◌++◌, Bool, true, false, Option, Some, None, option_map, option_and_then, if◌then◌else◌, Result, Ok, Err, codes, set, replicate, ℤ, pos, neg_ℤ}
+use Rattle.std.specs.Prelude.{ℕ, zero, suc, ◌+◌, ◌*◌, ◌-◌, ◌^◌, ◌==◌, ◌&&◌, nat_le, nat_lt, List, [], ◌∷◌, ◌++◌, Bool, true, false, Option, Some, None, option_map, if◌then◌else◌, Result, Ok, Err, codes, set, replicate, ℤ, pos, neg_ℤ}
 use Rattle.std.specs.List.{slice_get}
 use Rattle.std.specs.Option.{option_map_or}
-use Rattle.bpf_insn.specs.Limits.{max_slots}
 use Rattle.bpf_insn.specs.declared.instruction.Reg.{Reg}
 use Rattle.bpf_insn.specs.declared.instruction.Reg.TheVariants.{R0, R1, R2, R3, R4, R5, R6, R7, R8, R9, R10}
 use Rattle.bpf_follows.specs.declared.notes.Kind.{Kind}
-use Rattle.bpf_follows.specs.declared.notes.Kind.TheVariants.{Nothing, Unset, Same, Number, Offset, Fixed, Start, Base, Moved, Address, Constant, Counter, Turn}
+use Rattle.bpf_follows.specs.declared.notes.Kind.TheVariants.{Nothing, Unset, Same, Number, Offset, Fixed, Start, Base, Moved, Address, Constant, Counter, Turn, Alone}
 use Rattle.bpf_follows.specs.declared.notes.Place.{Place}
 use Rattle.bpf_follows_notes.specs.declared.error.NotesError.{NotesError}
-use Rattle.bpf_follows_notes.specs.declared.error.NotesError.TheVariants.{Form, Memory}
+use Rattle.bpf_follows_notes.specs.declared.error.NotesError.TheVariants.{Form}
 use Rattle.bpf_follows_notes.specs.NotesText.{note_line}
 
 infixl 10 ◌>>=◌
@@ -86,20 +85,28 @@ behind_in word text = do
   by ← int_in rest
   Some (r, by.0, by.1)
 
+-- the least number and the most behind a word
+unfoldable pub bounds_in : List ℕ → List ℕ → Option (ℕ × ℕ × List ℕ)
+bounds_in word text = do
+  least ← number_in word text
+  most ← number_in (codes ":") least.1
+  Some (least.0, most.0, most.1)
+
 unfoldable pub plain_in : List ℕ → Option (Kind × List ℕ)
 plain_in text =
     or_else (word_in (codes "same") Same text)
     (or_else (word_in (codes "unset") Unset text)
-    (or_else (word_in (codes "number") Number text)
     (or_else (word_in (codes "offset") Offset text)
-    (or_else (word_in (codes "start") Start text) (word_in (codes "base") Base text)))))
+    (or_else (word_in (codes "start") Start text)
+    (or_else (word_in (codes "base") Base text) (word_in (codes "alone") Alone text)))))
 
 unfoldable pub numbered_in : List ℕ → Option (Kind × List ℕ)
 numbered_in text =
     or_else (option_map (λ x. (Fixed x.0, x.1)) (value_in (codes "fixed:") text))
     (or_else (option_map (λ x. (Constant x.0, x.1)) (value_in (codes "constant:") text))
+    (or_else (option_map (λ x. (Number x.0 x.1, x.2)) (bounds_in (codes "number:") text))
     (or_else (option_map (λ x. (Counter x.0, x.1)) (number_in (codes "turns:") text))
-    (option_map (λ x. (Turn x.0, x.1)) (number_in (codes "turn:") text))))
+    (option_map (λ x. (Turn x.0, x.1)) (number_in (codes "turn:") text)))))
 
 unfoldable pub beside_in : List ℕ → Option (Kind × List ℕ)
 beside_in text =

@@ -1,10 +1,12 @@
 -- What arithmetic makes of what is known of two values, or why it is refused.
-use Rattle.std.specs.Prelude.{ℤ, Option, Some, None, Result, Ok, Err, IfOk, IfSome, option_map, if◌then◌else◌}
+use Rattle.std.specs.Prelude.{ℕ, ℤ, Option, Some, None, Result, Ok, Err, IfOk, IfSome, option_map, if◌then◌else◌}
 use Rattle.bpf_insn.specs.Effects.{is_frame_pointer}
 use Rattle.bpf_insn.specs.declared.instruction.Reg.{Reg}
 use Rattle.bpf_insn.specs.declared.instruction.Width.{Width}
 use Rattle.bpf_insn.specs.declared.instruction.AluOp.{AluOp}
-use Rattle.bpf_insn.specs.declared.instruction.AluOp.TheVariants.{Mov}
+use Rattle.bpf_insn.specs.declared.instruction.AluOp.TheVariants.{Lsh, Rsh, Mov, Arsh}
+use Rattle.bpf_num.specs.Word.{exact}
+use Rattle.bpf_num.specs.Number.{is_constant}
 use Rattle.bpf_num.specs.Operation.{num_alu}
 use Rattle.bpf_state.specs.declared.fault.StateFault.{StateFault}
 use Rattle.bpf_state.specs.declared.fault.StateFault.TheVariants.{WrongKinds, OutOfBounds}
@@ -15,6 +17,19 @@ use Rattle.bpf_state.specs.declared.known.Tag.{Tag}
 use Rattle.bpf_state.specs.State.{AbstractState, IsRegister, put_register}
 use Rattle.bpf_state.specs.Fault.{alu_of_kinds, leaves_bounds}
 use Rattle.bpf_state.specs.Transfer.{Outcome, Faulty, live}
+
+-- the number that is known of a value, if it is one alone
+abbrev pub number_known : RegState → Option ℕ
+number_known (Num n) = if is_constant n then Some n.bits.value else None
+number_known _ = None
+
+-- the exact result of an operation of 64 bits on numbers that are known, but for moves and shifts
+abbrev pub exact_result : AluOp → ℕ → ℕ → Option ℕ
+exact_result Mov x y = None
+exact_result Lsh x y = None
+exact_result Rsh x y = None
+exact_result Arsh x y = None
+exact_result op x y = Some (exact op x y)
 
 -- what is known of the result, None only if it has no member, or a fault
 abbrev pub Known : Type 0

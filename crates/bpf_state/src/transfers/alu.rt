@@ -1,6 +1,7 @@
 //! Arithmetic, moves and byte swaps.
 
-ghost use Rattle.std.specs.Prelude.{◌≡◌, ℕ, ◌^◌, pos, neg_ℤ, ◌+ℤ◌, ◌-ℤ◌, ◌≤ℤ◌, None, IfSome, option_map};
+ghost use Rattle.std.specs.Prelude.{◌≡◌, ℕ, ◌^◌, pos, neg_ℤ, ◌+ℤ◌, ◌-ℤ◌, ◌≤ℤ◌, None, Some, Ok, IfSome, option_map, false};
+ghost use Rattle.bpf_insn.specs.Effects.{is_frame_pointer};
 ghost use Rattle.bpf_insn.specs.declared.order.Order.{Order};
 ghost use Rattle.bpf_insn.specs.declared.instruction.Width.{Width};
 ghost use Rattle.bpf_insn.specs.declared.instruction.Width.TheVariants.{W64};
@@ -8,16 +9,17 @@ ghost use Rattle.bpf_insn.specs.declared.instruction.AluOp.TheVariants.{Add, Sub
 ghost use Rattle.bpf_insn.specs.declared.instruction.Insn.TheVariants.{Alu, Neg, MovSx, End};
 ghost use Rattle.bpf_state.specs.declared.known.RegState.{RegState};
 ghost use Rattle.bpf_state.specs.declared.known.RegState.TheVariants.{Num as Number, Ptr};
-ghost use Rattle.bpf_state.specs.State.{IsPointer, IsRegister};
-ghost use Rattle.bpf_state.specs.Fault.{difference, pointer_plus, pointer_minus, reads_any};
+ghost use Rattle.bpf_num.specs.Number.{constant};
+ghost use Rattle.bpf_state.specs.State.{IsPointer, IsRegister, register};
+ghost use Rattle.bpf_state.specs.Fault.{difference, operand, pointer_plus, pointer_minus, reads_any};
 ghost use Rattle.bpf_state.specs.Transfer.{constant_of, added, never_wraps, shifted_tag, tag_after, alu_tag, transfer};
 ghost use Rattle.bpf_state.specs.Answer.{outcome_told, KeepsUnlessDone};
-ghost use Rattle.bpf_state.specs.code.Results.{IsKnown, near, near_value, numbers_result, result_of, written};
+ghost use Rattle.bpf_state.specs.code.Results.{IsKnown, exact_result, near, near_value, number_known, numbers_result, result_of, written};
 
 use crate::fault::StateFault;
 use crate::known::{Area, FARTHEST, Pointer, RegState, Tag};
 use crate::state::State;
-use bpf_insn::{AluOp, EndBits, EndKind, Operand, Order, Reg, SignBits, Width};
+use bpf_insn::{AluOp, EndBits, EndKind, Operand, Order, Reg, SignBits, Width, extended};
 use bpf_num::{KnownBits, Num, Signed, Unsigned, WordDomain};
 
 /// The greatest distance of a counter's offset from 0.
@@ -347,6 +349,67 @@ pub(crate) fn put_number(
     put_known(dst, number_state(number), None, state)
 }
 
+/// The number that is known of a value, if it is one alone.
+#[inline(always)]
+fn number_known(held: RegState) -> Option<u64>
+    ensures { result ≡ number_known held }
+{
+    match held {
+        RegState::Num(n) => if n.is_constant() {
+            Some(n.bits().value())
+        } else {
+            None
+        },
+        RegState::Any | RegState::Ptr(_) => None,
+    }
+}
+
+/// The result of an operation of 64 bits on numbers that are known, but for moves and shifts.
+#[inline(always)]
+fn exact_result(op: AluOp, a: u64, b: u64) -> Option<u64>
+    ensures { result ≡ exact_result op a b }
+{
+    match op {
+        AluOp::Mov | AluOp::Lsh | AluOp::Rsh | AluOp::Arsh => None,
+        AluOp::Add
+        | AluOp::Sub
+        | AluOp::Mul
+        | AluOp::Div
+        | AluOp::SDiv
+        | AluOp::Mod
+        | AluOp::SMod
+        | AluOp::Or
+        | AluOp::And
+        | AluOp::Xor => Some(op.compute_64(a, b)),
+    }
+}
+
+/// The number that an operation of 64 bits puts into a register, where both operands are known and the register holds no counter;
+/// None says nothing.
+#[inline(always)]
+fn number_after(op: AluOp, width: Width, dst: Reg, src: Operand, state: &State) -> Option<u64>
+    ensures place { IfSome result (λ n. is_frame_pointer dst ≡ false) }
+    ensures tag { IfSome result (λ n. alu_tag state.now width op dst src ≡ None) }
+    ensures value { IfSome result (λ n. result_of width op (register state.now dst) (operand state.now src) ≡ Ok (Some (Number (constant n)))) }
+{
+    let Width::W64 = width else {
+        return None;
+    };
+    if dst.is_frame_pointer() {
+        return None;
+    }
+    if state.register_tag(dst).is_some() {
+        return None;
+    }
+    let Some(a) = number_known(state.reg(dst)) else {
+        return None;
+    };
+    let Some(b) = number_known(state.operand(src)) else {
+        return None;
+    };
+    exact_result(op, a, b)
+}
+
 /// Whether a register that an operation reads may be uninitialised.
 fn reads_any(op: AluOp, dst: Reg, src: Operand, state: &State) -> bool
     ensures { (width : Width) → result ≡ reads_any state.now (Alu op width dst src) }
@@ -354,6 +417,61 @@ fn reads_any(op: AluOp, dst: Reg, src: Operand, state: &State) -> bool
     match op {
         AluOp::Mov => state.operand(src).is_any(),
         _ => state.reg(dst).is_any() || state.operand(src).is_any(),
+    }
+}
+
+/// A move of 64 bits, of a constant or of all that is known of a register.
+#[inline(always)]
+fn mov(dst: Reg, src: Operand, state: &mut State) -> Result<bool, StateFault>
+    ensures outcome { (order : Order) → (least : ℕ) → outcome_told result state.new
+        ≡ transfer order (Alu Mov W64 dst src) least state.old }
+    ensures kept { KeepsUnlessDone result state.old state.new }
+{
+    if reads_any(AluOp::Mov, dst, src, state) {
+        return Err(StateFault::UnsetRegister);
+    }
+    if dst.is_frame_pointer() {
+        return Err(StateFault::Protected);
+    }
+    match src {
+        Operand::Imm(imm) => {
+            state.put_register(dst, RegState::Num(Num::constant(extended(imm))), None);
+            Ok(true)
+        }
+        Operand::Reg(r) => {
+            let value = state.reg(r);
+            let tag = state.register_tag(r);
+            state.put_register(dst, value, tag);
+            Ok(true)
+        }
+    }
+}
+
+/// An operation other than a move of 64 bits. Numbers that are known are computed at once.
+fn computed(
+    op: AluOp,
+    width: Width,
+    dst: Reg,
+    src: Operand,
+    state: &mut State,
+) -> Result<bool, StateFault>
+    ensures outcome { (order : Order) → (least : ℕ) → outcome_told result state.new
+        ≡ transfer order (Alu op width dst src) least state.old }
+    ensures kept { KeepsUnlessDone result state.old state.new }
+{
+    if reads_any(op, dst, src, state) {
+        return Err(StateFault::UnsetRegister);
+    }
+    if let Some(number) = number_after(op, width, dst, src, state) {
+        state.put_register(dst, RegState::Num(Num::constant(number)), None);
+        return Ok(true);
+    }
+    match result_of(width, op, state.reg(dst), state.operand(src)) {
+        Ok(known) => {
+            let tag = alu_tag(state, width, op, dst, src);
+            put_known(dst, known, tag, state)
+        }
+        Err(fault) => Err(fault),
     }
 }
 
@@ -368,15 +486,9 @@ pub(crate) fn alu(
         ≡ transfer order (Alu op width dst src) least state.old }
     ensures kept { KeepsUnlessDone result state.old state.new }
 {
-    if reads_any(op, dst, src, state) {
-        return Err(StateFault::UnsetRegister);
-    }
-    match result_of(width, op, state.reg(dst), state.operand(src)) {
-        Ok(known) => {
-            let tag = alu_tag(state, width, op, dst, src);
-            put_known(dst, known, tag, state)
-        }
-        Err(fault) => Err(fault),
+    match (op, width) {
+        (AluOp::Mov, Width::W64) => mov(dst, src, state),
+        _ => computed(op, width, dst, src, state),
     }
 }
 

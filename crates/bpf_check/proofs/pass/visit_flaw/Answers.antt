@@ -1,8 +1,8 @@
-use Rattle.std.proofs.Common.{◌≡◌, ℕ, ◌+◌, true, false, List, Option, Some, None, sym, subst, rules}
+use Rattle.std.proofs.Common.{◌≡◌, ℕ, true, false, List, Option, Some, None, sym, subst, rules}
 use Rattle.std.proofs.lemmas.Bool.{true≢false, false≢true}
 use Rattle.std.specs.Prelude.{option_map, is_some, IfSome}
 use Rattle.bpf_insn.specs.declared.instruction.Insn.{Insn}
-use Rattle.bpf_insn.specs.Instruction.{Instructions, insn_at, slot_count}
+use Rattle.bpf_insn.specs.Instruction.{Instructions, insn_at}
 use Rattle.bpf_cert.specs.View.{CertificateView}
 use Rattle.bpf_safety.specs.Flow.{Arrival, visits}
 use Rattle.std.specs.List.{flat_map}
@@ -12,7 +12,7 @@ use Rattle.bpf_check.specs.code.Least.{IsLeastIn}
 use Rattle.bpf_check.specs.RefusalNumbers.{flaw_of}
 use Rattle.bpf_state.specs.Work.{Counts}
 use Rattle.bpf_check.specs.code.Counting.{worked_at, worked_through}
-use Rattle.bpf_check.specs.code.Visits.{visit_of, passed_with}
+use Rattle.bpf_check.specs.code.Visits.{visit_of}
 use Rattle.bpf_check.proofs.PassLemmas.{IsAt, flaws_of, at_next, at_flaw, work_at_flaw, at_last, work_at_last}
 use Rattle.bpf_check.proofs.pass.visit_flaw.Goals as goal
 
@@ -31,20 +31,20 @@ not_refused xs (Some r) none h = absurd (true≢false none)
 pub returns-then-is_some-clause-refusal : goal.returns-then-is_some-clause-refusal
 returns-then-is_some-clause-refusal g c =
     let p = g.P.Code.program c.args.program.now in
-    let some : is_some c.pass_over-refusal.result.0 ≡ true = search rules in
-    refused_here p c.args.certificate.now c.args.work.now c.visits.here.slot (walk_of c.visits.walk) c.visits.work c.in-Some.insn c.pass_over-refusal.result.0 c.visits.invariant.here c.in-Some.ensures some c.pass_over-refusal.ensures.refusal
+    let some : is_some c.pass_over-refusal.result ≡ true = search rules in
+    refused_here p c.args.certificate.now c.args.work.now c.visits.here.slot (walk_of c.visits.walk) c.visits.work c.in-Some.insn c.pass_over-refusal.result c.visits.invariant.here c.in-Some.ensures some c.pass_over-refusal.ensures.refusal
 
 pub returns-then-is_some-clause-work : goal.returns-then-is_some-clause-work
 returns-then-is_some-clause-work g c =
     let p = g.P.Code.program c.args.program.now in
-    let some : is_some c.pass_over-refusal.result.0 ≡ true = search rules in
-    worked_here p c.args.certificate.now c.args.work.now c.visits.here.slot (walk_of c.visits.walk) c.visits.work _ c.in-Some.insn c.pass_over-refusal.result.0 c.visits.invariant.here c.in-Some.ensures some c.pass_over-refusal.ensures.refusal c.pass_over-refusal.ensures.work
+    let some : is_some c.pass_over-refusal.result ≡ true = search rules in
+    worked_here p c.args.certificate.now c.args.work.now c.visits.here.slot (walk_of c.visits.walk) c.visits.work _ c.in-Some.insn c.pass_over-refusal.result c.visits.invariant.here c.in-Some.ensures some c.pass_over-refusal.ensures.refusal c.pass_over-refusal.ensures.work
 
 pub visits-preserved : goal.visits-preserved
 visits-preserved g c =
     let p = g.P.Code.program c.args.program.now in
-    let none : is_some c.pass_over-refusal.result.0 ≡ false = search rules in
-    let next = at_next p c.args.certificate.now c.args.work.now c.visits.here.slot (walk_of c.visits.walk) (walk_of c.pass_over-refusal.new.walk) c.visits.work c.pass_over-refusal.new.work c.in-Some.insn c.visits.invariant.here c.in-Some.ensures (not_refused _ c.pass_over-refusal.result.0 none c.pass_over-refusal.ensures.refusal) c.pass_over-refusal.ensures.passed c.pass_over-refusal.ensures.work in
+    let none : is_some c.pass_over-refusal.result ≡ false = search rules in
+    let next = at_next p c.args.certificate.now c.args.work.now c.visits.here.slot (walk_of c.visits.walk) (walk_of c.pass_over-refusal.new.walk) c.visits.work c.pass_over-refusal.new.work c.in-Some.insn c.visits.invariant.here c.in-Some.ensures (not_refused _ c.pass_over-refusal.result none c.pass_over-refusal.ensures.refusal) c.pass_over-refusal.ensures.passed c.pass_over-refusal.ensures.work in
     record {
       here = subst (λ n. IsAt p c.args.certificate.now c.args.work.now n (walk_of c.pass_over-refusal.new.walk) c.pass_over-refusal.new.work) (sym c.pass_over-refusal.ensures.slot) next;
       valid = subst (λ n. IfSome c.pass_over-refusal.new.walk.here (λ h. IsReaching n h)) (sym c.pass_over-refusal.ensures.slot) c.pass_over-refusal.ensures.valid;

@@ -14,7 +14,7 @@ returns-then-is_call g c =
     let at : led site.slot site.insn ≡ Some c.in-Some.slot = sym c.led.ensures ∙ c.in-Some.is in
     let new_at : led site.new_slot site.moved ≡ Some c.in-Some-led.new_slot = sym c.led-2.ensures ∙ c.in-Some-led.is in
     let call : is_call site.insn ≡ true = sym c.is_call.ensures ∙ c.if-is_call.true in (
-      λ e to et. (
+      λ e to et may. (
         c.in-Some-led.new_slot,
         new_at,
         subst (λ b. Reaches b c.args.notes.now new c.args.turns to c.in-Some-led.new_slot site.insn kinds) (sym call)
@@ -22,7 +22,7 @@ returns-then-is_call g c =
             (subst (λ given. Enters c.args.notes.now new c.args.turns c.in-Some.slot c.in-Some-led.new_slot given) c.all_called.ensures (c.enters.ensures.0 e))),
       ),
       λ all.
-          let a = all c.in-Some.slot at in
+          let a = all c.in-Some.slot at (sym c.may_lead.ensures ∙ c.if-not-may_lead.false) in
           c.enters.ensures.1
           (subst (λ given. Enters c.args.notes.now new c.args.turns c.in-Some.slot c.in-Some-led.new_slot given) (sym c.all_called.ensures)
           (subst (λ to. Enters c.args.notes.now new c.args.turns c.in-Some.slot to (listed (kinds_called kinds))) (same_Some _ _ (sym a.1 ∙ new_at))

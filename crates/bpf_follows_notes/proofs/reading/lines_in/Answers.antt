@@ -1,6 +1,6 @@
-use Rattle.std.proofs.Common.{rules, ◌≡◌, ◌⊎◌, inr, ◌++◌, ◌+◌, ◌-◌, ◌<◌, [], ◌∷◌, length, Some, None, Err, sym, ap, subst, ◌∙◌, arith}
+use Rattle.std.proofs.Common.{rules, ◌≡◌, inr, ◌++◌, ◌+◌, ◌-◌, ◌<◌, [], ◌∷◌, length, Some, None, Err, sym, ap, ◌∙◌, arith}
 use Rattle.bpf_insn.specs.Limits.{max_slots}
-use Rattle.bpf_follows_notes.specs.declared.error.NotesError.TheVariants.{Form, Memory}
+use Rattle.bpf_follows_notes.specs.declared.error.NotesError.TheVariants.{Form}
 use Rattle.bpf_follows_notes.specs.code.Reading.{taken_at, lines_in, after_lines}
 use Rattle.bpf_follows_notes.proofs.Again.{lines_end, lines_full, lines_stop, lines_more}
 use Rattle.bpf_follows_notes.proofs.reading.lines_in.Goals as goal

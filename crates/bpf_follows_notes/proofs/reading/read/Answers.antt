@@ -1,4 +1,4 @@
-use Rattle.std.proofs.Common.{◌≡◌, inl, Some, None, refl, sym}
+use Rattle.std.proofs.Common.{◌≡◌, inl, None, refl, sym}
 use Rattle.bpf_follows_notes.specs.NotesText.{head_line}
 use Rattle.bpf_follows_notes.specs.code.Reading.{behind}
 use Rattle.bpf_follows_notes.proofs.Whole.{no_head, whole_ok, whole_only, whole_err}

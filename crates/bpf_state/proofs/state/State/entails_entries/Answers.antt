@@ -1,4 +1,4 @@
-use Rattle.std.proofs.Common.{◌∙◌, pos, sym, ap}
+use Rattle.std.proofs.Common.{◌∙◌, sym, ap}
 use Rattle.std.specs.Prelude.{◌&&◌}
 use Rattle.std.specs.List.{list_all}
 use Rattle.bpf_state.specs.declared.known.RegState.TheVariants.{Ptr}

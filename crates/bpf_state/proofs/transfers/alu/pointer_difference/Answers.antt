@@ -1,5 +1,5 @@
 use Rattle.std.proofs.Common.{rules, ◌∙◌, sym}
-use Rattle.bpf_state.proofs.AluLemmas.{difference_held, same_rest, other_rest}
+use Rattle.bpf_state.proofs.AluLemmas.{difference_held, same_rest}
 use Rattle.bpf_state.proofs.transfers.alu.pointer_difference.Goals as goal
 
 pub returns-then-is_same-clause-value : goal.returns-then-is_same-clause-value

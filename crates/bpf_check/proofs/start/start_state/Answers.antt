@@ -1,6 +1,0 @@
-use Rattle.std.proofs.Common.{arith}
-use Rattle.bpf_check.proofs.CertificateFacts.{range_is_one}
-use Rattle.bpf_check.proofs.start.start_state.Goals as goal
-
-pub start-requires : goal.start-requires
-start-requires c = let range = range_is_one c.args.certificate.now c.valid.ensures in let l = c.least.ensures in let m = c.most.ensures in omega arith

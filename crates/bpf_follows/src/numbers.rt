@@ -1,0 +1,222 @@
+//! Numbers of which bounds are known: what an instruction makes of them, and what a test tells of them, by the number domain.
+
+ghost use Rattle.std.specs.Prelude.{◌≡◌, ◌<◌};
+ghost use Rattle.bpf_insn.specs.Instruction.{register_number};
+ghost use Rattle.bpf_follows.specs.Relation.{known};
+ghost use Rattle.bpf_follows.specs.Numbers.{bounded, number_of, bounds_of, is_bounded, is_numeric, read_number, operand_number, left_number, alu_number, loaded_number, number_kind, told_by, is_operand, told};
+
+use crate::kinds::{known, known_in};
+use crate::notes::Kind;
+use crate::site::Site;
+use bpf_insn::{AluOp, Cond, Insn, Operand, Reg, Size, Width, extended};
+use bpf_num::{KnownBits, Num, Signed, Unsigned, WordDomain};
+
+// ---- kinds and sets of numbers
+
+/// The numbers from the least to the most.
+fn bounded(least: u32, most: u32) -> Option<Num>
+    ensures { result ≡ bounded least most }
+{
+    let unsigned = Unsigned::top().met_with(u64::from(least), u64::from(most))?;
+    Num::of(KnownBits::top(), unsigned, Signed::top()).tighten()
+}
+
+/// Those of a register that surely holds a number.
+fn number_of(kind: Kind) -> Option<Num>
+    ensures { result ≡ number_of kind }
+{
+    match kind {
+        Kind::Number { least, most } => bounded(least, most),
+        _ => None,
+    }
+}
+
+/// The bounds of a set, if they have 32 bits.
+fn bounds_of(kind: Kind, number: Num) -> Kind
+    ensures { result ≡ bounds_of kind number }
+{
+    let unsigned = number.unsigned();
+    unsigned.valid();
+    if unsigned.hi() < 1 << 32 {
+        Kind::Number {
+            least: unsigned.lo() as u32,
+            most: unsigned.hi() as u32,
+        }
+    } else {
+        kind
+    }
+}
+
+/// Whether a register of this kind surely holds a number of 32 bits.
+pub(crate) fn is_bounded(kind: Kind) -> bool
+    ensures { result ≡ is_bounded kind }
+{
+    match kind {
+        Kind::Number { most, .. } => u64::from(most) < 1 << 32,
+        _ => false,
+    }
+}
+
+// ---- operations
+
+/// Whether the operation is done only on numbers.
+fn is_numeric(width: Width, op: AluOp) -> bool
+    ensures { result ≡ is_numeric width op }
+{
+    match width {
+        Width::W64 => !matches!(op, AluOp::Add | AluOp::Sub | AluOp::Mov),
+        Width::W32 => true,
+    }
+}
+
+/// The numbers of a register that an operation reads.
+fn read_number(numeric: bool, kind: Kind) -> Option<Num>
+    ensures { result ≡ read_number numeric kind }
+{
+    match kind {
+        Kind::Number { least, most } => bounded(least, most),
+        Kind::Same if numeric => Some(Num::top()),
+        _ => None,
+    }
+}
+
+/// The numbers of an operand.
+fn operand_number(site: &Site, numeric: bool, src: Operand) -> Option<Num>
+    ensures { result ≡ operand_number (known site.now.slot site.now.kinds) numeric src }
+{
+    match src {
+        Operand::Imm(imm) => Some(Num::constant(extended(imm))),
+        Operand::Reg(src) => read_number(numeric, known_in(site, src)),
+    }
+}
+
+/// The numbers of the first operand, which a move doesn't read.
+fn left_number(site: &Site, width: Width, op: AluOp, dst: Reg, b: Num) -> Option<Num>
+    ensures { result ≡ left_number (known site.now.slot site.now.kinds) width op dst b }
+{
+    match op {
+        AluOp::Mov => Some(b),
+        _ => read_number(is_numeric(width, op), known_in(site, dst)),
+    }
+}
+
+/// The numbers that an operation gives.
+fn alu_number(site: &Site, op: AluOp, width: Width, dst: Reg, src: Operand) -> Option<Num>
+    ensures { result ≡ alu_number (known site.now.slot site.now.kinds) op width dst src }
+{
+    let b = operand_number(site, is_numeric(width, op), src)?;
+    let a = left_number(site, width, op, dst, b)?;
+    a.alu(op, width, b)
+}
+
+/// What a load of less than eight bytes makes of its register.
+fn loaded_number(size: Size) -> Kind
+    ensures { result ≡ loaded_number size }
+{
+    match size {
+        Size::B => Kind::Number {
+            least: 0,
+            most: 0xff,
+        },
+        Size::H => Kind::Number {
+            least: 0,
+            most: 0xffff,
+        },
+        Size::W => Kind::Number {
+            least: 0,
+            most: 0xffff_ffff,
+        },
+        Size::DW => Kind::Same,
+    }
+}
+
+/// What an instruction writes, where it does the same in both.
+pub fn number_kind(site: &Site) -> Kind
+    ensures { result ≡ number_kind (known site.now.slot site.now.kinds) site.now.insn }
+{
+    if let Insn::Alu {
+        op,
+        width,
+        dst,
+        src,
+    } = site.insn
+    {
+        return match alu_number(site, op, width, dst, src) {
+            Some(number) => bounds_of(Kind::Same, number),
+            None => Kind::Same,
+        };
+    }
+    if let Insn::Load { size, .. } = site.insn {
+        return loaded_number(size);
+    }
+    Kind::Same
+}
+
+// ---- tests
+
+/// A test, on the edge where it holds (`taken`) or fails.
+#[derive(Clone, Copy)]
+struct Test {
+    cond: Cond,
+    width: Width,
+    taken: bool,
+    dst: Reg,
+    src: Operand,
+}
+
+/// The numbers of both operands.
+fn told_by(site: &Site, test: Test) -> Option<(Num, Num)>
+    ensures { result ≡ told_by (known site.now.slot site.now.kinds) test.cond test.width test.taken test.dst test.src }
+{
+    let b = operand_number(site, false, test.src)?;
+    let a = number_of(known_in(site, test.dst))?;
+    Num::refine(test.cond, test.width, test.taken, a, b)
+}
+
+/// Whether an operand is a register.
+fn is_operand(src: Operand, r: u8) -> bool
+    ensures { result ≡ is_operand src r }
+{
+    match src {
+        Operand::Imm(_imm) => false,
+        Operand::Reg(src) => r == src as u8,
+    }
+}
+
+/// What a place holds where the instruction leads away (`taken`) or goes on.
+pub fn told(site: &Site, taken: bool, r: u8) -> Kind
+    requires { r < 75 }
+    ensures { result ≡ told taken site.now.insn (known site.now.slot site.now.kinds) r }
+{
+    let kind = known(site, r);
+    let Insn::JumpIf {
+        cond,
+        width,
+        dst,
+        src,
+        ..
+    } = site.insn
+    else {
+        return kind;
+    };
+    let test = Test {
+        cond,
+        width,
+        taken,
+        dst,
+        src,
+    };
+    if r == dst as u8 {
+        match told_by(site, test) {
+            Some((number, _)) => bounds_of(kind, number),
+            None => kind,
+        }
+    } else if is_operand(src, r) {
+        match told_by(site, test) {
+            Some((_, number)) => bounds_of(kind, number),
+            None => kind,
+        }
+    } else {
+        kind
+    }
+}

@@ -1,0 +1,136 @@
+//! The calls for hosts that help whoever writes a program, on what C hands over: certificates proposed, images hardened and explained,
+//! refusals in words. `bpf_host` exports them under C's names.
+#![tactic(auto)]
+
+ghost use Rattle.std.specs.Prelude.{◌≡◌, ◌++◌, ◌⊎◌, ◌↔◌, ◌<◌, length, take, drop, pos, negsuc};
+ghost use Rattle.bpf_insn.specs.Limits.{max_context};
+ghost use Rattle.bpf_host_runs.specs.Told.{order_named};
+ghost use Rattle.bpf_host_advice.specs.Texts.{refusal_text, IsNumbered};
+ghost use Rattle.bpf_host_advice.specs.Proposals.{GivesProposal, WantsRoom, IsNotProposed};
+ghost use Rattle.bpf_host_advice.specs.Hardened.{GivesImage, WantsImageRoom, IsNotHardened};
+
+mod explaining;
+mod explanation;
+mod hardening;
+mod proposal;
+mod refusals;
+mod texts;
+
+use bpf_harden::Options;
+use bpf_host_runs::{BAD_CALL, BpfRefusal, NO_MEMORY, REFUSED, order_of};
+use bpf_insn::MAX_CONTEXT;
+pub use explaining::{explain, explain_image, explain_search};
+use hardening::{Unhardened, hardened};
+use proposal::{Unproposed, Wanted, give, proposal};
+use std::alloc::Global;
+use texts::{give_beginning, text_of};
+
+/// Proposes a certificate for the program of an image, on contexts of `least` to `most` bytes: 1, and its text stands in the
+/// first `wanted` bytes of `text`. 0: none is proposed, and `refusal` says why, by E or I. -1: memory ran out. -2: the order
+/// is neither 0 nor 1, `least` is above `most`, or `most` above 4,096. -3: `text` is too small for `wanted` bytes. What isn't
+/// answered stays as it was. Nobody relies on a proposal: `verify` of `bpf_host_runs` judges it.
+pub fn infer(
+    alloc: Global,
+    image: &[u8],
+    order: u32,
+    least: u32,
+    most: u32,
+    deep: u32,
+    text: &mut [u8],
+    wanted: &mut usize,
+    refusal: &mut BpfRefusal,
+) -> i32
+    ensures given { result ≡ pos 1 → GivesProposal least most wanted.new text.old text.new }
+    ensures small { result ≡ negsuc 2 → WantsRoom least most wanted.new text.old }
+    ensures refused { result ≡ pos 0 → IsNotProposed (order_named order) image.now refusal.new }
+    ensures call { (result ≡ negsuc 1) ↔ ((1 < order) ⊎ ((most < least) ⊎ ((max_context < most) ⊎ (1 < deep)))) }
+    ensures answers { (result ≡ pos 1) ⊎ (result ≡ pos 0) ⊎ (result ≡ negsuc 0) ⊎ (result ≡ negsuc 1) ⊎ (result ≡ negsuc 2) }
+    ensures text_kept { (result ≡ pos 1) ⊎ (text.new ≡ text.old) }
+    ensures wanted_kept { (result ≡ pos 1) ⊎ (result ≡ negsuc 2) ⊎ (wanted.new ≡ wanted.old) }
+    ensures refusal_kept { (result ≡ pos 0) ⊎ (refusal.new ≡ refusal.old) }
+{
+    let Some(order) = order_of(u64::from(order)) else {
+        return BAD_CALL;
+    };
+    if least > most || most > MAX_CONTEXT as u32 || deep > 1 {
+        return BAD_CALL;
+    }
+    let wanted_of = Wanted {
+        least,
+        most,
+        deep: deep == 1,
+    };
+    match proposal(alloc, image, order, wanted_of) {
+        Ok(words) => give(&words, text, wanted),
+        Err(Unproposed::Memory) => NO_MEMORY,
+        Err(Unproposed::Refused(told)) => {
+            *refusal = told;
+            REFUSED
+        }
+    }
+}
+
+/// Hardens an image for contexts of exactly `size` bytes: loops that nothing counts turn at most `turns` times, and where a
+/// trap ends the program, r0 is `otherwise`. With `padded` 1 the context is a block: eight bytes that say how long the packet is,
+/// the packet, and padding. 1: the new image stands in the first `wanted` bytes of `text`. 0: the image is refused, or its
+/// program isn't hardened, and `refusal` says why. -1: memory ran out. -2: the order or `padded` is neither 0 nor 1, or
+/// `size` is above 4,096. -3: `text` has less than `wanted` bytes. What isn't answered stays as it was. Nobody relies on it:
+/// a certificate of the new image has to be found and judged.
+pub fn harden(
+    alloc: Global,
+    image: &[u8],
+    order: u32,
+    size: u32,
+    turns: u32,
+    otherwise: u64,
+    padded: u32,
+    text: &mut [u8],
+    wanted: &mut usize,
+    refusal: &mut BpfRefusal,
+) -> i32
+    ensures given { result ≡ pos 1 → GivesImage wanted.new text.old text.new }
+    ensures small { result ≡ negsuc 2 → WantsImageRoom wanted.new text.old }
+    ensures refused { result ≡ pos 0 → IsNotHardened (order_named order) image.now refusal.new }
+    ensures call { (result ≡ negsuc 1) ↔ ((1 < order) ⊎ ((max_context < size) ⊎ (1 < padded))) }
+    ensures answers { (result ≡ pos 1) ⊎ (result ≡ pos 0) ⊎ (result ≡ negsuc 0) ⊎ (result ≡ negsuc 1) ⊎ (result ≡ negsuc 2) }
+    ensures text_kept { (result ≡ pos 1) ⊎ (text.new ≡ text.old) }
+    ensures wanted_kept { (result ≡ pos 1) ⊎ (result ≡ negsuc 2) ⊎ (wanted.new ≡ wanted.old) }
+    ensures refusal_kept { (result ≡ pos 0) ⊎ (refusal.new ≡ refusal.old) }
+{
+    let Some(order) = order_of(u64::from(order)) else {
+        return BAD_CALL;
+    };
+    if size > MAX_CONTEXT as u32 || padded > 1 {
+        return BAD_CALL;
+    }
+    let options = Options {
+        turns,
+        otherwise,
+        padded: padded == 1,
+        everywhere: false,
+    };
+    match hardened(alloc, image, order, size, &options) {
+        Ok(bytes) => give(&bytes, text, wanted),
+        Err(Unhardened::Memory) => NO_MEMORY,
+        Err(Unhardened::Refused(told)) => {
+            *refusal = told;
+            REFUSED
+        }
+    }
+}
+
+/// What a refusal or a fault says in English, without an end of line: the kind is the letter C, E, F, I or K. The answer is
+/// how many bytes that is, 0 where there is no such refusal; as many as have room stand in `text`.
+pub fn refusal_text(kind: u32, number: u32, text: &mut [u8]) -> usize
+    ensures numbered { (0 < result) ↔ IsNumbered kind number }
+    ensures length { result ≡ length (refusal_text kind number) }
+    ensures given { text.new ≡ take (length text.old) (refusal_text kind number) ++ drop result text.old }
+{
+    match text_of(kind, number) {
+        Some(words) => {
+            give_beginning(words, text);
+            words.len()
+        }
+        None => 0,
+    }
+}

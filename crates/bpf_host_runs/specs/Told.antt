@@ -1,0 +1,50 @@
+-- What the numbers that C sees tell.
+use Rattle.std.specs.Prelude.{◌≡◌, ℕ, zero, suc}
+use Rattle.bpf_insn.specs.RefusalNumbers.{decode_number, decode_slot}
+use Rattle.bpf_insn.specs.declared.order.Order.{Order}
+use Rattle.bpf_insn.specs.declared.order.Order.TheVariants.{Little, Big}
+use Rattle.bpf_insn.specs.declared.refusal.DecodeError.{DecodeError}
+use Rattle.bpf_semantics.specs.ReasonNumbers.{reason_number}
+use Rattle.bpf_cert.specs.RefusalNumbers.{refusal_number as cert_number, refusal_line}
+use Rattle.bpf_cert.specs.declared.error.CertError.{CertError}
+use Rattle.bpf_check.specs.RefusalNumbers.{refusal_number as check_number, refusal_slot}
+use Rattle.bpf_check.specs.declared.refusal.Refusal.{Refusal}
+use Rattle.bpf_check.specs.declared.verifier.VerifyError.{VerifyError}
+use Rattle.bpf_check.specs.declared.verifier.VerifyError.TheVariants.{Image as InImage, Cert as InCert, Check as InCheck}
+use Rattle.bpf_machine.specs.declared.outcome.Outcome.{Outcome}
+use Rattle.bpf_machine.specs.declared.outcome.Outcome.TheVariants.{Done, Fault, OutOfFuel}
+use Rattle.bpf_host_runs.specs.declared.answers.BpfRefusal.{BpfRefusal}
+use Rattle.bpf_host_runs.specs.declared.answers.BpfOutcome.{BpfOutcome}
+
+-- 0 is little-endian and 1 big-endian; a call refuses any other number
+abbrev pub order_named : ℕ → Order
+order_named zero = Little
+order_named (suc n) = Big
+
+-- a refusal of an image: E (69), its number and its slot
+abbrev pub TellsImage : DecodeError → BpfRefusal → Type 0
+TellsImage e r = r ≡ record { kind = 69; number = decode_number e; place = decode_slot e; condition = 0 }
+
+-- of a certificate: K (75), its number and its line
+abbrev pub TellsCertificate : CertError → BpfRefusal → Type 0
+TellsCertificate e r = r ≡ record { kind = 75; number = cert_number e; place = refusal_line e; condition = 0 }
+
+-- of a program by its certificate: C (67), its number and its slot
+abbrev pub TellsCheck : Refusal → BpfRefusal → Type 0
+TellsCheck e r = r ≡ record { kind = 67; number = check_number e; place = refusal_slot e; condition = 0 }
+
+-- whichever it is
+abbrev pub TellsRefusal : VerifyError → BpfRefusal → Type 0
+TellsRefusal (InImage e) r = TellsImage e r
+TellsRefusal (InCert e) r = TellsCertificate e r
+TellsRefusal (InCheck e) r = TellsCheck e r
+
+-- how a run ended
+abbrev pub TellsOutcome : Outcome → BpfOutcome → Type 0
+TellsOutcome (Done v k) o = o ≡ record { kind = 0; number = 0; slot = 0; value = v; steps = k }
+TellsOutcome (Fault slot why k) o = o ≡ record { kind = 1; number = reason_number why; slot = slot; value = 0; steps = k }
+TellsOutcome OutOfFuel o = o ≡ record { kind = 2; number = 0; slot = 0; value = 0; steps = 0 }
+
+-- there was no run, since the image is refused
+abbrev pub TellsUnrun : DecodeError → BpfOutcome → Type 0
+TellsUnrun e o = o ≡ record { kind = 3; number = decode_number e; slot = decode_slot e; value = 0; steps = 0 }

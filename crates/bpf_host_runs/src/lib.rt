@@ -1,0 +1,254 @@
+//! The calls for hosts that judge, prepare, load and run programs, on what C hands over, and the answers that C sees. `bpf_host` exports
+//! them under C's names.
+#![tactic(auto)]
+
+ghost use Rattle.std.specs.Prelude.{◌≡◌, ◌≢◌, ◌⊎◌, ◌↔◌, ◌<◌, ◌≤◌, ◌+◌, ◌*◌, ◌%◌, List, length, pos, negsuc};
+ghost use Rattle.bpf_insn.specs.Limits.{max_context};
+ghost use Rattle.bpf_insn.specs.Laws.{IsImageOfProgram};
+ghost use Rattle.bpf_insn.specs.declared.instruction.Insn.{Insn as Instruction};
+ghost use Rattle.bpf_cert.specs.View.{CertificateView};
+ghost use Rattle.bpf_check.specs.Verdicts.{Verified, Promises, Certifies};
+ghost use Rattle.bpf_host_runs.specs.Told.{order_named};
+ghost use Rattle.bpf_host_runs.specs.Prepared.{IsPrepared, IsMarked, version};
+ghost use Rattle.bpf_host_runs.specs.Loaded.{IsLoaded, IsMarkedHandle, HoldsLoaded, EndsAsLoaded, loaded_least, loaded_most};
+ghost use Rattle.bpf_host_runs.specs.Answers.{IsRefusedAsTold, IsNoImage, RanImage, IsUnrun, MayRun, EndsAsPrepared};
+
+mod answers;
+mod checked;
+mod loaded;
+mod ordered;
+mod prepared;
+mod runs;
+
+pub use answers::{
+    BAD_CALL, BpfOutcome, BpfRefusal, BpfVerdict, DONE, NO_MEMORY, REFUSED, TOO_SMALL, letter,
+    of_check, of_image, of_verify, order_of,
+};
+use answers::{TOO_LONG, of_outcome, unrun};
+use bpf_insn::{MAX_CONTEXT, MAX_IMAGE, ProgramView};
+use checked::end_of;
+use loaded::{end_of_loaded, handle_size, has_handle_room, put_loaded, takes};
+use prepared::{has_room, put, size_for};
+use runs::outcome_of;
+use std::alloc::Global;
+
+/// Version 0.1.0.
+const VERSION: u32 = 100;
+
+/// The library's version as one number: 10,000 times its first part, 100 times its second, and its third, together.
+pub fn version() -> u32
+    ensures { result ≡ version }
+{
+    VERSION
+}
+
+/// Whether a certificate certifies an image in a byte order, 0 little-endian or 1 big-endian. 1: yes, and `verdict` is what
+/// is promised. 0: no, and `refusal` says why. -1: memory ran out while the certificate was read. -2: the order is neither 0
+/// nor 1. What isn't answered stays as it was.
+pub fn verify(
+    alloc: Global,
+    image: &[u8],
+    order: u32,
+    certificate: &[u8],
+    verdict: &mut BpfVerdict,
+    refusal: &mut BpfRefusal,
+) -> i32
+    ensures yes { result ≡ pos 1 → Verified (order_named order) image.now verdict.new.least verdict.new.most verdict.new.bound }
+    ensures promised { result ≡ pos 1 → Promises (order_named order) image.now certificate.now verdict.new.least verdict.new.most verdict.new.bound }
+    ensures no { result ≡ pos 0 → IsRefusedAsTold (order_named order) image.now certificate.now refusal.new }
+    ensures accepts { (c : CertificateView) → order ≤ 1 → Certifies (order_named order) image.now certificate.now c → ((result ≡ pos 1) × (verdict.new.least ≡ c.least) × (verdict.new.most ≡ c.most) × (verdict.new.bound ≡ c.steps)) ⊎ (result ≡ negsuc 0) }
+    ensures memory { result ≡ negsuc 0 → (is : List Instruction) × IsImageOfProgram (order_named order) image.now is }
+    ensures call { (result ≡ negsuc 1) ↔ (1 < order) }
+    ensures answers { (result ≡ pos 1) ⊎ (result ≡ pos 0) ⊎ (result ≡ negsuc 0) ⊎ (result ≡ negsuc 1) }
+    ensures verdict_kept { (result ≡ pos 1) ⊎ (verdict.new ≡ verdict.old) }
+    ensures refusal_kept { (result ≡ pos 0) ⊎ (refusal.new ≡ refusal.old) }
+{
+    let Some(order) = order_of(u64::from(order)) else {
+        return BAD_CALL;
+    };
+    match bpf_check::verify(alloc, image, order, certificate) {
+        Ok(yes) => {
+            *verdict = BpfVerdict {
+                least: yes.least,
+                most: yes.most,
+                bound: yes.bound,
+            };
+            DONE
+        }
+        Err(error) => match of_verify(error) {
+            Some(told) => {
+                *refusal = told;
+                REFUSED
+            }
+            None => NO_MEMORY,
+        },
+    }
+}
+
+/// Runs a program that nobody verified on a context of at most 4,096 bytes, for at most `fuel` instructions, on the exact
+/// machine. 1: it ran, and `outcome` says how it ended. 0: the image is refused, and `outcome` says why. -2: the order is
+/// neither 0 nor 1, or the context is too long, and `outcome` stays as it was. It takes no memory.
+pub fn run(image: &[u8], order: u32, context: &[u8], fuel: u64, outcome: &mut BpfOutcome) -> i32
+    ensures ran { result ≡ pos 1 → RanImage (order_named order) image.now context.now fuel outcome.new }
+    ensures refused { result ≡ pos 0 → IsUnrun (order_named order) image.now outcome.new }
+    ensures call { (result ≡ negsuc 1) ↔ ((1 < order) ⊎ (max_context < length context.now)) }
+    ensures answers { (result ≡ pos 1) ⊎ (result ≡ pos 0) ⊎ (result ≡ negsuc 1) }
+    ensures kept { result ≡ negsuc 1 → outcome.new ≡ outcome.old }
+{
+    let Some(order) = order_of(u64::from(order)) else {
+        return BAD_CALL;
+    };
+    if context.len() > MAX_CONTEXT {
+        return BAD_CALL;
+    }
+    match ProgramView::of(image, order) {
+        Ok(_program) => {
+            *outcome = of_outcome(outcome_of(image, order, context, fuel));
+            DONE
+        }
+        Err(error) => {
+            *outcome = unrun(error);
+            REFUSED
+        }
+    }
+}
+
+/// How many words of eight bytes the prepared program of an image of `image_len` bytes takes; 0 where no image is as long.
+pub fn prepared_size(image_len: usize) -> usize
+    ensures words { image_len ≤ 524288 → image_len % 8 ≡ 0 → 0 < image_len → 8 * result ≡ 16 + image_len }
+    ensures none { (524288 < image_len) ⊎ ((image_len ≡ 0) ⊎ (0 < image_len % 8)) → result ≡ 0 }
+{
+    if image_len == 0 || image_len > MAX_IMAGE || image_len % 8 != 0 {
+        return 0;
+    }
+    size_for(image_len) / 8
+}
+
+/// Prepares the program of an image for `run_checked`, in `memory` of 8 times `prepared_size` bytes.
+/// 1: it is prepared. 0: the image is refused. -2: the order is neither 0 nor 1. -3: the memory has another size. But for
+/// 1 the memory stays as it was. It takes no other memory.
+pub fn prepare(image: &[u8], order: u32, memory: &mut [u8]) -> i32
+    ensures prepared { result ≡ pos 1 → IsPrepared (order_named order) image.now memory.new }
+    ensures program { result ≡ pos 1 → (is : List Instruction) × IsImageOfProgram (order_named order) image.now is }
+    ensures refused { result ≡ pos 0 → IsNoImage (order_named order) image.now }
+    ensures call { (result ≡ negsuc 1) ↔ (1 < order) }
+    ensures small { result ≡ negsuc 2 → ((is : List Instruction) × IsImageOfProgram (order_named order) image.now is) × (length memory.old ≢ 16 + length image.now) }
+    ensures size { result ≡ pos 1 → length memory.old ≡ 16 + length image.now }
+    ensures answers { (result ≡ pos 1) ⊎ (result ≡ pos 0) ⊎ (result ≡ negsuc 1) ⊎ (result ≡ negsuc 2) }
+    ensures kept { (result ≡ pos 1) ⊎ (memory.new ≡ memory.old) }
+{
+    let Some(order) = order_of(u64::from(order)) else {
+        return BAD_CALL;
+    };
+    let Ok(_program) = ProgramView::of(image, order) else {
+        return REFUSED;
+    };
+    if !has_room(memory, image.len()) {
+        return TOO_SMALL;
+    }
+    put(image, order, memory);
+    DONE
+}
+
+/// Runs a prepared program whose image `verify` says yes to, on a context of a length within that verdict. 1: it ended
+/// with `value`, within the bound. -2: another version prepared it, and `value` stays as it was. It takes no memory.
+pub fn run_checked(memory: &[u8], context: &[u8], value: &mut u64) -> i32
+    requires head { 16 ≤ length memory.now }
+    requires may { IsMarked memory.now → MayRun memory.now context.now }
+    ensures ends { result ≡ pos 1 → EndsAsPrepared memory.now context.now value.new }
+    ensures runs { (result ≡ pos 1) ↔ IsMarked memory.now }
+    ensures answers { (result ≡ pos 1) ⊎ (result ≡ negsuc 1) }
+    ensures kept { (result ≡ pos 1) ⊎ (value.new ≡ value.old) }
+{
+    let Some(end) = end_of(memory, context) else {
+        return BAD_CALL;
+    };
+    *value = end;
+    DONE
+}
+
+/// How many words of eight bytes the handle of an image of `image_len` bytes takes; 0 where no image is as long.
+pub fn loaded_size(image_len: usize) -> usize
+    ensures words { image_len ≤ 524288 → image_len % 8 ≡ 0 → 0 < image_len → 8 * result ≡ 40 + image_len }
+    ensures none { (524288 < image_len) ⊎ ((image_len ≡ 0) ⊎ (0 < image_len % 8)) → result ≡ 0 }
+{
+    if image_len == 0 || image_len > MAX_IMAGE || image_len % 8 != 0 {
+        return 0;
+    }
+    handle_size(image_len) / 8
+}
+
+/// Judges an image by a certificate, as `verify` does, and writes a handle for `run_loaded`, in `memory` of
+/// 8 times `loaded_size` bytes. 1: `memory` is the handle, and `verdict` is what is promised. 0: the image is
+/// refused, and `refusal` says why. -1: memory ran out while the certificate was read. -2: the order is neither 0 nor 1.
+/// -3: the memory has another size. -4: the bound is above `limit`, and `verdict` is what is promised. What isn't answered
+/// stays as it was, and but for 1 so does the memory.
+pub fn load(
+    alloc: Global,
+    image: &[u8],
+    order: u32,
+    certificate: &[u8],
+    limit: u32,
+    memory: &mut [u8],
+    verdict: &mut BpfVerdict,
+    refusal: &mut BpfRefusal,
+) -> i32
+    ensures loaded { result ≡ pos 1 → IsLoaded (order_named order) image.now verdict.new.least verdict.new.most verdict.new.bound memory.new }
+    ensures yes { (result ≡ pos 1) ⊎ (result ≡ negsuc 3) → Verified (order_named order) image.now verdict.new.least verdict.new.most verdict.new.bound }
+    ensures promised { (result ≡ pos 1) ⊎ (result ≡ negsuc 3) → Promises (order_named order) image.now certificate.now verdict.new.least verdict.new.most verdict.new.bound }
+    ensures paid { result ≡ pos 1 → verdict.new.bound ≤ limit }
+    ensures long { result ≡ negsuc 3 → limit < verdict.new.bound }
+    ensures no { result ≡ pos 0 → IsRefusedAsTold (order_named order) image.now certificate.now refusal.new }
+    ensures accepts { (c : CertificateView) → order ≤ 1 → length memory.old ≡ 40 + length image.now → Certifies (order_named order) image.now certificate.now c → c.steps ≤ limit → ((result ≡ pos 1) × (verdict.new.least ≡ c.least) × (verdict.new.most ≡ c.most) × (verdict.new.bound ≡ c.steps)) ⊎ (result ≡ negsuc 0) }
+    ensures unpaid { (c : CertificateView) → order ≤ 1 → length memory.old ≡ 40 + length image.now → Certifies (order_named order) image.now certificate.now c → limit < c.steps → ((result ≡ negsuc 3) × (verdict.new.least ≡ c.least) × (verdict.new.most ≡ c.most) × (verdict.new.bound ≡ c.steps)) ⊎ (result ≡ negsuc 0) }
+    ensures memory { result ≡ negsuc 0 → (is : List Instruction) × IsImageOfProgram (order_named order) image.now is }
+    ensures call { (result ≡ negsuc 1) ↔ (1 < order) }
+    ensures small { result ≡ negsuc 2 → length memory.old ≢ 40 + length image.now }
+    ensures size { result ≡ pos 1 → length memory.old ≡ 40 + length image.now }
+    ensures answers { (result ≡ pos 1) ⊎ (result ≡ pos 0) ⊎ (result ≡ negsuc 0) ⊎ (result ≡ negsuc 1) ⊎ (result ≡ negsuc 2) ⊎ (result ≡ negsuc 3) }
+    ensures memory_kept { (result ≡ pos 1) ⊎ (memory.new ≡ memory.old) }
+    ensures verdict_kept { (result ≡ pos 1) ⊎ (result ≡ negsuc 3) ⊎ (verdict.new ≡ verdict.old) }
+    ensures refusal_kept { (result ≡ pos 0) ⊎ (refusal.new ≡ refusal.old) }
+{
+    let Some(byte_order) = order_of(u64::from(order)) else {
+        return BAD_CALL;
+    };
+    let mut promised = BpfVerdict {
+        least: 0,
+        most: 0,
+        bound: 0,
+    };
+    let answer = verify(alloc, image, order, certificate, &mut promised, refusal);
+    if answer != DONE {
+        return answer;
+    }
+    if !has_handle_room(memory, image.len()) {
+        return TOO_SMALL;
+    }
+    *verdict = promised;
+    if promised.bound > limit {
+        return TOO_LONG;
+    }
+    put_loaded(image, byte_order, promised, memory);
+    DONE
+}
+
+/// Runs the program of a handle that `load` wrote. 1: it ended with `value`, within the handle's bound. -2: another
+/// version wrote it, or the context's length is out of the handle's range; `value` stays as it was. It takes no memory.
+pub fn run_loaded(memory: &[u8], context: &[u8], value: &mut u64) -> i32
+    requires head { 40 ≤ length memory.now }
+    requires holds { IsMarkedHandle memory.now → HoldsLoaded memory.now }
+    ensures ends { result ≡ pos 1 → EndsAsLoaded memory.now context.now value.new }
+    ensures runs { (result ≡ pos 1) ↔ (IsMarkedHandle memory.now × (loaded_least memory.now ≤ length context.now) × (length context.now ≤ loaded_most memory.now)) }
+    ensures answers { (result ≡ pos 1) ⊎ (result ≡ negsuc 1) }
+    ensures kept { (result ≡ pos 1) ⊎ (value.new ≡ value.old) }
+{
+    if !takes(memory, context.len()) {
+        return BAD_CALL;
+    }
+    let Some(number) = end_of_loaded(memory, context) else {
+        return BAD_CALL;
+    };
+    *value = number;
+    DONE
+}

@@ -1,4 +1,0 @@
-use Rattle.bpf_request.proofs.commands.groups_command.Goals as goal
-
-pub returns : goal.returns
-returns c = c.taking.ensures _ _ (c.taking-command.ensures _ _ c.named-command.ensures c.place.ensures.rule c.place.ensures.local) c.big.ensures.rule c.big.ensures.local

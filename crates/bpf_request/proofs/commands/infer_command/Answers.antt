@@ -1,4 +1,0 @@
-use Rattle.bpf_request.proofs.commands.infer_command.Goals as goal
-
-pub returns : goal.returns
-returns c = c.taking.ensures _ _ (c.taking-command-5.ensures _ _ (c.taking-command-4.ensures _ _ (c.taking-command-3.ensures _ _ (c.taking-command-2.ensures _ _ (c.taking-command.ensures _ _ c.named-command.ensures c.place.ensures.rule c.place.ensures.local) c.context_length.ensures.rule c.context_length.ensures.local) c.place-2.ensures.rule c.place-2.ensures.local) c.most.ensures.rule c.most.ensures.local) c.flag.ensures.rule c.flag.ensures.local) c.big.ensures.rule c.big.ensures.local

@@ -1,4 +1,0 @@
-use Rattle.bpf_request.proofs.commands.run_checked_command.Goals as goal
-
-pub returns : goal.returns
-returns c = c.taking.ensures _ _ (c.with_contexts-command.ensures _ (c.taking-command-2.ensures _ _ (c.taking-command.ensures _ _ c.named-command.ensures c.place.ensures.rule c.place.ensures.local) c.place-2.ensures.rule c.place-2.ensures.local)) c.big.ensures.rule c.big.ensures.local

@@ -1,0 +1,8 @@
+//! The words of a command line that the command knows: its commands and their arguments, as the parser of words has them.
+#![tactic(auto)]
+
+mod argument;
+mod commands;
+mod table;
+
+pub use commands::command;

@@ -1,0 +1,206 @@
+//! The table of the commands, with the texts of their help.
+
+use crate::argument::Argument::{
+    self, Extra, Flag, Length, Named, Number, Otherwise, Place, Steps, Trace,
+};
+use bpf_insn::{MAX_CONTEXT, MAX_SLOTS};
+
+/// A command: its name, what help says of it, and its arguments.
+pub struct Entry {
+    pub name: &'static str,
+    pub about: &'static str,
+    pub arguments: &'static [Argument],
+}
+
+const BIG: Argument = Flag("big", "the image is of big-endian BPF");
+
+const IMAGE: Argument = Place("IN", "an image");
+
+const CERTIFICATE: Argument = Place("CERT", "a certificate");
+
+const HEX: Argument = Extra("HEX", "the context in hexadecimal, or `none`");
+
+const CONTEXT: Argument = Named(
+    "context",
+    "in place of HEX: the bytes of FILE are the context",
+);
+
+const CONTEXTS: Argument = Named(
+    "contexts",
+    "in place of HEX: contexts as HEX, one a line of FILE",
+);
+
+const LENGTH: Argument = Length("the length of the contexts in bytes, at most 4096");
+
+/// The greatest length of the contexts of a certificate.
+const MOST: Argument = Number(
+    "most",
+    "M",
+    0,
+    MAX_CONTEXT as i64,
+    "the greatest length of the contexts in bytes, else LEN",
+);
+
+/// The commands that take no certificate.
+pub const FIRST: [Entry; 4] = [
+    Entry {
+        name: "groups",
+        about: "Prints the conformance groups of which an instruction occurs",
+        arguments: &[IMAGE, BIG],
+    },
+    Entry {
+        name: "asm",
+        about: "Assembles a text to an image",
+        arguments: &[
+            Place("IN", "a text of the assembly language"),
+            Place("OUT", "where the image goes"),
+            BIG,
+        ],
+    },
+    Entry {
+        name: "list",
+        about: "Prints the instructions of an image, one a line",
+        arguments: &[
+            IMAGE,
+            Flag("slots", "tells each instruction's slot in a comment"),
+            Flag("bytes", "tells each instruction's bytes in a comment"),
+            BIG,
+        ],
+    },
+    Entry {
+        name: "run",
+        about: "Runs an image on contexts, and prints how each run ends",
+        arguments: &[
+            IMAGE,
+            HEX,
+            CONTEXT,
+            CONTEXTS,
+            Steps("the most instructions that are done"),
+            Trace("the last steps of each run on standard error, at most N lines, else 1000"),
+            BIG,
+        ],
+    },
+];
+
+/// The commands that judge, run and propose.
+pub const SECOND: [Entry; 4] = [
+    Entry {
+        name: "check",
+        about: "Judges whether a certificate certifies an image",
+        arguments: &[
+            IMAGE,
+            CERTIFICATE,
+            Flag("work", "prints the work of judging as well"),
+            BIG,
+        ],
+    },
+    Entry {
+        name: "run-checked",
+        about: "Runs an image that its certificate certifies, and prints each result",
+        arguments: &[IMAGE, CERTIFICATE, HEX, CONTEXT, CONTEXTS, BIG],
+    },
+    Entry {
+        name: "infer",
+        about: "Proposes a certificate for an image",
+        arguments: &[
+            IMAGE,
+            Length("the least length of the contexts in bytes, at most 4096"),
+            Place("OUT", "where the certificate goes"),
+            MOST,
+            Flag("deep", "searches longer, and finds more certificates"),
+            BIG,
+        ],
+    },
+    Entry {
+        name: "harden",
+        about: "Rewrites an image so that a certificate is found for it",
+        arguments: &[
+            IMAGE,
+            LENGTH,
+            Place("OUT", "where the hardened image goes"),
+            Number(
+                "turns",
+                "N",
+                1,
+                u32::MAX as i64,
+                "how often a loop that gets a counter may turn, else 65536",
+            ),
+            Otherwise("the number with which a trap ends the program, else 0"),
+            Flag(
+                "padded",
+                "contexts are blocks: a packet's length in 8 bytes, the packet, padding up to LEN",
+            ),
+            Flag(
+                "proved",
+                "writes nothing unless `follows` says yes to the hardened image",
+            ),
+            Named("notes", "the notes that `follows` reads go to FILE"),
+            Named(
+                "changes",
+                "what was done goes to FILE, a line for each change",
+            ),
+            BIG,
+        ],
+    },
+];
+
+/// The others.
+pub const LAST: [Entry; 3] = [
+    Entry {
+        name: "follows",
+        about: "Judges whether notes show that one image keeps the meaning of another",
+        arguments: &[
+            Place("OLD", "the image whose meaning is kept"),
+            Place("NEW", "the image that keeps it"),
+            Place("NOTES", "what stands in NEW for what in OLD"),
+            LENGTH,
+            Number(
+                "turns",
+                "N",
+                1,
+                u32::MAX as i64,
+                "how often a run of OLD comes to one slot at most, else 65536",
+            ),
+            BIG,
+        ],
+    },
+    Entry {
+        name: "migrate",
+        about: "Writes a certificate in the newest version",
+        arguments: &[CERTIFICATE, Place("OUT", "where the certificate goes")],
+    },
+    Entry {
+        name: "explain",
+        about: "Tells in words what the checker sees, or why an input is refused",
+        arguments: &[
+            IMAGE,
+            Extra("CERT", "a certificate"),
+            Number(
+                "slot",
+                "S",
+                0,
+                MAX_SLOTS as i64 - 1,
+                "one instruction alone, with the whole state before and behind it",
+            ),
+            Number(
+                "infer",
+                "LEN",
+                0,
+                MAX_CONTEXT as i64,
+                "in place of CERT: what `infer` finds for contexts of at least LEN bytes",
+            ),
+            MOST,
+            Flag(
+                "deep",
+                "with --infer: searches longer, and finds more certificates",
+            ),
+            Flag("text", "IN is a text of the assembly language"),
+            Flag("dot", "the control-flow graph as DOT text"),
+            Named(
+                "lines",
+                "the lines of the source by slots, as bpf-cc writes them",
+            ),
+            BIG,
+        ],
+    },
+];
