@@ -9,6 +9,7 @@ import shutil
 import subprocess
 import sys
 import tempfile
+from concurrent.futures import ThreadPoolExecutor
 
 BPF, EXAMPLES, SHIM, MEMORY = sys.argv[1], pathlib.Path(sys.argv[2]), sys.argv[3], sys.argv[4]
 OLD = b'what stood here before\n'
@@ -17,7 +18,7 @@ E9, K4, A7, I5, H12 = 'no E9 at slot 0\n', 'no K4 at line 0\n', 'no A7 at line 0
 # Of two images each, and of notes.
 E9_OLD, E9_NEW, N2 = 'no E9 of OLD at slot 0\n', 'no E9 of NEW at slot 0\n', 'no N2 at line 0\n'
 # Of an explanation: of a text behind its first reading, and of a search, whose words stand behind what was found out before it.
-A7_TOLD, I5_TOLD = 'A7: out of memory\n', 'no certificate: I5, memory ran out\n'
+A7_TOLD, I5_TOLD = 'A7: out of memory\n', 'no certificate: I5, out of memory\n'
 # The names that are written.
 MADE = ['OUT', 'standard output', '/dev/null', '/dev/zero']
 # What the line of an answer takes as it grows, in bytes: half a frame of a program.
@@ -79,10 +80,10 @@ class Answer:
     def __init__(self, words, **disturbed):
         self.words = words
         self.folder = tempfile.mkdtemp()
+        given = [path for path in (folder / word for word in words for folder in (EXAMPLES, FOLDER)) if path.is_file()]
         try:
-            for path in [*EXAMPLES.iterdir(), *EXTRA]:
-                if path.is_file():
-                    shutil.copy(path, self.folder)
+            for path in given:
+                shutil.copy(path, self.folder)
             out = os.path.join(self.folder, 'OUT')
             pathlib.Path(out).write_bytes(OLD)
             counts = os.path.join(self.folder, 'counts')
@@ -91,7 +92,7 @@ class Answer:
             self.status, self.out, self.err = done.returncode, done.stdout.decode(), done.stderr.decode()
             self.written = pathlib.Path(out).read_bytes()
             self.counts = [int(n) for n in pathlib.Path(counts).read_text().split()]
-            self.left = sorted(set(os.listdir(self.folder)) - {p.name for p in EXAMPLES.iterdir()} - {p.name for p in EXTRA} - {'OUT', 'counts'})
+            self.left = sorted(set(os.listdir(self.folder)) - {path.name for path in given} - {'OUT', 'counts'})
         finally:
             shutil.rmtree(self.folder)
 
@@ -167,7 +168,6 @@ def show_no_memory():
             image, certificate = make(count)
             (FOLDER / f'{name}-{size}.img').write_bytes(image)
             (FOLDER / f'{name}-{size}.cert').write_bytes(certificate)
-        EXTRA[:] = sorted(FOLDER.iterdir())
         checks = [Answer(['check', f'{name}-{size}.img', f'{name}-{size}.cert']) for size in ('small', 'large')]
         takes_no_memory(f'check, {name}', *checks)
     runs = [Answer(['run', f'countdown-{size}.img', 'none', '--steps', '4000000']) for size in ('small', 'large')]
@@ -229,27 +229,32 @@ def try_streams(words, right):
             wrong('short read or write', n, got, right)
 
 
+def try_command(command):
+    """How often memory grew, how often the command read or wrote, and how often several bytes at once."""
+    line, refusals = command
+    words = line.split()
+    right = Answer(words)
+    try_memory(words, refusals, right)
+    try_streams(words, right)
+    allocs, _, _, io, short = right.counts
+    return allocs, io, short
+
+
 def main():
-    global EXTRA, FOLDER
+    global FOLDER
     FOLDER = extra = pathlib.Path(tempfile.mkdtemp())
-    EXTRA = []
     (extra / 'bad.asm').write_text('r0 = 0\ngoto x\n')
     (extra / 'byte').write_text('*')
     (extra / 'contexts').write_text('2a\nnone\nff\n')
     (extra / 'bad-second').write_text('2a\nzz\n00\n')
     subprocess.run([BPF, 'asm', str(EXAMPLES / 'checksum.asm'), str(extra / 'checksum.img')], check=True)
     subprocess.run([BPF, 'harden', str(EXAMPLES / 'first-byte.img'), '1', os.devnull, '--notes', str(extra / 'first-byte.notes')], check=True)
-    EXTRA = sorted(extra.iterdir())
     totals = {'allocations refused': 0, 'reads and writes failed': 0, 'reads and writes shortened': 0}
-    for line, refusals in COMMANDS:
-        words = line.split()
-        right = Answer(words)
-        try_memory(words, refusals, right)
-        try_streams(words, right)
-        allocs, _, _, io, short = right.counts
-        for name, count in zip(totals, (allocs, io, short)):
-            totals[name] += count
-        print(f'{line}: {allocs} allocations, {io} reads and writes, {short} of several bytes', flush=True)
+    with ThreadPoolExecutor(os.cpu_count()) as pool:
+        for (line, _), counts in zip(COMMANDS, pool.map(try_command, COMMANDS)):
+            for name, count in zip(totals, counts):
+                totals[name] += count
+            print('{}: {} allocations, {} reads and writes, {} of several bytes'.format(line, *counts), flush=True)
     show_no_memory()
     show_calls(extra)
     shutil.rmtree(extra)

@@ -3,6 +3,7 @@ pub mod CertificateFacts
 pub mod BudgetLemmas
 pub mod AtLabel
 pub mod LeastLemmas
+pub mod StandingLemmas
 pub mod CountLemmas
 pub mod EdgeLemmas
 pub mod VisitLemmas

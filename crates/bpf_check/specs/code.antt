@@ -8,3 +8,4 @@ pub mod Arrivals
 pub mod Visits
 pub mod Straight
 pub mod Counting
+pub mod Standing

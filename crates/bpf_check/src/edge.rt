@@ -1,6 +1,6 @@
 //! Where an instruction goes on, and what is judged without a state.
 
-ghost use Rattle.std.specs.Prelude.{◌≡◌, ◌≤◌, option_map, option_copied, IfSome, IsTrue};
+ghost use Rattle.std.specs.Prelude.{◌≡◌, ◌≤◌, option_map, option_copied, is_some, IfSome, IsTrue};
 ghost use Rattle.bpf_insn.specs.Limits.{max_slots};
 ghost use Rattle.bpf_cert.specs.View.{CertificateView, function_view};
 ghost use Rattle.bpf_cert.specs.Limits.{is_limited_function};
@@ -89,26 +89,44 @@ fn is_elsewhere(function: &Function, to: &Spot) -> bool
     }
 }
 
-/// Whether a jump, if there is one, leads out of a function.
-fn jumps_elsewhere(site: &Site, function: &Function) -> bool
+/// How an instruction leads out of its function.
+#[derive(Clone, Copy)]
+pub enum WayOut {
+    /// By a call of a slot at which no function begins.
+    Call,
+    /// By a jump to a slot of another function, or of none.
+    Jump(u32),
+    /// By going on at a slot of another function.
+    Next(u32),
+}
+
+/// How a jump, if there is one, leads out of a function.
+fn jump_out(site: &Site, function: &Function) -> Option<WayOut>
     requires { IsSite site.now }
-    ensures { result ≡ leaves_for site.now.certificate.now (function_view function.now) (jump_target site.now.here.slot site.now.insn) }
+    ensures { is_some result ≡ leaves_for site.now.certificate.now (function_view function.now) (jump_target site.now.here.slot site.now.insn) }
 {
-    match site.jump {
-        Some(to) => is_elsewhere(function, &to),
-        None => false,
+    let Some(to) = site.jump else {
+        return None;
+    };
+    if is_elsewhere(function, &to) {
+        Some(WayOut::Jump(to.slot))
+    } else {
+        None
     }
 }
 
-/// Whether the next instruction, if this one may go on there and isn't the last, lies out of a function.
-fn goes_elsewhere<P: Code>(program: &P, site: &Site, function: &Function) -> bool
+/// How the next instruction, if this one may go on there and isn't the last, lies out of a function.
+fn next_out<P: Code>(program: &P, site: &Site, function: &Function) -> Option<WayOut>
     requires { IsSite site.now }
-    ensures { result ≡ leaves_for site.now.certificate.now (function_view function.now) (next_slot (P.program program.now) (visit_at site.now)) }
+    ensures { is_some result ≡ leaves_for site.now.certificate.now (function_view function.now) (next_slot (P.program program.now) (visit_at site.now)) }
 {
-    if site.insn.goes_on() && site.next.slot != program.slots() {
-        is_elsewhere(function, &site.next)
+    if !site.insn.goes_on() || site.next.slot == program.slots() {
+        return None;
+    }
+    if is_elsewhere(function, &site.next) {
+        Some(WayOut::Next(site.next.slot))
     } else {
-        false
+        None
     }
 }
 
@@ -120,18 +138,27 @@ fn calls_nowhere(site: &Site) -> bool
     matches!(site.insn, Insn::CallLocal { .. }) && site.callee.is_none()
 }
 
+/// How an instruction leads out of its function, or that it calls none; None where it does neither.
+pub fn way_out<P: Code>(program: &P, site: &Site) -> Option<WayOut>
+    requires { IsSite site.now }
+    ensures { is_some result ≡ leaves_function (P.program program.now) site.now.certificate.now (visit_at site.now) }
+{
+    if calls_nowhere(site) {
+        return Some(WayOut::Call);
+    }
+    let Some(function) = site.here.function else {
+        return None;
+    };
+    match jump_out(site, function) {
+        Some(way) => Some(way),
+        None => next_out(program, site, function),
+    }
+}
+
 /// Whether a jump or the next instruction lies in another function, or a call leads to none.
 pub fn leaves_function<P: Code>(program: &P, site: &Site) -> bool
     requires { IsSite site.now }
     ensures { result ≡ leaves_function (P.program program.now) site.now.certificate.now (visit_at site.now) }
 {
-    if calls_nowhere(site) {
-        return true;
-    }
-    match site.here.function {
-        Some(function) => {
-            jumps_elsewhere(site, function) || goes_elsewhere(program, site, function)
-        }
-        None => false,
-    }
+    way_out(program, site).is_some()
 }

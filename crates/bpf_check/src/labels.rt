@@ -67,7 +67,7 @@ fn last_from<T: Begins>(items: &[T], slot: u32) -> (Option<&T>, u32)
 }
 
 /// The label at a slot among a function's labels, and up to where none stands behind it.
-fn label_among(labels: &[Label], slot: u32) -> (Option<&Label>, u32)
+pub fn label_among(labels: &[Label], slot: u32) -> (Option<&Label>, u32)
     requires { IsTrue (is_rising slot_before (map label_view labels.now)) }
     ensures label { option_map label_view (option_copied result.0) ≡ first_with (λ l. l.slot == slot) (map label_view labels.now) }
     ensures until { (n : ℕ) → slot < n → n < result.1 → first_with (λ l. l.slot == n) (map label_view labels.now) ≡ None }

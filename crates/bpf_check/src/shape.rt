@@ -1,12 +1,15 @@
 //! Whether a certificate's functions and labels fit each other and the program.
 
-ghost use Rattle.std.specs.Prelude.{◌≡◌, ◌||◌, flat_map, option_map, option_copied, is_none, IsTrue};
+ghost use Rattle.std.specs.Prelude.{◌≡◌, ◌||◌, ◌++◌, flat_map, option_map, option_copied, is_none, is_some, IsTrue};
 ghost use Rattle.std.specs.List.{list_any};
+ghost use Rattle.bpf_insn.specs.Instruction.{insn_at};
 ghost use Rattle.bpf_state.specs.State.{tightened};
+ghost use Rattle.bpf_state.specs.declared.condition.Condition.TheVariants.{MisplacedLabel, OverBudget, Misshapen};
 ghost use Rattle.bpf_cert.specs.View.{label_view, function_view};
 ghost use Rattle.bpf_cert.specs.Limits.{is_limited_label, is_limited_function, is_limited_term};
-ghost use Rattle.bpf_safety.specs.Flaw.{at, is_bad_limit, is_bad_term, is_first_label, is_outside, numbers_of_label, function_flaws};
+ghost use Rattle.bpf_safety.specs.Flaw.{at, fails, is_bad_limit, is_bad_term, is_first_label, is_outside, numbers_of_label, function_flaws};
 ghost use Rattle.bpf_check.specs.code.Least.{IsLeastIn};
+ghost use Rattle.bpf_check.specs.code.Standing.{IsSeenLabel};
 ghost use Rattle.bpf_check.specs.RefusalNumbers.{flaw_of};
 
 use crate::budget::{bounds, bounds_said};
@@ -44,18 +47,19 @@ pub fn is_bad_term(label: &Label, tight: Option<&State>, term: &Term) -> bool
     bounds_said(&label.state, term).is_none() || is_bad_limit(tight, term)
 }
 
-fn has_bad_term(label: &Label, tight: Option<&State>) -> bool
+/// The first term of a label whose place is no number, or may be above the term's limit.
+fn bad_term(label: &Label, tight: Option<&State>) -> Option<Term>
     requires limited { IsTrue (is_limited_label (label_view label.now)) }
     requires state { option_copied tight ≡ tightened label.now.state }
-    ensures { result ≡ list_any (is_bad_term (label_view label.now)) (label_view label.now).terms }
+    ensures { is_some result ≡ list_any (is_bad_term (label_view label.now)) (label_view label.now).terms }
 {
     let terms = label.budget.terms.as_slice();
     for term in terms {
         if is_bad_term(label, tight, term) {
-            return true;
+            return Some(*term);
         }
     }
-    false
+    None
 }
 
 /// A label lies in another function than the one it belongs to, or in none.
@@ -68,17 +72,71 @@ pub fn is_outside(certificate: &Index, function: &Function, label: &Label) -> bo
     }
 }
 
-/// A label lies outside of its function, or gives no state.
-fn is_misshapen(
+/// No instruction begins at a label's slot.
+fn is_misplaced<C: Code>(program: &C, label: &Label) -> bool
+    ensures { result ≡ is_none (insn_at (C.program program.now).list label.now.slot) }
+{
+    let insn = program.insn(label.slot);
+    match insn {
+        Some(_insn) => false,
+        None => true,
+    }
+}
+
+/// What is seen of a label. Which conditions fail follows from it.
+#[derive(Clone, Copy)]
+pub struct SeenLabel<'a> {
+    pub label: &'a Label,
+    /// Whether no instruction begins at its slot.
+    pub is_misplaced: bool,
+    /// The first term whose place is no number, or may be above the term's limit.
+    pub bad: Option<Term>,
+    /// Whether it lies in another function than the one it belongs to, or in none.
+    pub is_outside: bool,
+    /// Whether its state has no member.
+    pub is_empty: bool,
+}
+
+/// What is seen of a label, from its state tightened.
+fn seen_with<'a, C: Code>(
+    program: &C,
     certificate: &Index,
     function: &Function,
-    label: &Label,
+    label: &'a Label,
     tight: Option<&State>,
-) -> bool
-    requires { option_copied tight ≡ tightened label.now.state }
-    ensures { result ≡ (is_outside certificate.now (function_view function.now) (label_view label.now) || is_none (tightened label.now.state)) }
+) -> SeenLabel<'a>
+    requires limited { IsTrue (is_limited_label (label_view label.now)) }
+    requires state { option_copied tight ≡ tightened label.now.state }
+    ensures label { result.label.now ≡ label.now }
+    ensures seen { IsSeenLabel (C.program program.now) certificate.now (function_view function.now) result }
 {
-    is_outside(certificate, function, label) || tight.is_none()
+    SeenLabel {
+        label,
+        is_misplaced: is_misplaced(program, label),
+        bad: bad_term(label, tight),
+        is_outside: is_outside(certificate, function, label),
+        is_empty: tight.is_none(),
+    }
+}
+
+/// Sees a label of a function, with room for its state tightened.
+pub fn see_label<'a, C: Code>(
+    program: &C,
+    certificate: &Index,
+    function: &Function,
+    label: &'a Label,
+    room: &mut State,
+) -> SeenLabel<'a>
+    requires { IsTrue (is_limited_label (label_view label.now)) }
+    ensures label { result.label.now ≡ label.now }
+    ensures seen { IsSeenLabel (C.program program.now) certificate.now (function_view function.now) result }
+{
+    label.state.put_into(room);
+    if room.tighten() {
+        seen_with(program, certificate, function, label, Some(room))
+    } else {
+        seen_with(program, certificate, function, label, None)
+    }
 }
 
 /// A function's first label stands where it begins.
@@ -91,24 +149,15 @@ pub fn is_first_label(function: &Function) -> bool
     }
 }
 
-/// The least flaw of a label, from its state tightened: C2, C9 or C13 at its slot.
-fn flaw_of_label<C: Code>(
-    program: &C,
-    certificate: &Index,
-    function: &Function,
-    label: &Label,
-    tight: Option<&State>,
-) -> Option<Refusal>
-    requires limited { IsTrue (is_limited_label (label_view label.now)) }
-    requires state { option_copied tight ≡ tightened label.now.state }
-    ensures { IsLeastIn (at label.now.slot (numbers_of_label (C.program program.now) certificate.now (function_view function.now) (label_view label.now))) (option_map flaw_of result) }
+/// The least flaw of a label, from what is seen of it: C2, C9 or C13 at its slot.
+fn flaw_of_label(seen: &SeenLabel) -> Option<Refusal>
+    ensures { IsLeastIn (at seen.now.label.now.slot (fails MisplacedLabel seen.now.is_misplaced ++ fails OverBudget (is_some seen.now.bad) ++ fails Misshapen (seen.now.is_outside || seen.now.is_empty))) (option_map flaw_of result) }
 {
-    let is_misplaced = program.insn(label.slot).is_none();
-    let is_bad = has_bad_term(label, tight);
-    let is_misshapen = is_misshapen(certificate, function, label, tight);
-    let misplaced = refused_if(is_misplaced, label.slot, Condition::MisplacedLabel);
-    let bad = refused_if(is_bad, label.slot, Condition::OverBudget);
-    let misshapen = refused_if(is_misshapen, label.slot, Condition::Misshapen);
+    let slot = seen.label.slot;
+    let is_misshapen = seen.is_outside | seen.is_empty;
+    let misplaced = refused_if(seen.is_misplaced, slot, Condition::MisplacedLabel);
+    let bad = refused_if(seen.bad.is_some(), slot, Condition::OverBudget);
+    let misshapen = refused_if(is_misshapen, slot, Condition::Misshapen);
     lesser(lesser(misplaced, bad), misshapen)
 }
 
@@ -123,12 +172,8 @@ fn judge_label<C: Code>(
     requires { IsTrue (is_limited_label (label_view label.now)) }
     ensures { IsLeastIn (at label.now.slot (numbers_of_label (C.program program.now) certificate.now (function_view function.now) (label_view label.now))) (option_map flaw_of result) }
 {
-    label.state.put_into(room);
-    if room.tighten() {
-        flaw_of_label(program, certificate, function, label, Some(room))
-    } else {
-        flaw_of_label(program, certificate, function, label, None)
-    }
+    let seen = see_label(program, certificate, function, label, room);
+    flaw_of_label(&seen)
 }
 
 /// The least flaw of a function's labels.

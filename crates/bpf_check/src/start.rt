@@ -1,6 +1,6 @@
 //! Whether a certificate fits the start of a program.
 
-ghost use Rattle.std.specs.Prelude.{◌≡◌, ◌++◌, map, not, option_map};
+ghost use Rattle.std.specs.Prelude.{◌≡◌, ◌++◌, map, not, is_some, option_map};
 ghost use Rattle.bpf_cert.specs.View.{function_view};
 ghost use Rattle.bpf_state.specs.State.{first_state};
 ghost use Rattle.bpf_state.specs.declared.condition.Condition.TheVariants.{Misshapen, OverBudget};
@@ -51,13 +51,22 @@ fn starts_outside(certificate: &Index, start: &State, work: &mut Work) -> bool
     !work.entails_label_counted(start, &label.state)
 }
 
-fn begins_wrongly(certificate: &Index, start: &State, work: &mut Work) -> bool
+/// The greatest value of the budget at the start, if it is above the steps that are promised.
+fn most_over(certificate: &Index, start: &State) -> Option<i128>
     requires { start.now ≡ first_state certificate.now.least certificate.now.most }
-    ensures answer { result ≡ begins_wrongly certificate.now }
-    ensures work { work.new ≡ compared (compared_at_start certificate.now) work.old }
+    ensures { is_some result ≡ starts_over_budget certificate.now }
 {
-    let outside = starts_outside(certificate, start, work);
-    begins_elsewhere(certificate.functions()) || outside
+    let Some(label) = label_at(certificate, 0) else {
+        return None;
+    };
+    let Some(most) = greatest_budget(label, start) else {
+        return None;
+    };
+    if i128::from(certificate.steps()) < most {
+        Some(most)
+    } else {
+        None
+    }
 }
 
 /// The budget at the start may be above the steps that are promised.
@@ -65,12 +74,33 @@ pub fn starts_over_budget(certificate: &Index, start: &State) -> bool
     requires { start.now ≡ first_state certificate.now.least certificate.now.most }
     ensures { result ≡ starts_over_budget certificate.now }
 {
-    let Some(label) = label_at(certificate, 0) else {
-        return false;
-    };
-    match greatest_budget(label, start) {
-        Some(most) => i128::from(certificate.steps()) < most,
-        None => false,
+    most_over(certificate, start).is_some()
+}
+
+/// What is seen of the start. Which conditions fail follows from it.
+#[derive(Clone, Copy)]
+pub struct SeenStart {
+    /// Whether no function begins at slot 0.
+    pub is_elsewhere: bool,
+    /// Whether the state at the start doesn't lie in the label at slot 0.
+    pub is_outside: bool,
+    /// The greatest value of the budget there, if it is above the steps that are promised.
+    pub over: Option<i128>,
+}
+
+/// Sees the start, and makes a state the one there.
+pub fn see_start(certificate: &Index, room: &mut State, work: &mut Work) -> SeenStart
+    ensures elsewhere { result.is_elsewhere ≡ begins_elsewhere certificate.now.functions }
+    ensures outside { result.is_outside ≡ some_passes (λ l. not (state_entails (first_state certificate.now.least certificate.now.most) l.state)) (label_at certificate.now 0) }
+    ensures over { is_some result.over ≡ starts_over_budget certificate.now }
+    ensures state { room.new ≡ first_state certificate.now.least certificate.now.most }
+    ensures work { work.new ≡ compared (compared_at_start certificate.now) work.old }
+{
+    put_start(certificate, room);
+    SeenStart {
+        is_elsewhere: begins_elsewhere(certificate.functions()),
+        is_outside: starts_outside(certificate, room, work),
+        over: most_over(certificate, room),
     }
 }
 
@@ -79,16 +109,9 @@ pub fn start_flaw(certificate: &Index, room: &mut State, work: &mut Work) -> Opt
     ensures refusal { IsLeastIn (at 0 (fails Misshapen (begins_wrongly certificate.now) ++ fails OverBudget (starts_over_budget certificate.now))) (option_map flaw_of result) }
     ensures work { work.new ≡ compared (compared_at_start certificate.now) work.old }
 {
-    put_start(certificate, room);
-    let misshapen = refused_if(
-        begins_wrongly(certificate, room, work),
-        0,
-        Condition::Misshapen,
-    );
-    let over = refused_if(
-        starts_over_budget(certificate, room),
-        0,
-        Condition::OverBudget,
-    );
+    let seen = see_start(certificate, room, work);
+    let is_misshapen = seen.is_elsewhere | seen.is_outside;
+    let misshapen = refused_if(is_misshapen, 0, Condition::Misshapen);
+    let over = refused_if(seen.over.is_some(), 0, Condition::OverBudget);
     lesser(misshapen, over)
 }

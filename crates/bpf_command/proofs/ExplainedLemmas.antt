@@ -11,13 +11,14 @@ use Rattle.bpf_places.specs.Opened.{Opening, Unreadable}
 use Rattle.bpf_answers.specs.Loaded.{LoadsImage, CertificateAt, TextAt, TextFails, Tried}
 use Rattle.bpf_answers.specs.Answer.{Answer, Says, status_of}
 use Rattle.bpf_answers.specs.Answer.Answer.{Yes, NoImage, NotCertified, Written}
-use Rattle.bpf_command.specs.Printed.{ImageSays, IsProposal, JudgedSays, LoadedSays, YesSays}
+use Rattle.bpf_command_core.specs.Printed.{ImageSays, JudgedSays, LoadedSays, YesSays}
+use Rattle.bpf_command.specs.Inferred.{IsProposal}
 use Rattle.std.specs.Borrow.{Bor}
 use Rattle.bpf_request.specs.declared.subject.Subject.{Subject}
 use Rattle.bpf_answers.specs.declared.failure.Failure.{Failure}
 use Rattle.bpf_answers.specs.declared.failure.Failure.TheVariants.{CannotRead}
 use Rattle.bpf_command.specs.Explained.{Answers, ExplainFails, ExplainSays, ExplainWithFails, ExplainWithSays, JudgesOf, LinesAt, LinesFail, SoughtSays}
-use Rattle.bpf_command.proofs.JudgedLemmas.{loaded_says}
+use Rattle.bpf_command_core.proofs.JudgedLemmas.{loaded_says}
 
 -- an answer that was printed has its status
 pub printed_so : {E : Type 0} (result : Result ℕ E) (answer : Answer) (old new : Option (List ℕ)) (P : Answer → Type 0) → P answer → IfOk result (λ status. Says answer status old new) → IfOk result (Answers P)

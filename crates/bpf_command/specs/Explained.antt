@@ -17,7 +17,8 @@ use Rattle.bpf_answers.specs.Loaded.{ImageFails, ShortTextAt, TextFails, Tried}
 use Rattle.bpf_answers.specs.Answer.{Answer, status_of}
 use Rattle.bpf_answers.specs.Answer.Answer.{NoText, NotCertified, NotProposed, Lists, Written}
 use Rattle.bpf_answers.specs.Told.{OutputFails}
-use Rattle.bpf_command.specs.Printed.{ImageSays, IsProposal, ListSays, LoadedSays, LoadedFails, YesSays}
+use Rattle.bpf_command_core.specs.Printed.{ImageSays, ListSays, LoadedSays, LoadedFails, YesSays}
+use Rattle.bpf_command.specs.Inferred.{IsProposal}
 use Rattle.bpf_answers.specs.declared.failure.Failure.{Failure}
 use Rattle.bpf_answers.specs.declared.failure.Failure.TheVariants.{CannotRead, NotTogether}
 use Rattle.bpf_request.specs.declared.subject.Subject.{Subject}

@@ -1,7 +1,5 @@
-pub mod Printed
+pub mod Inferred
 pub mod Hardened
-pub mod Followed
 pub mod Names
-pub mod Given
 pub mod Explained
 pub mod Response

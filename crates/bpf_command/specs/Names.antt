@@ -1,26 +1,8 @@
--- Which names a command that only reads opens, in which order.
+-- Which names `explain` opens, in which order.
 use Rattle.std.specs.Prelude.{ℕ, List, [], ◌∷◌, Option, Some, None}
 use Rattle.std.specs.Borrow.{Bor}
-use Rattle.bpf_request.specs.declared.contexts.Contexts.{Contexts}
-use Rattle.bpf_request.specs.declared.contexts.Contexts.TheVariants.{Word, Bytes, Lines, Nothing, Several}
 use Rattle.bpf_request.specs.declared.subject.Subject.{Subject}
 use Rattle.bpf_request.specs.declared.subject.Subject.TheVariants.{Image, Text, Certified, Slot, Inferred, Graph, GraphAlone, Misfit}
-
--- the image, behind the context at a name, or before the lines at one
-abbrev pub names_run : List ℕ → Contexts → List (List ℕ)
-names_run input (Word hex) = input ∷ []
-names_run input (Bytes name) = name.now ∷ input ∷ []
-names_run input (Lines name) = input ∷ name.now ∷ []
-names_run input Nothing = []
-names_run input Several = []
-
--- the same with a certificate
-abbrev pub names_checked : (input certificate : List ℕ) → Contexts → List (List ℕ)
-names_checked input certificate (Word hex) = input ∷ certificate ∷ []
-names_checked input certificate (Bytes name) = name.now ∷ input ∷ certificate ∷ []
-names_checked input certificate (Lines name) = input ∷ certificate ∷ name.now ∷ []
-names_checked input certificate Nothing = []
-names_checked input certificate Several = []
 
 -- what is explained
 abbrev pub names_explained : List ℕ → Subject → List (List ℕ)

@@ -9,11 +9,13 @@ use Rattle.bpf_places.specs.Opened.{Opening}
 use Rattle.bpf_places.specs.Made.{Making}
 use Rattle.bpf_answers.specs.Loaded.{ImageFails, OpensFirst}
 use Rattle.bpf_answers.specs.Answer.{Answered, Unfinished}
-use Rattle.bpf_command.specs.Printed.{LoadedFails, ImageSays, GroupsSay, ListSays, notes_of, AsmSays, AsmFails, NotAssembled, InferSays, InferFails, NotInferred, MigrateSays, MigrateFails, NotMigrated, CheckSays}
+use Rattle.bpf_command_core.specs.Printed.{LoadedFails, ImageSays, GroupsSay, ListSays, notes_of, AsmSays, AsmFails, NotAssembled, MigrateSays, MigrateFails, NotMigrated, CheckSays}
+use Rattle.bpf_command.specs.Inferred.{InferSays, InferFails, NotInferred}
 use Rattle.bpf_command.specs.Hardened.{HardenFails, HardenSays, NotAllMade}
-use Rattle.bpf_command.specs.Followed.{FollowsFails, FollowsSays}
-use Rattle.bpf_command.specs.Given.{CheckedFails, CheckedLeaves, CheckedSays, RunFails, RunLeaves, RunSays}
-use Rattle.bpf_command.specs.Names.{behind_lines, names_checked, names_explained, names_run}
+use Rattle.bpf_command_core.specs.Followed.{FollowsFails, FollowsSays}
+use Rattle.bpf_command_core.specs.Given.{CheckedFails, CheckedLeaves, CheckedSays, RunFails, RunLeaves, RunSays}
+use Rattle.bpf_command_core.specs.Names.{names_checked, names_run}
+use Rattle.bpf_command.specs.Names.{behind_lines, names_explained}
 use Rattle.bpf_command.specs.Explained.{ExplainWithFails, ExplainWithSays}
 use Rattle.bpf_answers.specs.Told.{IsTold}
 use Rattle.std.specs.Str.{bytes_eq}

@@ -9,12 +9,12 @@ ghost use Rattle.bpf_answers.specs.Told.{IsTold};
 
 use crate::advice::{after_failure, after_refusal};
 use crate::aside::Aside;
-use crate::commands::{
-    Trace, assembled, checked, explained, followed, grouped, hardened, inferred, listed, migrated,
-    ran_checked_on, ran_on,
-};
+use crate::commands::{Trace, explained, hardened, inferred};
 use crate::shown::tell_mistake;
 use bpf_answers::{BAD_WORDS, FAILED, Failure, REFUSED, tell};
+use bpf_command_core::{
+    assembled, checked, followed, grouped, listed, migrated, ran_checked_on, ran_on,
+};
 use bpf_places::Places;
 use bpf_request::{Aspect, Request, Subject, request_of};
 use clap::error::ErrorKind;

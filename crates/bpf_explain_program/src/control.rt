@@ -20,21 +20,14 @@ pub enum Control {
 impl Control {
     /// That of an instruction.
     pub fn of(insn: &Insn) -> Control {
-        match *insn {
-            Insn::Alu { .. }
-            | Insn::Neg { .. }
-            | Insn::MovSx { .. }
-            | Insn::End { .. }
-            | Insn::LoadImm64 { .. }
-            | Insn::Load { .. }
-            | Insn::LoadSx { .. }
-            | Insn::Store { .. }
-            | Insn::StoreImm { .. }
-            | Insn::Atomic { .. } => Control::Next,
-            Insn::Ja { .. } | Insn::JaLong { .. } => Control::Jump,
-            Insn::JumpIf { .. } => Control::Test,
-            Insn::CallLocal { .. } => Control::Call,
-            Insn::Exit => Control::Exit,
+        if let Insn::CallLocal { .. } = *insn {
+            return Control::Call;
+        }
+        match (insn.distance(), insn.goes_on()) {
+            (Some(_), true) => Control::Test,
+            (Some(_), false) => Control::Jump,
+            (None, true) => Control::Next,
+            (None, false) => Control::Exit,
         }
     }
 

@@ -3,7 +3,7 @@
 use arrayvec::ArrayVec;
 use bpf_cert::cut;
 use bpf_insn::{Insn, Reg};
-use bpf_num::Num;
+use bpf_num::{KnownBits, Num, Signed, Unsigned, WordDomain};
 use bpf_state::{Area, Place, Pointer, RegState, SlotState};
 use std::fmt;
 use std::str::from_utf8;
@@ -28,35 +28,22 @@ impl fmt::Display for Name {
 #[derive(Clone, Copy)]
 pub struct Number(pub Num);
 
-/// The signed bounds that follow from the unsigned ones.
-fn signed_bounds(lo: u64, hi: u64) -> (i64, i64) {
-    if lo >> 63 == hi >> 63 {
-        (lo.cast_signed(), hi.cast_signed())
-    } else {
-        (i64::MIN, i64::MAX)
-    }
-}
-
-/// The bits that may differ among the numbers between two bounds.
-fn open_bits(lo: u64, hi: u64) -> u64 {
-    let differing = lo ^ hi;
-    if differing == 0 {
-        0
-    } else {
-        u64::MAX >> differing.leading_zeros().min(63)
-    }
+/// What follows from unsigned bounds alone.
+fn within(bounds: Unsigned) -> Num {
+    let number = Num::of(KnownBits::top(), bounds, Signed::top());
+    number.tighten().unwrap_or(number)
 }
 
 /// Whether the signed bounds say more than the unsigned ones do.
 fn says_more_signed(n: Num) -> bool {
-    let (lo, hi) = signed_bounds(n.unsigned().lo(), n.unsigned().hi());
-    n.signed().lo() > lo || n.signed().hi() < hi
+    let known = within(n.unsigned()).signed();
+    n.signed().lo() > known.lo() || n.signed().hi() < known.hi()
 }
 
 /// Whether the bits say more than the bounds do.
 fn says_more_bits(n: Num) -> bool {
-    let open = open_bits(n.unsigned().lo(), n.unsigned().hi());
-    !n.bits().mask() & open != 0
+    let known = within(n.unsigned()).bits();
+    !n.bits().mask() & known.mask() != 0
 }
 
 /// A constant, with its signed value behind it where that is negative.

@@ -1,12 +1,11 @@
 //! The lines of a listing.
 
-use crate::control::Control;
 use crate::effects::{places_compared, places_written, slots_touched};
 use crate::known::{Known, Name, Number, Written, spelling_of};
 use crate::places::{changes, content, is_same, is_unknown, take_all, take_over};
 use crate::sight::{Outcome, Sight};
 use bpf_cert::{Function, Label, Measure};
-use bpf_check::{Index, JudgedEdge};
+use bpf_check::{Index, JudgedEdge, Seen};
 use bpf_explain_page::{Count, Tell};
 use bpf_infer_base::{PLACES, PlaceSet, place};
 use bpf_insn::{Insn, Reg};
@@ -170,7 +169,7 @@ fn note_changes<W: Tell>(out: &mut W, changed: PlaceSet, after: &State, verb: &s
 
 /// What an instruction costs with those before it.
 fn write_cost<'a, W: Tell>(out: &mut W, sight: &Sight<'a>) {
-    match (sight.outcome, sight.cost) {
+    match (&sight.outcome, sight.cost()) {
         (Outcome::Refused(_), _) => write!(out, "; refused"),
         (_, Some(cost)) => write!(out, "; cost {cost}"),
         (_, None) => write!(out, "; the cost isn't known"),
@@ -179,7 +178,7 @@ fn write_cost<'a, W: Tell>(out: &mut W, sight: &Sight<'a>) {
 
 /// Tells what is known of the places that an instruction changes.
 fn note_written<'a, W: Tell>(out: &mut W, sight: &Sight<'a>, shown: &mut State) {
-    let after = if sight.goes_on {
+    let after = if sight.goes_on() {
         &sight.behind
     } else {
         sight.after()
@@ -195,9 +194,9 @@ fn write_notes<'a, W: Tell>(out: &mut W, sight: &Sight<'a>, shown: &mut State) {
     write_cost(out, sight);
     note_registers(out, sight, shown);
     note_slots(out, sight, shown);
-    match sight.outcome {
-        Outcome::Done => note_written(out, sight, shown),
-        Outcome::Dead => write!(out, "; no run goes on from here"),
+    match &sight.outcome {
+        Outcome::Done(seen) if seen.is_alive => note_written(out, sight, shown),
+        Outcome::Done(_) => write!(out, "; no run goes on from here"),
         Outcome::Refused(_) | Outcome::Unreached => {}
     }
 }
@@ -205,9 +204,9 @@ fn write_notes<'a, W: Tell>(out: &mut W, sight: &Sight<'a>, shown: &mut State) {
 /// The line of an instruction.
 pub fn write_instruction<'a, W: Tell>(out: &mut W, sight: &Sight<'a>, shown: &mut State) {
     write_padded(out, sight.site.here.slot, &sight.site.insn);
-    match sight.outcome {
+    match &sight.outcome {
         Outcome::Unreached => write!(out, "; no state is known here"),
-        _ => write_notes(out, sight, shown),
+        Outcome::Refused(_) | Outcome::Done(_) => write_notes(out, sight, shown),
     }
     write!(out, "\n");
 }
@@ -224,7 +223,7 @@ fn write_slack<'a, W: Tell>(out: &mut W, sight: &Sight<'a>, edge: JudgedEdge<'a>
     let Some(here) = sight.here else {
         return;
     };
-    let (Some(slack), Some(cost)) = (edge.slack, sight.cost) else {
+    let (Some(slack), Some(cost)) = (edge.slack, sight.cost()) else {
         return write!(out, "; the slack isn't known");
     };
     let total = slack.left;
@@ -297,8 +296,8 @@ fn write_next<'a, W: Tell>(
 }
 
 /// The line of an EXIT: what is left of the budget.
-fn write_exit<'a, W: Tell>(out: &mut W, sight: &Sight<'a>) {
-    let (Some(slack), Some(cost)) = (sight.left_at_exit, sight.cost) else {
+fn write_exit<'a, W: Tell>(out: &mut W, seen: &Seen<'a>) {
+    let (Some(slack), Some(cost)) = (seen.left_at_exit, seen.cost) else {
         return;
     };
     let least = slack.saturating_add(cost);
@@ -310,16 +309,14 @@ fn write_exit<'a, W: Tell>(out: &mut W, sight: &Sight<'a>) {
 
 /// The lines of an instruction's edges.
 pub fn write_edges<'a, W: Tell>(out: &mut W, sight: &Sight<'a>, shown: &mut State) {
-    if let (Control::Exit, Outcome::Done) = (sight.control(), sight.outcome) {
-        if sight.has_budgets {
-            write_exit(out, sight);
-        }
-        return;
+    match sight.seen() {
+        Some(seen) if sight.has_budgets => write_exit(out, seen),
+        _ => {}
     }
-    if let Some(edge) = sight.jump {
+    if let Some(edge) = sight.jump() {
         write_jump(out, sight, edge);
     }
-    if let Some(edge) = sight.next {
+    if let Some(edge) = sight.next() {
         write_next(out, sight, edge, shown);
     }
 }

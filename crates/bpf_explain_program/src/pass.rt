@@ -9,7 +9,7 @@ use crate::control::Control;
 use crate::sight::{Outcome, Sight};
 use bpf_cert::LAST_SLOT;
 use bpf_check::{
-    Index, Site, Spot, Walk, arrive, calls_no_deeper, judge_reached, lacks_label, leaves_function,
+    Index, Site, Spot, Walk, arrive, calls_no_deeper, judge_reached, lacks_label, way_out,
 };
 use bpf_insn::Code;
 use bpf_state::Condition;
@@ -22,8 +22,10 @@ fn see_shape<'a, P: Code>(program: &P, site: &Site, sight: &mut Sight<'a>)
     sight
         .flaws
         .add_if(calls_no_deeper(site), Condition::NoDeeper);
-    let leaves = leaves_function(program, site);
-    sight.flaws.add_if(leaves, Condition::LeavesFunction);
+    sight.way_out = way_out(program, site);
+    sight
+        .flaws
+        .add_if(sight.way_out.is_some(), Condition::LeavesFunction);
 }
 
 /// Sees an instruction with what goes on to it, and makes the walk what goes on from it.

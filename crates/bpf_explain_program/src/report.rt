@@ -1,20 +1,18 @@
 //! The flaws at a slot, told in the order of their numbers.
 
 use crate::effects::unknown_register;
-use crate::flaws::{CONDITIONS, Flaws};
+use crate::flaws::CONDITIONS;
 use crate::known::Spelled;
 use crate::listing::{write_edges, write_function, write_instruction, write_label};
 use crate::sight::{Outcome, Sight};
 use crate::source::SourceLines;
-use crate::standing::{
-    functions_about, label_flaws, label_in, lacks_first_label, standing_flaws, start_flaws,
-};
+use crate::standing::{Found, label_flaws, start_flaws};
 use crate::whole::write_whole;
 use crate::words::{
     Handings, Silence, tell, tell_function, tell_handed, tell_label, tell_silence, tell_start,
 };
-use bpf_cert::{Function, Label};
-use bpf_check::{Index, Refusal};
+use bpf_cert::MAX_FUNCTIONS;
+use bpf_check::{Index, Refusal, SeenLabel, SeenStart, Standing, standing_at};
 use bpf_explain_page::Tell;
 use bpf_insn::Code;
 use bpf_state::{Condition, State, StateFault};
@@ -60,31 +58,6 @@ pub struct Report<'t> {
     /// Where the instructions came from, and whether that is told at this one.
     lines: SourceLines<'t>,
     has_new_line: bool,
-}
-
-/// What is wrong at a slot.
-#[derive(Clone, Copy)]
-struct Found {
-    start: Flaws,
-    visit: Flaws,
-    standing: Flaws,
-}
-
-impl Found {
-    /// All that is wrong.
-    fn all(&self) -> Flaws {
-        let mut flaws = self.start;
-        flaws.add_all(&self.visit);
-        flaws.add_all(&self.standing);
-        flaws
-    }
-
-    /// Whether the one flaw is that no state reaches the instruction.
-    fn is_quiet<'a>(&self, sight: &Sight<'a>) -> bool {
-        let mut silent = Flaws::NONE;
-        silent.add_if(true, Condition::FallsOff);
-        sight.is_never && self.start.is_empty() && self.standing.is_empty() && self.visit == silent
-    }
 }
 
 impl<'t> Report<'t> {
@@ -188,38 +161,42 @@ impl<'t> Report<'t> {
     }
 
     /// Tells that the first slot of a function, which is at a slot, has no label.
-    fn tell_shape<W: Tell>(
+    fn tell_shape<'a, W: Tell>(
         &self,
         out: &mut W,
-        function: &Function,
+        standing: &Standing<'a>,
         slot: u32,
         condition: Condition,
     ) {
-        if condition == Condition::Misshapen && lacks_first_label(function, slot) {
+        if condition == Condition::Misshapen && standing.lacks_label {
             self.begin(out, condition, slot, None);
-            tell_function(out, function);
+            tell_function(out, standing.function);
             write!(out, "\n");
         }
     }
 
-    /// Tells a flaw of a label.
-    fn tell_in_label<W: Tell, C: Code>(
-        &mut self,
+    /// Tells a flaw of a function's label, if it has it.
+    fn tell_in_label<'a, W: Tell, C: Code>(
+        &self,
         out: &mut W,
         program: &C,
         certificate: &Index,
-        function: &Function,
-        label: &Label,
+        standing: &Standing<'a>,
+        seen: &SeenLabel<'a>,
         condition: Condition,
     ) {
-        let found = label_flaws(program, certificate, function, label, &mut self.room);
-        if !found.flaws.has(condition) {
-            return;
+        if label_flaws(seen).has(condition) {
+            self.begin(out, condition, seen.label.slot, None);
+            tell_label(
+                out,
+                program,
+                certificate,
+                standing.function,
+                seen,
+                condition,
+            );
+            write!(out, "\n");
         }
-        self.begin(out, condition, label.slot, None);
-        let bad = found.bad;
-        tell_label(out, program, certificate, function, label, condition, bad);
-        write!(out, "\n");
     }
 
     /// Tells a flaw of the functions and labels at a slot.
@@ -231,25 +208,31 @@ impl<'t> Report<'t> {
         slot: u32,
         condition: Condition,
     ) {
-        for function in functions_about(certificate, slot) {
-            self.tell_shape(out, function, slot, condition);
-            if let Some(label) = label_in(function, slot) {
-                self.tell_in_label(out, program, certificate, function, label, condition);
+        for number in 0..MAX_FUNCTIONS {
+            let Some(standing) = standing_at(program, certificate, slot, number, &mut self.room)
+            else {
+                break;
+            };
+            self.tell_shape(out, &standing, slot, condition);
+            if let Some(seen) = &standing.label {
+                self.tell_in_label(out, program, certificate, &standing, seen, condition);
             }
         }
     }
 
-    /// Tells a flaw of a certificate's beginning.
+    /// Tells a flaw of a certificate's beginning, if it has it.
     fn tell_at_start<W: Tell>(
         &self,
         out: &mut W,
         certificate: &Index,
-        slot: u32,
+        seen: &SeenStart,
         condition: Condition,
     ) {
-        self.begin(out, condition, slot, None);
-        tell_start(out, certificate, condition);
-        write!(out, "\n");
+        if start_flaws(seen).has(condition) {
+            self.begin(out, condition, 0, None);
+            tell_start(out, certificate, seen, condition);
+            write!(out, "\n");
+        }
     }
 
     /// Tells all that is wrong at a slot, if something is, and first of the slots that were passed over.
@@ -270,8 +253,8 @@ impl<'t> Report<'t> {
             let Some(condition) = Condition::numbered(number) else {
                 continue;
             };
-            if found.start.has(condition) {
-                self.tell_at_start(out, certificate, slot, condition);
+            if let Some(seen) = &found.start {
+                self.tell_at_start(out, certificate, seen, condition);
             }
             if let Some(sight) = sight {
                 if found.visit.has(condition) {
@@ -281,28 +264,6 @@ impl<'t> Report<'t> {
             if found.standing.has(condition) {
                 self.tell_standing(out, program, certificate, slot, condition);
             }
-        }
-    }
-
-    /// What is wrong at a slot.
-    fn found_at<'a, C: Code>(
-        &mut self,
-        program: &C,
-        certificate: &Index,
-        slot: u32,
-        sight: Option<&Sight<'a>>,
-    ) -> Found {
-        Found {
-            start: if slot == 0 {
-                start_flaws(certificate)
-            } else {
-                Flaws::NONE
-            },
-            visit: match sight {
-                Some(sight) => sight.flaws,
-                None => Flaws::NONE,
-            },
-            standing: standing_flaws(program, certificate, slot, &mut self.room),
         }
     }
 
@@ -353,14 +314,24 @@ impl<'t> Report<'t> {
     // ---- slots
 
     /// The lines of the functions and labels at a slot.
-    fn write_standing<W: Tell>(&mut self, out: &mut W, certificate: &Index, slot: u32) {
+    fn write_standing<W: Tell, C: Code>(
+        &mut self,
+        out: &mut W,
+        program: &C,
+        certificate: &Index,
+        slot: u32,
+    ) {
         let has_budgets = self.has_budgets();
-        for function in functions_about(certificate, slot) {
-            if function.first == slot {
-                write_function(out, function);
+        for number in 0..MAX_FUNCTIONS {
+            let Some(standing) = standing_at(program, certificate, slot, number, &mut self.room)
+            else {
+                break;
+            };
+            if standing.function.first == slot {
+                write_function(out, standing.function);
             }
-            if let Some(label) = label_in(function, slot) {
-                write_label(out, label, has_budgets, &mut self.room);
+            if let Some(seen) = &standing.label {
+                write_label(out, seen.label, has_budgets, &mut self.room);
             }
         }
     }
@@ -374,19 +345,25 @@ impl<'t> Report<'t> {
         slot: u32,
     ) {
         match self.view {
-            View::Listing => self.write_standing(out, certificate, slot),
-            View::Sketch(..) => return self.write_standing(out, certificate, slot),
+            View::Listing => self.write_standing(out, program, certificate, slot),
+            View::Sketch(..) => return self.write_standing(out, program, certificate, slot),
             View::Glimpse(_) | View::Reason(..) => return,
             View::Slot(wanted) if wanted != slot => return,
             View::Slot(_) | View::List => {}
         }
-        let found = self.found_at(program, certificate, slot, None);
+        let found = Found::of(program, certificate, slot, None, &mut self.room);
         self.tell_found(out, program, certificate, slot, None, &found);
     }
 
     /// The lines of an instruction, with those of what stands at its slot.
-    fn write_lines<'a, W: Tell>(&mut self, out: &mut W, certificate: &Index, sight: &Sight<'a>) {
-        self.write_standing(out, certificate, sight.site.here.slot);
+    fn write_lines<'a, W: Tell, C: Code>(
+        &mut self,
+        out: &mut W,
+        program: &C,
+        certificate: &Index,
+        sight: &Sight<'a>,
+    ) {
+        self.write_standing(out, program, certificate, sight.site.here.slot);
         if sight.site.here.label.is_some() {
             self.shown.copy_from(&sight.before);
         }
@@ -397,15 +374,14 @@ impl<'t> Report<'t> {
 
     /// Notes why no state goes on, if none does.
     fn note_silence<'a>(&mut self, sight: &Sight<'a>) {
-        match sight.outcome {
-            Outcome::Refused(_) => self.silence = Silence::Refused(sight.site.here.slot),
-            Outcome::Unreached if !sight.is_never => self.silence = Silence::Refused(
-                sight.site.here.slot,
-            ),
+        let slot = sight.site.here.slot;
+        match &sight.outcome {
+            Outcome::Refused(_) => self.silence = Silence::Refused(slot),
+            Outcome::Unreached if !sight.is_never => self.silence = Silence::Refused(slot),
             Outcome::Unreached => {}
-            Outcome::Done | Outcome::Dead => {
-                if !sight.goes_on {
-                    self.silence = Silence::Ends(sight.site.here.slot);
+            Outcome::Done(seen) => {
+                if !seen.next.is_live {
+                    self.silence = Silence::Ends(slot);
                 }
             }
         }
@@ -420,7 +396,7 @@ impl<'t> Report<'t> {
         sight: &Sight<'a>,
     ) {
         let slot = sight.site.here.slot;
-        let found = self.found_at(program, certificate, slot, Some(sight));
+        let found = Found::of(program, certificate, slot, Some(sight), &mut self.room);
         if found.is_quiet(sight) && self.view != View::Slot(slot) {
             if self.view == View::List {
                 self.pass_over(out, slot);
@@ -461,7 +437,7 @@ impl<'t> Report<'t> {
     ) {
         match self.view {
             View::Listing => {
-                self.write_lines(out, certificate, sight);
+                self.write_lines(out, program, certificate, sight);
                 self.tell_flaws(out, program, certificate, sight);
             }
             View::List => self.tell_flaws(out, program, certificate, sight),
@@ -471,10 +447,10 @@ impl<'t> Report<'t> {
                 self.tell_flaws(out, program, certificate, sight);
             }
             View::Sketch(Some(flaw)) if flaw.slot == sight.site.here.slot => {
-                self.write_lines(out, certificate, sight);
+                self.write_lines(out, program, certificate, sight);
                 self.tell_one(out, program, certificate, sight, flaw.condition);
             }
-            View::Sketch(..) => self.write_lines(out, certificate, sight),
+            View::Sketch(..) => self.write_lines(out, program, certificate, sight),
             View::Reason(flaw) if flaw.slot == sight.site.here.slot => {
                 self.tell_one(out, program, certificate, sight, flaw.condition);
             }

@@ -2,21 +2,19 @@
 
 use crate::control::Control;
 use crate::flaws::Flaws;
-use bpf_check::{Here, Index, JudgedEdge, Seen, Site, Spot};
+use bpf_check::{Here, Index, JudgedEdge, Seen, Site, Spot, WayOut};
 use bpf_insn::Insn;
 use bpf_state::{Condition, State, StateFault, Work};
 
 /// What became of an instruction.
 #[derive(Clone, Copy)]
-pub enum Outcome {
+pub enum Outcome<'a> {
     /// No state reaches it.
     Unreached,
     /// It isn't allowed in its state.
     Refused(StateFault),
-    /// The state after it has no member.
-    Dead,
-    /// It is done.
-    Done,
+    /// It is done, with what the checker saw.
+    Done(Seen<'a>),
 }
 
 /// What the pass sees at an instruction.
@@ -28,15 +26,9 @@ pub struct Sight<'a> {
     pub site: Site<'a>,
     /// The last label and the cost since, in front of the instruction.
     pub here: Option<Here<'a>>,
-    pub outcome: Outcome,
-    /// The cost since the last label, this instruction counted; None where a callee's isn't known.
-    pub cost: Option<i128>,
-    /// What is left of the last label's budget behind an EXIT.
-    pub left_at_exit: Option<i128>,
-    pub jump: Option<JudgedEdge<'a>>,
-    pub next: Option<JudgedEdge<'a>>,
-    /// Whether a state goes on to the next instruction.
-    pub goes_on: bool,
+    pub outcome: Outcome<'a>,
+    /// How it leads out of its function, if it does.
+    pub way_out: Option<WayOut>,
     pub flaws: Flaws,
     /// Whether no state reaches the instruction, and none is missing for another flaw.
     pub is_never: bool,
@@ -57,11 +49,7 @@ impl<'a> Sight<'a> {
             site: Site::of(certificate, Spot::of(certificate, 0), Insn::Exit),
             here: None,
             outcome: Outcome::Unreached,
-            cost: None,
-            left_at_exit: None,
-            jump: None,
-            next: None,
-            goes_on: false,
+            way_out: None,
             flaws: Flaws::NONE,
             is_never: false,
             before: State::blank(),
@@ -76,11 +64,7 @@ impl<'a> Sight<'a> {
         self.site = site;
         self.here = None;
         self.outcome = Outcome::Unreached;
-        self.cost = None;
-        self.left_at_exit = None;
-        self.jump = None;
-        self.next = None;
-        self.goes_on = false;
+        self.way_out = None;
         self.flaws = Flaws::NONE;
         self.is_never = false;
     }
@@ -92,18 +76,43 @@ impl<'a> Sight<'a> {
             .add_if(judged.not_entailed, Condition::NotEntailed);
         self.flaws.add_if(judged.over_budget, Condition::OverBudget);
         self.flaws.add_if(judged.past_end, Condition::FallsOff);
-        self.cost = seen.cost;
-        if !seen.is_alive {
-            self.outcome = Outcome::Dead;
-            return;
+        self.outcome = Outcome::Done(seen);
+    }
+
+    /// What the checker saw, where the instruction is done.
+    pub fn seen(&self) -> Option<&Seen<'a>> {
+        match &self.outcome {
+            Outcome::Done(seen) => Some(seen),
+            Outcome::Unreached | Outcome::Refused(_) => None,
         }
-        self.outcome = Outcome::Done;
-        self.left_at_exit = seen.left_at_exit;
-        self.jump = seen.jump;
-        self.goes_on = seen.next.is_live;
-        // Of the edges to the next instruction, a dead one is shown beside a jump alone.
-        if seen.next.is_live || self.control() == Control::Test {
-            self.next = Some(seen.next);
+    }
+
+    /// The cost since the last label, this instruction counted, if it is known.
+    pub fn cost(&self) -> Option<i128> {
+        self.seen()?.cost
+    }
+
+    /// The edge of a jump.
+    pub fn jump(&self) -> Option<JudgedEdge<'a>> {
+        self.seen()?.jump
+    }
+
+    /// The edge to the next instruction. A dead one is shown beside the edge of a conditional jump alone.
+    pub fn next(&self) -> Option<JudgedEdge<'a>> {
+        let seen = self.seen()?;
+        let is_beside = seen.jump.is_some() && self.site.insn.goes_on();
+        if seen.next.is_live || is_beside {
+            Some(seen.next)
+        } else {
+            None
+        }
+    }
+
+    /// Whether a state goes on to the next instruction.
+    pub fn goes_on(&self) -> bool {
+        match self.seen() {
+            Some(seen) => seen.next.is_live,
+            None => false,
         }
     }
 

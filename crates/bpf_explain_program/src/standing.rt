@@ -1,155 +1,108 @@
-//! What is wrong with the labels and functions that stand at a slot, and with the start.
-
-ghost use Rattle.std.specs.Prelude.{◌≡◌, option_copied};
-ghost use Rattle.bpf_state.specs.State.{tightened};
+//! Which conditions fail at the labels and functions that stand at a slot, and at the start, by what the checker sees of them.
 
 use crate::flaws::Flaws;
-use bpf_cert::{Function, Label, Term, is_limited_term};
-use bpf_check::{
-    Index, begins_elsewhere, function_at, is_bad_term, is_first_label, is_outside, label_at,
-    starts_over_budget,
-};
+use crate::sight::Sight;
+use bpf_cert::MAX_FUNCTIONS;
+use bpf_check::{Index, SeenLabel, SeenStart, Standing, see_start, standing_at};
 use bpf_insn::Code;
-use bpf_state::{Condition, State};
-use std::slice;
+use bpf_state::{Condition, State, Work};
 
-/// What is wrong with a label.
-#[derive(Clone, Copy)]
-pub struct LabelFlaws {
-    pub flaws: Flaws,
-    /// The first term that counts no number, or one that may be above its limit.
-    pub bad: Option<Term>,
-}
-
-/// The functions of which a label or the beginning may stand at a slot: the one that the slot lies in, where each label lies in
-/// its function.
-pub fn functions_about<'a>(certificate: &'a Index, slot: u32) -> &'a [Function] {
-    match function_at(certificate, slot) {
-        Some(function) if certificate.is_in_place() => slice::from_ref(function),
-        _ => certificate.functions(),
-    }
-}
-
-/// Whether a slot lies between the first label and the last.
-fn is_among(labels: &[Label], slot: u32) -> bool {
-    match (labels.first(), labels.last()) {
-        (Some(first), Some(last)) => first.slot <= slot && slot <= last.slot,
-        _ => false,
-    }
-}
-
-/// The label of a function at a slot.
-pub fn label_in(function: &Function, slot: u32) -> Option<&Label> {
-    let mut rest = function.labels.as_slice();
-    // Most functions' labels lie all below the slot or all above it.
-    if !is_among(rest, slot) {
-        return None;
-    }
-    for _ in 0..32 {
-        if rest.len() <= 1 {
-            break;
-        }
-        let (front, back) = rest.split_at(rest.len() / 2);
-        rest = match back.first() {
-            Some(label) if label.slot <= slot => back,
-            _ => front,
-        };
-    }
-    match rest.first() {
-        Some(label) if label.slot == slot => Some(label),
-        _ => None,
-    }
-}
-
-/// The first term within limits that counts no number, or one that may be above its limit.
-fn bad_term(label: &Label, tight: Option<&State>) -> Option<Term>
-    requires { option_copied tight ≡ tightened label.now.state }
-{
-    for term in label.budget.terms.as_slice() {
-        if is_limited_term(term) && is_bad_term(label, tight, term) {
-            return Some(*term);
-        }
-    }
-    None
-}
-
-/// What is wrong with a label whose state, tightened, is known.
-fn flaws_with<C: Code>(
-    program: &C,
-    certificate: &Index,
-    function: &Function,
-    label: &Label,
-    tight: Option<&State>,
-) -> LabelFlaws
-    requires { option_copied tight ≡ tightened label.now.state }
-{
-    let bad = bad_term(label, tight);
-    let is_misshapen = is_outside(certificate, function, label) || tight.is_none();
+/// Which conditions fail at a label.
+pub fn label_flaws<'a>(seen: &SeenLabel<'a>) -> Flaws {
     let mut flaws = Flaws::NONE;
-    flaws.add_if(
-        program.insn(label.slot).is_none(),
-        Condition::MisplacedLabel,
-    );
-    flaws.add_if(bad.is_some(), Condition::OverBudget);
-    flaws.add_if(is_misshapen, Condition::Misshapen);
-    LabelFlaws { flaws, bad }
-}
-
-/// What is wrong with a label of a function, with room for its state.
-pub fn label_flaws<C: Code>(
-    program: &C,
-    certificate: &Index,
-    function: &Function,
-    label: &Label,
-    room: &mut State,
-) -> LabelFlaws {
-    label.state.put_into(room);
-    if room.tighten() {
-        flaws_with(program, certificate, function, label, Some(room))
-    } else {
-        flaws_with(program, certificate, function, label, None)
-    }
-}
-
-/// Whether a function begins at a slot without a label there.
-pub fn lacks_first_label(function: &Function, slot: u32) -> bool {
-    function.first == slot && !is_first_label(function)
-}
-
-/// What is wrong with the labels and functions at a slot.
-pub fn standing_flaws<C: Code>(
-    program: &C,
-    certificate: &Index,
-    slot: u32,
-    room: &mut State,
-) -> Flaws {
-    let mut flaws = Flaws::NONE;
-    for function in functions_about(certificate, slot) {
-        flaws.add_if(lacks_first_label(function, slot), Condition::Misshapen);
-        if let Some(label) = label_in(function, slot) {
-            let found = label_flaws(program, certificate, function, label, room);
-            flaws.add_all(&found.flaws);
-        }
-    }
+    flaws.add_if(seen.is_misplaced, Condition::MisplacedLabel);
+    flaws.add_if(seen.bad.is_some(), Condition::OverBudget);
+    flaws.add_if(seen.is_outside || seen.is_empty, Condition::Misshapen);
     flaws
 }
 
-/// What is wrong at the start.
-pub fn start_flaws(certificate: &Index) -> Flaws {
-    certificate.valid();
-    let start = State::start(certificate.least(), certificate.most());
-    let is_outside = match label_at(certificate, 0) {
-        Some(label) => !start.entails_entries(&label.state),
-        None => false,
+/// Which conditions fail at what a function has at a slot.
+fn flaws_of<'a>(standing: &Standing<'a>) -> Flaws {
+    let mut flaws = match &standing.label {
+        Some(seen) => label_flaws(seen),
+        None => Flaws::NONE,
     };
-    let mut flaws = Flaws::NONE;
-    let is_elsewhere = begins_elsewhere(certificate.functions());
-    flaws.add_if(is_elsewhere || is_outside, Condition::Misshapen);
-    flaws.add_if(
-        starts_over_budget(certificate, &start),
-        Condition::OverBudget,
-    );
+    flaws.add_if(standing.lacks_label, Condition::Misshapen);
     flaws
+}
+
+/// Which conditions fail at what stands at a slot, with room for a label's state.
+fn standing_flaws<C: Code>(program: &C, certificate: &Index, slot: u32, room: &mut State) -> Flaws {
+    let mut flaws = Flaws::NONE;
+    for number in 0..MAX_FUNCTIONS {
+        let Some(standing) = standing_at(program, certificate, slot, number, room) else {
+            break;
+        };
+        flaws.add_all(&flaws_of(&standing));
+    }
+    flaws
+}
+
+/// Which conditions fail at the start.
+pub fn start_flaws(seen: &SeenStart) -> Flaws {
+    let mut flaws = Flaws::NONE;
+    flaws.add_if(seen.is_elsewhere || seen.is_outside, Condition::Misshapen);
+    flaws.add_if(seen.over.is_some(), Condition::OverBudget);
+    flaws
+}
+
+/// What is wrong at a slot.
+#[derive(Clone, Copy)]
+pub struct Found {
+    /// What is seen of the start, at slot 0.
+    pub start: Option<SeenStart>,
+    pub visit: Flaws,
+    pub standing: Flaws,
+}
+
+impl Found {
+    /// What is wrong at a slot, and with the instruction there, with room for a state.
+    pub fn of<'a, C: Code>(
+        program: &C,
+        certificate: &Index,
+        slot: u32,
+        sight: Option<&Sight<'a>>,
+        room: &mut State,
+    ) -> Found {
+        let start = if slot == 0 {
+            Some(see_start(certificate, room, &mut Work::new()))
+        } else {
+            None
+        };
+        let visit = match sight {
+            Some(sight) => sight.flaws,
+            None => Flaws::NONE,
+        };
+        Found {
+            start,
+            visit,
+            standing: standing_flaws(program, certificate, slot, room),
+        }
+    }
+
+    /// What is wrong at the start.
+    fn at_start(&self) -> Flaws {
+        match &self.start {
+            Some(seen) => start_flaws(seen),
+            None => Flaws::NONE,
+        }
+    }
+
+    /// All that is wrong.
+    pub fn all(&self) -> Flaws {
+        let mut flaws = self.at_start();
+        flaws.add_all(&self.visit);
+        flaws.add_all(&self.standing);
+        flaws
+    }
+
+    /// Whether the one flaw is that no state reaches the instruction.
+    pub fn is_quiet<'a>(&self, sight: &Sight<'a>) -> bool {
+        let mut silent = Flaws::NONE;
+        silent.add_if(true, Condition::FallsOff);
+        let is_alone = self.at_start().is_empty() && self.standing.is_empty();
+        sight.is_never && is_alone && self.visit == silent
+    }
 }
 
 /// The last slot at which a label or function of a certificate stands.

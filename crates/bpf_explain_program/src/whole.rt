@@ -55,10 +55,10 @@ fn write_edge<'a, W: Tell>(
 /// The states behind an instruction, on each of its edges.
 fn write_behind<'a, W: Tell>(out: &mut W, label: &Label, sight: &Sight<'a>) {
     let control = sight.control();
-    if let Some(edge) = sight.jump {
+    if let Some(edge) = sight.jump() {
         write_edge(out, label, edge, sight.jump_state(), control.if_so());
     }
-    if let Some(edge) = sight.next {
+    if let Some(edge) = sight.next() {
         write_edge(out, label, edge, &sight.behind, control.if_not());
     }
 }
@@ -78,9 +78,9 @@ fn write_before<'a, W: Tell>(out: &mut W, here: Here<'a>, state: &State) {
 
 /// What becomes of a state behind an instruction.
 fn write_outcome<'a, W: Tell>(out: &mut W, label: &Label, sight: &Sight<'a>) {
-    match sight.outcome {
-        Outcome::Done => write_behind(out, label, sight),
-        Outcome::Dead => write!(out, "no run goes on from here\n"),
+    match &sight.outcome {
+        Outcome::Done(seen) if seen.is_alive => write_behind(out, label, sight),
+        Outcome::Done(_) => write!(out, "no run goes on from here\n"),
         Outcome::Refused(_) | Outcome::Unreached => {}
     }
 }

@@ -48,7 +48,7 @@ pub fn tell<'a, W: Tell, C: Code>(
         Condition::OverBudget => budget::tell_unpaid(out, sight),
         Condition::NoDeeper => shape::tell_depth(out, sight),
         Condition::FallsOff => shape::tell_end(out),
-        Condition::LeavesFunction => shape::tell_leaving(out, program, sight),
+        Condition::LeavesFunction => shape::tell_leaving(out, sight),
         // These aren't found at instructions.
         Condition::MisplacedLabel | Condition::Misshapen => {}
     }

@@ -45,7 +45,10 @@ impl fmt::Display for Refused {
                 let failed = condition.number();
                 write!(f, "no certificate: I{number} (C{failed}) at slot {slot}")
             }
-            InferError::Memory => f.write_str("no certificate: I5, memory ran out"),
+            InferError::Memory => {
+                let text = self.0.text();
+                write!(f, "no certificate: I{number}, {text}")
+            }
             _ => write!(f, "no certificate: I{number} at slot {slot}"),
         }
     }

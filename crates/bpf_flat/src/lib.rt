@@ -6,6 +6,7 @@ mod frames;
 mod machine;
 mod runs;
 mod seldom;
+mod standing;
 mod step;
 
 pub use runs::run;

@@ -14,7 +14,7 @@ use Rattle.bpf_semantics.specs.declared.value.Value.{Value}
 use Rattle.bpf_semantics.specs.declared.value.Value.TheVariants.{Number, Pointer}
 use Rattle.bpf_semantics.specs.declared.value.Region.TheVariants.{Frame as FrameAt}
 use Rattle.bpf_follows.specs.declared.notes.Kind.{Kind}
-use Rattle.bpf_follows.specs.declared.notes.Kind.TheVariants.{Nothing, Unset, Same, Number as NumberKind, Offset, Fixed, Start, Base, Moved, Address, Constant, Counter, Turn, Alone}
+use Rattle.bpf_follows.specs.declared.notes.Kind.TheVariants.{Nothing, Unset, Same, Number as NumberKind, Offset, Fixed, Within, Start, Base, Moved, Address, Constant, Counter, Turn, Alone, Both, Saved}
 use Rattle.bpf_follows.specs.declared.notes.Place.{Place}
 use Rattle.bpf_follows.specs.Relation.{Kinds, Gives, weaker, kinds_of, EachPair, FitsKind, FitsSlot, FrameFollows, FrameWaits, register_in, is_of_other, is_alone}
 use Rattle.bpf_follows.specs.Extras.{is_same}
@@ -56,12 +56,15 @@ left_eleven v xs h = six xs h (λ xs. length (v ∷ drop 1 (saved xs)) ≡ 11) (
 held_by_call : (off : ℤ) (kind : Kind) → held (CallLocal off) kind ≡ handed kind
 held_by_call off (Moved of by) = refl
 held_by_call off (Address of by) = refl
+held_by_call off (Saved of) = refl
+held_by_call off Both = refl
 held_by_call off Nothing = refl
 held_by_call off Unset = refl
 held_by_call off Same = refl
 held_by_call off (NumberKind least most) = refl
 held_by_call off Offset = refl
 held_by_call off (Fixed offset) = refl
+held_by_call off (Within least most) = refl
 held_by_call off Start = refl
 held_by_call off Base = refl
 held_by_call off (Constant value) = refl
@@ -72,12 +75,15 @@ held_by_call off Alone = refl
 own_held : (off : ℤ) (kind : Kind) → is_of_other (held (CallLocal off) kind) ≡ false
 own_held off (Moved of by) = refl
 own_held off (Address of by) = refl
+own_held off (Saved of) = refl
+own_held off Both = refl
 own_held off Nothing = refl
 own_held off Unset = refl
 own_held off Same = refl
 own_held off (NumberKind least most) = refl
 own_held off Offset = refl
 own_held off (Fixed offset) = refl
+own_held off (Within least most) = refl
 own_held off Start = refl
 own_held off Base = refl
 own_held off (Constant value) = refl
@@ -93,12 +99,15 @@ module _ (ends : Order) (notes : List (Option Place)) (turns : ℕ) (passed : �
   handed_fits : (old more : ℕ → Option Value) (r : ℕ) (kind : Kind) (new : Option Value) → more r ≡ old r → FitsKind turns passed old r kind new → FitsKind turns passed more r (handed kind) new
   handed_fits old more r (Moved of by) new e f = tt
   handed_fits old more r (Address of by) new e f = tt
+  handed_fits old more r (Saved of) new e f = tt
+  handed_fits old more r Both new e f = fits_moved turns passed old more r r Both new refl e f
   handed_fits old more r Nothing new e f = tt
   handed_fits old more r Unset new e f = fits_moved turns passed old more r r Unset new refl e f
   handed_fits old more r Same new e f = fits_moved turns passed old more r r Same new refl e f
   handed_fits old more r (NumberKind least most) new e f = fits_moved turns passed old more r r (NumberKind least most) new refl e f
   handed_fits old more r Offset new e f = fits_moved turns passed old more r r Offset new refl e f
   handed_fits old more r (Fixed offset) new e f = fits_moved turns passed old more r r (Fixed offset) new refl e f
+  handed_fits old more r (Within least most) new e f = fits_moved turns passed old more r r (Within least most) new refl e f
   handed_fits old more r Start new e f = fits_moved turns passed old more r r Start new refl e f
   handed_fits old more r Base new e f = f
   handed_fits old more r (Constant value) new e f = f
@@ -187,10 +196,14 @@ module _ (ends : Order) (notes : List (Option Place)) (turns : ℕ) (passed : �
 
   own_weaker : (r : ℕ) (have want : Kind) → weaker turns r have want ≡ true → is_of_other want ≡ false
   own_weaker r (Fixed offset) Offset e = refl
+  own_weaker r (Fixed offset) (Within low high) e = refl
+  own_weaker r (Within least most) (Within low high) e = refl
+  own_weaker r (Within least most) Offset e = refl
   own_weaker r Start Same e = refl
   own_weaker r Start Base e = refl
   own_weaker r (Moved of by) Offset e = refl
   own_weaker r (Constant value) (Counter head) e = refl
+  own_weaker r (NumberKind least most) Both e = refl
   own_weaker r (NumberKind least most) (NumberKind low high) e = refl
   own_weaker r (NumberKind least most) Same e = refl
   own_weaker r Same Alone e = refl

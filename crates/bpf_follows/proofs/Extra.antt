@@ -1,7 +1,7 @@
 -- Extra instructions of the new program: it does them alone, and what they make of registers is as is said.
-use Rattle.std.proofs.Common.{◌≡◌, ℕ, zero, suc, ◌+◌, ◌-◌, ◌<◌, ◌≤◌, ◌⊎◌, inl, inr, ◌==◌, ◌%◌, ◌^◌, Bool, true, false, cond, List, [], ◌∷◌, Option, Some, None, length, get_or, set, refl, sym, ap, ap₂, ◌∙◌, subst, arith}
-use Rattle.std.specs.Prelude.{◌&&◌, nat_le, int_le, ℤ, pos, negsuc, ◌+ℤ◌, ◌-ℤ◌, ◌≤ℤ◌, nat_lt, option_and_then, option_map, if◌then◌else◌}
-use Rattle.std.specs.Int.{int_min, int_max}
+use Rattle.std.proofs.Common.{◌≡◌, ℕ, zero, suc, ◌+◌, ◌-◌, ◌<◌, ◌≤◌, ◌⊎◌, inl, inr, ◌==◌, ◌%◌, ◌^◌, Bool, true, false, cond, List, [], ◌∷◌, Option, Some, None, length, get_or, set, max, refl, sym, ap, ap₂, ◌∙◌, subst, arith}
+use Rattle.std.specs.Prelude.{◌&&◌, nat_le, int_le, ℤ, pos, negsuc, ◌+ℤ◌, ◌-ℤ◌, ◌≤ℤ◌, FitsSigned, nat_lt, option_and_then, option_map, if◌then◌else◌}
+use Rattle.std.specs.Int.{int_min, int_max, w64}
 use Rattle.std.specs.Option.{option_map_or, option_or}
 use Rattle.std.specs.Ordering.{int_eq}
 use Rattle.std.proofs.lemmas.Option.{none-some, same_Some, option_and_then_some}
@@ -31,13 +31,13 @@ use Rattle.bpf_semantics.specs.declared.value.Value.TheVariants.{Number, Pointer
 use Rattle.bpf_semantics.specs.declared.value.Region.{Region}
 use Rattle.bpf_semantics.specs.declared.value.Region.TheVariants.{Context}
 use Rattle.bpf_follows.specs.declared.notes.Kind.{Kind}
-use Rattle.bpf_follows.specs.declared.notes.Kind.TheVariants.{Nothing, Unset, Same, Number as NumberKind, Offset, Fixed, Start, Base, Moved, Address, Constant, Counter, Turn, Alone}
+use Rattle.bpf_follows.specs.declared.notes.Kind.TheVariants.{Nothing, Unset, Same, Number as NumberKind, Offset, Fixed, Within, Start, Base, Moved, Address, Constant, Counter, Turn, Alone, Both, Saved}
 use Rattle.bpf_follows.specs.declared.notes.Place.{Place}
 use Rattle.bpf_follows.specs.declared.site.Span.{Span}
 use Rattle.bpf_follows.specs.declared.site.Range.{Range}
 use Rattle.bpf_follows.specs.declared.site.Front.{Front}
-use Rattle.bpf_follows.specs.Relation.{kind_in, IsKept, HasOffset, as_number, as_pointer, CountsDown, IsOneNumber, FitsKind, FrameFits, FrameWaits, FitsSlot, register_in, settled, known}
-use Rattle.bpf_follows.specs.Extras.{constant_kind, kind_of, offset_in, copied, is_taken, shifted, added, is_base, address, put_kind, put_by, made, range_of, offset_range, is_near, clipped, bounds_range, fixed_in, added_to, added_range, range_in, is_most, is_least, passes}
+use Rattle.bpf_follows.specs.Relation.{kind_in, IsKept, HasOffset, as_number, as_pointer, CountsDown, IsOneNumber, IsWithin, FitsKind, FrameFits, FrameWaits, FitsSlot, register_in, settled, known}
+use Rattle.bpf_follows.specs.Extras.{constant_kind, kind_of, offset_in, copied, is_taken, shifted, added, is_base, address, put_kind, put_by, made, range_of, offset_range, is_near, clipped, bounds_range, fixed_in, added_to, added_range, range_in, is_most, is_least, passes, at_most, at_least, passed_by}
 use Rattle.bpf_follows.proofs.Lists.{bind, unmapped, cond_first, pairs_weaker, Cells}
 use Rattle.bpf_follows.proofs.Offsets.{moved_number, moved_back, pointer_there}
 use Rattle.bpf_follows.proofs.Onward.{room, placed, LieIn}
@@ -81,6 +81,10 @@ same_eqb n = elim (cases_Bool (n == n)) [ inl e ↦ e | inr e ↦ absurd (eqb-fa
 -- a register's number, the offset of a pointer of the old machine, moved
 offset_has : (turns : ℕ) (passed : ℕ → ℕ) (old : ℕ → Option Value) (r : Reg) (kind : Kind) (m : Reg × ℤ) (new : Option Value) → offset_in r kind ≡ Some m → FitsKind turns passed old (register_number r) kind new → HasOffset m.1 as_number (old (register_number m.0)) new
 offset_has turns passed old r Offset m new e f = let is : (r, pos 0) ≡ m = same_Some _ _ e in subst (λ (m : Reg × ℤ). HasOffset m.1 as_number (old (register_number m.0)) new) is f
+offset_has turns passed old r (Within least most) m new e f =
+    let is : (r, pos 0) ≡ m = same_Some _ _ e in
+    subst (λ (m : Reg × ℤ). HasOffset m.1 as_number (old (register_number m.0)) new) is
+    (record { offset = f.offset; fits = f.fits; old_is = f.old_is; new_is = f.new_is ∙ ap (λ z. Some (as_number z)) (plus_zero f.offset) })
 offset_has turns passed old r (Fixed offset) m new e f =
     let is : (r, pos 0) ≡ m = same_Some _ _ e in
     subst (λ (m : Reg × ℤ). HasOffset m.1 as_number (old (register_number m.0)) new) is
@@ -129,6 +133,9 @@ module _ (turns : ℕ) (passed : ℕ → ℕ) (old : ℕ → Option Value) where
   copied_fits w r Start made new e f = subst (λ made. Writes turns passed old w made new) (same_Some _ _ e) (record { value = Pointer Context (pos 0); is = f.1; fits = refl })
   copied_fits w r Base made new e f = subst (λ made. Writes turns passed old w made new) (same_Some _ _ e) (record { value = Pointer Context (pos 0); is = f; fits = refl })
   copied_fits w r Offset made new e f = subst (λ made. Writes turns passed old w made new) (same_Some _ _ e) (record { value = as_number (f.offset +ℤ pos 0); is = f.new_is; fits = record { offset = f.offset; fits = f.fits; old_is = f.old_is; new_is = refl } })
+  copied_fits w r (Within least most) made new e f =
+      subst (λ made. Writes turns passed old w made new) (same_Some _ _ e)
+      (record { value = as_number f.offset; is = f.new_is; fits = record { offset = f.offset; fits = f.fits; old_is = f.old_is; new_is = ap (λ z. Some (as_number z)) (plus_zero f.offset) } })
   copied_fits w r (Fixed offset) made new e f =
       subst (λ made. Writes turns passed old w made new) (same_Some _ _ e)
       (record { value = as_number offset; is = f.2; fits = record { offset = offset; fits = f.0; old_is = f.1; new_is = ap (λ z. Some (as_number z)) (plus_zero offset) } })
@@ -178,6 +185,7 @@ module _ (turns : ℕ) (passed : ℕ → ℕ) (old : ℕ → Option Value) where
   added_fits : (w : ℕ) (front : Option Front) (s : State) (r : Reg) (kind made : Kind) (new : Option Value) (imm : ℤ) → Facts passed turns front s → added front r kind imm ≡ Some made → FitsKind turns passed old (register_number r) kind new → Writes turns passed old w made (alu_result W64 Add new (Number (extended imm)))
   added_fits w front s r (Counter head) made new imm facts e f = taken_fits w front s head made new imm facts e f
   added_fits w front s r Offset made new imm facts e f = shifted_fits w r Offset made new imm e f
+  added_fits w front s r (Within least most) made new imm facts e f = shifted_fits w r (Within least most) made new imm e f
   added_fits w front s r (Fixed offset) made new imm facts e f = shifted_fits w r (Fixed offset) made new imm e f
   added_fits w front s r (Moved of by) made new imm facts e f = shifted_fits w r (Moved of by) made new imm e f
   added_fits w front s r kind made new imm facts e f = absurd (none-some _ e)
@@ -476,36 +484,129 @@ module _ (ends : Order) (notes : List (Option Place)) (turns : ℕ) (passed : �
           (clipped_in least most found (register s r) (register t r) (added_in_range front kinds s t r found facts b (λ v ev. f.new_is ∙ (sym f.old_is ∙ ev)) eo) f)
       by_added None eo e = bounds_in least most range (register s r) (register t r) f e
 
+  -- an offset between bounds is a number between them
+  within_number : (least most : ℕ) (old new : Option Value) → IsWithin least most old new → IsOneNumber least most new new
+  within_number least most old new f =
+      let low = f.low in
+      let high = f.high in
+      let n = natural f.offset (omega (arith, ints)) in
+      let fits = subst (λ z. FitsSigned w64 z) n.1 f.fits in
+      let small = fits.sfits in
+      let is : new ≡ Some (Number (n.0 % addresses)) = f.new_is ∙ ap (λ z. Some (as_number z)) n.1 in
+      let n_is : f.offset ≡ pos n.0 = n.1 in
+      let same : n.0 ≡ n.0 % addresses = omega (arith, ints) in
+      let above : least ≤ n.0 = omega (arith, ints) in
+      let below : n.0 ≤ most = omega (arith, ints) in
+      record { number = n.0 % addresses; low = omega arith; high = omega arith; old_is = is; new_is = is }
+
+  within_in_range : (front : Front) (s t : State) (r : Reg) (least most : ℕ) (range : Range) → InFront passed turns front s → IsWithin least most (register_in s.top (register_number r)) (register t r)
+      → option_or (option_map (clipped least most) (offset_range front r (Within least most))) (bounds_range least most) ≡ Some range → IsIn range (register t r)
+  within_in_range front s t r least most range facts f e = by_offset (offset_range front r (Within least most)) refl e
+    where
+      g : IsOneNumber least most (register t r) (register t r)
+      g = within_number least most (register_in s.top (register_number r)) (register t r) f
+
+      by_offset : (o : Option Range) → offset_range front r (Within least most) ≡ o → option_or (option_map (clipped least most) o) (bounds_range least most) ≡ Some range → IsIn range (register t r)
+      by_offset (Some found) eo e =
+          subst (λ range. IsIn range (register t r)) (same_Some _ _ e)
+          (clipped_in least most found (register t r) (register t r) (offset_in_range front s t r (Within least most) found facts f eo) g)
+      by_offset None eo e = bounds_in least most range (register t r) (register t r) g e
+
   in_range : (front : Front) (kinds : List Kind) (s t : State) (r : Reg) (kind : Kind) (range : Range) → InFront passed turns front s → Between ends notes turns passed (kind_in kinds) s t → FitsKind turns passed (register_in s.top) (register_number r) kind (register t r)
       → range_in front kinds r kind ≡ Some range → IsIn range (register t r)
   in_range front kinds s t r Same range facts b f e = added_in_range front kinds s t r range facts b f e
+  in_range front kinds s t r Both range facts b f e = added_in_range front kinds s t r range facts b (λ v ev. f.new_is ∙ (sym f.old_is ∙ ev)) e
   in_range front kinds s t r (NumberKind least most) range facts b f e = number_in_range front kinds s t r least most range facts b f e
   in_range front kinds s t r Offset range facts b f e = offset_in_range front s t r Offset range facts f e
+  in_range front kinds s t r (Within least most) range facts b f e = within_in_range front s t r least most range facts f e
   in_range front kinds s t r (Fixed offset) range facts b f e = offset_in_range front s t r (Fixed offset) range facts f e
   in_range front kinds s t r (Moved of by) range facts b f e = offset_in_range front s t r (Moved of by) range facts f e
   in_range front kinds s t r kind range facts b f e = absurd (none-some _ e)
 
+  -- more is known of a register
+  narrowed : (kinds : List Kind) (kind : Kind) (s t : State) (dst : Reg) → Between ends notes turns passed (kind_in kinds) s t → FitsKind turns passed (register_in s.top) (register_number dst) kind (register t dst) → Between ends notes turns passed (kind_in (set kinds (register_number dst) kind)) s t
+  narrowed kinds kind s t dst b f = record {
+    top = record { eleven_old = b.top.eleven_old; eleven = b.top.eleven; registers = λ r lt. by_cases r lt (cases_Bool (r == register_number dst)); long = b.top.long; stack = b.top.stack; slots = slots_kept };
+    waiting = b.waiting;
+    context_is = b.context_is;
+  }
+    where
+      w : ℕ
+      w = register_number dst
+
+      slots_kept : (k : ℕ) → k < 64 → FitsSlot ends turns passed (register_in s.top) s.top.stack t.top.stack k (kind_in (set kinds (register_number dst) kind) (11 + k))
+      slots_kept k lt =
+          let below = register_below dst in
+          let kept : kind_in (set kinds (register_number dst) kind) (11 + k) ≡ kind_in kinds (11 + k) = get_or-set_other kinds (register_number dst) (11 + k) kind Nothing (λ same. absurd (omega arith)) in
+          subst (λ kind. FitsSlot ends turns passed (register_in s.top) s.top.stack t.top.stack k kind) (sym kept) (b.top.slots k lt)
+
+      there : FitsKind turns passed (register_in s.top) (register_number dst) (kind_in (set kinds (register_number dst) kind) (register_number dst)) (register t dst)
+      there = elim (kind_set kinds (register_number dst) kind) [
+        | inl e ↦ subst (λ kind. FitsKind turns passed (register_in s.top) (register_number dst) kind (register t dst)) (sym e) f
+        | inr e ↦ subst (λ kind. FitsKind turns passed (register_in s.top) (register_number dst) kind (register t dst)) (sym e) tt
+      ]
+
+      by_cases : (r : ℕ) → r < 11 → (r == register_number dst ≡ true) ⊎ (r == register_number dst ≡ false) → FitsKind turns passed (register_in s.top) r (kind_in (set kinds (register_number dst) kind) r) (register_in t.top r)
+      by_cases r lt (inl e) =
+          let same : r ≡ register_number dst = eqb-true r (register_number dst) e in
+          subst (λ r. FitsKind turns passed (register_in s.top) r (kind_in (set kinds (register_number dst) kind) r) (register_in t.top r)) (sym same) there
+      by_cases r lt (inr e) =
+          let kept : kind_in (set kinds (register_number dst) kind) r ≡ kind_in kinds r = get_or-set_other kinds (register_number dst) r kind Nothing (eqb-false r (register_number dst) e) in
+          subst (λ kind. FitsKind turns passed (register_in s.top) r kind (register_in t.top r)) (sym kept) (b.top.registers r lt)
+
+  most_fits : (kind : Kind) (n x : ℕ) (old : ℕ → Option Value) (r : ℕ) (new : Option Value) → new ≡ Some (Number x) → x ≤ n → FitsKind turns passed old r kind new → FitsKind turns passed old r (at_most n kind) new
+  most_fits (NumberKind least most) n x old r new is below f =
+      let same : f.number ≡ x = number_same (same_Some _ _ (sym f.new_is ∙ is)) in
+      let high = f.high in
+      record { number = f.number; low = f.low; high = omega arith; old_is = f.old_is; new_is = f.new_is }
+  most_fits kind n x old r new is below f = f
+
+  least_fits : (kind : Kind) (n x : ℕ) (old : ℕ → Option Value) (r : ℕ) (new : Option Value) → new ≡ Some (Number x) → n ≤ x → FitsKind turns passed old r kind new → FitsKind turns passed old r (at_least n kind) new
+  least_fits (NumberKind least most) n x old r new is above f = by_cases (nat_lt n (2 ^ 32))
+    where
+      by_cases : (b : Bool) → FitsKind turns passed old r (if b then NumberKind (max least n) most else NumberKind least most) new
+      by_cases true =
+          let same : f.number ≡ x = number_same (same_Some _ _ (sym f.new_is ∙ is)) in
+          let low = f.low in
+          record { number = f.number; low = omega arith; high = f.high; old_is = f.old_is; new_is = f.new_is }
+      by_cases false = f
+  least_fits kind n x old r new is above f = f
+
+  -- a jump that isn't taken, behind which more is known
+  guard_passes : (order : Order) (i : Insn) (kinds : List Kind) (kind : Kind) (dst : Reg) (s t : State) → Between ends notes turns passed (kind_in kinds) s t → does order i t ≡ Some (at_slot (t.top.slot + 1) t) → FitsKind turns passed (register_in s.top) (register_number dst) kind (register t dst)
+      → Goes1 order i (set kinds (register_number dst) kind) s t
+  guard_passes order i kinds kind dst s t b e f = record {
+    state = at_slot (t.top.slot + 1) t;
+    is = e;
+    at = refl;
+    between = moves (set kinds (register_number dst) kind) s t (t.top.slot + 1) (narrowed kinds kind s t dst b f);
+  }
+
   most_goes : (order : Order) (front : Front) (dst : Reg) (imm off : ℤ) (kinds : List Kind) (s t : State) → InFront passed turns front s → Between ends notes turns passed (kind_in kinds) s t
-      → option_map_or (is_most imm) (range_in front kinds dst (kind_of kinds dst)) false ≡ true → Goes1 order (JumpIf Gt W64 dst (Imm imm) off) kinds s t
+      → option_map_or (is_most imm) (range_in front kinds dst (kind_of kinds dst)) false ≡ true → Goes1 order (JumpIf Gt W64 dst (Imm imm) off) (passed_by kinds (JumpIf Gt W64 dst (Imm imm) off)) s t
   most_goes order front dst imm off kinds s t facts b e = by_range (range_in front kinds dst (kind_of kinds dst)) refl e
     where
-      by_range : (o : Option Range) → range_in front kinds dst (kind_of kinds dst) ≡ o → option_map_or (is_most imm) o false ≡ true → Goes1 order (JumpIf Gt W64 dst (Imm imm) off) kinds s t
+      by_range : (o : Option Range) → range_in front kinds dst (kind_of kinds dst) ≡ o → option_map_or (is_most imm) o false ≡ true → Goes1 order (JumpIf Gt W64 dst (Imm imm) off) (passed_by kinds (JumpIf Gt W64 dst (Imm imm) off)) s t
       by_range None eo e = absurd (false≢true e)
       by_range (Some range) eo e =
           let h = in_range front kinds s t dst (kind_of kinds dst) range facts b (fits_at kinds s t dst b) eo in
-          jump_passes order (JumpIf Gt W64 dst (Imm imm) off) kinds s t b (guard_does order t dst imm off (modulo h.at addresses) h.is (most_is imm range (register t dst) h e))
+          let below = most_is imm range (register t dst) h e in
+          guard_passes order (JumpIf Gt W64 dst (Imm imm) off) kinds (at_most (extended imm) (kind_of kinds dst)) dst s t b (guard_does order t dst imm off (modulo h.at addresses) h.is below)
+          (most_fits (kind_of kinds dst) (extended imm) (modulo h.at addresses) (register_in s.top) (register_number dst) (register t dst) h.is below (fits_at kinds s t dst b))
 
   least_goes : (order : Order) (front : Front) (dst : Reg) (imm off : ℤ) (kinds : List Kind) (s t : State) → InFront passed turns front s → Between ends notes turns passed (kind_in kinds) s t
-      → option_map_or (is_least imm) (range_in front kinds dst (kind_of kinds dst)) false ≡ true → Goes1 order (JumpIf Lt W64 dst (Imm imm) off) kinds s t
+      → option_map_or (is_least imm) (range_in front kinds dst (kind_of kinds dst)) false ≡ true → Goes1 order (JumpIf Lt W64 dst (Imm imm) off) (passed_by kinds (JumpIf Lt W64 dst (Imm imm) off)) s t
   least_goes order front dst imm off kinds s t facts b e = by_range (range_in front kinds dst (kind_of kinds dst)) refl e
     where
-      by_range : (o : Option Range) → range_in front kinds dst (kind_of kinds dst) ≡ o → option_map_or (is_least imm) o false ≡ true → Goes1 order (JumpIf Lt W64 dst (Imm imm) off) kinds s t
+      by_range : (o : Option Range) → range_in front kinds dst (kind_of kinds dst) ≡ o → option_map_or (is_least imm) o false ≡ true → Goes1 order (JumpIf Lt W64 dst (Imm imm) off) (passed_by kinds (JumpIf Lt W64 dst (Imm imm) off)) s t
       by_range None eo e = absurd (false≢true e)
       by_range (Some range) eo e =
           let h = in_range front kinds s t dst (kind_of kinds dst) range facts b (fits_at kinds s t dst b) eo in
-          jump_passes order (JumpIf Lt W64 dst (Imm imm) off) kinds s t b (low_does order t dst imm off (modulo h.at addresses) h.is (least_is imm range (register t dst) h e))
+          let above = least_is imm range (register t dst) h e in
+          guard_passes order (JumpIf Lt W64 dst (Imm imm) off) kinds (at_least (extended imm) (kind_of kinds dst)) dst s t b (low_does order t dst imm off (modulo h.at addresses) h.is above)
+          (least_fits (kind_of kinds dst) (extended imm) (modulo h.at addresses) (register_in s.top) (register_number dst) (register t dst) h.is above (fits_at kinds s t dst b))
 
-  pub passes_goes : (order : Order) (front : Option Front) (i : Insn) (kinds : List Kind) (s t : State) → Facts passed turns front s → Between ends notes turns passed (kind_in kinds) s t → passes front kinds i ≡ true → Goes1 order i kinds s t
+  pub passes_goes : (order : Order) (front : Option Front) (i : Insn) (kinds : List Kind) (s t : State) → Facts passed turns front s → Between ends notes turns passed (kind_in kinds) s t → passes front kinds i ≡ true → Goes1 order i (passed_by kinds i) s t
   passes_goes order (Some front) (JumpIf Eq W64 dst (Imm imm) off) kinds s t facts b e =
       let h = both_true (int_eq imm (pos 0)) (is_taken (Some front) (kind_of kinds dst)) e in
       let zero_is : imm ≡ pos 0 = (Decides-int_eq imm (pos 0)).0 h.0 in
@@ -533,10 +634,13 @@ kind_more turns passed more old r Same new le f = f
 kind_more turns passed more old r (NumberKind least most) new le f = f
 kind_more turns passed more old r Offset new le f = f
 kind_more turns passed more old r (Fixed offset) new le f = f
+kind_more turns passed more old r (Within least most) new le f = f
 kind_more turns passed more old r Start new le f = f
 kind_more turns passed more old r Base new le f = f
 kind_more turns passed more old r (Moved of by) new le f = f
 kind_more turns passed more old r (Address of by) new le f = f
+kind_more turns passed more old r (Saved of) new le f = f
+kind_more turns passed more old r Both new le f = f
 kind_more turns passed more old r (Constant value) new le f = f
 kind_more turns passed more old r (Counter head) new le f = let grows = le head in (f.0, f.1, f.2, omega arith)
 kind_more turns passed more old r (Turn head) new le f = let grows = le head in (f.0, f.1, f.2, omega arith)
@@ -549,10 +653,13 @@ slot_more ends turns passed more registers xs ys k Same le f = f
 slot_more ends turns passed more registers xs ys k (NumberKind least most) le f = f
 slot_more ends turns passed more registers xs ys k Offset le f = f
 slot_more ends turns passed more registers xs ys k (Fixed offset) le f = f
+slot_more ends turns passed more registers xs ys k (Within least most) le f = f
 slot_more ends turns passed more registers xs ys k Start le f = f
 slot_more ends turns passed more registers xs ys k Base le f = record { unset = f.unset; value = f.value; holds = f.holds; fits = kind_more turns passed more registers (11 + k) Base (Some f.value) le f.fits }
 slot_more ends turns passed more registers xs ys k (Moved of by) le f = record { unset = f.unset; value = f.value; holds = f.holds; fits = kind_more turns passed more registers (11 + k) (Moved of by) (Some f.value) le f.fits }
 slot_more ends turns passed more registers xs ys k (Address of by) le f = record { unset = f.unset; value = f.value; holds = f.holds; fits = kind_more turns passed more registers (11 + k) (Address of by) (Some f.value) le f.fits }
+slot_more ends turns passed more registers xs ys k (Saved of) le f = record { unset = f.unset; value = f.value; holds = f.holds; fits = kind_more turns passed more registers (11 + k) (Saved of) (Some f.value) le f.fits }
+slot_more ends turns passed more registers xs ys k Both le f = f
 slot_more ends turns passed more registers xs ys k (Constant value) le f = record { unset = f.unset; value = f.value; holds = f.holds; fits = kind_more turns passed more registers (11 + k) (Constant value) (Some f.value) le f.fits }
 slot_more ends turns passed more registers xs ys k (Counter head) le f = record { unset = f.unset; value = f.value; holds = f.holds; fits = kind_more turns passed more registers (11 + k) (Counter head) (Some f.value) le f.fits }
 slot_more ends turns passed more registers xs ys k (Turn head) le f = record { unset = f.unset; value = f.value; holds = f.holds; fits = kind_more turns passed more registers (11 + k) (Turn head) (Some f.value) le f.fits }
@@ -592,10 +699,13 @@ kind_settled turns passed slot old r Same new f = f
 kind_settled turns passed slot old r (NumberKind least most) new f = f
 kind_settled turns passed slot old r Offset new f = f
 kind_settled turns passed slot old r (Fixed offset) new f = f
+kind_settled turns passed slot old r (Within least most) new f = f
 kind_settled turns passed slot old r Start new f = f
 kind_settled turns passed slot old r Base new f = f
 kind_settled turns passed slot old r (Moved of by) new f = f
 kind_settled turns passed slot old r (Address of by) new f = f
+kind_settled turns passed slot old r (Saved of) new f = f
+kind_settled turns passed slot old r Both new f = f
 kind_settled turns passed slot old r (Constant value) new f = f
 kind_settled turns passed slot old r (Counter head) new f = (f.0, f.1, f.2, omega arith)
 kind_settled turns passed slot old r Alone new f = f
@@ -612,10 +722,13 @@ slot_settled ends turns passed slot registers xs ys k Same f = f
 slot_settled ends turns passed slot registers xs ys k (NumberKind least most) f = f
 slot_settled ends turns passed slot registers xs ys k Offset f = f
 slot_settled ends turns passed slot registers xs ys k (Fixed offset) f = f
+slot_settled ends turns passed slot registers xs ys k (Within least most) f = f
 slot_settled ends turns passed slot registers xs ys k Start f = f
 slot_settled ends turns passed slot registers xs ys k Base f = record { unset = f.unset; value = f.value; holds = f.holds; fits = kind_settled turns passed slot registers (11 + k) Base (Some f.value) f.fits }
 slot_settled ends turns passed slot registers xs ys k (Moved of by) f = record { unset = f.unset; value = f.value; holds = f.holds; fits = kind_settled turns passed slot registers (11 + k) (Moved of by) (Some f.value) f.fits }
 slot_settled ends turns passed slot registers xs ys k (Address of by) f = record { unset = f.unset; value = f.value; holds = f.holds; fits = kind_settled turns passed slot registers (11 + k) (Address of by) (Some f.value) f.fits }
+slot_settled ends turns passed slot registers xs ys k (Saved of) f = record { unset = f.unset; value = f.value; holds = f.holds; fits = kind_settled turns passed slot registers (11 + k) (Saved of) (Some f.value) f.fits }
+slot_settled ends turns passed slot registers xs ys k Both f = f
 slot_settled ends turns passed slot registers xs ys k (Constant value) f = record { unset = f.unset; value = f.value; holds = f.holds; fits = kind_settled turns passed slot registers (11 + k) (Constant value) (Some f.value) f.fits }
 slot_settled ends turns passed slot registers xs ys k (Counter head) f = record { unset = f.unset; value = f.value; holds = f.holds; fits = kind_settled turns passed slot registers (11 + k) (Counter head) (Some f.value) f.fits }
 slot_settled ends turns passed slot registers xs ys k Alone f = f

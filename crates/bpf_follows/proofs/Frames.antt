@@ -11,8 +11,8 @@ use Rattle.bpf_semantics.specs.State.{StackFrame, put}
 use Rattle.bpf_semantics.specs.Memory.{with_stack_in}
 use Rattle.bpf_semantics.specs.declared.value.Value.{Value}
 use Rattle.bpf_follows.specs.declared.notes.Kind.{Kind}
-use Rattle.bpf_follows.specs.declared.notes.Kind.TheVariants.{Nothing, Unset, Same, Number as NumberKind, Offset, Fixed, Start, Base, Moved, Address, Constant, Counter, Turn, Alone}
-use Rattle.bpf_follows.specs.Relation.{Kinds, Gives, weaker, is_free, IsRead, EachPair, HasOffset, as_number, as_pointer, FitsKind, SlotKept, FitsSlot, FrameFits, register_in, is_of_other}
+use Rattle.bpf_follows.specs.declared.notes.Kind.TheVariants.{Nothing, Unset, Same, Number as NumberKind, Offset, Fixed, Within, Start, Base, Moved, Address, Constant, Counter, Turn, Alone, Both, Saved}
+use Rattle.bpf_follows.specs.Relation.{Kinds, Gives, weaker, is_free, IsRead, EachPair, HasOffset, as_number, as_pointer, IsOneValue, FitsKind, SlotKept, FitsSlot, FrameFits, register_in, is_of_other}
 use Rattle.bpf_follows.specs.Matching.{is_call, is_changed, held, kinds_after}
 use Rattle.bpf_follows.proofs.Lists.{Cells}
 use Rattle.bpf_follows.proofs.Slots.{register_below}
@@ -30,10 +30,13 @@ fits_moved turns passed old more q r Same new own e f = λ v ev. f v (sym e ∙ 
 fits_moved turns passed old more q r (NumberKind least most) new own e f = record { number = f.number; low = f.low; high = f.high; old_is = e ∙ f.old_is; new_is = f.new_is }
 fits_moved turns passed old more q r Offset new own e f = subst (λ o. HasOffset (pos 0) as_number o new) (sym e) f
 fits_moved turns passed old more q r (Fixed offset) new own e f = (f.0, e ∙ f.1, f.2)
+fits_moved turns passed old more q r (Within least most) new own e f = record { offset = f.offset; fits = f.fits; low = f.low; high = f.high; old_is = e ∙ f.old_is; new_is = f.new_is }
 fits_moved turns passed old more q r Start new own e f = (e ∙ f.0, f.1)
 fits_moved turns passed old more q r Base new own e f = f
 fits_moved turns passed old more q r (Moved of by) new own e f = false_true own
 fits_moved turns passed old more q r (Address of by) new own e f = false_true own
+fits_moved turns passed old more q r (Saved of) new own e f = false_true own
+fits_moved turns passed old more q r Both new own e f = record { value = f.value; old_is = e ∙ f.old_is; new_is = f.new_is }
 fits_moved turns passed old more q r (Constant value) new own e f = f
 fits_moved turns passed old more q r (Counter head) new own e f = f
 fits_moved turns passed old more q r (Turn head) new own e f = f
@@ -56,12 +59,19 @@ fits_held turns passed i old more r (Address of by) new kept same f = by_cases (
     by_cases : (b : Bool) → (b ≡ false → is_changed i (register_number of) ≡ false) → FitsKind turns passed more r (if b then Nothing else Address of by) new
     by_cases true h = tt
     by_cases false h = subst (λ o. HasOffset by as_pointer o new) (sym (kept (register_number of) (register_below of) (h refl))) f
+fits_held turns passed i old more r (Saved of) new kept same f = by_cases (is_call i || is_changed i (register_number of)) (or_false (is_call i) (is_changed i (register_number of)))
+  where
+    by_cases : (b : Bool) → (b ≡ false → is_changed i (register_number of) ≡ false) → FitsKind turns passed more r (if b then Nothing else Saved of) new
+    by_cases true h = tt
+    by_cases false h = subst (λ o. IsOneValue o new) (sym (kept (register_number of) (register_below of) (h refl))) f
 fits_held turns passed i old more r Nothing new kept same f = tt
 fits_held turns passed i old more r Unset new kept same f = fits_moved turns passed old more r r Unset new refl same f
 fits_held turns passed i old more r Same new kept same f = fits_moved turns passed old more r r Same new refl same f
+fits_held turns passed i old more r Both new kept same f = fits_moved turns passed old more r r Both new refl same f
 fits_held turns passed i old more r (NumberKind least most) new kept same f = fits_moved turns passed old more r r (NumberKind least most) new refl same f
 fits_held turns passed i old more r Offset new kept same f = fits_moved turns passed old more r r Offset new refl same f
 fits_held turns passed i old more r (Fixed offset) new kept same f = fits_moved turns passed old more r r (Fixed offset) new refl same f
+fits_held turns passed i old more r (Within least most) new kept same f = fits_moved turns passed old more r r (Within least most) new refl same f
 fits_held turns passed i old more r Start new kept same f = fits_moved turns passed old more r r Start new refl same f
 fits_held turns passed i old more r Base new kept same f = f
 fits_held turns passed i old more r (Constant value) new kept same f = f
@@ -94,12 +104,19 @@ slot_held ends turns passed i old more xs ys k (Address of by) kept f = by_cases
     by_cases : (b : Bool) → (b ≡ false → is_changed i (register_number of) ≡ false) → FitsSlot ends turns passed more xs ys k (if b then Nothing else Address of by)
     by_cases true h = tt
     by_cases false h = record { unset = f.unset; value = f.value; holds = f.holds; fits = subst (λ o. HasOffset by as_pointer o (Some f.value)) (sym (kept (register_number of) (register_below of) (h refl))) f.fits }
+slot_held ends turns passed i old more xs ys k (Saved of) kept f = by_cases (is_call i || is_changed i (register_number of)) (or_false (is_call i) (is_changed i (register_number of)))
+  where
+    by_cases : (b : Bool) → (b ≡ false → is_changed i (register_number of) ≡ false) → FitsSlot ends turns passed more xs ys k (if b then Nothing else Saved of)
+    by_cases true h = tt
+    by_cases false h = record { unset = f.unset; value = f.value; holds = f.holds; fits = subst (λ o. IsOneValue o (Some f.value)) (sym (kept (register_number of) (register_below of) (h refl))) f.fits }
 slot_held ends turns passed i old more xs ys k Nothing kept f = tt
 slot_held ends turns passed i old more xs ys k Unset kept f = f
 slot_held ends turns passed i old more xs ys k Same kept f = f
+slot_held ends turns passed i old more xs ys k Both kept f = f
 slot_held ends turns passed i old more xs ys k (NumberKind least most) kept f = f
 slot_held ends turns passed i old more xs ys k Offset kept f = f
 slot_held ends turns passed i old more xs ys k (Fixed offset) kept f = f
+slot_held ends turns passed i old more xs ys k (Within least most) kept f = f
 slot_held ends turns passed i old more xs ys k Start kept f = f
 slot_held ends turns passed i old more xs ys k Base kept f = record { unset = f.unset; value = f.value; holds = f.holds; fits = f.fits }
 slot_held ends turns passed i old more xs ys k (Constant value) kept f = record { unset = f.unset; value = f.value; holds = f.holds; fits = f.fits }
@@ -111,12 +128,15 @@ slot_held ends turns passed i old more xs ys k Alone kept f = f
 pub slot_moved : (ends : Order) (turns : ℕ) (passed : ℕ → ℕ) (old more : ℕ → Option Value) (xs ys : Cells) (k : ℕ) (kind : Kind) → is_of_other kind ≡ false → FitsSlot ends turns passed old xs ys k kind → FitsSlot ends turns passed more xs ys k kind
 slot_moved ends turns passed old more xs ys k (Moved of by) own f = false_true own
 slot_moved ends turns passed old more xs ys k (Address of by) own f = false_true own
+slot_moved ends turns passed old more xs ys k (Saved of) own f = false_true own
+slot_moved ends turns passed old more xs ys k Both own f = f
 slot_moved ends turns passed old more xs ys k Nothing own f = tt
 slot_moved ends turns passed old more xs ys k Unset own f = f
 slot_moved ends turns passed old more xs ys k Same own f = f
 slot_moved ends turns passed old more xs ys k (NumberKind least most) own f = f
 slot_moved ends turns passed old more xs ys k Offset own f = f
 slot_moved ends turns passed old more xs ys k (Fixed offset) own f = f
+slot_moved ends turns passed old more xs ys k (Within least most) own f = f
 slot_moved ends turns passed old more xs ys k Start own f = f
 slot_moved ends turns passed old more xs ys k Base own f = record { unset = f.unset; value = f.value; holds = f.holds; fits = f.fits }
 slot_moved ends turns passed old more xs ys k (Constant value) own f = record { unset = f.unset; value = f.value; holds = f.holds; fits = f.fits }

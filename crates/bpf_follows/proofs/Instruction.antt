@@ -1,6 +1,6 @@
 -- The instruction itself, calls and ends aside: where the old machine does it, the new one does it, and goes where the notes say.
 use Rattle.std.proofs.Common.{◌≡◌, ℕ, ◌+◌, ◌*◌, ◌/◌, ◌%◌, ◌<◌, ◌≤◌, ◌⊎◌, inl, inr, ◌==◌, Bool, true, false, cond, List, Option, Some, None, length, get_or, refl, sym, ap, ap₂, ◌∙◌, subst, arith}
-use Rattle.std.specs.Prelude.{ℤ, pos, ◌+ℤ◌, not, ◌&&◌, ◌||◌, nat_le, option_and_then, if◌then◌else◌}
+use Rattle.std.specs.Prelude.{ℤ, pos, ◌+ℤ◌, ◌≤ℤ◌, int_le, nat_lt, not, ◌&&◌, ◌||◌, nat_le, option_and_then, if◌then◌else◌}
 use Rattle.std.specs.Ordering.{int_eq}
 use Rattle.std.specs.Option.{option_map_or}
 use Rattle.std.specs.List.{AllByRecursion}
@@ -34,7 +34,7 @@ use Rattle.bpf_semantics.specs.declared.value.Value.{Value}
 use Rattle.bpf_semantics.specs.declared.value.Value.TheVariants.{Number, Pointer}
 use Rattle.bpf_semantics.specs.declared.value.Region.{Region}
 use Rattle.bpf_follows.specs.declared.notes.Kind.{Kind}
-use Rattle.bpf_follows.specs.declared.notes.Kind.TheVariants.{Unset, Same, Number as NumberKind, Offset, Fixed, Start, Base, Moved, Constant, Counter, Alone}
+use Rattle.bpf_follows.specs.declared.notes.Kind.TheVariants.{Unset, Same, Number as NumberKind, Offset, Fixed, Within, Start, Base, Moved, Constant, Counter, Alone, Both}
 use Rattle.bpf_follows.specs.declared.notes.Place.{Place}
 use Rattle.bpf_follows.specs.Relation.{Kinds, places, Gives, weaker, is_free, kinds_of, place_at, IsKept, HasOffset, as_number, register_in, is_of_other, IsRead, EachPair, FitsKind, FitsSlot, FrameFits, is_alone, Follows}
 use Rattle.bpf_follows.specs.Numbers.{loaded_number, number_kind, told}
@@ -43,7 +43,7 @@ use Rattle.bpf_follows.specs.Matching.{is_call, is_changed, is_plain, is_whole, 
 use Rattle.bpf_follows.proofs.Lists.{bind, mapped, unmapped, cond_first, same_is_kept, as_long, Cells}
 use Rattle.bpf_semantics.proofs.NumberLemmas.{modulo_below}
 use Rattle.bpf_follows.proofs.Owns.{Owns, live_location, live_next}
-use Rattle.bpf_follows.proofs.Slots.{register_below, unset_kept, free_unset, plain_kept, parts_put, parts_read, each_read}
+use Rattle.bpf_follows.proofs.Slots.{register_below, unset_kept, free_unset, plain_kept, both_hold, parts_put, parts_read, each_read}
 use Rattle.bpf_follows.proofs.Frames.{SlotsAre, InSome, no_slots}
 use Rattle.bpf_follows.proofs.Between.{is_double, Between, Goes, goes_held, goes_alike, same_depth, stands_at, goes_as, put_kept, location_same, number_kept, PointersKept, pointers_kept, pointer_at_kept, own_stack, own_stack_of, load_kept, load_extended_kept, number_stored, store_kept, number_near, value_near}
 use Rattle.bpf_follows.proofs.Known.{alu_known, alu_own, load_own, load_known, told_between}
@@ -123,8 +123,23 @@ module _ (ends : Order) (notes : List (Option Place)) (turns : ℕ) (passed : �
   not_slot : {A : Type 0} (r : ℕ) (have : Kind) → r < 11 → (nat_le 11 r && is_free have) ≡ true → A
   not_slot r have lt e = let more = leb-true 11 r (both_true (nat_le 11 r) (is_free have) e).0 in absurd (omega arith)
 
+  le_of : (a b : ℤ) → int_le a b ≡ true → a ≤ℤ b
+  le_of a b e = omega (arith, ints)
+
   kind_weaker : (old : ℕ → Option Value) (r : ℕ) (have want : Kind) (new : Option Value) → r < 11 → weaker turns r have want ≡ true → FitsKind turns passed old r have new → FitsKind turns passed old r want new
   kind_weaker old r (Fixed offset) Offset new lt e f = record { offset = offset; fits = f.0; old_is = f.1; new_is = f.2 ∙ ap (λ z. Some (as_number z)) (plus_zero offset) }
+  kind_weaker old r (Fixed offset) (Within low high) new lt e f =
+      let h = both_true (nat_lt r 11) (int_le (pos low) offset && int_le offset (pos high)) e in
+      let k = both_true (int_le (pos low) offset) (int_le offset (pos high)) h.1 in
+      record { offset = offset; fits = f.0; low = le_of (pos low) offset k.0; high = le_of offset (pos high) k.1; old_is = f.1; new_is = f.2 }
+  kind_weaker old r (Within least most) (Within low high) new lt e f =
+      let h = both_true (nat_le low least) (nat_le most high) e in
+      let above = leb-true low least h.0 in
+      let below = leb-true most high h.1 in
+      let low_is = f.low in
+      let high_is = f.high in
+      record { offset = f.offset; fits = f.fits; low = omega (arith, ints); high = omega (arith, ints); old_is = f.old_is; new_is = f.new_is }
+  kind_weaker old r (Within least most) Offset new lt e f = record { offset = f.offset; fits = f.fits; old_is = f.old_is; new_is = f.new_is ∙ ap (λ z. Some (as_number z)) (plus_zero f.offset) }
   kind_weaker old r Start Same new lt e f = λ v ev. f.1 ∙ (sym f.0 ∙ ev)
   kind_weaker old r Start Base new lt e f = f.1
   kind_weaker old r (Moved of by) Offset new lt e f =
@@ -138,6 +153,8 @@ module _ (ends : Order) (notes : List (Option Place)) (turns : ℕ) (passed : �
       let low_is = f.low in
       let high_is = f.high in
       record { number = f.number; low = omega arith; high = omega arith; old_is = f.old_is; new_is = f.new_is }
+  kind_weaker old r (NumberKind least most) Both new lt e f = record { value = Number f.number; old_is = f.old_is; new_is = f.new_is }
+  kind_weaker old r Both Same new lt e f = λ v ev. f.new_is ∙ (sym f.old_is ∙ ev)
   kind_weaker old r (NumberKind least most) Same new lt e f = λ v ev. f.new_is ∙ (sym f.old_is ∙ ev)
   kind_weaker old r Same Alone new lt e f = f
   kind_weaker old r have Same new lt e f = not_slot r have lt e
@@ -146,6 +163,9 @@ module _ (ends : Order) (notes : List (Option Place)) (turns : ℕ) (passed : �
 
   slot_weaker : (registers : ℕ → Option Value) (xs ys : List (Option Cell)) (k : ℕ) (have want : Kind) → weaker turns (11 + k) have want ≡ true → FitsSlot ends turns passed registers xs ys k have → FitsSlot ends turns passed registers xs ys k want
   slot_weaker registers xs ys k (Fixed offset) Offset e f = record { offset = offset; fits = f.fits; old_is = f.old_is; new_is = f.new_is }
+  slot_weaker registers xs ys k (Fixed offset) (Within low high) e f = let low = ltb-true (11 + k) 11 (both_true (nat_lt (11 + k) 11) (int_le (pos low) offset && int_le offset (pos high)) e).0 in absurd (omega arith)
+  slot_weaker registers xs ys k (Within least most) (Within low high) e f = absurd f
+  slot_weaker registers xs ys k (Within least most) Offset e f = absurd f
   slot_weaker registers xs ys k Start Same e f = absurd f
   slot_weaker registers xs ys k Start Base e f = absurd f
   slot_weaker registers xs ys k (Moved of by) Offset e f =
@@ -156,8 +176,16 @@ module _ (ends : Order) (notes : List (Option Place)) (turns : ℕ) (passed : �
   slot_weaker registers xs ys k (Constant value) (Counter head) e f =
       let enough = leb-true turns (extended value) e in
       record { unset = f.unset; value = f.value; holds = f.holds; fits = (extended value, modulo_below value, f.fits, omega arith) }
-  slot_weaker registers xs ys k (NumberKind least most) (NumberKind low high) e f = absurd f
-  slot_weaker registers xs ys k (NumberKind least most) Same e f = absurd f
+  slot_weaker registers xs ys k (NumberKind least most) (NumberKind low high) e f =
+      let h = both_true (nat_le low least) (nat_le most high) e in
+      let above = leb-true low least h.0 in
+      let below = leb-true most high h.1 in
+      let low_is = f.low in
+      let high_is = f.high in
+      record { number = f.number; low = omega arith; high = omega arith; old_is = f.old_is; new_is = f.new_is }
+  slot_weaker registers xs ys k (NumberKind least most) Both e f = let low = ltb-true (11 + k) 11 e in absurd (omega arith)
+  slot_weaker registers xs ys k Both Same e f = absurd f
+  slot_weaker registers xs ys k (NumberKind least most) Same e f = both_hold ends xs ys k (Number f.number) f.old_is f.new_is
   slot_weaker registers xs ys k Same Alone e f = let low = ltb-true (11 + k) 11 e in absurd (omega arith)
   slot_weaker registers xs ys k have Same e f = unset_kept xs ys k (free_unset ends turns passed registers xs ys k have (both_true (nat_le 11 (11 + k)) (is_free have) e).1 f)
   slot_weaker registers xs ys k have Unset e f = free_unset ends turns passed registers xs ys k have (both_true (nat_le 11 (11 + k)) (is_free have) e).1 f
@@ -207,6 +235,7 @@ module _ (ends : Order) (notes : List (Option Place)) (turns : ℕ) (passed : �
   pub same_kept : (old : ℕ → Option Value) (r : ℕ) (kind : Kind) (new : Option Value) → is_same kind ≡ true → FitsKind turns passed old r kind new → IsKept (old r) new
   same_kept old r Same new e f = f
   same_kept old r Start new e f = λ v ev. f.1 ∙ (sym f.0 ∙ ev)
+  same_kept old r Both new e f = λ v ev. f.new_is ∙ (sym f.old_is ∙ ev)
   same_kept old r (NumberKind least most) new e f = λ v ev. f.new_is ∙ (sym f.old_is ∙ ev)
   same_kept old r Alone new e f = f
   same_kept old r kind new e f = absurd (false≢true e)

@@ -24,11 +24,11 @@ use Rattle.bpf_semantics.specs.declared.value.Value.TheVariants.{Number, Pointer
 use Rattle.bpf_semantics.specs.declared.value.Region.TheVariants.{Frame as FrameAt}
 use Rattle.bpf_semantics.proofs.NumberLemmas.{modulo_below}
 use Rattle.bpf_follows.specs.declared.notes.Kind.{Kind}
-use Rattle.bpf_follows.specs.declared.notes.Kind.TheVariants.{Nothing, Offset, Fixed, Start, Base, Moved, Address, Constant, Counter, Turn}
+use Rattle.bpf_follows.specs.declared.notes.Kind.TheVariants.{Nothing, Offset, Fixed, Within, Start, Base, Moved, Address, Constant, Counter, Turn, Both, Saved}
 use Rattle.bpf_follows.specs.declared.notes.Place.{Place}
 use Rattle.bpf_follows.specs.declared.site.Front.{Front}
-use Rattle.bpf_follows.specs.Relation.{kind_in, is_free, FitsKind, Holds, IsUnset, IsRead, FitsSlot, register_in}
-use Rattle.bpf_follows.specs.Extras.{is_same, is_r10, slot_of, kind_of, copied, frame_slot, own_kind, kept_kind, free_slot, stored, stored_constant, taken, moved_by, made, put_by, passes, written, extra, extra_at, behind, most_extras, extras}
+use Rattle.bpf_follows.specs.Relation.{kind_in, is_free, IsOneValue, FitsKind, Holds, IsUnset, IsRead, FitsSlot, register_in}
+use Rattle.bpf_follows.specs.Extras.{is_same, is_r10, slot_of, kind_of, copied, frame_slot, own_kind, kept_kind, free_slot, stored, stored_constant, restored, taken, moved_by, made, put_by, passes, passed_by, written, extra, extra_at, behind, most_extras, extras}
 use Rattle.bpf_follows.proofs.Lists.{bind, unmapped, cond_first, cond_second, as_long, Cells}
 use Rattle.bpf_follows.proofs.Owns.{Owns, top_stack}
 use Rattle.bpf_follows.proofs.Offsets.{wrapped_fits}
@@ -44,35 +44,44 @@ abbrev is_own : Kind → Bool
 is_own Base = true
 is_own (Moved of by) = true
 is_own (Address of by) = true
+is_own (Saved of) = true
 is_own (Constant value) = true
 is_own (Counter head) = true
 is_own (Turn head) = true
 is_own kind = false
 
 module _ (ends : Order) (turns : ℕ) (passed : ℕ → ℕ) (registers : ℕ → Option Value) where
-  -- what is kept is said wherever it stands
-  own_place : (w x : ℕ) (kind : Kind) (v : Value) → is_own kind ≡ true → FitsKind turns passed registers w kind (Some v) → FitsKind turns passed registers x kind (Some v)
-  own_place w x Base v e f = f
-  own_place w x (Moved of by) v e f = f
-  own_place w x (Address of by) v e f = f
-  own_place w x (Constant value) v e f = f
-  own_place w x (Counter head) v e f = f
-  own_place w x (Turn head) v e f = f
-  own_place w x kind v e f = absurd (false≢true e)
+  -- what is kept is said wherever it stands, and what was saved is put back
+  restored_fits : (dst : Reg) (x : ℕ) (kind : Kind) (v : Value) → is_own kind ≡ true → FitsKind turns passed registers x kind (Some v) → FitsKind turns passed registers (register_number dst) (restored dst kind) (Some v)
+  unfolding restored
+  restored_fits dst x (Saved of) v e f = by_cases (register_number of == register_number dst) refl
+    where
+      by_cases : (b : Bool) → register_number of == register_number dst ≡ b → FitsKind turns passed registers (register_number dst) (if b then Both else Saved of) (Some v)
+      by_cases true eb = subst (λ q. IsOneValue (registers q) (Some v)) (eqb-true (register_number of) (register_number dst) eb) f
+      by_cases false eb = f
+  restored_fits dst x Base v e f = f
+  restored_fits dst x (Moved of by) v e f = f
+  restored_fits dst x (Address of by) v e f = f
+  restored_fits dst x (Constant value) v e f = f
+  restored_fits dst x (Counter head) v e f = f
+  restored_fits dst x (Turn head) v e f = f
+  restored_fits dst x kind v e f = absurd (false≢true e)
 
-  own_value : (w : ℕ) (kind : Kind) (v : Value) → is_own kind ≡ true → FitsKind turns passed registers w kind (Some v) → FitsMachine (Some v)
-  own_value w Base v e f = subst FitsMachine (sym f) (record { sfits = omega arith })
-  own_value w (Moved of by) v e f = subst FitsMachine (sym f.new_is) (modulo_below (f.offset +ℤ by))
-  own_value w (Address of by) v e f = subst FitsMachine (sym f.new_is) (wrapped_fits (f.offset +ℤ by))
-  own_value w (Constant value) v e f = subst FitsMachine (sym f) (modulo_below value)
-  own_value w (Counter head) v e f = subst FitsMachine (sym f.2) f.1
-  own_value w (Turn head) v e f = subst FitsMachine (sym f.2) f.1
-  own_value w kind v e f = absurd (false≢true e)
+  own_value : (w : ℕ) (kind : Kind) (v : Value) → ((q : ℕ) → FitsMachine (registers q)) → is_own kind ≡ true → FitsKind turns passed registers w kind (Some v) → FitsMachine (Some v)
+  own_value w Base v machine e f = subst FitsMachine (sym f) (record { sfits = omega arith })
+  own_value w (Moved of by) v machine e f = subst FitsMachine (sym f.new_is) (modulo_below (f.offset +ℤ by))
+  own_value w (Address of by) v machine e f = subst FitsMachine (sym f.new_is) (wrapped_fits (f.offset +ℤ by))
+  own_value w (Saved of) v machine e f = subst FitsMachine (f.old_is ∙ sym f.new_is) (machine (register_number of))
+  own_value w (Constant value) v machine e f = subst FitsMachine (sym f) (modulo_below value)
+  own_value w (Counter head) v machine e f = subst FitsMachine (sym f.2) f.1
+  own_value w (Turn head) v machine e f = subst FitsMachine (sym f.2) f.1
+  own_value w kind v machine e f = absurd (false≢true e)
 
   own_slot : (xs ys : Cells) (k : ℕ) (kind : Kind) (v : Value) → is_own kind ≡ true → IsUnset xs k → Holds ends ys k v → FitsKind turns passed registers (11 + k) kind (Some v) → FitsSlot ends turns passed registers xs ys k kind
   own_slot xs ys k Base v e u h f = record { unset = u; value = v; holds = h; fits = f }
   own_slot xs ys k (Moved of by) v e u h f = record { unset = u; value = v; holds = h; fits = f }
   own_slot xs ys k (Address of by) v e u h f = record { unset = u; value = v; holds = h; fits = f }
+  own_slot xs ys k (Saved of) v e u h f = record { unset = u; value = v; holds = h; fits = f }
   own_slot xs ys k (Constant value) v e u h f = record { unset = u; value = v; holds = h; fits = f }
   own_slot xs ys k (Counter head) v e u h f = record { unset = u; value = v; holds = h; fits = f }
   own_slot xs ys k (Turn head) v e u h f = record { unset = u; value = v; holds = h; fits = f }
@@ -89,6 +98,7 @@ module _ (ends : Order) (turns : ℕ) (passed : ℕ → ℕ) (registers : ℕ �
   slot_has xs ys k Base made e f = subst (Has ys k) (same_Some _ _ e) (record { value = f.value; holds = f.holds; fits = f.fits; own = refl })
   slot_has xs ys k (Moved of by) made e f = subst (Has ys k) (same_Some _ _ e) (record { value = f.value; holds = f.holds; fits = f.fits; own = refl })
   slot_has xs ys k (Address of by) made e f = subst (Has ys k) (same_Some _ _ e) (record { value = f.value; holds = f.holds; fits = f.fits; own = refl })
+  slot_has xs ys k (Saved of) made e f = subst (Has ys k) (same_Some _ _ e) (record { value = f.value; holds = f.holds; fits = f.fits; own = refl })
   slot_has xs ys k (Constant value) made e f = subst (Has ys k) (same_Some _ _ e) (record { value = f.value; holds = f.holds; fits = f.fits; own = refl })
   slot_has xs ys k (Counter head) made e f = subst (Has ys k) (same_Some _ _ e) (record { value = f.value; holds = f.holds; fits = f.fits; own = refl })
   slot_has xs ys k (Turn head) made e f = subst (Has ys k) (same_Some _ _ e) (record { value = f.value; holds = f.holds; fits = f.fits; own = refl })
@@ -106,6 +116,7 @@ module _ (ends : Order) (turns : ℕ) (passed : ℕ → ℕ) (registers : ℕ �
   copied_own r Base made e = subst (λ made. is_own made ≡ true) (same_Some _ _ e) refl
   copied_own r Offset made e = subst (λ made. is_own made ≡ true) (same_Some _ _ e) refl
   copied_own r (Fixed offset) made e = subst (λ made. is_own made ≡ true) (same_Some _ _ e) refl
+  copied_own r (Within least most) made e = subst (λ made. is_own made ≡ true) (same_Some _ _ e) refl
   copied_own r (Moved of by) made e = subst (λ made. is_own made ≡ true) (same_Some _ _ e) refl
   copied_own r (Address of by) made e = subst (λ made. is_own made ≡ true) (same_Some _ _ e) refl
   copied_own r (Constant value) made e = subst (λ made. is_own made ≡ true) (same_Some _ _ e) refl
@@ -114,9 +125,14 @@ module _ (ends : Order) (turns : ℕ) (passed : ℕ → ℕ) (registers : ℕ �
   register_put : (w : ℕ) (r : Reg) (kind made : Kind) (new : Option Value) → kept_kind r kind ≡ Some made → FitsKind turns passed registers (register_number r) kind new → Put made new w
   register_put w r (Counter head) made new e f = subst (λ made. Put made new w) (same_Some _ _ e) (record { value = Number f.0; is = f.2; fits = (f.0, f.1, refl, f.3); own = refl })
   register_put w r (Turn head) made new e f = subst (λ made. Put made new w) (same_Some _ _ e) (record { value = Number f.0; is = f.2; fits = (f.0, f.1, refl, f.3); own = refl })
+  register_put w r Both made new e f = subst (λ made. Put made new w) (same_Some _ _ e) (record { value = f.value; is = f.new_is; fits = record { value = f.value; old_is = f.old_is; new_is = refl }; own = refl })
   register_put w r kind made new e f =
       let h = copied_fits turns passed registers w r kind made new e f in
       record { value = h.value; is = h.is; fits = h.fits; own = copied_own r kind made e }
+
+-- the old machine's registers are its own, and hold what they can hold
+abbrev pub Sound : State → Type 0
+Sound s = Owns s × ((q : ℕ) → FitsMachine (register_in s.top q))
 
 module _ (ends : Order) (notes : List (Option Place)) (turns : ℕ) (passed : ℕ → ℕ) where
   -- ---- the new machine's own frame
@@ -150,9 +166,9 @@ module _ (ends : Order) (notes : List (Option Place)) (turns : ℕ) (passed : �
   abbrev slot_put : State → ℕ → Value → State
   slot_put t k v = with_top t (with_stack_in t.top (with_value ends v (8 * k) t.top.stack))
 
-  puts : (kinds : List Kind) (kind : Kind) (s t : State) (k : ℕ) (v : Value) → k < 64 → Between ends notes turns passed (kind_in kinds) s t → is_free (kind_in kinds (11 + k)) ≡ true → is_own kind ≡ true
+  puts : (kinds : List Kind) (kind : Kind) (s t : State) (k : ℕ) (v : Value) → k < 64 → ((q : ℕ) → FitsMachine (register_in s.top q)) → Between ends notes turns passed (kind_in kinds) s t → is_free (kind_in kinds (11 + k)) ≡ true → is_own kind ≡ true
       → FitsKind turns passed (register_in s.top) (11 + k) kind (Some v) → Between ends notes turns passed (kind_in (set kinds (11 + k) kind)) s (slot_put t k v)
-  puts kinds kind s t k v below b free own f = record {
+  puts kinds kind s t k v below machine b free own f = record {
     top = record {
       eleven_old = b.top.eleven_old;
       eleven = b.top.eleven;
@@ -173,7 +189,7 @@ module _ (ends : Order) (notes : List (Option Place)) (turns : ℕ) (passed : �
 
       here : FitsSlot ends turns passed (register_in s.top) s.top.stack (with_value ends v (8 * k) t.top.stack) k kind
       here = own_slot ends turns passed (register_in s.top) s.top.stack (with_value ends v (8 * k) t.top.stack) k kind v own unset
-          (value_put ends v k t.top.stack (whole_room t.top.stack k (as_long_new ∙ b.top.long) below) (own_value ends turns passed (register_in s.top) (11 + k) kind v own f)) f
+          (value_put ends v k t.top.stack (whole_room t.top.stack k (as_long_new ∙ b.top.long) below) (own_value ends turns passed (register_in s.top) (11 + k) kind v machine own f)) f
 
       there : FitsSlot ends turns passed (register_in s.top) s.top.stack (with_value ends v (8 * k) t.top.stack) k (kind_in (set kinds (11 + k) kind) (11 + k))
       there = by_kind (kind_set kinds (11 + k) kind)
@@ -208,22 +224,22 @@ module _ (ends : Order) (notes : List (Option Place)) (turns : ℕ) (passed : �
       cond_is false x y e = absurd (none-some _ e)
 
   -- a value is put into a slot
-  kept_goes : (i : Insn) (kinds : List Kind) (dst : Reg) (off : ℤ) (k : ℕ) (kind : Kind) (v : Value) (s t : State) → Owns s → Between ends notes turns passed (kind_in kinds) s t → free_slot kinds dst off ≡ Some k → is_own kind ≡ true
+  kept_goes : (i : Insn) (kinds : List Kind) (dst : Reg) (off : ℤ) (k : ℕ) (kind : Kind) (v : Value) (s t : State) → Sound s → Between ends notes turns passed (kind_in kinds) s t → free_slot kinds dst off ≡ Some k → is_own kind ≡ true
       → FitsKind turns passed (register_in s.top) (11 + k) kind (Some v)
       → (AtSlot s t dst off k → does ends i t ≡ store ends DW v (InFrame (depth s) (8 * k)) (at_slot (t.top.slot + 1) t)) → Goes1 ends notes turns passed ends i (set kinds (11 + k) kind) s t
   kept_goes i kinds dst off k kind v s t o b e own f does_so =
       let free = free_is_slot kinds dst off k e in
-      let a = at_frame kinds s t dst off k o b free.0 in
+      let a = at_frame kinds s t dst off k o.0 b free.0 in
       let after : State = at_slot (t.top.slot + 1) t in
       let moved = moves ends notes turns passed kinds s t (t.top.slot + 1) b in
       record {
         state = slot_put after k v;
         is = does_so a ∙ stores kinds s after k v moved;
         at = refl;
-        between = puts kinds kind s after k v a.below moved free.1 own f;
+        between = puts kinds kind s after k v a.below o.1 moved free.1 own f;
       }
 
-  stored_goes : (kinds made_kinds : List Kind) (dst src : Reg) (off : ℤ) (w : ℕ × Kind) (s t : State) → Owns s → Between ends notes turns passed (kind_in kinds) s t → stored kinds dst off src ≡ Some w → set kinds w.0 w.1 ≡ made_kinds
+  stored_goes : (kinds made_kinds : List Kind) (dst src : Reg) (off : ℤ) (w : ℕ × Kind) (s t : State) → Sound s → Between ends notes turns passed (kind_in kinds) s t → stored kinds dst off src ≡ Some w → set kinds w.0 w.1 ≡ made_kinds
       → Goes1 ends notes turns passed ends (Store DW dst off src) made_kinds s t
   unfolding does
   stored_goes kinds made_kinds dst src off w s t o b e is = option_and_then_some _ (free_slot kinds dst off) w e (λ k ek e1.
@@ -233,7 +249,7 @@ module _ (ends : Order) (notes : List (Option Place)) (turns : ℕ) (passed : �
       (kept_goes (Store DW dst off src) kinds dst off k m.0 p.value s t o b ek p.own p.fits (λ a.
       bind _ (register t dst) _ _ a.is (bind _ (register t src) p.value _ p.is (bind _ (location_of t 8 off (Pointer (FrameAt (depth s)) (pos 0))) _ _ a.there refl)))))
 
-  constant_goes : (kinds made_kinds : List Kind) (dst : Reg) (off imm : ℤ) (w : ℕ × Kind) (s t : State) → Owns s → Between ends notes turns passed (kind_in kinds) s t → stored_constant kinds dst off imm ≡ Some w → set kinds w.0 w.1 ≡ made_kinds
+  constant_goes : (kinds made_kinds : List Kind) (dst : Reg) (off imm : ℤ) (w : ℕ × Kind) (s t : State) → Sound s → Between ends notes turns passed (kind_in kinds) s t → stored_constant kinds dst off imm ≡ Some w → set kinds w.0 w.1 ≡ made_kinds
       → Goes1 ends notes turns passed ends (StoreImm DW dst off imm) made_kinds s t
   unfolding does
   constant_goes kinds made_kinds dst off imm w s t o b e is =
@@ -242,14 +258,14 @@ module _ (ends : Order) (notes : List (Option Place)) (turns : ℕ) (passed : �
       (kept_goes (StoreImm DW dst off imm) kinds dst off m.0 (Constant imm) (Number (extended imm)) s t o b m.1 refl refl (λ a.
       bind _ (register t dst) _ _ a.is (bind _ (location_of t 8 off (Pointer (FrameAt (depth s)) (pos 0))) _ _ a.there refl)))
 
-  taken_goes : (kinds made_kinds : List Kind) (dst src : Reg) (off : ℤ) (w : ℕ × Kind) (s t : State) → Owns s → Between ends notes turns passed (kind_in kinds) s t → taken kinds dst src off ≡ Some w → set kinds w.0 w.1 ≡ made_kinds
+  taken_goes : (kinds made_kinds : List Kind) (dst src : Reg) (off : ℤ) (w : ℕ × Kind) (s t : State) → Sound s → Between ends notes turns passed (kind_in kinds) s t → taken kinds dst src off ≡ Some w → set kinds w.0 w.1 ≡ made_kinds
       → Goes1 ends notes turns passed ends (Load DW dst src off) made_kinds s t
   unfolding does
   taken_goes kinds made_kinds dst src off w s t o b e is =
       let free = cond_second (is_r10 dst) _ w e in
       option_and_then_some _ (frame_slot kinds src off) w free.1 (λ k ek e1.
-      let m = unmapped (λ kind. (register_number dst, kind)) (own_kind (kind_in kinds (11 + k))) w e1 in
-      let a = at_frame kinds s t src off k o b ek in
+      let m = unmapped (λ kind. (register_number dst, restored dst kind)) (own_kind (kind_in kinds (11 + k))) w e1 in
+      let a = at_frame kinds s t src off k o.0 b ek in
       let has = slot_has ends turns passed (register_in s.top) s.top.stack t.top.stack k (kind_in kinds (11 + k)) m.0 m.1 (b.top.slots k a.below) in
       let holds : Holds ends (stack_of t (depth s)) k has.value = subst (λ xs. Holds ends xs k has.value) (sym (own_stack_of ends notes turns passed (kind_in kinds) s t b)) has.holds in
       let after : State = at_slot (t.top.slot + 1) t in
@@ -259,11 +275,11 @@ module _ (ends : Order) (notes : List (Option Place)) (turns : ℕ) (passed : �
         is = bind _ (register t src) _ _ a.is (bind _ (location_of t 8 off (Pointer (FrameAt (depth s)) (pos 0))) _ _ a.there (bind _ (load ends t DW (InFrame (depth s) (8 * k))) has.value _ (load_holds ends t (depth s) k has.value holds) (ap (λ c. cond c None (Some end)) free.0)));
         at = refl;
         between = subst (λ made. Between ends notes turns passed (kind_in made) s end) (ap (λ (w : ℕ × Kind). set kinds w.0 w.1) m.2 ∙ is)
-            (writes ends notes turns passed kinds m.0 s after (register_number dst) (Some has.value) (register_below dst) (moves ends notes turns passed kinds s t (t.top.slot + 1) b)
-            (own_place ends turns passed (register_in s.top) (11 + k) (register_number dst) m.0 has.value has.own has.fits));
+            (writes ends notes turns passed kinds (restored dst m.0) s after (register_number dst) (Some has.value) (register_below dst) (moves ends notes turns passed kinds s t (t.top.slot + 1) b)
+            (restored_fits ends turns passed (register_in s.top) dst (11 + k) m.0 has.value has.own has.fits));
       })
 
-  move_goes : (i : Insn) (kinds made_kinds : List Kind) (w : ℕ × Kind) (s t : State) → Owns s → Between ends notes turns passed (kind_in kinds) s t → moved_by kinds i ≡ Some w → set kinds w.0 w.1 ≡ made_kinds → Goes1 ends notes turns passed ends i made_kinds s t
+  move_goes : (i : Insn) (kinds made_kinds : List Kind) (w : ℕ × Kind) (s t : State) → Sound s → Between ends notes turns passed (kind_in kinds) s t → moved_by kinds i ≡ Some w → set kinds w.0 w.1 ≡ made_kinds → Goes1 ends notes turns passed ends i made_kinds s t
   move_goes (Store DW dst off src) kinds made_kinds w s t o b e is = stored_goes kinds made_kinds dst src off w s t o b e is
   move_goes (StoreImm DW dst off imm) kinds made_kinds w s t o b e is = constant_goes kinds made_kinds dst off imm w s t o b e is
   move_goes (Load DW dst src off) kinds made_kinds w s t o b e is = taken_goes kinds made_kinds dst src off w s t o b e is
@@ -271,7 +287,7 @@ module _ (ends : Order) (notes : List (Option Place)) (turns : ℕ) (passed : �
 
   -- ---- all of them
 
-  extra_goes : (order : Order) (front : Option Front) (i : Insn) (kinds made_kinds : List Kind) (s t : State) → order ≡ ends → Owns s → Facts passed turns front s → Between ends notes turns passed (kind_in kinds) s t → extra front i kinds ≡ Some made_kinds → Goes1 ends notes turns passed order i made_kinds s t
+  extra_goes : (order : Order) (front : Option Front) (i : Insn) (kinds made_kinds : List Kind) (s t : State) → order ≡ ends → Sound s → Facts passed turns front s → Between ends notes turns passed (kind_in kinds) s t → extra front i kinds ≡ Some made_kinds → Goes1 ends notes turns passed order i made_kinds s t
   extra_goes order front i kinds made_kinds s t same o facts b e = by_cases (passes front kinds i) refl e
     where
       by_move : (m : Option (ℕ × Kind)) → moved_by kinds i ≡ m → option_map (λ (w : ℕ × Kind). set kinds w.0 w.1) (option_or m (option_map (λ (w : Reg × Kind). (register_number w.0, w.1)) (made front kinds i))) ≡ Some made_kinds → Goes1 ends notes turns passed order i made_kinds s t
@@ -283,7 +299,7 @@ module _ (ends : Order) (notes : List (Option Place)) (turns : ℕ) (passed : �
           let c = free_is (register_number w.0 == 10) w m.0 ec in
           put_goes ends notes turns passed order front i kinds made_kinds w s t facts b ew c.0 (subst (λ (w : Reg × Kind). set kinds (register_number w.0) w.1 ≡ made_kinds) (sym c.1) (ap (λ (w : ℕ × Kind). set kinds w.0 w.1) m.2 ∙ p.2)))
 
-      by_cases : (c : Bool) → passes front kinds i ≡ c → (if c then Some kinds else option_map (λ (w : ℕ × Kind). set kinds w.0 w.1) (written front kinds i)) ≡ Some made_kinds → Goes1 ends notes turns passed order i made_kinds s t
+      by_cases : (c : Bool) → passes front kinds i ≡ c → (if c then Some (passed_by kinds i) else option_map (λ (w : ℕ × Kind). set kinds w.0 w.1) (written front kinds i)) ≡ Some made_kinds → Goes1 ends notes turns passed order i made_kinds s t
       by_cases true ec e = subst (λ kinds. Goes1 ends notes turns passed order i kinds s t) (same_Some _ _ e) (passes_goes ends notes turns passed order front i kinds s t facts b ec)
       by_cases false ec e = by_move (moved_by kinds i) refl e
 
@@ -295,7 +311,7 @@ module _ (ends : Order) (notes : List (Option Place)) (turns : ℕ) (passed : �
     pub at : state.top.slot ≡ slot
     pub between : Between ends notes turns passed (kind_in made_kinds) s state
 
-  behind_goes : (new : Instructions) (front : Option Front) (slot n : ℕ) (kinds made_kinds : List Kind) (s t : State) → new.order ≡ ends → Owns s → Facts passed turns front s → Between ends notes turns passed (kind_in kinds) s t → t.top.slot ≡ slot → behind new front slot n kinds ≡ Some made_kinds → Reached new made_kinds (slot + n) s t
+  behind_goes : (new : Instructions) (front : Option Front) (slot n : ℕ) (kinds made_kinds : List Kind) (s t : State) → new.order ≡ ends → Sound s → Facts passed turns front s → Between ends notes turns passed (kind_in kinds) s t → t.top.slot ≡ slot → behind new front slot n kinds ≡ Some made_kinds → Reached new made_kinds (slot + n) s t
   behind_goes new front slot zero kinds made_kinds s t same o facts b at e =
       record { count = 0; state = t; steps = refl; at = at ∙ omega arith; between = subst (λ kinds. Between ends notes turns passed (kind_in kinds) s t) (same_Some _ _ e) b }
   behind_goes new front slot (suc n) kinds made_kinds s t same o facts b at e = option_and_then_some (extra_at new front (slot + n)) (behind new front slot n kinds) made_kinds e (λ mid em e1. option_and_then_some _ (insn_at new.list (slot + n)) made_kinds e1 (λ i ei ex.
@@ -303,7 +319,7 @@ module _ (ends : Order) (notes : List (Option Place)) (turns : ℕ) (passed : �
       let g = extra_goes new.order front i mid made_kinds s h.state same o facts h.between ex in
       record { count = suc h.count; state = g.state; steps = (h.state, h.steps, new_step new h.state g.state i (slot + n) h.at ei g.is); at = g.at ∙ ap (λ n. n + 1) h.at ∙ omega arith; between = g.between }))
 
-  pub extras_go : (new : Instructions) (front : Option Front) (from to : ℕ) (kinds made_kinds : List Kind) (s t : State) → new.order ≡ ends → Owns s → Facts passed turns front s → Between ends notes turns passed (kind_in kinds) s t → t.top.slot ≡ from → extras new front from to kinds ≡ Some made_kinds → Reached new made_kinds to s t
+  pub extras_go : (new : Instructions) (front : Option Front) (from to : ℕ) (kinds made_kinds : List Kind) (s t : State) → new.order ≡ ends → Sound s → Facts passed turns front s → Between ends notes turns passed (kind_in kinds) s t → t.top.slot ≡ from → extras new front from to kinds ≡ Some made_kinds → Reached new made_kinds to s t
   extras_go new front from to kinds made_kinds s t same o facts b at e = by_cases (nat_le from to && nat_le (to - from) most_extras) refl e
     where
       by_cases : (c : Bool) → (nat_le from to && nat_le (to - from) most_extras) ≡ c → (if c then behind new front from (to - from) kinds else None) ≡ Some made_kinds → Reached new made_kinds to s t

@@ -42,7 +42,7 @@ use Rattle.bpf_num.proofs.TightenLaws.{unsigned_meet_keeps, tighten_keeps}
 use Rattle.bpf_num.proofs.NumberLaws.{num_alu_keeps}
 use Rattle.bpf_num.proofs.RefineLaws.{refine_keeps}
 use Rattle.bpf_follows.specs.declared.notes.Kind.{Kind}
-use Rattle.bpf_follows.specs.declared.notes.Kind.TheVariants.{Same, Number}
+use Rattle.bpf_follows.specs.declared.notes.Kind.TheVariants.{Same, Number, Both}
 use Rattle.bpf_follows.specs.declared.notes.Place.{Place}
 use Rattle.bpf_follows.specs.Relation.{Kinds, FitsKind, FitsSlot, register_in, is_of_other}
 use Rattle.bpf_follows.specs.Numbers.{bounded, number_of, bounds_of, is_numeric, read_number, operand_number, left_number, alu_number, loaded_number, number_kind, told_by, is_operand, told}
@@ -136,7 +136,13 @@ module _ (ends : Order) (notes : List (Option Place)) (turns : ℕ) (passed : �
       let old_is : register s r ≡ Some (ANumber x.0) = ev ∙ ap Some x.1 in
       let fits : x.0 < 2 ^ 64 = small s r x.0 state old_is in
       member_of (Some top) n x.0 (register s r) new (record { set = top; is_there = refl; valid = top_valid; has = top_has x.0 fits }) e old_is (f (ANumber x.0) old_is)
+  read_is true Both n s r v new state f ev number e =
+      let x = number refl in
+      let old_is : register s r ≡ Some (ANumber x.0) = ev ∙ ap Some x.1 in
+      let fits : x.0 < 2 ^ 64 = small s r x.0 state old_is in
+      member_of (Some top) n x.0 (register s r) new (record { set = top; is_there = refl; valid = top_valid; has = top_has x.0 fits }) e old_is (f.new_is ∙ (sym f.old_is ∙ old_is))
   read_is false Same n s r v new state f ev number e = absurd (none-some _ e)
+  read_is false Both n s r v new state f ev number e = absurd (none-some _ e)
   read_is numeric kind n s r v new state f ev number e = absurd (none-some _ e)
 
   operand_is : (numeric : Bool) (src : Operand) (n : Num) (kinds : Kinds) (s t : State) (v : Value) → IsState s → Between ends notes turns passed kinds s t → operand s src ≡ Some v → (numeric ≡ true → IsNumeral v)
@@ -190,20 +196,20 @@ module _ (ends : Order) (notes : List (Option Place)) (turns : ℕ) (passed : �
       → FitsKind turns passed (λ q. Some v) 0 (number_kind kinds (Alu op width dst src)) (Some v)
   alu_known width op dst src kinds s t b v state h eb ev = by_number (alu_number kinds op width dst src) refl
     where
-      by_number : (o : Option Num) → alu_number kinds op width dst src ≡ o → FitsKind turns passed (λ q. Some v) 0 (option_map_or (bounds_of Same) o Same) (Some v)
-      by_number None eo = same_is_kept (Some v)
+      by_number : (o : Option Num) → alu_number kinds op width dst src ≡ o → FitsKind turns passed (λ q. Some v) 0 (option_map_or (bounds_of Both) o Both) (Some v)
+      by_number None eo = record { value = v; old_is = refl; new_is = refl }
       by_number (Some n) eo =
           let g = alu_gives width op dst src kinds s t b v n state h eb ev eo in
-          bounds_known turns passed (λ q. Some v) 0 Same n (Some v) g.value g.has (ap Some g.is) (ap Some g.is) (same_is_kept (Some v))
+          bounds_known turns passed (λ q. Some v) 0 Both n (Some v) g.value g.has (ap Some g.is) (ap Some g.is) (record { value = v; old_is = refl; new_is = refl })
 
-  own_bounds : (b : Bool) (least most : ℕ) → is_of_other (if b then Number least most else Same) ≡ false
+  own_bounds : (b : Bool) (least most : ℕ) → is_of_other (if b then Number least most else Both) ≡ false
   own_bounds true least most = refl
   own_bounds false least most = refl
 
   pub alu_own : (width : Width) (op : AluOp) (dst : Reg) (src : Operand) (kinds : Kinds) → is_of_other (number_kind kinds (Alu op width dst src)) ≡ false
   alu_own width op dst src kinds = by_number (alu_number kinds op width dst src)
     where
-      by_number : (o : Option Num) → is_of_other (option_map_or (bounds_of Same) o Same) ≡ false
+      by_number : (o : Option Num) → is_of_other (option_map_or (bounds_of Both) o Both) ≡ false
       by_number None = refl
       by_number (Some n) = own_bounds (nat_lt n.unsigned.hi (2 ^ 32)) n.unsigned.lo n.unsigned.hi
 

@@ -48,7 +48,7 @@ use Rattle.bpf_follows.proofs.ExactInsn.{exact_arrives, decided_arrives}
 use Rattle.bpf_follows.proofs.Wide.{narrow, widened_arrives}
 use Rattle.bpf_follows.proofs.Calls.{unset_called, call_kept, exit_kept}
 use Rattle.bpf_follows.proofs.Extra.{InFront, SumLies, between_more, counted, own_counted, settles}
-use Rattle.bpf_follows.proofs.Kept.{extras_go}
+use Rattle.bpf_follows.proofs.Kept.{Sound, extras_go}
 
 -- ---- runs
 
@@ -112,7 +112,7 @@ module _ (computed : StepsAreComputed) (keeps : StepKeepsContext) (states : Runs
   caught passed t u o e a = record { count = 1; state = a.state; steps = (t, refl, sym e ∙ a.is); follows = a.follows }
 
   -- behind an entry
-  entered_by : (passed : ℕ → ℕ) (kinds : List Kind) (s t : State) → Owns s → Between old.order notes bounds.turns passed (kind_in kinds) s t → Enters notes new bounds.turns s.top.slot t.top.slot kinds → Caught passed s t
+  entered_by : (passed : ℕ → ℕ) (kinds : List Kind) (s t : State) → Sound s → Between old.order notes bounds.turns passed (kind_in kinds) s t → Enters notes new bounds.turns s.top.slot t.top.slot kinds → Caught passed s t
   entered_by passed kinds s t o b e =
       let h = extras_go old.order notes bounds.turns passed new None e.place.entry e.place.first kinds e.made s t matches.order_is o tt b e.slot_is e.makes in
       record {
@@ -126,7 +126,7 @@ module _ (computed : StepsAreComputed) (keeps : StepKeepsContext) (states : Runs
         };
       }
 
-  called : (passed : ℕ → ℕ) (kinds : Kinds) (to new_to : ℕ) (t u : State) (o : Option State) → Owns u → ((k : ℕ) → kinds (11 + k) ≡ Unset) → o ≡ step_of new t → Goes old.order notes bounds.turns passed kinds to new_to u o → Enters notes new bounds.turns to new_to (listed kinds) → Caught passed u t
+  called : (passed : ℕ → ℕ) (kinds : Kinds) (to new_to : ℕ) (t u : State) (o : Option State) → Sound u → ((k : ℕ) → kinds (11 + k) ≡ Unset) → o ≡ step_of new t → Goes old.order notes bounds.turns passed kinds to new_to u o → Enters notes new bounds.turns to new_to (listed kinds) → Caught passed u t
   called passed kinds to new_to t u o own unset e g enters =
       let top = g.between.top in
       let b : Between old.order notes bounds.turns passed (kind_in (listed kinds)) u g.state = record {
@@ -145,7 +145,7 @@ module _ (computed : StepsAreComputed) (keeps : StepKeepsContext) (states : Runs
       record { count = 1 + h.count; state = h.state; steps = runs new 1 h.count t g.state h.state (t, refl, sym e ∙ g.is) h.steps; follows = h.follows }
 
   -- from the instruction itself, which stands at the slot
-  module _ (passed : ℕ → ℕ) (site : Site) (s t u : State) (state : IsState s) (o : Owns s) (b : Between old.order notes bounds.turns passed (known site.slot site.kinds) s t) (old_at : s.top.slot ≡ site.slot) (at : t.top.slot ≡ site.new_slot)
+  module _ (passed : ℕ → ℕ) (site : Site) (s t u : State) (state : IsState s) (after : IsState u) (o : Owns s) (b : Between old.order notes bounds.turns passed (known site.slot site.kinds) s t) (old_at : s.top.slot ≡ site.slot) (at : t.top.slot ≡ site.new_slot)
       (stands : insn_at new.list site.new_slot ≡ Some site.moved) (falls : Falls notes bounds.turns site) (leads : Leads notes new bounds.turns site) (lone : IsLone (is_alone notes) (known site.slot site.kinds) site.insn) where
     kinds : Kinds
     kinds = known site.slot site.kinds
@@ -234,7 +234,7 @@ module _ (computed : StepsAreComputed) (keeps : StepKeepsContext) (states : Runs
         let enters : Enters notes new bounds.turns to.0 a.0 (listed (kinds_called (known site.slot site.kinds))) = subst (λ c. Reaches c notes new bounds.turns to.0 a.0 site.insn (known site.slot site.kinds)) (ap is_call ei) a.2 in
         let falls_call : Arrives notes bounds.turns (s.top.slot + 1) (t.top.slot + 1) (kinds_beyond (is_alone notes) false (CallLocal off) (known site.slot site.kinds)) =
         subst (λ i. goes_on i ≡ true → Arrives notes bounds.turns (s.top.slot + slot_count i) (t.top.slot + slot_count i) (kinds_beyond (is_alone notes) false i (known site.slot site.kinds))) ei (falls_beyond (ap (may_fall (known site.slot site.kinds)) ei)) refl in
-        called passed (kinds_called (known site.slot site.kinds)) to.0 a.0 t u (does old.order (CallLocal z) t) (own_does old.order (CallLocal off) s u b.top.eleven_old o e) (unset_called old.order notes bounds.turns passed (known site.slot site.kinds)) (steps_by (CallLocal z) is)
+        called passed (kinds_called (known site.slot site.kinds)) to.0 a.0 t u (does old.order (CallLocal z) t) (own_does old.order (CallLocal off) s u b.top.eleven_old o e, after.each_frame.0.values) (unset_called old.order notes bounds.turns passed (known site.slot site.kinds)) (steps_by (CallLocal z) is)
         (call_kept old.order notes bounds.turns passed off z (known site.slot site.kinds) s t u to.0 a.0 b plain falls_call to.1 (led_at (CallLocal z) a.0 is a.1) e) enters
 
     exit_reads : Reads (known site.slot site.kinds) Exit → is_same (known site.slot site.kinds 0) ≡ true
@@ -321,7 +321,7 @@ module _ (computed : StepsAreComputed) (keeps : StepKeepsContext) (states : Runs
     between : Between old.order notes bounds.turns (counted passed s.top.slot) (known site.slot site.kinds) s state
     at : state.top.slot ≡ site.new_slot
 
-  front : (passed : ℕ → ℕ) (i : Insn) (s t : State) (o : Owns s) (f : Follows old.order notes bounds.turns passed s t) (st : Stands new notes bounds.turns f.top.place (front_at old bounds s.top.slot i))
+  front : (passed : ℕ → ℕ) (i : Insn) (s t : State) (o : Sound s) (f : Follows old.order notes bounds.turns passed s t) (st : Stands new notes bounds.turns f.top.place (front_at old bounds s.top.slot i))
       → InFront passed bounds.turns (front_at old bounds s.top.slot i) s → Before passed st.site s t
   front passed i s t o f st facts =
       let h = extras_go old.order notes bounds.turns passed new (Some (front_at old bounds s.top.slot i)) f.top.place.first f.top.place.body f.top.place.kinds st.site.kinds s t matches.order_is o facts (between passed s t f) f.top.slot_is st.is_site.reaches in
@@ -333,13 +333,13 @@ module _ (computed : StepsAreComputed) (keeps : StepKeepsContext) (states : Runs
         at = h.at ∙ sym st.is_site.at_body;
       }
 
-  step_caught : (passed : ℕ → ℕ) (s t u : State) → Owns s → Follows old.order notes bounds.turns passed s t → Sure s → Step old s u → passed s.top.slot + 1 ≤ bounds.turns → Caught (counted passed s.top.slot) u t
+  step_caught : (passed : ℕ → ℕ) (s t u : State) → Owns s → Follows old.order notes bounds.turns passed s t → Sure s → IsState u → Step old s u → passed s.top.slot + 1 ≤ bounds.turns → Caught (counted passed s.top.slot) u t
   unfolding step_of
-  step_caught passed s t u o f sure e few = option_and_then_some _ (insn_at old.list s.top.slot) u e (λ i ei ed.
+  step_caught passed s t u o f sure after e few = option_and_then_some _ (insn_at old.list s.top.slot) u e (λ i ei ed.
       let st = matches.each s.top.slot f.top.place i f.top.noted ei in
-      let h = front passed i s t o f st (in_front passed i s ei sure few) in
+      let h = front passed i s t (o, sure.state.each_frame.0.values) f st (in_front passed i s ei sure few) in
       let site = st.is_site in
-      let c = from_body (counted passed s.top.slot) st.site s h.state u sure.state o h.between (sym site.slot_is) h.at site.stands st.falls st.leads st.lone (subst (λ n. n < 2 ^ 32) (sym sure.long) matches.short) site.pairs
+      let c = from_body (counted passed s.top.slot) st.site s h.state u sure.state after o h.between (sym site.slot_is) h.at site.stands st.falls st.leads st.lone (subst (λ n. n < 2 ^ 32) (sym sure.long) matches.short) site.pairs
       (ap (λ i. does old.order i s) site.insn_is ∙ ed) in
       record { count = h.count + c.count; state = c.state; steps = runs new h.count c.count t h.state c.state h.steps c.steps; follows = c.follows })
 
@@ -355,7 +355,7 @@ module _ (computed : StepsAreComputed) (keeps : StepKeepsContext) (states : Runs
   finish_caught passed s t v o f sure e few = option_and_then_some _ (insn_at old.list s.top.slot) v e (λ i ei er.
       let is = exit_is s.waiting (number_of_register s R0) i v er in
       let st = matches.each s.top.slot f.top.place i f.top.noted ei in
-      let h = front passed i s t o f st (in_front passed i s ei sure few) in
+      let h = front passed i s t (o, sure.state.each_frame.0.values) f st (in_front passed i s ei sure few) in
       let k = counted passed s.top.slot in
       let site_is : st.site.insn ≡ Exit = st.is_site.insn_is ∙ is in
       let ends = ends_alike st.site site_is st.is_site.pairs in
@@ -413,14 +413,20 @@ module _ (computed : StepsAreComputed) (keeps : StepKeepsContext) (states : Runs
   follows_run : (context : List ℕ) (k more : ℕ) (s : State) → AreBytes context → length context ≡ bounds.length → Steps old k (start context) s → Ends old more s → ((slot : ℕ) → visits old (start context) k slot ≤ bounds.turns)
       → (n : ℕ) × (t : State) × Steps new n (start context) t × Follows old.order notes bounds.turns (visits old (start context) k) s t × (length s.context ≡ bounds.length) × Owns s
   follows_run context zero more s bytes long run ends few =
-      let h = entered_by (visits old (start context) 0) (start_kinds bounds.length) (start context) (start context) (own_start context) (start_between context long) matches.start in
+      let short = matches.short in
+      let fits : length context < 2 ^ 64 = subst (λ n. n < 2 ^ 64) (sym long) (omega arith) in
+      let state = states old context 0 (start context) valid bytes fits refl in
+      let h = entered_by (visits old (start context) 0) (start_kinds bounds.length) (start context) (start context) (own_start context, state.each_frame.0.values) (start_between context long) matches.start in
       (h.count, h.state, h.steps, subst (λ s. Follows old.order notes bounds.turns (visits old (start context) 0) s h.state) (sym run) h.follows, ap (λ s. length s.context) run ∙ long, subst Owns (sym run) (own_start context))
   follows_run context (suc k) more s bytes long (mid, run, step) ends few =
       let before = follows_run context k (suc more) mid bytes long run (s, step, ends) (λ slot. no_more _ _ bounds.turns (few slot)) in
       let next : (slot : ℕ) → visits old (start context) (suc k) slot ≡ counted (visits old (start context) k) mid.top.slot slot = λ slot. visits_next computed old k slot (start context) mid run in
       let once : visits old (start context) k mid.top.slot + 1 ≤ bounds.turns = subst (λ n. n ≤ bounds.turns) (next mid.top.slot ∙ own_counted (visits old (start context) k) mid.top.slot) (few mid.top.slot) in
       let sure : Sure mid = sure_of context k (suc more) mid bytes long run (s, step, ends) before.4 in
-      let c = step_caught (visits old (start context) k) mid before.1 s before.5 before.3 sure step once in
+      let short = matches.short in
+      let fits : length context < 2 ^ 64 = subst (λ n. n < 2 ^ 64) (sym long) (omega arith) in
+      let after = states old context (suc k) s valid bytes fits (mid, run, step) in
+      let c = step_caught (visits old (start context) k) mid before.1 s before.5 before.3 sure after step once in
       (before.0 + c.count, c.state, runs new before.0 c.count (start context) before.1 c.state before.2 c.steps, counted_as _ _ s c.state (λ slot. sym (next slot)) c.follows, ap length (keeps old mid s step) ∙ before.4, own_step old mid s before.3.top.fits.eleven_old before.5 step)
 
 pub matching_keeps_meaning : StepsAreComputed → StepKeepsContext → RunsKeepStates → MatchingKeepsMeaning

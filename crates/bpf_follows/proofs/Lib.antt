@@ -1,5 +1,6 @@
 mod Lists
 mod KindLemmas
+mod Equal
 mod InsideLemmas
 mod ExtraLemmas
 mod SiteLemmas

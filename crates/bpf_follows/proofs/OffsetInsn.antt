@@ -1,15 +1,16 @@
 -- Instructions on offsets, and loads by other registers: what the old machine does on pointers the new one does on numbers.
 use Rattle.std.proofs.Common.{◌≡◌, ℕ, ◌+◌, ◌<◌, ◌≤◌, ◌⊎◌, inl, inr, ◌==◌, ◌^◌, Bool, true, false, cond, ◌*◌, List, Option, Some, None, length, refl, sym, ap, ap₂, ◌∙◌, subst, arith}
-use Rattle.std.specs.Prelude.{not, ◌&&◌, ◌||◌, nat_le, ℤ, pos, negsuc, ◌+ℤ◌, ◌-ℤ◌, FitsSigned, unsigned_abs, option_and_then, option_map, if◌then◌else◌}
+use Rattle.std.specs.Prelude.{not, ◌&&◌, ◌||◌, nat_le, nat_lt, ℤ, pos, negsuc, ◌+ℤ◌, ◌-ℤ◌, ◌≤ℤ◌, FitsSigned, unsigned_abs, option_and_then, option_map, if◌then◌else◌}
 use Rattle.std.specs.Int.{w16, w64}
+use Rattle.std.specs.Option.{option_map_or}
 use Rattle.std.specs.Ordering.{int_eq}
 use Rattle.std.proofs.lemmas.Option.{none-some, same_Some, option_and_then_some}
-use Rattle.std.proofs.lemmas.Bool.{false≢true, eqb-true, leb-true}
+use Rattle.std.proofs.lemmas.Bool.{false≢true, eqb-true, leb-true, ltb-true}
 use Rattle.std.proofs.lemmas.Bool.Decides.{Decides-int_eq}
 use Rattle.std.proofs.lemmas.Int.{ints}
 use Rattle.bpf_insn.specs.Arithmetic.{modulo, extended}
 use Rattle.bpf_insn.specs.Effects.{Access}
-use Rattle.bpf_insn.specs.Instruction.{register_number, byte_count}
+use Rattle.bpf_insn.specs.Instruction.{register_number, byte_count, not_negative}
 use Rattle.bpf_insn.specs.declared.order.Order.{Order}
 use Rattle.bpf_insn.specs.declared.instruction.Reg.{Reg}
 use Rattle.bpf_insn.specs.declared.instruction.Operand.{Operand}
@@ -22,8 +23,8 @@ use Rattle.bpf_insn.specs.declared.instruction.AluOp.TheVariants.{Add, Sub, Mov}
 use Rattle.bpf_insn.specs.declared.instruction.Cond.{Cond}
 use Rattle.bpf_insn.specs.declared.instruction.Cond.TheVariants.{Eq, Ne}
 use Rattle.bpf_insn.specs.declared.instruction.Insn.{Insn}
-use Rattle.bpf_insn.specs.declared.instruction.Insn.TheVariants.{Alu, Load, LoadSx, Store, JumpIf}
-use Rattle.bpf_semantics.specs.State.{State, IsState, depth, register, put}
+use Rattle.bpf_insn.specs.declared.instruction.Insn.TheVariants.{Alu, Load, LoadSx, Store, StoreImm, JumpIf}
+use Rattle.bpf_semantics.specs.State.{State, IsState, FitsMachine, depth, register, put}
 use Rattle.bpf_semantics.specs.Memory.{Location, location_of, inside}
 use Rattle.bpf_semantics.specs.Memory.Location.{InContext, InFrame}
 use Rattle.bpf_semantics.specs.Step.{does, next, operand, alu_of_values, alu_result, test_of_values, load, load_extended, store, jump, wrapped}
@@ -31,17 +32,17 @@ use Rattle.bpf_semantics.specs.declared.value.Value.{Value}
 use Rattle.bpf_semantics.specs.declared.value.Value.TheVariants.{Number, Pointer}
 use Rattle.bpf_semantics.specs.declared.value.Region.TheVariants.{Context}
 use Rattle.bpf_follows.specs.declared.notes.Kind.{Kind}
-use Rattle.bpf_follows.specs.declared.notes.Kind.TheVariants.{Nothing, Same, Offset, Fixed, Start, Address}
+use Rattle.bpf_follows.specs.declared.notes.Kind.TheVariants.{Nothing, Same, Both, Number as NumberKind, Offset, Fixed, Within, Start, Address}
 use Rattle.bpf_follows.specs.declared.notes.Place.{Place}
 use Rattle.bpf_follows.specs.Relation.{Kinds, HasOffset, as_number, as_pointer, IsRead, EachPair, Holds, FitsKind, FitsSlot, register_in, is_of_other}
 use Rattle.bpf_follows.specs.Numbers.{loaded_number, number_kind}
 use Rattle.bpf_follows.specs.Extras.{is_same, is_base, is_r10, slot_of}
-use Rattle.bpf_follows.specs.Exact.{farthest, fixed_at, may_fall}
-use Rattle.bpf_follows.specs.Matching.{is_offset, copy_kind, computed, moved_kind, is_equality, are_offsets, slot_offset, loaded, spilled, by_offsets, by_kinds, are_same_place, is_same_place, ByAddress, kinds_after}
+use Rattle.bpf_follows.specs.Exact.{farthest, fixed_at, exact_kind, may_fall}
+use Rattle.bpf_follows.specs.Matching.{is_offset, copy_kind, within_at, offset_sum, computed, moved_kind, is_equality, are_offsets, fills_slot, slot_kind, slot_whole, loaded, spilled, put_constant, by_offsets, by_kinds, are_same_place, is_same_place, ByAddress, kinds_after}
 use Rattle.bpf_semantics.proofs.NumberLemmas.{modulo_below}
 use Rattle.bpf_follows.proofs.Lists.{bind, unmapped, cond_first, same_is_kept, as_long, Cells}
 use Rattle.bpf_follows.proofs.Owns.{Owns}
-use Rattle.bpf_follows.proofs.Slots.{register_below, load_holds, with_value, value_put, offset_put}
+use Rattle.bpf_follows.proofs.Slots.{register_below, load_holds, with_value, value_put, offset_put, number_put}
 use Rattle.bpf_follows.proofs.Near.{near, whole_slot_at, at_slot_whole, stored, in_some, in_one}
 use Rattle.bpf_follows.proofs.Offsets.{up, up_from, down, apart, wrapped_fits, wrapped_near, equal_offsets, fits_64, moved_number, near_zero, fixed_sum}
 use Rattle.bpf_follows.proofs.Between.{Between, Goes, goes_as, same_depth, stands_at, location_same, PointersKept, own_stack, own_stack_of, load_kept, load_extended_kept, value_near}
@@ -62,6 +63,7 @@ module _ (ends : Order) (notes : List (Option Place)) (turns : ℕ) (passed : �
   offset_has : (old : ℕ → Option Value) (r : ℕ) (kind : Kind) (new : Option Value) → is_offset kind ≡ true → FitsKind turns passed old r kind new → HasOffset (pos 0) as_number (old r) new
   offset_has old r Offset new e f = f
   offset_has old r (Fixed offset) new e f = record { offset = offset; fits = f.0; old_is = f.1; new_is = f.2 ∙ ap (λ z. Some (as_number z)) (plus_zero offset) }
+  offset_has old r (Within least most) new e f = record { offset = f.offset; fits = f.fits; old_is = f.old_is; new_is = f.new_is ∙ ap (λ z. Some (as_number z)) (plus_zero f.offset) }
   offset_has old r kind new e f = absurd (false≢true e)
 
   -- what the new machine computes, where the old one computes v
@@ -121,6 +123,9 @@ module _ (ends : Order) (notes : List (Option Place)) (turns : ℕ) (passed : �
   copied_by : (kind made : Kind) (old : ℕ → Option Value) (r : ℕ) (new : Option Value) (v : Value) → copy_kind kind ≡ Some made → FitsKind turns passed old r kind new → old r ≡ Some v → Computes made v new
   copied_by Offset made old r new v e f ev = subst (λ made. Computes made v new) (same_Some _ _ e) (record { value = as_number (f.offset +ℤ pos 0); is = f.new_is; own = refl; fits = record { offset = f.offset; fits = f.fits; old_is = sym ev ∙ f.old_is; new_is = refl } })
   copied_by (Fixed offset) made old r new v e f ev = subst (λ made. Computes made v new) (same_Some _ _ e) (record { value = as_number offset; is = f.2; own = refl; fits = (f.0, sym ev ∙ f.1, refl) })
+  copied_by (Within least most) made old r new v e f ev =
+      subst (λ made. Computes made v new) (same_Some _ _ e)
+      (record { value = as_number f.offset; is = f.new_is; own = refl; fits = record { offset = f.offset; fits = f.fits; low = f.low; high = f.high; old_is = sym ev ∙ f.old_is; new_is = refl } })
   copied_by Start made old r new v e f ev = subst (λ made. Computes made v new) (same_Some _ _ e) (record { value = Pointer Context (pos 0); is = f.1; own = refl; fits = (sym ev ∙ f.0, refl) })
   copied_by kind made old r new v e f ev = absurd (none-some _ e)
 
@@ -135,6 +140,57 @@ module _ (ends : Order) (notes : List (Option Place)) (turns : ℕ) (passed : �
       moves_to (offset +ℤ pos a) v _ _ (same_Some _ _ (sym (ap (λ o. alu_result W64 Add o (Pointer Context offset)) eo) ∙ ev)) (ap (λ o. alu_result W64 Add o (as_number (offset +ℤ pos 0))) en) (up_from offset a)
   sum_left old new (Pointer region at) offset v eo en ev = absurd (none-some _ (sym (ap (λ o. alu_result W64 Add o (Pointer Context offset)) eo) ∙ ev))
 
+  -- a sum that lies between bounds of 32 bits
+  within_sum : (z : ℤ) (low high n : ℕ) (v : Value) (o : Option Value) → Pointer Context (wrapped z) ≡ v → o ≡ Some (Number n) → n ≡ modulo (wrapped z +ℤ pos 0) (2 ^ 64) → pos low ≤ℤ z → z ≤ℤ pos high → Computes (within_at low high) v o
+  within_sum z low high n v o ev eo en l h = by_cases (nat_lt low (2 ^ 32)) (nat_lt high (2 ^ 32)) refl
+    where
+      near_sum : (z : ℤ) → pos low ≤ℤ z → z ≤ℤ pos high → high < 2 ^ 32 → FitsSigned w64 z
+      near_sum (pos m) l h small = record { sfits = omega (arith, ints) }
+      near_sum (negsuc m) l h small = absurd (omega (arith, ints))
+
+      by_cases : (a b : Bool) → nat_lt high (2 ^ 32) ≡ b → Computes (if a && b then Within low high else Offset) v o
+      by_cases true true eb =
+          let f = near_sum z l h (ltb-true high (2 ^ 32) eb) in
+          let is : wrapped z ≡ z = wrapped_near z f in
+          record { value = Number n; is = eo; own = refl; fits = record { offset = z; fits = f; low = l; high = h; old_is = ap Some (sym ev) ∙ ap (λ z. Some (Pointer Context z)) is; new_is = ap (λ n. Some (Number n)) (en ∙ ap (λ z. modulo z (2 ^ 64)) (sym (plus_zero (wrapped z)) ∙ is)) } }
+      by_cases true false eb = moves_to z v n o ev eo en
+      by_cases false b eb = moves_to z v n o ev eo en
+
+  -- the sum of an offset and a number between bounds
+  sum_within : (a b : Kind) (old : ℕ → Option Value) (p q : ℕ) (new more : Option Value) (x v : Value) → is_offset a ≡ true → is_same b ≡ true → FitsKind turns passed old p a new → FitsKind turns passed old q b more → old q ≡ Some x → alu_result W64 Add (old p) x ≡ Some v
+      → Computes Offset v (option_and_then (alu_result W64 Add new) more) → Computes (offset_sum a b) v (option_and_then (alu_result W64 Add new) more)
+  sum_within (Fixed offset) (NumberKind least most) old p q new more x v ea eb f g ex ev s = by_sign offset refl f
+    where
+      by_sign : (z : ℤ) → offset ≡ z → FitsKind turns passed old p (Fixed z) new → Computes (option_map_or (λ o. within_at (o + least) (o + most)) (not_negative z) Offset) v (option_and_then (alu_result W64 Add new) more)
+      by_sign (pos o) ez f =
+          let low = g.low in
+          let high = g.high in
+          let x_is : x ≡ Number g.number = same_Some _ _ (sym ex ∙ g.old_is) in
+          let new_is : new ≡ Some (as_number (pos o +ℤ pos 0)) = f.2 ∙ ap (λ z. Some (as_number z)) (plus_zero (pos o)) in
+          within_sum (pos o +ℤ pos g.number) (o + least) (o + most) _ v _
+          (same_Some _ _ (sym (ap₂ (λ old x. alu_result W64 Add old x) f.1 x_is) ∙ ev))
+          (ap₂ (λ new more. option_and_then (alu_result W64 Add new) more) new_is g.new_is)
+          (up (pos o) g.number) (omega (arith, ints)) (omega (arith, ints))
+      by_sign (negsuc o) ez f = s
+  sum_within (Within low high) (NumberKind least most) old p q new more x v ea eb f g ex ev s =
+      let number_low = g.low in
+      let number_high = g.high in
+      let offset_low = f.low in
+      let offset_high = f.high in
+      let x_is : x ≡ Number g.number = same_Some _ _ (sym ex ∙ g.old_is) in
+      let new_is : new ≡ Some (as_number (f.offset +ℤ pos 0)) = f.new_is ∙ ap (λ z. Some (as_number z)) (plus_zero f.offset) in
+      within_sum (f.offset +ℤ pos g.number) (low + least) (high + most) _ v _
+      (same_Some _ _ (sym (ap₂ (λ old x. alu_result W64 Add old x) f.old_is x_is) ∙ ev))
+      (ap₂ (λ new more. option_and_then (alu_result W64 Add new) more) new_is g.new_is)
+      (up f.offset g.number) (omega (arith, ints)) (omega (arith, ints))
+  sum_within a b old p q new more x v ea eb f g ex ev s = s
+
+  -- the other way round no bounds are said
+  sum_plain : (a b : Kind) (v : Value) (o : Option Value) → is_same a ≡ true → Computes Offset v o → Computes (offset_sum a b) v o
+  sum_plain (Fixed offset) b v o e s = absurd (false≢true e)
+  sum_plain (Within low high) b v o e s = absurd (false≢true e)
+  sum_plain a b v o e s = s
+
   -- of two registers; both are set where the old machine computes
   computed_by : (op : AluOp) (a b made : Kind) (old : ℕ → Option Value) (p q : ℕ) (new more : Option Value) (x v : Value) → computed op a b ≡ Some made → FitsKind turns passed old p a new → FitsKind turns passed old q b more
       → old q ≡ Some x → alu_result W64 op (old p) x ≡ Some v → Computes made v (option_and_then (alu_result W64 op new) more)
@@ -142,7 +198,7 @@ module _ (ends : Order) (notes : List (Option Place)) (turns : ℕ) (passed : �
       let h = copied_by b made old q more v e g (ex ∙ ev) in
       record { value = h.value; is = ap (option_and_then (alu_result W64 Mov new)) h.is; own = h.own; fits = h.fits }
   computed_by Add a b made old p q new more x v e f g ex ev =
-      let c = cond_is ((is_offset a && is_same b) || (is_same a && is_offset b)) Offset made e in
+      let c = cond_is ((is_offset a && is_same b) || (is_same a && is_offset b)) (offset_sum a b) made e in
       subst (λ made. Computes made v (option_and_then (alu_result W64 Add new) more)) c.1 (by_way (either (is_offset a && is_same b) (is_same a && is_offset b) c.0))
     where
       first_is : (y : Value) → old p ≡ Some y → (y : Value) × (old p ≡ Some y)
@@ -152,22 +208,22 @@ module _ (ends : Order) (notes : List (Option Place)) (turns : ℕ) (passed : �
       either true d e = inl refl
       either false d e = inr e
 
-      by_way : ((is_offset a && is_same b) ≡ true) ⊎ ((is_same a && is_offset b) ≡ true) → Computes Offset v (option_and_then (alu_result W64 Add new) more)
+      by_way : ((is_offset a && is_same b) ≡ true) ⊎ ((is_same a && is_offset b) ≡ true) → Computes (offset_sum a b) v (option_and_then (alu_result W64 Add new) more)
       by_way (inl e) =
           let k = both_true (is_offset a) (is_same b) e in
           let h = offset_has old p a new k.0 f in
           let same : more ≡ Some x = same_kept ends notes turns passed old q b more k.1 g x ex in
           let s = sum_right (old p) None new x v h ev in
-          record { value = s.value; is = ap (option_and_then (alu_result W64 Add new)) same ∙ s.is; own = s.own; fits = s.fits }
+          sum_within a b old p q new more x v k.0 k.1 f g ex ev (record { value = s.value; is = ap (option_and_then (alu_result W64 Add new)) same ∙ s.is; own = s.own; fits = s.fits })
       by_way (inr e) =
           let k = both_true (is_same a) (is_offset b) e in
           let h = offset_has old q b more k.1 g in
           let is : x ≡ Pointer Context h.offset = same_Some _ _ (sym ex ∙ h.old_is) in
           let set = option_and_then_some (λ y. alu_of_values W64 Add y x) (old p) v ev (λ y ey e1. first_is y ey) in
           let s = sum_left (old p) new set.0 h.offset v set.1 (same_kept ends notes turns passed old p a new k.0 f set.0 set.1) (subst (λ x. alu_result W64 Add (old p) x ≡ Some v) is ev) in
-          record { value = s.value; is = ap (option_and_then (alu_result W64 Add new)) h.new_is ∙ s.is; own = s.own; fits = s.fits }
+          sum_plain a b v _ k.0 (record { value = s.value; is = ap (option_and_then (alu_result W64 Add new)) h.new_is ∙ s.is; own = s.own; fits = s.fits })
   computed_by Sub a b made old p q new more x v e f g ex ev =
-      let c = cond_is (is_offset a && is_offset b) Same made e in
+      let c = cond_is (is_offset a && is_offset b) Both made e in
       let k = both_true (is_offset a) (is_offset b) c.0 in
       let h = offset_has old p a new k.0 f in
       let l = offset_has old q b more k.1 g in
@@ -179,7 +235,7 @@ module _ (ends : Order) (notes : List (Option Place)) (turns : ℕ) (passed : �
         value = Number n;
         is = ap₂ (λ o m. option_and_then (alu_result W64 Sub o) m) h.new_is l.new_is ∙ ap (λ n. Some (Number n)) (apart h.offset l.offset);
         own = refl;
-        fits = λ w ew. ap Some v_is ∙ ew;
+        fits = record { value = Number n; old_is = ap Some (sym v_is); new_is = refl };
       })
   computed_by op a b made old p q new more x v e f g ex ev = absurd (none-some _ e)
 
@@ -235,110 +291,187 @@ module _ (ends : Order) (notes : List (Option Place)) (turns : ℕ) (passed : �
       let number : register_number r ≡ 10 = eqb-true (register_number r) 10 r10 in
       same_kept ends notes turns passed (register_in s.top) (register_number r) (kinds (register_number r)) (register t r) (subst (λ n. is_same (kinds n) ≡ true) (sym number) same) (fits_in kinds s t r b) base eb
 
-  -- an offset that a slot holds
+  -- an offset or a number that a slot holds
   record Spilled (xs ys : Cells) (k : ℕ) (kind : Kind) : Type 0 where
-    offset : ℤ
-    fits : FitsSigned w64 offset
-    old_is : Holds ends xs k (Pointer Context offset)
-    new_is : Holds ends ys k (as_number offset)
+    before : Value
+    after : Value
+    old_is : Holds ends xs k before
+    new_is : Holds ends ys k after
     own : is_of_other kind ≡ false
-    in_register : FitsKind turns passed (λ q. Some (Pointer Context offset)) 0 kind (Some (as_number offset))
+    in_register : FitsKind turns passed (λ q. Some before) 0 kind (Some after)
 
-  spilled_has : (registers : ℕ → Option Value) (xs ys : Cells) (k : ℕ) (kind : Kind) → is_offset kind ≡ true → FitsSlot ends turns passed registers xs ys k kind → Spilled xs ys k kind
+  spilled_has : (registers : ℕ → Option Value) (xs ys : Cells) (k : ℕ) (kind : Kind) → fills_slot kind ≡ true → FitsSlot ends turns passed registers xs ys k kind → Spilled xs ys k kind
   spilled_has registers xs ys k Offset e f = record {
-    offset = f.offset;
-    fits = f.fits;
+    before = Pointer Context f.offset;
+    after = as_number f.offset;
     old_is = f.old_is;
     new_is = f.new_is;
     own = refl;
     in_register = record { offset = f.offset; fits = f.fits; old_is = refl; new_is = ap (λ z. Some (as_number z)) (plus_zero f.offset) };
   }
-  spilled_has registers xs ys k (Fixed offset) e f = record { offset = offset; fits = f.fits; old_is = f.old_is; new_is = f.new_is; own = refl; in_register = (f.fits, refl, refl) }
+  spilled_has registers xs ys k (Fixed offset) e f = record { before = Pointer Context offset; after = as_number offset; old_is = f.old_is; new_is = f.new_is; own = refl; in_register = (f.fits, refl, refl) }
+  spilled_has registers xs ys k (Within least most) e f = absurd f
+  spilled_has registers xs ys k (NumberKind least most) e f = record {
+    before = Number f.number;
+    after = Number f.number;
+    old_is = f.old_is;
+    new_is = f.new_is;
+    own = refl;
+    in_register = record { number = f.number; low = f.low; high = f.high; old_is = refl; new_is = refl };
+  }
   spilled_has registers xs ys k kind e f = absurd (false≢true e)
 
-  -- an offset that is put into a slot
+  -- an offset or a number that is put into a slot
   record Spills (kind : Kind) (old new : Option Value) : Type 0 where
-    offset : ℤ
-    fits : FitsSigned w64 offset
-    old_is : old ≡ Some (Pointer Context offset)
-    new_is : new ≡ Some (as_number offset)
-    in_slot : (registers : ℕ → Option Value) (xs ys : Cells) (k : ℕ) → Holds ends xs k (Pointer Context offset) → Holds ends ys k (as_number offset) → FitsSlot ends turns passed registers xs ys k kind
+    before : Value
+    after : Value
+    fits : FitsMachine (Some before)
+    fits_new : FitsMachine (Some after)
+    old_is : old ≡ Some before
+    new_is : new ≡ Some after
+    cells : (m : ℕ) (xs ys : Cells) → EachPair IsRead xs ys → EachPair IsRead (with_value ends before (8 * m) xs) (with_value ends after (8 * m) ys)
+    in_slot : (registers : ℕ → Option Value) (xs ys : Cells) (k : ℕ) → Holds ends xs k before → Holds ends ys k after → FitsSlot ends turns passed registers xs ys k kind
 
-  spills : (old : ℕ → Option Value) (r : ℕ) (kind : Kind) (new : Option Value) → is_offset kind ≡ true → FitsKind turns passed old r kind new → Spills kind (old r) new
-  spills old r Offset new e f = record {
-    offset = f.offset;
+  spills : (old : ℕ → Option Value) (r : ℕ) (kind : Kind) (new : Option Value) → fills_slot kind ≡ true → FitsMachine (old r) → FitsKind turns passed old r kind new → Spills (slot_kind kind) (old r) new
+  spills old r Offset new e fits f = record {
+    before = Pointer Context f.offset;
+    after = as_number f.offset;
     fits = f.fits;
+    fits_new = modulo_below f.offset;
     old_is = f.old_is;
     new_is = f.new_is ∙ ap (λ z. Some (as_number z)) (sym (plus_zero f.offset));
+    cells = λ m xs ys h. offset_put ends (modulo f.offset (2 ^ 64)) Context f.offset (8 * m) xs ys h;
     in_slot = λ registers xs ys k a b. record { offset = f.offset; fits = f.fits; old_is = a; new_is = b };
   }
-  spills old r (Fixed offset) new e f = record { offset = offset; fits = f.0; old_is = f.1; new_is = f.2; in_slot = λ registers xs ys k a b. record { fits = f.0; old_is = a; new_is = b } }
-  spills old r kind new e f = absurd (false≢true e)
+  spills old r (Within least most) new e fits f = record {
+    before = Pointer Context f.offset;
+    after = as_number f.offset;
+    fits = f.fits;
+    fits_new = modulo_below f.offset;
+    old_is = f.old_is;
+    new_is = f.new_is;
+    cells = λ m xs ys h. offset_put ends (modulo f.offset (2 ^ 64)) Context f.offset (8 * m) xs ys h;
+    in_slot = λ registers xs ys k a b. record { offset = f.offset; fits = f.fits; old_is = a; new_is = b };
+  }
+  spills old r (Fixed offset) new e fits f = record {
+    before = Pointer Context offset;
+    after = as_number offset;
+    fits = f.0;
+    fits_new = modulo_below offset;
+    old_is = f.1;
+    new_is = f.2;
+    cells = λ m xs ys h. offset_put ends (modulo offset (2 ^ 64)) Context offset (8 * m) xs ys h;
+    in_slot = λ registers xs ys k a b. record { fits = f.0; old_is = a; new_is = b };
+  }
+  spills old r (NumberKind least most) new e fits f = record {
+    before = Number f.number;
+    after = Number f.number;
+    fits = subst FitsMachine f.old_is fits;
+    fits_new = subst FitsMachine f.old_is fits;
+    old_is = f.old_is;
+    new_is = f.new_is;
+    cells = λ m xs ys h. number_put ends f.number (8 * m) xs ys h;
+    in_slot = λ registers xs ys k a b. record { number = f.number; low = f.low; high = f.high; old_is = a; new_is = b };
+  }
+  spills old r kind new e fits f = absurd (false≢true e)
 
-  -- an offset is loaded from the frame
-  loads_offset : (dst src : Reg) (off : ℤ) (made : Kind) (kinds : Kinds) (s t u : State) → Owns s → Between ends notes turns passed kinds s t → loaded kinds src off ≡ Some made → does ends (Load DW dst src off) s ≡ Some u
+  -- an offset or a number is loaded from the frame
+  loads_whole : (dst src : Reg) (off : ℤ) (made : Kind) (kinds : Kinds) (s t u : State) → Owns s → Between ends notes turns passed kinds s t → loaded kinds src off ≡ Some made → does ends (Load DW dst src off) s ≡ Some u
       → Goes ends notes turns passed (kinds_after (Load DW dst src off) made kinds) (s.top.slot + 1) (t.top.slot + 1) u (does ends (Load DW dst src off) t)
   unfolding does
-  loads_offset dst src off made kinds s t u o b e es =
+  loads_whole dst src off made kinds s t u o b e es =
       option_and_then_some _ (register s src) u es (λ base eb e1. option_and_then_some _ (location_of s 8 off base) u e1 (λ at el e2. option_and_then_some _ (load ends s DW at) u e2 (λ v ev e3.
-      let c = cond_first (is_r10 src && is_same (kinds 10)) (option_and_then (slot_offset kinds) (slot_of off)) made e in
+      let c = cond_first (is_r10 src && is_same (kinds 10)) (option_and_then (slot_whole kinds) (slot_of off)) made e in
       let k = both_true (is_r10 src) (is_same (kinds 10)) c.0 in
-      option_and_then_some (slot_offset kinds) (slot_of off) made c.1 (λ m em ek.
-      let made_is = cond_is (is_offset (kinds (11 + m))) (kinds (11 + m)) made ek in
+      option_and_then_some (slot_whole kinds) (slot_of off) made c.1 (λ m em ek.
+      let made_is = cond_is (fills_slot (kinds (11 + m))) (kinds (11 + m)) made ek in
       let w = whole_slot_at off m em in
       let at_is : at ≡ InFrame (depth s) (8 * m) = at_slot_whole s 8 off at m (near s src 8 off base at o k.0 eb el) w in
       let h = spilled_has (register_in s.top) s.top.stack t.top.stack m (kinds (11 + m)) made_is.0 (b.top.slots m w.below) in
-      let old_holds = subst (λ xs. Holds ends xs m (Pointer Context h.offset)) (sym (own_stack ends notes turns passed s)) h.old_is in
-      let new_holds = subst (λ xs. Holds ends xs m (as_number h.offset)) (sym (own_stack_of ends notes turns passed kinds s t b)) h.new_is in
-      let v_is : Pointer Context h.offset ≡ v = same_Some _ _ (sym (load_holds ends s (depth s) m (Pointer Context h.offset) old_holds) ∙ subst (λ at. load ends s DW at ≡ Some v) at_is ev) in
-      let x : Value = as_number h.offset in
-      let loads : load ends t DW at ≡ Some (as_number h.offset) = subst (λ at. load ends t DW at ≡ Some (as_number h.offset)) (sym at_is) (load_holds ends t (depth s) m (as_number h.offset) new_holds) in
+      let old_holds = subst (λ xs. Holds ends xs m h.before) (sym (own_stack ends notes turns passed s)) h.old_is in
+      let new_holds = subst (λ xs. Holds ends xs m h.after) (sym (own_stack_of ends notes turns passed kinds s t b)) h.new_is in
+      let v_is : h.before ≡ v = same_Some _ _ (sym (load_holds ends s (depth s) m h.before old_holds) ∙ subst (λ at. load ends s DW at ≡ Some v) at_is ev) in
+      let x : Value = h.after in
+      let loads : load ends t DW at ≡ Some h.after = subst (λ at. load ends t DW at ≡ Some h.after) (sym at_is) (load_holds ends t (depth s) m h.after new_holds) in
       subst (λ made. Goes ends notes turns passed (kinds_after (Load DW dst src off) made kinds) (s.top.slot + 1) (t.top.slot + 1) u (does ends (Load DW dst src off) t)) made_is.1
       (goes_as ends notes turns passed _ _ _ u _ _
       (bind _ (register t src) base _ (own_base kinds s t src base b k.0 k.1 eb) (bind _ (location_of t 8 off base) at _ (location_same ends notes turns passed s t 8 off base (same_depth ends notes turns passed kinds s t b) b.context_is ∙ el) (bind _ (load ends t DW at) x _ loads refl)))
-      (put_as ends notes turns passed kinds s t u (Load DW dst src off) (kinds (11 + m)) dst v x (λ q. refl) h.own (subst (λ v. FitsKind turns passed (λ q. Some v) 0 (kinds (11 + m)) (Some (as_number h.offset))) v_is h.in_register) b e3))))))
+      (put_as ends notes turns passed kinds s t u (Load DW dst src off) (kinds (11 + m)) dst v x (λ q. refl) h.own (subst (λ v. FitsKind turns passed (λ q. Some v) 0 (kinds (11 + m)) (Some h.after)) v_is h.in_register) b e3))))))
 
-  -- an offset is stored to the frame
-  stores_offset : (dst src : Reg) (off : ℤ) (made : Kind) (kinds : Kinds) (s t u : State) → Owns s → Between ends notes turns passed kinds s t → spilled kinds dst off src ≡ Some made → does ends (Store DW dst off src) s ≡ Some u
+  -- an offset or a number is stored to the frame
+  stores_whole : (dst src : Reg) (off : ℤ) (made : Kind) (kinds : Kinds) (s t u : State) → IsState s → Owns s → Between ends notes turns passed kinds s t → spilled kinds dst off src ≡ Some made → does ends (Store DW dst off src) s ≡ Some u
       → Goes ends notes turns passed (kinds_after (Store DW dst off src) made kinds) (s.top.slot + 1) (t.top.slot + 1) u (does ends (Store DW dst off src) t)
   unfolding does
-  stores_offset dst src off made kinds s t u o b e es =
+  stores_whole dst src off made kinds s t u state o b e es =
       option_and_then_some _ (register s dst) u es (λ base eb e1. option_and_then_some _ (register s src) u e1 (λ v ev e2. option_and_then_some _ (location_of s 8 off base) u e2 (λ at el e3.
       let i : Insn = Store DW dst off src in
-      let c = cond_first ((is_r10 dst && is_same (kinds 10)) && is_offset (kinds (register_number src))) (option_map (λ k. kinds (register_number src)) (slot_of off)) made e in
-      let k = both_true (is_r10 dst && is_same (kinds 10)) (is_offset (kinds (register_number src))) c.0 in
+      let c = cond_first ((is_r10 dst && is_same (kinds 10)) && fills_slot (kinds (register_number src))) (option_map (λ k. slot_kind (kinds (register_number src))) (slot_of off)) made e in
+      let k = both_true (is_r10 dst && is_same (kinds 10)) (fills_slot (kinds (register_number src))) c.0 in
       let l = both_true (is_r10 dst) (is_same (kinds 10)) k.0 in
-      let m = unmapped (λ k. kinds (register_number src)) (slot_of off) made c.1 in
+      let m = unmapped (λ k. slot_kind (kinds (register_number src))) (slot_of off) made c.1 in
       let w = whole_slot_at off m.0 m.1 in
       let n = near s dst 8 off base at o l.0 eb el in
       let at_is : at ≡ InFrame (depth s) (8 * m.0) = at_slot_whole s 8 off at m.0 n w in
-      let h = spills (register_in s.top) (register_number src) (kinds (register_number src)) (register t src) k.1 (fits_in kinds s t src b) in
-      let v_is : v ≡ Pointer Context h.offset = same_Some _ _ (sym ev ∙ h.old_is) in
-      let x : Value = as_number h.offset in
+      let h = spills (register_in s.top) (register_number src) (kinds (register_number src)) (register t src) k.1 (state.each_frame.0.values (register_number src)) (fits_in kinds s t src b) in
+      let v_is : v ≡ h.before = same_Some _ _ (sym ev ∙ h.old_is) in
+      let x : Value = h.after in
       let a : Access = record { base = dst; offset = off; size = DW; reads = false; writes = true } in
       let stands = stands_at ends notes turns passed kinds s t (s.top.slot + 1) (t.top.slot + 1) b in
-      let step : store ends DW (Pointer Context h.offset) (InFrame (depth s) (8 * m.0)) (next i s) ≡ Some u = subst (λ v. store ends DW v (InFrame (depth s) (8 * m.0)) (next i s) ≡ Some u) v_is (subst (λ at. store ends DW v at (next i s) ≡ Some u) at_is e3) in
-      let puts = value_near ends notes turns passed ends kinds (stored i (kinds (register_number src)) kinds) (kinds (register_number src)) (next i s) (next i t) u m.0 (Pointer Context h.offset) x stands
-      (in_one kinds (stored i (kinds (register_number src)) kinds) m.0 (kinds (register_number src)) (in_some i a (kinds (register_number src)) kinds (8 * m.0) refl refl l.0 w.away)) w.below
-      (offset_parts h.offset x m.0 s.top.stack t.top.stack b.top.stack)
-      (offset_slot kinds s t h.offset m.0 (kinds (register_number src)) h.fits w.below b h.in_slot)
+      let step : store ends DW h.before (InFrame (depth s) (8 * m.0)) (next i s) ≡ Some u = subst (λ v. store ends DW v (InFrame (depth s) (8 * m.0)) (next i s) ≡ Some u) v_is (subst (λ at. store ends DW v at (next i s) ≡ Some u) at_is e3) in
+      let puts = value_near ends notes turns passed ends kinds (stored i (slot_kind (kinds (register_number src))) kinds) (slot_kind (kinds (register_number src))) (next i s) (next i t) u m.0 h.before x stands
+      (in_one kinds (stored i (slot_kind (kinds (register_number src))) kinds) m.0 (slot_kind (kinds (register_number src))) (in_some i a (slot_kind (kinds (register_number src))) kinds (8 * m.0) refl refl l.0 w.away)) w.below
+      (h.cells m.0 s.top.stack t.top.stack b.top.stack)
+      (whole_fits kinds s t h.before h.after m.0 (slot_kind (kinds (register_number src))) h.fits h.fits_new w.below b h.in_slot)
       step in
       subst (λ made. Goes ends notes turns passed (kinds_after i made kinds) (s.top.slot + 1) (t.top.slot + 1) u (does ends i t)) m.2
-      (behind_store ends notes turns passed i (kinds (register_number src)) kinds _ _ u _ refl refl
+      (behind_store ends notes turns passed i (slot_kind (kinds (register_number src))) kinds _ _ u _ refl refl
       (goes_as ends notes turns passed _ _ _ u _ _
       (bind _ (register t dst) base _ (own_base kinds s t dst base b l.0 l.1 eb) (bind _ (register t src) x _ h.new_is (bind _ (location_of t 8 off base) at _ (location_same ends notes turns passed s t 8 off base (same_depth ends notes turns passed kinds s t b) b.context_is ∙ el) (ap (λ at. store ends DW x at (next i t)) at_is))))
       puts)))))
     where
-      offset_parts : (offset : ℤ) (x : Value) (m : ℕ) (xs ys : Cells) → EachPair IsRead xs ys → EachPair IsRead (with_value ends (Pointer Context offset) (8 * m) xs) (with_value ends (as_number offset) (8 * m) ys)
-      offset_parts offset x m xs ys h = offset_put ends (modulo offset (2 ^ 64)) Context offset (8 * m) xs ys h
-
-      offset_slot : (kinds : Kinds) (s t : State) (offset : ℤ) (m : ℕ) (kind : Kind) → FitsSigned w64 offset → m < 64 → Between ends notes turns passed kinds s t
-          → ((registers : ℕ → Option Value) (xs ys : Cells) (k : ℕ) → Holds ends xs k (Pointer Context offset) → Holds ends ys k (as_number offset) → FitsSlot ends turns passed registers xs ys k kind)
-          → FitsSlot ends turns passed (register_in s.top) (with_value ends (Pointer Context offset) (8 * m) s.top.stack) (with_value ends (as_number offset) (8 * m) t.top.stack) m kind
-      offset_slot kinds s t offset m kind f below b in_slot =
+      whole_fits : (kinds : Kinds) (s t : State) (before after : Value) (m : ℕ) (kind : Kind) → FitsMachine (Some before) → FitsMachine (Some after) → m < 64 → Between ends notes turns passed kinds s t
+          → ((registers : ℕ → Option Value) (xs ys : Cells) (k : ℕ) → Holds ends xs k before → Holds ends ys k after → FitsSlot ends turns passed registers xs ys k kind)
+          → FitsSlot ends turns passed (register_in s.top) (with_value ends before (8 * m) s.top.stack) (with_value ends after (8 * m) t.top.stack) m kind
+      whole_fits kinds s t before after m kind f g below b in_slot =
           let long : length s.top.stack ≡ 512 = b.top.long in
           let same : length t.top.stack ≡ length s.top.stack = as_long IsRead s.top.stack t.top.stack b.top.stack in
-          in_slot (register_in s.top) _ _ m (value_put ends (Pointer Context offset) m s.top.stack (omega arith) f) (value_put ends (as_number offset) m t.top.stack (omega arith) (modulo_below offset))
+          in_slot (register_in s.top) _ _ m (value_put ends before m s.top.stack (omega arith) f) (value_put ends after m t.top.stack (omega arith) g)
+
+  -- a constant is stored to the frame
+  stores_constant : (dst : Reg) (off imm : ℤ) (made : Kind) (kinds : Kinds) (s t u : State) → Owns s → Between ends notes turns passed kinds s t → put_constant kinds dst off imm ≡ Some made → does ends (StoreImm DW dst off imm) s ≡ Some u
+      → Goes ends notes turns passed (kinds_after (StoreImm DW dst off imm) made kinds) (s.top.slot + 1) (t.top.slot + 1) u (does ends (StoreImm DW dst off imm) t)
+  unfolding does
+  stores_constant dst off imm made kinds s t u o b e es =
+      option_and_then_some _ (register s dst) u es (λ base eb e1. option_and_then_some _ (location_of s 8 off base) u e1 (λ at el e3.
+      let i : Insn = StoreImm DW dst off imm in
+      let n : ℕ = extended imm in
+      let c = cond_first (is_r10 dst && is_same (kinds 10)) (option_and_then (λ k. exact_kind n) (slot_of off)) made e in
+      let l = both_true (is_r10 dst) (is_same (kinds 10)) c.0 in
+      option_and_then_some (λ k. exact_kind n) (slot_of off) made c.1 (λ m em ek.
+      let made_is = cond_is (nat_lt n (2 ^ 32)) (NumberKind n n) made ek in
+      let w = whole_slot_at off m em in
+      let at_is : at ≡ InFrame (depth s) (8 * m) = at_slot_whole s 8 off at m (near s dst 8 off base at o l.0 eb el) w in
+      let a : Access = record { base = dst; offset = off; size = DW; reads = false; writes = true } in
+      let stands = stands_at ends notes turns passed kinds s t (s.top.slot + 1) (t.top.slot + 1) b in
+      let step : store ends DW (Number n) (InFrame (depth s) (8 * m)) (next i s) ≡ Some u = subst (λ at. store ends DW (Number n) at (next i s) ≡ Some u) at_is e3 in
+      let fits : FitsMachine (Some (Number n)) = modulo_below imm in
+      let puts = value_near ends notes turns passed ends kinds (stored i (NumberKind n n) kinds) (NumberKind n n) (next i s) (next i t) u m (Number n) (Number n) stands
+      (in_one kinds (stored i (NumberKind n n) kinds) m (NumberKind n n) (in_some i a (NumberKind n n) kinds (8 * m) refl refl l.0 w.away)) w.below
+      (number_put ends n (8 * m) s.top.stack t.top.stack b.top.stack)
+      (constant_fits kinds s t n m fits w.below b)
+      step in
+      subst (λ made. Goes ends notes turns passed (kinds_after i made kinds) (s.top.slot + 1) (t.top.slot + 1) u (does ends i t)) made_is.1
+      (behind_store ends notes turns passed i (NumberKind n n) kinds _ _ u _ refl refl
+      (goes_as ends notes turns passed _ _ _ u _ _
+      (bind _ (register t dst) base _ (own_base kinds s t dst base b l.0 l.1 eb) (bind _ (location_of t 8 off base) at _ (location_same ends notes turns passed s t 8 off base (same_depth ends notes turns passed kinds s t b) b.context_is ∙ el) (ap (λ at. store ends DW (Number n) at (next i t)) at_is)))
+      puts)))))
+    where
+      constant_fits : (kinds : Kinds) (s t : State) (n m : ℕ) → FitsMachine (Some (Number n)) → m < 64 → Between ends notes turns passed kinds s t
+          → FitsSlot ends turns passed (register_in s.top) (with_value ends (Number n) (8 * m) s.top.stack) (with_value ends (Number n) (8 * m) t.top.stack) m (NumberKind n n)
+      constant_fits kinds s t n m f below b =
+          let long : length s.top.stack ≡ 512 = b.top.long in
+          let same : length t.top.stack ≡ length s.top.stack = as_long IsRead s.top.stack t.top.stack b.top.stack in
+          record { number = n; low = omega arith; high = omega arith; old_is = value_put ends (Number n) m s.top.stack (omega arith) f; new_is = value_put ends (Number n) m t.top.stack (omega arith) f }
 
   -- what is said of each instruction that does on offsets what the old one does on pointers
   pub offsets_arrive : (order : Order) (i : Insn) (z : ℤ) (made : Kind) (kinds : Kinds) (s t u : State) → order ≡ ends → IsState s → Owns s → Between ends notes turns passed kinds s t → by_offsets kinds i ≡ Some made
@@ -358,11 +491,15 @@ module _ (ends : Order) (notes : List (Option Place)) (turns : ℕ) (passed : �
   offsets_arrive order (Load DW dst src off) z made kinds s t u same state o b e falls jumps es =
       arrived ends notes turns passed _ _ _ u _
       (subst (λ order. Goes ends notes turns passed (kinds_after (Load DW dst src off) made kinds) (s.top.slot + 1) (t.top.slot + 1) u (does order (Load DW dst src off) t)) (sym same)
-      (loads_offset dst src off made kinds s t u o b e (subst (λ order. does order (Load DW dst src off) s ≡ Some u) same es))) (falls refl)
+      (loads_whole dst src off made kinds s t u o b e (subst (λ order. does order (Load DW dst src off) s ≡ Some u) same es))) (falls refl)
   offsets_arrive order (Store DW dst off src) z made kinds s t u same state o b e falls jumps es =
       arrived ends notes turns passed _ _ _ u _
       (subst (λ order. Goes ends notes turns passed (kinds_after (Store DW dst off src) made kinds) (s.top.slot + 1) (t.top.slot + 1) u (does order (Store DW dst off src) t)) (sym same)
-      (stores_offset dst src off made kinds s t u o b e (subst (λ order. does order (Store DW dst off src) s ≡ Some u) same es))) (falls refl)
+      (stores_whole dst src off made kinds s t u state o b e (subst (λ order. does order (Store DW dst off src) s ≡ Some u) same es))) (falls refl)
+  offsets_arrive order (StoreImm DW dst off imm) z made kinds s t u same state o b e falls jumps es =
+      arrived ends notes turns passed _ _ _ u _
+      (subst (λ order. Goes ends notes turns passed (kinds_after (StoreImm DW dst off imm) made kinds) (s.top.slot + 1) (t.top.slot + 1) u (does order (StoreImm DW dst off imm) t)) (sym same)
+      (stores_constant dst off imm made kinds s t u o b e (subst (λ order. does order (StoreImm DW dst off imm) s ≡ Some u) same es))) (falls refl)
   offsets_arrive order i z made kinds s t u same state o b e falls jumps es = absurd (none-some _ e)
 
   -- ---- loads by other registers
@@ -454,7 +591,7 @@ module _ (ends : Order) (notes : List (Option Place)) (turns : ℕ) (passed : �
   pub is_load : (i moved : Insn) (kinds : Kinds) → ByAddress kinds i moved → (is_flow i ≡ false) × ((may_fall kinds i ≡ true) × (by_kinds kinds i ≡ None))
   is_load (Load DW dst src off) moved kinds a = (
     refl,
-    (refl, ap (λ b. if b && is_same (kinds 10) then option_and_then (slot_offset kinds) (slot_of off) else None) (ap (λ (x : Access). is_r10 x.base) (same_Some _ _ a.old_is) ∙ a.other)),
+    (refl, ap (λ b. if b && is_same (kinds 10) then option_and_then (slot_whole kinds) (slot_of off) else None) (ap (λ (x : Access). is_r10 x.base) (same_Some _ _ a.old_is) ∙ a.other)),
   )
   is_load (Load size dst src off) moved kinds a = (refl, (refl, refl))
   is_load (LoadSx size dst src off) moved kinds a = (refl, (refl, refl))

@@ -25,7 +25,7 @@ use Rattle.bpf_semantics.proofs.NumberLemmas.{length-bytes_of}
 use Rattle.bpf_semantics.proofs.FlatBytes.{number-bytes}
 use Rattle.bpf_semantics.proofs.StateLemmas.{get_each, length-each_cell, without_is}
 use Rattle.bpf_follows.specs.declared.notes.Kind.{Kind}
-use Rattle.bpf_follows.specs.declared.notes.Kind.TheVariants.{Nothing, Unset, Same, Number as NumberKind, Offset, Fixed, Start, Alone}
+use Rattle.bpf_follows.specs.declared.notes.Kind.TheVariants.{Nothing, Unset, Same, Number as NumberKind, Offset, Fixed, Within, Start, Alone, Both}
 use Rattle.bpf_follows.specs.Relation.{IsKept, EachPair, IsRead, cell_of, Holds, IsUnset, SlotKept, FitsSlot, as_number, is_free}
 use Rattle.bpf_follows.specs.Matching.{is_plain}
 use Rattle.bpf_follows.proofs.Lists.{mapped, same_is_kept, pairs_weaker, pair_at, Cells}
@@ -93,6 +93,10 @@ nothing_there (suc n) (suc i) = nothing_there n i
 pub unset_kept : (xs ys : Cells) (k : ℕ) → IsUnset xs k → SlotKept xs ys k
 unset_kept xs ys k u j lt c e = absurd (none-some _ (sym (u j lt) ∙ e))
 
+-- both hold one value
+pub both_hold : (order : Order) (xs ys : Cells) (k : ℕ) (v : Value) → Holds order xs k v → Holds order ys k v → SlotKept xs ys k
+both_hold order xs ys k v h g j lt c e = g.cells j lt ∙ (sym (h.cells j lt) ∙ e)
+
 pub holds_as : (order : Order) (xs xs' : Cells) (k : ℕ) (v : Value) → ((j : ℕ) → j < 8 → cell xs' (8 * k + j) ≡ cell xs (8 * k + j)) → Holds order xs k v → Holds order xs' k v
 holds_as order xs xs' k v e h = record { fits = h.fits; cells = λ j lt. e j lt ∙ h.cells j lt }
 
@@ -101,9 +105,11 @@ module _ (order : Order) (turns : ℕ) (passed : ℕ → ℕ) (registers : ℕ �
   plain_kept xs ys k Nothing e f = absurd (false≢true e)
   plain_kept xs ys k Unset e f = unset_kept xs ys k f
   plain_kept xs ys k Same e f = f
-  plain_kept xs ys k (NumberKind least most) e f = absurd f
+  plain_kept xs ys k Both e f = absurd f
+  plain_kept xs ys k (NumberKind least most) e f = both_hold order xs ys k (Number f.number) f.old_is f.new_is
   plain_kept xs ys k Offset e f = absurd (false≢true e)
   plain_kept xs ys k (Fixed offset) e f = absurd (false≢true e)
+  plain_kept xs ys k (Within least most) e f = absurd f
   plain_kept xs ys k Start e f = absurd f
   plain_kept xs ys k Alone e f = absurd f
   plain_kept xs ys k kind e f = unset_kept xs ys k f.unset
@@ -113,9 +119,11 @@ module _ (order : Order) (turns : ℕ) (passed : ℕ → ℕ) (registers : ℕ �
   free_unset xs ys k Nothing e f = absurd (false≢true e)
   free_unset xs ys k Unset e f = f
   free_unset xs ys k Same e f = absurd (false≢true e)
-  free_unset xs ys k (NumberKind least most) e f = absurd f
+  free_unset xs ys k Both e f = absurd f
+  free_unset xs ys k (NumberKind least most) e f = absurd (false≢true e)
   free_unset xs ys k Offset e f = absurd (false≢true e)
   free_unset xs ys k (Fixed offset) e f = absurd (false≢true e)
+  free_unset xs ys k (Within least most) e f = absurd f
   free_unset xs ys k Start e f = absurd f
   free_unset xs ys k Alone e f = absurd f
   free_unset xs ys k kind e f = f.unset
@@ -126,7 +134,14 @@ module _ (order : Order) (turns : ℕ) (passed : ℕ → ℕ) (registers : ℕ �
   slot_as xs ys xs' ys' k Nothing ex ey f = tt
   slot_as xs ys xs' ys' k Unset ex ey f = λ j lt. ex j lt ∙ f j lt
   slot_as xs ys xs' ys' k Same ex ey f = λ j lt c e. ey j lt ∙ f j lt c (sym (ex j lt) ∙ e)
-  slot_as xs ys xs' ys' k (NumberKind least most) ex ey f = f
+  slot_as xs ys xs' ys' k Both ex ey f = f
+  slot_as xs ys xs' ys' k (NumberKind least most) ex ey f = record {
+    number = f.number;
+    low = f.low;
+    high = f.high;
+    old_is = holds_as order xs xs' k (Number f.number) ex f.old_is;
+    new_is = holds_as order ys ys' k (Number f.number) ey f.new_is;
+  }
   slot_as xs ys xs' ys' k Offset ex ey f = record {
     offset = f.offset;
     fits = f.fits;
@@ -139,6 +154,7 @@ module _ (order : Order) (turns : ℕ) (passed : ℕ → ℕ) (registers : ℕ �
     new_is = holds_as order ys ys' k (as_number offset) ey f.new_is;
   }
   slot_as xs ys xs' ys' k Start ex ey f = f
+  slot_as xs ys xs' ys' k (Within least most) ex ey f = f
   slot_as xs ys xs' ys' k Alone ex ey f = f
   slot_as xs ys xs' ys' k kind ex ey f = record {
     unset = λ j lt. ex j lt ∙ f.unset j lt;
@@ -343,6 +359,11 @@ offset_read region off bytes i count j x y r = by_cases (is_within i (i + 8) j) 
 pub offset_put : (order : Order) (n : ℕ) (region : Region) (off : ℤ) (i : ℕ) (xs ys : Cells) → EachPair IsRead xs ys → EachPair IsRead (with_parts region off i xs) (with_bytes (bytes_of order 8 n) i ys)
 unfolding with_bytes with_parts
 offset_put order n region off i xs ys h = each_read (part_after region off i) (cell_after (bytes_of order 8 n) i) 0 xs ys (offset_read region off (bytes_of order 8 n) i (length-bytes_of order 8 n)) h
+
+-- a number in both
+pub number_put : (order : Order) (n i : ℕ) (xs ys : Cells) → EachPair IsRead xs ys → EachPair IsRead (with_bytes (bytes_of order 8 n) i xs) (with_bytes (bytes_of order 8 n) i ys)
+unfolding with_bytes
+number_put order n i xs ys h = each_read (cell_after (bytes_of order 8 n) i) (cell_after (bytes_of order 8 n) i) 0 xs ys (bytes_read (bytes_of order 8 n) i) h
 
 -- the new stack alone gets a value, where the old one holds nothing
 pub own_read : (order : Order) (v : Value) (k : ℕ) (xs ys : Cells) → IsUnset xs k → length ys ≡ length xs → EachPair IsRead xs ys → EachPair IsRead xs (with_value order v (8 * k) ys)

@@ -1,5 +1,5 @@
 -- Extra instructions: what they make of the new program's registers, while the old program stands still. Nothing here speaks of runs.
-use Rattle.std.specs.Prelude.{ℕ, zero, suc, ◌+◌, ◌-◌, ◌/◌, ◌%◌, ◌^◌, ◌==◌, nat_le, nat_lt, int_le, ◌&&◌, ℤ, pos, negsuc, ◌+ℤ◌, ◌-ℤ◌, Bool, true, false, List, set, get_or, Option, Some, None, option_and_then, option_map, if◌then◌else◌}
+use Rattle.std.specs.Prelude.{ℕ, zero, suc, ◌+◌, ◌-◌, ◌/◌, ◌%◌, ◌^◌, ◌==◌, nat_le, nat_lt, int_le, ◌&&◌, ℤ, pos, negsuc, ◌+ℤ◌, ◌-ℤ◌, Bool, true, false, List, set, get_or, min, max, Option, Some, None, option_and_then, option_map, if◌then◌else◌}
 use Rattle.std.specs.Int.{int_min, int_max}
 use Rattle.std.specs.Option.{option_map_or, option_or}
 use Rattle.std.specs.Ordering.{int_eq}
@@ -17,7 +17,7 @@ use Rattle.bpf_insn.specs.declared.instruction.Cond.TheVariants.{Eq, Gt, Lt}
 use Rattle.bpf_insn.specs.declared.instruction.Insn.{Insn}
 use Rattle.bpf_insn.specs.declared.instruction.Insn.TheVariants.{Alu, Load, Store, StoreImm, JumpIf}
 use Rattle.bpf_follows.specs.declared.notes.Kind.{Kind}
-use Rattle.bpf_follows.specs.declared.notes.Kind.TheVariants.{Same, Number, Offset, Fixed, Start, Base, Moved, Address, Constant, Counter, Turn, Alone}
+use Rattle.bpf_follows.specs.declared.notes.Kind.TheVariants.{Same, Both, Number, Offset, Fixed, Within, Start, Base, Moved, Address, Saved, Constant, Counter, Turn, Alone}
 use Rattle.bpf_follows.specs.declared.site.Span.{Span}
 use Rattle.bpf_follows.specs.declared.site.Range.{Range}
 use Rattle.bpf_follows.specs.declared.site.Front.{Front}
@@ -27,6 +27,7 @@ use Rattle.bpf_follows.specs.Relation.{kind_in, is_free}
 
 abbrev pub is_same : Kind → Bool
 is_same Same = true
+is_same Both = true
 is_same Start = true
 is_same (Number least most) = true
 is_same Alone = true
@@ -46,6 +47,7 @@ constant_kind kind imm = Constant imm
 abbrev pub offset_in : Reg → Kind → Option (Reg × ℤ)
 offset_in r Offset = Some (r, pos 0)
 offset_in r (Fixed offset) = Some (r, pos 0)
+offset_in r (Within least most) = Some (r, pos 0)
 offset_in r (Moved of by) = Some (of, by)
 offset_in r _ = None
 
@@ -54,6 +56,7 @@ copied r Start = Some Base
 copied r Base = Some Base
 copied r Offset = Some (Moved r (pos 0))
 copied r (Fixed offset) = Some (Moved r (pos 0))
+copied r (Within least most) = Some (Moved r (pos 0))
 copied r (Moved of by) = Some (Moved of by)
 copied r (Address of by) = Some (Address of by)
 copied r (Constant value) = Some (Constant value)
@@ -119,15 +122,17 @@ abbrev pub own_kind : Kind → Option Kind
 own_kind Base = Some Base
 own_kind (Moved of by) = Some (Moved of by)
 own_kind (Address of by) = Some (Address of by)
+own_kind (Saved of) = Some (Saved of)
 own_kind (Constant value) = Some (Constant value)
 own_kind (Counter head) = Some (Counter head)
 own_kind (Turn head) = Some (Turn head)
 own_kind _ = None
 
--- what is put into a slot
+-- what is put into a slot: of what both have, whose it is
 abbrev pub kept_kind : Reg → Kind → Option Kind
 kept_kind r (Counter head) = Some (Counter head)
 kept_kind r (Turn head) = Some (Turn head)
+kept_kind r Both = Some (Saved r)
 kept_kind r kind = copied r kind
 
 -- into a slot in which the old program has nothing
@@ -140,9 +145,14 @@ stored kinds dst off src = option_and_then (λ k. option_map (λ kind. (11 + k, 
 abbrev pub stored_constant : List Kind → Reg → ℤ → ℤ → Option (ℕ × Kind)
 stored_constant kinds dst off imm = option_map (λ k. (11 + k, Constant imm)) (free_slot kinds dst off)
 
+-- what was saved is put back
+unfoldable pub restored : Reg → Kind → Kind
+restored r (Saved of) = if register_number of == register_number r then Both else Saved of
+restored r kind = kind
+
 -- what is taken out of one
 abbrev pub taken : List Kind → Reg → Reg → ℤ → Option (ℕ × Kind)
-taken kinds dst src off = if is_r10 dst then None else option_and_then (λ k. option_map (λ kind. (register_number dst, kind)) (own_kind (kind_in kinds (11 + k)))) (frame_slot kinds src off)
+taken kinds dst src off = if is_r10 dst then None else option_and_then (λ k. option_map (λ kind. (register_number dst, restored dst kind)) (own_kind (kind_in kinds (11 + k)))) (frame_slot kinds src off)
 
 abbrev pub constant_put : List Kind → Insn → Option (ℕ × Kind)
 constant_put kinds (StoreImm DW dst off imm) = stored_constant kinds dst off imm
@@ -193,7 +203,9 @@ bounds_range least most = if nat_lt most (2 ^ 32) then Some (record { least = po
 -- between which numbers a register's lies, if the old program's run goes on to its end
 abbrev pub range_in : Front → List Kind → Reg → Kind → Option Range
 range_in front kinds r Same = added_range front kinds r
+range_in front kinds r Both = added_range front kinds r
 range_in front kinds r (Number least most) = option_or (option_map (clipped least most) (added_range front kinds r)) (bounds_range least most)
+range_in front kinds r (Within least most) = option_or (option_map (clipped least most) (offset_range front r (Within least most))) (bounds_range least most)
 range_in front kinds r kind = offset_range front r kind
 
 -- numbers wrap, so none of the range may be below 0 or far away
@@ -209,6 +221,20 @@ passes (Some front) kinds (JumpIf Gt W64 dst (Imm imm) off) = option_map_or (is_
 passes (Some front) kinds (JumpIf Lt W64 dst (Imm imm) off) = option_map_or (is_least imm) (range_in front kinds dst (kind_of kinds dst)) false
 passes front kinds i = false
 
+-- what a guard tells of a number that it lets pass
+abbrev pub at_most : ℕ → Kind → Kind
+at_most n (Number least most) = Number least (min most n)
+at_most n kind = kind
+
+abbrev pub at_least : ℕ → Kind → Kind
+at_least n (Number least most) = if nat_lt n (2 ^ 32) then Number (max least n) most else Number least most
+at_least n kind = kind
+
+abbrev pub passed_by : List Kind → Insn → List Kind
+passed_by kinds (JumpIf Gt W64 dst (Imm imm) off) = set kinds (register_number dst) (at_most (extended imm) (kind_of kinds dst))
+passed_by kinds (JumpIf Lt W64 dst (Imm imm) off) = set kinds (register_number dst) (at_least (extended imm) (kind_of kinds dst))
+passed_by kinds i = kinds
+
 -- ---- all of them
 
 -- what an extra instruction writes, and what it holds then
@@ -217,7 +243,7 @@ written front kinds i = option_or (moved_by kinds i) (option_map (λ w. (registe
 
 -- what places hold behind an extra instruction
 abbrev pub extra : Option Front → Insn → List Kind → Option (List Kind)
-extra front i kinds = if passes front kinds i then Some kinds else option_map (λ w. set kinds w.0 w.1) (written front kinds i)
+extra front i kinds = if passes front kinds i then Some (passed_by kinds i) else option_map (λ w. set kinds w.0 w.1) (written front kinds i)
 
 abbrev pub extra_at : Instructions → Option Front → ℕ → List Kind → Option (List Kind)
 extra_at new front slot kinds = option_and_then (λ i. extra front i kinds) (insn_at new.list slot)

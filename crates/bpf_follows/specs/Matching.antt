@@ -4,6 +4,7 @@ use Rattle.std.specs.Int.{w16}
 use Rattle.std.specs.List.{AllByRecursion}
 use Rattle.std.specs.Option.{option_map_or, option_or}
 use Rattle.std.specs.Ordering.{int_eq}
+use Rattle.bpf_insn.specs.Arithmetic.{extended}
 use Rattle.bpf_insn.specs.Effects.{Access, access_of, registers_read, register_written}
 use Rattle.bpf_insn.specs.Instruction.{Instructions, register_number, byte_count, slot_count, insn_at, distance, target, goes_on, not_negative}
 use Rattle.bpf_insn.specs.Limits.{frame_bytes}
@@ -17,10 +18,10 @@ use Rattle.bpf_insn.specs.declared.instruction.AluOp.TheVariants.{Add, Sub, Mov}
 use Rattle.bpf_insn.specs.declared.instruction.Cond.{Cond}
 use Rattle.bpf_insn.specs.declared.instruction.Cond.TheVariants.{Eq, Ne}
 use Rattle.bpf_insn.specs.declared.instruction.Insn.{Insn}
-use Rattle.bpf_insn.specs.declared.instruction.Insn.TheVariants.{Alu, Load, LoadSx, Store, Ja, JaLong, JumpIf, CallLocal}
+use Rattle.bpf_insn.specs.declared.instruction.Insn.TheVariants.{Alu, Load, LoadSx, Store, StoreImm, Ja, JaLong, JumpIf, CallLocal}
 use Rattle.bpf_semantics.specs.Memory.{is_within}
 use Rattle.bpf_follows.specs.declared.notes.Kind.{Kind}
-use Rattle.bpf_follows.specs.declared.notes.Kind.TheVariants.{Nothing, Unset, Same, Number, Offset, Fixed, Start, Moved, Address}
+use Rattle.bpf_follows.specs.declared.notes.Kind.TheVariants.{Nothing, Unset, Same, Both, Number, Offset, Fixed, Within, Start, Moved, Address, Saved}
 use Rattle.bpf_follows.specs.declared.notes.Bounds.{Bounds}
 use Rattle.bpf_follows.specs.declared.notes.Place.{Place}
 use Rattle.bpf_follows.specs.declared.site.Front.{Front}
@@ -31,7 +32,7 @@ use Rattle.bpf_follows.specs.Relation.{places, Kinds, Gives, kind_in, kinds_of, 
 use Rattle.bpf_follows.specs.Ahead.{spans_ahead, span_behind}
 use Rattle.bpf_follows.specs.Numbers.{is_bounded, number_kind, told}
 use Rattle.bpf_follows.specs.Extras.{is_same, is_base, is_r10, slot_of, extras}
-use Rattle.bpf_follows.specs.Exact.{fixed_at, by_exact, may_fall, may_lead}
+use Rattle.bpf_follows.specs.Exact.{fixed_at, exact_kind, by_exact, may_fall, may_lead}
 
 -- ---- instructions
 
@@ -61,19 +62,31 @@ AreSame kinds rs = AllByRecursion (λ r. is_same (kinds (register_number r)) ≡
 abbrev pub is_offset : Kind → Bool
 is_offset Offset = true
 is_offset (Fixed offset) = true
+is_offset (Within least most) = true
 is_offset _ = false
 
 abbrev pub copy_kind : Kind → Option Kind
 copy_kind Offset = Some Offset
 copy_kind (Fixed offset) = Some (Fixed offset)
+copy_kind (Within least most) = Some (Within least most)
 copy_kind Start = Some Start
 copy_kind _ = None
+
+-- an offset between these two, if they have 32 bits
+abbrev pub within_at : ℕ → ℕ → Kind
+within_at low high = if nat_lt low (2 ^ 32) && nat_lt high (2 ^ 32) then Within low high else Offset
+
+-- the sum of an offset and what is the same in both
+abbrev pub offset_sum : Kind → Kind → Kind
+offset_sum (Fixed offset) (Number least most) = option_map_or (λ o. within_at (o + least) (o + most)) (not_negative offset) Offset
+offset_sum (Within low high) (Number least most) = within_at (low + least) (high + most)
+offset_sum a b = Offset
 
 -- 64-bit operations on two registers, and on a register and a constant
 abbrev pub computed : AluOp → Kind → Kind → Option Kind
 computed Mov a b = copy_kind b
-computed Add a b = if (is_offset a && is_same b) || (is_same a && is_offset b) then Some Offset else None
-computed Sub a b = if is_offset a && is_offset b then Some Same else None
+computed Add a b = if (is_offset a && is_same b) || (is_same a && is_offset b) then Some (offset_sum a b) else None
+computed Sub a b = if is_offset a && is_offset b then Some Both else None
 computed _ a b = None
 
 abbrev pub moved_kind : AluOp → Kind → ℤ → Option Kind
@@ -94,22 +107,40 @@ is_equality _ = false
 abbrev pub are_offsets : Kinds → Reg → Reg → Bool
 are_offsets kinds dst src = is_offset (kinds (register_number dst)) && is_offset (kinds (register_number src))
 
--- an offset that a slot of the frame holds, and one that is put there
-abbrev pub slot_offset : Kinds → ℕ → Option Kind
-slot_offset kinds k = if is_offset (kinds (11 + k)) then Some (kinds (11 + k)) else None
+-- an offset, or a number of which bounds are known: what a slot holds whole
+abbrev pub fills_slot : Kind → Bool
+fills_slot Offset = true
+fills_slot (Fixed offset) = true
+fills_slot (Within least most) = true
+fills_slot (Number least most) = true
+fills_slot _ = false
+
+-- of an offset no bounds are said there
+abbrev pub slot_kind : Kind → Kind
+slot_kind (Within least most) = Offset
+slot_kind kind = kind
+
+-- what a slot of the frame holds whole, and what is put there
+abbrev pub slot_whole : Kinds → ℕ → Option Kind
+slot_whole kinds k = if fills_slot (kinds (11 + k)) then Some (kinds (11 + k)) else None
 
 abbrev pub loaded : Kinds → Reg → ℤ → Option Kind
-loaded kinds src off = if is_r10 src && is_same (kinds 10) then option_and_then (slot_offset kinds) (slot_of off) else None
+loaded kinds src off = if is_r10 src && is_same (kinds 10) then option_and_then (slot_whole kinds) (slot_of off) else None
 
 abbrev pub spilled : Kinds → Reg → ℤ → Reg → Option Kind
-spilled kinds dst off src = if (is_r10 dst && is_same (kinds 10)) && is_offset (kinds (register_number src)) then option_map (λ k. kinds (register_number src)) (slot_of off) else None
+spilled kinds dst off src = if (is_r10 dst && is_same (kinds 10)) && fills_slot (kinds (register_number src)) then option_map (λ k. slot_kind (kinds (register_number src))) (slot_of off) else None
 
--- what the instruction writes, where it does on offsets what the old program does on pointers; of a test nothing
+-- a constant that is put into a slot
+abbrev pub put_constant : Kinds → Reg → ℤ → ℤ → Option Kind
+put_constant kinds dst off imm = if is_r10 dst && is_same (kinds 10) then option_and_then (λ k. exact_kind (extended imm)) (slot_of off) else None
+
+-- what the instruction writes, where it does on offsets what the old program does on pointers, or takes a whole slot; of a test nothing
 abbrev pub by_offsets : Kinds → Insn → Option Kind
 by_offsets kinds (Alu op W64 dst src) = of_operand kinds op dst src
 by_offsets kinds (JumpIf cond W64 dst (FromReg src) off) = if is_equality cond && are_offsets kinds dst src then Some Nothing else None
 by_offsets kinds (Load DW dst src off) = loaded kinds src off
 by_offsets kinds (Store DW dst off src) = spilled kinds dst off src
+by_offsets kinds (StoreImm DW dst off imm) = put_constant kinds dst off imm
 by_offsets kinds i = None
 
 -- the same, or where what it writes is always the same
@@ -245,6 +276,7 @@ is_changed i r =
 abbrev pub held : Insn → Kind → Kind
 held i (Moved of by) = if is_call i || is_changed i (register_number of) then Nothing else Moved of by
 held i (Address of by) = if is_call i || is_changed i (register_number of) then Nothing else Address of by
+held i (Saved of) = if is_call i || is_changed i (register_number of) then Nothing else Saved of
 held i kind = kind
 
 -- what is said of places behind an instruction that writes what is of a kind
@@ -262,6 +294,7 @@ kinds_beyond alone taken i kinds r = if is_call i && (alone && nat_le 11 r) then
 abbrev pub handed : Kind → Kind
 handed (Moved of by) = Nothing
 handed (Address of by) = Nothing
+handed (Saved of) = Nothing
 handed kind = kind
 
 -- at the entry of a function: r1 to r5 are the caller's, r10 is its own frame in both, and the old program has nothing in the others, nor in

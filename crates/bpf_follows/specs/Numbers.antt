@@ -23,7 +23,7 @@ use Rattle.bpf_num.specs.Number.{Number as Num, number, top, constant, tighten}
 use Rattle.bpf_num.specs.Operation.{num_alu}
 use Rattle.bpf_num.specs.Refine.{refine}
 use Rattle.bpf_follows.specs.declared.notes.Kind.{Kind}
-use Rattle.bpf_follows.specs.declared.notes.Kind.TheVariants.{Same, Number}
+use Rattle.bpf_follows.specs.declared.notes.Kind.TheVariants.{Same, Both, Number}
 use Rattle.bpf_follows.specs.Relation.{Kinds}
 
 -- ---- kinds and sets of numbers
@@ -59,6 +59,7 @@ is_numeric _ _ = true
 abbrev pub read_number : Bool → Kind → Option Num
 read_number numeric (Number least most) = bounded least most
 read_number numeric Same = if numeric then Some top else None
+read_number numeric Both = if numeric then Some top else None
 read_number numeric _ = None
 
 abbrev pub operand_number : Kinds → Bool → Operand → Option Num
@@ -81,7 +82,7 @@ loaded_number size = Number 0 (256 ^ byte_count size - 1)
 
 -- what an instruction writes, where it does the same in both
 abbrev pub number_kind : Kinds → Insn → Kind
-number_kind kinds (Alu op width dst src) = option_map_or (bounds_of Same) (alu_number kinds op width dst src) Same
+number_kind kinds (Alu op width dst src) = option_map_or (bounds_of Both) (alu_number kinds op width dst src) Both
 number_kind kinds (Load size dst src off) = loaded_number size
 number_kind kinds i = Same
 

@@ -1,5 +1,5 @@
 -- The simulation relation: how a state of the new machine follows one of the old machine.
-use Rattle.std.specs.Prelude.{◌≡◌, ℕ, ◌+◌, ◌*◌, ◌^◌, ◌<◌, ◌≤◌, ◌⊎◌, ◌==◌, nat_le, nat_lt, ◌&&◌, Bool, true, false, ℤ, pos, ◌+ℤ◌, FitsSigned, List, [], ◌∷◌, length, get_or, slice_index, Option, Some, None, if◌then◌else◌}
+use Rattle.std.specs.Prelude.{◌≡◌, ℕ, ◌+◌, ◌*◌, ◌^◌, ◌<◌, ◌≤◌, ◌⊎◌, ◌==◌, nat_le, nat_lt, ◌&&◌, Bool, true, false, ℤ, pos, ◌+ℤ◌, ◌≤ℤ◌, int_le, FitsSigned, List, [], ◌∷◌, length, get_or, slice_index, Option, Some, None, if◌then◌else◌}
 use Rattle.std.specs.Int.{w64}
 use Rattle.std.specs.Option.{option_map_or}
 use Rattle.std.specs.Ordering.{int_eq}
@@ -16,7 +16,7 @@ use Rattle.bpf_semantics.specs.declared.value.Value.{Value}
 use Rattle.bpf_semantics.specs.declared.value.Value.TheVariants.{Number as ANumber, Pointer}
 use Rattle.bpf_semantics.specs.declared.value.Region.TheVariants.{Context}
 use Rattle.bpf_follows.specs.declared.notes.Kind.{Kind}
-use Rattle.bpf_follows.specs.declared.notes.Kind.TheVariants.{Nothing, Unset, Same, Number, Offset, Fixed, Start, Base, Moved, Address, Constant, Counter, Turn, Alone}
+use Rattle.bpf_follows.specs.declared.notes.Kind.TheVariants.{Nothing, Unset, Same, Both, Number, Offset, Fixed, Within, Start, Base, Moved, Address, Saved, Constant, Counter, Turn, Alone}
 use Rattle.bpf_follows.specs.declared.notes.Place.{Place}
 
 -- Notes speak of 75 places: r0 to r10, and the frame's 64 slots of eight bytes, the lowest first.
@@ -47,6 +47,7 @@ is_free Unset = true
 is_free Base = true
 is_free (Moved of by) = true
 is_free (Address of by) = true
+is_free (Saved of) = true
 is_free (Constant value) = true
 is_free (Counter head) = true
 is_free (Turn head) = true
@@ -55,12 +56,17 @@ is_free _ = false
 -- one kind of a place says more than another
 abbrev pub weaker : ℕ → ℕ → Kind → Kind → Bool
 weaker turns r (Fixed offset) Offset = true
+weaker turns r (Fixed offset) (Within low high) = nat_lt r 11 && (int_le (pos low) offset && int_le offset (pos high))
+weaker turns r (Within least most) (Within low high) = nat_le low least && nat_le most high
+weaker turns r (Within least most) Offset = true
 weaker turns r Start Same = true
 weaker turns r Start Base = true
 weaker turns r (Moved of by) Offset = register_number of == r && int_eq by (pos 0)
 weaker turns r (Constant value) (Counter head) = nat_le turns (extended value)
 weaker turns r (Number least most) (Number low high) = nat_le low least && nat_le most high
+weaker turns r (Number least most) Both = nat_lt r 11
 weaker turns r (Number least most) Same = true
+weaker turns r Both Same = true
 weaker turns r Same Alone = nat_lt r 11
 weaker turns r have Same = nat_le 11 r && is_free have
 weaker turns r have Unset = nat_le 11 r && is_free have
@@ -101,6 +107,12 @@ as_pointer offset = Pointer Context (wrapped offset)
 abbrev pub CountsDown : ℕ → ℕ → Option Value → Type 0
 CountsDown turns spent new = (left : ℕ) × (left < 2 ^ 64) × (new ≡ Some (ANumber left)) × (turns ≤ left + spent)
 
+-- both values are one
+pub record IsOneValue (old new : Option Value) : Type 0 where
+  pub value : Value
+  pub old_is : old ≡ Some value
+  pub new_is : new ≡ Some value
+
 -- both values are one number, which lies between these two
 pub record IsOneNumber (least most : ℕ) (old new : Option Value) : Type 0 where
   pub number : ℕ
@@ -109,19 +121,31 @@ pub record IsOneNumber (least most : ℕ) (old new : Option Value) : Type 0 wher
   pub old_is : old ≡ Some (ANumber number)
   pub new_is : new ≡ Some (ANumber number)
 
+-- the same as `HasOffset`, unmoved, and the offset lies between these two
+pub record IsWithin (least most : ℕ) (old new : Option Value) : Type 0 where
+  pub offset : ℤ
+  pub fits : FitsSigned w64 offset
+  pub low : pos least ≤ℤ offset
+  pub high : offset ≤ℤ pos most
+  pub old_is : old ≡ Some (Pointer Context offset)
+  pub new_is : new ≡ Some (as_number offset)
+
 -- A register of the new machine by its kind, where the old machine has these registers. `passed` says how often the old run has come to
 -- each slot so far.
 abbrev pub FitsKind : ℕ → (ℕ → ℕ) → (ℕ → Option Value) → ℕ → Kind → Option Value → Type 0
 FitsKind turns passed old r Nothing new = Unit {0}
 FitsKind turns passed old r Unset new = old r ≡ None
 FitsKind turns passed old r Same new = IsKept (old r) new
+FitsKind turns passed old r Both new = IsOneValue (old r) new
 FitsKind turns passed old r (Number least most) new = IsOneNumber least most (old r) new
 FitsKind turns passed old r Offset new = HasOffset (pos 0) as_number (old r) new
 FitsKind turns passed old r (Fixed offset) new = FitsSigned w64 offset × (old r ≡ Some (Pointer Context offset)) × (new ≡ Some (as_number offset))
+FitsKind turns passed old r (Within least most) new = IsWithin least most (old r) new
 FitsKind turns passed old r Start new = (old r ≡ Some (Pointer Context (pos 0))) × (new ≡ Some (Pointer Context (pos 0)))
 FitsKind turns passed old r Base new = new ≡ Some (Pointer Context (pos 0))
 FitsKind turns passed old r (Moved of by) new = HasOffset by as_number (old (register_number of)) new
 FitsKind turns passed old r (Address of by) new = HasOffset by as_pointer (old (register_number of)) new
+FitsKind turns passed old r (Saved of) new = IsOneValue (old (register_number of)) new
 FitsKind turns passed old r (Constant value) new = new ≡ Some (ANumber (extended value))
 FitsKind turns passed old r Alone new = IsKept (old r) new
 FitsKind turns passed old r (Counter head) new = CountsDown turns (passed head) new
@@ -162,6 +186,14 @@ pub record HoldsFixed (order : Order) (offset : ℤ) (old new : List (Option Cel
   pub old_is : Holds order old k (Pointer Context offset)
   pub new_is : Holds order new k (as_number offset)
 
+-- Both machines hold one number, which lies between these two.
+pub record HoldsNumber (order : Order) (least most : ℕ) (old new : List (Option Cell)) (k : ℕ) : Type 0 where
+  pub number : ℕ
+  pub low : least ≤ number
+  pub high : number ≤ most
+  pub old_is : Holds order old k (ANumber number)
+  pub new_is : Holds order new k (ANumber number)
+
 -- The old machine holds nothing, and the new one a value of the kind.
 pub record HoldsOwn (order : Order) (turns : ℕ) (passed : ℕ → ℕ) (registers : ℕ → Option Value) (old new : List (Option Cell)) (k : ℕ) (kind : Kind) : Type 0 where
   pub unset : IsUnset old k
@@ -174,9 +206,11 @@ abbrev pub FitsSlot : Order → ℕ → (ℕ → ℕ) → (ℕ → Option Value)
 FitsSlot order turns passed registers old new k Nothing = Unit {0}
 FitsSlot order turns passed registers old new k Unset = IsUnset old k
 FitsSlot order turns passed registers old new k Same = SlotKept old new k
-FitsSlot order turns passed registers old new k (Number least most) = ⊥
+FitsSlot order turns passed registers old new k Both = ⊥
+FitsSlot order turns passed registers old new k (Number least most) = HoldsNumber order least most old new k
 FitsSlot order turns passed registers old new k Offset = HoldsOffset order old new k
 FitsSlot order turns passed registers old new k (Fixed offset) = HoldsFixed order offset old new k
+FitsSlot order turns passed registers old new k (Within least most) = ⊥
 FitsSlot order turns passed registers old new k Start = ⊥
 FitsSlot order turns passed registers old new k Alone = ⊥
 FitsSlot order turns passed registers old new k kind = HoldsOwn order turns passed registers old new k kind
@@ -205,6 +239,7 @@ pub record FrameFollows (order : Order) (notes : List (Option Place)) (turns : �
 abbrev pub is_of_other : Kind → Bool
 is_of_other (Moved of by) = true
 is_of_other (Address of by) = true
+is_of_other (Saved of) = true
 is_of_other _ = false
 
 -- what r10 holds in front of the first instruction says whether each function leaves the frames of others alone

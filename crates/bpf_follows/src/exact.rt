@@ -50,7 +50,7 @@ pub fn fixed_at(offset: i64) -> Kind
 // ---- what instructions write
 
 /// A number that is always the same, if it has 32 bits.
-fn exact_kind(n: u64) -> Option<Kind>
+pub fn exact_kind(n: u64) -> Option<Kind>
     ensures { result ≡ exact_kind n }
 {
     if n < 1 << 32 {

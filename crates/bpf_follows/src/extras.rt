@@ -2,7 +2,7 @@
 //! and make addresses in front of an instruction.
 
 ghost use Rattle.std.specs.Prelude.{◌≡◌, ◌<◌, pos, ◌+ℤ◌, ◌-ℤ◌, IfSome};
-ghost use Rattle.bpf_follows.specs.Extras.{is_same, constant_kind, offset_in, copied, is_taken, added, is_base, address, put_kind, put_by, made, range_of, offset_range, fixed_in, added_to, added_range, is_near, clipped, bounds_range, range_in, is_most, is_least, passes, written, extra, extra_at, extras};
+ghost use Rattle.bpf_follows.specs.Extras.{is_same, constant_kind, offset_in, copied, is_taken, added, is_base, address, put_kind, put_by, made, range_of, offset_range, fixed_in, added_to, added_range, is_near, clipped, bounds_range, range_in, is_most, is_least, passes, at_most, at_least, passed_by, written, extra, extra_at, extras};
 
 use crate::keeps::moved_by;
 use crate::kinds::{is_register, kind_in};
@@ -21,7 +21,7 @@ pub fn is_same(kind: Kind) -> bool
 {
     matches!(
         kind,
-        Kind::Same | Kind::Start | Kind::Number { .. } | Kind::Alone
+        Kind::Same | Kind::Both | Kind::Start | Kind::Number { .. } | Kind::Alone
     )
 }
 
@@ -41,7 +41,7 @@ fn offset_in(r: Reg, kind: Kind) -> Option<(Reg, i32)>
     ensures { result ≡ offset_in r kind }
 {
     match kind {
-        Kind::Offset | Kind::Fixed { .. } => Some((r, 0)),
+        Kind::Offset | Kind::Fixed { .. } | Kind::Within { .. } => Some((r, 0)),
         Kind::Moved { of, by } => Some((of, by)),
         _ => None,
     }
@@ -53,7 +53,10 @@ pub fn copied(r: Reg, kind: Kind) -> Option<Kind>
 {
     match kind {
         Kind::Start | Kind::Base => Some(Kind::Base),
-        Kind::Offset | Kind::Fixed { .. } => Some(Kind::Moved { of: r, by: 0 }),
+        Kind::Offset | Kind::Fixed { .. } | Kind::Within { .. } => Some(Kind::Moved {
+            of: r,
+            by: 0,
+        }),
         Kind::Moved { .. } | Kind::Address { .. } | Kind::Constant { .. } => Some(kind),
         _ => None,
     }
@@ -268,8 +271,12 @@ fn range_in(front: &Front, kinds: &Kinds, r: Reg, kind: Kind) -> Option<Range>
     ensures { result ≡ range_in front.now kinds.now r kind }
 {
     match kind {
-        Kind::Same => added_range(front, kinds, r),
+        Kind::Same | Kind::Both => added_range(front, kinds, r),
         Kind::Number { least, most } => match added_range(front, kinds, r) {
+            Some(range) => Some(clipped(least, most, range)),
+            None => bounds_range(least, most),
+        },
+        Kind::Within { least, most } => match offset_range(front, r, kind) {
             Some(range) => Some(clipped(least, most, range)),
             None => bounds_range(least, most),
         },
@@ -323,6 +330,56 @@ fn passes(front: Option<Front>, kinds: &Kinds, insn: &Insn) -> bool
     }
 }
 
+/// What a guard with a constant tells of a number that isn't above it.
+fn at_most(n: u64, kind: Kind) -> Kind
+    ensures { result ≡ at_most n kind }
+{
+    match kind {
+        Kind::Number { least, most } => Kind::Number {
+            least,
+            most: u64::from(most).min(n) as u32,
+        },
+        _ => kind,
+    }
+}
+
+/// Of one that isn't below it, where the constant has 32 bits.
+fn at_least(n: u64, kind: Kind) -> Kind
+    ensures { result ≡ at_least n kind }
+{
+    match kind {
+        Kind::Number { least, most } if n < 1 << 32 => Kind::Number {
+            least: least.max(n as u32),
+            most,
+        },
+        _ => kind,
+    }
+}
+
+/// What the places hold behind a jump that isn't taken.
+fn passed_by(kinds: Kinds, insn: &Insn) -> Kinds
+    ensures { result ≡ passed_by kinds insn.now }
+{
+    let Insn::JumpIf {
+        cond,
+        width: Width::W64,
+        dst,
+        src: Operand::Imm(imm),
+        ..
+    } = *insn
+    else {
+        return kinds;
+    };
+    let kind = kind_in(&kinds, dst);
+    let mut kinds = kinds;
+    match cond {
+        Cond::Gt => kinds[usize::from(dst as u8)] = at_most(extended(imm), kind),
+        Cond::Lt => kinds[usize::from(dst as u8)] = at_least(extended(imm), kind),
+        _ => {}
+    }
+    kinds
+}
+
 // ---- all of them
 
 /// What an extra instruction writes, and what it holds then.
@@ -342,7 +399,7 @@ fn extra(front: Option<Front>, kinds: Kinds, insn: &Insn) -> Option<Kinds>
     ensures { result ≡ extra front insn.now kinds }
 {
     if passes(front, &kinds, insn) {
-        return Some(kinds);
+        return Some(passed_by(kinds, insn));
     }
     let (place, kind) = written(front, &kinds, insn)?;
     let mut kinds = kinds;

@@ -1,11 +1,11 @@
 //! Extra instructions that put what the new program keeps into its frame, and take it out again.
 
 ghost use Rattle.std.specs.Prelude.{◌≡◌, ◌<◌, IfSome};
-ghost use Rattle.bpf_follows.specs.Extras.{frame_slot, own_kind, kept_kind, free_slot, stored, taken, constant_put, moved_by};
+ghost use Rattle.bpf_follows.specs.Extras.{frame_slot, own_kind, kept_kind, free_slot, stored, restored, taken, constant_put, moved_by};
 
 use crate::extras::{copied, is_same};
 use crate::frame::{is_r10, slot_of};
-use crate::kinds::{REGISTERS, is_free, kind_in, kind_of};
+use crate::kinds::{REGISTERS, is_free, is_register, kind_in, kind_of};
 use crate::notes::{Kind, Kinds};
 use bpf_insn::{Insn, Reg, Size};
 
@@ -26,18 +26,19 @@ fn own_kind(kind: Kind) -> Option<Kind>
     ensures { result ≡ own_kind kind }
 {
     match kind {
-        Kind::Base | Kind::Moved { .. } | Kind::Address { .. } => Some(kind),
+        Kind::Base | Kind::Moved { .. } | Kind::Address { .. } | Kind::Saved { .. } => Some(kind),
         Kind::Constant { .. } | Kind::Counter { .. } | Kind::Turn { .. } => Some(kind),
         _ => None,
     }
 }
 
-/// What a register puts into a slot.
+/// What a register puts into a slot: of what both have, whose it is.
 fn kept_kind(r: Reg, kind: Kind) -> Option<Kind>
     ensures { result ≡ kept_kind r kind }
 {
     match kind {
         Kind::Counter { .. } | Kind::Turn { .. } => Some(kind),
+        Kind::Both => Some(Kind::Saved { of: r }),
         _ => copied(r, kind),
     }
 }
@@ -65,6 +66,17 @@ fn stored(kinds: &Kinds, dst: Reg, off: i16, src: Reg) -> Option<(u8, Kind)>
     Some((REGISTERS + slot, kind))
 }
 
+/// What is put back of what was saved.
+#[tactic(auto, unfolding(crate::specs::Extras::restored))]
+fn restored(r: Reg, kind: Kind) -> Kind
+    ensures { result ≡ restored r kind }
+{
+    match kind {
+        Kind::Saved { of } if is_register(of, r) => Kind::Both,
+        _ => kind,
+    }
+}
+
 /// What a register holds behind a load of a slot.
 fn taken(kinds: &Kinds, dst: Reg, src: Reg, off: i16) -> Option<(u8, Kind)>
     ensures exact { result ≡ taken kinds.now dst src off }
@@ -75,7 +87,7 @@ fn taken(kinds: &Kinds, dst: Reg, src: Reg, off: i16) -> Option<(u8, Kind)>
     }
     let slot = frame_slot(kinds, src, off)?;
     let kind = own_kind(kind_of(kinds, REGISTERS + slot))?;
-    Some((dst as u8, kind))
+    Some((dst as u8, restored(dst, kind)))
 }
 
 /// The slot to which an instruction stores a constant, and what it holds then.

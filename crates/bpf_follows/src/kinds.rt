@@ -70,6 +70,7 @@ pub fn is_free(kind: Kind) -> bool
 {
     match kind {
         Kind::Unset | Kind::Base | Kind::Moved { .. } | Kind::Address { .. } => true,
+        Kind::Saved { .. } => true,
         Kind::Constant { .. } | Kind::Counter { .. } | Kind::Turn { .. } => true,
         _ => false,
     }
@@ -81,6 +82,19 @@ fn weaker(turns: u32, r: u8, have: Kind, want: Kind) -> bool
 {
     match (have, want) {
         (Kind::Fixed { .. }, Kind::Offset) => true,
+        (Kind::Fixed { offset }, Kind::Within { least, most }) => {
+            r < REGISTERS
+                && i64::from(least) <= i64::from(offset)
+                && i64::from(offset) <= i64::from(most)
+        }
+        (
+            Kind::Within { least, most },
+            Kind::Within {
+                least: low,
+                most: high,
+            },
+        ) => { low <= least && most <= high }
+        (Kind::Within { .. }, Kind::Offset) => true,
         (Kind::Start, Kind::Same | Kind::Base) => true,
         (Kind::Moved { of, by }, Kind::Offset) => of as u8 == r && by == 0,
         (Kind::Constant { value }, Kind::Counter { .. }) => u64::from(turns) <= extended(value),
@@ -91,7 +105,8 @@ fn weaker(turns: u32, r: u8, have: Kind, want: Kind) -> bool
                 most: high,
             },
         ) => { low <= least && most <= high }
-        (Kind::Number { .. }, Kind::Same) => true,
+        (Kind::Number { .. }, Kind::Both) => r < REGISTERS,
+        (Kind::Number { .. } | Kind::Both, Kind::Same) => true,
         (Kind::Same, Kind::Alone) => r < REGISTERS,
         (_, Kind::Same | Kind::Unset) => r >= REGISTERS && is_free(have),
         _ => false,
@@ -142,7 +157,7 @@ fn held(insn: &Insn, kind: Kind) -> Kind
     ensures { result ≡ held insn.now kind }
 {
     match kind {
-        Kind::Moved { of, .. } | Kind::Address { of, .. } => {
+        Kind::Moved { of, .. } | Kind::Address { of, .. } | Kind::Saved { of } => {
             if is_call(insn) || is_changed(insn, of as u8) {
                 Kind::Nothing
             } else {
@@ -204,7 +219,7 @@ fn kind_called(site: &Site, r: u8) -> Kind
         return Kind::Same;
     }
     match known(site, r) {
-        Kind::Moved { .. } | Kind::Address { .. } => Kind::Nothing,
+        Kind::Moved { .. } | Kind::Address { .. } | Kind::Saved { .. } => Kind::Nothing,
         kind => kind,
     }
 }

@@ -17,6 +17,7 @@ mod pass;
 pub mod site;
 pub mod stands;
 mod tame;
+mod whole;
 
 pub use exact::{by_exact, may_fall, may_lead};
 pub use laws::matching_keeps_meaning;

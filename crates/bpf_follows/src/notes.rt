@@ -12,12 +12,16 @@ pub enum Kind {
     Unset,
     /// The same value, if the old program has one there.
     Same,
+    /// The same value. Both have one there.
+    Both,
     /// The same number, from the least to the most. Both have one there.
     Number { least: u32, most: u32 },
     /// The offset, modulo 2^64, of the pointer into the context that the old program has there.
     Offset,
     /// The same, and the offset is always this one.
     Fixed { offset: i32 },
+    /// The same, and the offset lies between these two.
+    Within { least: u32, most: u32 },
     /// The pointer to the context's first byte, as the old program.
     Start,
     /// The pointer to the context's first byte. Of the old program nothing is said.
@@ -26,6 +30,8 @@ pub enum Kind {
     Moved { of: Reg, by: i32 },
     /// The pointer into the context at that offset.
     Address { of: Reg, by: i32 },
+    /// The value that the old program has in a register, where it has one.
+    Saved { of: Reg },
     /// A constant, with its sign extended. Of the old program nothing is said.
     Constant { value: i32 },
     /// The turns that are left to the loop whose head is the old instruction at a slot. Of the old program nothing is said.

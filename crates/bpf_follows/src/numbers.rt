@@ -75,7 +75,7 @@ fn read_number(numeric: bool, kind: Kind) -> Option<Num>
 {
     match kind {
         Kind::Number { least, most } => bounded(least, most),
-        Kind::Same if numeric => Some(Num::top()),
+        Kind::Same | Kind::Both if numeric => Some(Num::top()),
         _ => None,
     }
 }
@@ -142,8 +142,8 @@ pub fn number_kind(site: &Site) -> Kind
     } = site.insn
     {
         return match alu_number(site, op, width, dst, src) {
-            Some(number) => bounds_of(Kind::Same, number),
-            None => Kind::Same,
+            Some(number) => bounds_of(Kind::Both, number),
+            None => Kind::Both,
         };
     }
     if let Insn::Load { size, .. } = site.insn {

@@ -5,17 +5,18 @@ ghost use Rattle.std.specs.List.{filter_map};
 ghost use Rattle.std.specs.Ordering.{int_eq};
 ghost use Rattle.bpf_follows.specs.Relation.{known};
 ghost use Rattle.bpf_follows.specs.Extras.{is_same};
-ghost use Rattle.bpf_follows.specs.Matching.{undirected, IsSame, AreSame, is_offset, copy_kind, computed, moved_kind, of_operand, is_equality, are_offsets, slot_offset, loaded, spilled, by_offsets, by_kinds, result_kind, Reads, is_sum, is_moved, is_natural, is_wide, widened, rebased, are_same_place, is_same_place, ByAddress, Pairs};
+ghost use Rattle.bpf_follows.specs.Matching.{undirected, IsSame, AreSame, is_offset, copy_kind, within_at, offset_sum, computed, moved_kind, of_operand, is_equality, are_offsets, by_offsets, by_kinds, result_kind, Reads, is_sum, is_moved, is_natural, is_wide, widened, rebased, are_same_place, is_same_place, ByAddress, Pairs};
 
 use crate::exact::{by_exact, fixed_at};
 use crate::extras::{is_base, is_same};
-use crate::frame::{is_r10, slot_of};
-use crate::kinds::{is_register, known, known_in};
+use crate::frame::is_r10;
+use crate::kinds::{is_register, known_in};
 use crate::mismatch::Fault;
 use crate::notes::Kind;
 use crate::numbers::{is_bounded, number_kind};
 use crate::site::Site;
 use crate::tame::is_tame;
+use crate::whole::{loaded, put_constant, spilled};
 use bpf_insn::{Access, AluOp, Cond, Insn, Operand, Reg, Size, Width};
 
 /// Whether two instructions are the same.
@@ -78,7 +79,10 @@ fn all_same(site: &Site, reads: &[Option<Reg>]) -> bool
 fn is_offset(kind: Kind) -> bool
     ensures { result ≡ is_offset kind }
 {
-    matches!(kind, Kind::Offset | Kind::Fixed { .. })
+    matches!(
+        kind,
+        Kind::Offset | Kind::Fixed { .. } | Kind::Within { .. }
+    )
 }
 
 /// What a move makes of an offset, or of the pointer to the context's start.
@@ -86,8 +90,49 @@ fn copy_kind(kind: Kind) -> Option<Kind>
     ensures { result ≡ copy_kind kind }
 {
     match kind {
-        Kind::Offset | Kind::Fixed { .. } | Kind::Start => Some(kind),
+        Kind::Offset | Kind::Fixed { .. } | Kind::Within { .. } | Kind::Start => Some(kind),
         _ => None,
+    }
+}
+
+/// An offset between these two, if they have 32 bits.
+fn within_at(low: u64, high: u64) -> Kind
+    ensures { result ≡ within_at low high }
+{
+    if low < 1 << 32 && high < 1 << 32 {
+        Kind::Within {
+            least: low as u32,
+            most: high as u32,
+        }
+    } else {
+        Kind::Offset
+    }
+}
+
+/// The sum of an offset and what is the same in both.
+fn offset_sum(a: Kind, b: Kind) -> Kind
+    ensures { result ≡ offset_sum a b }
+{
+    match (a, b) {
+        (Kind::Fixed { offset }, Kind::Number { least, most }) => match u64::try_from(i64::from(
+            offset,
+        )) {
+            Ok(o) => within_at(o + u64::from(least), o + u64::from(most)),
+            Err(_) => Kind::Offset,
+        },
+        (
+            Kind::Within {
+                least: low,
+                most: high,
+            },
+            Kind::Number { least, most },
+        ) => {
+            within_at(
+                u64::from(low) + u64::from(least),
+                u64::from(high) + u64::from(most),
+            )
+        }
+        _ => Kind::Offset,
     }
 }
 
@@ -98,8 +143,8 @@ fn computed(op: AluOp, a: Kind, b: Kind) -> Option<Kind>
     let is_sum = is_offset(a) && is_same(b) || is_same(a) && is_offset(b);
     match op {
         AluOp::Mov => copy_kind(b),
-        AluOp::Add if is_sum => Some(Kind::Offset),
-        AluOp::Sub if is_offset(a) && is_offset(b) => Some(Kind::Same),
+        AluOp::Add if is_sum => Some(offset_sum(a, b)),
+        AluOp::Sub if is_offset(a) && is_offset(b) => Some(Kind::Both),
         _ => None,
     }
 }
@@ -140,37 +185,6 @@ fn are_offsets(site: &Site, dst: Reg, src: Reg) -> bool
     ensures { result ≡ are_offsets (known site.now.slot site.now.kinds) dst src }
 {
     is_offset(known_in(site, dst)) && is_offset(known_in(site, src))
-}
-
-/// The offset that a slot of the frame holds.
-fn slot_offset(site: &Site, slot: u32) -> Option<Kind>
-    requires { slot < 64 }
-    ensures { result ≡ slot_offset (known site.now.slot site.now.kinds) slot }
-{
-    let kind = known(site, 11 + slot as u8);
-    if is_offset(kind) { Some(kind) } else { None }
-}
-
-/// The offset that is loaded from the frame.
-fn loaded(site: &Site, src: Reg, off: i16) -> Option<Kind>
-    ensures { result ≡ loaded (known site.now.slot site.now.kinds) src off }
-{
-    if !is_r10(src) || !is_same(known(site, 10)) {
-        return None;
-    }
-    let slot = slot_of(off)?;
-    slot_offset(site, slot)
-}
-
-/// The offset that is stored to the frame.
-fn spilled(site: &Site, dst: Reg, off: i16, src: Reg) -> Option<Kind>
-    ensures { result ≡ spilled (known site.now.slot site.now.kinds) dst off src }
-{
-    if !is_r10(dst) || !is_same(known(site, 10)) || !is_offset(known_in(site, src)) {
-        return None;
-    }
-    let _slot = slot_of(off)?;
-    Some(known_in(site, src))
 }
 
 /// What the instruction writes, if it does on offsets what the old program does on pointers.
@@ -215,6 +229,15 @@ fn by_offsets(site: &Site) -> Option<Kind>
     } = site.insn
     {
         return spilled(site, dst, off, src);
+    }
+    if let Insn::StoreImm {
+        size: Size::DW,
+        dst,
+        off,
+        imm,
+    } = site.insn
+    {
+        return put_constant(site, dst, off, imm);
     }
     None
 }

@@ -11,12 +11,12 @@ use Rattle.bpf_insn.specs.Limits.{max_slots}
 use Rattle.bpf_insn.specs.declared.instruction.Reg.{Reg}
 use Rattle.bpf_insn.specs.declared.instruction.Reg.TheVariants.{R0, R1, R2, R3, R4, R5, R6, R7, R8, R9, R10}
 use Rattle.bpf_follows.specs.declared.notes.Kind.{Kind}
-use Rattle.bpf_follows.specs.declared.notes.Kind.TheVariants.{Nothing, Unset, Same, Number, Offset, Fixed, Start, Base, Moved, Address, Constant, Counter, Turn, Alone}
+use Rattle.bpf_follows.specs.declared.notes.Kind.TheVariants.{Nothing, Unset, Same, Both, Number, Offset, Fixed, Within, Start, Base, Moved, Address, Saved, Constant, Counter, Turn, Alone}
 use Rattle.bpf_follows.specs.declared.notes.Place.{Place}
 use Rattle.bpf_follows_notes.specs.declared.error.NotesError.{NotesError}
 use Rattle.bpf_follows_notes.specs.declared.error.NotesError.TheVariants.{Form}
 use Rattle.bpf_follows_notes.specs.NotesText.{IntFits, KindFits, PlaceFits, NoteFits, entry_text, behind_text, bounds_text, held_text, kinds_text, place_text, note_text, note_line, note_lines}
-use Rattle.bpf_follows_notes.specs.code.Reading.{behind, is_digit, digits_in, number_in, minus_in, plus_in, int_in, register_at, word_in, value_in, bounds_in, behind_in, plain_in, numbered_in, beside_in, kind_in, entry_in, kinds_in, nothing_said, place_in, note_in, taken_at, with_front, lines_in, after_lines}
+use Rattle.bpf_follows_notes.specs.code.Reading.{behind, is_digit, digits_in, number_in, minus_in, plus_in, int_in, register_at, word_in, value_in, bounds_in, behind_in, plain_in, numbered_in, beside_in, kind_in, entry_in, kinds_in, nothing_said, place_in, note_in, taken_at, with_front, lines_in, after_lines, saved_in}
 use Rattle.bpf_follows_notes.proofs.Spelled.{behind_word}
 
 -- ---- numbers
@@ -124,6 +124,10 @@ base_again : (c : ℕ) (rest : List ℕ) → kind_in (codes "base" ++ c ∷ rest
 unfolding kind_in plain_in word_in behind
 base_again c rest = refl
 
+both_word_again : (c : ℕ) (rest : List ℕ) → kind_in (codes "both" ++ c ∷ rest) ≡ Some (Both, c ∷ rest)
+unfolding kind_in plain_in word_in behind
+both_word_again c rest = refl
+
 alone_again : (c : ℕ) (rest : List ℕ) → kind_in (codes "alone" ++ c ∷ rest) ≡ Some (Alone, c ∷ rest)
 unfolding kind_in plain_in word_in behind
 alone_again c rest = refl
@@ -149,6 +153,14 @@ bounds_again : (least most : ℕ) → least < 2 ^ 32 → most < 2 ^ 32 → (c : 
 unfolding kind_in plain_in word_in numbered_in value_in behind
 bounds_again least most low high c rest h = rw (both_again (codes "number:") least most low high c rest h) refl
 
+no_number : (text : List ℕ) → bounds_in (codes "number:") (119 ∷ text) ≡ None
+unfolding bounds_in number_in behind
+no_number text = refl
+
+within_again : (least most : ℕ) → least < 2 ^ 32 → most < 2 ^ 32 → (c : ℕ) (rest : List ℕ) → Ends c → kind_in ((codes "within:" ++ bounds_text least most) ++ c ∷ rest) ≡ Some (Within least most, c ∷ rest)
+unfolding kind_in plain_in word_in numbered_in value_in behind
+within_again least most low high c rest h = rw (no_number (codes "ithin:" ++ (bounds_text least most ++ c ∷ rest)), both_again (codes "within:") least most low high c rest h) refl
+
 turns_again : (head : ℕ) → head < 2 ^ 32 → (c : ℕ) (rest : List ℕ) → Ends c → kind_in ((codes "turns:" ++ decimal head) ++ c ∷ rest) ≡ Some (Counter head, c ∷ rest)
 unfolding kind_in plain_in word_in numbered_in value_in bounds_in number_in behind
 turns_again head fits c rest h = rw (digits_again head c rest fits h) refl
@@ -156,6 +168,10 @@ turns_again head fits c rest h = rw (digits_again head c rest fits h) refl
 turn_again : (head : ℕ) → head < 2 ^ 32 → (c : ℕ) (rest : List ℕ) → Ends c → kind_in ((codes "turn:" ++ decimal head) ++ c ∷ rest) ≡ Some (Turn head, c ∷ rest)
 unfolding kind_in plain_in word_in numbered_in value_in bounds_in number_in behind
 turn_again head fits c rest h = rw (digits_again head c rest fits h) refl
+
+saved_again : (of : Reg) (c : ℕ) (rest : List ℕ) → Ends c → kind_in ((codes "saved:r" ++ decimal (register_number of)) ++ c ∷ rest) ≡ Some (Saved of, c ∷ rest)
+unfolding kind_in plain_in word_in numbered_in value_in bounds_in number_in saved_in behind
+saved_again of c rest h = rw (digits_again (register_number of) c rest (omega (arith, register_small of)) h, register_again of) refl
 
 beside_again : (word : List ℕ) (of : Reg) (by : ℤ) → IntFits by → (c : ℕ) (rest : List ℕ) → Ends c → behind_in word (word ++ (behind_text of by ++ c ∷ rest)) ≡ Some (of, by, c ∷ rest)
 unfolding behind_in behind
@@ -168,7 +184,7 @@ beside_again word of by fits c rest h =
     ) refl
 
 moved_again : (of : Reg) (by : ℤ) → IntFits by → (c : ℕ) (rest : List ℕ) → Ends c → kind_in ((codes "moved:r" ++ behind_text of by) ++ c ∷ rest) ≡ Some (Moved of by, c ∷ rest)
-unfolding kind_in plain_in word_in numbered_in value_in bounds_in number_in beside_in behind
+unfolding kind_in plain_in word_in numbered_in value_in bounds_in number_in saved_in beside_in behind
 moved_again of by fits c rest h = rw (beside_again (codes "moved:r") of by fits c rest h) refl
 
 -- no other such word stands there
@@ -177,7 +193,7 @@ unfolding behind_in number_in behind
 no_moved text = refl
 
 address_again : (of : Reg) (by : ℤ) → IntFits by → (c : ℕ) (rest : List ℕ) → Ends c → kind_in ((codes "address:r" ++ behind_text of by) ++ c ∷ rest) ≡ Some (Address of by, c ∷ rest)
-unfolding kind_in plain_in word_in numbered_in value_in bounds_in number_in beside_in behind
+unfolding kind_in plain_in word_in numbered_in value_in bounds_in number_in saved_in beside_in behind
 address_again of by fits c rest h = rw (no_moved (codes "ddress:r" ++ (behind_text of by ++ c ∷ rest)), beside_again (codes "address:r") of by fits c rest h) refl
 
 held_is : (r : ℕ) (kind : Kind) → KindFits kind → (kind ≡ Nothing) ⊎ Worded r kind
@@ -185,13 +201,16 @@ unfolding held_text
 held_is r Nothing fits = inl refl
 held_is r Unset fits = inr (record { word = codes "unset"; text = refl; again = λ c rest h. unset_again c rest })
 held_is r Same fits = inr (record { word = codes "same"; text = refl; again = λ c rest h. same_again c rest })
+held_is r Both fits = inr (record { word = codes "both"; text = refl; again = λ c rest h. both_word_again c rest })
 held_is r (Number least most) fits = inr (record { word = codes "number:" ++ bounds_text least most; text = refl; again = bounds_again least most fits.0 fits.1 })
 held_is r Offset fits = inr (record { word = codes "offset"; text = refl; again = λ c rest h. offset_again c rest })
 held_is r (Fixed offset) fits = inr (record { word = codes "fixed:" ++ signed_decimal offset; text = refl; again = fixed_again offset fits })
+held_is r (Within least most) fits = inr (record { word = codes "within:" ++ bounds_text least most; text = refl; again = within_again least most fits.0 fits.1 })
 held_is r Start fits = inr (record { word = codes "start"; text = refl; again = λ c rest h. start_again c rest })
 held_is r Base fits = inr (record { word = codes "base"; text = refl; again = λ c rest h. base_again c rest })
 held_is r (Moved of by) fits = inr (record { word = codes "moved:r" ++ behind_text of by; text = refl; again = moved_again of by fits })
 held_is r (Address of by) fits = inr (record { word = codes "address:r" ++ behind_text of by; text = refl; again = address_again of by fits })
+held_is r (Saved of) fits = inr (record { word = codes "saved:r" ++ decimal (register_number of); text = refl; again = saved_again of })
 held_is r (Constant value) fits = inr (record { word = codes "constant:" ++ signed_decimal value; text = refl; again = constant_again value fits })
 held_is r (Counter head) fits = inr (record { word = codes "turns:" ++ decimal head; text = refl; again = turns_again head fits })
 held_is r (Turn head) fits = inr (record { word = codes "turn:" ++ decimal head; text = refl; again = turn_again head fits })

@@ -1,7 +1,7 @@
 //! What a line says, if it is one of notes: what is read here is spelled again, and compared.
 
 ghost use Rattle.std.specs.Prelude.{◌≡◌, option_map};
-ghost use Rattle.bpf_follows_notes.specs.code.Reading.{register_at, plain_in, value_in, bounds_in, behind_in, beside_in, numbered_in, kind_in, entry_in, kinds_in, nothing_said, place_in, note_in};
+ghost use Rattle.bpf_follows_notes.specs.code.Reading.{register_at, plain_in, value_in, bounds_in, behind_in, beside_in, saved_in, numbered_in, kind_in, entry_in, kinds_in, nothing_said, place_in, note_in};
 
 use crate::digits::{behind, int_in, number_in};
 use bpf_follows::{Kind, Kinds, PLACES, Place};
@@ -52,6 +52,9 @@ fn plain_in(text: &[u8]) -> Option<(Kind, &[u8])>
     if let Some(rest) = behind(text, b"base") {
         return Some((Kind::Base, rest));
     }
+    if let Some(rest) = behind(text, b"both") {
+        return Some((Kind::Both, rest));
+    }
     let rest = behind(text, b"alone")?;
     Some((Kind::Alone, rest))
 }
@@ -99,7 +102,17 @@ fn beside_in(text: &[u8]) -> Option<(Kind, &[u8])>
     Some((Kind::Address { of, by }, rest))
 }
 
-/// The kind with a number.
+/// The kind of what was saved of a register.
+#[tactic(auto, unfolding(crate::specs::code::Reading::saved_in))]
+fn saved_in(text: &[u8]) -> Option<(Kind, &[u8])>
+    ensures { option_map (λ x. (x.0, x.1.now)) result ≡ saved_in text.now }
+{
+    let (number, rest) = number_in(text, b"saved:r")?;
+    let of = register_at(number)?;
+    Some((Kind::Saved { of }, rest))
+}
+
+/// The kind with a number, or of what was saved.
 #[tactic(auto, unfolding(crate::specs::code::Reading::numbered_in))]
 fn numbered_in(text: &[u8]) -> Option<(Kind, &[u8])>
     ensures { option_map (λ x. (x.0, x.1.now)) result ≡ numbered_in text.now }
@@ -113,11 +126,16 @@ fn numbered_in(text: &[u8]) -> Option<(Kind, &[u8])>
     if let Some((least, most, rest)) = bounds_in(text, b"number:") {
         return Some((Kind::Number { least, most }, rest));
     }
+    if let Some((least, most, rest)) = bounds_in(text, b"within:") {
+        return Some((Kind::Within { least, most }, rest));
+    }
     if let Some((head, rest)) = number_in(text, b"turns:") {
         return Some((Kind::Counter { head }, rest));
     }
-    let (head, rest) = number_in(text, b"turn:")?;
-    Some((Kind::Turn { head }, rest))
+    if let Some((head, rest)) = number_in(text, b"turn:") {
+        return Some((Kind::Turn { head }, rest));
+    }
+    saved_in(text)
 }
 
 /// The kind at the front, and what stands behind it.

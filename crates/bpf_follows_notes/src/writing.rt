@@ -41,7 +41,7 @@ fn put_value(text: &mut Vec<u8>, register: u8, word: &[u8], value: i32) -> Resul
     put_number(text, b"", value)
 }
 
-/// Puts a register, a word for what it holds, and the slot of a loop's head.
+/// Puts a register, a word for what it holds, and a number.
 #[tactic(auto, using(crate::proofs::Spelled::texts), unfolding(crate::specs::NotesText::entry_text))]
 fn put_head(text: &mut Vec<u8>, register: u8, word: &[u8], head: u32) -> Result<(), AllocError>
     ensures { OnOk result (text.new.items ≡ text.old.items ++ entry_text register (word.now ++ decimal head)) }
@@ -65,12 +65,18 @@ fn put_beside(
     put_number(text, b":", by)
 }
 
-/// Puts a register, and that it holds a number from the least to the most.
+/// Puts a register, a word for what it holds, and the least number and the most.
 #[tactic(auto, using(crate::proofs::Spelled::texts), unfolding(crate::specs::NotesText::entry_text))]
-fn put_bounds(text: &mut Vec<u8>, register: u8, least: u32, most: u32) -> Result<(), AllocError>
-    ensures { OnOk result (text.new.items ≡ text.old.items ++ entry_text register (codes "number:" ++ bounds_text least most)) }
+fn put_bounds(
+    text: &mut Vec<u8>,
+    register: u8,
+    word: &[u8],
+    least: u32,
+    most: u32,
+) -> Result<(), AllocError>
+    ensures { OnOk result (text.new.items ≡ text.old.items ++ entry_text register (word.now ++ bounds_text least most)) }
 {
-    put_head(text, register, b"number:", least)?;
+    put_head(text, register, word, least)?;
     put_number(text, b":", most)
 }
 
@@ -83,13 +89,16 @@ fn put_held(text: &mut Vec<u8>, register: u8, kind: Kind) -> Result<(), AllocErr
         Kind::Nothing => Ok(()),
         Kind::Unset => put_entry(text, register, b"unset"),
         Kind::Same => put_entry(text, register, b"same"),
-        Kind::Number { least, most } => put_bounds(text, register, least, most),
+        Kind::Both => put_entry(text, register, b"both"),
+        Kind::Number { least, most } => put_bounds(text, register, b"number:", least, most),
         Kind::Offset => put_entry(text, register, b"offset"),
         Kind::Fixed { offset } => put_value(text, register, b"fixed:", offset),
+        Kind::Within { least, most } => put_bounds(text, register, b"within:", least, most),
         Kind::Start => put_entry(text, register, b"start"),
         Kind::Base => put_entry(text, register, b"base"),
         Kind::Moved { of, by } => put_beside(text, register, b"moved:r", of, by),
         Kind::Address { of, by } => put_beside(text, register, b"address:r", of, by),
+        Kind::Saved { of } => put_head(text, register, b"saved:r", u32::from(of as u8)),
         Kind::Constant { value } => put_value(text, register, b"constant:", value),
         Kind::Counter { head } => put_head(text, register, b"turns:", head),
         Kind::Turn { head } => put_head(text, register, b"turn:", head),

@@ -118,10 +118,11 @@ fn hardened(
     certified(alloc, &old, plan, &mut rounds)
 }
 
-/// A program that does what the old one does and has a certificate for contexts of `length` bytes, at most 4,096: on every
-/// context on which the old one ends with a number, and its loops turn no more often than is allowed, the new one ends with
-/// that number; where an access of the old one would leave its region, the new one goes to a trap. One that has a certificate
-/// as it stands comes out unchanged. H1 to H12 where none is found.
+/// A program that is made to do what the old one does, and has a certificate for contexts of `length` bytes, at most 4,096: on
+/// every context on which the old one ends with a number, and its loops turn no more often than is allowed, the new one should end
+/// with that number, which is tested, and judged by `bpf_follows`; where an access of the old one would leave its region, the new
+/// one goes to a trap. Unless contexts are blocks, one that has a certificate as it stands comes out unchanged. H1 to H12 where
+/// none is found.
 pub fn harden(
     alloc: Global,
     program: &Program,

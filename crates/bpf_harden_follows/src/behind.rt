@@ -1,6 +1,6 @@
 //! What registers hold behind an old instruction and what stands for it.
 
-use crate::facts::{Facts, REGISTERS, is_offset, slot_at};
+use crate::facts::{Facts, REGISTERS, is_offset, offset_bounds, slot_at};
 use bpf_follows::numbers::{number_kind, told};
 use bpf_follows::site::Site;
 use bpf_follows::{Kind, by_exact};
@@ -10,7 +10,7 @@ use bpf_insn::{Access, AluOp, FRAME_BYTES, Insn, Operand, Reg, Size, Width};
 fn copied(facts: &Facts, src: Reg) -> Kind {
     match facts.get(src) {
         Kind::Start => Kind::Start,
-        Kind::Fixed { offset } => Kind::Fixed { offset },
+        Kind::Fixed { .. } | Kind::Within { .. } => facts.get(src),
         kind if is_offset(src, kind) => Kind::Offset,
         _ => Kind::Same,
     }
@@ -28,12 +28,25 @@ fn moved(facts: &Facts, dst: Reg, by: Option<i32>) -> Kind {
     }
 }
 
+/// The sum of an offset and a number.
+fn summed(kind: Kind, number: Kind) -> Kind {
+    let (Some((low, high)), Kind::Number { least, most }) = (offset_bounds(kind), number) else {
+        return Kind::Offset;
+    };
+    match (low.checked_add(least), high.checked_add(most)) {
+        (Some(least), Some(most)) => Kind::Within { least, most },
+        _ => Kind::Offset,
+    }
+}
+
 /// What a register holds behind a sum of two, or a difference.
 fn combined(facts: &Facts, op: AluOp, dst: Reg, src: Reg) -> Kind {
     let left = is_offset(dst, facts.get(dst));
     let right = is_offset(src, facts.get(src));
     let is_sum = op == AluOp::Add;
-    if left && !right || right && !left && is_sum {
+    if left && !right && is_sum {
+        summed(facts.get(dst), facts.get(src))
+    } else if left && !right || right && !left && is_sum {
         Kind::Offset
     } else {
         Kind::Same
@@ -69,16 +82,40 @@ fn computed(facts: &Facts, op: AluOp, dst: Reg, src: Operand) -> Kind {
 
 // ---- the frame
 
+/// What a slot is behind a store of a constant to it.
+fn constant(off: i16, imm: i32) -> Kind {
+    match (slot_at(off), u32::try_from(imm)) {
+        (Some(_), Ok(imm)) => Kind::Number {
+            least: imm,
+            most: imm,
+        },
+        _ => Kind::Same,
+    }
+}
+
 /// What a slot is behind a store to it.
 fn stored(facts: &Facts, insn: &Insn) -> Kind {
-    if let Insn::Store {
+    if let Insn::StoreImm {
         size: Size::DW,
-        src,
-        ..
+        dst: Reg::R10,
+        off,
+        imm,
     } = *insn
     {
+        return constant(off, imm);
+    }
+    if let Insn::Store {
+        size: Size::DW,
+        dst: Reg::R10,
+        off,
+        src,
+    } = *insn
+    {
+        if slot_at(off).is_none() {
+            return Kind::Same;
+        }
         match facts.get(src) {
-            Kind::Fixed { offset } => return Kind::Fixed { offset },
+            Kind::Fixed { .. } | Kind::Number { .. } => return facts.get(src),
             kind if is_offset(src, kind) => return Kind::Offset,
             _ => {}
         }
@@ -130,7 +167,7 @@ fn loaded(facts: &Facts, insn: &Insn) -> Kind {
         return Kind::Same;
     };
     match facts.at(place) {
-        Kind::Offset | Kind::Fixed { .. } => facts.at(place),
+        Kind::Offset | Kind::Fixed { .. } | Kind::Number { .. } => facts.at(place),
         _ => Kind::Same,
     }
 }
@@ -182,6 +219,7 @@ pub fn is_far(insn: &Insn) -> bool {
 /// frames of others alone.
 pub fn step(facts: &mut Facts, site: &Site, taken: bool, is_alone: bool) {
     tell(facts, site, taken);
+    facts.forget_saved();
     write_frame(facts, &site.insn);
     if let Insn::CallLocal { .. } = site.insn {
         facts.call(is_alone);

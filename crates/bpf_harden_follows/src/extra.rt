@@ -7,7 +7,7 @@ use bpf_insn::{AluOp, Cond, Insn, Operand, Reg, Size, Width};
 /// The old register whose offset a register holds, and what it was moved by.
 fn offset_in(r: Reg, kind: Kind) -> Option<(Reg, i32)> {
     match kind {
-        Kind::Offset | Kind::Fixed { .. } => Some((r, 0)),
+        Kind::Offset | Kind::Fixed { .. } | Kind::Within { .. } => Some((r, 0)),
         Kind::Moved { of, by } => Some((of, by)),
         _ => None,
     }
@@ -21,7 +21,7 @@ fn is_base(kind: Kind) -> bool {
 /// What a copy holds.
 fn copied(from: Reg, kind: Kind) -> Kind {
     match kind {
-        Kind::Offset | Kind::Fixed { .. } => Kind::Moved { of: from, by: 0 },
+        Kind::Offset | Kind::Fixed { .. } | Kind::Within { .. } => Kind::Moved { of: from, by: 0 },
         Kind::Start => Kind::Base,
         Kind::Base | Kind::Moved { .. } | Kind::Address { .. } | Kind::Constant { .. } => kind,
         _ => Kind::Nothing,
@@ -102,6 +102,7 @@ pub fn tested(insn: &Insn) -> Option<Reg> {
 fn kept(facts: &Facts, src: Reg) -> Kind {
     match facts.get(src) {
         Kind::Counter { head } => Kind::Counter { head },
+        Kind::Both => Kind::Saved { of: src },
         kind => copied(src, kind),
     }
 }
@@ -143,6 +144,24 @@ pub fn taken(insn: &Insn) -> Option<(Reg, usize)> {
     None
 }
 
+/// What a guard that isn't taken tells of a number.
+fn guarded(kind: Kind, cond: Cond, imm: i32) -> Kind {
+    let Ok(bound) = u32::try_from(imm) else {
+        return kind;
+    };
+    match (kind, cond) {
+        (Kind::Number { least, most }, Cond::Gt) => Kind::Number {
+            least,
+            most: most.min(bound),
+        },
+        (Kind::Number { least, most }, Cond::Lt) => Kind::Number {
+            least: least.max(bound),
+            most,
+        },
+        _ => kind,
+    }
+}
+
 /// As `pass` for another instruction.
 fn pass_other(facts: &mut Facts, slot: u32, insn: &Insn) {
     if let Some(r) = tested(insn) {
@@ -150,13 +169,27 @@ fn pass_other(facts: &mut Facts, slot: u32, insn: &Insn) {
             facts.set(r, Kind::Turn { head: slot });
         }
     }
+    if let Insn::JumpIf {
+        cond,
+        width: Width::W64,
+        dst,
+        src: Operand::Imm(imm),
+        ..
+    } = *insn
+    {
+        facts.set(dst, guarded(facts.get(dst), cond, imm));
+    }
     if let Some((place, kind)) = kept_in(facts, insn) {
         let is_known = is_free(facts.at(place)) && is_free(kind);
         facts.put(place, if is_known { kind } else { Kind::Nothing });
     }
     if let Some((dst, place)) = taken(insn) {
         if is_free(facts.at(place)) && facts.at(place) != Kind::Unset {
-            facts.set(dst, facts.at(place));
+            let kind = match facts.at(place) {
+                Kind::Saved { of } if of == dst => Kind::Both,
+                kind => kind,
+            };
+            facts.set(dst, kind);
             return;
         }
     }

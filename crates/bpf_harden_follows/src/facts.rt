@@ -26,6 +26,7 @@ pub fn slot_at(off: i16) -> Option<usize> {
 pub fn is_free(kind: Kind) -> bool {
     match kind {
         Kind::Unset | Kind::Base | Kind::Moved { .. } | Kind::Address { .. } => true,
+        Kind::Saved { .. } => true,
         Kind::Constant { .. } | Kind::Counter { .. } | Kind::Turn { .. } => true,
         _ => false,
     }
@@ -33,15 +34,16 @@ pub fn is_free(kind: Kind) -> bool {
 
 /// What holds of a slot on both ways to a place.
 fn joined_slot(a: Kind, b: Kind) -> Kind {
-    let is_same = (is_free(a) || a == Kind::Same) && (is_free(b) || b == Kind::Same);
+    let are_same = (is_free(a) || is_same(a)) && (is_free(b) || is_same(b));
     match (a, b) {
         (Kind::Constant { .. }, Kind::Counter { head })
         | (Kind::Counter { head }, Kind::Constant { .. }) => Kind::Counter { head },
         _ if a == b => a,
         (Kind::Fixed { .. }, Kind::Fixed { .. } | Kind::Offset)
         | (Kind::Offset, Kind::Fixed { .. }) => Kind::Offset,
+        (Kind::Number { .. }, Kind::Number { .. }) => joined_numbers(a, b),
         _ if is_free(a) && is_free(b) => Kind::Unset,
-        _ if is_same => Kind::Same,
+        _ if are_same => Kind::Same,
         _ => Kind::Nothing,
     }
 }
@@ -49,7 +51,7 @@ fn joined_slot(a: Kind, b: Kind) -> Kind {
 /// The register whose offset a kind is beside.
 fn beside(kind: Kind) -> Option<Reg> {
     match kind {
-        Kind::Moved { of, .. } | Kind::Address { of, .. } => Some(of),
+        Kind::Moved { of, .. } | Kind::Address { of, .. } | Kind::Saved { of } => Some(of),
         _ => None,
     }
 }
@@ -57,15 +59,20 @@ fn beside(kind: Kind) -> Option<Reg> {
 /// Whether a register holds the old one's offset.
 pub fn is_offset(r: Reg, kind: Kind) -> bool {
     match kind {
-        Kind::Offset | Kind::Fixed { .. } => true,
+        Kind::Offset | Kind::Fixed { .. } | Kind::Within { .. } => true,
         Kind::Moved { of, by } => of == r && by == 0,
         _ => false,
     }
 }
 
+/// Whether both programs have a value, and the same.
+fn is_sure(kind: Kind) -> bool {
+    matches!(kind, Kind::Both | Kind::Number { .. })
+}
+
 /// Whether both programs have the same.
 fn is_same(kind: Kind) -> bool {
-    matches!(kind, Kind::Same | Kind::Start | Kind::Number { .. })
+    matches!(kind, Kind::Same | Kind::Start) || is_sure(kind)
 }
 
 /// The bounds of both.
@@ -81,22 +88,63 @@ fn joined_numbers(a: Kind, b: Kind) -> Kind {
             least: least.min(low),
             most: most.max(high),
         },
+        _ if is_sure(a) && is_sure(b) => Kind::Both,
         _ => Kind::Same,
+    }
+}
+
+/// The bounds of an offset that isn't below 0, if they are known.
+pub fn offset_bounds(kind: Kind) -> Option<(u32, u32)> {
+    match kind {
+        Kind::Within { least, most } => Some((least, most)),
+        Kind::Fixed { offset } => {
+            let offset = u32::try_from(offset).ok()?;
+            Some((offset, offset))
+        }
+        _ => None,
+    }
+}
+
+/// What holds of two offsets.
+fn joined_offsets(a: Kind, b: Kind) -> Kind {
+    match (offset_bounds(a), offset_bounds(b)) {
+        (Some((least, most)), Some((low, high))) => Kind::Within {
+            least: least.min(low),
+            most: most.max(high),
+        },
+        _ => Kind::Offset,
     }
 }
 
 /// Bounds that grew again and again, and now grow at once.
 pub fn grown(before: Kind, after: Kind) -> Kind {
-    let (
-        Kind::Number { least, most },
-        Kind::Number {
-            least: low,
-            most: high,
-        },
-    ) = (before, after)
-    else {
-        return after;
-    };
+    match (before, after) {
+        (
+            Kind::Number { least, most },
+            Kind::Number {
+                least: low,
+                most: high,
+            },
+        ) => {
+            let (least, most) = farther(least, most, low, high);
+            Kind::Number { least, most }
+        }
+        (
+            Kind::Within { least, most },
+            Kind::Within {
+                least: low,
+                most: high,
+            },
+        ) => {
+            let (least, most) = farther(least, most, low, high);
+            Kind::Within { least, most }
+        }
+        _ => after,
+    }
+}
+
+/// Bounds behind those before.
+fn farther(least: u32, most: u32, low: u32, high: u32) -> (u32, u32) {
     let low = if low < least { low.min(1) } else { low };
     let high = if high <= most {
         high
@@ -107,10 +155,7 @@ pub fn grown(before: Kind, after: Kind) -> Kind {
     } else {
         0xffff_ffff
     };
-    Kind::Number {
-        least: low,
-        most: high,
-    }
+    (low, high)
 }
 
 /// What holds on both ways to a place.
@@ -119,7 +164,7 @@ fn joined(r: Reg, a: Kind, b: Kind) -> Kind {
         return a;
     }
     if is_offset(r, a) && is_offset(r, b) {
-        return Kind::Offset;
+        return joined_offsets(a, b);
     }
     if is_same(a) && is_same(b) {
         return joined_numbers(a, b);
@@ -197,6 +242,15 @@ impl Facts {
         self.set(r, kind);
     }
 
+    /// What slots hold of registers of the old program is gone, as if nothing was there.
+    pub fn forget_saved(&mut self) {
+        for place in REGISTERS..PLACES {
+            if let Kind::Saved { .. } = self.at(place) {
+                self.put(place, Kind::Unset);
+            }
+        }
+    }
+
     /// A call is made: what is said by another register is gone.
     pub fn call(&mut self, is_alone: bool) {
         for place in 0..PLACES {
@@ -238,7 +292,10 @@ impl Facts {
             self.set(r, kind);
         }
         for place in REGISTERS..PLACES {
-            let kind = joined_slot(self.at(place), other.at(place));
+            let mut kind = joined_slot(self.at(place), other.at(place));
+            if far {
+                kind = grown(self.at(place), kind);
+            }
             is_less = is_less || kind != self.at(place);
             self.put(place, kind);
         }

@@ -3,12 +3,13 @@
 use crate::edits::{loaded, with_base};
 use crate::parts::{add, add_constant, alu, constant, copy, displacement, fetch, is_near, keep};
 use crate::region::Region;
-use crate::share::{Made, Share, stores};
+use crate::share::{Made, Share, first_of, stores};
 use crate::writer::Writer;
 use bpf_harden_notes::{Change, HardenError};
 use bpf_harden_plan::{BY_CHOICE, Guard, Kind, Registers, Span};
 use bpf_insn::{Access, AluOp, Cond, Insn, Operand, Reg};
 use bpf_state::Place;
+use std::alloc::AllocError;
 
 /// An access by an offset.
 #[derive(Clone, Copy)]
@@ -38,6 +39,16 @@ struct Temp {
     way: Way,
 }
 
+impl Temp {
+    /// A register that holds nothing that is read later.
+    fn free(register: Reg) -> Temp {
+        Temp {
+            register,
+            way: Way::Free,
+        }
+    }
+}
+
 impl Site {
     /// How many bytes it accesses.
     fn bytes(&self) -> i64 {
@@ -57,6 +68,14 @@ impl Site {
             registers.add(r);
         }
         registers
+    }
+
+    /// The register that has what a place keeps: its own one, or the one that is loaded.
+    fn register_for(&self, place: Place) -> Option<Reg> {
+        match place {
+            Place::Register(r) => Some(r),
+            Place::Slot(_) => loaded(&self.insn),
+        }
     }
 
     /// Whether it reads its base as a value too.
@@ -153,43 +172,14 @@ impl<'a> Writer<'a> {
     }
 
     /// Puts an access at an offset that is always the same, if it can be put so.
-    fn access_at(&mut self, site: &Site, at: i64) -> Result<bool, HardenError> {
+    fn access_at(&mut self, site: &Site, at: i64) -> Result<bool, AllocError> {
         let from_origin = at.saturating_sub(site.region.origin);
-        if !is_near(from_origin) {
-            return Ok(false);
-        }
-        let found = match site.region.base {
-            Place::Register(r) => Some(r),
-            Place::Slot(_) => loaded(&site.insn),
-        };
-        let Some(pointer) = found else {
+        let Some(pointer) = site.register_for(site.region.base) else {
             return Ok(false);
         };
-        let least_end = constant(at.saturating_add(site.bytes()));
-        match (site.guard, site.region.end) {
-            (Some(_), Some(Place::Register(end))) => {
-                self.trap_if(
-                    site.slot,
-                    Cond::Lt,
-                    end,
-                    Operand::Imm(least_end),
-                    Change::Guard,
-                )?;
-            }
-            (Some(_), Some(end)) => {
-                let Some(room) = loaded(&site.insn) else {
-                    return Ok(false);
-                };
-                self.add(site.slot, fetch(room, end), Change::Guard)?;
-                self.trap_if(
-                    site.slot,
-                    Cond::Lt,
-                    room,
-                    Operand::Imm(least_end),
-                    Change::Guard,
-                )?;
-            }
-            (_, _) => {}
+        let end = at.saturating_add(site.bytes());
+        if !is_near(from_origin) || !self.test_end_at(site, end)? {
+            return Ok(false);
         }
         if let Place::Slot(_) = site.region.base {
             self.add(site.slot, fetch(pointer, site.region.base), Change::Address)?;
@@ -199,15 +189,28 @@ impl<'a> Writer<'a> {
         Ok(true)
     }
 
+    /// Leads to the trap if a region ends in front of an offset, where that is known as the program runs. False if there is no
+    /// register for it.
+    fn test_end_at(&mut self, site: &Site, offset: i64) -> Result<bool, AllocError> {
+        let (Some(_), Some(end)) = (site.guard, site.region.end) else {
+            return Ok(true);
+        };
+        let Some(r) = site.register_for(end) else {
+            return Ok(false);
+        };
+        if let Place::Slot(_) = end {
+            self.add(site.slot, fetch(r, end), Change::Guard)?;
+        }
+        self.guard_if(site.slot, Cond::Lt, r, offset)?;
+        Ok(true)
+    }
+
     /// Puts an access at an offset that a register holds.
     fn access_moved(&mut self, site: &Site) -> Result<(), HardenError> {
         let share = self.share(site);
         let temp = self.temp(site, share)?;
         let pointer = temp.register;
-        self.forget_for(temp);
-        if temp.way == Way::Saved {
-            self.save(site, pointer)?;
-        }
+        self.take(site, temp)?;
         self.test_base(site)?;
         let is_direct = self.begin_pointer(site, pointer)?;
         self.test_moved(site, pointer)?;
@@ -216,11 +219,7 @@ impl<'a> Writer<'a> {
         }
         let insn = with_base(&site.insn, pointer, site.displacement());
         self.add(site.slot, insn, Change::Access)?;
-        match temp.way {
-            Way::Free => {}
-            Way::InPlace => self.take_back(site)?,
-            Way::Saved => self.restore(site, pointer)?,
-        }
+        self.give_back(site, temp)?;
         if let Share::Base | Share::By(_) = share {
             self.made = Some(Made {
                 base: site.access.base,
@@ -234,53 +233,34 @@ impl<'a> Writer<'a> {
     // ---- tests
 
     /// Tests the base itself, where the guard does that.
-    fn test_base(&mut self, site: &Site) -> Result<(), HardenError> {
+    fn test_base(&mut self, site: &Site) -> Result<(), AllocError> {
         let Some(guard) = site.guard else {
             return Ok(());
         };
         if guard.exact || guard.early || site.region.end.is_some() {
             return Ok(());
         }
-        let least = site.least();
-        let most = site.most();
-        if guard.high {
-            let src = Operand::Imm(constant(most));
-            self.trap_if(site.slot, Cond::Gt, site.access.base, src, Change::Guard)?;
-        }
-        if guard.low && least > 0 {
-            let src = Operand::Imm(constant(least));
-            self.trap_if(site.slot, Cond::Lt, site.access.base, src, Change::Guard)?;
-        }
+        let (least, most) = (site.least(), site.most());
+        self.guard_between(site.slot, guard, site.access.base, least, most)?;
         Ok(())
     }
 
     /// Begins to make a pointer of the base: copies and moves it. Whether it is one already.
-    fn begin_pointer(&mut self, site: &Site, pointer: Reg) -> Result<bool, HardenError> {
+    fn begin_pointer(&mut self, site: &Site, pointer: Reg) -> Result<bool, AllocError> {
         let base = site.access.base;
-        let moved = site.moved_by();
-        if pointer == base {
-            if moved != 0 {
-                self.add(
-                    site.slot,
-                    add_constant(base, constant(moved)),
-                    Change::Guard,
-                )?;
-            }
-            return Ok(false);
-        }
         let is_tested = site.guard.is_some_and(|guard| guard.exact) || site.region.end.is_some();
-        if let (Place::Slot(_), false) = (site.region.base, is_tested) {
-            self.add(site.slot, fetch(pointer, site.region.base), Change::Address)?;
-            self.add(site.slot, add(pointer, base), Change::Address)?;
-            return Ok(true);
+        if pointer != base {
+            if let (Place::Slot(_), false) = (site.region.base, is_tested) {
+                self.add(site.slot, fetch(pointer, site.region.base), Change::Address)?;
+                self.add(site.slot, add(pointer, base), Change::Address)?;
+                return Ok(true);
+            }
+            self.add(site.slot, copy(pointer, base), Change::Address)?;
         }
-        self.add(site.slot, copy(pointer, base), Change::Address)?;
+        let moved = site.moved_by();
         if moved != 0 {
-            self.add(
-                site.slot,
-                add_constant(pointer, constant(moved)),
-                Change::Guard,
-            )?;
+            let insn = add_constant(pointer, constant(moved));
+            self.add(site.slot, insn, Change::Guard)?;
         }
         Ok(false)
     }
@@ -296,50 +276,53 @@ impl<'a> Writer<'a> {
             }
             if guard.low {
                 let least = site.region.start.saturating_add(site.width());
-                let src = Operand::Imm(constant(least));
-                self.trap_if(site.slot, Cond::Lt, moved, src, Change::Guard)?;
+                self.guard_if(site.slot, Cond::Lt, moved, least)?;
             }
         } else if guard.exact && guard.high {
             let most = site.region.bytes.saturating_sub(site.width());
-            let src = Operand::Imm(constant(most));
-            self.trap_if(site.slot, Cond::Gt, moved, src, Change::Guard)?;
+            self.guard_if(site.slot, Cond::Gt, moved, most)?;
         }
         Ok(())
     }
 
     /// Leads to the trap if an access ends behind a place's offset.
     fn test_end(&mut self, site: &Site, moved: Reg, end: Place) -> Result<(), HardenError> {
-        if let Place::Register(r) = end {
-            return Ok(self.trap_if(site.slot, Cond::Gt, moved, Operand::Reg(r), Change::Guard)?);
-        }
-        let other = self.other_temp(site, moved)?;
-        self.forget_for(other);
-        self.begin_other(site, other)?;
-        self.add(site.slot, fetch(other.register, end), Change::Guard)?;
+        let other = self.fetched(site, moved, end, Change::Guard)?;
         let src = Operand::Reg(other.register);
         self.trap_if(site.slot, Cond::Gt, moved, src, Change::Guard)?;
-        self.end_other(site, other)
+        Ok(self.give_back(site, other)?)
     }
 
     /// Adds the region's base to an offset.
     fn add_base(&mut self, site: &Site, pointer: Reg) -> Result<(), HardenError> {
-        if let Place::Register(r) = site.region.base {
-            return Ok(self.add(site.slot, add(pointer, r), Change::Address)?);
+        let other = self.fetched(site, pointer, site.region.base, Change::Address)?;
+        let insn = add(pointer, other.register);
+        self.add(site.slot, insn, Change::Address)?;
+        Ok(self.give_back(site, other)?)
+    }
+
+    /// The register that keeps what a place does, or one but the pointer's into which it is fetched.
+    fn fetched(
+        &mut self,
+        site: &Site,
+        pointer: Reg,
+        place: Place,
+        change: Change,
+    ) -> Result<Temp, HardenError> {
+        if let Place::Register(register) = place {
+            return Ok(Temp::free(register));
         }
-        let other = self.other_temp(site, pointer)?;
-        self.forget_for(other);
-        self.begin_other(site, other)?;
-        self.add(
-            site.slot,
-            fetch(other.register, site.region.base),
-            Change::Address,
-        )?;
-        self.add(site.slot, add(pointer, other.register), Change::Address)?;
-        self.end_other(site, other)
+        let other = match self.dead(site, pointer) {
+            Some(register) => Temp::free(register),
+            None => self.borrowed(site, pointer)?,
+        };
+        self.take(site, other)?;
+        self.add(site.slot, fetch(other.register, place), change)?;
+        Ok(other)
     }
 
     /// Gives the base its offset back.
-    fn take_back(&mut self, site: &Site) -> Result<(), HardenError> {
+    fn take_back(&mut self, site: &Site) -> Result<(), AllocError> {
         let base = site.access.base;
         if let Place::Register(r) = site.region.base {
             let insn = alu(AluOp::Sub, base, Operand::Reg(r));
@@ -357,37 +340,23 @@ impl<'a> Writer<'a> {
 
     /// The register in which the pointer of an access is made.
     fn temp(&self, site: &Site, share: Share) -> Result<Temp, HardenError> {
+        let base = site.access.base;
         let shared = match share {
             Share::By(r) => Some(r),
-            Share::Base => Some(site.access.base),
-            Share::Alone if self.is_last_use(site) => Some(site.access.base),
+            Share::Base => Some(base),
+            Share::Alone if self.is_last_use(site) => Some(base),
             Share::Alone => None,
         };
-        if let Some(register) = shared {
-            return Ok(Temp {
-                register,
-                way: Way::Free,
-            });
-        }
-        if let Some(register) = loaded(&site.insn) {
-            return Ok(Temp {
-                register,
-                way: Way::Free,
-            });
-        }
-        if let Some(register) = self.dead(site, site.access.base) {
-            return Ok(Temp {
-                register,
-                way: Way::Free,
-            });
+        if let Some(register) = shared.or(loaded(&site.insn)).or(self.dead(site, base)) {
+            return Ok(Temp::free(register));
         }
         if let (Place::Register(_), false) = (site.region.base, site.reads_base_twice()) {
             return Ok(Temp {
-                register: site.access.base,
+                register: base,
                 way: Way::InPlace,
             });
         }
-        self.borrowed(site, site.access.base)
+        self.borrowed(site, base)
     }
 
     /// Whether an access needs its base no more than for this, and what is added to it is kept in a register.
@@ -398,26 +367,9 @@ impl<'a> Writer<'a> {
         is_kept && !live.has(base) && !site.reads_base_twice()
     }
 
-    /// A register for what is kept in the frame, another one than that of the pointer.
-    fn other_temp(&self, site: &Site, pointer: Reg) -> Result<Temp, HardenError> {
-        match self.dead(site, pointer) {
-            Some(register) => Ok(Temp {
-                register,
-                way: Way::Free,
-            }),
-            None => self.borrowed(site, pointer),
-        }
-    }
-
     /// A register but this one that holds nothing which is read at an access or later.
     fn dead(&self, site: &Site, but: Reg) -> Option<Reg> {
-        let live = self.old.live.after(site.slot, &site.insn);
-        for r in BY_CHOICE {
-            if self.is_spare(site, r, but) && !live.has(r) {
-                return Some(r);
-            }
-        }
-        None
+        first_of(self.free_after(site, but))
     }
 
     /// A register but this one that is to be saved meanwhile. H3 if the frame has no room for it.
@@ -444,31 +396,27 @@ impl<'a> Writer<'a> {
         r != but && !site.registers().has(r) && !taken.has(r)
     }
 
-    /// A pointer that was made is gone where its register is used.
-    fn forget_for(&mut self, temp: Temp) {
-        if temp.way == Way::Free {
-            self.forget(temp.register);
+    /// Takes a register: it is saved, if it is to be, and else a pointer that was made is gone where it is free.
+    fn take(&mut self, site: &Site, temp: Temp) -> Result<(), AllocError> {
+        match temp.way {
+            Way::Free => self.forget(temp.register),
+            Way::InPlace => {}
+            Way::Saved => self.save(site, temp.register)?,
         }
+        Ok(())
     }
 
-    /// Saves a register, if it is to be.
-    fn begin_other(&mut self, site: &Site, temp: Temp) -> Result<(), HardenError> {
+    /// Gives a register what it held, if that is to be.
+    fn give_back(&mut self, site: &Site, temp: Temp) -> Result<(), AllocError> {
         match temp.way {
-            Way::Saved => self.save(site, temp.register),
-            Way::Free | Way::InPlace => Ok(()),
-        }
-    }
-
-    /// Restores a register, if it was saved.
-    fn end_other(&mut self, site: &Site, temp: Temp) -> Result<(), HardenError> {
-        match temp.way {
+            Way::Free => Ok(()),
+            Way::InPlace => self.take_back(site),
             Way::Saved => self.restore(site, temp.register),
-            Way::Free | Way::InPlace => Ok(()),
         }
     }
 
     /// Saves a register in the frame.
-    fn save(&mut self, site: &Site, r: Reg) -> Result<(), HardenError> {
+    fn save(&mut self, site: &Site, r: Reg) -> Result<(), AllocError> {
         if let Some(slot) = self.rooms.room(self.old.function(site.slot)).scratch {
             self.add(site.slot, keep(Place::Slot(slot), r), Change::Save)?;
         }
@@ -476,7 +424,7 @@ impl<'a> Writer<'a> {
     }
 
     /// Restores a register that was saved.
-    fn restore(&mut self, site: &Site, r: Reg) -> Result<(), HardenError> {
+    fn restore(&mut self, site: &Site, r: Reg) -> Result<(), AllocError> {
         if let Some(slot) = self.rooms.room(self.old.function(site.slot)).scratch {
             self.add(site.slot, fetch(r, Place::Slot(slot)), Change::Save)?;
         }

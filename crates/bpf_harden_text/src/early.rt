@@ -1,15 +1,13 @@
 //! Guards in front of a sum, by what is added: both what is added and the sum are bounded behind them.
 
-use crate::parts::constant;
 use crate::region::Region;
 use crate::writer::Writer;
-use bpf_harden_notes::{Change, HardenError};
 use bpf_harden_plan::{Early, Guard};
-use bpf_insn::{Cond, Operand};
+use std::alloc::AllocError;
 
 impl<'a> Writer<'a> {
     /// Tests what is added to the base of an access.
-    pub fn test_early(&mut self, early: Early) -> Result<(), HardenError> {
+    pub fn test_early(&mut self, early: Early) -> Result<(), AllocError> {
         let room = self.rooms.room(self.old.function(early.access));
         let Some(access) = self.old.kept(early.access).and_then(|insn| insn.access()) else {
             return Ok(());
@@ -23,26 +21,12 @@ impl<'a> Writer<'a> {
     }
 
     /// Leads to the trap where what is added brings an access out of its region.
-    fn test_added(
-        &mut self,
-        early: Early,
-        guard: Guard,
-        region: Region,
-    ) -> Result<(), HardenError> {
+    fn test_added(&mut self, early: Early, guard: Guard, region: Region) -> Result<(), AllocError> {
         let start = region.start.saturating_sub(early.offset);
         let least = start.saturating_sub(guard.span.from);
         let most = start
             .saturating_add(region.bytes)
             .saturating_sub(guard.span.to);
-        let (slot, added) = (early.access, early.register);
-        if guard.high {
-            let src = Operand::Imm(constant(most));
-            self.trap_if(slot, Cond::Gt, added, src, Change::Guard)?;
-        }
-        if guard.low && least > 0 {
-            let src = Operand::Imm(constant(least));
-            self.trap_if(slot, Cond::Lt, added, src, Change::Guard)?;
-        }
-        Ok(())
+        self.guard_between(early.access, guard, early.register, least, most)
     }
 }

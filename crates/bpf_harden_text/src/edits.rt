@@ -1,6 +1,7 @@
 //! Old instructions with a field changed.
 
-use bpf_insn::{FRAME_BYTES, Insn, Operand, Reg, Size, Width};
+use crate::parts::alu;
+use bpf_insn::{FRAME_BYTES, Insn, Operand, Reg, Size};
 
 /// The offset that stands for the frame pointer: offsets into a frame go from 0 to this.
 pub const FRAME_END: i32 = FRAME_BYTES as i32;
@@ -54,48 +55,18 @@ pub fn with_base(insn: &Insn, base: Reg, off: i16) -> Insn {
 
 /// The register that a load fills; none of another access.
 pub fn loaded(insn: &Insn) -> Option<Reg> {
-    match *insn {
-        Insn::Load { dst, .. } | Insn::LoadSx { dst, .. } => Some(dst),
-        Insn::Alu { .. }
-        | Insn::Neg { .. }
-        | Insn::MovSx { .. }
-        | Insn::End { .. }
-        | Insn::LoadImm64 { .. }
-        | Insn::Store { .. }
-        | Insn::StoreImm { .. }
-        | Insn::Atomic { .. }
-        | Insn::Ja { .. }
-        | Insn::JaLong { .. }
-        | Insn::JumpIf { .. }
-        | Insn::CallLocal { .. }
-        | Insn::Exit => None,
+    match insn.access() {
+        Some(access) if !access.writes => insn.register_written(),
+        _ => None,
     }
 }
 
 /// The operation on 64 bits.
 pub fn widened(insn: &Insn) -> Insn {
-    match *insn {
-        Insn::Alu { op, dst, src, .. } => Insn::Alu {
-            op,
-            width: Width::W64,
-            dst,
-            src,
-        },
-        Insn::Neg { .. }
-        | Insn::MovSx { .. }
-        | Insn::End { .. }
-        | Insn::LoadImm64 { .. }
-        | Insn::Load { .. }
-        | Insn::LoadSx { .. }
-        | Insn::Store { .. }
-        | Insn::StoreImm { .. }
-        | Insn::Atomic { .. }
-        | Insn::Ja { .. }
-        | Insn::JaLong { .. }
-        | Insn::JumpIf { .. }
-        | Insn::CallLocal { .. }
-        | Insn::Exit => *insn,
-    }
+    let Insn::Alu { op, dst, src, .. } = *insn else {
+        return *insn;
+    };
+    alu(op, dst, src)
 }
 
 /// The second operand, with an offset in the place of the frame pointer.

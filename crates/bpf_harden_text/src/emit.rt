@@ -45,15 +45,7 @@ impl<'a> Writer<'a> {
 
     /// Puts what stands in the place of an old instruction.
     fn put_slot(&mut self, slot: u32, insn: &Insn) -> Result<(), HardenError> {
-        if self.old.cfg.label(self.old.cfg.block_of(slot)) == slot {
-            self.made = None;
-        }
-        if let Some(counter) = self.rooms.counter(slot) {
-            self.take_turn(slot, counter)?;
-        }
-        if let Some(early) = self.plan.early(slot) {
-            self.test_early(early)?;
-        }
+        self.begin_slot(slot)?;
         let goes_on = match insn.access() {
             Some(access) => self.put_access(slot, insn, access)?,
             None => {
@@ -65,6 +57,20 @@ impl<'a> Writer<'a> {
         let next = slot.saturating_add(insn.slots());
         if goes_on && insn.goes_on() && self.kept(next).is_none() {
             self.trap(slot)?;
+        }
+        Ok(())
+    }
+
+    /// Puts what stands in front of an old instruction. At a label no pointer is known that was made.
+    fn begin_slot(&mut self, slot: u32) -> Result<(), HardenError> {
+        if self.old.cfg.label(self.old.cfg.block_of(slot)) == slot {
+            self.made = None;
+        }
+        if let Some(counter) = self.rooms.counter(slot) {
+            self.take_turn(slot, counter)?;
+        }
+        if let Some(early) = self.plan.early(slot) {
+            self.test_early(early)?;
         }
         Ok(())
     }
@@ -191,20 +197,16 @@ impl<'a> Writer<'a> {
 
     /// Puts an instruction as it was, or with offsets or 64 bits.
     fn put_edited(&mut self, slot: u32, insn: &Insn, goal: Goal) -> Result<(), HardenError> {
-        let change = if self.plan.widens(slot) {
-            Some(Change::Widened)
-        } else if self.plan.frames && takes_frame_pointer(insn) {
+        let edited = self.edited(insn);
+        if self.plan.widens(slot) {
+            return Ok(self.put(slot, widened(&edited), goal, Some(Change::Widened))?);
+        }
+        let change = if self.plan.frames && takes_frame_pointer(insn) {
             Some(Change::Offset)
         } else {
             None
         };
-        let edited = self.edited(insn);
-        let whole = if self.plan.widens(slot) {
-            widened(&edited)
-        } else {
-            edited
-        };
-        Ok(self.put(slot, whole, goal, change)?)
+        Ok(self.put(slot, edited, goal, change)?)
     }
 }
 

@@ -38,35 +38,38 @@ impl<'a> Writer<'a> {
         if !self.plan.offsets {
             return Ok(());
         }
-        let room = self.rooms.room(0);
-        if let Some(base) = room.base {
-            self.add(uses.first, keep(base, Reg::R1), Change::Base)?;
-        }
-        if self.plan.options.padded {
-            self.read_length(uses.first, Reg::R1, Reg::R2)?;
-            self.keep_end(uses.first, Reg::R2, room)?;
-        }
-        let start = constant(self.plan.start());
-        self.add(
-            uses.first,
-            keep_constant(Place::Register(Reg::R1), start),
-            Change::Base,
-        )
+        self.keep_context(uses.first, self.rooms.room(0), Reg::R1, Reg::R2)?;
+        let start = self.plan.start().cast_unsigned();
+        self.add(uses.first, set(Reg::R1, start), Change::Base)
     }
 
     /// Keeps the context's start that a function is handed.
     fn enter_called(&mut self, function: usize, uses: Uses) -> Result<(), AllocError> {
         let room = self.rooms.room(function);
-        let (Some(base), Some(handed)) = (room.base, room.handed) else {
-            return Ok(());
-        };
-        if base != Place::Register(handed) {
-            self.add(uses.first, keep(base, handed), Change::Base)?;
+        match room.handed {
+            // Nothing that a function is called with stands in r0.
+            Some(handed) => self.keep_context(uses.first, room, handed, Reg::R0),
+            None => Ok(()),
+        }
+    }
+
+    /// Keeps the context's start that a register holds, and the end of a block's packet by means of another one.
+    fn keep_context(
+        &mut self,
+        slot: u32,
+        room: Room,
+        context: Reg,
+        length: Reg,
+    ) -> Result<(), AllocError> {
+        match room.base {
+            Some(base) if base != Place::Register(context) => {
+                self.add(slot, keep(base, context), Change::Base)?;
+            }
+            _ => {}
         }
         if self.plan.options.padded {
-            // Nothing that a function is called with stands in r0.
-            self.read_length(uses.first, handed, Reg::R0)?;
-            self.keep_end(uses.first, Reg::R0, room)?;
+            self.read_length(slot, context, length)?;
+            self.keep_end(slot, length, room)?;
         }
         Ok(())
     }

@@ -3,10 +3,11 @@
 use crate::access::Site;
 use crate::edits::with_base;
 use crate::writer::Writer;
-use bpf_harden_notes::{Change, HardenError};
+use bpf_harden_notes::Change;
 use bpf_harden_plan::{BY_CHOICE, Registers};
 use bpf_insn::{Insn, Reg};
 use bpf_state::Place;
+use std::alloc::AllocError;
 
 /// How many instructions may lie between accesses that go by one pointer.
 const LONGEST_SHARE: u32 = 32;
@@ -63,7 +64,7 @@ impl<'a> Writer<'a> {
     }
 
     /// Puts an access by a pointer that was made already.
-    pub fn access_by(&mut self, site: &Site, made: Made) -> Result<(), HardenError> {
+    pub fn access_by(&mut self, site: &Site, made: Made) -> Result<(), AllocError> {
         let insn = with_base(&site.insn, made.pointer, site.displacement_from(made.moved));
         self.add(site.slot, insn, Change::Access)?;
         self.made = Some(made);
@@ -74,7 +75,7 @@ impl<'a> Writer<'a> {
     pub fn share(&self, site: &Site) -> Share {
         let base = site.access.base;
         let mut search = Search {
-            free: self.free_after(site),
+            free: self.free_after(site, base),
             found: None,
             is_shared: false,
             is_read: site.reads_base_twice() || !matches!(site.region.base, Place::Register(_)),
@@ -104,12 +105,12 @@ impl<'a> Writer<'a> {
         }
     }
 
-    /// The registers that hold nothing that is read behind an access, and that it doesn't fill.
-    fn free_after(&self, site: &Site) -> Registers {
+    /// The registers but one that hold nothing that is read behind an access, and that it doesn't fill.
+    pub fn free_after(&self, site: &Site, but: Reg) -> Registers {
         let mut free = Registers::NONE;
         let live = self.old.live.after(site.slot, &site.insn);
         for r in BY_CHOICE {
-            if self.is_spare(site, r, site.access.base) && !live.has(r) {
+            if self.is_spare(site, r, but) && !live.has(r) {
                 free.add(r);
             }
         }
@@ -135,7 +136,7 @@ impl<'a> Writer<'a> {
 }
 
 /// The first of some registers.
-fn first_of(registers: Registers) -> Option<Reg> {
+pub fn first_of(registers: Registers) -> Option<Reg> {
     for r in BY_CHOICE {
         if registers.has(r) {
             return Some(r);

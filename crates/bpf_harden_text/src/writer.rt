@@ -1,10 +1,10 @@
 //! Where new instructions are put, one after the other.
 
-use crate::parts::{JUMP, jump_if};
+use crate::parts::{JUMP, constant, jump_if};
 use crate::piece::{Goal, Piece};
 use crate::share::Made;
 use bpf_harden_notes::Change;
-use bpf_harden_plan::{Old, Plan, Rooms};
+use bpf_harden_plan::{Guard, Old, Plan, Rooms};
 use bpf_infer_base::put;
 use bpf_insn::{Cond, Insn, Operand, Reg};
 use std::alloc::{AllocError, Global};
@@ -89,6 +89,29 @@ impl<'a> Writer<'a> {
     ) -> Result<(), AllocError> {
         let goal = Goal::Trap(self.old.function(old));
         self.put(old, jump_if(cond, dst, src), goal, Some(change))
+    }
+
+    /// Leads to the trap of the function if the number in a register compares so with a limit.
+    pub fn guard_if(&mut self, old: u32, cond: Cond, r: Reg, limit: i64) -> Result<(), AllocError> {
+        self.trap_if(old, cond, r, Operand::Imm(constant(limit)), Change::Guard)
+    }
+
+    /// Leads to the trap of the function if the number in a register is above the most or below the least, whichever a guard tests.
+    pub fn guard_between(
+        &mut self,
+        old: u32,
+        guard: Guard,
+        r: Reg,
+        least: i64,
+        most: i64,
+    ) -> Result<(), AllocError> {
+        if guard.high {
+            self.guard_if(old, Cond::Gt, r, most)?;
+        }
+        if guard.low && least > 0 {
+            self.guard_if(old, Cond::Lt, r, least)?;
+        }
+        Ok(())
     }
 
     /// Leads to the trap of the function.

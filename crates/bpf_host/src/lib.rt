@@ -3,7 +3,7 @@
 #![tactic(auto)]
 
 ghost use Rattle.std.specs.Prelude.{◌≡◌, ◌≢◌, ◌++◌, ◌⊎◌, ◌↔◌, ◌<◌, ◌≤◌, ◌+◌, ◌*◌, ◌%◌, List, length, take, drop, pos, negsuc};
-ghost use Rattle.bpf_insn.specs.Limits.{max_context};
+ghost use Rattle.bpf_insn.specs.Limits.{max_context, max_slots};
 ghost use Rattle.bpf_insn.specs.Laws.{IsImageOfProgram};
 ghost use Rattle.bpf_insn.specs.declared.instruction.Insn.{Insn as Instruction};
 ghost use Rattle.bpf_cert.specs.View.{CertificateView};
@@ -74,8 +74,8 @@ pub extern "C" fn bpf_host_run(
 /// `prepared_size` of `bpf_host_runs`, for C.
 #[unsafe(no_mangle)]
 pub extern "C" fn bpf_host_prepared_size(image_len: usize) -> usize
-    ensures words { image_len ≤ 524288 → image_len % 8 ≡ 0 → 0 < image_len → 8 * result ≡ 16 + image_len }
-    ensures none { (524288 < image_len) ⊎ ((image_len ≡ 0) ⊎ (0 < image_len % 8)) → result ≡ 0 }
+    ensures words { image_len ≤ 8 * max_slots → image_len % 8 ≡ 0 → 0 < image_len → 8 * result ≡ 16 + image_len }
+    ensures none { (8 * max_slots < image_len) ⊎ ((image_len ≡ 0) ⊎ (0 < image_len % 8)) → result ≡ 0 }
 {
     bpf_host_runs::prepared_size(image_len)
 }
@@ -111,8 +111,8 @@ pub extern "C" fn bpf_host_run_checked(memory: &[u8], context: &[u8], value: &mu
 /// `loaded_size` of `bpf_host_runs`, for C.
 #[unsafe(no_mangle)]
 pub extern "C" fn bpf_host_loaded_size(image_len: usize) -> usize
-    ensures words { image_len ≤ 524288 → image_len % 8 ≡ 0 → 0 < image_len → 8 * result ≡ 40 + image_len }
-    ensures none { (524288 < image_len) ⊎ ((image_len ≡ 0) ⊎ (0 < image_len % 8)) → result ≡ 0 }
+    ensures words { image_len ≤ 8 * max_slots → image_len % 8 ≡ 0 → 0 < image_len → 8 * result ≡ 40 + image_len }
+    ensures none { (8 * max_slots < image_len) ⊎ ((image_len ≡ 0) ⊎ (0 < image_len % 8)) → result ≡ 0 }
 {
     bpf_host_runs::loaded_size(image_len)
 }

@@ -3,7 +3,7 @@
 #![tactic(auto)]
 
 ghost use Rattle.std.specs.Prelude.{◌≡◌, ◌≢◌, ◌⊎◌, ◌↔◌, ◌<◌, ◌≤◌, ◌+◌, ◌*◌, ◌%◌, List, length, pos, negsuc};
-ghost use Rattle.bpf_insn.specs.Limits.{max_context};
+ghost use Rattle.bpf_insn.specs.Limits.{max_context, max_slots};
 ghost use Rattle.bpf_insn.specs.Laws.{IsImageOfProgram};
 ghost use Rattle.bpf_insn.specs.declared.instruction.Insn.{Insn as Instruction};
 ghost use Rattle.bpf_cert.specs.View.{CertificateView};
@@ -115,8 +115,8 @@ pub fn run(image: &[u8], order: u32, context: &[u8], fuel: u64, outcome: &mut Bp
 
 /// How many words of eight bytes the prepared program of an image of `image_len` bytes takes; 0 where no image is as long.
 pub fn prepared_size(image_len: usize) -> usize
-    ensures words { image_len ≤ 524288 → image_len % 8 ≡ 0 → 0 < image_len → 8 * result ≡ 16 + image_len }
-    ensures none { (524288 < image_len) ⊎ ((image_len ≡ 0) ⊎ (0 < image_len % 8)) → result ≡ 0 }
+    ensures words { image_len ≤ 8 * max_slots → image_len % 8 ≡ 0 → 0 < image_len → 8 * result ≡ 16 + image_len }
+    ensures none { (8 * max_slots < image_len) ⊎ ((image_len ≡ 0) ⊎ (0 < image_len % 8)) → result ≡ 0 }
 {
     if image_len == 0 || image_len > MAX_IMAGE || image_len % 8 != 0 {
         return 0;
@@ -169,8 +169,8 @@ pub fn run_checked(memory: &[u8], context: &[u8], value: &mut u64) -> i32
 
 /// How many words of eight bytes the handle of an image of `image_len` bytes takes; 0 where no image is as long.
 pub fn loaded_size(image_len: usize) -> usize
-    ensures words { image_len ≤ 524288 → image_len % 8 ≡ 0 → 0 < image_len → 8 * result ≡ 40 + image_len }
-    ensures none { (524288 < image_len) ⊎ ((image_len ≡ 0) ⊎ (0 < image_len % 8)) → result ≡ 0 }
+    ensures words { image_len ≤ 8 * max_slots → image_len % 8 ≡ 0 → 0 < image_len → 8 * result ≡ 40 + image_len }
+    ensures none { (8 * max_slots < image_len) ⊎ ((image_len ≡ 0) ⊎ (0 < image_len % 8)) → result ≡ 0 }
 {
     if image_len == 0 || image_len > MAX_IMAGE || image_len % 8 != 0 {
         return 0;

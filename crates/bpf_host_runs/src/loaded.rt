@@ -1,6 +1,7 @@
 //! Handles: a verdict's numbers in front of the prepared program that it is about, in memory that the caller gives.
 
-ghost use Rattle.std.specs.Prelude.{◌≡◌, ◌≤◌, ◌+◌, ◌↔◌, IsTrue, IsSome, IfSome, length, drop};
+ghost use Rattle.std.specs.Prelude.{◌≡◌, ◌≤◌, ◌+◌, ◌*◌, ◌↔◌, IsTrue, IsSome, IfSome, length, drop};
+ghost use Rattle.bpf_insn.specs.Limits.{max_slots};
 ghost use Rattle.bpf_host_runs.specs.Answers.{MayRun, EndsAsPrepared};
 ghost use Rattle.bpf_host_runs.specs.Loaded.{IsLoaded, IsMarkedHandle, HasRange, loaded_least, loaded_most};
 
@@ -18,7 +19,7 @@ const HEAD: usize = RANGE + 16;
 
 /// How many bytes the handle of an image takes.
 pub(crate) fn handle_size(len: usize) -> usize
-    requires { len ≤ 524288 }
+    requires { len ≤ 8 * max_slots }
     ensures { result ≡ 40 + len }
 {
     HEAD + len

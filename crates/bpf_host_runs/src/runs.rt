@@ -1,4 +1,4 @@
-//! Runs of images that nobody verified.
+//! Runs of images that nobody verified. Those of checked programs are in `checked.rt` and `loaded.rt`, the calls in `lib.rt`.
 
 ghost use Rattle.std.specs.Prelude.{◌≤◌, List, length};
 ghost use Rattle.bpf_insn.specs.Limits.{max_context};

@@ -3,6 +3,7 @@
 mod alu;
 mod atomic;
 mod load;
+mod results;
 mod store;
 
 ghost use Rattle.std.specs.Prelude.{◌≡◌, ℕ, ℤ};

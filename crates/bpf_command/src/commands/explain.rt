@@ -11,7 +11,7 @@ ghost use Rattle.bpf_infer_error.specs.RefusalNumbers.{infer_slot};
 ghost use Rattle.bpf_command.specs.Names.{behind_lines, names_explained};
 ghost use Rattle.bpf_answers.specs.Loaded.{CertificateAt, CertificateFails, CertificateRefused, ImageFails, OpensFirst, TextFails, Tried};
 ghost use Rattle.bpf_command.specs.Explained.{Answers, ExplainFails, ExplainSays, ExplainWithFails, ExplainWithSays, JudgesOf, LinesAt, LinesFail, SoughtSays, TextSays};
-ghost use Rattle.bpf_command.specs.Printed.{ImageSays, JudgedSays, ListSays, LoadedFails, LoadedSays, YesSays};
+ghost use Rattle.bpf_command_core.specs.Printed.{ImageSays, JudgedSays, ListSays, LoadedFails, LoadedSays, YesSays};
 ghost use Rattle.bpf_answers.specs.Told.{OutputFails};
 
 use bpf_answers::{

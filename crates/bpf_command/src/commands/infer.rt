@@ -10,7 +10,7 @@ ghost use Rattle.bpf_infer_error.specs.RefusalNumbers.{infer_slot};
 ghost use Rattle.bpf_answers.specs.Answer.{Answered, Says, text_of, Unfinished};
 ghost use Rattle.bpf_answers.specs.Answer.Answer.{NotProposed};
 ghost use Rattle.bpf_places.specs.Made.{making};
-ghost use Rattle.bpf_command.specs.Printed.{InferSays, InferFails, NotInferred};
+ghost use Rattle.bpf_command.specs.Inferred.{InferSays, InferFails, NotInferred};
 ghost use Rattle.bpf_answers.specs.Told.{OutputFails};
 
 use crate::advice::{Sought, after_search};

@@ -4,6 +4,7 @@ ghost use Rattle.std.specs.Prelude.{◌≤◌, length};
 ghost use Rattle.bpf_insn.specs.Limits.{max_context};
 
 use crate::aside::Aside;
+use bpf_command_core::Tracer;
 use bpf_explain_page::{Page, Tell};
 use bpf_explain_program::{Spelled, register, write_padded};
 use bpf_insn::{Code, Insn, Reg};
@@ -129,11 +130,9 @@ fn tell_run<C: Code, W: Tell>(out: &mut W, program: &C, context: &[u8], end: End
     }
 }
 
-impl<'a, H: Aside> Trace<'a, H> {
-    /// Tells the last steps of a run, where that is asked for.
-    pub fn tell<C: Code>(&self, program: &C, context: &[u8], outcome: Outcome, fuel: u64)
-        requires { length context.now ≤ max_context }
-    {
+impl<'a, H: Aside> Tracer for Trace<'a, H> {
+    // The last steps are told, where that is asked for.
+    fn tell<C: Code>(&self, program: &C, context: &[u8], outcome: Outcome, fuel: u64) {
         let Some(most) = self.lines else {
             return;
         };

@@ -1,7 +1,7 @@
 //! Which instructions and edges runs take, as far as the checker's pass knows.
 
 use crate::pass::{Observer, pass_over};
-use crate::sight::{Outcome, Sight};
+use crate::sight::Sight;
 use crate::slots::Slots;
 use bpf_check::{Index, JudgedEdge};
 use bpf_insn::Code;
@@ -64,13 +64,13 @@ impl Flow {
         if sight.here.is_some() {
             self.reached.add(slot);
         }
-        if let Outcome::Unreached | Outcome::Refused(_) = sight.outcome {
+        if sight.seen().is_none() {
             self.unknown.add(slot);
         }
-        if is_live(sight.jump) {
+        if is_live(sight.jump()) {
             self.jumps.add(slot);
         }
-        if is_live(sight.next) {
+        if is_live(sight.next()) {
             self.nexts.add(slot);
         }
     }

@@ -1,6 +1,5 @@
 //! Budgets that don't cover a cost.
 
-use crate::control::Control;
 use crate::known::{Known, Name};
 use crate::places::{content, tag_at};
 use crate::sight::Sight;
@@ -86,20 +85,17 @@ fn tell_way<W: Tell>(out: &mut W, way: &str, cost: i128, old: &Label, new: &Labe
     }
 }
 
-/// What is missing on an edge that isn't paid.
-fn lack_of<'a>(edge: JudgedEdge<'a>) -> Option<i128> {
-    let left = edge.slack?.left;
-    if left < 0 { Some(left) } else { None }
-}
-
-/// Tells of an edge that isn't paid. Whether there was something to tell.
+/// Tells of an edge if it isn't paid. Whether it isn't.
 fn tell_edge<'a, W: Tell>(
     out: &mut W,
     sight: &Sight<'a>,
     edge: JudgedEdge<'a>,
     state: &State,
 ) -> bool {
-    let (Some(here), Some(cost), Some(lack)) = (sight.here, sight.cost, lack_of(edge)) else {
+    if !edge.is_unpaid() {
+        return false;
+    }
+    let (Some(here), Some(cost), Some(slack)) = (sight.here, sight.cost(), edge.slack) else {
         return false;
     };
     let Some(new) = edge.label else {
@@ -112,13 +108,17 @@ fn tell_edge<'a, W: Tell>(
     };
     tell_way(out, way, cost, here.label, new);
     tell_terms(out, here.label, new, state);
+    let lack = slack.left;
     write!(out, ": slack {lack}");
     true
 }
 
-/// What an EXIT costs, and what is left of the budget.
+/// What an EXIT costs, if it is one, and what is left of the budget.
 fn tell_exit<'a, W: Tell>(out: &mut W, sight: &Sight<'a>) {
-    let (Some(here), Some(slack), Some(cost)) = (sight.here, sight.left_at_exit, sight.cost) else {
+    let (Some(here), Some(seen)) = (sight.here, sight.seen()) else {
+        return;
+    };
+    let (Some(slack), Some(cost)) = (seen.left_at_exit, seen.cost) else {
         return;
     };
     let slot = here.label.slot;
@@ -131,15 +131,13 @@ fn tell_exit<'a, W: Tell>(out: &mut W, sight: &Sight<'a>) {
 
 /// C9: the budget at the last label doesn't cover the cost on an edge or at EXIT.
 pub fn tell_unpaid<'a, W: Tell>(out: &mut W, sight: &Sight<'a>) {
-    if sight.control() == Control::Exit {
-        return tell_exit(out, sight);
-    }
-    if let Some(edge) = sight.jump {
+    tell_exit(out, sight);
+    if let Some(edge) = sight.jump() {
         if tell_edge(out, sight, edge, sight.jump_state()) {
             return;
         }
     }
-    if let Some(edge) = sight.next {
+    if let Some(edge) = sight.next() {
         let _ = tell_edge(out, sight, edge, &sight.behind);
     }
 }

@@ -1,6 +1,5 @@
 //! C8: states that don't lie in the label that they lead to.
 
-use crate::control::Control;
 use crate::known::{Known, Name, Written, known_register};
 use crate::places::{content, state_at, take_over};
 use crate::sight::Sight;
@@ -22,14 +21,11 @@ pub struct Difference {
 /// The first place at which a state doesn't lie in a label's.
 pub fn first_difference(state: &State, label: &Label) -> Option<Difference> {
     let claimed = state_at(label);
-    if state.entails(&claimed) {
-        return None;
-    }
     let mut mixed = claimed.copy();
     for index in 0..PLACES {
         let place = place(index);
         take_over(&mut mixed, state, place);
-        if !mixed.entails(&claimed) {
+        if !mixed.entails_entries(&label.state) {
             return Some(Difference {
                 name: Name(place),
                 held: Known(content(state, place)),
@@ -60,22 +56,20 @@ fn tell_edge<'a, W: Tell>(out: &mut W, edge: Option<JudgedEdge<'a>>, state: &Sta
     true
 }
 
-/// Tells where a callee's label claims more than holds at the call. Whether it does.
-fn tell_entry<'a, W: Tell>(out: &mut W, callee: Callee<'a>, state: &State) -> bool {
+/// Tells where a callee's label claims more than holds at the call.
+fn tell_entry<'a, W: Tell>(out: &mut W, callee: Callee<'a>, state: &State) {
     let Some(label) = callee.label else {
-        return false;
+        return;
     };
     let first = callee.function.first;
     let mut entry = state.copy();
     enter(&mut entry);
-    let Some(Difference { name, held, said }) = first_difference(&entry, label) else {
-        return false;
-    };
-    write!(
-        out,
-        "{name} is {held} where the function at slot {first} begins; its label says {said}"
-    );
-    true
+    if let Some(Difference { name, held, said }) = first_difference(&entry, label) {
+        write!(
+            out,
+            "{name} is {held} where the function at slot {first} begins; its label says {said}"
+        );
+    }
 }
 
 /// Tells that a function is said to return less than r0 may hold.
@@ -94,16 +88,18 @@ fn tell_result<'a, W: Tell>(out: &mut W, sight: &Sight<'a>) {
 
 /// C8: a state doesn't lie in what is claimed where it leads to.
 pub fn tell_difference<'a, W: Tell>(out: &mut W, sight: &Sight<'a>) {
-    if sight.control() == Control::Exit {
+    let Some(seen) = sight.seen() else {
+        return;
+    };
+    if seen.returns_wrongly {
         return tell_result(out, sight);
     }
-    if let Some(callee) = sight.site.callee {
-        if tell_entry(out, callee, &sight.before) {
-            return;
-        }
+    match sight.site.callee {
+        Some(callee) if seen.enters_wrongly => return tell_entry(out, callee, &sight.before),
+        _ => {}
     }
-    if tell_edge(out, sight.jump, sight.jump_state()) {
+    if tell_edge(out, sight.jump(), sight.jump_state()) {
         return;
     }
-    let _ = tell_edge(out, sight.next, &sight.behind);
+    let _ = tell_edge(out, sight.next(), &sight.behind);
 }

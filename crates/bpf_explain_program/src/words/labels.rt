@@ -5,7 +5,7 @@ use crate::listing::steps_of;
 use crate::places::{content, state_at};
 use crate::words::edges::{Difference, first_difference};
 use bpf_cert::{Function, Label, Measure, Term};
-use bpf_check::{Index, begins_elsewhere, function_at, greatest_budget, label_at, place_of};
+use bpf_check::{Index, SeenLabel, SeenStart, function_at, label_at, place_of};
 use bpf_explain_page::{Count, Tell};
 use bpf_infer_base::{PLACES, place};
 use bpf_insn::Code;
@@ -65,25 +65,24 @@ fn empty_number(label: &Label) -> Option<(Place, Num)> {
     None
 }
 
-/// C13: a label lies outside of its function, or has no member.
-fn tell_shape<W: Tell>(out: &mut W, certificate: &Index, function: &Function, label: &Label) {
+/// C13: a label lies outside of its function.
+fn tell_outside<W: Tell>(out: &mut W, certificate: &Index, function: &Function, label: &Label) {
     let first = function.first;
+    write!(
+        out,
+        "the label stands under the function at slot {first}, and lies in "
+    );
     match function_at(certificate, label.slot) {
-        Some(owner) if owner.first == first => {}
         Some(owner) => {
             let other = owner.first;
-            return write!(
-                out,
-                "the label stands under the function at slot {first}, and lies in the one at slot {other}"
-            );
+            write!(out, "the one at slot {other}");
         }
-        None => {
-            return write!(
-                out,
-                "the label stands under the function at slot {first}, and lies in front of it"
-            );
-        }
+        None => write!(out, "front of it"),
     }
+}
+
+/// C13: a label has no member.
+fn tell_empty<W: Tell>(out: &mut W, label: &Label) {
     match empty_number(label) {
         Some((place, number)) => {
             let (name, said) = (Name(place), Written(SlotState::Word(number)));
@@ -93,20 +92,23 @@ fn tell_shape<W: Tell>(out: &mut W, certificate: &Index, function: &Function, la
     }
 }
 
-/// Tells why a condition fails at a label. A bad term is told by `bad`.
-pub fn tell_label<W: Tell, C: Code>(
+/// Tells why a condition fails at a label of a function.
+pub fn tell_label<'a, W: Tell, C: Code>(
     out: &mut W,
     program: &C,
     certificate: &Index,
     function: &Function,
-    label: &Label,
+    seen: &SeenLabel<'a>,
     condition: Condition,
-    bad: Option<Term>,
 ) {
-    match (condition, bad) {
+    let label = seen.label;
+    match (condition, seen.bad) {
         (Condition::MisplacedLabel, _) => tell_place(out, program, label.slot),
         (Condition::OverBudget, Some(term)) => tell_term(out, label, &term),
-        (Condition::Misshapen, _) => tell_shape(out, certificate, function, label),
+        (Condition::Misshapen, _) if seen.is_outside => {
+            tell_outside(out, certificate, function, label);
+        }
+        (Condition::Misshapen, _) => tell_empty(out, label),
         _ => {}
     }
 }
@@ -121,8 +123,13 @@ pub fn tell_function<W: Tell>(out: &mut W, function: &Function) {
 }
 
 /// C13: the start doesn't lie in the label at slot 0.
-fn tell_outside<W: Tell>(out: &mut W, start: &State, label: &Label) {
-    if let Some(Difference { name, held, said }) = first_difference(start, label) {
+fn tell_other_start<W: Tell>(out: &mut W, certificate: &Index) {
+    certificate.valid();
+    let start = State::start(certificate.least(), certificate.most());
+    let Some(label) = label_at(certificate, 0) else {
+        return;
+    };
+    if let Some(Difference { name, held, said }) = first_difference(&start, label) {
         write!(
             out,
             "{name} at the start is {held}; the label at slot 0 says {said}"
@@ -130,27 +137,28 @@ fn tell_outside<W: Tell>(out: &mut W, start: &State, label: &Label) {
     }
 }
 
+/// C9: the budget at the start may be more than is promised.
+fn tell_over<W: Tell>(out: &mut W, certificate: &Index, most: i128) {
+    let steps = steps_of(certificate);
+    write!(
+        out,
+        "the budget at slot 0 is up to {most} at the start, and the certificate promises {steps}"
+    );
+}
+
 /// Tells why a condition fails at the start.
-pub fn tell_start<W: Tell>(out: &mut W, certificate: &Index, condition: Condition) {
-    certificate.valid();
-    let start = State::start(certificate.least(), certificate.most());
-    if let Condition::Misshapen = condition {
-        if begins_elsewhere(certificate.functions()) {
-            return write!(out, "no function of the certificate begins at slot 0");
+pub fn tell_start<W: Tell>(
+    out: &mut W,
+    certificate: &Index,
+    seen: &SeenStart,
+    condition: Condition,
+) {
+    match (condition, seen.over) {
+        (Condition::OverBudget, Some(most)) => tell_over(out, certificate, most),
+        (Condition::Misshapen, _) if seen.is_elsewhere => {
+            write!(out, "no function of the certificate begins at slot 0");
         }
+        (Condition::Misshapen, _) => tell_other_start(out, certificate),
+        _ => {}
     }
-    let Some(label) = label_at(certificate, 0) else {
-        return;
-    };
-    if let Condition::OverBudget = condition {
-        let steps = steps_of(certificate);
-        if let Some(most) = greatest_budget(label, &start) {
-            write!(
-                out,
-                "the budget at slot 0 is up to {most} at the start, and the certificate promises {steps}"
-            );
-        }
-        return;
-    }
-    tell_outside(out, &start, label);
 }

@@ -1,9 +1,8 @@
 //! Conditions on where instructions lead to.
 
 use crate::sight::Sight;
-use bpf_check::Spot;
+use bpf_check::{Spot, WayOut};
 use bpf_explain_page::Tell;
-use bpf_insn::{Code, Insn};
 
 /// Why no state goes on to an instruction without a label.
 #[derive(Clone, Copy, PartialEq, Eq)]
@@ -57,56 +56,35 @@ pub fn tell_depth<'a, W: Tell>(out: &mut W, sight: &Sight<'a>) {
     );
 }
 
-/// Whether a slot lies in the function that begins at `first`.
-fn lies_in<'a>(spot: &Spot<'a>, first: u32) -> bool {
-    match spot.function {
-        Some(function) => function.first == first,
-        None => false,
-    }
-}
-
 /// A call that leads to no function.
-fn tell_nowhere<W: Tell>(out: &mut W, slot: u32, off: i32) {
-    let to = i64::from(slot)
+fn tell_nowhere<'a, W: Tell>(out: &mut W, sight: &Sight<'a>) {
+    let by = i64::from(sight.site.insn.distance().unwrap_or(0));
+    let to = i64::from(sight.site.here.slot)
         .saturating_add(1)
-        .saturating_add(i64::from(off));
+        .saturating_add(by);
     write!(
         out,
         "calls slot {to}, where no function of the certificate begins"
     );
 }
 
-/// Where a jump or the next instruction leads out of the function that begins at `first`.
-fn way_out<'a, C: Code>(program: &C, sight: &Sight<'a>, first: u32) -> Option<(&'static str, u32)> {
-    if let Some(to) = &sight.site.jump {
-        if !lies_in(to, first) {
-            return Some(("jumps to", to.slot));
-        }
-    }
-    let next = sight.site.next.slot;
-    if sight.site.insn.goes_on() && next < program.slots() {
-        Some(("goes on to", next))
-    } else {
-        None
-    }
-}
-
-/// C12: a jump or the next instruction lies in another function, or a call leads to none.
-pub fn tell_leaving<'a, W: Tell, C: Code>(out: &mut W, program: &C, sight: &Sight<'a>) {
-    let slot = sight.site.here.slot;
-    if let Insn::CallLocal { off } = sight.site.insn {
-        if sight.site.callee.is_none() {
-            return tell_nowhere(out, slot, off);
-        }
-    }
-    let Some(function) = sight.site.here.function else {
-        return;
-    };
-    let first = function.first;
-    if let Some((leads, to)) = way_out(program, sight, first) {
+/// Where an instruction leads out of its function.
+fn tell_out<'a, W: Tell>(out: &mut W, sight: &Sight<'a>, leads: &str, to: u32) {
+    if let Some(function) = sight.site.here.function {
+        let first = function.first;
         write!(
             out,
             "{leads} slot {to}, out of the function at slot {first}"
         );
+    }
+}
+
+/// C12: a jump or the next instruction lies in another function, or a call leads to none.
+pub fn tell_leaving<'a, W: Tell>(out: &mut W, sight: &Sight<'a>) {
+    match sight.way_out {
+        Some(WayOut::Call) => tell_nowhere(out, sight),
+        Some(WayOut::Jump(to)) => tell_out(out, sight, "jumps to", to),
+        Some(WayOut::Next(to)) => tell_out(out, sight, "goes on to", to),
+        None => {}
     }
 }

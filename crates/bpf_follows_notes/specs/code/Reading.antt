@@ -5,7 +5,7 @@ use Rattle.std.specs.Option.{option_map_or}
 use Rattle.bpf_insn.specs.declared.instruction.Reg.{Reg}
 use Rattle.bpf_insn.specs.declared.instruction.Reg.TheVariants.{R0, R1, R2, R3, R4, R5, R6, R7, R8, R9, R10}
 use Rattle.bpf_follows.specs.declared.notes.Kind.{Kind}
-use Rattle.bpf_follows.specs.declared.notes.Kind.TheVariants.{Nothing, Unset, Same, Number, Offset, Fixed, Start, Base, Moved, Address, Constant, Counter, Turn, Alone}
+use Rattle.bpf_follows.specs.declared.notes.Kind.TheVariants.{Nothing, Unset, Same, Both, Number, Offset, Fixed, Within, Start, Base, Moved, Address, Saved, Constant, Counter, Turn, Alone}
 use Rattle.bpf_follows.specs.declared.notes.Place.{Place}
 use Rattle.bpf_follows_notes.specs.declared.error.NotesError.{NotesError}
 use Rattle.bpf_follows_notes.specs.declared.error.NotesError.TheVariants.{Form}
@@ -98,15 +98,24 @@ plain_in text =
     (or_else (word_in (codes "unset") Unset text)
     (or_else (word_in (codes "offset") Offset text)
     (or_else (word_in (codes "start") Start text)
-    (or_else (word_in (codes "base") Base text) (word_in (codes "alone") Alone text)))))
+    (or_else (word_in (codes "base") Base text)
+    (or_else (word_in (codes "both") Both text) (word_in (codes "alone") Alone text))))))
+
+-- the kind of what was saved of a register
+unfoldable pub saved_in : List ℕ → Option (Kind × List ℕ)
+saved_in text = do
+  n ← number_in (codes "saved:r") text
+  of ← register_at n.0
+  Some (Saved of, n.1)
 
 unfoldable pub numbered_in : List ℕ → Option (Kind × List ℕ)
 numbered_in text =
     or_else (option_map (λ x. (Fixed x.0, x.1)) (value_in (codes "fixed:") text))
     (or_else (option_map (λ x. (Constant x.0, x.1)) (value_in (codes "constant:") text))
     (or_else (option_map (λ x. (Number x.0 x.1, x.2)) (bounds_in (codes "number:") text))
+    (or_else (option_map (λ x. (Within x.0 x.1, x.2)) (bounds_in (codes "within:") text))
     (or_else (option_map (λ x. (Counter x.0, x.1)) (number_in (codes "turns:") text))
-    (option_map (λ x. (Turn x.0, x.1)) (number_in (codes "turn:") text)))))
+    (or_else (option_map (λ x. (Turn x.0, x.1)) (number_in (codes "turn:") text)) (saved_in text))))))
 
 unfoldable pub beside_in : List ℕ → Option (Kind × List ℕ)
 beside_in text =

@@ -1,6 +1,6 @@
 //! Arithmetic, moves and byte swaps.
 
-ghost use Rattle.std.specs.Prelude.{◌≡◌, ℕ, ◌^◌, pos, neg_ℤ, ◌+ℤ◌, ◌-ℤ◌, ◌≤ℤ◌, None, Some, Ok, IfSome, option_map, false};
+ghost use Rattle.std.specs.Prelude.{◌≡◌, ℕ, ◌^◌, pos, neg_ℤ, ◌≤ℤ◌, None, Some, Ok, IfSome, option_map, false};
 ghost use Rattle.bpf_insn.specs.Effects.{is_frame_pointer};
 ghost use Rattle.bpf_insn.specs.declared.order.Order.{Order};
 ghost use Rattle.bpf_insn.specs.declared.instruction.Width.{Width};
@@ -10,204 +10,21 @@ ghost use Rattle.bpf_insn.specs.declared.instruction.Insn.TheVariants.{Alu, Neg,
 ghost use Rattle.bpf_state.specs.declared.known.RegState.{RegState};
 ghost use Rattle.bpf_state.specs.declared.known.RegState.TheVariants.{Num as Number, Ptr};
 ghost use Rattle.bpf_num.specs.Number.{constant};
-ghost use Rattle.bpf_state.specs.State.{IsPointer, IsRegister, register};
-ghost use Rattle.bpf_state.specs.Fault.{difference, operand, pointer_plus, pointer_minus, reads_any};
+ghost use Rattle.bpf_state.specs.State.{IsRegister, register};
+ghost use Rattle.bpf_state.specs.Fault.{operand, reads_any};
 ghost use Rattle.bpf_state.specs.Transfer.{constant_of, added, never_wraps, shifted_tag, tag_after, alu_tag, transfer};
 ghost use Rattle.bpf_state.specs.Answer.{outcome_told, KeepsUnlessDone};
-ghost use Rattle.bpf_state.specs.code.Results.{IsKnown, exact_result, near, near_value, number_known, numbers_result, result_of, written};
+ghost use Rattle.bpf_state.specs.code.Results.{exact_result, number_known, result_of, written};
 
 use crate::fault::StateFault;
-use crate::known::{Area, FARTHEST, Pointer, RegState, Tag};
+use crate::known::{RegState, Tag};
 use crate::state::State;
+use crate::transfers::results::{number_state, result_of};
 use bpf_insn::{AluOp, EndBits, EndKind, Operand, Order, Reg, SignBits, Width, extended};
-use bpf_num::{KnownBits, Num, Signed, Unsigned, WordDomain};
+use bpf_num::Num;
 
 /// The greatest distance of a counter's offset from 0.
 const MAX_OFFSET: i128 = 1 << 40;
-
-// ---- results
-
-pub(crate) fn number_state(number: Option<Num>) -> Option<RegState>
-    ensures value { result ≡ option_map Number number }
-    ensures ordered { IfSome result IsRegister }
-{
-    match number {
-        Some(n) => Some(RegState::Num(n)),
-        None => None,
-    }
-}
-
-/// What is known of the difference of offsets in two intervals.
-fn difference(lo: i64, hi: i64, least: i64, most: i64) -> Option<RegState>
-    requires first { lo ≤ℤ hi }
-    requires second { least ≤ℤ most }
-    ensures value { result ≡ difference lo hi least most }
-    ensures ordered { IfSome result IsRegister }
-{
-    let signed = Signed::new(lo, hi).alu(AluOp::Sub, Signed::new(least, most));
-    number_state(Num::of(KnownBits::top(), Unsigned::top(), signed).tighten())
-}
-
-/// The pointer with other bounds, if they aren't too far off.
-fn near(area: Area, lo: i128, hi: i128) -> Result<Option<RegState>, StateFault>
-    requires { lo ≤ℤ hi }
-    ensures value { result ≡ near area lo hi }
-    ensures ordered { IsKnown result }
-{
-    if -(FARTHEST as i128) <= lo && hi <= FARTHEST as i128 {
-        Ok(Some(RegState::Ptr(Pointer {
-            area,
-            lo: lo as i64,
-            hi: hi as i64,
-        })))
-    } else {
-        Err(StateFault::OutOfBounds)
-    }
-}
-
-fn pointer_plus(p: Pointer, n: Num) -> Result<Option<RegState>, StateFault>
-    requires { IsPointer p }
-    ensures value { result ≡ near_value (pointer_plus p n) }
-    ensures ordered { IsKnown result }
-{
-    n.valid();
-    let by = n.signed();
-    near(
-        p.area,
-        p.lo as i128 + by.lo() as i128,
-        p.hi as i128 + by.hi() as i128,
-    )
-}
-
-fn pointer_minus(p: Pointer, n: Num) -> Result<Option<RegState>, StateFault>
-    requires { IsPointer p }
-    ensures value { result ≡ near_value (pointer_minus p n) }
-    ensures ordered { IsKnown result }
-{
-    n.valid();
-    let by = n.signed();
-    near(
-        p.area,
-        p.lo as i128 - by.hi() as i128,
-        p.hi as i128 - by.lo() as i128,
-    )
-}
-
-/// What is known of the difference of two pointers, if both are into the same.
-fn pointer_difference(p: Pointer, q: Pointer) -> Result<Option<RegState>, StateFault>
-    requires left { IsPointer p }
-    requires right { IsPointer q }
-    ensures value { result ≡ result_of W64 Sub (Ptr p) (Ptr q) }
-    ensures ordered { IsKnown result }
-{
-    if p.area.is_same(q.area) {
-        Ok(difference(p.lo, p.hi, q.lo, q.hi))
-    } else {
-        Err(StateFault::WrongKinds)
-    }
-}
-
-/// The result of an operation on numbers; C4 on anything else.
-fn numbers_result(
-    width: Width,
-    op: AluOp,
-    a: RegState,
-    b: RegState,
-) -> Result<Option<RegState>, StateFault>
-    ensures value { result ≡ numbers_result width op a b }
-    ensures ordered { IsKnown result }
-{
-    match a {
-        RegState::Num(m) => match b {
-            RegState::Num(n) => Ok(number_state(m.alu(op, width, n))),
-            RegState::Any | RegState::Ptr(_) => Err(StateFault::WrongKinds),
-        },
-        RegState::Any | RegState::Ptr(_) => Err(StateFault::WrongKinds),
-    }
-}
-
-fn move_result(width: Width, b: RegState) -> Result<Option<RegState>, StateFault>
-    requires { IsRegister b }
-    ensures value { (a : RegState) → result ≡ result_of width Mov a b }
-    ensures ordered { IsKnown result }
-{
-    match width {
-        Width::W64 => Ok(Some(b)),
-        Width::W32 => match b {
-            RegState::Num(n) => Ok(number_state(n.alu(AluOp::Mov, Width::W32, n))),
-            RegState::Any | RegState::Ptr(_) => Err(StateFault::WrongKinds),
-        },
-    }
-}
-
-/// The sum of two numbers, or of a pointer and a number.
-fn sum_result(a: RegState, b: RegState) -> Result<Option<RegState>, StateFault>
-    requires left { IsRegister a }
-    requires right { IsRegister b }
-    ensures value { result ≡ result_of W64 Add a b }
-    ensures ordered { IsKnown result }
-{
-    match a {
-        RegState::Num(m) => match b {
-            RegState::Num(n) => Ok(number_state(m.alu(AluOp::Add, Width::W64, n))),
-            RegState::Ptr(q) => pointer_plus(q, m),
-            RegState::Any => Err(StateFault::WrongKinds),
-        },
-        RegState::Ptr(p) => match b {
-            RegState::Num(n) => pointer_plus(p, n),
-            RegState::Any | RegState::Ptr(_) => Err(StateFault::WrongKinds),
-        },
-        RegState::Any => Err(StateFault::WrongKinds),
-    }
-}
-
-/// The difference of two numbers, of a pointer and a number, or of two pointers into the same.
-fn difference_result(a: RegState, b: RegState) -> Result<Option<RegState>, StateFault>
-    requires left { IsRegister a }
-    requires right { IsRegister b }
-    ensures value { result ≡ result_of W64 Sub a b }
-    ensures ordered { IsKnown result }
-{
-    match a {
-        RegState::Num(m) => match b {
-            RegState::Num(n) => Ok(number_state(m.alu(AluOp::Sub, Width::W64, n))),
-            RegState::Any | RegState::Ptr(_) => Err(StateFault::WrongKinds),
-        },
-        RegState::Ptr(p) => match b {
-            RegState::Num(n) => pointer_minus(p, n),
-            RegState::Ptr(q) => pointer_difference(p, q),
-            RegState::Any => Err(StateFault::WrongKinds),
-        },
-        RegState::Any => Err(StateFault::WrongKinds),
-    }
-}
-
-/// What is known of the result of an operation; None only if it has no member. C4 if it isn't allowed on the kinds of its
-/// operands, C5 if it gives a pointer too far off.
-fn result_of(
-    width: Width,
-    op: AluOp,
-    a: RegState,
-    b: RegState,
-) -> Result<Option<RegState>, StateFault>
-    requires left { IsRegister a }
-    requires right { IsRegister b }
-    ensures value { result ≡ result_of width op a b }
-    ensures ordered { IsKnown result }
-{
-    match op {
-        AluOp::Mov => move_result(width, b),
-        AluOp::Add => match width {
-            Width::W64 => sum_result(a, b),
-            Width::W32 => numbers_result(width, op, a, b),
-        },
-        AluOp::Sub => match width {
-            Width::W64 => difference_result(a, b),
-            Width::W32 => numbers_result(width, op, a, b),
-        },
-        _ => numbers_result(width, op, a, b),
-    }
-}
 
 // ---- counters
 

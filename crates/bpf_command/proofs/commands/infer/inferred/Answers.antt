@@ -3,7 +3,7 @@ use Rattle.bpf_insn.specs.Instruction.{slots}
 use Rattle.bpf_infer_error.specs.RefusalNumbers.{infer_slot}
 use Rattle.bpf_answers.specs.Loaded.{LoadsImage}
 use Rattle.bpf_places.specs.Made.{making}
-use Rattle.bpf_command.specs.Printed.{InferSays, IsProposal}
+use Rattle.bpf_command.specs.Inferred.{InferSays, IsProposal}
 use Rattle.bpf_answers.proofs.MadeLemmas.{on_failure, put_says, not_all_printed}
 use Rattle.bpf_answers.specs.Answer.Answer.{NoImage, NotProposed}
 use Rattle.bpf_command.proofs.commands.infer.inferred.Goals as goal

@@ -1,0 +1,3 @@
+pub mod FollowedLemmas
+pub mod JudgedLemmas
+pub mod EachLemmas

@@ -1,0 +1,4 @@
+pub mod Printed
+pub mod Followed
+pub mod Names
+pub mod Given

@@ -1,0 +1,92 @@
+-- Two kinds are the same exactly where they are compared as equal.
+use Rattle.std.proofs.Common.{◌≡◌, ◌↔◌, ◌==◌, Bool, true, false, ◌&&◌, refl, ap, ◌∙◌, subst}
+use Rattle.std.specs.Ordering.{int_eq}
+use Rattle.std.proofs.lemmas.Bool.{false≢true, eqb-true, and_from}
+use Rattle.std.proofs.lemmas.Bool.Decides.{Decides-int_eq, Decides-eqb}
+use Rattle.bpf_insn.specs.declared.instruction.Reg.{Reg}
+use Rattle.bpf_insn.specs.declared.instruction.Reg.TheVariants.{R0, R1, R2, R3, R4, R5, R6, R7, R8, R9, R10}
+use Rattle.bpf_insn.specs.contracts.instruction.RegPartialEq.TheImpl as reg_eq
+use Rattle.bpf_follows.specs.declared.notes.Kind.{Kind}
+use Rattle.bpf_follows.specs.declared.notes.Kind.TheVariants.{Nothing, Unset, Same, Both, Number, Offset, Fixed, Within, Start, Base, Moved, Address, Saved, Constant, Counter, Turn, Alone}
+use Rattle.bpf_follows.specs.contracts.notes.KindPartialEq.TheImpl as kind_eq
+
+both_true : (a b : Bool) → (a && b) ≡ true → (a ≡ true) × (b ≡ true)
+both_true true b e = (refl, e)
+both_true false b e = absurd (false≢true e)
+
+reg_same : (a b : Reg) → (reg_eq.ghosts).eq a b ≡ true → a ≡ b
+reg_same R0 R0 e = refl
+reg_same R1 R1 e = refl
+reg_same R2 R2 e = refl
+reg_same R3 R3 e = refl
+reg_same R4 R4 e = refl
+reg_same R5 R5 e = refl
+reg_same R6 R6 e = refl
+reg_same R7 R7 e = refl
+reg_same R8 R8 e = refl
+reg_same R9 R9 e = refl
+reg_same R10 R10 e = refl
+reg_same a b e = absurd (false≢true e)
+
+reg_self : (a : Reg) → (reg_eq.ghosts).eq a a ≡ true
+reg_self R0 = refl
+reg_self R1 = refl
+reg_self R2 = refl
+reg_self R3 = refl
+reg_self R4 = refl
+reg_self R5 = refl
+reg_self R6 = refl
+reg_self R7 = refl
+reg_self R8 = refl
+reg_self R9 = refl
+reg_self R10 = refl
+
+kind_same : (a b : Kind) → (kind_eq.ghosts).eq a b ≡ true → a ≡ b
+kind_same Nothing Nothing e = refl
+kind_same Unset Unset e = refl
+kind_same Same Same e = refl
+kind_same Both Both e = refl
+kind_same (Number a0 a1) (Number b0 b1) e =
+    let h = both_true (a0 == b0) (a1 == b1) e in
+    ap (λ x. Number x a1) (eqb-true a0 b0 h.0) ∙ ap (λ x. Number b0 x) (eqb-true a1 b1 h.1)
+kind_same Offset Offset e = refl
+kind_same (Fixed a0) (Fixed b0) e = ap Fixed ((Decides-int_eq a0 b0).0 e)
+kind_same (Within a0 a1) (Within b0 b1) e =
+    let h = both_true (a0 == b0) (a1 == b1) e in
+    ap (λ x. Within x a1) (eqb-true a0 b0 h.0) ∙ ap (λ x. Within b0 x) (eqb-true a1 b1 h.1)
+kind_same Start Start e = refl
+kind_same Base Base e = refl
+kind_same (Moved a0 a1) (Moved b0 b1) e =
+    let h = both_true ((reg_eq.ghosts).eq a0 b0) (int_eq a1 b1) e in
+    ap (λ x. Moved x a1) (reg_same a0 b0 h.0) ∙ ap (λ x. Moved b0 x) ((Decides-int_eq a1 b1).0 h.1)
+kind_same (Address a0 a1) (Address b0 b1) e =
+    let h = both_true ((reg_eq.ghosts).eq a0 b0) (int_eq a1 b1) e in
+    ap (λ x. Address x a1) (reg_same a0 b0 h.0) ∙ ap (λ x. Address b0 x) ((Decides-int_eq a1 b1).0 h.1)
+kind_same (Saved a0) (Saved b0) e = ap Saved (reg_same a0 b0 e)
+kind_same (Constant a0) (Constant b0) e = ap Constant ((Decides-int_eq a0 b0).0 e)
+kind_same (Counter a0) (Counter b0) e = ap Counter (eqb-true a0 b0 e)
+kind_same (Turn a0) (Turn b0) e = ap Turn (eqb-true a0 b0 e)
+kind_same Alone Alone e = refl
+kind_same a b e = absurd (false≢true e)
+
+kind_self : (a : Kind) → (kind_eq.ghosts).eq a a ≡ true
+kind_self Nothing = refl
+kind_self Unset = refl
+kind_self Same = refl
+kind_self Both = refl
+kind_self (Number a0 a1) = and_from _ _ ((Decides-eqb a0 a0).1 refl) ((Decides-eqb a1 a1).1 refl)
+kind_self Offset = refl
+kind_self (Fixed a0) = (Decides-int_eq a0 a0).1 refl
+kind_self (Within a0 a1) = and_from _ _ ((Decides-eqb a0 a0).1 refl) ((Decides-eqb a1 a1).1 refl)
+kind_self Start = refl
+kind_self Base = refl
+kind_self (Moved a0 a1) = and_from _ _ (reg_self a0) ((Decides-int_eq a1 a1).1 refl)
+kind_self (Address a0 a1) = and_from _ _ (reg_self a0) ((Decides-int_eq a1 a1).1 refl)
+kind_self (Saved a0) = reg_self a0
+kind_self (Constant a0) = (Decides-int_eq a0 a0).1 refl
+kind_self (Counter a0) = (Decides-eqb a0 a0).1 refl
+kind_self (Turn a0) = (Decides-eqb a0 a0).1 refl
+kind_self Alone = refl
+
+pub kind_decides : (a b : Kind) → ((kind_eq.ghosts).eq a b ≡ true) ↔ (a ≡ b)
+kind_decides a b = (kind_same a b, λ e. subst (λ b. (kind_eq.ghosts).eq a b ≡ true) e (kind_self a))
