@@ -6,6 +6,7 @@ pub mod LeastLemmas
 pub mod StandingLemmas
 pub mod CountLemmas
 pub mod EdgeLemmas
+pub mod WayLemmas
 pub mod VisitLemmas
 pub mod StraightLemmas
 pub mod ArrivalLemmas
@@ -14,3 +15,4 @@ pub mod LoopLimits
 pub mod CheckLemmas
 pub mod Promise
 pub mod PlaceLemmas
+pub mod ToldLemmas

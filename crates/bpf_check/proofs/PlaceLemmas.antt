@@ -54,7 +54,7 @@ last_again key (x ∷ xs) n y r e = here (nat_le (key x) n) e
     here false q = absurd (none-some y q)
 
 -- the function at a slot is the one that begins where it does
-first_of_last : (c : CertificateView) (slot : ℕ) (f : FunctionView) → IsCertificate c → function_at c slot ≡ Some f → first_with (λ g. g.first == f.first) c.functions ≡ Some f
+pub first_of_last : (c : CertificateView) (slot : ℕ) (f : FunctionView) → IsCertificate c → function_at c slot ≡ Some f → first_with (λ g. g.first == f.first) c.functions ≡ Some f
 first_of_last c slot f valid e =
     let rise = functions_rise c valid in
     first_is_last (λ g. g.first) f.first c.functions rise
@@ -74,7 +74,7 @@ inside c slot f l holds e =
     not_true false q = refl
 
 -- a function that begins elsewhere has no label there
-none_elsewhere : (c : CertificateView) (slot : ℕ) (f g : FunctionView) → function_at c slot ≡ Some f → holds_labels c g ≡ true → (f.first ≡ g.first → ⊥) → first_with (λ x. x.slot == slot) g.labels ≡ None
+pub none_elsewhere : (c : CertificateView) (slot : ℕ) (f g : FunctionView) → function_at c slot ≡ Some f → holds_labels c g ≡ true → (f.first ≡ g.first → ⊥) → first_with (λ x. x.slot == slot) g.labels ≡ None
 none_elsewhere c slot f g at holds differs = here (first_with (λ x. x.slot == slot) g.labels) refl
   where
     here : (o : Option LabelView) → first_with (λ x. x.slot == slot) g.labels ≡ o → o ≡ None
@@ -111,14 +111,18 @@ among_functions c slot f (g ∷ gs) at r holds found =
 pub label_there : (c : CertificateView) (slot : ℕ) (f : FunctionView) → IsCertificate c → are_in_place c ≡ true → function_at c slot ≡ Some f → label_at c slot ≡ first_with (λ x. x.slot == slot) f.labels
 label_there c slot f valid placed at = among_functions c slot f c.functions at (functions_rise c valid) placed (first_of_last c slot f valid at)
 
-none_at_all : (c : CertificateView) (slot : ℕ) (gs : List FunctionView) → function_at c slot ≡ None → list_all (holds_labels c) gs ≡ true → first_with (λ x. x.slot == slot) (flat_map (λ h. h.labels) gs) ≡ None
-none_at_all c slot [] at holds = refl
-none_at_all c slot (g ∷ gs) at holds =
-    first_with-append (λ x. x.slot == slot) g.labels _ (here (first_with (λ x. x.slot == slot) g.labels) refl) ∙ none_at_all c slot gs at (and_parts _ _ holds).1
+-- where no function lies, none has a label
+pub none_outside : (c : CertificateView) (slot : ℕ) (g : FunctionView) → function_at c slot ≡ None → holds_labels c g ≡ true → first_with (λ x. x.slot == slot) g.labels ≡ None
+none_outside c slot g at holds = here (first_with (λ x. x.slot == slot) g.labels) refl
   where
     here : (o : Option LabelView) → first_with (λ x. x.slot == slot) g.labels ≡ o → o ≡ None
     here None e = refl
-    here (Some l) e = absurd (true≢false (ap (λ o. is_not (option_map (λ h. h.first) o) g.first) (sym at) ∙ inside c slot g l (and_parts _ _ holds).0 e))
+    here (Some l) e = absurd (true≢false (ap (λ o. is_not (option_map (λ h. h.first) o) g.first) (sym at) ∙ inside c slot g l holds e))
+
+none_at_all : (c : CertificateView) (slot : ℕ) (gs : List FunctionView) → function_at c slot ≡ None → list_all (holds_labels c) gs ≡ true → first_with (λ x. x.slot == slot) (flat_map (λ h. h.labels) gs) ≡ None
+none_at_all c slot [] at holds = refl
+none_at_all c slot (g ∷ gs) at holds =
+    first_with-append (λ x. x.slot == slot) g.labels _ (none_outside c slot g at (and_parts _ _ holds).0) ∙ none_at_all c slot gs at (and_parts _ _ holds).1
 
 pub no_label_there : (c : CertificateView) (slot : ℕ) → are_in_place c ≡ true → function_at c slot ≡ None → label_at c slot ≡ None
 no_label_there c slot placed at = none_at_all c slot c.functions at placed

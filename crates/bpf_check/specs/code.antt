@@ -4,6 +4,7 @@ pub mod Slack
 pub mod Least
 pub mod Edges
 pub mod Sites
+pub mod Ways
 pub mod Arrivals
 pub mod Visits
 pub mod Straight

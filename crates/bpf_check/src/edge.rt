@@ -1,13 +1,15 @@
 //! Where an instruction goes on, and what is judged without a state.
 
-ghost use Rattle.std.specs.Prelude.{◌≡◌, ◌≤◌, option_map, option_copied, is_some, IfSome, IsTrue};
+ghost use Rattle.std.specs.Prelude.{◌≡◌, ◌≤◌, option_map, option_copied, IfSome, IsTrue};
 ghost use Rattle.bpf_insn.specs.Limits.{max_slots};
 ghost use Rattle.bpf_cert.specs.View.{CertificateView, function_view};
 ghost use Rattle.bpf_cert.specs.Limits.{is_limited_function};
 ghost use Rattle.bpf_safety.specs.Labels.{function_at};
 ghost use Rattle.bpf_safety.specs.Flow.{callee, jump_target};
-ghost use Rattle.bpf_safety.specs.Flaw.{lacks_label, calls_no_deeper, leaves_function, leaves_for, next_slot, calls_nowhere, is_not};
+ghost use Rattle.bpf_safety.specs.Flaw.{lacks_label, calls_no_deeper, leaves_function, next_slot, calls_nowhere, is_not};
 ghost use Rattle.bpf_check.specs.code.Sites.{IsSpot, IsSite, visit_at};
+ghost use Rattle.bpf_check.specs.code.Ways.{slot_outside, way_out};
+ghost use Rattle.bpf_check.specs.declared.edge.WayOut.TheVariants.{Jump, Next};
 
 use crate::index::Index;
 use crate::labels::function_from;
@@ -103,7 +105,7 @@ pub enum WayOut {
 /// How a jump, if there is one, leads out of a function.
 fn jump_out(site: &Site, function: &Function) -> Option<WayOut>
     requires { IsSite site.now }
-    ensures { is_some result ≡ leaves_for site.now.certificate.now (function_view function.now) (jump_target site.now.here.slot site.now.insn) }
+    ensures { result ≡ option_map Jump (slot_outside site.now.certificate.now (function_view function.now) (jump_target site.now.here.slot site.now.insn)) }
 {
     let Some(to) = site.jump else {
         return None;
@@ -118,7 +120,7 @@ fn jump_out(site: &Site, function: &Function) -> Option<WayOut>
 /// How the next instruction, if this one may go on there and isn't the last, lies out of a function.
 fn next_out<P: Code>(program: &P, site: &Site, function: &Function) -> Option<WayOut>
     requires { IsSite site.now }
-    ensures { is_some result ≡ leaves_for site.now.certificate.now (function_view function.now) (next_slot (P.program program.now) (visit_at site.now)) }
+    ensures { result ≡ option_map Next (slot_outside site.now.certificate.now (function_view function.now) (next_slot (P.program program.now) (visit_at site.now))) }
 {
     if !site.insn.goes_on() || site.next.slot == program.slots() {
         return None;
@@ -141,7 +143,7 @@ fn calls_nowhere(site: &Site) -> bool
 /// How an instruction leads out of its function, or that it calls none; None where it does neither.
 pub fn way_out<P: Code>(program: &P, site: &Site) -> Option<WayOut>
     requires { IsSite site.now }
-    ensures { is_some result ≡ leaves_function (P.program program.now) site.now.certificate.now (visit_at site.now) }
+    ensures { result ≡ way_out (P.program program.now) site.now.certificate.now (visit_at site.now) }
 {
     if calls_nowhere(site) {
         return Some(WayOut::Call);

@@ -1,6 +1,6 @@
 //! Certificates in which a label is found by its slot.
 
-ghost use Rattle.std.specs.Prelude.{◌≡◌, true, IsTrue};
+ghost use Rattle.std.specs.Prelude.{◌≡◌};
 ghost use Rattle.bpf_cert.specs.View.{function_view};
 ghost use Rattle.bpf_check.specs.LabelIndex.{holds_labels, are_in_place};
 
@@ -12,12 +12,12 @@ use std::marker::Model;
 #[derive(Drop)]
 pub struct Index<'a> {
     certificate: &'a Certificate,
-    /// Each label lies in its function.
+    /// Whether each label lies in its function.
     in_place: bool,
 }
 
 impl<'a> Model for Index<'a> {
-    ghost use Rattle.std.specs.Prelude.{◌≡◌, true, IsTrue};
+    ghost use Rattle.std.specs.Prelude.{◌≡◌};
     ghost use Rattle.bpf_cert.specs.View.{CertificateView};
     ghost use Rattle.bpf_check.specs.LabelIndex.{are_in_place};
 
@@ -25,11 +25,11 @@ impl<'a> Model for Index<'a> {
 
     ghost view = { λ x. x.certificate.now };
 
-    ghost invariant = { λ x. x.in_place ≡ true → IsTrue (are_in_place x.certificate.now) };
+    ghost invariant = { λ x. x.in_place ≡ are_in_place x.certificate.now };
 }
 
 impl<'a> Index<'a> {
-    ghost use Rattle.std.specs.Prelude.{◌≡◌, true, map, IsTrue};
+    ghost use Rattle.std.specs.Prelude.{◌≡◌, map};
     ghost use Rattle.bpf_cert.specs.View.{function_view};
     ghost use Rattle.bpf_cert.specs.Limits.{IsCertificate};
     ghost use Rattle.bpf_check.specs.LabelIndex.{are_in_place};
@@ -38,20 +38,22 @@ impl<'a> Index<'a> {
     pub fn of(certificate: &'a Certificate) -> Index<'a>
         ensures { result ≡ certificate.now }
     {
-        let index = Index {
-            certificate,
-            in_place: false,
-        };
-        let in_place = labels_are_in_place(&index);
         Index {
             certificate,
-            in_place,
+            in_place: labels_are_in_place(certificate),
         }
     }
 
-    /// Whether it is known that each label lies in its function.
-    pub fn is_in_place(&self) -> bool
-        ensures { result ≡ true → IsTrue (are_in_place self.now) }
+    /// The certificate itself.
+    pub(crate) fn certificate(&self) -> &Certificate
+        ensures { result.now ≡ self.now }
+    {
+        self.certificate
+    }
+
+    /// Whether each label lies in its function.
+    pub(crate) fn is_in_place(&self) -> bool
+        ensures { result ≡ are_in_place self.now }
     {
         self.in_place
     }
@@ -93,8 +95,8 @@ impl<'a> Index<'a> {
 }
 
 /// Whether each label of a function lies in it.
-fn has_labels_inside(certificate: &Index, function: &Function) -> bool
-    ensures { result ≡ true → IsTrue (holds_labels certificate.now (function_view function.now)) }
+fn has_labels_inside(certificate: &Certificate, function: &Function) -> bool
+    ensures { result ≡ holds_labels certificate.now (function_view function.now) }
 {
     let labels = function.labels.as_slice();
     for label in labels {
@@ -106,8 +108,8 @@ fn has_labels_inside(certificate: &Index, function: &Function) -> bool
 }
 
 /// Whether each label lies in its function.
-fn labels_are_in_place(certificate: &Index) -> bool
-    ensures { result ≡ true → IsTrue (are_in_place certificate.now) }
+fn labels_are_in_place(certificate: &Certificate) -> bool
+    ensures { result ≡ are_in_place certificate.now }
 {
     let functions = certificate.functions();
     for function in functions {

@@ -8,7 +8,7 @@ ghost use Rattle.bpf_check.specs.code.Search.{rises, last_up_to};
 ghost use Rattle.bpf_check.specs.LabelIndex.{are_in_place};
 
 use crate::index::Index;
-use bpf_cert::{Function, Label};
+use bpf_cert::{Certificate, Function, Label};
 
 /// What begins at a slot of a program: a function or a label.
 trait Begins {
@@ -151,14 +151,23 @@ pub fn label_at<'a>(certificate: &'a Index, slot: u32) -> Option<&'a Label>
     label_given(certificate, function_at(certificate, slot), slot).0
 }
 
-/// The function that a slot lies in, and up to where the slots behind it lie in the same.
-pub fn function_near<'a>(certificate: &'a Index, slot: u32) -> (Option<&'a Function>, u32)
+/// The function of a certificate that a slot lies in, and up to where the slots behind it lie in the same.
+pub fn function_among(certificate: &Certificate, slot: u32) -> (Option<&Function>, u32)
     ensures value { option_map function_view (option_copied result.0) ≡ function_at certificate.now slot }
     ensures limited { IfSome result.0 (λ f. IsTrue (is_limited_function (function_view f.now))) }
     ensures until { (n : ℕ) → slot ≤ n → n < result.1 → function_at certificate.now n ≡ function_at certificate.now slot }
 {
     certificate.valid();
     last_from(certificate.functions(), slot)
+}
+
+/// The function that a slot lies in, and up to where the slots behind it lie in the same.
+pub fn function_near<'a>(certificate: &'a Index, slot: u32) -> (Option<&'a Function>, u32)
+    ensures value { option_map function_view (option_copied result.0) ≡ function_at certificate.now slot }
+    ensures limited { IfSome result.0 (λ f. IsTrue (is_limited_function (function_view f.now))) }
+    ensures until { (n : ℕ) → slot ≤ n → n < result.1 → function_at certificate.now n ≡ function_at certificate.now slot }
+{
+    function_among(certificate.certificate(), slot)
 }
 
 /// The function that a slot lies in.

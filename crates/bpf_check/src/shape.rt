@@ -14,10 +14,10 @@ ghost use Rattle.bpf_check.specs.RefusalNumbers.{flaw_of};
 
 use crate::budget::{bounds, bounds_said};
 use crate::index::Index;
-use crate::labels::function_at;
+use crate::labels::function_among;
 use crate::least::{lesser, refused_if};
 use crate::refusal::Refusal;
-use bpf_cert::{Function, Label, Measure, Term};
+use bpf_cert::{Certificate, Function, Label, Measure, Term};
 use bpf_insn::Code;
 use bpf_state::{Condition, State};
 
@@ -39,7 +39,7 @@ fn is_bad_limit(tight: Option<&State>, term: &Term) -> bool
 }
 
 /// A term's place is no number, or may be above the term's limit.
-pub fn is_bad_term(label: &Label, tight: Option<&State>, term: &Term) -> bool
+fn is_bad_term(label: &Label, tight: Option<&State>, term: &Term) -> bool
     requires limited { IsTrue (is_limited_term term.now) }
     requires state { option_copied tight ≡ tightened label.now.state }
     ensures { result ≡ is_bad_term (label_view label.now) term.now }
@@ -63,10 +63,10 @@ fn bad_term(label: &Label, tight: Option<&State>) -> Option<Term>
 }
 
 /// A label lies in another function than the one it belongs to, or in none.
-pub fn is_outside(certificate: &Index, function: &Function, label: &Label) -> bool
+pub fn is_outside(certificate: &Certificate, function: &Function, label: &Label) -> bool
     ensures { result ≡ is_outside certificate.now (function_view function.now) (label_view label.now) }
 {
-    match function_at(certificate, label.slot) {
+    match function_among(certificate, label.slot).0 {
         Some(owner) => owner.first != function.first,
         None => true,
     }
@@ -114,7 +114,7 @@ fn seen_with<'a, C: Code>(
         label,
         is_misplaced: is_misplaced(program, label),
         bad: bad_term(label, tight),
-        is_outside: is_outside(certificate, function, label),
+        is_outside: is_outside(certificate.certificate(), function, label),
         is_empty: tight.is_none(),
     }
 }

@@ -1,10 +1,10 @@
 //! What stands at a slot, function by function.
 
-ghost use Rattle.std.specs.Prelude.{◌≡◌, ◌==◌, map, option_map, option_copied, IfSome, IsTrue};
+ghost use Rattle.std.specs.Prelude.{◌≡◌, ◌==◌, filter, option_map, option_copied, slice_get, IfSome, IsTrue};
 ghost use Rattle.bpf_cert.specs.View.{label_view, function_view};
 ghost use Rattle.bpf_cert.specs.Limits.{is_rising, slot_before, is_limited_label, is_limited_function};
 ghost use Rattle.bpf_safety.specs.Labels.{first_with};
-ghost use Rattle.bpf_check.specs.code.Standing.{IsSeenLabel, IsStanding};
+ghost use Rattle.bpf_check.specs.code.Standing.{IsSeenLabel, IsStanding, stands_at, told_at};
 
 use crate::index::Index;
 use crate::labels::{function_at, label_among};
@@ -62,7 +62,8 @@ fn standing_of<'a, C: Code>(
 ) -> Standing<'a>
     requires limited { IsTrue (is_limited_function (function_view function.now)) }
     requires rising { IsTrue (is_rising slot_before (function_view function.now).labels) }
-    ensures { IsStanding (C.program program.now) certificate.now slot result }
+    ensures function { result.function.now ≡ function.now }
+    ensures standing { IsStanding (C.program program.now) certificate.now slot result }
 {
     Standing {
         function,
@@ -80,7 +81,9 @@ pub fn standing_at<'a, C: Code>(
     number: usize,
     room: &mut State,
 ) -> Option<Standing<'a>>
-    ensures { IfSome result (IsStanding (C.program program.now) certificate.now slot) }
+    ensures function { option_map (λ s. function_view s.function.now) result ≡ slice_get (told_at certificate.now slot) number }
+    ensures standing { IfSome result (IsStanding (C.program program.now) certificate.now slot) }
+    ensures all { filter (stands_at slot) (told_at certificate.now slot) ≡ filter (stands_at slot) certificate.now.functions }
 {
     certificate.valid();
     if certificate.is_in_place() {

@@ -22,7 +22,7 @@ use bpf_cert::Function;
 use bpf_state::{Condition, State, Work};
 
 /// No function begins at slot 0.
-pub fn begins_elsewhere(functions: &[Function]) -> bool
+fn begins_elsewhere(functions: &[Function]) -> bool
     ensures { result ≡ begins_elsewhere (map function_view functions.now) }
 {
     match functions.first() {
@@ -67,14 +67,6 @@ fn most_over(certificate: &Index, start: &State) -> Option<i128>
     } else {
         None
     }
-}
-
-/// The budget at the start may be above the steps that are promised.
-pub fn starts_over_budget(certificate: &Index, start: &State) -> bool
-    requires { start.now ≡ first_state certificate.now.least certificate.now.most }
-    ensures { result ≡ starts_over_budget certificate.now }
-{
-    most_over(certificate, start).is_some()
 }
 
 /// What is seen of the start. Which conditions fail follows from it.

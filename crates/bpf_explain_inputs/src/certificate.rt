@@ -1,11 +1,23 @@
 //! Why a text is no certificate, in words.
 
 use crate::texts::parted;
-use bpf_cert::CertError;
+use bpf_cert::{CertError, LAST_SLOT, MAX_BASE, MAX_DEPTH, MAX_FUNCTIONS, MAX_TERMS, MAX_WEIGHT};
 use bpf_explain_page::{Page, Tell};
+use bpf_insn::{MAX_CONTEXT, MAX_SLOTS};
+use bpf_state::FARTHEST;
 use std::fmt;
 use std::io::{self, Write};
 use std::str::from_utf8;
+
+/// The most labels: one a slot.
+const MAX_LABELS: usize = MAX_SLOTS;
+
+const MAX_STEPS: u32 = u32::MAX;
+
+/// The greatest limit of a counter.
+const MAX_LIMIT: u64 = u64::MAX;
+
+const LONG_LINE: &str = "a line has at most 256 bytes";
 
 /// What a line of a certificate begins with.
 #[derive(Clone, Copy, PartialEq, Eq)]
@@ -46,21 +58,37 @@ fn form_of(kind: Kind) -> &'static str {
 }
 
 /// The limits of a line's fields.
-fn limits_of(kind: Kind) -> &'static str {
-    match kind {
-        Kind::Header => {
-            "lengths are 0 to 4096, the least first, and steps 1 to 4294967295; a function must follow"
+#[derive(Clone, Copy)]
+struct Limits(Kind);
+
+impl fmt::Display for Limits {
+    fn fmt<W: fmt::Write>(&self, f: &mut fmt::Formatter<W>) -> fmt::Result {
+        match self.0 {
+            Kind::Header => write!(
+                f,
+                "lengths are 0 to {MAX_CONTEXT}, the least first, and steps 1 to {MAX_STEPS}; a function must follow"
+            ),
+            Kind::Function => write!(
+                f,
+                "first is 0 to {LAST_SLOT}, depth 1 to {MAX_DEPTH}; there are at most {MAX_FUNCTIONS} functions, each with a label"
+            ),
+            Kind::Label => write!(
+                f,
+                "slot is 0 to {LAST_SLOT}, base at most {MAX_BASE}, a weight 1 to {MAX_WEIGHT}, a limit at most {MAX_LIMIT}, a place r0 to r9 or s1 to s64; there are at most {MAX_TERMS} terms and {MAX_LABELS} labels"
+            ),
+            Kind::Register => write!(
+                f,
+                "registers are r0 to r9, offsets -{FARTHEST} to {FARTHEST}"
+            ),
+            Kind::Slot => write!(
+                f,
+                "slots are s1 to s64, masks b1 to b254, offsets -{FARTHEST} to {FARTHEST}"
+            ),
+            Kind::End => f.write_str(
+                "there must be a function, and each function must have a label",
+            ),
+            Kind::Other => f.write_str(LONG_LINE),
         }
-        Kind::Function => {
-            "first is 0 to 65535, depth 1 to 8; there are at most 256 functions, each with a label"
-        }
-        Kind::Label => {
-            "slot is 0 to 65535, base at most 1099511627776, a weight 1 to 1048576, a limit at most 18446744073709551615, a place r0 to r9 or s1 to s64; there are at most 4 terms and 65536 labels"
-        }
-        Kind::Register => { "registers are r0 to r9, offsets -2147483648 to 2147483648" }
-        Kind::Slot => { "slots are s1 to s64, masks b1 to b254, offsets -2147483648 to 2147483648" }
-        Kind::End => "there must be a function, and each function must have a label",
-        Kind::Other => "a line has at most 256 bytes",
     }
 }
 
@@ -220,10 +248,10 @@ fn tell_spelling<W: Tell>(out: &mut W, text: &[u8]) {
 /// K3: the limits of what stands in a line.
 fn tell_limit<W: Tell>(out: &mut W, line: &[u8]) {
     if line.len() > 256 {
-        return write!(out, "a line has at most 256 bytes\n");
+        return write!(out, "{LONG_LINE}\n");
     }
     let kind = kind_of(line);
-    let (line, limits, more) = (Line(line), limits_of(kind), number_limits(kind));
+    let (line, limits, more) = (Line(line), Limits(kind), number_limits(kind));
     write!(out, "{line}: {limits}{more}\n");
 }
 

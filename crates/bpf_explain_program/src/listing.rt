@@ -1,13 +1,13 @@
 //! The lines of a listing.
 
-use crate::effects::{places_compared, places_written, slots_touched};
+use crate::effects::{places_compared, places_written};
 use crate::known::{Known, Name, Number, Written, spelling_of};
 use crate::places::{changes, content, is_same, is_unknown, take_all, take_over};
 use crate::sight::{Outcome, Sight};
 use bpf_cert::{Function, Label, Measure};
 use bpf_check::{Index, JudgedEdge, Seen};
 use bpf_explain_page::{Count, Tell};
-use bpf_infer_base::{PLACES, PlaceSet, place};
+use bpf_infer_base::{PLACES, PlaceSet, place, slots_touched};
 use bpf_insn::{Insn, Reg};
 use bpf_state::{Place, State};
 use std::fmt;
@@ -141,17 +141,14 @@ fn note_registers<'a, W: Tell>(out: &mut W, sight: &Sight<'a>, shown: &mut State
 
 /// Tells what is known of the slots that are read.
 fn note_slots<'a, W: Tell>(out: &mut W, sight: &Sight<'a>, shown: &mut State) {
-    let Some(access) = sight.site.insn.access() else {
-        return;
-    };
-    if !access.reads {
-        return;
-    }
-    let Some((low, high)) = slots_touched(access, &sight.before) else {
-        return;
-    };
-    for slot in low..=high {
-        note_read(out, &sight.before, shown, Place::Slot(slot));
+    match sight.site.insn.access() {
+        Some(access) if access.reads => {
+            let (first, end) = slots_touched(access, &sight.before);
+            for slot in first..end {
+                note_read(out, &sight.before, shown, Place::Slot(slot));
+            }
+        }
+        _ => {}
     }
 }
 

@@ -1,8 +1,12 @@
 //! What stands in the way of a certificate, in words.
 
+use bpf_cert::{MAX_BASE, MAX_TERMS, MAX_WEIGHT};
 use bpf_explain_page::Tell;
 use bpf_explain_program::{Name, register};
 use bpf_infer::{Limit, Loss, Move, Obstacle, Tangle, Trial};
+
+/// The most instructions that a certificate promises.
+const MAX_STEPS: u32 = u32::MAX;
 
 /// Why a place isn't followed through a loop.
 fn write_loss<W: Tell>(out: &mut W, name: Name, loss: Loss) {
@@ -21,7 +25,7 @@ fn write_loss<W: Tell>(out: &mut W, name: Name, loss: Loss) {
         ),
         Loss::Far { slot } => write!(
             out,
-            "  {name} isn't followed: slot {slot} moves it by more than 1099511627776 in all\n"
+            "  {name} isn't followed: slot {slot} moves it by more than {MAX_BASE} in all\n"
         ),
         Loss::Above { slot, least, most } => write!(
             out,
@@ -91,19 +95,19 @@ fn write_limit<W: Tell>(out: &mut W, slot: u32, limit: Limit) {
     match limit {
         Limit::Weight { wanted } => write!(
             out,
-            "a round of the loop at slot {slot} costs up to {wanted} instructions, and at most 1048576 can be counted for one: let the loops in it turn less often, or test their bounds against constants\n"
+            "a round of the loop at slot {slot} costs up to {wanted} instructions, and at most {MAX_WEIGHT} can be counted for one: let the loops in it turn less often, or test their bounds against constants\n"
         ),
         Limit::Base { wanted } => write!(
             out,
-            "from slot {slot} on up to {wanted} instructions are done, and at most 1099511627776 can be counted: let the loops turn less often, or test their bounds against constants\n"
+            "from slot {slot} on up to {wanted} instructions are done, and at most {MAX_BASE} can be counted: let the loops turn less often, or test their bounds against constants\n"
         ),
         Limit::Steps { wanted } => write!(
             out,
-            "a run takes up to {wanted} instructions, and at most 4294967295 can be promised: let the loops turn less often, or test their bounds against constants\n"
+            "a run takes up to {wanted} instructions, and at most {MAX_STEPS} can be promised: let the loops turn less often, or test their bounds against constants\n"
         ),
         Limit::Terms => write!(
             out,
-            "the loop at slot {slot} lies in loops whose counters take all 4 terms of its budget: put the inner loops into a function\n"
+            "the loop at slot {slot} lies in loops whose counters take all {MAX_TERMS} terms of its budget: put the inner loops into a function\n"
         ),
         Limit::Depth => write!(
             out,
@@ -136,7 +140,7 @@ pub fn write_obstacle<W: Tell>(out: &mut W, slot: u32, obstacle: &Obstacle) {
         Obstacle::Over(limit) => write_limit(out, slot, *limit),
         Obstacle::Limit => write!(
             out,
-            "the budget at slot {slot} passes a limit: a weight of 1048576, a base of 1099511627776 or 4294967295 steps; a counter's bound isn't known, mostly: test it against a constant before the loop\n"
+            "the budget at slot {slot} passes a limit: a weight of {MAX_WEIGHT}, a base of {MAX_BASE} or {MAX_STEPS} steps; a counter's bound isn't known, mostly: test it against a constant before the loop\n"
         ),
         Obstacle::Walking { reg, head } => {
             let name = register(*reg);

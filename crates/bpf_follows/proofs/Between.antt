@@ -24,14 +24,14 @@ use Rattle.bpf_semantics.specs.declared.value.Region.TheVariants.{Context, Frame
 use Rattle.bpf_follows.specs.declared.notes.Kind.{Kind}
 use Rattle.bpf_follows.specs.declared.notes.Kind.TheVariants.{Same}
 use Rattle.bpf_follows.specs.declared.notes.Place.{Place}
-use Rattle.bpf_follows.specs.Relation.{Kinds, kinds_of, IsKept, IsRead, EachPair, FitsKind, SlotKept, FitsSlot, FrameFits, FrameWaits, register_in, is_of_other, is_alone}
+use Rattle.bpf_follows.specs.Relation.{Kinds, kinds_waiting, IsKept, IsRead, EachPair, FitsKind, SlotKept, FitsSlot, FrameFits, FrameWaits, register_in, is_alone}
 use Rattle.bpf_follows.specs.Matching.{is_changed, kinds_after, AllPlain}
 use Rattle.bpf_follows.proofs.Lists.{mapped, unmapped, cond_first, cond_second, same_is_kept, as_long, pairs_weaker, pair_at, pair_inside, pairs_set, pairs_drop, pairs_take, Cells, bytes_kept, pointer_kept, no_pointer, each_kept, bytes_keep, parts_keep}
 use Rattle.bpf_follows.proofs.Owns.{top_stack, waiting_with, waiting_stack, IsLive}
 use Rattle.bpf_follows.proofs.Slots.{all_read, slot_kept, all_kept, plain_kept, slot_as, with_value, store_whole, value_long, value_other, each_read, bytes_read, bytes_same, bytes_other, room, whole_room}
 use Rattle.bpf_semantics.proofs.NumberLemmas.{length-bytes_of}
 use Rattle.bpf_semantics.proofs.StateLemmas.{length-each_cell}
-use Rattle.bpf_follows.proofs.Frames.{fits_behind, SlotsAre, slots_behind, slot_given, fits_stack, fits_alike, fits_at, fits_put, InAll, InSome}
+use Rattle.bpf_follows.proofs.Frames.{fits_behind, SlotsAre, slots_behind, slot_given, fits_stack, fits_alike, fits_at, is_of_register, holding, fits_put, InAll, InSome}
 
 abbrev pub is_double : Size → Bool
 is_double DW = true
@@ -65,8 +65,8 @@ module _ (ends : Order) (notes : List (Option Place)) (turns : ℕ) (passed : �
 
   -- ---- registers
 
-  pub put_kept : (i : Insn) (kind : Kind) (kinds : Kinds) (s t u : State) (r : Reg) (v x : Value) → ((q : ℕ) → q < 11 → is_changed i q ≡ (q == register_number r)) → SlotsAre i kind kinds → is_of_other kind ≡ false
-      → FitsKind turns passed (λ q. Some v) 0 kind (Some x) → Between kinds s t → put r v s ≡ Some u → Goes (kinds_after i kind kinds) s.top.slot t.top.slot u (put r x t)
+  pub put_kept : (i : Insn) (kind : Kind) (kinds : Kinds) (s t u : State) (r : Reg) (v x : Value) → ((q : ℕ) → q < 11 → is_changed i q ≡ (q == register_number r)) → SlotsAre i kind kinds → is_of_register kind ≡ false
+      → FitsKind turns passed (holding (register_in s.top 10) v) 0 kind (Some x) → Between kinds s t → put r v s ≡ Some u → Goes (kinds_after i kind kinds) s.top.slot t.top.slot u (put r x t)
   put_kept i kind kinds s t u r v x changed are own fit h e =
       let free = cond_second (register_number r == 10) (Some (with_register s (register_number r) (Some v))) u e in
       let after : State = with_register t (register_number r) (Some x) in
@@ -75,7 +75,7 @@ module _ (ends : Order) (notes : List (Option Place)) (turns : ℕ) (passed : �
         state = after;
         is = ap (λ b. cond b None (Some after)) free.0;
         between = subst (λ u. Between (kinds_after i kind kinds) u after) is
-            (record { top = fits_put ends turns passed i kind kinds s.top t.top (register_number r) v x changed are own fit h.top; waiting = h.waiting; context_is = h.context_is });
+            (record { top = fits_put ends turns passed i kind kinds s.top t.top (register_number r) v x changed are own free.0 fit h.top; waiting = h.waiting; context_is = h.context_is });
         old_slot = ap (λ u. u.top.slot) (sym is);
         new_slot = refl;
       }
@@ -211,8 +211,8 @@ module _ (ends : Order) (notes : List (Option Place)) (turns : ℕ) (passed : �
       place = f.follows.place;
       noted = f.follows.noted;
       slot_is = f.follows.slot_is;
-      fits = fits_stack ends turns passed (kinds_of f.follows.place) (kinds_of f.follows.place) a b xs ys f.follows.fits (λ r lt. refl) (same ∙ f.follows.fits.long) (all_read xs ys h)
-          (λ k lt. slot_given ends turns passed (register_in a) xs ys k (kinds_of f.follows.place (11 + k)) (f.slots reached k lt) (slot_kept xs ys k h));
+      fits = fits_stack ends turns passed (kinds_waiting f.follows.place) (kinds_waiting f.follows.place) a b xs ys f.follows.fits (λ r lt. refl) (same ∙ f.follows.fits.long) (all_read xs ys h)
+          (λ k lt. slot_given ends turns passed (register_in a) xs ys k (kinds_waiting f.follows.place (11 + k)) (f.slots reached k lt) (slot_kept xs ys k h));
     };
     result = f.result;
     own = f.own;

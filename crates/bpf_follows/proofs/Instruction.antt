@@ -1,13 +1,10 @@
 -- The instruction itself, calls and ends aside: where the old machine does it, the new one does it, and goes where the notes say.
 use Rattle.std.proofs.Common.{◌≡◌, ℕ, ◌+◌, ◌*◌, ◌/◌, ◌%◌, ◌<◌, ◌≤◌, ◌⊎◌, inl, inr, ◌==◌, Bool, true, false, cond, List, Option, Some, None, length, get_or, refl, sym, ap, ap₂, ◌∙◌, subst, arith}
-use Rattle.std.specs.Prelude.{ℤ, pos, ◌+ℤ◌, ◌≤ℤ◌, int_le, nat_lt, not, ◌&&◌, ◌||◌, nat_le, option_and_then, if◌then◌else◌}
-use Rattle.std.specs.Ordering.{int_eq}
+use Rattle.std.specs.Prelude.{ℤ, pos, not, ◌&&◌, ◌||◌, option_and_then, if◌then◌else◌}
 use Rattle.std.specs.Option.{option_map_or}
 use Rattle.std.specs.List.{AllByRecursion}
 use Rattle.std.proofs.lemmas.Option.{none-some, same_Some, option_and_then_some}
-use Rattle.std.proofs.lemmas.Bool.{false≢true, eqb-true, leb-true, ltb-true, cases_Bool}
-use Rattle.std.proofs.lemmas.Bool.Decides.{Decides-int_eq}
-use Rattle.std.proofs.lemmas.Int.{ints}
+use Rattle.std.proofs.lemmas.Bool.{false≢true, eqb-true, cases_Bool}
 use Rattle.bpf_insn.specs.Arithmetic.{alu, extended, sign_extend, swapped}
 use Rattle.bpf_insn.specs.Effects.{Access, access_of, register_written, registers_read, operand_register, atomic_registers, fetch_register}
 use Rattle.bpf_insn.specs.Instruction.{register_number, byte_count, word_size, slot_count, distance, target, goes_on}
@@ -26,7 +23,7 @@ use Rattle.bpf_insn.specs.declared.instruction.AtomicOp.{AtomicOp}
 use Rattle.bpf_insn.specs.declared.instruction.AtomicOp.TheVariants.{Modify as Changes, Xchg, CmpXchg}
 use Rattle.bpf_insn.specs.declared.instruction.Insn.{Insn}
 use Rattle.bpf_insn.specs.declared.instruction.Insn.TheVariants.{Alu, Neg, MovSx, End, LoadImm64, Load, LoadSx, Store, StoreImm, Atomic, Ja, JaLong, JumpIf, CallLocal, Exit}
-use Rattle.bpf_semantics.specs.State.{Cell, StackFrame, State, IsState, depth, register, number_in, number_of_register, put, at_slot}
+use Rattle.bpf_semantics.specs.State.{State, IsState, depth, register, number_in, number_of_register, put, at_slot}
 use Rattle.bpf_semantics.specs.Memory.Location.{InFrame}
 use Rattle.bpf_semantics.specs.Memory.{Location, location_of, is_within, number_at, stack_of, part_after, with_parts, store_number, store_pointer}
 use Rattle.bpf_semantics.specs.Step.{does, next, operand, alu_result, test_of_values, load, load_extended, store, atomic_result, fetched, jump}
@@ -34,18 +31,19 @@ use Rattle.bpf_semantics.specs.declared.value.Value.{Value}
 use Rattle.bpf_semantics.specs.declared.value.Value.TheVariants.{Number, Pointer}
 use Rattle.bpf_semantics.specs.declared.value.Region.{Region}
 use Rattle.bpf_follows.specs.declared.notes.Kind.{Kind}
-use Rattle.bpf_follows.specs.declared.notes.Kind.TheVariants.{Unset, Same, Number as NumberKind, Offset, Fixed, Within, Start, Base, Moved, Constant, Counter, Alone, Both}
+use Rattle.bpf_follows.specs.declared.notes.Kind.TheVariants.{Same, Number as NumberKind, Natural, Start, Alone, Returns, Both}
 use Rattle.bpf_follows.specs.declared.notes.Place.{Place}
-use Rattle.bpf_follows.specs.Relation.{Kinds, places, Gives, weaker, is_free, kinds_of, place_at, IsKept, HasOffset, as_number, register_in, is_of_other, IsRead, EachPair, FitsKind, FitsSlot, FrameFits, is_alone, Follows}
+use Rattle.bpf_follows.specs.Relation.{Kinds, IsKept, register_in, IsRead, EachPair, FitsKind, is_alone}
 use Rattle.bpf_follows.specs.Numbers.{loaded_number, number_kind, told}
 use Rattle.bpf_follows.specs.Extras.{is_same, is_r10, slot_of}
-use Rattle.bpf_follows.specs.Matching.{is_call, is_changed, is_plain, is_whole, is_far, whole_slot, AllPlain, kinds_after, Arrives, undirected, led}
+use Rattle.bpf_follows.specs.Returned.{is_call, led}
+use Rattle.bpf_follows.specs.Matching.{is_changed, is_plain, is_whole, is_far, whole_slot, AllPlain, kinds_after, Arrives, undirected}
 use Rattle.bpf_follows.proofs.Lists.{bind, mapped, unmapped, cond_first, same_is_kept, as_long, Cells}
-use Rattle.bpf_semantics.proofs.NumberLemmas.{modulo_below}
 use Rattle.bpf_follows.proofs.Owns.{Owns, live_location, live_next}
-use Rattle.bpf_follows.proofs.Slots.{register_below, unset_kept, free_unset, plain_kept, both_hold, parts_put, parts_read, each_read}
-use Rattle.bpf_follows.proofs.Frames.{SlotsAre, InSome, no_slots}
+use Rattle.bpf_follows.proofs.Slots.{register_below, plain_kept, parts_put, parts_read, each_read}
+use Rattle.bpf_follows.proofs.Frames.{is_of_register, holding, SlotsAre, InSome, no_slots}
 use Rattle.bpf_follows.proofs.Between.{is_double, Between, Goes, goes_held, goes_alike, same_depth, stands_at, goes_as, put_kept, location_same, number_kept, PointersKept, pointers_kept, pointer_at_kept, own_stack, own_stack_of, load_kept, load_extended_kept, number_stored, store_kept, number_near, value_near}
+pub use Rattle.bpf_follows.proofs.Arrivals.{both_true, plus_zero, Arrived, kind_given, fits_given, arrived}
 use Rattle.bpf_follows.proofs.Known.{alu_known, alu_own, load_own, load_known, told_between}
 use Rattle.bpf_follows.proofs.Near.{near, slot_here, stored, stored_are, after_stored, changed_low, in_all, in_some, in_one}
 
@@ -93,13 +91,6 @@ atomic_kept (Changes by fetch) size old x new o p same k h e = e
 atomic_kept Xchg size old x new o p same k h e = e
 atomic_kept CmpXchg size old x new o p same k h e = let u = unmapped _ o new e in mapped _ p u.0 (k h.0 u.0 u.1) ∙ ap Some u.2
 
-pub both_true : (a b : Bool) → (a && b) ≡ true → (a ≡ true) × (b ≡ true)
-both_true true b e = (refl, e)
-both_true false b e = absurd (false≢true e)
-
-pub plus_zero : (z : ℤ) → z ≡ z +ℤ pos 0
-plus_zero z = omega (arith, ints)
-
 -- calls and ends
 abbrev pub is_flow : Insn → Bool
 is_flow (CallLocal off) = true
@@ -112,121 +103,6 @@ pub record Tame (notes : List (Option Place)) (kinds : Kinds) (i : Insn) : Type 
   pub near : (k : ℕ) → whole_slot i ≡ Some k → is_plain (kinds (11 + k)) ≡ true
 
 module _ (ends : Order) (notes : List (Option Place)) (turns : ℕ) (passed : ℕ → ℕ) where
-  -- ---- arrivals
-
-  -- what is made of the new state follows the old one's successor
-  pub record Arrived (u : State) (o : Option State) : Type 0 where
-    pub state : State
-    pub is : o ≡ Some state
-    pub follows : Follows ends notes turns passed u state
-
-  not_slot : {A : Type 0} (r : ℕ) (have : Kind) → r < 11 → (nat_le 11 r && is_free have) ≡ true → A
-  not_slot r have lt e = let more = leb-true 11 r (both_true (nat_le 11 r) (is_free have) e).0 in absurd (omega arith)
-
-  le_of : (a b : ℤ) → int_le a b ≡ true → a ≤ℤ b
-  le_of a b e = omega (arith, ints)
-
-  kind_weaker : (old : ℕ → Option Value) (r : ℕ) (have want : Kind) (new : Option Value) → r < 11 → weaker turns r have want ≡ true → FitsKind turns passed old r have new → FitsKind turns passed old r want new
-  kind_weaker old r (Fixed offset) Offset new lt e f = record { offset = offset; fits = f.0; old_is = f.1; new_is = f.2 ∙ ap (λ z. Some (as_number z)) (plus_zero offset) }
-  kind_weaker old r (Fixed offset) (Within low high) new lt e f =
-      let h = both_true (nat_lt r 11) (int_le (pos low) offset && int_le offset (pos high)) e in
-      let k = both_true (int_le (pos low) offset) (int_le offset (pos high)) h.1 in
-      record { offset = offset; fits = f.0; low = le_of (pos low) offset k.0; high = le_of offset (pos high) k.1; old_is = f.1; new_is = f.2 }
-  kind_weaker old r (Within least most) (Within low high) new lt e f =
-      let h = both_true (nat_le low least) (nat_le most high) e in
-      let above = leb-true low least h.0 in
-      let below = leb-true most high h.1 in
-      let low_is = f.low in
-      let high_is = f.high in
-      record { offset = f.offset; fits = f.fits; low = omega (arith, ints); high = omega (arith, ints); old_is = f.old_is; new_is = f.new_is }
-  kind_weaker old r (Within least most) Offset new lt e f = record { offset = f.offset; fits = f.fits; old_is = f.old_is; new_is = f.new_is ∙ ap (λ z. Some (as_number z)) (plus_zero f.offset) }
-  kind_weaker old r Start Same new lt e f = λ v ev. f.1 ∙ (sym f.0 ∙ ev)
-  kind_weaker old r Start Base new lt e f = f.1
-  kind_weaker old r (Moved of by) Offset new lt e f =
-      let h = both_true (register_number of == r) (int_eq by (pos 0)) e in
-      subst (λ q. HasOffset (pos 0) as_number (old q) new) (eqb-true (register_number of) r h.0) (subst (λ by. HasOffset by as_number (old (register_number of)) new) ((Decides-int_eq by (pos 0)).0 h.1) f)
-  kind_weaker old r (Constant value) (Counter head) new lt e f = let enough = leb-true turns (extended value) e in (extended value, modulo_below value, f, omega arith)
-  kind_weaker old r (NumberKind least most) (NumberKind low high) new lt e f =
-      let h = both_true (nat_le low least) (nat_le most high) e in
-      let above = leb-true low least h.0 in
-      let below = leb-true most high h.1 in
-      let low_is = f.low in
-      let high_is = f.high in
-      record { number = f.number; low = omega arith; high = omega arith; old_is = f.old_is; new_is = f.new_is }
-  kind_weaker old r (NumberKind least most) Both new lt e f = record { value = Number f.number; old_is = f.old_is; new_is = f.new_is }
-  kind_weaker old r Both Same new lt e f = λ v ev. f.new_is ∙ (sym f.old_is ∙ ev)
-  kind_weaker old r (NumberKind least most) Same new lt e f = λ v ev. f.new_is ∙ (sym f.old_is ∙ ev)
-  kind_weaker old r Same Alone new lt e f = f
-  kind_weaker old r have Same new lt e f = not_slot r have lt e
-  kind_weaker old r have Unset new lt e f = not_slot r have lt e
-  kind_weaker old r have want new lt e f = absurd (false≢true e)
-
-  slot_weaker : (registers : ℕ → Option Value) (xs ys : List (Option Cell)) (k : ℕ) (have want : Kind) → weaker turns (11 + k) have want ≡ true → FitsSlot ends turns passed registers xs ys k have → FitsSlot ends turns passed registers xs ys k want
-  slot_weaker registers xs ys k (Fixed offset) Offset e f = record { offset = offset; fits = f.fits; old_is = f.old_is; new_is = f.new_is }
-  slot_weaker registers xs ys k (Fixed offset) (Within low high) e f = let low = ltb-true (11 + k) 11 (both_true (nat_lt (11 + k) 11) (int_le (pos low) offset && int_le offset (pos high)) e).0 in absurd (omega arith)
-  slot_weaker registers xs ys k (Within least most) (Within low high) e f = absurd f
-  slot_weaker registers xs ys k (Within least most) Offset e f = absurd f
-  slot_weaker registers xs ys k Start Same e f = absurd f
-  slot_weaker registers xs ys k Start Base e f = absurd f
-  slot_weaker registers xs ys k (Moved of by) Offset e f =
-      let h = both_true (register_number of == 11 + k) (int_eq by (pos 0)) e in
-      let same : register_number of ≡ 11 + k = eqb-true (register_number of) (11 + k) h.0 in
-      let below = register_below of in
-      absurd (omega arith)
-  slot_weaker registers xs ys k (Constant value) (Counter head) e f =
-      let enough = leb-true turns (extended value) e in
-      record { unset = f.unset; value = f.value; holds = f.holds; fits = (extended value, modulo_below value, f.fits, omega arith) }
-  slot_weaker registers xs ys k (NumberKind least most) (NumberKind low high) e f =
-      let h = both_true (nat_le low least) (nat_le most high) e in
-      let above = leb-true low least h.0 in
-      let below = leb-true most high h.1 in
-      let low_is = f.low in
-      let high_is = f.high in
-      record { number = f.number; low = omega arith; high = omega arith; old_is = f.old_is; new_is = f.new_is }
-  slot_weaker registers xs ys k (NumberKind least most) Both e f = let low = ltb-true (11 + k) 11 e in absurd (omega arith)
-  slot_weaker registers xs ys k Both Same e f = absurd f
-  slot_weaker registers xs ys k (NumberKind least most) Same e f = both_hold ends xs ys k (Number f.number) f.old_is f.new_is
-  slot_weaker registers xs ys k Same Alone e f = let low = ltb-true (11 + k) 11 e in absurd (omega arith)
-  slot_weaker registers xs ys k have Same e f = unset_kept xs ys k (free_unset ends turns passed registers xs ys k have (both_true (nat_le 11 (11 + k)) (is_free have) e).1 f)
-  slot_weaker registers xs ys k have Unset e f = free_unset ends turns passed registers xs ys k have (both_true (nat_le 11 (11 + k)) (is_free have) e).1 f
-  slot_weaker registers xs ys k have want e f = absurd (false≢true e)
-
-  pub kind_given : (old : ℕ → Option Value) (r : ℕ) (have want : Kind) (new : Option Value) → r < 11 → Gives turns r have want → FitsKind turns passed old r have new → FitsKind turns passed old r want new
-  kind_given old r have want new lt (inl e) f = subst (λ kind. FitsKind turns passed old r kind new) (sym e) tt
-  kind_given old r have want new lt (inr (inl e)) f = subst (λ kind. FitsKind turns passed old r kind new) (sym e) f
-  kind_given old r have want new lt (inr (inr e)) f = kind_weaker old r have want new lt e f
-
-  slot_given : (registers : ℕ → Option Value) (xs ys : List (Option Cell)) (k : ℕ) (have want : Kind) → Gives turns (11 + k) have want → FitsSlot ends turns passed registers xs ys k have → FitsSlot ends turns passed registers xs ys k want
-  slot_given registers xs ys k have want (inl e) f = subst (λ kind. FitsSlot ends turns passed registers xs ys k kind) (sym e) tt
-  slot_given registers xs ys k have want (inr (inl e)) f = subst (λ kind. FitsSlot ends turns passed registers xs ys k kind) (sym e) f
-  slot_given registers xs ys k have want (inr (inr e)) f = slot_weaker registers xs ys k have want e f
-
-  pub fits_given : (have want : Kinds) (old new : StackFrame) → ((r : ℕ) → r < places → Gives turns r (have r) (want r)) → FrameFits ends turns passed have old new → FrameFits ends turns passed want old new
-  fits_given have want old new gives f = record {
-    eleven_old = f.eleven_old;
-    eleven = f.eleven;
-    registers = λ r lt. kind_given (register_in old) r (have r) (want r) _ lt (gives r (omega arith)) (f.registers r lt);
-    long = f.long;
-    stack = f.stack;
-    slots = λ k lt. slot_given (register_in old) old.stack new.stack k (have (11 + k)) (want (11 + k)) (gives (11 + k) (omega arith)) (f.slots k lt);
-  }
-
-  pub arrived : (kinds : Kinds) (x y : ℕ) (u : State) (o : Option State) → Goes ends notes turns passed kinds x y u o → Arrives notes turns x y kinds → Arrived u o
-  arrived kinds x y u o g a = record {
-    state = g.state;
-    is = g.is;
-    follows = record {
-      top = record {
-        place = a.place;
-        noted = ap (place_at notes) g.old_slot ∙ a.noted;
-        slot_is = g.new_slot ∙ a.slot_is;
-        fits = fits_given kinds (kinds_of a.place) u.top g.state.top a.gives g.between.top;
-      };
-      waiting = g.between.waiting;
-      context_is = g.between.context_is;
-    };
-  }
-
   -- ---- what is read
 
   abbrev AllSame : Kinds → List Reg → Type 0
@@ -237,7 +113,9 @@ module _ (ends : Order) (notes : List (Option Place)) (turns : ℕ) (passed : �
   same_kept old r Start new e f = λ v ev. f.1 ∙ (sym f.0 ∙ ev)
   same_kept old r Both new e f = λ v ev. f.new_is ∙ (sym f.old_is ∙ ev)
   same_kept old r (NumberKind least most) new e f = λ v ev. f.new_is ∙ (sym f.old_is ∙ ev)
+  same_kept old r Natural new e f = λ v ev. f.new_is ∙ (sym f.old_is ∙ ev)
   same_kept old r Alone new e f = f
+  same_kept old r (Returns least most) new e f = f
   same_kept old r kind new e f = absurd (false≢true e)
 
   pub register_kept : (kinds : Kinds) (s t : State) (r : Reg) → Between ends notes turns passed kinds s t → is_same (kinds (register_number r)) ≡ true → IsKept (register s r) (register t r)
@@ -255,7 +133,7 @@ module _ (ends : Order) (notes : List (Option Place)) (turns : ℕ) (passed : �
   abbrev pub Writes : Insn → Reg → Type 0
   Writes i r = (q : ℕ) → is_changed i q ≡ (q == register_number r)
 
-  pub put_as : (kinds : Kinds) (s t u : State) (i : Insn) (kind : Kind) (r : Reg) (v x : Value) → Writes i r → is_of_other kind ≡ false → FitsKind turns passed (λ q. Some v) 0 kind (Some x)
+  pub put_as : (kinds : Kinds) (s t u : State) (i : Insn) (kind : Kind) (r : Reg) (v x : Value) → Writes i r → is_of_register kind ≡ false → FitsKind turns passed (holding (register_in s.top 10) v) 0 kind (Some x)
       → Between ends notes turns passed kinds s t → put r v (next i s) ≡ Some u → Goes ends notes turns passed (kinds_after i kind kinds) (s.top.slot + slot_count i) (t.top.slot + slot_count i) u (put r x (next i t))
   put_as kinds s t u i kind r v x writes own fit h e = put_kept ends notes turns passed i kind kinds (next i s) (next i t) u r v x (λ q lt. writes q) (no_slots i (register_number r) kind kinds (register_below r) writes) own fit (stands_at ends notes turns passed kinds s t _ _ h) e
 
@@ -287,7 +165,7 @@ module _ (ends : Order) (notes : List (Option Place)) (turns : ℕ) (passed : �
   unfolding does
   alu_next order op width dst src kinds s t u state h same result e = option_and_then_some _ (operand s src) u e (λ b eb e1. option_and_then_some _ (alu_result width op (register s dst) b) u e1 (λ v ev e2.
       goes_as ends notes turns passed _ _ _ u _ _ (bind _ (operand t src) b _ (operand_kept kinds s t src h same b eb) (bind _ (alu_result width op (register t dst) b) v _ (result b v ev) refl))
-      (put_as kinds s t u (Alu op width dst src) (number_kind kinds (Alu op width dst src)) dst v v (λ q. refl) (alu_own ends notes turns passed width op dst src kinds) (alu_known ends notes turns passed width op dst src kinds s t b v state h eb ev) h e2)))
+      (put_as kinds s t u (Alu op width dst src) (number_kind kinds (Alu op width dst src)) dst v v (λ q. refl) (alu_own ends notes turns passed width op dst src kinds) (alu_known ends notes turns passed (register_in s.top 10) width op dst src kinds s t b v state h eb ev) h e2)))
 
   number_next : (order : Order) (i : Insn) (kinds : Kinds) (s t u : State) (r dst : Reg) (f : ℕ → ℕ) → Writes i dst → Between ends notes turns passed kinds s t → is_same (kinds (register_number r)) ≡ true
       → option_and_then (λ a. put dst (Number (f a)) (next i s)) (number_of_register s r) ≡ Some u
@@ -295,7 +173,7 @@ module _ (ends : Order) (notes : List (Option Place)) (turns : ℕ) (passed : �
   number_next order i kinds s t u r dst f writes h same e = option_and_then_some _ (number_of_register s r) u e (λ a ea e1.
       goes_as ends notes turns passed _ _ _ u _ _ (bind _ (number_of_register t r) a _ (number_same kinds s t r h same a ea) refl) (put_next kinds s t u i dst (Number (f a)) writes h e1))
 
-  load_next : (i : Insn) (kind : Kind) (kinds : Kinds) (s t u : State) (k : ℕ) (dst src : Reg) (off : ℤ) (f : State → Location → Option Value) → Writes i dst → is_of_other kind ≡ false → ((at : Location) (v : Value) → f s at ≡ Some v → FitsKind turns passed (λ q. Some v) 0 kind (Some v))
+  load_next : (i : Insn) (kind : Kind) (kinds : Kinds) (s t u : State) (k : ℕ) (dst src : Reg) (off : ℤ) (f : State → Location → Option Value) → Writes i dst → is_of_register kind ≡ false → ((at : Location) (v : Value) → f s at ≡ Some v → FitsKind turns passed (holding (register_in s.top 10) v) 0 kind (Some v))
       → Between ends notes turns passed kinds s t → is_same (kinds (register_number src)) ≡ true
       → ((base : Value) (at : Location) → register s src ≡ Some base → location_of s k off base ≡ Some at → IsKept (f s at) (f t at))
       → option_and_then (λ base. option_and_then (λ at. option_and_then (λ v. put dst v (next i s)) (f s at)) (location_of s k off base)) (register s src) ≡ Some u
@@ -389,22 +267,27 @@ module _ (ends : Order) (notes : List (Option Place)) (turns : ℕ) (passed : �
           store_kept ends notes turns passed order kinds (stored i Same kinds) (next i s) (next i t) u DW (Pointer region z) at stands (tame.far (far_is i a ea far ew)) (in_all i a kinds ea ew far)
           (live_next s (s.top.slot + slot_count i) at (live_location s (byte_count a.size) a.offset base at el)) e
 
+  -- a value is stored at a place
+  pub store_at : (order : Order) (i : Insn) (kinds : Kinds) (s t u : State) (dst : Reg) (size : Size) (off : ℤ) (base v : Value) (at : Location) → access_of i ≡ Some (record { base = dst; offset = off; size = size; reads = false; writes = true }) → is_call i ≡ false → register_written i ≡ None
+      → Between ends notes turns passed kinds s t → Owns s → Tame notes kinds i → register s dst ≡ Some base → location_of s (byte_count size) off base ≡ Some at → store order size v at (next i s) ≡ Some u
+      → Goes ends notes turns passed (kinds_after i Same kinds) (s.top.slot + slot_count i) (t.top.slot + slot_count i) u (store order size v at (next i t))
+  store_at order i kinds s t u dst size off base v at ea call none h o tame eb el e = behind_store i Same kinds _ _ u _ call none (by_value size v ea el e)
+    where
+      by_value : (size : Size) (v : Value) → access_of i ≡ Some (record { base = dst; offset = off; size = size; reads = false; writes = true }) → location_of s (byte_count size) off base ≡ Some at → store order size v at (next i s) ≡ Some u
+          → Goes ends notes turns passed (stored i Same kinds) (s.top.slot + slot_count i) (t.top.slot + slot_count i) u (store order size v at (next i t))
+      by_value size (Number x) ea el e1 = number_put order i (record { base = dst; offset = off; size = size; reads = false; writes = true }) kinds s t u x base at ea refl h o tame eb el e1
+      by_value DW (Pointer region z) ea el e1 = pointer_put order i (record { base = dst; offset = off; size = DW; reads = false; writes = true }) kinds s t u region z base at ea refl refl h o tame eb el e1
+      by_value B (Pointer region z) ea el e1 = absurd (none-some _ e1)
+      by_value H (Pointer region z) ea el e1 = absurd (none-some _ e1)
+      by_value W (Pointer region z) ea el e1 = absurd (none-some _ e1)
+
   store_next : (order : Order) (i : Insn) (kinds : Kinds) (s t u : State) (dst : Reg) (size : Size) (off : ℤ) (base v : Value) → access_of i ≡ Some (record { base = dst; offset = off; size = size; reads = false; writes = true }) → is_call i ≡ false → register_written i ≡ None
       → Between ends notes turns passed kinds s t → Owns s → Tame notes kinds i → register s dst ≡ Some base
       → option_and_then (λ at. store order size v at (next i s)) (location_of s (byte_count size) off base) ≡ Some u
       → Goes ends notes turns passed (kinds_after i Same kinds) (s.top.slot + slot_count i) (t.top.slot + slot_count i) u (option_and_then (λ at. store order size v at (next i t)) (location_of t (byte_count size) off base))
   store_next order i kinds s t u dst size off base v ea call none h o tame eb e = option_and_then_some _ (location_of s (byte_count size) off base) u e (λ at el e1.
-      behind_store i Same kinds _ _ u _ call none
-      (goes_as ends notes turns passed _ _ _ u _ _ (bind _ (location_of t (byte_count size) off base) at _ (location_kept kinds s t (byte_count size) off base at h el) refl)
-      (by_value size v ea at el e1)))
-    where
-      by_value : (size : Size) (v : Value) → access_of i ≡ Some (record { base = dst; offset = off; size = size; reads = false; writes = true }) → (at : Location) → location_of s (byte_count size) off base ≡ Some at → store order size v at (next i s) ≡ Some u
-          → Goes ends notes turns passed (stored i Same kinds) (s.top.slot + slot_count i) (t.top.slot + slot_count i) u (store order size v at (next i t))
-      by_value size (Number x) ea at el e1 = number_put order i (record { base = dst; offset = off; size = size; reads = false; writes = true }) kinds s t u x base at ea refl h o tame eb el e1
-      by_value DW (Pointer region z) ea at el e1 = pointer_put order i (record { base = dst; offset = off; size = DW; reads = false; writes = true }) kinds s t u region z base at ea refl refl h o tame eb el e1
-      by_value B (Pointer region z) ea at el e1 = absurd (none-some _ e1)
-      by_value H (Pointer region z) ea at el e1 = absurd (none-some _ e1)
-      by_value W (Pointer region z) ea at el e1 = absurd (none-some _ e1)
+      goes_as ends notes turns passed _ _ _ u _ _ (bind _ (location_of t (byte_count size) off base) at _ (location_kept kinds s t (byte_count size) off base at h el) refl)
+      (store_at order i kinds s t u dst size off base v at ea call none h o tame eb el e1))
 
   -- a pointer that is loaded whole
   pointers_loaded : (kinds : Kinds) (s t : State) (size : Size) (dst src : Reg) (off : ℤ) (base : Value) (at : Location) → Between ends notes turns passed kinds s t → Owns s → Tame notes kinds (Load size dst src off) → register s src ≡ Some base → location_of s (byte_count size) off base ≡ Some at
@@ -440,7 +323,7 @@ module _ (ends : Order) (notes : List (Option Place)) (turns : ℕ) (passed : �
   plain order (MovSx width bits dst src) kinds s t u state h o same tame on none e = number_next order (MovSx width bits dst src) kinds s t u src dst (λ b. sign_extend bits width b) (λ q. refl) h same.0 e
   plain order (End kind bits dst) kinds s t u state h o same tame on none e = number_next order (End kind bits dst) kinds s t u dst dst (λ a. swapped order kind bits a) (λ q. refl) h same.0 e
   plain order (LoadImm64 dst value) kinds s t u state h o same tame on none e = put_next kinds s t u (LoadImm64 dst value) dst (Number value) (λ q. refl) h e
-  plain order (Load size dst src off) kinds s t u state h o same tame on none e = load_next (Load size dst src off) (loaded_number size) kinds s t u (byte_count size) dst src off (λ s at. load order s size at) (λ q. refl) (load_own ends notes turns passed size) (λ at v ev. load_known ends notes turns passed order s size at v state ev) h same.0 (λ base at eb el. load_kept ends notes turns passed order kinds s t size at h (pointers_loaded kinds s t size dst src off base at h o tame eb el)) e
+  plain order (Load size dst src off) kinds s t u state h o same tame on none e = load_next (Load size dst src off) (loaded_number size) kinds s t u (byte_count size) dst src off (λ s at. load order s size at) (λ q. refl) (load_own ends notes turns passed size) (λ at v ev. load_known ends notes turns passed (register_in s.top 10) order s size at v state ev) h same.0 (λ base at eb el. load_kept ends notes turns passed order kinds s t size at h (pointers_loaded kinds s t size dst src off base at h o tame eb el)) e
   plain order (LoadSx size dst src off) kinds s t u state h o same tame on none e = load_next (LoadSx size dst src off) Same kinds s t u (byte_count size) dst src off (λ s at. load_extended order s size at) (λ q. refl) refl (λ at v ev. same_is_kept (Some v)) h same.0 (λ base at eb el. load_extended_kept ends notes turns passed order kinds s t size at h) e
   plain order (Store size dst off src) kinds s t u state h o same tame on none e = option_and_then_some _ (register s dst) u e (λ base eb e1. option_and_then_some _ (register s src) u e1 (λ v ev e2.
       goes_as ends notes turns passed _ _ _ u _ _
@@ -490,28 +373,28 @@ module _ (ends : Order) (notes : List (Option Place)) (turns : ℕ) (passed : �
   FallArrives i kind kinds x y = goes_on i ≡ true → Arrives notes turns (x + slot_count i) (y + slot_count i) (kinds_after i kind (told false i kinds))
 
   jumped : (i j : Insn) (kind : Kind) (kinds : Kinds) (s t u : State) (off x : ℤ) → Between ends notes turns passed kinds s t → ((q : ℕ) → is_changed i q ≡ false) → led s.top.slot i ≡ target s.top.slot off → led t.top.slot j ≡ target t.top.slot x
-      → JumpLeads i j kind kinds s.top.slot t.top.slot → jump s off ≡ Some u → Arrived u (jump t x)
+      → JumpLeads i j kind kinds s.top.slot t.top.slot → jump s off ≡ Some u → Arrived ends notes turns passed u (jump t x)
   jumped i j kind kinds s t u off x h none old new arrives e =
       let to = unmapped (λ slot. at_slot slot s) (target s.top.slot off) u e in
       let a = arrives to.0 (old ∙ to.1) in
-      arrived (kinds_after i kind kinds) to.0 a.0 u (jump t x) (goes_held ends notes turns passed i kind kinds to.0 a.0 u (jump t x) (λ q lt. none q) (λ k lt c. absurd (false≢true (sym (none (11 + k)) ∙ c))) (jump_kept kinds s t u off x to.0 a.0 h to.1 (sym new ∙ a.1) e)) a.2
+      arrived ends notes turns passed (kinds_after i kind kinds) to.0 a.0 u (jump t x) (goes_held ends notes turns passed i kind kinds to.0 a.0 u (jump t x) (λ q lt. none q) (λ k lt c. absurd (false≢true (sym (none (11 + k)) ∙ c))) (jump_kept kinds s t u off x to.0 a.0 h to.1 (sym new ∙ a.1) e)) a.2
 
   -- a test that answers the same in both
   pub tested : (order : Order) (cond : Cond) (width : Width) (dst : Reg) (src : Operand) (off z : ℤ) (kind : Kind) (kinds : Kinds) (s t u : State) (taken : Bool) → Between ends notes turns passed (told taken (JumpIf cond width dst src off) kinds) s t
       → (taken ≡ false → FallArrives (JumpIf cond width dst src off) kind kinds s.top.slot t.top.slot) → (taken ≡ true → JumpArrives (JumpIf cond width dst src off) (JumpIf cond width dst src z) kind kinds s.top.slot t.top.slot)
-      → (if taken then jump s off else Some (next (JumpIf cond width dst src off) s)) ≡ Some u → Arrived u (if taken then jump t z else Some (next (JumpIf cond width dst src z) t))
+      → (if taken then jump s off else Some (next (JumpIf cond width dst src off) s)) ≡ Some u → Arrived ends notes turns passed u (if taken then jump t z else Some (next (JumpIf cond width dst src z) t))
   tested order cond width dst src off z kind kinds s t u true h falls jumps e = jumped (JumpIf cond width dst src off) (JumpIf cond width dst src z) kind (told true (JumpIf cond width dst src off) kinds) s t u off z h (λ q. refl) refl refl (jumps refl) e
   tested order cond width dst src off z kind kinds s t u false h falls jumps e =
       let i : Insn = JumpIf cond width dst src off in
       let j : Insn = JumpIf cond width dst src z in
       let after : Kinds = told false i kinds in
-      subst (λ u. Arrived u (Some (next j t))) (same_Some _ _ e)
-      (arrived (kinds_after i kind after) _ _ _ (Some (next j t))
+      subst (λ u. Arrived ends notes turns passed u (Some (next j t))) (same_Some _ _ e)
+      (arrived ends notes turns passed (kinds_after i kind after) _ _ _ (Some (next j t))
       (goes_held ends notes turns passed i kind after _ _ (next i s) (Some (next j t)) (λ q lt. refl) (λ k lt c. absurd (false≢true c)) (record { state = next j t; is = refl; between = stands_at ends notes turns passed after s t _ _ h; old_slot = refl; new_slot = refl })) (falls refl refl))
 
   -- an instruction that neither calls nor ends, on registers that hold the same, with another distance
   pub same_arrives : (order : Order) (i : Insn) (z : ℤ) (kinds : Kinds) (s t u : State) → IsState s → Between ends notes turns passed kinds s t → Owns s → AllSame kinds (registers_read i) → Tame notes kinds i → is_flow i ≡ false
-      → FallArrives i (number_kind kinds i) kinds s.top.slot t.top.slot → JumpArrives i (redirect i z) (number_kind kinds i) kinds s.top.slot t.top.slot → does order i s ≡ Some u → Arrived u (does order (redirect i z) t)
+      → FallArrives i (number_kind kinds i) kinds s.top.slot t.top.slot → JumpArrives i (redirect i z) (number_kind kinds i) kinds s.top.slot t.top.slot → does order i s ≡ Some u → Arrived ends notes turns passed u (does order (redirect i z) t)
   unfolding does
   same_arrives order (Ja off) z kinds s t u state h o same tame flow falls jumps e = jumped (Ja off) (Ja z) Same kinds s t u off z h (λ q. refl) refl refl jumps e
   same_arrives order (JaLong off) z kinds s t u state h o same tame flow falls jumps e = jumped (JaLong off) (JaLong z) Same kinds s t u off z h (λ q. refl) refl refl jumps e
@@ -525,4 +408,4 @@ module _ (ends : Order) (notes : List (Option Place)) (turns : ℕ) (passed : �
       })))
   same_arrives order (CallLocal off) z kinds s t u state h o same tame flow falls jumps e = absurd (false≢true (sym flow))
   same_arrives order Exit z kinds s t u state h o same tame flow falls jumps e = absurd (false≢true (sym flow))
-  same_arrives order i z kinds s t u state h o same tame flow falls jumps e = arrived (kinds_after i (number_kind kinds i) kinds) _ _ u (does order i t) (plain order i kinds s t u state h o same tame refl refl e) (falls refl)
+  same_arrives order i z kinds s t u state h o same tame flow falls jumps e = arrived ends notes turns passed (kinds_after i (number_kind kinds i) kinds) _ _ u (does order i t) (plain order i kinds s t u state h o same tame refl refl e) (falls refl)

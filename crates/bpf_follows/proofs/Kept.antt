@@ -24,26 +24,31 @@ use Rattle.bpf_semantics.specs.declared.value.Value.TheVariants.{Number, Pointer
 use Rattle.bpf_semantics.specs.declared.value.Region.TheVariants.{Frame as FrameAt}
 use Rattle.bpf_semantics.proofs.NumberLemmas.{modulo_below}
 use Rattle.bpf_follows.specs.declared.notes.Kind.{Kind}
-use Rattle.bpf_follows.specs.declared.notes.Kind.TheVariants.{Nothing, Offset, Fixed, Within, Start, Base, Moved, Address, Constant, Counter, Turn, Both, Saved}
+use Rattle.bpf_follows.specs.declared.notes.Kind.TheVariants.{Nothing, Natural, Offset, Fixed, Within, Start, Base, Moved, Address, Constant, Counter, Turn, Both, Saved}
 use Rattle.bpf_follows.specs.declared.notes.Place.{Place}
 use Rattle.bpf_follows.specs.declared.site.Front.{Front}
+use Rattle.bpf_follows.specs.Areas.{origin}
 use Rattle.bpf_follows.specs.Relation.{kind_in, is_free, IsOneValue, FitsKind, Holds, IsUnset, IsRead, FitsSlot, register_in}
-use Rattle.bpf_follows.specs.Extras.{is_same, is_r10, slot_of, kind_of, copied, frame_slot, own_kind, kept_kind, free_slot, stored, stored_constant, restored, taken, moved_by, made, put_by, passes, passed_by, written, extra, extra_at, behind, most_extras, extras}
+use Rattle.bpf_follows.specs.Extras.{is_same, is_r10, slot_of, kind_of, copied, frame_slot, own_kind, kept_kind, free_slot, stored, stored_constant, restored, taken, moved_by, made, put_by}
+use Rattle.bpf_follows.specs.Guards.{passes, passed_by}
+use Rattle.bpf_follows.specs.Sequence.{written, extra, extra_at, behind, most_extras, extras}
 use Rattle.bpf_follows.proofs.Lists.{bind, unmapped, cond_first, cond_second, as_long, Cells}
 use Rattle.bpf_follows.proofs.Owns.{Owns, top_stack}
+use Rattle.bpf_follows.proofs.Has.{machine_there}
 use Rattle.bpf_follows.proofs.Offsets.{wrapped_fits}
 use Rattle.bpf_follows.proofs.Slots.{register_below, free_unset, slot_as, load_holds, with_value, store_whole, value_put, value_other, own_read, room, whole_room}
 use Rattle.bpf_follows.proofs.Between.{Between, same_depth, own_stack_of}
 use Rattle.bpf_follows.proofs.Near.{whole_slot_at}
 use Rattle.bpf_follows.proofs.Instruction.{both_true, same_kept}
-use Rattle.bpf_follows.proofs.Extra.{kind_set, Facts, free_is, copied_fits, Goes1, moves, writes, fits_at, put_goes, passes_goes, new_step}
+use Rattle.bpf_follows.proofs.Extra.{kind_set, Facts, free_is, copied_fits, Goes1, moves, writes, fits_at, put_goes, new_step}
+use Rattle.bpf_follows.proofs.Guard.{passes_goes}
 
 -- ---- values that are kept
 
 abbrev is_own : Kind → Bool
 is_own Base = true
-is_own (Moved of by) = true
-is_own (Address of by) = true
+is_own (Moved area of by) = true
+is_own (Address area of by) = true
 is_own (Saved of) = true
 is_own (Constant value) = true
 is_own (Counter head) = true
@@ -60,8 +65,8 @@ module _ (ends : Order) (turns : ℕ) (passed : ℕ → ℕ) (registers : ℕ �
       by_cases true eb = subst (λ q. IsOneValue (registers q) (Some v)) (eqb-true (register_number of) (register_number dst) eb) f
       by_cases false eb = f
   restored_fits dst x Base v e f = f
-  restored_fits dst x (Moved of by) v e f = f
-  restored_fits dst x (Address of by) v e f = f
+  restored_fits dst x (Moved area of by) v e f = f
+  restored_fits dst x (Address area of by) v e f = f
   restored_fits dst x (Constant value) v e f = f
   restored_fits dst x (Counter head) v e f = f
   restored_fits dst x (Turn head) v e f = f
@@ -69,8 +74,8 @@ module _ (ends : Order) (turns : ℕ) (passed : ℕ → ℕ) (registers : ℕ �
 
   own_value : (w : ℕ) (kind : Kind) (v : Value) → ((q : ℕ) → FitsMachine (registers q)) → is_own kind ≡ true → FitsKind turns passed registers w kind (Some v) → FitsMachine (Some v)
   own_value w Base v machine e f = subst FitsMachine (sym f) (record { sfits = omega arith })
-  own_value w (Moved of by) v machine e f = subst FitsMachine (sym f.new_is) (modulo_below (f.offset +ℤ by))
-  own_value w (Address of by) v machine e f = subst FitsMachine (sym f.new_is) (wrapped_fits (f.offset +ℤ by))
+  own_value w (Moved area of by) v machine e f = subst FitsMachine (sym f.new_is) (modulo_below (f.offset +ℤ (origin area +ℤ by)))
+  own_value w (Address area of by) v machine e f = subst FitsMachine (sym f.new_is) (machine_there f.region f.offset _ (subst FitsMachine f.old_is (machine (register_number of))) (wrapped_fits (f.offset +ℤ (origin area +ℤ by))))
   own_value w (Saved of) v machine e f = subst FitsMachine (f.old_is ∙ sym f.new_is) (machine (register_number of))
   own_value w (Constant value) v machine e f = subst FitsMachine (sym f) (modulo_below value)
   own_value w (Counter head) v machine e f = subst FitsMachine (sym f.2) f.1
@@ -79,8 +84,8 @@ module _ (ends : Order) (turns : ℕ) (passed : ℕ → ℕ) (registers : ℕ �
 
   own_slot : (xs ys : Cells) (k : ℕ) (kind : Kind) (v : Value) → is_own kind ≡ true → IsUnset xs k → Holds ends ys k v → FitsKind turns passed registers (11 + k) kind (Some v) → FitsSlot ends turns passed registers xs ys k kind
   own_slot xs ys k Base v e u h f = record { unset = u; value = v; holds = h; fits = f }
-  own_slot xs ys k (Moved of by) v e u h f = record { unset = u; value = v; holds = h; fits = f }
-  own_slot xs ys k (Address of by) v e u h f = record { unset = u; value = v; holds = h; fits = f }
+  own_slot xs ys k (Moved area of by) v e u h f = record { unset = u; value = v; holds = h; fits = f }
+  own_slot xs ys k (Address area of by) v e u h f = record { unset = u; value = v; holds = h; fits = f }
   own_slot xs ys k (Saved of) v e u h f = record { unset = u; value = v; holds = h; fits = f }
   own_slot xs ys k (Constant value) v e u h f = record { unset = u; value = v; holds = h; fits = f }
   own_slot xs ys k (Counter head) v e u h f = record { unset = u; value = v; holds = h; fits = f }
@@ -96,8 +101,8 @@ module _ (ends : Order) (turns : ℕ) (passed : ℕ → ℕ) (registers : ℕ �
 
   slot_has : (xs ys : Cells) (k : ℕ) (kind made : Kind) → own_kind kind ≡ Some made → FitsSlot ends turns passed registers xs ys k kind → Has ys k made
   slot_has xs ys k Base made e f = subst (Has ys k) (same_Some _ _ e) (record { value = f.value; holds = f.holds; fits = f.fits; own = refl })
-  slot_has xs ys k (Moved of by) made e f = subst (Has ys k) (same_Some _ _ e) (record { value = f.value; holds = f.holds; fits = f.fits; own = refl })
-  slot_has xs ys k (Address of by) made e f = subst (Has ys k) (same_Some _ _ e) (record { value = f.value; holds = f.holds; fits = f.fits; own = refl })
+  slot_has xs ys k (Moved area of by) made e f = subst (Has ys k) (same_Some _ _ e) (record { value = f.value; holds = f.holds; fits = f.fits; own = refl })
+  slot_has xs ys k (Address area of by) made e f = subst (Has ys k) (same_Some _ _ e) (record { value = f.value; holds = f.holds; fits = f.fits; own = refl })
   slot_has xs ys k (Saved of) made e f = subst (Has ys k) (same_Some _ _ e) (record { value = f.value; holds = f.holds; fits = f.fits; own = refl })
   slot_has xs ys k (Constant value) made e f = subst (Has ys k) (same_Some _ _ e) (record { value = f.value; holds = f.holds; fits = f.fits; own = refl })
   slot_has xs ys k (Counter head) made e f = subst (Has ys k) (same_Some _ _ e) (record { value = f.value; holds = f.holds; fits = f.fits; own = refl })
@@ -114,11 +119,11 @@ module _ (ends : Order) (turns : ℕ) (passed : ℕ → ℕ) (registers : ℕ �
   copied_own : (r : Reg) (kind made : Kind) → copied r kind ≡ Some made → is_own made ≡ true
   copied_own r Start made e = subst (λ made. is_own made ≡ true) (same_Some _ _ e) refl
   copied_own r Base made e = subst (λ made. is_own made ≡ true) (same_Some _ _ e) refl
-  copied_own r Offset made e = subst (λ made. is_own made ≡ true) (same_Some _ _ e) refl
-  copied_own r (Fixed offset) made e = subst (λ made. is_own made ≡ true) (same_Some _ _ e) refl
-  copied_own r (Within least most) made e = subst (λ made. is_own made ≡ true) (same_Some _ _ e) refl
-  copied_own r (Moved of by) made e = subst (λ made. is_own made ≡ true) (same_Some _ _ e) refl
-  copied_own r (Address of by) made e = subst (λ made. is_own made ≡ true) (same_Some _ _ e) refl
+  copied_own r (Offset area) made e = subst (λ made. is_own made ≡ true) (same_Some _ _ e) refl
+  copied_own r (Fixed area at) made e = subst (λ made. is_own made ≡ true) (same_Some _ _ e) refl
+  copied_own r (Within area least most) made e = subst (λ made. is_own made ≡ true) (same_Some _ _ e) refl
+  copied_own r (Moved area of by) made e = subst (λ made. is_own made ≡ true) (same_Some _ _ e) refl
+  copied_own r (Address area of by) made e = subst (λ made. is_own made ≡ true) (same_Some _ _ e) refl
   copied_own r (Constant value) made e = subst (λ made. is_own made ≡ true) (same_Some _ _ e) refl
   copied_own r kind made e = absurd (none-some _ e)
 
@@ -126,6 +131,7 @@ module _ (ends : Order) (turns : ℕ) (passed : ℕ → ℕ) (registers : ℕ �
   register_put w r (Counter head) made new e f = subst (λ made. Put made new w) (same_Some _ _ e) (record { value = Number f.0; is = f.2; fits = (f.0, f.1, refl, f.3); own = refl })
   register_put w r (Turn head) made new e f = subst (λ made. Put made new w) (same_Some _ _ e) (record { value = Number f.0; is = f.2; fits = (f.0, f.1, refl, f.3); own = refl })
   register_put w r Both made new e f = subst (λ made. Put made new w) (same_Some _ _ e) (record { value = f.value; is = f.new_is; fits = record { value = f.value; old_is = f.old_is; new_is = refl }; own = refl })
+  register_put w r Natural made new e f = subst (λ made. Put made new w) (same_Some _ _ e) (record { value = Number f.number; is = f.new_is; fits = record { value = Number f.number; old_is = f.old_is; new_is = refl }; own = refl })
   register_put w r kind made new e f =
       let h = copied_fits turns passed registers w r kind made new e f in
       record { value = h.value; is = h.is; fits = h.fits; own = copied_own r kind made e }

@@ -1,9 +1,9 @@
 -- Numbers of which bounds are known: what an operation makes of them, and what a test tells.
 use Rattle.std.proofs.Common.{◌≡◌, ℕ, ◌+◌, ◌-◌, ◌^◌, ◌<◌, ◌≤◌, ◌==◌, Bool, true, false, cond, List, Option, Some, None, refl, sym, ap, ap₂, ◌∙◌, subst, arith}
-use Rattle.std.specs.Prelude.{nat_lt, ℤ, option_and_then, option_map, if◌then◌else◌}
+use Rattle.std.specs.Prelude.{nat_le, nat_lt, ℤ, option_and_then, option_map, if◌then◌else◌}
 use Rattle.std.specs.Option.{option_map_or}
 use Rattle.std.proofs.lemmas.Option.{none-some, same_Some, option_and_then_some}
-use Rattle.std.proofs.lemmas.Bool.{false≢true, eqb-true, ne_eqb}
+use Rattle.std.proofs.lemmas.Bool.{false≢true, eqb-true, ne_eqb, leb-true}
 use Rattle.bpf_insn.specs.Arithmetic.{alu, extended, jumps}
 use Rattle.bpf_insn.specs.Instruction.{register_number, byte_count}
 use Rattle.bpf_insn.specs.declared.order.Order.{Order}
@@ -42,12 +42,13 @@ use Rattle.bpf_num.proofs.TightenLaws.{unsigned_meet_keeps, tighten_keeps}
 use Rattle.bpf_num.proofs.NumberLaws.{num_alu_keeps}
 use Rattle.bpf_num.proofs.RefineLaws.{refine_keeps}
 use Rattle.bpf_follows.specs.declared.notes.Kind.{Kind}
-use Rattle.bpf_follows.specs.declared.notes.Kind.TheVariants.{Same, Number, Both}
+use Rattle.bpf_follows.specs.declared.notes.Kind.TheVariants.{Same, Number, Natural, Both}
 use Rattle.bpf_follows.specs.declared.notes.Place.{Place}
-use Rattle.bpf_follows.specs.Relation.{Kinds, FitsKind, FitsSlot, register_in, is_of_other}
+use Rattle.bpf_follows.specs.Relation.{Kinds, FitsKind, FitsSlot, register_in, most_natural}
 use Rattle.bpf_follows.specs.Numbers.{bounded, number_of, bounds_of, is_numeric, read_number, operand_number, left_number, alu_number, loaded_number, number_kind, told_by, is_operand, told}
 use Rattle.bpf_follows.proofs.Lists.{unmapped, same_is_kept}
 use Rattle.bpf_follows.proofs.Slots.{register_below}
+use Rattle.bpf_follows.proofs.Frames.{is_of_register, holding}
 use Rattle.bpf_follows.proofs.Between.{Between}
 use Rattle.bpf_follows.proofs.Bytes.{loaded_below}
 
@@ -80,11 +81,15 @@ member_of o n x old new h e eo en =
 
 -- what is told of a member
 bounds_known : (turns : ℕ) (passed : ℕ → ℕ) (old : ℕ → Option Value) (r : ℕ) (kind : Kind) (n : Num) (new : Option Value) (x : ℕ) → Has n x → old r ≡ Some (ANumber x) → new ≡ Some (ANumber x) → FitsKind turns passed old r kind new → FitsKind turns passed old r (bounds_of kind n) new
-bounds_known turns passed old r kind n new x has eo en f = by_cases (nat_lt n.unsigned.hi (2 ^ 32))
+bounds_known turns passed old r kind n new x has eo en f = by_cases (nat_lt n.unsigned.hi (2 ^ 32)) (nat_le n.unsigned.hi most_natural) (leb-true n.unsigned.hi most_natural)
   where
-    by_cases : (b : Bool) → FitsKind turns passed old r (if b then Number n.unsigned.lo n.unsigned.hi else kind) new
-    by_cases true = record { number = x; low = has.unsigned.above; high = has.unsigned.below; old_is = eo; new_is = en }
-    by_cases false = f
+    by_cases : (b c : Bool) → (c ≡ true → n.unsigned.hi ≤ most_natural) → FitsKind turns passed old r (if b then Number n.unsigned.lo n.unsigned.hi else if c then Natural else kind) new
+    by_cases true c small = record { number = x; low = has.unsigned.above; high = has.unsigned.below; old_is = eo; new_is = en }
+    by_cases false true small =
+        let high = small refl in
+        let below = has.unsigned.below in
+        record { number = x; low = omega arith; high = omega arith; old_is = eo; new_is = en }
+    by_cases false false small = f
 
 -- ---- operands that are numbers
 
@@ -125,12 +130,14 @@ module _ (ends : Order) (notes : List (Option Place)) (turns : ℕ) (passed : �
   -- a register that surely holds a number
   number_is : (kind : Kind) (n : Num) (s : State) (r : Reg) (new : Option Value) → IsState s → FitsKind turns passed (register_in s.top) (register_number r) kind new → number_of kind ≡ Some n → IsMember n (register s r) new
   number_is (Number least most) n s r new state f e = member_of (bounded least most) n f.number (register s r) new (bounded_holds least most f.number (small s r f.number state f.old_is) f.low f.high) e f.old_is f.new_is
+  number_is Natural n s r new state f e = member_of (bounded 0 most_natural) n f.number (register s r) new (bounded_holds 0 most_natural f.number (small s r f.number state f.old_is) f.low f.high) e f.old_is f.new_is
   number_is kind n s r new state f e = absurd (none-some _ e)
 
   -- one that an operation reads
   read_is : (numeric : Bool) (kind : Kind) (n : Num) (s : State) (r : Reg) (v : Value) (new : Option Value) → IsState s → FitsKind turns passed (register_in s.top) (register_number r) kind new → register s r ≡ Some v → (numeric ≡ true → IsNumeral v)
       → read_number numeric kind ≡ Some n → IsMember n (register s r) new
   read_is numeric (Number least most) n s r v new state f ev number e = member_of (bounded least most) n f.number (register s r) new (bounded_holds least most f.number (small s r f.number state f.old_is) f.low f.high) e f.old_is f.new_is
+  read_is numeric Natural n s r v new state f ev number e = member_of (bounded 0 most_natural) n f.number (register s r) new (bounded_holds 0 most_natural f.number (small s r f.number state f.old_is) f.low f.high) e f.old_is f.new_is
   read_is true Same n s r v new state f ev number e =
       let x = number refl in
       let old_is : register s r ≡ Some (ANumber x.0) = ev ∙ ap Some x.1 in
@@ -192,44 +199,45 @@ module _ (ends : Order) (notes : List (Option Place)) (turns : ℕ) (passed : �
       by_left width op dst kinds s t nb na n m.value v state h ena m.valid m.has (subst (λ b. alu_result width op (register s dst) b ≡ Some v) is ev) e2))
 
   -- what is written fits the kind
-  pub alu_known : (width : Width) (op : AluOp) (dst : Reg) (src : Operand) (kinds : Kinds) (s t : State) (b v : Value) → IsState s → Between ends notes turns passed kinds s t → operand s src ≡ Some b → alu_result width op (register s dst) b ≡ Some v
-      → FitsKind turns passed (λ q. Some v) 0 (number_kind kinds (Alu op width dst src)) (Some v)
-  alu_known width op dst src kinds s t b v state h eb ev = by_number (alu_number kinds op width dst src) refl
+  pub alu_known : (own : Option Value) (width : Width) (op : AluOp) (dst : Reg) (src : Operand) (kinds : Kinds) (s t : State) (b v : Value) → IsState s → Between ends notes turns passed kinds s t → operand s src ≡ Some b → alu_result width op (register s dst) b ≡ Some v
+      → FitsKind turns passed (holding own v) 0 (number_kind kinds (Alu op width dst src)) (Some v)
+  alu_known own width op dst src kinds s t b v state h eb ev = by_number (alu_number kinds op width dst src) refl
     where
-      by_number : (o : Option Num) → alu_number kinds op width dst src ≡ o → FitsKind turns passed (λ q. Some v) 0 (option_map_or (bounds_of Both) o Both) (Some v)
+      by_number : (o : Option Num) → alu_number kinds op width dst src ≡ o → FitsKind turns passed (holding own v) 0 (option_map_or (bounds_of Both) o Both) (Some v)
       by_number None eo = record { value = v; old_is = refl; new_is = refl }
       by_number (Some n) eo =
           let g = alu_gives width op dst src kinds s t b v n state h eb ev eo in
-          bounds_known turns passed (λ q. Some v) 0 Both n (Some v) g.value g.has (ap Some g.is) (ap Some g.is) (record { value = v; old_is = refl; new_is = refl })
+          bounds_known turns passed (holding own v) 0 Both n (Some v) g.value g.has (ap Some g.is) (ap Some g.is) (record { value = v; old_is = refl; new_is = refl })
 
-  own_bounds : (b : Bool) (least most : ℕ) → is_of_other (if b then Number least most else Both) ≡ false
-  own_bounds true least most = refl
-  own_bounds false least most = refl
+  own_bounds : (b c : Bool) (least most : ℕ) → is_of_register (if b then Number least most else if c then Natural else Both) ≡ false
+  own_bounds true c least most = refl
+  own_bounds false true least most = refl
+  own_bounds false false least most = refl
 
-  pub alu_own : (width : Width) (op : AluOp) (dst : Reg) (src : Operand) (kinds : Kinds) → is_of_other (number_kind kinds (Alu op width dst src)) ≡ false
+  pub alu_own : (width : Width) (op : AluOp) (dst : Reg) (src : Operand) (kinds : Kinds) → is_of_register (number_kind kinds (Alu op width dst src)) ≡ false
   alu_own width op dst src kinds = by_number (alu_number kinds op width dst src)
     where
-      by_number : (o : Option Num) → is_of_other (option_map_or (bounds_of Both) o Both) ≡ false
+      by_number : (o : Option Num) → is_of_register (option_map_or (bounds_of Both) o Both) ≡ false
       by_number None = refl
-      by_number (Some n) = own_bounds (nat_lt n.unsigned.hi (2 ^ 32)) n.unsigned.lo n.unsigned.hi
+      by_number (Some n) = own_bounds (nat_lt n.unsigned.hi (2 ^ 32)) (nat_le n.unsigned.hi most_natural) n.unsigned.lo n.unsigned.hi
 
-  pub load_own : (size : Size) → is_of_other (loaded_number size) ≡ false
+  pub load_own : (size : Size) → is_of_register (loaded_number size) ≡ false
   load_own B = refl
   load_own H = refl
   load_own W = refl
   load_own DW = refl
 
-  bytes_known : (order : Order) (s : State) (size : Size) (at : Location) (v : Value) → IsState s → option_map ANumber (number_at order s (byte_count size) at) ≡ Some v → FitsKind turns passed (λ q. Some v) 0 (Number 0 (256 ^ byte_count size - 1)) (Some v)
-  bytes_known order s size at v state e =
+  bytes_known : (own : Option Value) (order : Order) (s : State) (size : Size) (at : Location) (v : Value) → IsState s → option_map ANumber (number_at order s (byte_count size) at) ≡ Some v → FitsKind turns passed (holding own v) 0 (Number 0 (256 ^ byte_count size - 1)) (Some v)
+  bytes_known own order s size at v state e =
       let m = unmapped ANumber (number_at order s (byte_count size) at) v e in
       let below = loaded_below s state order size at m.0 m.1 in
       record { number = m.0; low = omega arith; high = omega arith; old_is = ap Some (sym m.2); new_is = ap Some (sym m.2) }
 
-  pub load_known : (order : Order) (s : State) (size : Size) (at : Location) (v : Value) → IsState s → load order s size at ≡ Some v → FitsKind turns passed (λ q. Some v) 0 (loaded_number size) (Some v)
-  load_known order s B at v state e = bytes_known order s B at v state e
-  load_known order s H at v state e = bytes_known order s H at v state e
-  load_known order s W at v state e = bytes_known order s W at v state e
-  load_known order s DW at v state e = same_is_kept (Some v)
+  pub load_known : (own : Option Value) (order : Order) (s : State) (size : Size) (at : Location) (v : Value) → IsState s → load order s size at ≡ Some v → FitsKind turns passed (holding own v) 0 (loaded_number size) (Some v)
+  load_known own order s B at v state e = bytes_known own order s B at v state e
+  load_known own order s H at v state e = bytes_known own order s H at v state e
+  load_known own order s W at v state e = bytes_known own order s W at v state e
+  load_known own order s DW at v state e = same_is_kept (Some v)
 
   -- ---- tests
 

@@ -13,9 +13,9 @@ use Rattle.bpf_insn.specs.declared.instruction.Reg.{Reg}
 use Rattle.bpf_insn.specs.declared.instruction.Reg.TheVariants.{R0}
 use Rattle.bpf_insn.specs.declared.instruction.Insn.{Insn}
 use Rattle.bpf_insn.specs.declared.instruction.Insn.TheVariants.{Alu, CallLocal, Exit}
-use Rattle.bpf_insn.specs.declared.instruction.Operand.TheVariants.{Reg as FromReg}
+use Rattle.bpf_insn.specs.declared.instruction.Operand.TheVariants.{Imm, Reg as FromReg}
 use Rattle.bpf_insn.specs.declared.instruction.Width.TheVariants.{W64}
-use Rattle.bpf_insn.specs.declared.instruction.AluOp.TheVariants.{Add}
+use Rattle.bpf_insn.specs.declared.instruction.AluOp.TheVariants.{Add, Mov}
 use Rattle.bpf_semantics.specs.State.{StackFrame, State, IsFrame, IsState, FitsMachine, start, register, number_of_register, with_register, put, at_slot, empty_stack}
 use Rattle.bpf_semantics.specs.declared.value.Value.{Value}
 use Rattle.bpf_semantics.specs.declared.value.Value.TheVariants.{Number, Pointer}
@@ -24,18 +24,21 @@ use Rattle.bpf_semantics.specs.Step.{does, next, alu_result, wrapped, entered, S
 use Rattle.bpf_semantics.specs.Run.{Steps}
 use Rattle.bpf_semantics.specs.MachineLaws.{StepsAreComputed, StepKeepsContext, RunsKeepStates}
 use Rattle.bpf_follows.specs.declared.notes.Bounds.{Bounds}
+use Rattle.bpf_follows.specs.declared.notes.Area.TheVariants.{Own}
 use Rattle.bpf_follows.specs.declared.notes.Kind.{Kind}
-use Rattle.bpf_follows.specs.declared.notes.Kind.TheVariants.{Nothing, Unset}
+use Rattle.bpf_follows.specs.declared.notes.Kind.TheVariants.{Nothing, Unset, Fixed}
 use Rattle.bpf_follows.specs.declared.site.Span.{Span}
 use Rattle.bpf_follows.specs.declared.site.Site.{Site}
 use Rattle.bpf_follows.specs.declared.notes.Place.{Place}
 use Rattle.bpf_follows.specs.Meaning.{visits, is_at}
-use Rattle.bpf_follows.specs.Relation.{Kinds, Gives, kind_in, kinds_of, known, EachPair, FitsKind, FitsSlot, FrameWaits, is_alone, Follows, register_in}
+use Rattle.bpf_follows.specs.Areas.{origin}
+use Rattle.bpf_follows.specs.Relation.{Kinds, Gives, kind_in, kinds_of, known, EachPair, FitsKind, FitsSlot, FrameWaits, is_alone, Follows, register_in, place_at, received}
 use Rattle.bpf_follows.specs.Ahead.{ahead, farthest_ahead, span_ahead, spans_ahead, span_behind}
 use Rattle.bpf_follows.specs.Numbers.{number_kind, told}
 use Rattle.bpf_follows.specs.Extras.{is_same}
 use Rattle.bpf_follows.specs.Exact.{by_exact, decided, may_fall, may_lead}
-use Rattle.bpf_follows.specs.Matching.{front_at, undirected, AreSame, rebased, by_offsets, by_kinds, result_kind, AllPlain, IsTame, Reads, widened, Pairs, IsLone, held, kinds_after, kinds_behind, kinds_beyond, kinds_called, listed, start_kinds, led, is_call, Arrives, Enters, Falls, Leads, Reaches, Stands, Matches}
+use Rattle.bpf_follows.specs.Returned.{led, is_call, called_back, GivesBack}
+use Rattle.bpf_follows.specs.Matching.{front_at, undirected, AreSame, rebased, by_offsets, by_kinds, result_kind, is_framed, written_kind, AllPlain, IsTame, Reads, widened, Pairs, IsLone, held, kinds_after, kinds_behind, kinds_beyond, kinds_called, listed, start_kinds, Arrives, Enters, Falls, Leads, Reaches, Stands, Matches, kinds_along}
 use Rattle.bpf_follows.specs.Laws.{MatchingKeepsMeaning}
 use Rattle.bpf_follows.proofs.Lists.{bind, unmapped, same_is_kept, pairs_same, cond_first, cond_second}
 use Rattle.bpf_follows.proofs.Onward.{room, placed, LieIn, Ends, Goes as GoesOn, Last, On, goes, exit_is, surely_in}
@@ -43,12 +46,17 @@ use Rattle.bpf_follows.proofs.Owns.{Owns, own_does, own_start, own_step}
 use Rattle.bpf_follows.proofs.Slots.{register_below, all_read, nothing_there, as_many}
 use Rattle.bpf_follows.proofs.Between.{Between, Goes}
 use Rattle.bpf_follows.proofs.Instruction.{redirect, distance_of, moved_is, is_flow, Arrived, same_arrives, number_same, fits_given, FallArrives, JumpArrives}
-use Rattle.bpf_follows.proofs.OffsetInsn.{offsets_arrive, by_address, is_load}
+use Rattle.bpf_follows.proofs.OffsetInsn.{framed_arrives}
+use Rattle.bpf_follows.proofs.Spills.{offsets_arrive}
+use Rattle.bpf_follows.proofs.Bases.{by_address, goes_on_plainly}
 use Rattle.bpf_follows.proofs.ExactInsn.{exact_arrives, decided_arrives}
 use Rattle.bpf_follows.proofs.Wide.{narrow, widened_arrives}
 use Rattle.bpf_follows.proofs.Calls.{unset_called, call_kept, exit_kept}
-use Rattle.bpf_follows.proofs.Extra.{InFront, SumLies, between_more, counted, own_counted, settles}
+use Rattle.bpf_follows.proofs.Extra.{InFront, SumLies}
+use Rattle.bpf_follows.proofs.Turns.{between_more, counted, own_counted, settles}
 use Rattle.bpf_follows.proofs.Kept.{Sound, extras_go}
+use Rattle.bpf_follows.proofs.Awaits.{Takes, Awaited, Onward, awaited_does}
+use Rattle.bpf_follows.proofs.GivenBack.{own_called, onward}
 
 -- ---- runs
 
@@ -146,7 +154,8 @@ module _ (computed : StepsAreComputed) (keeps : StepKeepsContext) (states : Runs
 
   -- from the instruction itself, which stands at the slot
   module _ (passed : ℕ → ℕ) (site : Site) (s t u : State) (state : IsState s) (after : IsState u) (o : Owns s) (b : Between old.order notes bounds.turns passed (known site.slot site.kinds) s t) (old_at : s.top.slot ≡ site.slot) (at : t.top.slot ≡ site.new_slot)
-      (stands : insn_at new.list site.new_slot ≡ Some site.moved) (falls : Falls notes bounds.turns site) (leads : Leads notes new bounds.turns site) (lone : IsLone (is_alone notes) (known site.slot site.kinds) site.insn) where
+      (stands : insn_at new.list site.new_slot ≡ Some site.moved) (falls : Falls notes bounds.turns site) (leads : Leads notes new bounds.turns site) (lone : IsLone (is_alone notes) (known site.slot site.kinds) site.insn)
+      (place : Place) (noted : place_at notes s.top.slot ≡ Some place) (back : GivesBack notes bounds.turns place site) (awaited : Awaited (Takes notes bounds.turns) s) where
     kinds : Kinds
     kinds = known site.slot site.kinds
 
@@ -154,39 +163,44 @@ module _ (computed : StepsAreComputed) (keeps : StepKeepsContext) (states : Runs
     unfolding step_of
     steps_by j e = sym (bind (λ i. does new.order i t) (insn_at new.list t.top.slot) j _ (ap (insn_at new.list) at ∙ stands ∙ ap Some e) (ap (λ order. does order j t) matches.order_is))
 
-    falls_beyond : may_fall (known site.slot site.kinds) site.insn ≡ true → goes_on site.insn ≡ true → Arrives notes bounds.turns (s.top.slot + slot_count site.insn) (t.top.slot + slot_count site.insn) (kinds_beyond (is_alone notes) false site.insn (known site.slot site.kinds))
+    falls_beyond : may_fall (known site.slot site.kinds) site.insn ≡ true → goes_on site.insn ≡ true → Arrives notes bounds.turns (s.top.slot + slot_count site.insn) (t.top.slot + slot_count site.insn) (kinds_along notes site.slot false site.insn site.moved (known site.slot site.kinds))
     falls_beyond may on =
-        subst (λ x. Arrives notes bounds.turns (x + slot_count site.insn) (t.top.slot + slot_count site.insn) (kinds_beyond (is_alone notes) false site.insn (known site.slot site.kinds))) (sym old_at)
-        (subst (λ y. Arrives notes bounds.turns (site.slot + slot_count site.insn) (y + slot_count site.insn) (kinds_beyond (is_alone notes) false site.insn (known site.slot site.kinds))) (sym at) (falls on may))
+        subst (λ x. Arrives notes bounds.turns (x + slot_count site.insn) (t.top.slot + slot_count site.insn) (kinds_along notes site.slot false site.insn site.moved (known site.slot site.kinds))) (sym old_at)
+        (subst (λ y. Arrives notes bounds.turns (site.slot + slot_count site.insn) (y + slot_count site.insn) (kinds_along notes site.slot false site.insn site.moved (known site.slot site.kinds))) (sym at) (falls on may))
 
     -- an instruction that isn't a call leaves what it leaves, whatever frames there are
-    arrives_behind : (taken : Bool) (x y : ℕ) (made : Kind) → result_kind (known site.slot site.kinds) site.insn ≡ made → is_call site.insn ≡ false → Arrives notes bounds.turns x y (kinds_beyond (is_alone notes) taken site.insn (known site.slot site.kinds))
+    arrives_behind : (taken : Bool) (x y : ℕ) (made : Kind) → written_kind (known site.slot site.kinds) site.insn site.moved ≡ made → is_call site.insn ≡ false → Arrives notes bounds.turns x y (kinds_along notes site.slot taken site.insn site.moved (known site.slot site.kinds))
         → Arrives notes bounds.turns x y (kinds_after site.insn made (told taken site.insn (known site.slot site.kinds)))
     arrives_behind taken x y made e no_call a = record { place = a.place; noted = a.noted; slot_is = a.slot_is; gives = λ r lt. subst (λ have. Gives bounds.turns r have (kinds_of a.place r)) (same r) (a.gives r lt) }
       where
-        same : (r : ℕ) → kinds_beyond (is_alone notes) taken site.insn (known site.slot site.kinds) r ≡ kinds_after site.insn made (told taken site.insn (known site.slot site.kinds)) r
+        same : (r : ℕ) → kinds_along notes site.slot taken site.insn site.moved (known site.slot site.kinds) r ≡ kinds_after site.insn made (told taken site.insn (known site.slot site.kinds)) r
         same r =
-            ap (λ c. if c && (is_alone notes && nat_le 11 r) then held site.insn (known site.slot site.kinds r) else kinds_behind taken site.insn (known site.slot site.kinds) r) no_call
+            ap (λ c. if c then received (called_back notes site.slot site.insn) (kinds_beyond (is_alone notes) taken site.insn site.moved (known site.slot site.kinds)) r else kinds_beyond (is_alone notes) taken site.insn site.moved (known site.slot site.kinds) r) no_call
+            ∙ ap (λ c. if c && (is_alone notes && nat_le 11 r) then held site.insn (known site.slot site.kinds r) else kinds_behind taken site.insn site.moved (known site.slot site.kinds) r) no_call
             ∙ ap (λ made. kinds_after site.insn made (told taken site.insn (known site.slot site.kinds)) r) e
 
-    falls_at : (made : Kind) → result_kind (known site.slot site.kinds) site.insn ≡ made → is_call site.insn ≡ false → may_fall (known site.slot site.kinds) site.insn ≡ true → FallArrives old.order notes bounds.turns passed site.insn made (known site.slot site.kinds) s.top.slot t.top.slot
+    falls_at : (made : Kind) → written_kind (known site.slot site.kinds) site.insn site.moved ≡ made → is_call site.insn ≡ false → may_fall (known site.slot site.kinds) site.insn ≡ true → FallArrives old.order notes bounds.turns passed site.insn made (known site.slot site.kinds) s.top.slot t.top.slot
     falls_at made e no_call may on = arrives_behind false _ _ made e no_call (falls_beyond may on)
 
     led_at : (j : Insn) (to : ℕ) → site.moved ≡ j → led site.new_slot site.moved ≡ Some to → led t.top.slot j ≡ Some to
     led_at j to ej e = ap (λ y. led y j) at ∙ ap (λ j. led site.new_slot j) (sym ej) ∙ e
 
-    jumps_at : (j : Insn) (made : Kind) → site.moved ≡ j → result_kind (known site.slot site.kinds) site.insn ≡ made → is_call site.insn ≡ false → may_lead (known site.slot site.kinds) site.insn ≡ true → JumpArrives old.order notes bounds.turns passed site.insn j made (known site.slot site.kinds) s.top.slot t.top.slot
+    jumps_at : (j : Insn) (made : Kind) → site.moved ≡ j → written_kind (known site.slot site.kinds) site.insn site.moved ≡ made → is_call site.insn ≡ false → may_lead (known site.slot site.kinds) site.insn ≡ true → JumpArrives old.order notes bounds.turns passed site.insn j made (known site.slot site.kinds) s.top.slot t.top.slot
     jumps_at j made ej e no_call may to et =
         let a = leads to (ap (λ x. led x site.insn) (sym old_at) ∙ et) may in
-        (a.0, led_at j a.0 ej a.1, arrives_behind true to a.0 made e no_call (subst (λ c. Reaches c notes new bounds.turns to a.0 site.insn (known site.slot site.kinds)) no_call a.2))
+        (a.0, led_at j a.0 ej a.1, arrives_behind true to a.0 made e no_call (subst (λ c. Reaches c notes new bounds.turns to a.0 site.slot site.insn site.moved (known site.slot site.kinds)) no_call a.2))
 
     no_call : (i : Insn) → is_flow i ≡ false → is_call i ≡ false
     no_call (CallLocal off) e = absurd (false≢true (sym e))
     no_call i e = refl
 
+    -- the end of the frame aside it leaves what it leaves by the kinds
+    written_is : is_framed site.insn site.moved ≡ false → (made : Kind) → result_kind (known site.slot site.kinds) site.insn ≡ made → written_kind (known site.slot site.kinds) site.insn site.moved ≡ made
+    written_is plain made e = ap (λ c. if c then Fixed Own (origin Own) else result_kind (known site.slot site.kinds) site.insn) plain ∙ e
+
     -- the same instruction
-    plain_does : (undirected site.moved ≡ undirected site.insn) → Reads (known site.slot site.kinds) site.insn → is_flow site.insn ≡ false → does old.order site.insn s ≡ Some u → Caught passed u t
-    plain_does alike reads flow e = by_way (decided (known site.slot site.kinds) site.insn) refl
+    plain_does : is_framed site.insn site.moved ≡ false → (undirected site.moved ≡ undirected site.insn) → Reads (known site.slot site.kinds) site.insn → is_flow site.insn ≡ false → does old.order site.insn s ≡ Some u → Caught passed u t
+    plain_does plain alike reads flow e = by_way (decided (known site.slot site.kinds) site.insn) refl
       where
         z : ℤ
         z = distance_of site.moved
@@ -205,14 +219,14 @@ module _ (computed : StepsAreComputed) (keeps : StepKeepsContext) (states : Runs
         by_result (Some made) eo r fall lead =
             let made_is : result_kind (known site.slot site.kinds) site.insn ≡ made = ap (λ o. option_map_or (λ (kind : Kind). kind) o (number_kind (known site.slot site.kinds) site.insn)) eo in
             caught passed t u (does old.order (redirect site.insn (distance_of site.moved)) t) (steps_by (redirect site.insn (distance_of site.moved)) is)
-            (by_some made (by_exact (known site.slot site.kinds) site.insn) refl eo (falls_at made made_is (no_call site.insn flow) fall)
-            (jumps_at (redirect site.insn (distance_of site.moved)) made is made_is (no_call site.insn flow) lead))
+            (by_some made (by_exact (known site.slot site.kinds) site.insn) refl eo (falls_at made (written_is plain made made_is) (no_call site.insn flow) fall)
+            (jumps_at (redirect site.insn (distance_of site.moved)) made is (written_is plain made made_is) (no_call site.insn flow) lead))
         by_result None eo (inl some) fall lead = absurd (false≢true some)
         by_result None eo (inr same) fall lead =
             let made_is : result_kind (known site.slot site.kinds) site.insn ≡ number_kind (known site.slot site.kinds) site.insn = ap (λ o. option_map_or (λ (kind : Kind). kind) o (number_kind (known site.slot site.kinds) site.insn)) eo in
             caught passed t u (does old.order (redirect site.insn (distance_of site.moved)) t) (steps_by (redirect site.insn (distance_of site.moved)) is)
-            (same_arrives old.order notes bounds.turns passed old.order site.insn (distance_of site.moved) (known site.slot site.kinds) s t u state b o same.0 (record { far = λ f. (same.1.far f, lone.far f); near = same.1.near }) flow (falls_at (number_kind (known site.slot site.kinds) site.insn) made_is (no_call site.insn flow) fall)
-            (jumps_at (redirect site.insn (distance_of site.moved)) (number_kind (known site.slot site.kinds) site.insn) is made_is (no_call site.insn flow) lead) e)
+            (same_arrives old.order notes bounds.turns passed old.order site.insn (distance_of site.moved) (known site.slot site.kinds) s t u state b o same.0 (record { far = λ f. (same.1.far f, lone.far f); near = same.1.near }) flow (falls_at (number_kind (known site.slot site.kinds) site.insn) (written_is plain _ made_is) (no_call site.insn flow) fall)
+            (jumps_at (redirect site.insn (distance_of site.moved)) (number_kind (known site.slot site.kinds) site.insn) is (written_is plain _ made_is) (no_call site.insn flow) lead) e)
 
         by_way : (o : Option Bool) → decided (known site.slot site.kinds) site.insn ≡ o → Caught passed u t
         by_way None ed = by_result (by_kinds (known site.slot site.kinds) site.insn) refl reads (ap (λ o. option_map_or not o true) ed) (ap (λ o. option_map_or (λ (taken : Bool). taken) o true) ed)
@@ -220,8 +234,8 @@ module _ (computed : StepsAreComputed) (keeps : StepKeepsContext) (states : Runs
             let kinds : Kinds = known site.slot site.kinds in
             caught passed t u (does old.order (redirect site.insn (distance_of site.moved)) t) (steps_by (redirect site.insn (distance_of site.moved)) is)
             (decided_arrives old.order notes bounds.turns passed old.order site.insn (distance_of site.moved) (result_kind (known site.slot site.kinds) site.insn) (known site.slot site.kinds) s t u way state b ed
-            (λ no. falls_at (result_kind (known site.slot site.kinds) site.insn) refl (no_call site.insn flow) (ap (λ o. option_map_or not o true) (ed ∙ ap Some no)))
-            (λ yes. jumps_at (redirect site.insn (distance_of site.moved)) (result_kind (known site.slot site.kinds) site.insn) is refl (no_call site.insn flow) (ap (λ o. option_map_or (λ (taken : Bool). taken) o true) (ed ∙ ap Some yes))) e)
+            (λ no. falls_at (result_kind (known site.slot site.kinds) site.insn) (written_is plain _ refl) (no_call site.insn flow) (ap (λ o. option_map_or not o true) (ed ∙ ap Some no)))
+            (λ yes. jumps_at (redirect site.insn (distance_of site.moved)) (result_kind (known site.slot site.kinds) site.insn) is (written_is plain _ refl) (no_call site.insn flow) (ap (λ o. option_map_or (λ (taken : Bool). taken) o true) (ed ∙ ap Some yes))) e)
 
     call_does : (off : ℤ) → site.insn ≡ CallLocal off → (is_alone notes ≡ false → AllPlain (known site.slot site.kinds)) → (undirected site.moved ≡ undirected site.insn) → does old.order (CallLocal off) s ≡ Some u → Caught passed u t
     unfolding does
@@ -231,11 +245,11 @@ module _ (computed : StepsAreComputed) (keeps : StepKeepsContext) (states : Runs
         let room = cond_first _ (option_map (entered s) (target s.top.slot off)) u e in
         let to = unmapped (entered s) (target s.top.slot off) u room.1 in
         let a = leads to.0 (ap₂ (λ x i. led x i) (sym old_at) ei ∙ to.1) (ap (may_lead (known site.slot site.kinds)) ei) in
-        let enters : Enters notes new bounds.turns to.0 a.0 (listed (kinds_called (known site.slot site.kinds))) = subst (λ c. Reaches c notes new bounds.turns to.0 a.0 site.insn (known site.slot site.kinds)) (ap is_call ei) a.2 in
-        let falls_call : Arrives notes bounds.turns (s.top.slot + 1) (t.top.slot + 1) (kinds_beyond (is_alone notes) false (CallLocal off) (known site.slot site.kinds)) =
-        subst (λ i. goes_on i ≡ true → Arrives notes bounds.turns (s.top.slot + slot_count i) (t.top.slot + slot_count i) (kinds_beyond (is_alone notes) false i (known site.slot site.kinds))) ei (falls_beyond (ap (may_fall (known site.slot site.kinds)) ei)) refl in
+        let enters : Enters notes new bounds.turns to.0 a.0 (listed (kinds_called (known site.slot site.kinds))) = subst (λ c. Reaches c notes new bounds.turns to.0 a.0 site.slot site.insn site.moved (known site.slot site.kinds)) (ap is_call ei) a.2 in
+        let falls_call : Arrives notes bounds.turns (s.top.slot + 1) (t.top.slot + 1) (received (called_back notes site.slot (CallLocal off)) (kinds_beyond (is_alone notes) false (CallLocal off) site.moved (known site.slot site.kinds))) =
+        subst (λ i. goes_on i ≡ true → Arrives notes bounds.turns (s.top.slot + slot_count i) (t.top.slot + slot_count i) (kinds_along notes site.slot false i site.moved (known site.slot site.kinds))) ei (falls_beyond (ap (may_fall (known site.slot site.kinds)) ei)) refl in
         called passed (kinds_called (known site.slot site.kinds)) to.0 a.0 t u (does old.order (CallLocal z) t) (own_does old.order (CallLocal off) s u b.top.eleven_old o e, after.each_frame.0.values) (unset_called old.order notes bounds.turns passed (known site.slot site.kinds)) (steps_by (CallLocal z) is)
-        (call_kept old.order notes bounds.turns passed off z (known site.slot site.kinds) s t u to.0 a.0 b plain falls_call to.1 (led_at (CallLocal z) a.0 is a.1) e) enters
+        (call_kept old.order notes bounds.turns passed off z (called_back notes site.slot (CallLocal off)) site.moved (known site.slot site.kinds) s t u to.0 a.0 b plain (own_called notes site.slot (CallLocal off)) falls_call to.1 (led_at (CallLocal z) a.0 is a.1) e) enters
 
     exit_reads : Reads (known site.slot site.kinds) Exit → is_same (known site.slot site.kinds 0) ≡ true
     exit_reads (inl some) = absurd (false≢true some)
@@ -244,23 +258,43 @@ module _ (computed : StepsAreComputed) (keeps : StepKeepsContext) (states : Runs
     exit_moved : site.insn ≡ Exit → (undirected site.moved ≡ undirected site.insn) → site.moved ≡ Exit
     exit_moved ei alike = moved_is Exit site.moved (alike ∙ ap undirected ei)
 
-    alike_does : (i : Insn) → site.insn ≡ i → (undirected site.moved ≡ undirected site.insn) → Reads (known site.slot site.kinds) site.insn → does old.order i s ≡ Some u → Caught passed u t
-    alike_does (CallLocal off) ei alike reads e = call_does off ei (lone.calls (ap is_call ei)) alike e
-    alike_does Exit ei alike reads e = caught passed t u (does old.order Exit t) (steps_by Exit (exit_moved ei alike)) (exit_kept old.order notes bounds.turns passed old.order (known site.slot site.kinds) s t u b (exit_reads (subst (Reads (known site.slot site.kinds)) ei reads)) e)
-    alike_does i ei alike reads e = plain_does alike reads (ap is_flow ei) (ap (λ i. does old.order i s) ei ∙ e)
+    alike_does : is_framed site.insn site.moved ≡ false → (i : Insn) → site.insn ≡ i → (undirected site.moved ≡ undirected site.insn) → Reads (known site.slot site.kinds) site.insn → does old.order i s ≡ Some u → Caught passed u t
+    alike_does plain (CallLocal off) ei alike reads e = call_does off ei (lone.calls (ap is_call ei)) alike e
+    alike_does plain Exit ei alike reads e = caught passed t u (does old.order Exit t) (steps_by Exit (exit_moved ei alike)) (exit_kept old.order notes bounds.turns passed old.order (known site.slot site.kinds) place s t u b (exit_reads (subst (Reads (known site.slot site.kinds)) ei reads)) noted (back.ends ei) awaited e)
+    alike_does plain i ei alike reads e = plain_does plain alike reads (ap is_flow ei) (ap (λ i. does old.order i s) ei ∙ e)
 
-    from_body : length s.context < 2 ^ 32 → Pairs (known site.slot site.kinds) site.insn site.moved → does old.order site.insn s ≡ Some u → Caught passed u t
-    from_body short (inl (alike, reads)) e = alike_does site.insn refl alike reads e
-    from_body short (inr (inl a)) e =
+    -- the end of the own frame, and its offset
+    framed_goes : (i moved : Insn) → is_framed i moved ≡ true → (is_call i ≡ false) × (may_fall (known site.slot site.kinds) i ≡ true)
+    framed_goes (Alu Mov W64 dst (FromReg src)) (Alu Mov W64 to (Imm imm)) e = (refl, refl)
+    framed_goes i moved e = absurd (false≢true e)
+
+    framed_does : is_framed site.insn site.moved ≡ true → does old.order site.insn s ≡ Some u → Caught passed u t
+    framed_does framed e =
+        let h = framed_goes site.insn site.moved framed in
+        let made : written_kind (known site.slot site.kinds) site.insn site.moved ≡ Fixed Own (origin Own) = ap (λ c. if c then Fixed Own (origin Own) else result_kind (known site.slot site.kinds) site.insn) framed in
+        caught passed t u (does old.order site.moved t) (steps_by site.moved refl)
+        (framed_arrives old.order notes bounds.turns passed old.order site.insn site.moved (known site.slot site.kinds) s t u o b framed (falls_at (Fixed Own (origin Own)) made h.0 h.1) e)
+
+    pair_does : is_framed site.insn site.moved ≡ false → length s.context < 2 ^ 32 → Pairs (known site.slot site.kinds) site.insn site.moved → does old.order site.insn s ≡ Some u → Caught passed u t
+    pair_does plain short (inl (alike, reads)) e = alike_does plain site.insn refl alike reads e
+    pair_does plain short (inr (inl a)) e =
         let made : Kind = number_kind (known site.slot site.kinds) site.insn in
-        let h = is_load old.order notes bounds.turns passed site.insn site.moved (known site.slot site.kinds) a in
+        let h = goes_on_plainly old.order notes bounds.turns passed site.insn site.moved (known site.slot site.kinds) a in
         let made_is : result_kind (known site.slot site.kinds) site.insn ≡ number_kind (known site.slot site.kinds) site.insn = ap (λ o. option_map_or (λ (kind : Kind). kind) o (number_kind (known site.slot site.kinds) site.insn)) h.1.1 in
         caught passed t u (does old.order site.moved t) (steps_by site.moved refl)
-        (by_address old.order notes bounds.turns passed old.order site.insn site.moved (known site.slot site.kinds) s t u state b short a (falls_at made made_is (no_call site.insn h.0) h.1.0) e)
-    from_body short (inr (inr w)) e =
+        (by_address old.order notes bounds.turns passed old.order site.insn site.moved (known site.slot site.kinds) s t u state o b short lone.far a (falls_at made (written_is plain made made_is) (no_call site.insn h.0) h.1.0) e)
+    pair_does plain short (inr (inr (inl w))) e =
         let h = narrow old.order notes bounds.turns passed (known site.slot site.kinds) site.insn site.moved w in
         caught passed t u (does old.order site.moved t) (steps_by site.moved refl)
-        (widened_arrives old.order notes bounds.turns passed old.order site.insn site.moved (known site.slot site.kinds) s t u state b o w (falls_at (result_kind (known site.slot site.kinds) site.insn) refl (no_call site.insn h.0) h.1) e)
+        (widened_arrives old.order notes bounds.turns passed old.order site.insn site.moved (known site.slot site.kinds) s t u state b o w (falls_at (result_kind (known site.slot site.kinds) site.insn) (written_is plain _ refl) (no_call site.insn h.0) h.1) e)
+    pair_does plain short (inr (inr (inr framed))) e = absurd (false≢true (sym plain ∙ framed))
+
+    from_body : length s.context < 2 ^ 32 → Pairs (known site.slot site.kinds) site.insn site.moved → does old.order site.insn s ≡ Some u → Caught passed u t
+    from_body short pairs e = by_cases (is_framed site.insn site.moved) refl
+      where
+        by_cases : (c : Bool) → is_framed site.insn site.moved ≡ c → Caught passed u t
+        by_cases true framed = framed_does framed e
+        by_cases false plain = pair_does plain short pairs e
 
   between : (passed : ℕ → ℕ) (s t : State) (f : Follows old.order notes bounds.turns passed s t) → Between old.order notes bounds.turns passed (kind_in f.top.place.kinds) s t
   between passed s t f = record { top = f.top.fits; waiting = f.waiting; context_is = f.context_is }
@@ -333,15 +367,22 @@ module _ (computed : StepsAreComputed) (keeps : StepKeepsContext) (states : Runs
         at = h.at ∙ sym st.is_site.at_body;
       }
 
-  step_caught : (passed : ℕ → ℕ) (s t u : State) → Owns s → Follows old.order notes bounds.turns passed s t → Sure s → IsState u → Step old s u → passed s.top.slot + 1 ≤ bounds.turns → Caught (counted passed s.top.slot) u t
+  step_caught : (passed : ℕ → ℕ) (s t u : State) → Owns s → Awaited (Takes notes bounds.turns) s → Follows old.order notes bounds.turns passed s t → Sure s → IsState u → Step old s u → passed s.top.slot + 1 ≤ bounds.turns → Caught (counted passed s.top.slot) u t
   unfolding step_of
-  step_caught passed s t u o f sure after e few = option_and_then_some _ (insn_at old.list s.top.slot) u e (λ i ei ed.
+  step_caught passed s t u o awaited f sure after e few = option_and_then_some _ (insn_at old.list s.top.slot) u e (λ i ei ed.
       let st = matches.each s.top.slot f.top.place i f.top.noted ei in
       let h = front passed i s t (o, sure.state.each_frame.0.values) f st (in_front passed i s ei sure few) in
       let site = st.is_site in
-      let c = from_body (counted passed s.top.slot) st.site s h.state u sure.state after o h.between (sym site.slot_is) h.at site.stands st.falls st.leads st.lone (subst (λ n. n < 2 ^ 32) (sym sure.long) matches.short) site.pairs
+      let c = from_body (counted passed s.top.slot) st.site s h.state u sure.state after o h.between (sym site.slot_is) h.at site.stands st.falls st.leads st.lone f.top.place f.top.noted st.gives_back awaited (subst (λ n. n < 2 ^ 32) (sym sure.long) matches.short) site.pairs
       (ap (λ i. does old.order i s) site.insn_is ∙ ed) in
       record { count = h.count + c.count; state = c.state; steps = runs new h.count c.count t h.state c.state h.steps c.steps; follows = c.follows })
+
+  -- what waiting frames take is kept
+  awaited_step : (passed : ℕ → ℕ) (s t u : State) → Follows old.order notes bounds.turns passed s t → Awaited (Takes notes bounds.turns) s → Step old s u → Awaited (Takes notes bounds.turns) u
+  unfolding step_of
+  awaited_step passed s t u f h e = option_and_then_some _ (insn_at old.list s.top.slot) u e (λ i ei ed.
+      let st = matches.each s.top.slot f.top.place i f.top.noted ei in
+      awaited_does (Takes notes bounds.turns) old.order i s u h (subst (λ i. Onward (Takes notes bounds.turns) i s) st.is_site.insn_is (onward notes bounds.turns f.top.place st.site s f.top.noted st.is_site.slot_is st.gives_back st.falls h)) ed)
 
   -- ---- the end
 
@@ -373,7 +414,8 @@ module _ (computed : StepsAreComputed) (keeps : StepKeepsContext) (states : Runs
       ends_alike : (site : Site) → site.insn ≡ Exit → Pairs (known site.slot site.kinds) site.insn site.moved → (site.moved ≡ Exit) × (is_same (known site.slot site.kinds 0) ≡ true)
       ends_alike site ei (inl (alike, reads)) = (moved_is Exit site.moved (alike ∙ ap undirected ei), reads_exit (known site.slot site.kinds) site.insn ei reads)
       ends_alike site ei (inr (inl a)) = absurd (none-some _ (sym (ap (λ i. rebased i a.new.base a.new.offset) ei) ∙ a.alike))
-      ends_alike site ei (inr (inr w)) = absurd (none-some _ (sym (ap (widened (known site.slot site.kinds)) ei) ∙ w))
+      ends_alike site ei (inr (inr (inl w))) = absurd (none-some _ (sym (ap (widened (known site.slot site.kinds)) ei) ∙ w))
+      ends_alike site ei (inr (inr (inr f))) = absurd (false≢true (sym (ap (λ i. is_framed i site.moved) ei) ∙ f))
 
   -- ---- the run
 
@@ -411,13 +453,13 @@ module _ (computed : StepsAreComputed) (keeps : StepKeepsContext) (states : Runs
 
   -- after k steps of the old machine, of a run that ends
   follows_run : (context : List ℕ) (k more : ℕ) (s : State) → AreBytes context → length context ≡ bounds.length → Steps old k (start context) s → Ends old more s → ((slot : ℕ) → visits old (start context) k slot ≤ bounds.turns)
-      → (n : ℕ) × (t : State) × Steps new n (start context) t × Follows old.order notes bounds.turns (visits old (start context) k) s t × (length s.context ≡ bounds.length) × Owns s
+      → (n : ℕ) × (t : State) × Steps new n (start context) t × Follows old.order notes bounds.turns (visits old (start context) k) s t × (length s.context ≡ bounds.length) × Owns s × Awaited (Takes notes bounds.turns) s
   follows_run context zero more s bytes long run ends few =
       let short = matches.short in
       let fits : length context < 2 ^ 64 = subst (λ n. n < 2 ^ 64) (sym long) (omega arith) in
       let state = states old context 0 (start context) valid bytes fits refl in
       let h = entered_by (visits old (start context) 0) (start_kinds bounds.length) (start context) (start context) (own_start context, state.each_frame.0.values) (start_between context long) matches.start in
-      (h.count, h.state, h.steps, subst (λ s. Follows old.order notes bounds.turns (visits old (start context) 0) s h.state) (sym run) h.follows, ap (λ s. length s.context) run ∙ long, subst Owns (sym run) (own_start context))
+      (h.count, h.state, h.steps, subst (λ s. Follows old.order notes bounds.turns (visits old (start context) 0) s h.state) (sym run) h.follows, ap (λ s. length s.context) run ∙ long, subst Owns (sym run) (own_start context), subst (Awaited (Takes notes bounds.turns)) (sym run) tt)
   follows_run context (suc k) more s bytes long (mid, run, step) ends few =
       let before = follows_run context k (suc more) mid bytes long run (s, step, ends) (λ slot. no_more _ _ bounds.turns (few slot)) in
       let next : (slot : ℕ) → visits old (start context) (suc k) slot ≡ counted (visits old (start context) k) mid.top.slot slot = λ slot. visits_next computed old k slot (start context) mid run in
@@ -426,8 +468,8 @@ module _ (computed : StepsAreComputed) (keeps : StepKeepsContext) (states : Runs
       let short = matches.short in
       let fits : length context < 2 ^ 64 = subst (λ n. n < 2 ^ 64) (sym long) (omega arith) in
       let after = states old context (suc k) s valid bytes fits (mid, run, step) in
-      let c = step_caught (visits old (start context) k) mid before.1 s before.5 before.3 sure after step once in
-      (before.0 + c.count, c.state, runs new before.0 c.count (start context) before.1 c.state before.2 c.steps, counted_as _ _ s c.state (λ slot. sym (next slot)) c.follows, ap length (keeps old mid s step) ∙ before.4, own_step old mid s before.3.top.fits.eleven_old before.5 step)
+      let c = step_caught (visits old (start context) k) mid before.1 s before.5 before.6 before.3 sure after step once in
+      (before.0 + c.count, c.state, runs new before.0 c.count (start context) before.1 c.state before.2 c.steps, counted_as _ _ s c.state (λ slot. sym (next slot)) c.follows, ap length (keeps old mid s step) ∙ before.4, own_step old mid s before.3.top.fits.eleven_old before.5 step, awaited_step (visits old (start context) k) mid before.1 s before.3 before.6 step)
 
 pub matching_keeps_meaning : StepsAreComputed → StepKeepsContext → RunsKeepStates → MatchingKeepsMeaning
 matching_keeps_meaning computed keeps states old new notes bounds valid matches context v zero bytes long ends = absurd ends.done

@@ -20,7 +20,8 @@ use Rattle.bpf_follows.specs.declared.notes.Kind.{Kind}
 use Rattle.bpf_follows.specs.declared.notes.Kind.TheVariants.{Same}
 use Rattle.bpf_follows.specs.Relation.{Kinds}
 use Rattle.bpf_follows.specs.Extras.{is_r10, whole_at, slot_of}
-use Rattle.bpf_follows.specs.Matching.{is_call, touches, is_written, writes_slot, is_changed, held, kinds_after}
+use Rattle.bpf_follows.specs.Returned.{is_call}
+use Rattle.bpf_follows.specs.Matching.{touches, is_written, writes_slot, is_changed, held, kinds_after}
 use Rattle.bpf_follows.proofs.Lists.{unmapped, cond_first}
 use Rattle.bpf_follows.proofs.Owns.{Owns}
 use Rattle.bpf_follows.proofs.Slots.{register_below, within, outside}

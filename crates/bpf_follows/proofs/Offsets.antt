@@ -1,15 +1,17 @@
--- Offsets into the context, as numbers modulo 2 ^ 64.
-use Rattle.std.proofs.Common.{◌≡◌, ℕ, ◌+◌, ◌-◌, ◌<◌, ◌≤◌, ◌%◌, ◌^◌, ◌==◌, to_z, of_z, sym, ap, ap₂, ◌∙◌, arith}
+-- Offsets as numbers modulo 2 ^ 64.
+use Rattle.std.proofs.Common.{◌≡◌, Bool, true, false, refl, ℕ, ◌+◌, ◌-◌, ◌<◌, ◌≤◌, ◌%◌, ◌^◌, ◌==◌, to_z, of_z, sym, ap, ◌∙◌, arith}
 use Rattle.std.specs.Prelude.{ℤ, pos, negsuc, ◌+ℤ◌, ◌-ℤ◌, ◌≤ℤ◌, FitsSigned, unsigned_abs}
 use Rattle.std.specs.Int.{w16, w32, w64, cast_signed}
 use Rattle.std.specs.Ordering.{int_eq}
+use Rattle.std.proofs.lemmas.Bool.{false≢true, eq-eqb, ne_eqb}
+use Rattle.std.proofs.lemmas.Bool.Decides.{Decides-int_eq}
 use Rattle.std.proofs.lemmas.Int.{ints, to_z-of_z}
 use Rattle.std.proofs.Math.Facts.{sfits_to_z}
 use Rattle.bpf_insn.specs.Arithmetic.{modulo}
 use Rattle.bpf_semantics.specs.Step.{wrapped}
 use Rattle.bpf_semantics.specs.Flat.{addresses}
 use Rattle.bpf_semantics.proofs.NumberLemmas.{modulo_below}
-use Rattle.bpf_semantics.proofs.FlatArith.{Same, modulo_same, same_refl, same_sym, same_trans, same_plus, same_minus, same_equal, modulo-same, wrapped-same, same_offsets, equal_tests}
+use Rattle.bpf_semantics.proofs.FlatArith.{Same, modulo_same, same_refl, same_sym, same_trans, same_plus, same_minus, same_equal, modulo-same, wrapped-same, same_offsets}
 
 cast_fits : (x : ℕ) → x < 2 ^ 64 → FitsSigned w64 (cast_signed w64 x)
 cast_fits x h = sfits_to_z {w = w64} {n = x} (record { fits = h })
@@ -17,45 +19,46 @@ cast_fits x h = sfits_to_z {w = w64} {n = x} (record { fits = h })
 pub wrapped_fits : (z : ℤ) → FitsSigned w64 (wrapped z)
 wrapped_fits z = cast_fits (modulo z (2 ^ 64)) (modulo_below z)
 
--- an offset that isn't moved
-unmoved : (z : ℤ) → Same (z +ℤ pos 0) z
-unmoved z = same_equal (omega (arith, ints))
-
 sum_is : (a b : ℕ) → Same (pos (a + b)) (pos a +ℤ pos b)
 sum_is a b = same_equal (omega (arith, ints))
 
-pub moved_number : (off by : ℤ) → (modulo (off +ℤ pos 0) addresses + modulo by addresses) % addresses ≡ modulo (off +ℤ by) addresses
-moved_number off by =
-    let a = modulo (off +ℤ pos 0) addresses in
-    let b = modulo by addresses in
-    modulo_same (same_trans (sum_is a b) (same_plus (same_trans (modulo-same (off +ℤ pos 0)) (unmoved off)) (modulo-same by)))
+-- a constant that is added to an offset, counted from elsewhere
+pub moved_number : (off by imm : ℤ) → (modulo (off +ℤ (by +ℤ pos 0)) addresses + modulo imm addresses) % addresses ≡ modulo (off +ℤ (by +ℤ imm)) addresses
+moved_number off by imm =
+    let a = modulo (off +ℤ (by +ℤ pos 0)) addresses in
+    let b = modulo imm addresses in
+    let there : Same ((off +ℤ (by +ℤ pos 0)) +ℤ imm) (off +ℤ (by +ℤ imm)) = same_equal (omega (arith, ints)) in
+    modulo_same (same_trans (sum_is a b) (same_trans (same_plus (modulo-same (off +ℤ (by +ℤ pos 0))) (modulo-same imm)) there))
 
-pub up : (off : ℤ) (b : ℕ) → (modulo (off +ℤ pos 0) addresses + b) % addresses ≡ modulo (wrapped (off +ℤ pos b) +ℤ pos 0) addresses
-up off b =
-    let a = modulo (off +ℤ pos 0) addresses in
-    modulo_same (same_trans (sum_is a b) (same_trans (same_plus (same_trans (modulo-same (off +ℤ pos 0)) (unmoved off)) (same_refl (pos b)))
-    (same_sym (same_trans (unmoved (wrapped (off +ℤ pos b))) (wrapped-same (off +ℤ pos b))))))
+pub up : (off by : ℤ) (b : ℕ) → (modulo (off +ℤ by) addresses + b) % addresses ≡ modulo (wrapped (off +ℤ pos b) +ℤ by) addresses
+up off by b =
+    let a = modulo (off +ℤ by) addresses in
+    let there : Same ((off +ℤ by) +ℤ pos b) ((off +ℤ pos b) +ℤ by) = same_equal (omega (arith, ints)) in
+    modulo_same (same_trans (sum_is a b) (same_trans (same_plus (modulo-same (off +ℤ by)) (same_refl (pos b)))
+    (same_trans there (same_plus (same_sym (wrapped-same (off +ℤ pos b))) (same_refl by)))))
 
 -- the number first
-pub up_from : (off : ℤ) (a : ℕ) → (a + modulo (off +ℤ pos 0) addresses) % addresses ≡ modulo (wrapped (off +ℤ pos a) +ℤ pos 0) addresses
-up_from off a = ap (λ n. n % addresses) (omega arith) ∙ up off a
+pub up_from : (off by : ℤ) (a : ℕ) → (a + modulo (off +ℤ by) addresses) % addresses ≡ modulo (wrapped (off +ℤ pos a) +ℤ by) addresses
+up_from off by a = ap (λ n. n % addresses) (omega arith) ∙ up off by a
 
-pub down : (off : ℤ) (b : ℕ) → modulo (pos (modulo (off +ℤ pos 0) addresses) -ℤ pos b) addresses ≡ modulo (wrapped (off -ℤ pos b) +ℤ pos 0) addresses
-down off b =
-    modulo_same (same_trans (same_minus (same_trans (modulo-same (off +ℤ pos 0)) (unmoved off)) (same_refl (pos b)))
-    (same_sym (same_trans (unmoved (wrapped (off -ℤ pos b))) (wrapped-same (off -ℤ pos b)))))
+pub down : (off by : ℤ) (b : ℕ) → modulo (pos (modulo (off +ℤ by) addresses) -ℤ pos b) addresses ≡ modulo (wrapped (off -ℤ pos b) +ℤ by) addresses
+down off by b =
+    let there : Same ((off +ℤ by) -ℤ pos b) ((off -ℤ pos b) +ℤ by) = same_equal (omega (arith, ints)) in
+    modulo_same (same_trans (same_minus (modulo-same (off +ℤ by)) (same_refl (pos b))) (same_trans there (same_plus (same_sym (wrapped-same (off -ℤ pos b))) (same_refl by))))
 
-pub apart : (a b : ℤ) → modulo (pos (modulo (a +ℤ pos 0) addresses) -ℤ pos (modulo (b +ℤ pos 0) addresses)) addresses ≡ modulo (a -ℤ b) addresses
-apart a b = modulo_same (same_minus (same_trans (modulo-same (a +ℤ pos 0)) (unmoved a)) (same_trans (modulo-same (b +ℤ pos 0)) (unmoved b)))
+pub apart : (a b by : ℤ) → modulo (pos (modulo (a +ℤ by) addresses) -ℤ pos (modulo (b +ℤ by) addresses)) addresses ≡ modulo (a -ℤ b) addresses
+apart a b by =
+    let there : Same ((a +ℤ by) -ℤ (b +ℤ by)) (a -ℤ b) = same_equal (omega (arith, ints)) in
+    modulo_same (same_trans (same_minus (modulo-same (a +ℤ by)) (modulo-same (b +ℤ by))) there)
 
 -- a number that is added to an offset, back from the sum
-pub moved_back : (off : ℤ) (n : ℕ) → n < addresses → n ≡ modulo (wrapped (off +ℤ pos n) +ℤ (pos 0 -ℤ off)) addresses
-moved_back off n low =
+pub moved_back : (off by : ℤ) (n : ℕ) → n < addresses → n ≡ modulo ((wrapped (off +ℤ pos n) +ℤ by) +ℤ (pos 0 -ℤ (off +ℤ by))) addresses
+moved_back off by n low =
     let small : n ≡ modulo (pos n) addresses = omega arith in
-    let back : Same ((off +ℤ pos n) +ℤ (pos 0 -ℤ off)) (pos n) = same_equal (omega (arith, ints)) in
-    small ∙ sym (modulo_same (same_trans (same_plus (wrapped-same (off +ℤ pos n)) (same_refl (pos 0 -ℤ off))) back))
+    let back : Same (((off +ℤ pos n) +ℤ by) +ℤ (pos 0 -ℤ (off +ℤ by))) (pos n) = same_equal (omega (arith, ints)) in
+    small ∙ sym (modulo_same (same_trans (same_plus (same_plus (wrapped-same (off +ℤ pos n)) (same_refl by)) (same_refl (pos 0 -ℤ (off +ℤ by)))) back))
 
--- the pointer that is made of an offset and the context's start
+-- the pointer that is made of an offset and the pointer at 0
 pub pointer_there : (z : ℤ) → wrapped (pos 0 +ℤ pos (modulo z addresses)) ≡ wrapped z
 pointer_there z = ap (cast_signed w64) (modulo_same {z = pos 0 +ℤ pos (modulo z addresses)} {w = z} (same_trans (same_equal (zero_plus (pos (modulo z addresses)))) (modulo-same z)))
   where
@@ -66,12 +69,21 @@ pub wrapped_near : (z : ℤ) → FitsSigned w64 z → wrapped z ≡ z
 wrapped_near z f = same_offsets 0 (wrapped z) z (wrapped_fits z) f (modulo_same (same_plus (same_refl (pos 0)) (wrapped-same z)))
 
 -- equal offsets are equal numbers
-pub equal_offsets : (a b : ℤ) → FitsSigned w64 a → FitsSigned w64 b → (modulo (a +ℤ pos 0) addresses == modulo (b +ℤ pos 0) addresses) ≡ int_eq a b
-equal_offsets a b fa fb =
-    ap₂ (λ x y. modulo x addresses == modulo y addresses) (swap a) (swap b) ∙ sym (equal_tests 0 a b fa fb)
+pub equal_offsets : (a b by : ℤ) → FitsSigned w64 a → FitsSigned w64 b → (modulo (a +ℤ by) addresses == modulo (b +ℤ by) addresses) ≡ int_eq a b
+equal_offsets a b by fa fb = by_cases (int_eq a b) refl
   where
-    swap : (z : ℤ) → z +ℤ pos 0 ≡ pos 0 +ℤ z
-    swap z = omega (arith, ints)
+    zero_plus : (z : ℤ) → Same ((z +ℤ by) -ℤ by) (pos 0 +ℤ z)
+    zero_plus z = same_equal (omega (arith, ints))
+
+    -- the numbers are the same, and so are those that aren't moved
+    back : modulo (a +ℤ by) addresses ≡ modulo (b +ℤ by) addresses → modulo (pos 0 +ℤ a) addresses ≡ modulo (pos 0 +ℤ b) addresses
+    back m =
+        let one : Same (a +ℤ by) (b +ℤ by) = same_trans (same_sym (modulo-same (a +ℤ by))) (same_trans (same_equal (ap pos m)) (modulo-same (b +ℤ by))) in
+        modulo_same (same_trans (same_sym (zero_plus a)) (same_trans (same_minus one (same_refl by)) (zero_plus b)))
+
+    by_cases : (c : Bool) → int_eq a b ≡ c → (modulo (a +ℤ by) addresses == modulo (b +ℤ by) addresses) ≡ c
+    by_cases true e = let same : a ≡ b = (Decides-int_eq a b).0 e in eq-eqb _ _ (ap (λ z. modulo (z +ℤ by) addresses) same)
+    by_cases false e = ne_eqb _ _ (λ m. false≢true (sym e ∙ (Decides-int_eq a b).1 (same_offsets 0 a b fa fb (back m))))
 
 -- ---- numbers far within 64 bits
 
@@ -84,6 +96,12 @@ sum_fits (pos a) (pos b) f g = let k = f.sfits in let l = g.sfits in fits_64 (po
 sum_fits (pos a) (negsuc b) f g = let k = f.sfits in let l = g.sfits in fits_64 (pos a +ℤ negsuc b) (omega (arith, ints)) (omega (arith, ints))
 sum_fits (negsuc a) (pos b) f g = let k = f.sfits in let l = g.sfits in fits_64 (negsuc a +ℤ pos b) (omega (arith, ints)) (omega (arith, ints))
 sum_fits (negsuc a) (negsuc b) f g = let k = f.sfits in let l = g.sfits in fits_64 (negsuc a +ℤ negsuc b) (omega (arith, ints)) (omega (arith, ints))
+
+pub difference_fits : (a b : ℤ) → FitsSigned w16 a → FitsSigned w32 b → FitsSigned w64 (a -ℤ b)
+difference_fits (pos a) (pos b) f g = let k = f.sfits in let l = g.sfits in fits_64 (pos a -ℤ pos b) (omega (arith, ints)) (omega (arith, ints))
+difference_fits (pos a) (negsuc b) f g = let k = f.sfits in let l = g.sfits in fits_64 (pos a -ℤ negsuc b) (omega (arith, ints)) (omega (arith, ints))
+difference_fits (negsuc a) (pos b) f g = let k = f.sfits in let l = g.sfits in fits_64 (negsuc a -ℤ pos b) (omega (arith, ints)) (omega (arith, ints))
+difference_fits (negsuc a) (negsuc b) f g = let k = f.sfits in let l = g.sfits in fits_64 (negsuc a -ℤ negsuc b) (omega (arith, ints)) (omega (arith, ints))
 
 pub near_zero : (z : ℤ) → unsigned_abs z ≤ 2 ^ 31 - 1 → FitsSigned w64 z
 near_zero (pos n) h = record { sfits = omega arith }

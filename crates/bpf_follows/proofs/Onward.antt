@@ -97,7 +97,7 @@ inside_in k bytes by offset (pos i) n ez e =
     record { first = omega (arith, ints); last = omega (arith, ints) }
 inside_in k bytes by offset (negsuc i) n ez e = absurd (none-some _ e)
 
-access_in : (s : State) (k bytes : ℕ) (by : ℤ) (region : Region) (offset : ℤ) (at : Location) → length s.context ≡ bytes → location_of s k by (Pointer region offset) ≡ Some at → LieIn (room bytes region) (placed region offset) (record { from = by; to = by +ℤ pos k })
+pub access_in : (s : State) (k bytes : ℕ) (by : ℤ) (region : Region) (offset : ℤ) (at : Location) → length s.context ≡ bytes → location_of s k by (Pointer region offset) ≡ Some at → LieIn (room bytes region) (placed region offset) (record { from = by; to = by +ℤ pos k })
 access_in s k bytes by Context offset at el e =
     let h = unmapped InContext (inside k (length s.context) (offset +ℤ by)) at e in
     subst (λ bytes. LieIn bytes offset (record { from = by; to = by +ℤ pos k })) el (inside_in k (length s.context) by offset (offset +ℤ by) h.0 refl h.1)

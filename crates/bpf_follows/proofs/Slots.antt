@@ -24,8 +24,9 @@ use Rattle.bpf_semantics.specs.declared.value.Region.TheVariants.{Context}
 use Rattle.bpf_semantics.proofs.NumberLemmas.{length-bytes_of}
 use Rattle.bpf_semantics.proofs.FlatBytes.{number-bytes}
 use Rattle.bpf_semantics.proofs.StateLemmas.{get_each, length-each_cell, without_is}
+use Rattle.bpf_follows.specs.declared.notes.Area.TheVariants.{Given, Own}
 use Rattle.bpf_follows.specs.declared.notes.Kind.{Kind}
-use Rattle.bpf_follows.specs.declared.notes.Kind.TheVariants.{Nothing, Unset, Same, Number as NumberKind, Offset, Fixed, Within, Start, Alone, Both}
+use Rattle.bpf_follows.specs.declared.notes.Kind.TheVariants.{Nothing, Unset, Same, Number as NumberKind, Natural, Offset, Fixed, Within, Start, Alone, Returns, Both}
 use Rattle.bpf_follows.specs.Relation.{IsKept, EachPair, IsRead, cell_of, Holds, IsUnset, SlotKept, FitsSlot, as_number, is_free}
 use Rattle.bpf_follows.specs.Matching.{is_plain}
 use Rattle.bpf_follows.proofs.Lists.{mapped, same_is_kept, pairs_weaker, pair_at, Cells}
@@ -107,11 +108,13 @@ module _ (order : Order) (turns : ℕ) (passed : ℕ → ℕ) (registers : ℕ �
   plain_kept xs ys k Same e f = f
   plain_kept xs ys k Both e f = absurd f
   plain_kept xs ys k (NumberKind least most) e f = both_hold order xs ys k (Number f.number) f.old_is f.new_is
-  plain_kept xs ys k Offset e f = absurd (false≢true e)
-  plain_kept xs ys k (Fixed offset) e f = absurd (false≢true e)
-  plain_kept xs ys k (Within least most) e f = absurd f
+  plain_kept xs ys k Natural e f = absurd f
+  plain_kept xs ys k (Offset area) e f = absurd (false≢true e)
+  plain_kept xs ys k (Fixed area offset) e f = absurd (false≢true e)
+  plain_kept xs ys k (Within area least most) e f = absurd f
   plain_kept xs ys k Start e f = absurd f
   plain_kept xs ys k Alone e f = absurd f
+  plain_kept xs ys k (Returns least most) e f = absurd f
   plain_kept xs ys k kind e f = unset_kept xs ys k f.unset
 
   -- in a free slot the old machine has nothing
@@ -121,11 +124,13 @@ module _ (order : Order) (turns : ℕ) (passed : ℕ → ℕ) (registers : ℕ �
   free_unset xs ys k Same e f = absurd (false≢true e)
   free_unset xs ys k Both e f = absurd f
   free_unset xs ys k (NumberKind least most) e f = absurd (false≢true e)
-  free_unset xs ys k Offset e f = absurd (false≢true e)
-  free_unset xs ys k (Fixed offset) e f = absurd (false≢true e)
-  free_unset xs ys k (Within least most) e f = absurd f
+  free_unset xs ys k Natural e f = absurd f
+  free_unset xs ys k (Offset area) e f = absurd (false≢true e)
+  free_unset xs ys k (Fixed area offset) e f = absurd (false≢true e)
+  free_unset xs ys k (Within area least most) e f = absurd f
   free_unset xs ys k Start e f = absurd f
   free_unset xs ys k Alone e f = absurd f
+  free_unset xs ys k (Returns least most) e f = absurd f
   free_unset xs ys k kind e f = f.unset
 
   -- the same cells
@@ -142,20 +147,24 @@ module _ (order : Order) (turns : ℕ) (passed : ℕ → ℕ) (registers : ℕ �
     old_is = holds_as order xs xs' k (Number f.number) ex f.old_is;
     new_is = holds_as order ys ys' k (Number f.number) ey f.new_is;
   }
-  slot_as xs ys xs' ys' k Offset ex ey f = record {
+  slot_as xs ys xs' ys' k Natural ex ey f = f
+  slot_as xs ys xs' ys' k (Offset Own) ex ey f = f
+  slot_as xs ys xs' ys' k (Fixed Own offset) ex ey f = f
+  slot_as xs ys xs' ys' k (Offset Given) ex ey f = record {
     offset = f.offset;
     fits = f.fits;
     old_is = holds_as order xs xs' k (Pointer Context f.offset) ex f.old_is;
     new_is = holds_as order ys ys' k (as_number f.offset) ey f.new_is;
   }
-  slot_as xs ys xs' ys' k (Fixed offset) ex ey f = record {
+  slot_as xs ys xs' ys' k (Fixed Given offset) ex ey f = record {
     fits = f.fits;
     old_is = holds_as order xs xs' k (Pointer Context offset) ex f.old_is;
     new_is = holds_as order ys ys' k (as_number offset) ey f.new_is;
   }
   slot_as xs ys xs' ys' k Start ex ey f = f
-  slot_as xs ys xs' ys' k (Within least most) ex ey f = f
+  slot_as xs ys xs' ys' k (Within area least most) ex ey f = f
   slot_as xs ys xs' ys' k Alone ex ey f = f
+  slot_as xs ys xs' ys' k (Returns least most) ex ey f = f
   slot_as xs ys xs' ys' k kind ex ey f = record {
     unset = λ j lt. ex j lt ∙ f.unset j lt;
     value = f.value;

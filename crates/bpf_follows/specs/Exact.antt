@@ -12,8 +12,10 @@ use Rattle.bpf_insn.specs.declared.instruction.AluOp.{AluOp}
 use Rattle.bpf_insn.specs.declared.instruction.AluOp.TheVariants.{Add, Sub, Mov}
 use Rattle.bpf_insn.specs.declared.instruction.Insn.{Insn}
 use Rattle.bpf_insn.specs.declared.instruction.Insn.TheVariants.{Alu, JumpIf}
+use Rattle.bpf_follows.specs.declared.notes.Area.{Area}
 use Rattle.bpf_follows.specs.declared.notes.Kind.{Kind}
 use Rattle.bpf_follows.specs.declared.notes.Kind.TheVariants.{Number, Offset, Fixed}
+use Rattle.bpf_follows.specs.Areas.{same_area}
 use Rattle.bpf_follows.specs.Relation.{Kinds}
 
 -- the number that a place surely holds: both bounds are that
@@ -29,8 +31,8 @@ operand_exactly kinds (FromReg r) = exactly (kinds (register_number r))
 abbrev pub farthest : ℕ
 farthest = 2 ^ 31 - 1
 
-abbrev pub fixed_at : ℤ → Kind
-fixed_at offset = if nat_le (unsigned_abs offset) farthest then Fixed offset else Offset
+abbrev pub fixed_at : Area → ℤ → Kind
+fixed_at area offset = if nat_le (unsigned_abs offset) farthest then Fixed area offset else Offset area
 
 -- ---- what instructions write
 
@@ -48,14 +50,14 @@ abbrev pub apart : ℤ → ℤ → Option Kind
 apart offset other = option_and_then exact_kind (not_negative (offset -ℤ other))
 
 -- the sum of an offset and a number
-abbrev pub sum_kind : ℤ → Kind → Option Kind
-sum_kind offset kind = option_map (λ n. fixed_at (offset +ℤ pos n)) (exactly kind)
+abbrev pub sum_kind : Area → ℤ → Kind → Option Kind
+sum_kind area offset kind = option_map (λ n. fixed_at area (offset +ℤ pos n)) (exactly kind)
 
 -- offsets that are always the same: the sum of one and a number, and how far two are apart
 abbrev pub alu_fixed : Width → AluOp → Kind → Kind → Option Kind
-alu_fixed W64 Add (Fixed offset) (Number least most) = sum_kind offset (Number least most)
-alu_fixed W64 Add (Number least most) (Fixed offset) = sum_kind offset (Number least most)
-alu_fixed W64 Sub (Fixed offset) (Fixed other) = apart offset other
+alu_fixed W64 Add (Fixed area offset) (Number least most) = sum_kind area offset (Number least most)
+alu_fixed W64 Add (Number least most) (Fixed area offset) = sum_kind area offset (Number least most)
+alu_fixed W64 Sub (Fixed area offset) (Fixed into other) = if same_area area into then apart offset other else None
 alu_fixed width op kind other = None
 
 -- an operation on two registers

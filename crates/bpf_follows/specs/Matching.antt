@@ -1,12 +1,12 @@
 -- What has to hold of the notes at each slot. Nothing here speaks of runs.
-use Rattle.std.specs.Prelude.{◌≡◌, ◌≢◌, ℕ, ◌+◌, ◌-◌, ◌/◌, ◌^◌, ◌<◌, nat_le, ◌==◌, nat_lt, ℤ, pos, negsuc, ◌+ℤ◌, FitsSigned, ◌⊎◌, true, false, Bool, not, ◌&&◌, ◌||◌, List, [], ◌∷◌, ◌++◌, replicate, Option, Some, None, IsSome, option_and_then, option_map, if◌then◌else◌}
+use Rattle.std.specs.Prelude.{◌≡◌, ◌≢◌, ℕ, ◌+◌, ◌-◌, ◌/◌, ◌^◌, ◌<◌, nat_le, ◌==◌, nat_lt, ℤ, pos, negsuc, ◌+ℤ◌, ◌-ℤ◌, FitsSigned, ◌⊎◌, true, false, Bool, not, ◌&&◌, ◌||◌, List, [], ◌∷◌, ◌++◌, replicate, Option, Some, None, IsSome, option_and_then, option_map, if◌then◌else◌}
 use Rattle.std.specs.Int.{w16}
 use Rattle.std.specs.List.{AllByRecursion}
 use Rattle.std.specs.Option.{option_map_or, option_or}
 use Rattle.std.specs.Ordering.{int_eq}
 use Rattle.bpf_insn.specs.Arithmetic.{extended}
 use Rattle.bpf_insn.specs.Effects.{Access, access_of, registers_read, register_written}
-use Rattle.bpf_insn.specs.Instruction.{Instructions, register_number, byte_count, slot_count, insn_at, distance, target, goes_on, not_negative}
+use Rattle.bpf_insn.specs.Instruction.{Instructions, register_number, byte_count, slot_count, insn_at, goes_on, not_negative}
 use Rattle.bpf_insn.specs.Limits.{frame_bytes}
 use Rattle.bpf_insn.specs.declared.instruction.Reg.{Reg}
 use Rattle.bpf_insn.specs.declared.instruction.Operand.{Operand}
@@ -20,6 +20,8 @@ use Rattle.bpf_insn.specs.declared.instruction.Cond.TheVariants.{Eq, Ne}
 use Rattle.bpf_insn.specs.declared.instruction.Insn.{Insn}
 use Rattle.bpf_insn.specs.declared.instruction.Insn.TheVariants.{Alu, Load, LoadSx, Store, StoreImm, Ja, JaLong, JumpIf, CallLocal}
 use Rattle.bpf_semantics.specs.Memory.{is_within}
+use Rattle.bpf_follows.specs.declared.notes.Area.{Area}
+use Rattle.bpf_follows.specs.declared.notes.Area.TheVariants.{Given, Own}
 use Rattle.bpf_follows.specs.declared.notes.Kind.{Kind}
 use Rattle.bpf_follows.specs.declared.notes.Kind.TheVariants.{Nothing, Unset, Same, Both, Number, Offset, Fixed, Within, Start, Moved, Address, Saved}
 use Rattle.bpf_follows.specs.declared.notes.Bounds.{Bounds}
@@ -28,10 +30,13 @@ use Rattle.bpf_follows.specs.declared.site.Front.{Front}
 use Rattle.bpf_follows.specs.declared.site.Site.{Site}
 use Rattle.bpf_follows.specs.declared.mismatch.Mismatch.{Mismatch}
 use Rattle.bpf_follows.specs.declared.mismatch.Mismatch.TheVariants.{Order, Start as AtStart, At}
-use Rattle.bpf_follows.specs.Relation.{places, Kinds, Gives, kind_in, kinds_of, known, place_at, is_alone}
+use Rattle.bpf_follows.specs.Areas.{origin, is_own, same_area, is_offset, are_alike, unbounded}
+use Rattle.bpf_follows.specs.Relation.{places, Kinds, Gives, kind_in, kinds_of, known, place_at, is_of_other, is_alone, received}
+use Rattle.bpf_follows.specs.Returned.{is_call, led, called_back, GivesBack}
 use Rattle.bpf_follows.specs.Ahead.{spans_ahead, span_behind}
 use Rattle.bpf_follows.specs.Numbers.{is_bounded, number_kind, told}
-use Rattle.bpf_follows.specs.Extras.{is_same, is_base, is_r10, slot_of, extras}
+use Rattle.bpf_follows.specs.Extras.{is_same, is_r10, base_of, slot_of}
+use Rattle.bpf_follows.specs.Sequence.{extras}
 use Rattle.bpf_follows.specs.Exact.{fixed_at, exact_kind, by_exact, may_fall, may_lead}
 
 -- ---- instructions
@@ -44,10 +49,6 @@ undirected (JumpIf cond width dst src off) = JumpIf cond width dst src (pos 0)
 undirected (CallLocal off) = CallLocal (pos 0)
 undirected i = i
 
-abbrev pub is_call : Insn → Bool
-is_call (CallLocal off) = true
-is_call _ = false
-
 -- ---- the same instruction, on registers that hold the same, or on offsets
 
 -- the register, if there is one, holds the same in both
@@ -59,40 +60,37 @@ IsSame kinds (Some r) = is_same (kinds (register_number r)) ≡ true
 abbrev pub AreSame : Kinds → List Reg → Type 0
 AreSame kinds rs = AllByRecursion (λ r. is_same (kinds (register_number r)) ≡ true) rs
 
-abbrev pub is_offset : Kind → Bool
-is_offset Offset = true
-is_offset (Fixed offset) = true
-is_offset (Within least most) = true
-is_offset _ = false
-
 abbrev pub copy_kind : Kind → Option Kind
-copy_kind Offset = Some Offset
-copy_kind (Fixed offset) = Some (Fixed offset)
-copy_kind (Within least most) = Some (Within least most)
+copy_kind (Offset area) = Some (Offset area)
+copy_kind (Fixed area offset) = Some (Fixed area offset)
+copy_kind (Within area least most) = Some (Within area least most)
 copy_kind Start = Some Start
 copy_kind _ = None
 
 -- an offset between these two, if they have 32 bits
-abbrev pub within_at : ℕ → ℕ → Kind
-within_at low high = if nat_lt low (2 ^ 32) && nat_lt high (2 ^ 32) then Within low high else Offset
+abbrev pub within_at : Area → ℕ → ℕ → Kind
+within_at area low high = if nat_lt low (2 ^ 32) && nat_lt high (2 ^ 32) then Within area low high else Offset area
 
 -- the sum of an offset and what is the same in both
 abbrev pub offset_sum : Kind → Kind → Kind
-offset_sum (Fixed offset) (Number least most) = option_map_or (λ o. within_at (o + least) (o + most)) (not_negative offset) Offset
-offset_sum (Within low high) (Number least most) = within_at (low + least) (high + most)
-offset_sum a b = Offset
+offset_sum (Fixed area offset) (Number least most) = option_map_or (λ o. within_at area (o + least) (o + most)) (not_negative offset) (Offset area)
+offset_sum (Within area low high) (Number least most) = within_at area (low + least) (high + most)
+offset_sum (Offset area) b = Offset area
+offset_sum (Fixed area offset) b = Offset area
+offset_sum (Within area low high) b = Offset area
+offset_sum a b = unbounded b
 
 -- 64-bit operations on two registers, and on a register and a constant
 abbrev pub computed : AluOp → Kind → Kind → Option Kind
 computed Mov a b = copy_kind b
 computed Add a b = if (is_offset a && is_same b) || (is_same a && is_offset b) then Some (offset_sum a b) else None
-computed Sub a b = if is_offset a && is_offset b then Some Both else None
+computed Sub a b = if are_alike a b then Some Both else None
 computed _ a b = None
 
 abbrev pub moved_kind : AluOp → Kind → ℤ → Option Kind
-moved_kind Add (Fixed offset) imm = Some (fixed_at (offset +ℤ imm))
-moved_kind Add kind imm = if is_offset kind then Some Offset else None
-moved_kind Sub kind imm = if is_offset kind then Some Offset else None
+moved_kind Add (Fixed area offset) imm = Some (fixed_at area (offset +ℤ imm))
+moved_kind Add kind imm = if is_offset kind then Some (unbounded kind) else None
+moved_kind Sub kind imm = if is_offset kind then Some (unbounded kind) else None
 moved_kind _ kind imm = None
 
 abbrev pub of_operand : Kinds → AluOp → Reg → Operand → Option Kind
@@ -104,20 +102,21 @@ is_equality Eq = true
 is_equality Ne = true
 is_equality _ = false
 
+-- offsets into one area
 abbrev pub are_offsets : Kinds → Reg → Reg → Bool
-are_offsets kinds dst src = is_offset (kinds (register_number dst)) && is_offset (kinds (register_number src))
+are_offsets kinds dst src = are_alike (kinds (register_number dst)) (kinds (register_number src))
 
--- an offset, or a number of which bounds are known: what a slot holds whole
+-- an offset into the context, or a number of which bounds are known: what a slot holds whole
 abbrev pub fills_slot : Kind → Bool
-fills_slot Offset = true
-fills_slot (Fixed offset) = true
-fills_slot (Within least most) = true
+fills_slot (Offset area) = not (is_own area)
+fills_slot (Fixed area offset) = not (is_own area)
+fills_slot (Within area least most) = not (is_own area)
 fills_slot (Number least most) = true
 fills_slot _ = false
 
 -- of an offset no bounds are said there
 abbrev pub slot_kind : Kind → Kind
-slot_kind (Within least most) = Offset
+slot_kind (Within area least most) = Offset area
 slot_kind kind = kind
 
 -- what a slot of the frame holds whole, and what is put there
@@ -152,8 +151,8 @@ by_kinds kinds i = option_or (by_exact kinds i) (by_offsets kinds i)
 -- each cell of a slot is the same, wherever the old program has something there
 abbrev pub is_plain : Kind → Bool
 is_plain Nothing = false
-is_plain Offset = false
-is_plain (Fixed offset) = false
+is_plain (Offset area) = false
+is_plain (Fixed area offset) = false
 is_plain _ = true
 
 abbrev pub AllPlain : Kinds → Type 0
@@ -192,21 +191,56 @@ Reads kinds i = IsSome (by_kinds kinds i) ⊎ (AreSame kinds (registers_read i) 
 abbrev pub result_kind : Kinds → Insn → Kind
 result_kind kinds i = option_map_or (λ kind. kind) (by_kinds kinds i) (number_kind kinds i)
 
--- ---- a load by another register
+-- the end of the own frame is moved to a register, and the new instruction puts its offset there
+abbrev pub is_framed : Insn → Insn → Bool
+is_framed (Alu Mov W64 dst (FromReg src)) (Alu Mov W64 to (Imm imm)) = is_r10 src && (register_number dst == register_number to && int_eq imm (origin Own))
+is_framed i moved = false
+
+-- what the old instruction writes, and the new one that stands for it
+abbrev pub written_kind : Kinds → Insn → Insn → Kind
+written_kind kinds i moved = if is_framed i moved then Fixed Own (origin Own) else result_kind kinds i
+
+-- ---- an access by another register
 
 abbrev pub rebased : Insn → Reg → ℤ → Option Insn
 rebased (Load size dst src off) base at = Some (Load size dst base at)
 rebased (LoadSx size dst src off) base at = Some (LoadSx size dst base at)
+rebased (Store size dst off src) base at = Some (Store size base at src)
+rebased (StoreImm size dst off imm) base at = Some (StoreImm size base at imm)
 rebased i base at = None
 
--- the places of the context to which two accesses go are the same
+-- the register that a store puts somewhere
+abbrev pub stored_by : Insn → Option Reg
+stored_by (Store size dst off src) = Some src
+stored_by _ = None
+
+-- the register holds the pointer at 0 of the area
+abbrev pub is_based : Area → Reg → Kind → Bool
+is_based area r kind = option_map_or (λ base. same_area base area) (base_of r kind) false
+
+-- an access by it goes where one by the pointer at an offset that is always the same goes
+abbrev pub by_base : Area → ℤ → Kind → Access → Access → Bool
+by_base area offset kind old new = is_based area new.base kind && int_eq (offset +ℤ old.offset) (origin area +ℤ new.offset)
+
+-- the places to which two accesses go are the same
 abbrev pub are_same_place : Access → Access → Kind → Kind → Bool
-are_same_place old new (Address of by) kind = register_number of == register_number old.base && int_eq (by +ℤ new.offset) old.offset
-are_same_place old new kind (Fixed offset) = is_base kind && int_eq (offset +ℤ old.offset) new.offset
+are_same_place old new (Address area of by) other = register_number of == register_number old.base && int_eq (by +ℤ new.offset) (old.offset -ℤ origin area)
+are_same_place old new kind (Fixed area offset) = by_base area offset kind old new
 are_same_place old new kind other = false
 
 abbrev pub is_same_place : Kinds → Access → Access → Bool
 is_same_place kinds old new = are_same_place old new (kinds (register_number new.base)) (kinds (register_number old.base))
+
+-- what that place is in
+abbrev pub place_area : Kind → Kind → Area
+place_area (Address area of by) other = area
+place_area kind (Fixed area offset) = area
+place_area kind other = Given
+
+-- on the frame it does the same, and what it stores is the same
+pub record IsSafe (kinds : Kinds) (i : Insn) (old new : Access) : Type 0 where
+  pub tame : (new.writes || is_own (place_area (kinds (register_number new.base)) (kinds (register_number old.base)))) ≡ true → IsTame kinds i
+  pub stored : IsSame kinds (stored_by i)
 
 -- displacements have 16 bits
 pub record ByAddress (kinds : Kinds) (i moved : Insn) : Type 0 where
@@ -217,6 +251,7 @@ pub record ByAddress (kinds : Kinds) (i moved : Insn) : Type 0 where
   pub alike : rebased i new.base new.offset ≡ Some moved
   pub same_place : is_same_place kinds old new ≡ true
   pub other : is_r10 old.base ≡ false
+  pub safe : IsSafe kinds i old new
   pub near : FitsSigned w16 new.offset
 
 -- ---- 32 bits or 64
@@ -250,7 +285,7 @@ widened kinds i = None
 
 -- the new instruction does what the old one does
 abbrev pub Pairs : Kinds → Insn → Insn → Type 0
-Pairs kinds i moved = ((undirected moved ≡ undirected i) × Reads kinds i) ⊎ (ByAddress kinds i moved ⊎ (widened kinds i ≡ Some moved))
+Pairs kinds i moved = ((undirected moved ≡ undirected i) × Reads kinds i) ⊎ (ByAddress kinds i moved ⊎ ((widened kinds i ≡ Some moved) ⊎ (is_framed i moved ≡ true)))
 
 -- ---- kinds along an edge
 
@@ -272,30 +307,42 @@ is_changed i r =
     else if writes_slot i r then true
     else option_map_or (λ w. r == register_number w) (register_written i) false
 
+-- a pointer by a register and r10
+abbrev pub is_lost : Insn → ℕ → Bool
+is_lost i r = is_call i || (is_changed i r || is_changed i 10)
+
 -- what is said by another register is gone with it
+abbrev pub is_gone : Insn → Kind → Bool
+is_gone i (Offset area) = is_own area && is_lost i 10
+is_gone i (Fixed area offset) = is_own area && is_lost i 10
+is_gone i (Within area least most) = is_own area && is_lost i 10
+is_gone i (Moved area of by) = is_lost i (register_number of)
+is_gone i (Address area of by) = is_lost i (register_number of)
+is_gone i (Saved of) = is_lost i (register_number of)
+is_gone i kind = false
+
 abbrev pub held : Insn → Kind → Kind
-held i (Moved of by) = if is_call i || is_changed i (register_number of) then Nothing else Moved of by
-held i (Address of by) = if is_call i || is_changed i (register_number of) then Nothing else Address of by
-held i (Saved of) = if is_call i || is_changed i (register_number of) then Nothing else Saved of
-held i kind = kind
+held i kind = if is_gone i kind then Nothing else kind
 
 -- what is said of places behind an instruction that writes what is of a kind
 abbrev pub kinds_after : Insn → Kind → Kinds → Kinds
 kinds_after i kind kinds r = if is_changed i r then kind else held i (kinds r)
 
 -- where it leads away (`taken`), or goes on
-abbrev pub kinds_behind : Bool → Insn → Kinds → Kinds
-kinds_behind taken i kinds = kinds_after i (result_kind kinds i) (told taken i kinds)
+abbrev pub kinds_behind : Bool → Insn → Insn → Kinds → Kinds
+kinds_behind taken i moved kinds = kinds_after i (written_kind kinds i moved) (told taken i kinds)
 
 -- behind a call that leaves its frame alone the slots hold what they held
-abbrev pub kinds_beyond : Bool → Bool → Insn → Kinds → Kinds
-kinds_beyond alone taken i kinds r = if is_call i && (alone && nat_le 11 r) then held i (kinds r) else kinds_behind taken i kinds r
+abbrev pub kinds_beyond : Bool → Bool → Insn → Insn → Kinds → Kinds
+kinds_beyond alone taken i moved kinds r = if is_call i && (alone && nat_le 11 r) then held i (kinds r) else kinds_behind taken i moved kinds r
+
+-- behind a call r0 is what the function gives back
+abbrev pub kinds_along : List (Option Place) → ℕ → Bool → Insn → Insn → Kinds → Kinds
+kinds_along notes slot taken i moved kinds r =
+    if is_call i then received (called_back notes slot i) (kinds_beyond (is_alone notes) taken i moved kinds) r else kinds_beyond (is_alone notes) taken i moved kinds r
 
 abbrev pub handed : Kind → Kind
-handed (Moved of by) = Nothing
-handed (Address of by) = Nothing
-handed (Saved of) = Nothing
-handed kind = kind
+handed kind = if is_of_other kind then Nothing else kind
 
 -- at the entry of a function: r1 to r5 are the caller's, r10 is its own frame in both, and the old program has nothing in the others, nor in
 -- the frame
@@ -327,10 +374,6 @@ pub record Enters (notes : List (Option Place)) (new : Instructions) (turns slot
 
 -- ---- an instruction
 
--- the slot to which the instruction at a slot jumps or calls
-abbrev pub led : ℕ → Insn → Option ℕ
-led slot i = option_and_then (target slot) (distance i)
-
 -- An instruction of the old program at the slot of a place, what stands for it, and what the registers hold in front of both.
 pub record IsSite (new : Instructions) (place : Place) (front : Front) (site : Site) : Type 0 where
   pub slot_is : site.slot ≡ front.slot
@@ -343,23 +386,24 @@ pub record IsSite (new : Instructions) (place : Place) (front : Front) (site : S
 -- the next instruction, where it may follow, stands behind
 abbrev pub Falls : List (Option Place) → ℕ → Site → Type 0
 Falls notes turns site = goes_on site.insn ≡ true → may_fall (known site.slot site.kinds) site.insn ≡ true
-    → Arrives notes turns (site.slot + slot_count site.insn) (site.new_slot + slot_count site.insn) (kinds_beyond (is_alone notes) false site.insn (known site.slot site.kinds))
+    → Arrives notes turns (site.slot + slot_count site.insn) (site.new_slot + slot_count site.insn) (kinds_along notes site.slot false site.insn site.moved (known site.slot site.kinds))
 
 -- where the old one leads to a slot the new one leads: a call to the entry
-abbrev pub Reaches : Bool → List (Option Place) → Instructions → ℕ → ℕ → ℕ → Insn → Kinds → Type 0
-Reaches true notes new turns to new_to i kinds = Enters notes new turns to new_to (listed (kinds_called kinds))
-Reaches false notes new turns to new_to i kinds = Arrives notes turns to new_to (kinds_beyond (is_alone notes) true i kinds)
+abbrev pub Reaches : Bool → List (Option Place) → Instructions → ℕ → ℕ → ℕ → ℕ → Insn → Insn → Kinds → Type 0
+Reaches true notes new turns to new_to slot i moved kinds = Enters notes new turns to new_to (listed (kinds_called kinds))
+Reaches false notes new turns to new_to slot i moved kinds = Arrives notes turns to new_to (kinds_along notes slot true i moved kinds)
 
 abbrev pub Leads : List (Option Place) → Instructions → ℕ → Site → Type 0
 Leads notes new turns site =
     (to : ℕ) → led site.slot site.insn ≡ Some to → may_lead (known site.slot site.kinds) site.insn ≡ true
-    → (new_to : ℕ) × (led site.new_slot site.moved ≡ Some new_to) × Reaches (is_call site.insn) notes new turns to new_to site.insn (known site.slot site.kinds)
+    → (new_to : ℕ) × (led site.new_slot site.moved ≡ Some new_to) × Reaches (is_call site.insn) notes new turns to new_to site.slot site.insn site.moved (known site.slot site.kinds)
 
 -- what stands for the old instruction at a slot
 pub record Stands (new : Instructions) (notes : List (Option Place)) (turns : ℕ) (place : Place) (front : Front) : Type 0 where
   pub site : Site
   pub is_site : IsSite new place front site
   pub lone : IsLone (is_alone notes) (known site.slot site.kinds) site.insn
+  pub gives_back : GivesBack notes turns place site
   pub falls : Falls notes turns site
   pub leads : Leads notes new turns site
 

@@ -1,6 +1,6 @@
 -- Numbers of which bounds are known: what an instruction makes of them, and what a test tells of them, by the number domain. Nothing here
 -- speaks of runs.
-use Rattle.std.specs.Prelude.{ℕ, ◌-◌, ◌^◌, ◌==◌, nat_lt, Bool, true, false, Option, Some, None, option_and_then, if◌then◌else◌}
+use Rattle.std.specs.Prelude.{ℕ, ◌-◌, ◌^◌, ◌==◌, nat_le, nat_lt, Bool, true, false, Option, Some, None, option_and_then, if◌then◌else◌}
 use Rattle.std.specs.Option.{option_map_or}
 use Rattle.bpf_insn.specs.Arithmetic.{extended}
 use Rattle.bpf_insn.specs.Instruction.{register_number, byte_count}
@@ -23,8 +23,8 @@ use Rattle.bpf_num.specs.Number.{Number as Num, number, top, constant, tighten}
 use Rattle.bpf_num.specs.Operation.{num_alu}
 use Rattle.bpf_num.specs.Refine.{refine}
 use Rattle.bpf_follows.specs.declared.notes.Kind.{Kind}
-use Rattle.bpf_follows.specs.declared.notes.Kind.TheVariants.{Same, Both, Number}
-use Rattle.bpf_follows.specs.Relation.{Kinds}
+use Rattle.bpf_follows.specs.declared.notes.Kind.TheVariants.{Same, Both, Number, Natural}
+use Rattle.bpf_follows.specs.Relation.{Kinds, most_natural}
 
 -- ---- kinds and sets of numbers
 
@@ -35,11 +35,12 @@ bounded least most = option_and_then (λ u. tighten (number bits_top u signed_to
 -- of a register that surely holds a number
 abbrev pub number_of : Kind → Option Num
 number_of (Number least most) = bounded least most
+number_of Natural = bounded 0 most_natural
 number_of _ = None
 
--- the bounds of a set, if they have 32 bits
+-- the bounds of a set, if they have 32 bits, or that all are below 2 ^ 63
 abbrev pub bounds_of : Kind → Num → Kind
-bounds_of kind n = if nat_lt n.unsigned.hi (2 ^ 32) then Number n.unsigned.lo n.unsigned.hi else kind
+bounds_of kind n = if nat_lt n.unsigned.hi (2 ^ 32) then Number n.unsigned.lo n.unsigned.hi else if nat_le n.unsigned.hi most_natural then Natural else kind
 
 -- of a register that surely holds a number of 32 bits
 abbrev pub is_bounded : Kind → Bool
@@ -58,6 +59,7 @@ is_numeric _ _ = true
 -- of a register that an operation reads
 abbrev pub read_number : Bool → Kind → Option Num
 read_number numeric (Number least most) = bounded least most
+read_number numeric Natural = bounded 0 most_natural
 read_number numeric Same = if numeric then Some top else None
 read_number numeric Both = if numeric then Some top else None
 read_number numeric _ = None

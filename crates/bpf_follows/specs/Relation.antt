@@ -1,5 +1,5 @@
 -- The simulation relation: how a state of the new machine follows one of the old machine.
-use Rattle.std.specs.Prelude.{◌≡◌, ℕ, ◌+◌, ◌*◌, ◌^◌, ◌<◌, ◌≤◌, ◌⊎◌, ◌==◌, nat_le, nat_lt, ◌&&◌, Bool, true, false, ℤ, pos, ◌+ℤ◌, ◌≤ℤ◌, int_le, FitsSigned, List, [], ◌∷◌, length, get_or, slice_index, Option, Some, None, if◌then◌else◌}
+use Rattle.std.specs.Prelude.{◌≡◌, ℕ, ◌+◌, ◌-◌, ◌*◌, ◌^◌, ◌<◌, ◌≤◌, ◌⊎◌, ◌==◌, nat_le, nat_lt, ◌&&◌, Bool, true, false, ℤ, pos, ◌+ℤ◌, ◌≤ℤ◌, int_le, FitsSigned, List, [], ◌∷◌, length, get_or, slice_index, Option, Some, None, if◌then◌else◌}
 use Rattle.std.specs.Int.{w64}
 use Rattle.std.specs.Option.{option_map_or}
 use Rattle.std.specs.Ordering.{int_eq}
@@ -14,10 +14,14 @@ use Rattle.bpf_semantics.specs.Memory.{byte_in}
 use Rattle.bpf_semantics.specs.Step.{wrapped}
 use Rattle.bpf_semantics.specs.declared.value.Value.{Value}
 use Rattle.bpf_semantics.specs.declared.value.Value.TheVariants.{Number as ANumber, Pointer}
+use Rattle.bpf_semantics.specs.declared.value.Region.{Region}
 use Rattle.bpf_semantics.specs.declared.value.Region.TheVariants.{Context}
+use Rattle.bpf_follows.specs.declared.notes.Area.{Area}
+use Rattle.bpf_follows.specs.declared.notes.Area.TheVariants.{Given, Own}
 use Rattle.bpf_follows.specs.declared.notes.Kind.{Kind}
-use Rattle.bpf_follows.specs.declared.notes.Kind.TheVariants.{Nothing, Unset, Same, Both, Number, Offset, Fixed, Within, Start, Base, Moved, Address, Saved, Constant, Counter, Turn, Alone}
+use Rattle.bpf_follows.specs.declared.notes.Kind.TheVariants.{Nothing, Unset, Same, Both, Number, Natural, Offset, Fixed, Within, Start, Base, Moved, Address, Saved, Constant, Counter, Turn, Alone, Returns}
 use Rattle.bpf_follows.specs.declared.notes.Place.{Place}
+use Rattle.bpf_follows.specs.Areas.{origin, is_own, same_area, IsInto}
 
 -- Notes speak of 75 places: r0 to r10, and the frame's 64 slots of eight bytes, the lowest first.
 abbrev pub places : ℕ
@@ -45,29 +49,47 @@ known slot kinds r = settled slot (kind_in kinds r)
 abbrev pub is_free : Kind → Bool
 is_free Unset = true
 is_free Base = true
-is_free (Moved of by) = true
-is_free (Address of by) = true
+is_free (Moved area of by) = true
+is_free (Address area of by) = true
 is_free (Saved of) = true
 is_free (Constant value) = true
 is_free (Counter head) = true
 is_free (Turn head) = true
 is_free _ = false
 
+-- numbers that aren't below 0 where they are read with their sign
+abbrev pub most_natural : ℕ
+most_natural = 2 ^ 63 - 1
+
+-- an offset says more than another
+abbrev pub offset_weaker : ℕ → Kind → Area → Bool
+offset_weaker r (Fixed area offset) into = same_area area into
+offset_weaker r (Within area least most) into = same_area area into
+offset_weaker r (Moved area of by) into = same_area area into && (register_number of == r && int_eq by (pos 0))
+offset_weaker r have into = false
+
+-- the same of one between bounds
+abbrev pub within_weaker : ℕ → Kind → Area → ℕ → ℕ → Bool
+within_weaker r (Fixed area offset) into low high = nat_lt r 11 && (same_area area into && (int_le (pos low) offset && int_le offset (pos high)))
+within_weaker r (Within area least most) into low high = same_area area into && (nat_le low least && nat_le most high)
+within_weaker r have into low high = false
+
 -- one kind of a place says more than another
 abbrev pub weaker : ℕ → ℕ → Kind → Kind → Bool
-weaker turns r (Fixed offset) Offset = true
-weaker turns r (Fixed offset) (Within low high) = nat_lt r 11 && (int_le (pos low) offset && int_le offset (pos high))
-weaker turns r (Within least most) (Within low high) = nat_le low least && nat_le most high
-weaker turns r (Within least most) Offset = true
+weaker turns r have (Offset into) = offset_weaker r have into
+weaker turns r have (Within into low high) = within_weaker r have into low high
 weaker turns r Start Same = true
 weaker turns r Start Base = true
-weaker turns r (Moved of by) Offset = register_number of == r && int_eq by (pos 0)
 weaker turns r (Constant value) (Counter head) = nat_le turns (extended value)
 weaker turns r (Number least most) (Number low high) = nat_le low least && nat_le most high
+weaker turns r (Number least most) Natural = nat_lt r 11 && nat_le most most_natural
 weaker turns r (Number least most) Both = nat_lt r 11
+weaker turns r Natural Both = nat_lt r 11
 weaker turns r (Number least most) Same = true
+weaker turns r Natural Same = true
 weaker turns r Both Same = true
 weaker turns r Same Alone = nat_lt r 11
+weaker turns r Same (Returns least most) = nat_lt r 11
 weaker turns r have Same = nat_le 11 r && is_free have
 weaker turns r have Unset = nat_le 11 r && is_free have
 weaker turns r _ _ = false
@@ -90,18 +112,24 @@ EachPair R [] [] = Unit {0}
 EachPair R (x ∷ xs) (y ∷ ys) = R x y × EachPair R xs ys
 EachPair R _ _ = ⊥
 
--- The old value is a pointer into the context, and the new one is made of its offset, moved: as a number, or as the pointer there.
-pub record HasOffset (by : ℤ) (make : ℤ → Value) (old new : Option Value) : Type 0 where
+-- The old value is a pointer into an area, where r10 holds `own`, and the new one is made of its offset, moved: as a number, or as the pointer
+-- there.
+pub record HasOffset (area : Area) (by : ℤ) (make : Region → ℤ → Value) (own old new : Option Value) : Type 0 where
+  pub region : Region
+  pub into : IsInto area own region
   pub offset : ℤ
   pub fits : FitsSigned w64 offset
-  pub old_is : old ≡ Some (Pointer Context offset)
-  pub new_is : new ≡ Some (make (offset +ℤ by))
+  pub old_is : old ≡ Some (Pointer region offset)
+  pub new_is : new ≡ Some (make region (offset +ℤ (origin area +ℤ by)))
 
 abbrev pub as_number : ℤ → Value
 as_number offset = ANumber (modulo offset (2 ^ 64))
 
-abbrev pub as_pointer : ℤ → Value
-as_pointer offset = Pointer Context (wrapped offset)
+abbrev pub as_offset : Region → ℤ → Value
+as_offset region offset = as_number offset
+
+abbrev pub as_pointer : Region → ℤ → Value
+as_pointer region offset = Pointer region (wrapped offset)
 
 -- what is left of so many turns, or more
 abbrev pub CountsDown : ℕ → ℕ → Option Value → Type 0
@@ -121,14 +149,16 @@ pub record IsOneNumber (least most : ℕ) (old new : Option Value) : Type 0 wher
   pub old_is : old ≡ Some (ANumber number)
   pub new_is : new ≡ Some (ANumber number)
 
--- the same as `HasOffset`, unmoved, and the offset lies between these two
-pub record IsWithin (least most : ℕ) (old new : Option Value) : Type 0 where
-  pub offset : ℤ
-  pub fits : FitsSigned w64 offset
-  pub low : pos least ≤ℤ offset
-  pub high : offset ≤ℤ pos most
-  pub old_is : old ≡ Some (Pointer Context offset)
-  pub new_is : new ≡ Some (as_number offset)
+-- an offset that isn't moved is this one
+pub record IsFixed (area : Area) (at : ℤ) (own old new : Option Value) : Type 0 where
+  pub has : HasOffset area (pos 0) as_offset own old new
+  pub is : has.offset +ℤ origin area ≡ at
+
+-- it lies between these two
+pub record IsWithin (area : Area) (least most : ℕ) (own old new : Option Value) : Type 0 where
+  pub has : HasOffset area (pos 0) as_offset own old new
+  pub low : pos least ≤ℤ (has.offset +ℤ origin area)
+  pub high : (has.offset +ℤ origin area) ≤ℤ pos most
 
 -- A register of the new machine by its kind, where the old machine has these registers. `passed` says how often the old run has come to
 -- each slot so far.
@@ -138,16 +168,18 @@ FitsKind turns passed old r Unset new = old r ≡ None
 FitsKind turns passed old r Same new = IsKept (old r) new
 FitsKind turns passed old r Both new = IsOneValue (old r) new
 FitsKind turns passed old r (Number least most) new = IsOneNumber least most (old r) new
-FitsKind turns passed old r Offset new = HasOffset (pos 0) as_number (old r) new
-FitsKind turns passed old r (Fixed offset) new = FitsSigned w64 offset × (old r ≡ Some (Pointer Context offset)) × (new ≡ Some (as_number offset))
-FitsKind turns passed old r (Within least most) new = IsWithin least most (old r) new
+FitsKind turns passed old r Natural new = IsOneNumber 0 most_natural (old r) new
+FitsKind turns passed old r (Offset area) new = HasOffset area (pos 0) as_offset (old 10) (old r) new
+FitsKind turns passed old r (Fixed area offset) new = IsFixed area offset (old 10) (old r) new
+FitsKind turns passed old r (Within area least most) new = IsWithin area least most (old 10) (old r) new
 FitsKind turns passed old r Start new = (old r ≡ Some (Pointer Context (pos 0))) × (new ≡ Some (Pointer Context (pos 0)))
 FitsKind turns passed old r Base new = new ≡ Some (Pointer Context (pos 0))
-FitsKind turns passed old r (Moved of by) new = HasOffset by as_number (old (register_number of)) new
-FitsKind turns passed old r (Address of by) new = HasOffset by as_pointer (old (register_number of)) new
+FitsKind turns passed old r (Moved area of by) new = HasOffset area by as_offset (old 10) (old (register_number of)) new
+FitsKind turns passed old r (Address area of by) new = HasOffset area by as_pointer (old 10) (old (register_number of)) new
 FitsKind turns passed old r (Saved of) new = IsOneValue (old (register_number of)) new
 FitsKind turns passed old r (Constant value) new = new ≡ Some (ANumber (extended value))
 FitsKind turns passed old r Alone new = IsKept (old r) new
+FitsKind turns passed old r (Returns least most) new = IsKept (old r) new
 FitsKind turns passed old r (Counter head) new = CountsDown turns (passed head) new
 FitsKind turns passed old r (Turn head) new = CountsDown turns (passed head + 1) new
 
@@ -201,6 +233,11 @@ pub record HoldsOwn (order : Order) (turns : ℕ) (passed : ℕ → ℕ) (regist
   pub holds : Holds order new k value
   pub fits : FitsKind turns passed registers (11 + k) kind (Some value)
 
+-- slots hold offsets into the context alone
+abbrev pub IfGiven : Area → Type 0 → Type 0
+IfGiven Given T = T
+IfGiven Own T = ⊥
+
 -- A slot of the new machine's frame by its kind, where the old machine has these registers and these cells.
 abbrev pub FitsSlot : Order → ℕ → (ℕ → ℕ) → (ℕ → Option Value) → List (Option Cell) → List (Option Cell) → ℕ → Kind → Type 0
 FitsSlot order turns passed registers old new k Nothing = Unit {0}
@@ -208,11 +245,13 @@ FitsSlot order turns passed registers old new k Unset = IsUnset old k
 FitsSlot order turns passed registers old new k Same = SlotKept old new k
 FitsSlot order turns passed registers old new k Both = ⊥
 FitsSlot order turns passed registers old new k (Number least most) = HoldsNumber order least most old new k
-FitsSlot order turns passed registers old new k Offset = HoldsOffset order old new k
-FitsSlot order turns passed registers old new k (Fixed offset) = HoldsFixed order offset old new k
-FitsSlot order turns passed registers old new k (Within least most) = ⊥
+FitsSlot order turns passed registers old new k Natural = ⊥
+FitsSlot order turns passed registers old new k (Offset area) = IfGiven area (HoldsOffset order old new k)
+FitsSlot order turns passed registers old new k (Fixed area offset) = IfGiven area (HoldsFixed order offset old new k)
+FitsSlot order turns passed registers old new k (Within area least most) = ⊥
 FitsSlot order turns passed registers old new k Start = ⊥
 FitsSlot order turns passed registers old new k Alone = ⊥
+FitsSlot order turns passed registers old new k (Returns least most) = ⊥
 FitsSlot order turns passed registers old new k kind = HoldsOwn order turns passed registers old new k kind
 
 -- a byte of the old machine is one of the new one
@@ -228,17 +267,28 @@ pub record FrameFits (order : Order) (turns : ℕ) (passed : ℕ → ℕ) (kinds
   pub stack : EachPair IsRead old.stack new.stack
   pub slots : (k : ℕ) → k < 64 → FitsSlot order turns passed (register_in old) old.stack new.stack k (kinds (11 + k))
 
--- and the new frame goes on where the notes say
-pub record FrameFollows (order : Order) (notes : List (Option Place)) (turns : ℕ) (passed : ℕ → ℕ) (old new : StackFrame) : Type 0 where
+-- r0 is what is given back
+abbrev pub received : Kind → Kinds → Kinds
+received back kinds r = if r == 0 then back else kinds r
+
+-- a frame that waits has nothing in r0 yet
+abbrev pub kinds_waiting : Place → Kinds
+kinds_waiting place = received Nothing (kinds_of place)
+
+-- and the new frame goes on where the notes say; they say these kinds of it
+pub record FrameFollows (order : Order) (notes : List (Option Place)) (turns : ℕ) (passed : ℕ → ℕ) (kinds : Place → Kinds) (old new : StackFrame) : Type 0 where
   pub place : Place
   pub noted : place_at notes old.slot ≡ Some place
   pub slot_is : new.slot ≡ place.first
-  pub fits : FrameFits order turns passed (kinds_of place) old new
+  pub fits : FrameFits order turns passed (kinds place) old new
 
--- it is said of a register by another register's value
+-- it is said of a register by another register's value, or by r10
 abbrev pub is_of_other : Kind → Bool
-is_of_other (Moved of by) = true
-is_of_other (Address of by) = true
+is_of_other (Offset area) = is_own area
+is_of_other (Fixed area offset) = is_own area
+is_of_other (Within area least most) = is_own area
+is_of_other (Moved area of by) = true
+is_of_other (Address area of by) = true
 is_of_other (Saved of) = true
 is_of_other _ = false
 
@@ -250,17 +300,17 @@ is_lone _ = false
 abbrev pub is_alone : List (Option Place) → Bool
 is_alone notes = option_map_or (λ place. is_lone (kind_in place.kinds 10)) (place_at notes 0) false
 
--- A frame that waits for a call. What the call gives it, and what it loses by it, is the same in both; and so is each cell of its stack, if the
--- functions that are called may reach it.
+-- A frame that waits for a call. What it loses by it is lost in both; and each cell of its stack is the same, if the functions that are
+-- called may reach it.
 pub record FrameWaits (order : Order) (notes : List (Option Place)) (turns : ℕ) (passed : ℕ → ℕ) (old new : StackFrame) : Type 0 where
-  pub follows : FrameFollows order notes turns passed old new
-  pub result : (r : ℕ) → r < 6 → Gives turns r Same (kinds_of follows.place r)
+  pub follows : FrameFollows order notes turns passed kinds_waiting old new
+  pub result : (r : ℕ) → r < 6 → Gives turns r Same (kinds_waiting follows.place r)
   pub own : (r : ℕ) → r < places → is_of_other (kinds_of follows.place r) ≡ false
   pub kept : is_alone notes ≡ false → EachPair IsKept old.stack new.stack
-  pub slots : is_alone notes ≡ false → (k : ℕ) → k < 64 → Gives turns (11 + k) Same (kinds_of follows.place (11 + k))
+  pub slots : is_alone notes ≡ false → (k : ℕ) → k < 64 → Gives turns (11 + k) Same (kinds_waiting follows.place (11 + k))
 
 -- The new state follows the old one: as many frames are live, each follows, and the context is the same.
 pub record Follows (order : Order) (notes : List (Option Place)) (turns : ℕ) (passed : ℕ → ℕ) (old new : State) : Type 0 where
-  pub top : FrameFollows order notes turns passed old.top new.top
+  pub top : FrameFollows order notes turns passed kinds_of old.top new.top
   pub waiting : EachPair (FrameWaits order notes turns passed) old.waiting new.waiting
   pub context_is : new.context ≡ old.context

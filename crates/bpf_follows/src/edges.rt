@@ -1,12 +1,14 @@
 //! Edges: where an instruction leads, and what the notes say there.
 
 ghost use Rattle.std.specs.Prelude.{◌≡◌, ◌<◌, ◌↔◌, ℕ, IsTrue};
-ghost use Rattle.bpf_follows.specs.Relation.{places, kind_in, kinds_of, known, is_alone, Gives};
-ghost use Rattle.bpf_follows.specs.Matching.{kinds_beyond, start_kinds, Arrives, Enters};
+ghost use Rattle.bpf_insn.specs.Limits.{max_slots};
+ghost use Rattle.bpf_follows.specs.Relation.{places, kind_in, kinds_of, known, Gives};
+ghost use Rattle.bpf_follows.specs.Matching.{kinds_along, start_kinds, Arrives, Enters};
 
 use crate::extras::extras;
-use crate::kinds::{gives, is_alone, kind_beyond, kind_of, place_at, start_kinds};
+use crate::kinds::{gives, kind_of, place_at, start_kinds};
 use crate::notes::{Bounds, Kinds, PLACES, Place};
+use crate::returned::kind_along;
 use crate::site::Site;
 use bpf_insn::Code;
 
@@ -22,14 +24,15 @@ pub struct Edge {
 // ---- jumps, and the ways to the next instruction
 
 /// Whether what places hold behind an instruction is enough for a place.
-fn all_given(alone: bool, turns: u32, site: &Site, taken: bool, to: &Place) -> bool
-    ensures { IsTrue result ↔ ((r : ℕ) → r < places → Gives turns r (kinds_beyond alone taken site.now.insn (known site.now.slot site.now.kinds) r) (kinds_of to.now r)) }
+fn all_given(notes: &[Option<Place>], turns: u32, site: &Site, taken: bool, to: &Place) -> bool
+    requires below { site.now.slot < max_slots }
+    ensures { IsTrue result ↔ ((r : ℕ) → r < places → Gives turns r (kinds_along notes.now site.now.slot taken site.now.insn site.now.moved (known site.now.slot site.now.kinds) r) (kinds_of to.now r)) }
 {
     for r in 0..PLACES as u8 {
         if !gives(
             turns,
             r,
-            kind_beyond(alone, site, taken, r),
+            kind_along(notes, site, taken, r),
             kind_of(&to.kinds, r),
         ) {
             return false;
@@ -40,12 +43,11 @@ fn all_given(alone: bool, turns: u32, site: &Site, taken: bool, to: &Place) -> b
 
 /// Whether an edge leads where the notes say, and they ask no more there than they give here.
 pub fn arrives(notes: &[Option<Place>], turns: u32, site: &Site, edge: Edge) -> bool
-    ensures { IsTrue result ↔ Arrives notes.now turns edge.slot edge.new_slot (kinds_beyond (is_alone notes.now) edge.taken site.now.insn (known site.now.slot site.now.kinds)) }
+    requires below { site.now.slot < max_slots }
+    ensures { IsTrue result ↔ Arrives notes.now turns edge.slot edge.new_slot (kinds_along notes.now site.now.slot edge.taken site.now.insn site.now.moved (known site.now.slot site.now.kinds)) }
 {
     match place_at(notes, edge.slot) {
-        Some(to) => {
-            edge.new_slot == to.first && all_given(is_alone(notes), turns, site, edge.taken, to)
-        },
+        Some(to) => { edge.new_slot == to.first && all_given(notes, turns, site, edge.taken, to) },
         None => false,
     }
 }

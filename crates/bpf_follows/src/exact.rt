@@ -6,8 +6,9 @@ ghost use Rattle.bpf_insn.specs.Arithmetic.{low};
 ghost use Rattle.bpf_follows.specs.Relation.{known};
 ghost use Rattle.bpf_follows.specs.Exact.{exactly, operand_exactly, fixed_at, exact_kind, alu_exactly, apart, sum_kind, alu_fixed, alu_of_kinds, by_exact, decided, may_fall, may_lead};
 
+use crate::areas::same_area;
 use crate::kinds::known_in;
-use crate::notes::Kind;
+use crate::notes::{Area, Kind};
 use crate::site::Site;
 use bpf_insn::{AluOp, Insn, Operand, Width, extended};
 
@@ -35,15 +36,16 @@ fn operand_exactly(site: &Site, src: Operand) -> Option<u64>
 const FARTHEST: u64 = 0x7fff_ffff;
 
 /// An offset that is always the same, if it isn't too far away.
-pub fn fixed_at(offset: i64) -> Kind
-    ensures { result ≡ fixed_at offset }
+pub fn fixed_at(area: Area, offset: i64) -> Kind
+    ensures { result ≡ fixed_at area offset }
 {
     if offset.unsigned_abs() <= FARTHEST {
         Kind::Fixed {
+            area,
             offset: offset as i32,
         }
     } else {
-        Kind::Offset
+        Kind::Offset { area }
     }
 }
 
@@ -93,11 +95,11 @@ fn apart(offset: i32, other: i32) -> Option<Kind>
 }
 
 /// The sum of an offset and a number that are always the same.
-fn sum_kind(offset: i32, kind: Kind) -> Option<Kind>
-    ensures { result ≡ sum_kind offset kind }
+fn sum_kind(area: Area, offset: i32, kind: Kind) -> Option<Kind>
+    ensures { result ≡ sum_kind area offset kind }
 {
     let n = exactly(kind)?;
-    Some(fixed_at(i64::from(offset) + i64::from(n)))
+    Some(fixed_at(area, i64::from(offset) + i64::from(n)))
 }
 
 /// What an operation makes of offsets that are always the same.
@@ -105,15 +107,25 @@ fn alu_fixed(width: Width, op: AluOp, kind: Kind, other: Kind) -> Option<Kind>
     ensures { result ≡ alu_fixed width op kind other }
 {
     match (width, op, kind, other) {
-        (Width::W64, AluOp::Add, Kind::Fixed { offset }, Kind::Number { .. }) => {
-            sum_kind(offset, other)
+        (Width::W64, AluOp::Add, Kind::Fixed { area, offset }, Kind::Number { .. }) => {
+            sum_kind(area, offset, other)
         }
-        (Width::W64, AluOp::Add, Kind::Number { .. }, Kind::Fixed { offset }) => {
-            sum_kind(offset, kind)
+        (Width::W64, AluOp::Add, Kind::Number { .. }, Kind::Fixed { area, offset }) => {
+            sum_kind(area, offset, kind)
         }
-        (Width::W64, AluOp::Sub, Kind::Fixed { offset }, Kind::Fixed { offset: other }) => {
+        (
+            Width::W64,
+            AluOp::Sub,
+            Kind::Fixed { area, offset },
+            Kind::Fixed {
+                area: into,
+                offset: other,
+            },
+        ) => if same_area(area, into) {
             apart(offset, other)
-        }
+        } else {
+            None
+        },
         _ => None,
     }
 }

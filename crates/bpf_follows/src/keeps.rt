@@ -38,7 +38,7 @@ fn kept_kind(r: Reg, kind: Kind) -> Option<Kind>
 {
     match kind {
         Kind::Counter { .. } | Kind::Turn { .. } => Some(kind),
-        Kind::Both => Some(Kind::Saved { of: r }),
+        Kind::Both | Kind::Natural => Some(Kind::Saved { of: r }),
         _ => copied(r, kind),
     }
 }

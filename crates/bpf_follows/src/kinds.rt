@@ -2,13 +2,15 @@
 
 ghost use Rattle.std.specs.Prelude.{◌≡◌, ◌<◌, ◌==◌, ◌↔◌, IsTrue, option_copied};
 ghost use Rattle.bpf_insn.specs.Instruction.{register_number};
-ghost use Rattle.bpf_follows.specs.Relation.{kind_in, place_at, is_lone, is_alone, is_free, weaker, Gives, known};
-ghost use Rattle.bpf_follows.specs.Matching.{is_call, is_changed, held, kinds_behind, kinds_beyond, kinds_called, listed, start_kinds};
+ghost use Rattle.bpf_follows.specs.Relation.{kind_in, place_at, is_lone, is_alone, is_free, is_of_other, offset_weaker, within_weaker, weaker, Gives, known};
+ghost use Rattle.bpf_follows.specs.Returned.{is_call};
+ghost use Rattle.bpf_follows.specs.Matching.{is_changed, is_lost, is_gone, held, kinds_behind, kinds_beyond, kinds_called, listed, start_kinds};
 
+use crate::areas::{is_own, same_area};
 use crate::frame::writes_slot;
-use crate::notes::{Kind, Kinds, PLACES, Place};
-use crate::numbers::told;
-use crate::pairs::result_kind;
+use crate::notes::{Area, Kind, Kinds, PLACES, Place};
+use crate::numbers::{MOST_NATURAL, told};
+use crate::pairs::written_kind;
 use crate::site::Site;
 use bpf_insn::{Insn, Reg, extended};
 
@@ -76,27 +78,48 @@ pub fn is_free(kind: Kind) -> bool
     }
 }
 
+/// Whether a kind of the place says more than that it is an offset into an area.
+fn offset_weaker(r: u8, have: Kind, into: Area) -> bool
+    ensures { result ≡ offset_weaker r have into }
+{
+    match have {
+        Kind::Fixed { area, .. } => same_area(area, into),
+        Kind::Within { area, .. } => same_area(area, into),
+        Kind::Moved { area, of, by } => same_area(area, into) && of as u8 == r && by == 0,
+        _ => false,
+    }
+}
+
+/// Whether it says more than that it is one between these two.
+fn within_weaker(r: u8, have: Kind, into: Area, low: u32, high: u32) -> bool
+    ensures { result ≡ within_weaker r have into low high }
+{
+    match have {
+        Kind::Fixed { area, offset } => {
+            r < REGISTERS
+                && same_area(area, into)
+                && i64::from(low) <= i64::from(offset)
+                && i64::from(offset) <= i64::from(high)
+        }
+        Kind::Within { area, least, most } => {
+            same_area(area, into) && low <= least && most <= high
+        }
+        _ => false,
+    }
+}
+
 /// Whether one kind of the place says more than another.
 fn weaker(turns: u32, r: u8, have: Kind, want: Kind) -> bool
     ensures { result ≡ weaker turns r have want }
 {
+    if let Kind::Offset { area } = want {
+        return offset_weaker(r, have, area);
+    }
+    if let Kind::Within { area, least, most } = want {
+        return within_weaker(r, have, area, least, most);
+    }
     match (have, want) {
-        (Kind::Fixed { .. }, Kind::Offset) => true,
-        (Kind::Fixed { offset }, Kind::Within { least, most }) => {
-            r < REGISTERS
-                && i64::from(least) <= i64::from(offset)
-                && i64::from(offset) <= i64::from(most)
-        }
-        (
-            Kind::Within { least, most },
-            Kind::Within {
-                least: low,
-                most: high,
-            },
-        ) => { low <= least && most <= high }
-        (Kind::Within { .. }, Kind::Offset) => true,
         (Kind::Start, Kind::Same | Kind::Base) => true,
-        (Kind::Moved { of, by }, Kind::Offset) => of as u8 == r && by == 0,
         (Kind::Constant { value }, Kind::Counter { .. }) => u64::from(turns) <= extended(value),
         (
             Kind::Number { least, most },
@@ -105,16 +128,19 @@ fn weaker(turns: u32, r: u8, have: Kind, want: Kind) -> bool
                 most: high,
             },
         ) => { low <= least && most <= high }
-        (Kind::Number { .. }, Kind::Both) => r < REGISTERS,
-        (Kind::Number { .. } | Kind::Both, Kind::Same) => true,
-        (Kind::Same, Kind::Alone) => r < REGISTERS,
+        (Kind::Number { most, .. }, Kind::Natural) => {
+            r < REGISTERS && u64::from(most) <= MOST_NATURAL
+        }
+        (Kind::Number { .. } | Kind::Natural, Kind::Both) => r < REGISTERS,
+        (Kind::Number { .. } | Kind::Natural | Kind::Both, Kind::Same) => true,
+        (Kind::Same, Kind::Alone | Kind::Returns { .. }) => r < REGISTERS,
         (_, Kind::Same | Kind::Unset) => r >= REGISTERS && is_free(have),
         _ => false,
     }
 }
 
 /// Whether two kinds are the same.
-fn is_same(a: Kind, b: Kind) -> bool
+pub fn is_same(a: Kind, b: Kind) -> bool
     ensures { IsTrue result ↔ (a ≡ b) }
 {
     a == b
@@ -152,19 +178,36 @@ fn is_changed(insn: &Insn, r: u8) -> bool
     }
 }
 
-/// What is left of what was said of a register, where one of the old program is changed.
+/// Whether what is said of a pointer of the old program by a register and r10 is gone.
+fn is_lost(insn: &Insn, r: u8) -> bool
+    ensures { result ≡ is_lost insn.now r }
+{
+    is_call(insn) || is_changed(insn, r) || is_changed(insn, 10)
+}
+
+/// Whether what was said of a register is gone, where one of the old program is changed.
+fn is_gone(insn: &Insn, kind: Kind) -> bool
+    ensures { result ≡ is_gone insn.now kind }
+{
+    match kind {
+        Kind::Offset { area } => is_own(area) && is_lost(insn, 10),
+        Kind::Fixed { area, .. } => is_own(area) && is_lost(insn, 10),
+        Kind::Within { area, .. } => is_own(area) && is_lost(insn, 10),
+        Kind::Moved { of, .. } => is_lost(insn, of as u8),
+        Kind::Address { of, .. } => is_lost(insn, of as u8),
+        Kind::Saved { of } => is_lost(insn, of as u8),
+        _ => false,
+    }
+}
+
+/// What is left of what was said of a register.
 fn held(insn: &Insn, kind: Kind) -> Kind
     ensures { result ≡ held insn.now kind }
 {
-    match kind {
-        Kind::Moved { of, .. } | Kind::Address { of, .. } | Kind::Saved { of } => {
-            if is_call(insn) || is_changed(insn, of as u8) {
-                Kind::Nothing
-            } else {
-                kind
-            }
-        }
-        _ => kind,
+    if is_gone(insn, kind) {
+        Kind::Nothing
+    } else {
+        kind
     }
 }
 
@@ -189,10 +232,10 @@ pub fn known_in(site: &Site, r: Reg) -> Kind
 /// What a place holds behind the instruction, where it leads away (`taken`) or goes on.
 fn kind_behind(site: &Site, taken: bool, r: u8) -> Kind
     requires { r < 75 }
-    ensures { result ≡ kinds_behind taken site.now.insn (known site.now.slot site.now.kinds) r }
+    ensures { result ≡ kinds_behind taken site.now.insn site.now.moved (known site.now.slot site.now.kinds) r }
 {
     if is_changed(&site.insn, r) {
-        result_kind(site)
+        written_kind(site)
     } else {
         held(&site.insn, told(site, taken, r))
     }
@@ -201,12 +244,25 @@ fn kind_behind(site: &Site, taken: bool, r: u8) -> Kind
 /// The same, where each function leaves the frames of others alone, if it does.
 pub fn kind_beyond(alone: bool, site: &Site, taken: bool, r: u8) -> Kind
     requires { r < 75 }
-    ensures { result ≡ kinds_beyond alone taken site.now.insn (known site.now.slot site.now.kinds) r }
+    ensures { result ≡ kinds_beyond alone taken site.now.insn site.now.moved (known site.now.slot site.now.kinds) r }
 {
     if is_call(&site.insn) && alone && r >= REGISTERS {
         held(&site.insn, known(site, r))
     } else {
         kind_behind(site, taken, r)
+    }
+}
+
+/// Whether it is said of a register by the value of another one, or of r10.
+fn is_of_other(kind: Kind) -> bool
+    ensures { result ≡ is_of_other kind }
+{
+    match kind {
+        Kind::Offset { area } => is_own(area),
+        Kind::Fixed { area, .. } => is_own(area),
+        Kind::Within { area, .. } => is_own(area),
+        Kind::Moved { .. } | Kind::Address { .. } | Kind::Saved { .. } => true,
+        _ => false,
     }
 }
 
@@ -218,9 +274,11 @@ fn kind_called(site: &Site, r: u8) -> Kind
     if r == 0 || r > 5 {
         return Kind::Same;
     }
-    match known(site, r) {
-        Kind::Moved { .. } | Kind::Address { .. } | Kind::Saved { .. } => Kind::Nothing,
-        kind => kind,
+    let kind = known(site, r);
+    if is_of_other(kind) {
+        Kind::Nothing
+    } else {
+        kind
     }
 }
 

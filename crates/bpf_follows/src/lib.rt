@@ -2,10 +2,12 @@
 #![tactic(auto)]
 
 mod ahead;
+mod areas;
 mod edges;
 mod exact;
 mod extras;
 mod frame;
+mod guards;
 mod keeps;
 mod kinds;
 mod laws;
@@ -14,6 +16,8 @@ pub mod notes;
 pub mod numbers;
 mod pairs;
 mod pass;
+mod rebased;
+mod returned;
 pub mod site;
 pub mod stands;
 mod tame;
@@ -22,5 +26,5 @@ mod whole;
 pub use exact::{by_exact, may_fall, may_lead};
 pub use laws::matching_keeps_meaning;
 pub use mismatch::{Fault, Mismatch};
-pub use notes::{Bounds, Kind, Kinds, PLACES, Place};
+pub use notes::{Area, Bounds, Kind, Kinds, PLACES, Place};
 pub use pass::follows;

@@ -2,6 +2,15 @@
 
 use bpf_insn::Reg;
 
+/// What pointers of the old program point into, and where its first byte is: offsets are counted from there.
+#[derive(Clone, Copy, PartialEq)]
+pub enum Area {
+    /// The context.
+    Given,
+    /// The function's own frame, of 512 bytes, whose end is in r10.
+    Own,
+}
+
 /// What the new program has in a register, or in a slot of its frame, in front of an old instruction. Where a kind names a register, that is
 /// one of the old program.
 #[derive(Clone, Copy, PartialEq)]
@@ -16,20 +25,22 @@ pub enum Kind {
     Both,
     /// The same number, from the least to the most. Both have one there.
     Number { least: u32, most: u32 },
-    /// The offset, modulo 2^64, of the pointer into the context that the old program has there.
-    Offset,
+    /// The same number, below 2^63. Both have one there.
+    Natural,
+    /// The offset, modulo 2^64, of the pointer into an area that the old program has there.
+    Offset { area: Area },
     /// The same, and the offset is always this one.
-    Fixed { offset: i32 },
+    Fixed { area: Area, offset: i32 },
     /// The same, and the offset lies between these two.
-    Within { least: u32, most: u32 },
+    Within { area: Area, least: u32, most: u32 },
     /// The pointer to the context's first byte, as the old program.
     Start,
     /// The pointer to the context's first byte. Of the old program nothing is said.
     Base,
-    /// The offset of the pointer into the context that the old program has in a register, moved, modulo 2^64.
-    Moved { of: Reg, by: i32 },
-    /// The pointer into the context at that offset.
-    Address { of: Reg, by: i32 },
+    /// The offset of the pointer into an area that the old program has in a register, moved, modulo 2^64.
+    Moved { area: Area, of: Reg, by: i32 },
+    /// The pointer into that area at that offset.
+    Address { area: Area, of: Reg, by: i32 },
     /// The value that the old program has in a register, where it has one.
     Saved { of: Reg },
     /// A constant, with its sign extended. Of the old program nothing is said.
@@ -40,6 +51,8 @@ pub enum Kind {
     Turn { head: u32 },
     /// The same value, in r10. In front of the first instruction: each function leaves the frames of others alone.
     Alone,
+    /// The same value, in r10. What the function gives back is a number from the least to the most.
+    Returns { least: u32, most: u32 },
 }
 
 /// How many places notes speak of: r0 to r10, and the 64 slots of eight bytes of the frame.

@@ -13,11 +13,14 @@ use bpf_num::{KnownBits, Num, Signed, Unsigned, WordDomain};
 
 // ---- kinds and sets of numbers
 
+/// The greatest number that isn't below 0 where it is read with its sign.
+pub(crate) const MOST_NATURAL: u64 = 0x7fff_ffff_ffff_ffff;
+
 /// The numbers from the least to the most.
-fn bounded(least: u32, most: u32) -> Option<Num>
+fn bounded(least: u64, most: u64) -> Option<Num>
     ensures { result ≡ bounded least most }
 {
-    let unsigned = Unsigned::top().met_with(u64::from(least), u64::from(most))?;
+    let unsigned = Unsigned::top().met_with(least, most)?;
     Num::of(KnownBits::top(), unsigned, Signed::top()).tighten()
 }
 
@@ -26,12 +29,13 @@ fn number_of(kind: Kind) -> Option<Num>
     ensures { result ≡ number_of kind }
 {
     match kind {
-        Kind::Number { least, most } => bounded(least, most),
+        Kind::Number { least, most } => bounded(u64::from(least), u64::from(most)),
+        Kind::Natural => bounded(0, MOST_NATURAL),
         _ => None,
     }
 }
 
-/// The bounds of a set, if they have 32 bits.
+/// The bounds of a set, if they have 32 bits, or that all are below 2^63.
 fn bounds_of(kind: Kind, number: Num) -> Kind
     ensures { result ≡ bounds_of kind number }
 {
@@ -42,6 +46,8 @@ fn bounds_of(kind: Kind, number: Num) -> Kind
             least: unsigned.lo() as u32,
             most: unsigned.hi() as u32,
         }
+    } else if unsigned.hi() <= MOST_NATURAL {
+        Kind::Natural
     } else {
         kind
     }
@@ -74,7 +80,8 @@ fn read_number(numeric: bool, kind: Kind) -> Option<Num>
     ensures { result ≡ read_number numeric kind }
 {
     match kind {
-        Kind::Number { least, most } => bounded(least, most),
+        Kind::Number { least, most } => bounded(u64::from(least), u64::from(most)),
+        Kind::Natural => bounded(0, MOST_NATURAL),
         Kind::Same | Kind::Both if numeric => Some(Num::top()),
         _ => None,
     }

@@ -1,26 +1,26 @@
 //! An instruction of the old program and the one that stands for it.
 
-ghost use Rattle.std.specs.Prelude.{◌≡◌, ◌<◌, ◌+ℤ◌, ◌↔◌, IsTrue, IsOk, Some};
+ghost use Rattle.std.specs.Prelude.{◌≡◌, ◌<◌, ◌↔◌, IsTrue, IsOk, Some};
 ghost use Rattle.std.specs.List.{filter_map};
-ghost use Rattle.std.specs.Ordering.{int_eq};
 ghost use Rattle.bpf_follows.specs.Relation.{known};
-ghost use Rattle.bpf_follows.specs.Extras.{is_same};
-ghost use Rattle.bpf_follows.specs.Matching.{undirected, IsSame, AreSame, is_offset, copy_kind, within_at, offset_sum, computed, moved_kind, of_operand, is_equality, are_offsets, by_offsets, by_kinds, result_kind, Reads, is_sum, is_moved, is_natural, is_wide, widened, rebased, are_same_place, is_same_place, ByAddress, Pairs};
+ghost use Rattle.bpf_follows.specs.Matching.{undirected, IsSame, AreSame, copy_kind, within_at, offset_sum, computed, moved_kind, of_operand, is_equality, are_offsets, by_offsets, by_kinds, result_kind, is_framed, written_kind, Reads, is_sum, is_moved, is_natural, is_wide, widened, Pairs};
 
+use crate::areas::{are_alike, is_offset, origin, unbounded};
 use crate::exact::{by_exact, fixed_at};
-use crate::extras::{is_base, is_same};
+use crate::extras::is_same;
 use crate::frame::is_r10;
 use crate::kinds::{is_register, known_in};
 use crate::mismatch::Fault;
-use crate::notes::Kind;
+use crate::notes::{Area, Kind};
 use crate::numbers::{is_bounded, number_kind};
+use crate::rebased::by_address;
 use crate::site::Site;
 use crate::tame::is_tame;
 use crate::whole::{loaded, put_constant, spilled};
-use bpf_insn::{Access, AluOp, Cond, Insn, Operand, Reg, Size, Width};
+use bpf_insn::{AluOp, Cond, Insn, Operand, Reg, Size, Width};
 
 /// Whether two instructions are the same.
-fn same(a: Insn, b: Insn) -> bool
+pub fn same(a: Insn, b: Insn) -> bool
     ensures { IsTrue result ↔ (a ≡ b) }
 {
     a.is(&b)
@@ -54,7 +54,7 @@ fn undirected(insn: Insn) -> Insn
 // ---- the same instruction
 
 /// Whether the register that is read, if one is, holds the same.
-fn reads_same(site: &Site, read: Option<Reg>) -> bool
+pub fn reads_same(site: &Site, read: Option<Reg>) -> bool
     ensures { IsTrue result ↔ IsSame (known site.now.slot site.now.kinds) read }
 {
     match read {
@@ -75,37 +75,28 @@ fn all_same(site: &Site, reads: &[Option<Reg>]) -> bool
     true
 }
 
-/// Whether a register of this kind holds an offset.
-fn is_offset(kind: Kind) -> bool
-    ensures { result ≡ is_offset kind }
-{
-    matches!(
-        kind,
-        Kind::Offset | Kind::Fixed { .. } | Kind::Within { .. }
-    )
-}
-
 /// What a move makes of an offset, or of the pointer to the context's start.
 fn copy_kind(kind: Kind) -> Option<Kind>
     ensures { result ≡ copy_kind kind }
 {
     match kind {
-        Kind::Offset | Kind::Fixed { .. } | Kind::Within { .. } | Kind::Start => Some(kind),
+        Kind::Offset { .. } | Kind::Fixed { .. } | Kind::Within { .. } | Kind::Start => Some(kind),
         _ => None,
     }
 }
 
 /// An offset between these two, if they have 32 bits.
-fn within_at(low: u64, high: u64) -> Kind
-    ensures { result ≡ within_at low high }
+fn within_at(area: Area, low: u64, high: u64) -> Kind
+    ensures { result ≡ within_at area low high }
 {
     if low < 1 << 32 && high < 1 << 32 {
         Kind::Within {
+            area,
             least: low as u32,
             most: high as u32,
         }
     } else {
-        Kind::Offset
+        Kind::Offset { area }
     }
 }
 
@@ -114,25 +105,28 @@ fn offset_sum(a: Kind, b: Kind) -> Kind
     ensures { result ≡ offset_sum a b }
 {
     match (a, b) {
-        (Kind::Fixed { offset }, Kind::Number { least, most }) => match u64::try_from(i64::from(
-            offset,
-        )) {
-            Ok(o) => within_at(o + u64::from(least), o + u64::from(most)),
-            Err(_) => Kind::Offset,
+        (Kind::Fixed { area, offset }, Kind::Number { least, most }) => match u64::try_from(
+            i64::from(offset),
+        ) {
+            Ok(o) => within_at(area, o + u64::from(least), o + u64::from(most)),
+            Err(_) => Kind::Offset { area },
         },
         (
             Kind::Within {
+                area,
                 least: low,
                 most: high,
             },
             Kind::Number { least, most },
         ) => {
             within_at(
+                area,
                 u64::from(low) + u64::from(least),
                 u64::from(high) + u64::from(most),
             )
         }
-        _ => Kind::Offset,
+        (Kind::Offset { .. } | Kind::Fixed { .. } | Kind::Within { .. }, _) => unbounded(a),
+        _ => unbounded(b),
     }
 }
 
@@ -144,7 +138,7 @@ fn computed(op: AluOp, a: Kind, b: Kind) -> Option<Kind>
     match op {
         AluOp::Mov => copy_kind(b),
         AluOp::Add if is_sum => Some(offset_sum(a, b)),
-        AluOp::Sub if is_offset(a) && is_offset(b) => Some(Kind::Both),
+        AluOp::Sub if are_alike(a, b) => Some(Kind::Both),
         _ => None,
     }
 }
@@ -154,10 +148,10 @@ fn moved(op: AluOp, kind: Kind, imm: i32) -> Option<Kind>
     ensures { result ≡ moved_kind op kind imm }
 {
     match (op, kind) {
-        (AluOp::Add, Kind::Fixed { offset }) => {
-            Some(fixed_at(i64::from(offset) + i64::from(imm)))
+        (AluOp::Add, Kind::Fixed { area, offset }) => {
+            Some(fixed_at(area, i64::from(offset) + i64::from(imm)))
         }
-        (AluOp::Add | AluOp::Sub, _) if is_offset(kind) => Some(Kind::Offset),
+        (AluOp::Add | AluOp::Sub, _) if is_offset(kind) => Some(unbounded(kind)),
         _ => None,
     }
 }
@@ -180,11 +174,11 @@ fn is_equality(cond: Cond) -> bool
     matches!(cond, Cond::Eq | Cond::Ne)
 }
 
-/// Whether both registers hold offsets.
+/// Whether both registers hold offsets into one area.
 fn are_offsets(site: &Site, dst: Reg, src: Reg) -> bool
     ensures { result ≡ are_offsets (known site.now.slot site.now.kinds) dst src }
 {
-    is_offset(known_in(site, dst)) && is_offset(known_in(site, src))
+    are_alike(known_in(site, dst), known_in(site, src))
 }
 
 /// What the instruction writes, if it does on offsets what the old program does on pointers.
@@ -253,12 +247,49 @@ fn by_kinds(site: &Site) -> Option<Kind>
 }
 
 /// What the instruction writes.
-pub fn result_kind(site: &Site) -> Kind
+fn result_kind(site: &Site) -> Kind
     ensures { result ≡ result_kind (known site.now.slot site.now.kinds) site.now.insn }
 {
     match by_kinds(site) {
         Some(kind) => kind,
         None => number_kind(site),
+    }
+}
+
+/// Whether the end of the own frame is moved to a register, and the new instruction puts its offset there.
+fn is_framed(insn: Insn, moved: Insn) -> bool
+    ensures { result ≡ is_framed insn moved }
+{
+    match (insn, moved) {
+        (
+            Insn::Alu {
+                op: AluOp::Mov,
+                width: Width::W64,
+                dst,
+                src: Operand::Reg(src),
+            },
+            Insn::Alu {
+                op: AluOp::Mov,
+                width: Width::W64,
+                dst: to,
+                src: Operand::Imm(imm),
+            },
+        ) => is_r10(src) && is_register(dst, to) && imm == origin(Area::Own),
+        _ => false,
+    }
+}
+
+/// What the old instruction writes, and the new one that stands for it.
+pub fn written_kind(site: &Site) -> Kind
+    ensures { result ≡ written_kind (known site.now.slot site.now.kinds) site.now.insn site.now.moved }
+{
+    if is_framed(site.insn, site.moved) {
+        Kind::Fixed {
+            area: Area::Own,
+            offset: origin(Area::Own),
+        }
+    } else {
+        result_kind(site)
     }
 }
 
@@ -271,81 +302,6 @@ fn reads(site: &Site) -> bool
     }
     let reads = site.insn.registers_read();
     all_same(site, &reads) && is_tame(site)
-}
-
-// ---- loads by another register
-
-/// The load by another register.
-fn rebased(insn: &Insn, base: Reg, off: i16) -> Option<Insn>
-    ensures { result ≡ rebased insn.now base off }
-{
-    if let Insn::Load { size, dst, .. } = *insn {
-        Some(Insn::Load {
-            size,
-            dst,
-            src: base,
-            off,
-        })
-    } else if let Insn::LoadSx { size, dst, .. } = *insn {
-        Some(Insn::LoadSx {
-            size,
-            dst,
-            src: base,
-            off,
-        })
-    } else {
-        None
-    }
-}
-
-/// Whether two numbers are the same.
-fn is_equal(a: i64, b: i64) -> bool
-    ensures { result ≡ int_eq a b }
-{
-    a == b
-}
-
-/// Whether a displacement from one place is another displacement from another place, so far away.
-fn is_there(by: i32, displacement: i16, other: i16) -> bool
-    ensures { result ≡ int_eq (by +ℤ displacement) other }
-{
-    let sum = i64::from(by) + i64::from(displacement);
-    is_equal(sum, i64::from(other))
-}
-
-/// Whether two accesses go to one place of the context, with base registers of these kinds.
-fn are_same_place(old: Access, new: Access, kind: Kind, other: Kind) -> bool
-    ensures { result ≡ are_same_place old new kind other }
-{
-    if let Kind::Address { of, by } = kind {
-        return is_register(of, old.base) && is_there(by, new.off, old.off);
-    }
-    if let Kind::Fixed { offset } = other {
-        return is_base(kind) && is_there(offset, old.off, new.off);
-    }
-    false
-}
-
-/// Whether two accesses go to one place of the context.
-fn is_same_place(site: &Site, old: Access, new: Access) -> bool
-    ensures { result ≡ is_same_place (known site.now.slot site.now.kinds) old new }
-{
-    are_same_place(old, new, known_in(site, new.base), known_in(site, old.base))
-}
-
-/// Whether the new instruction is the old one's load by another register, which goes to the same place.
-fn by_address(site: &Site) -> bool
-    ensures { IsTrue result ↔ ByAddress (known site.now.slot site.now.kinds) site.now.insn site.now.moved }
-{
-    let (Some(old), Some(new)) = (site.insn.access(), site.moved.access()) else {
-        return false;
-    };
-    match rebased(&site.insn, new.base, new.off) {
-        Some(insn) => {
-            same(site.moved, insn) && is_same_place(site, old, new) && !is_r10(old.base)
-        }
-        None => false,
-    }
 }
 
 // ---- 32 bits or 64
@@ -437,7 +393,8 @@ pub fn pairs(site: &Site) -> Result<(), Fault>
     ensures { IsOk result ↔ Pairs (known site.now.slot site.now.kinds) site.now.insn site.now.moved }
 {
     let is_alike = same(undirected(site.moved), undirected(site.insn));
-    if is_alike && reads(site) || by_address(site) || is_widened(site) {
+    let is_paired = is_framed(site.insn, site.moved) || by_address(site) || is_widened(site);
+    if is_alike && reads(site) || is_paired {
         Ok(())
     } else if is_alike {
         Err(Fault::Read)

@@ -5,7 +5,7 @@ ghost use Rattle.std.specs.Prelude.{◌≡◌, ◌<◌, ◌↔◌, IsOk, IsTrue,
 ghost use Rattle.bpf_insn.specs.Instruction.{insn_at};
 ghost use Rattle.bpf_insn.specs.declared.instruction.Insn.{Insn};
 ghost use Rattle.bpf_follows.specs.declared.site.Site.{Site};
-ghost use Rattle.bpf_follows.specs.Matching.{led, front_at, Falls, Leads, IsSite, StandsAt};
+ghost use Rattle.bpf_follows.specs.Matching.{front_at, Falls, Leads, IsSite, StandsAt};
 
 use crate::ahead::{span_behind, spans_ahead};
 use crate::edges::{Edge, arrives, enters};
@@ -15,9 +15,10 @@ use crate::kinds::{all_called, is_call, place_at};
 use crate::mismatch::Fault;
 use crate::notes::{Bounds, Place};
 use crate::pairs::pairs;
+use crate::returned::{gives_back, led};
 use crate::site::{Front, Site};
 use crate::tame::is_lone;
-use bpf_insn::{Code, Insn, target};
+use bpf_insn::{Code, Insn};
 
 /// Whether a program has the slot.
 fn is_inside<C: Code>(code: &C, slot: u32) -> bool
@@ -70,15 +71,6 @@ fn falls(notes: &[Option<Place>], turns: u32, site: &Site) -> bool
         taken: false,
     };
     arrives(notes, turns, site, edge)
-}
-
-/// Where the instruction at a slot jumps or calls to.
-fn led(slot: u32, insn: &Insn) -> Option<u32>
-    requires { slot < max_slots }
-    ensures { result ≡ led slot insn.now }
-{
-    let distance = insn.distance()?;
-    target(slot, distance)
 }
 
 /// Whether the new instruction leads where the notes say, if the old one leads to a slot.
@@ -146,6 +138,9 @@ pub fn stands_at<O: Code, N: Code>(
     };
     if !is_lone(notes, &site) {
         return Err(Fault::Read);
+    }
+    if !gives_back(notes, bounds.turns, place, &site) {
+        return Err(Fault::Next);
     }
     if !falls(notes, bounds.turns, &site) {
         return Err(Fault::Next);

@@ -13,7 +13,10 @@ use crate::site::Site;
 fn is_plain(kind: Kind) -> bool
     ensures { result ≡ is_plain kind }
 {
-    !matches!(kind, Kind::Nothing | Kind::Offset | Kind::Fixed { .. })
+    !matches!(
+        kind,
+        Kind::Nothing | Kind::Offset { .. } | Kind::Fixed { .. }
+    )
 }
 
 /// Whether that holds of all slots.

@@ -4,6 +4,7 @@ ghost use Rattle.std.specs.Prelude.{◌≡◌, ◌<◌};
 ghost use Rattle.bpf_follows.specs.Relation.{known};
 ghost use Rattle.bpf_follows.specs.Matching.{fills_slot, slot_kind, slot_whole, loaded, spilled, put_constant};
 
+use crate::areas::is_own;
 use crate::exact::exact_kind;
 use crate::extras::is_same;
 use crate::frame::{is_r10, slot_of};
@@ -16,10 +17,13 @@ use bpf_insn::{Reg, extended};
 fn fills_slot(kind: Kind) -> bool
     ensures { result ≡ fills_slot kind }
 {
-    matches!(
-        kind,
-        Kind::Offset | Kind::Fixed { .. } | Kind::Within { .. } | Kind::Number { .. }
-    )
+    match kind {
+        Kind::Offset { area } => !is_own(area),
+        Kind::Fixed { area, .. } => !is_own(area),
+        Kind::Within { area, .. } => !is_own(area),
+        Kind::Number { .. } => true,
+        _ => false,
+    }
 }
 
 /// What a slot holds of a register of this kind: of an offset no bounds are said there.
@@ -27,7 +31,7 @@ fn slot_kind(kind: Kind) -> Kind
     ensures { result ≡ slot_kind kind }
 {
     match kind {
-        Kind::Within { .. } => Kind::Offset,
+        Kind::Within { area, .. } => Kind::Offset { area },
         _ => kind,
     }
 }

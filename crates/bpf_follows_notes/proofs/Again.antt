@@ -10,13 +10,15 @@ use Rattle.bpf_insn.specs.Instruction.{register_number}
 use Rattle.bpf_insn.specs.Limits.{max_slots}
 use Rattle.bpf_insn.specs.declared.instruction.Reg.{Reg}
 use Rattle.bpf_insn.specs.declared.instruction.Reg.TheVariants.{R0, R1, R2, R3, R4, R5, R6, R7, R8, R9, R10}
+use Rattle.bpf_follows.specs.declared.notes.Area.{Area}
+use Rattle.bpf_follows.specs.declared.notes.Area.TheVariants.{Given, Own}
 use Rattle.bpf_follows.specs.declared.notes.Kind.{Kind}
-use Rattle.bpf_follows.specs.declared.notes.Kind.TheVariants.{Nothing, Unset, Same, Both, Number, Offset, Fixed, Within, Start, Base, Moved, Address, Saved, Constant, Counter, Turn, Alone}
+use Rattle.bpf_follows.specs.declared.notes.Kind.TheVariants.{Nothing, Unset, Same, Both, Number, Natural, Offset, Fixed, Within, Start, Base, Moved, Address, Saved, Constant, Counter, Turn, Alone, Returns}
 use Rattle.bpf_follows.specs.declared.notes.Place.{Place}
 use Rattle.bpf_follows_notes.specs.declared.error.NotesError.{NotesError}
 use Rattle.bpf_follows_notes.specs.declared.error.NotesError.TheVariants.{Form}
-use Rattle.bpf_follows_notes.specs.NotesText.{IntFits, KindFits, PlaceFits, NoteFits, entry_text, behind_text, bounds_text, held_text, kinds_text, place_text, note_text, note_line, note_lines}
-use Rattle.bpf_follows_notes.specs.code.Reading.{behind, is_digit, digits_in, number_in, minus_in, plus_in, int_in, register_at, word_in, value_in, bounds_in, behind_in, plain_in, numbered_in, beside_in, kind_in, entry_in, kinds_in, nothing_said, place_in, note_in, taken_at, with_front, lines_in, after_lines, saved_in}
+use Rattle.bpf_follows_notes.specs.NotesText.{IntFits, KindFits, PlaceFits, NoteFits, entry_text, behind_text, bounds_text, area_text, held_text, kinds_text, place_text, note_text, note_line, note_lines}
+use Rattle.bpf_follows_notes.specs.code.Reading.{behind, is_digit, digits_in, number_in, minus_in, plus_in, int_in, register_at, word_in, value_in, bounds_in, behind_in, plain_in, numbered_in, offset_in, area_in, kind_in, entry_in, kinds_in, nothing_said, place_in, note_in, taken_at, with_front, lines_in, after_lines, saved_in}
 use Rattle.bpf_follows_notes.proofs.Spelled.{behind_word}
 
 -- ---- numbers
@@ -112,9 +114,14 @@ unset_again : (c : ℕ) (rest : List ℕ) → kind_in (codes "unset" ++ c ∷ re
 unfolding kind_in plain_in word_in behind
 unset_again c rest = refl
 
-offset_again : (c : ℕ) (rest : List ℕ) → kind_in (codes "offset" ++ c ∷ rest) ≡ Some (Offset, c ∷ rest)
+natural_again : (c : ℕ) (rest : List ℕ) → kind_in (codes "natural" ++ c ∷ rest) ≡ Some (Natural, c ∷ rest)
 unfolding kind_in plain_in word_in behind
-offset_again c rest = refl
+natural_again c rest = refl
+
+offset_again : (area : Area) (c : ℕ) (rest : List ℕ) → kind_in ((area_text area ++ codes "offset") ++ c ∷ rest) ≡ Some (Offset area, c ∷ rest)
+unfolding kind_in plain_in word_in numbered_in value_in bounds_in number_in saved_in area_in offset_in behind
+offset_again Given c rest = refl
+offset_again Own c rest = refl
 
 start_again : (c : ℕ) (rest : List ℕ) → kind_in (codes "start" ++ c ∷ rest) ≡ Some (Start, c ∷ rest)
 unfolding kind_in plain_in word_in behind
@@ -132,9 +139,10 @@ alone_again : (c : ℕ) (rest : List ℕ) → kind_in (codes "alone" ++ c ∷ re
 unfolding kind_in plain_in word_in behind
 alone_again c rest = refl
 
-fixed_again : (offset : ℤ) → IntFits offset → (c : ℕ) (rest : List ℕ) → Ends c → kind_in ((codes "fixed:" ++ signed_decimal offset) ++ c ∷ rest) ≡ Some (Fixed offset, c ∷ rest)
-unfolding kind_in plain_in word_in numbered_in value_in behind
-fixed_again offset fits c rest h = rw (int_again offset c rest fits h) refl
+fixed_again : (area : Area) (offset : ℤ) → IntFits offset → (c : ℕ) (rest : List ℕ) → Ends c → kind_in ((area_text area ++ (codes "fixed:" ++ signed_decimal offset)) ++ c ∷ rest) ≡ Some (Fixed area offset, c ∷ rest)
+unfolding kind_in plain_in word_in numbered_in value_in bounds_in number_in saved_in area_in offset_in behind
+fixed_again Given offset fits c rest h = rw (int_again offset c rest fits h) refl
+fixed_again Own offset fits c rest h = rw (int_again offset c rest fits h) refl
 
 constant_again : (value : ℤ) → IntFits value → (c : ℕ) (rest : List ℕ) → Ends c → kind_in ((codes "constant:" ++ signed_decimal value) ++ c ∷ rest) ≡ Some (Constant value, c ∷ rest)
 unfolding kind_in plain_in word_in numbered_in value_in behind
@@ -153,13 +161,40 @@ bounds_again : (least most : ℕ) → least < 2 ^ 32 → most < 2 ^ 32 → (c : 
 unfolding kind_in plain_in word_in numbered_in value_in behind
 bounds_again least most low high c rest h = rw (both_again (codes "number:") least most low high c rest h) refl
 
+-- neither the word nor that of an area is the other one
 no_number : (text : List ℕ) → bounds_in (codes "number:") (119 ∷ text) ≡ None
 unfolding bounds_in number_in behind
 no_number text = refl
 
-within_again : (least most : ℕ) → least < 2 ^ 32 → most < 2 ^ 32 → (c : ℕ) (rest : List ℕ) → Ends c → kind_in ((codes "within:" ++ bounds_text least most) ++ c ∷ rest) ≡ Some (Within least most, c ∷ rest)
-unfolding kind_in plain_in word_in numbered_in value_in behind
-within_again least most low high c rest h = rw (no_number (codes "ithin:" ++ (bounds_text least most ++ c ∷ rest)), both_again (codes "within:") least most low high c rest h) refl
+no_number_there : (text : List ℕ) → bounds_in (codes "number:") (102 ∷ text) ≡ None
+unfolding bounds_in number_in behind
+no_number_there text = refl
+
+no_returns : (text : List ℕ) → bounds_in (codes "returns:") (119 ∷ text) ≡ None
+unfolding bounds_in number_in behind
+no_returns text = refl
+
+no_returns_there : (text : List ℕ) → bounds_in (codes "returns:") (102 ∷ text) ≡ None
+unfolding bounds_in number_in behind
+no_returns_there text = refl
+
+within_again : (area : Area) (least most : ℕ) → least < 2 ^ 32 → most < 2 ^ 32 → (c : ℕ) (rest : List ℕ) → Ends c → kind_in ((area_text area ++ (codes "within:" ++ bounds_text least most)) ++ c ∷ rest) ≡ Some (Within area least most, c ∷ rest)
+unfolding kind_in plain_in word_in numbered_in value_in number_in saved_in area_in offset_in behind
+within_again Given least most low high c rest h = rw (no_number (codes "ithin:" ++ (bounds_text least most ++ c ∷ rest)), no_returns (codes "ithin:" ++ (bounds_text least most ++ c ∷ rest)), both_again (codes "within:") least most low high c rest h) refl
+within_again Own least most low high c rest h = rw (no_number_there (codes "rame:within:" ++ (bounds_text least most ++ c ∷ rest)), no_returns_there (codes "rame:within:" ++ (bounds_text least most ++ c ∷ rest)), both_again (codes "within:") least most low high c rest h) refl
+
+-- no other such word stands there
+no_number_then : (text : List ℕ) → bounds_in (codes "number:") (114 ∷ text) ≡ None
+unfolding bounds_in number_in behind
+no_number_then text = refl
+
+returns_again : (least most : ℕ) → least < 2 ^ 32 → most < 2 ^ 32 → (c : ℕ) (rest : List ℕ) → Ends c → kind_in ((codes "returns:" ++ bounds_text least most) ++ c ∷ rest) ≡ Some (Returns least most, c ∷ rest)
+unfolding kind_in plain_in word_in numbered_in value_in number_in behind
+returns_again least most low high c rest h =
+    rw (
+      no_number_then (codes "eturns:" ++ (bounds_text least most ++ c ∷ rest)),
+      both_again (codes "returns:") least most low high c rest h,
+    ) refl
 
 turns_again : (head : ℕ) → head < 2 ^ 32 → (c : ℕ) (rest : List ℕ) → Ends c → kind_in ((codes "turns:" ++ decimal head) ++ c ∷ rest) ≡ Some (Counter head, c ∷ rest)
 unfolding kind_in plain_in word_in numbered_in value_in bounds_in number_in behind
@@ -183,18 +218,20 @@ beside_again word of by fits c rest h =
       int_again by c rest fits h,
     ) refl
 
-moved_again : (of : Reg) (by : ℤ) → IntFits by → (c : ℕ) (rest : List ℕ) → Ends c → kind_in ((codes "moved:r" ++ behind_text of by) ++ c ∷ rest) ≡ Some (Moved of by, c ∷ rest)
-unfolding kind_in plain_in word_in numbered_in value_in bounds_in number_in saved_in beside_in behind
-moved_again of by fits c rest h = rw (beside_again (codes "moved:r") of by fits c rest h) refl
+moved_again : (area : Area) (of : Reg) (by : ℤ) → IntFits by → (c : ℕ) (rest : List ℕ) → Ends c → kind_in ((area_text area ++ (codes "moved:r" ++ behind_text of by)) ++ c ∷ rest) ≡ Some (Moved area of by, c ∷ rest)
+unfolding kind_in plain_in word_in numbered_in value_in bounds_in number_in saved_in area_in offset_in behind
+moved_again Given of by fits c rest h = rw (beside_again (codes "moved:r") of by fits c rest h) refl
+moved_again Own of by fits c rest h = rw (beside_again (codes "moved:r") of by fits c rest h) refl
 
 -- no other such word stands there
 no_moved : (text : List ℕ) → behind_in (codes "moved:r") (97 ∷ text) ≡ None
 unfolding behind_in number_in behind
 no_moved text = refl
 
-address_again : (of : Reg) (by : ℤ) → IntFits by → (c : ℕ) (rest : List ℕ) → Ends c → kind_in ((codes "address:r" ++ behind_text of by) ++ c ∷ rest) ≡ Some (Address of by, c ∷ rest)
-unfolding kind_in plain_in word_in numbered_in value_in bounds_in number_in saved_in beside_in behind
-address_again of by fits c rest h = rw (no_moved (codes "ddress:r" ++ (behind_text of by ++ c ∷ rest)), beside_again (codes "address:r") of by fits c rest h) refl
+address_again : (area : Area) (of : Reg) (by : ℤ) → IntFits by → (c : ℕ) (rest : List ℕ) → Ends c → kind_in ((area_text area ++ (codes "address:r" ++ behind_text of by)) ++ c ∷ rest) ≡ Some (Address area of by, c ∷ rest)
+unfolding kind_in plain_in word_in numbered_in value_in bounds_in number_in saved_in area_in offset_in behind
+address_again Given of by fits c rest h = rw (no_moved (codes "ddress:r" ++ (behind_text of by ++ c ∷ rest)), beside_again (codes "address:r") of by fits c rest h) refl
+address_again Own of by fits c rest h = rw (no_moved (codes "ddress:r" ++ (behind_text of by ++ c ∷ rest)), beside_again (codes "address:r") of by fits c rest h) refl
 
 held_is : (r : ℕ) (kind : Kind) → KindFits kind → (kind ≡ Nothing) ⊎ Worded r kind
 unfolding held_text
@@ -203,18 +240,20 @@ held_is r Unset fits = inr (record { word = codes "unset"; text = refl; again = 
 held_is r Same fits = inr (record { word = codes "same"; text = refl; again = λ c rest h. same_again c rest })
 held_is r Both fits = inr (record { word = codes "both"; text = refl; again = λ c rest h. both_word_again c rest })
 held_is r (Number least most) fits = inr (record { word = codes "number:" ++ bounds_text least most; text = refl; again = bounds_again least most fits.0 fits.1 })
-held_is r Offset fits = inr (record { word = codes "offset"; text = refl; again = λ c rest h. offset_again c rest })
-held_is r (Fixed offset) fits = inr (record { word = codes "fixed:" ++ signed_decimal offset; text = refl; again = fixed_again offset fits })
-held_is r (Within least most) fits = inr (record { word = codes "within:" ++ bounds_text least most; text = refl; again = within_again least most fits.0 fits.1 })
+held_is r Natural fits = inr (record { word = codes "natural"; text = refl; again = λ c rest h. natural_again c rest })
+held_is r (Offset area) fits = inr (record { word = area_text area ++ codes "offset"; text = refl; again = λ c rest h. offset_again area c rest })
+held_is r (Fixed area offset) fits = inr (record { word = area_text area ++ (codes "fixed:" ++ signed_decimal offset); text = refl; again = fixed_again area offset fits })
+held_is r (Within area least most) fits = inr (record { word = area_text area ++ (codes "within:" ++ bounds_text least most); text = refl; again = within_again area least most fits.0 fits.1 })
 held_is r Start fits = inr (record { word = codes "start"; text = refl; again = λ c rest h. start_again c rest })
 held_is r Base fits = inr (record { word = codes "base"; text = refl; again = λ c rest h. base_again c rest })
-held_is r (Moved of by) fits = inr (record { word = codes "moved:r" ++ behind_text of by; text = refl; again = moved_again of by fits })
-held_is r (Address of by) fits = inr (record { word = codes "address:r" ++ behind_text of by; text = refl; again = address_again of by fits })
+held_is r (Moved area of by) fits = inr (record { word = area_text area ++ (codes "moved:r" ++ behind_text of by); text = refl; again = moved_again area of by fits })
+held_is r (Address area of by) fits = inr (record { word = area_text area ++ (codes "address:r" ++ behind_text of by); text = refl; again = address_again area of by fits })
 held_is r (Saved of) fits = inr (record { word = codes "saved:r" ++ decimal (register_number of); text = refl; again = saved_again of })
 held_is r (Constant value) fits = inr (record { word = codes "constant:" ++ signed_decimal value; text = refl; again = constant_again value fits })
 held_is r (Counter head) fits = inr (record { word = codes "turns:" ++ decimal head; text = refl; again = turns_again head fits })
 held_is r (Turn head) fits = inr (record { word = codes "turn:" ++ decimal head; text = refl; again = turn_again head fits })
 held_is r Alone fits = inr (record { word = codes "alone"; text = refl; again = λ c rest h. alone_again c rest })
+held_is r (Returns least most) fits = inr (record { word = codes "returns:" ++ bounds_text least most; text = refl; again = returns_again least most fits.0 fits.1 })
 
 -- ---- entries
 

@@ -5,8 +5,10 @@ use Rattle.std.specs.Fmt.{signed_decimal}
 use Rattle.bpf_insn.specs.Limits.{max_slots}
 use Rattle.bpf_insn.specs.Instruction.{register_number}
 use Rattle.bpf_insn.specs.declared.instruction.Reg.{Reg}
+use Rattle.bpf_follows.specs.declared.notes.Area.{Area}
+use Rattle.bpf_follows.specs.declared.notes.Area.TheVariants.{Given, Own}
 use Rattle.bpf_follows.specs.declared.notes.Kind.{Kind}
-use Rattle.bpf_follows.specs.declared.notes.Kind.TheVariants.{Nothing, Unset, Same, Both, Number, Offset, Fixed, Within, Start, Base, Moved, Address, Saved, Constant, Counter, Turn, Alone}
+use Rattle.bpf_follows.specs.declared.notes.Kind.TheVariants.{Nothing, Unset, Same, Both, Number, Natural, Offset, Fixed, Within, Start, Base, Moved, Address, Saved, Constant, Counter, Turn, Alone, Returns}
 use Rattle.bpf_follows.specs.declared.notes.Place.{Place}
 
 -- ---- what has a text
@@ -23,18 +25,20 @@ KindFits Unset = Unit {0}
 KindFits Same = Unit {0}
 KindFits Both = Unit {0}
 KindFits (Number least most) = (least < 2 ^ 32) × (most < 2 ^ 32)
-KindFits Offset = Unit {0}
-KindFits (Fixed offset) = IntFits offset
-KindFits (Within least most) = (least < 2 ^ 32) × (most < 2 ^ 32)
+KindFits Natural = Unit {0}
+KindFits (Offset area) = Unit {0}
+KindFits (Fixed area offset) = IntFits offset
+KindFits (Within area least most) = (least < 2 ^ 32) × (most < 2 ^ 32)
 KindFits Start = Unit {0}
 KindFits Base = Unit {0}
-KindFits (Moved of by) = IntFits by
-KindFits (Address of by) = IntFits by
+KindFits (Moved area of by) = IntFits by
+KindFits (Address area of by) = IntFits by
 KindFits (Saved of) = Unit {0}
 KindFits (Constant value) = IntFits value
 KindFits (Counter head) = head < 2 ^ 32
 KindFits (Turn head) = head < 2 ^ 32
 KindFits Alone = Unit {0}
+KindFits (Returns least most) = (least < 2 ^ 32) × (most < 2 ^ 32)
 
 pub record PlaceFits (place : Place) : Type 0 where
   pub entry : place.entry < 2 ^ 32
@@ -66,24 +70,31 @@ behind_text r by = decimal (register_number r) ++ (codes ":" ++ signed_decimal b
 abbrev pub bounds_text : ℕ → ℕ → List ℕ
 bounds_text least most = decimal least ++ (codes ":" ++ decimal most)
 
+-- what an offset is counted in: the context, or the own frame
+abbrev pub area_text : Area → List ℕ
+area_text Given = []
+area_text Own = codes "frame:"
+
 unfoldable pub held_text : ℕ → Kind → List ℕ
 held_text r Nothing = []
 held_text r Unset = entry_text r (codes "unset")
 held_text r Same = entry_text r (codes "same")
 held_text r Both = entry_text r (codes "both")
 held_text r (Number least most) = entry_text r (codes "number:" ++ bounds_text least most)
-held_text r Offset = entry_text r (codes "offset")
-held_text r (Fixed offset) = entry_text r (codes "fixed:" ++ signed_decimal offset)
-held_text r (Within least most) = entry_text r (codes "within:" ++ bounds_text least most)
+held_text r Natural = entry_text r (codes "natural")
+held_text r (Offset area) = entry_text r (area_text area ++ codes "offset")
+held_text r (Fixed area offset) = entry_text r (area_text area ++ (codes "fixed:" ++ signed_decimal offset))
+held_text r (Within area least most) = entry_text r (area_text area ++ (codes "within:" ++ bounds_text least most))
 held_text r Start = entry_text r (codes "start")
 held_text r Base = entry_text r (codes "base")
-held_text r (Moved of by) = entry_text r (codes "moved:r" ++ behind_text of by)
-held_text r (Address of by) = entry_text r (codes "address:r" ++ behind_text of by)
+held_text r (Moved area of by) = entry_text r (area_text area ++ (codes "moved:r" ++ behind_text of by))
+held_text r (Address area of by) = entry_text r (area_text area ++ (codes "address:r" ++ behind_text of by))
 held_text r (Saved of) = entry_text r (codes "saved:r" ++ decimal (register_number of))
 held_text r (Constant value) = entry_text r (codes "constant:" ++ signed_decimal value)
 held_text r (Counter head) = entry_text r (codes "turns:" ++ decimal head)
 held_text r (Turn head) = entry_text r (codes "turn:" ++ decimal head)
 held_text r Alone = entry_text r (codes "alone")
+held_text r (Returns least most) = entry_text r (codes "returns:" ++ bounds_text least most)
 
 -- what places hold from r on; one of which nothing is said is left out
 unfoldable pub kinds_text : ℕ → List Kind → List ℕ

@@ -1,10 +1,10 @@
 //! What a line says, if it is one of notes: what is read here is spelled again, and compared.
 
 ghost use Rattle.std.specs.Prelude.{◌≡◌, option_map};
-ghost use Rattle.bpf_follows_notes.specs.code.Reading.{register_at, plain_in, value_in, bounds_in, behind_in, beside_in, saved_in, numbered_in, kind_in, entry_in, kinds_in, nothing_said, place_in, note_in};
+ghost use Rattle.bpf_follows_notes.specs.code.Reading.{register_at, plain_in, value_in, bounds_in, behind_in, saved_in, numbered_in, offset_in, area_in, kind_in, entry_in, kinds_in, nothing_said, place_in, note_in};
 
 use crate::digits::{behind, int_in, number_in};
-use bpf_follows::{Kind, Kinds, PLACES, Place};
+use bpf_follows::{Area, Kind, Kinds, PLACES, Place};
 use bpf_insn::Reg;
 
 /// How many registers there are.
@@ -43,8 +43,8 @@ fn plain_in(text: &[u8]) -> Option<(Kind, &[u8])>
     if let Some(rest) = behind(text, b"unset") {
         return Some((Kind::Unset, rest));
     }
-    if let Some(rest) = behind(text, b"offset") {
-        return Some((Kind::Offset, rest));
+    if let Some(rest) = behind(text, b"natural") {
+        return Some((Kind::Natural, rest));
     }
     if let Some(rest) = behind(text, b"start") {
         return Some((Kind::Start, rest));
@@ -90,18 +90,6 @@ fn bounds_in<'a>(text: &'a [u8], word: &[u8]) -> Option<(u32, u32, &'a [u8])>
     Some((least, most, rest))
 }
 
-/// The kind with a register.
-#[tactic(auto, unfolding(crate::specs::code::Reading::beside_in))]
-fn beside_in(text: &[u8]) -> Option<(Kind, &[u8])>
-    ensures { option_map (λ x. (x.0, x.1.now)) result ≡ beside_in text.now }
-{
-    if let Some((of, by, rest)) = behind_in(text, b"moved:r") {
-        return Some((Kind::Moved { of, by }, rest));
-    }
-    let (of, by, rest) = behind_in(text, b"address:r")?;
-    Some((Kind::Address { of, by }, rest))
-}
-
 /// The kind of what was saved of a register.
 #[tactic(auto, unfolding(crate::specs::code::Reading::saved_in))]
 fn saved_in(text: &[u8]) -> Option<(Kind, &[u8])>
@@ -117,17 +105,11 @@ fn saved_in(text: &[u8]) -> Option<(Kind, &[u8])>
 fn numbered_in(text: &[u8]) -> Option<(Kind, &[u8])>
     ensures { option_map (λ x. (x.0, x.1.now)) result ≡ numbered_in text.now }
 {
-    if let Some((offset, rest)) = value_in(text, b"fixed:") {
-        return Some((Kind::Fixed { offset }, rest));
-    }
     if let Some((value, rest)) = value_in(text, b"constant:") {
         return Some((Kind::Constant { value }, rest));
     }
     if let Some((least, most, rest)) = bounds_in(text, b"number:") {
         return Some((Kind::Number { least, most }, rest));
-    }
-    if let Some((least, most, rest)) = bounds_in(text, b"within:") {
-        return Some((Kind::Within { least, most }, rest));
     }
     if let Some((head, rest)) = number_in(text, b"turns:") {
         return Some((Kind::Counter { head }, rest));
@@ -135,7 +117,42 @@ fn numbered_in(text: &[u8]) -> Option<(Kind, &[u8])>
     if let Some((head, rest)) = number_in(text, b"turn:") {
         return Some((Kind::Turn { head }, rest));
     }
+    if let Some((least, most, rest)) = bounds_in(text, b"returns:") {
+        return Some((Kind::Returns { least, most }, rest));
+    }
     saved_in(text)
+}
+
+/// The kind with an area.
+#[tactic(auto, unfolding(crate::specs::code::Reading::offset_in, crate::specs::code::Reading::word_in))]
+fn offset_in(area: Area, text: &[u8]) -> Option<(Kind, &[u8])>
+    ensures { option_map (λ x. (x.0, x.1.now)) result ≡ offset_in area text.now }
+{
+    if let Some(rest) = behind(text, b"offset") {
+        return Some((Kind::Offset { area }, rest));
+    }
+    if let Some((offset, rest)) = value_in(text, b"fixed:") {
+        return Some((Kind::Fixed { area, offset }, rest));
+    }
+    if let Some((least, most, rest)) = bounds_in(text, b"within:") {
+        return Some((Kind::Within { area, least, most }, rest));
+    }
+    if let Some((of, by, rest)) = behind_in(text, b"moved:r") {
+        return Some((Kind::Moved { area, of, by }, rest));
+    }
+    let (of, by, rest) = behind_in(text, b"address:r")?;
+    Some((Kind::Address { area, of, by }, rest))
+}
+
+/// The same, behind a word for the area, if that isn't the context.
+#[tactic(auto, unfolding(crate::specs::code::Reading::area_in))]
+fn area_in(text: &[u8]) -> Option<(Kind, &[u8])>
+    ensures { option_map (λ x. (x.0, x.1.now)) result ≡ area_in text.now }
+{
+    match behind(text, b"frame:") {
+        Some(rest) => offset_in(Area::Own, rest),
+        None => offset_in(Area::Given, text),
+    }
 }
 
 /// The kind at the front, and what stands behind it.
@@ -149,7 +166,7 @@ fn kind_in(text: &[u8]) -> Option<(Kind, &[u8])>
     if let Some(found) = numbered_in(text) {
         return Some(found);
     }
-    beside_in(text)
+    area_in(text)
 }
 
 /// A place's number and its kind, and what stands behind them.

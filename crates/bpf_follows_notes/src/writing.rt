@@ -2,9 +2,10 @@
 
 ghost use Rattle.std.specs.Prelude.{◌≡◌, ◌++◌, codes, decimal, IfOk, OnOk, option_copied};
 ghost use Rattle.std.specs.Fmt.{signed_decimal};
-ghost use Rattle.bpf_follows_notes.specs.NotesText.{entry_text, behind_text, bounds_text, held_text, kinds_text, place_text, note_line, notes_text};
+ghost use Rattle.bpf_insn.specs.Instruction.{register_number};
+ghost use Rattle.bpf_follows_notes.specs.NotesText.{entry_text, behind_text, bounds_text, area_text, held_text, kinds_text, place_text, note_line, notes_text};
 
-use bpf_follows::{Kind, Kinds, PLACES, Place};
+use bpf_follows::{Area, Kind, Kinds, PLACES, Place};
 use bpf_insn::Reg;
 use itoa::{Buffer, Integer};
 use std::alloc::{AllocError, Global};
@@ -50,21 +51,6 @@ fn put_head(text: &mut Vec<u8>, register: u8, word: &[u8], head: u32) -> Result<
     put_number(text, b"", head)
 }
 
-/// Puts a register, a word for what it holds, another register and a signed number.
-#[tactic(auto, using(crate::proofs::Spelled::texts), unfolding(crate::specs::NotesText::entry_text))]
-fn put_beside(
-    text: &mut Vec<u8>,
-    register: u8,
-    word: &[u8],
-    of: Reg,
-    by: i32,
-) -> Result<(), AllocError>
-    ensures { OnOk result (text.new.items ≡ text.old.items ++ entry_text register (word.now ++ behind_text of by)) }
-{
-    put_head(text, register, word, u32::from(of as u8))?;
-    put_number(text, b":", by)
-}
-
 /// Puts a register, a word for what it holds, and the least number and the most.
 #[tactic(auto, using(crate::proofs::Spelled::texts), unfolding(crate::specs::NotesText::entry_text))]
 fn put_bounds(
@@ -80,6 +66,95 @@ fn put_bounds(
     put_number(text, b":", most)
 }
 
+/// Puts a register, and a word for what an offset is counted in.
+fn put_area(text: &mut Vec<u8>, register: u8, area: Area) -> Result<(), AllocError>
+    ensures { OnOk result (text.new.items ≡ text.old.items ++ entry_text register (area_text area)) }
+{
+    match area {
+        Area::Given => put_entry(text, register, b""),
+        Area::Own => put_entry(text, register, b"frame:"),
+    }
+}
+
+/// Puts a register that holds an offset.
+#[tactic(auto, using(crate::proofs::Spelled::texts), unfolding(crate::specs::NotesText::entry_text))]
+fn put_offset(text: &mut Vec<u8>, register: u8, area: Area) -> Result<(), AllocError>
+    ensures { OnOk result (text.new.items ≡ text.old.items ++ entry_text register (area_text area ++ codes "offset")) }
+{
+    put_area(text, register, area)?;
+    text.extend_from_slice(b"offset")
+}
+
+/// Puts a register that holds an offset which is always the same.
+#[tactic(auto, using(crate::proofs::Spelled::texts), unfolding(crate::specs::NotesText::entry_text))]
+fn put_fixed(text: &mut Vec<u8>, register: u8, area: Area, offset: i32) -> Result<(), AllocError>
+    ensures { OnOk result (text.new.items ≡ text.old.items ++ entry_text register (area_text area ++ (codes "fixed:" ++ signed_decimal offset))) }
+{
+    put_area(text, register, area)?;
+    put_number(text, b"fixed:", offset)
+}
+
+/// Puts a register that holds an offset between bounds.
+#[tactic(auto, using(crate::proofs::Spelled::texts), unfolding(crate::specs::NotesText::entry_text))]
+fn put_within(
+    text: &mut Vec<u8>,
+    register: u8,
+    area: Area,
+    least: u32,
+    most: u32,
+) -> Result<(), AllocError>
+    ensures { OnOk result (text.new.items ≡ text.old.items ++ entry_text register (area_text area ++ (codes "within:" ++ bounds_text least most))) }
+{
+    put_area(text, register, area)?;
+    put_number(text, b"within:", least)?;
+    put_number(text, b":", most)
+}
+
+/// Puts a register, what an offset is counted in, a word and another register.
+#[tactic(auto, using(crate::proofs::Spelled::texts), unfolding(crate::specs::NotesText::entry_text))]
+fn put_named(
+    text: &mut Vec<u8>,
+    register: u8,
+    area: Area,
+    word: &[u8],
+    of: Reg,
+) -> Result<(), AllocError>
+    ensures { OnOk result (text.new.items ≡ text.old.items ++ entry_text register (area_text area ++ (word.now ++ decimal (register_number of)))) }
+{
+    put_area(text, register, area)?;
+    put_number(text, word, u32::from(of as u8))
+}
+
+/// Puts a register that holds another one's offset, moved.
+#[tactic(auto, using(crate::proofs::Spelled::texts), unfolding(crate::specs::NotesText::entry_text))]
+fn put_moved(
+    text: &mut Vec<u8>,
+    register: u8,
+    area: Area,
+    of: Reg,
+    by: i32,
+) -> Result<(), AllocError>
+    ensures { OnOk result (text.new.items ≡ text.old.items ++ entry_text register (area_text area ++ (codes "moved:r" ++ behind_text of by))) }
+{
+    put_named(text, register, area, b"moved:r", of)?;
+    put_number(text, b":", by)
+}
+
+/// Puts a register that holds the pointer there.
+#[tactic(auto, using(crate::proofs::Spelled::texts), unfolding(crate::specs::NotesText::entry_text))]
+fn put_address(
+    text: &mut Vec<u8>,
+    register: u8,
+    area: Area,
+    of: Reg,
+    by: i32,
+) -> Result<(), AllocError>
+    ensures { OnOk result (text.new.items ≡ text.old.items ++ entry_text register (area_text area ++ (codes "address:r" ++ behind_text of by))) }
+{
+    put_named(text, register, area, b"address:r", of)?;
+    put_number(text, b":", by)
+}
+
 /// Puts what a register holds, if that is something.
 #[tactic(auto, using(crate::proofs::Spelled::texts), unfolding(crate::specs::NotesText::held_text))]
 fn put_held(text: &mut Vec<u8>, register: u8, kind: Kind) -> Result<(), AllocError>
@@ -91,18 +166,20 @@ fn put_held(text: &mut Vec<u8>, register: u8, kind: Kind) -> Result<(), AllocErr
         Kind::Same => put_entry(text, register, b"same"),
         Kind::Both => put_entry(text, register, b"both"),
         Kind::Number { least, most } => put_bounds(text, register, b"number:", least, most),
-        Kind::Offset => put_entry(text, register, b"offset"),
-        Kind::Fixed { offset } => put_value(text, register, b"fixed:", offset),
-        Kind::Within { least, most } => put_bounds(text, register, b"within:", least, most),
+        Kind::Natural => put_entry(text, register, b"natural"),
         Kind::Start => put_entry(text, register, b"start"),
         Kind::Base => put_entry(text, register, b"base"),
-        Kind::Moved { of, by } => put_beside(text, register, b"moved:r", of, by),
-        Kind::Address { of, by } => put_beside(text, register, b"address:r", of, by),
         Kind::Saved { of } => put_head(text, register, b"saved:r", u32::from(of as u8)),
         Kind::Constant { value } => put_value(text, register, b"constant:", value),
         Kind::Counter { head } => put_head(text, register, b"turns:", head),
         Kind::Turn { head } => put_head(text, register, b"turn:", head),
         Kind::Alone => put_entry(text, register, b"alone"),
+        Kind::Returns { least, most } => put_bounds(text, register, b"returns:", least, most),
+        Kind::Offset { area } => put_offset(text, register, area),
+        Kind::Fixed { area, offset } => put_fixed(text, register, area, offset),
+        Kind::Within { area, least, most } => put_within(text, register, area, least, most),
+        Kind::Moved { area, of, by } => put_moved(text, register, area, of, by),
+        Kind::Address { area, of, by } => put_address(text, register, area, of, by),
     }
 }
 

@@ -64,7 +64,7 @@ fn is_certified<W: Watch>(
     requires { quest.least ≤ quest.most }
 {
     let draft = old.survey.draft.take();
-    let verdict = verdict_of(alloc, quest, draft, meter)?;
+    let verdict = verdict_of(alloc, quest, &old.cfg, draft, meter)?;
     Ok(matches!(verdict, Verdict::Yes))
 }
 

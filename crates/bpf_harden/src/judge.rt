@@ -6,7 +6,7 @@ use bpf_cert::{Certificate, Function};
 use bpf_harden_notes::HardenError;
 use bpf_harden_plan::{Old, Plan, Rooms, refusal};
 use bpf_harden_text::{Draft, emitted};
-use bpf_infer_base::{Meter, Quest, Watch};
+use bpf_infer_base::{Cfg, Meter, Quest, Watch};
 use bpf_infer_budgets::{ranked, uncounted};
 use bpf_infer_error::InferError;
 use bpf_infer_states::{Survey, surveyed};
@@ -38,6 +38,7 @@ pub struct Trial {
 pub fn verdict_of<W: Watch>(
     alloc: Global,
     quest: Quest<'_>,
+    cfg: &Cfg,
     draft: Option<Vec<Function>>,
     meter: &mut Meter<'_, W>,
 ) -> Result<Verdict, HardenError>
@@ -46,14 +47,14 @@ pub fn verdict_of<W: Watch>(
     let Some(functions) = draft else {
         return Ok(Verdict::Faults);
     };
-    let loops = match uncounted(alloc, quest, &functions, meter) {
+    let loops = match uncounted(alloc, quest, cfg, &functions, meter) {
         Ok(loops) => loops,
         Err(error) => return Err(refusal(error)),
     };
     if !loops.is_empty() {
         return Ok(Verdict::Uncounted(loops));
     }
-    match ranked(alloc, quest, functions, meter) {
+    match ranked(alloc, quest, cfg, functions, meter) {
         Ok(found) => {
             match Certificate::new(2, quest.least, quest.most, found.steps, found.functions) {
                 Ok(_) => Ok(Verdict::Yes),
@@ -82,12 +83,16 @@ impl Trial {
             least: plan.length,
             most: plan.length,
         };
-        let mut survey = match surveyed(alloc, quest, meter) {
+        let cfg = match Cfg::of(alloc, quest.program) {
+            Ok(cfg) => cfg,
+            Err(error) => return Err(refusal(error)),
+        };
+        let mut survey = match surveyed(alloc, quest, &cfg, meter) {
             Ok(survey) => survey,
             Err(error) => return Err(refusal(error)),
         };
         let functions = survey.draft.take();
-        let verdict = verdict_of(alloc, quest, functions, meter)?;
+        let verdict = verdict_of(alloc, quest, &cfg, functions, meter)?;
         Ok(Trial {
             draft,
             rooms,

@@ -105,12 +105,8 @@ impl<'a> Mender<'a> {
         let Some(access) = flaw.insn.access() else {
             return false;
         };
-        let is_offset = match self.old.kind(flaw.slot, access.base) {
-            Kind::Context => plan.offsets,
-            Kind::Frame => plan.frames && access.base != Reg::R10,
-            Kind::Number | Kind::Unknown => false,
-        };
-        if !is_offset || plan.guard(flaw.slot).is_some() {
+        let kind = self.old.kind(flaw.slot, access.base);
+        if !plan.is_offset(kind, access.base) || plan.at(flaw.slot).guard.is_some() {
             return false;
         }
         let span = if plan.options.padded {
@@ -127,7 +123,9 @@ impl<'a> Mender<'a> {
         };
         let guard = match sum.early(plan) {
             Some((slot, early)) => {
-                plan.set_early(slot, early);
+                if let Some(planned) = plan.at_mut(slot) {
+                    planned.early = Some(early);
+                }
                 Guard {
                     early: true,
                     ..Guard::both(span, false)
@@ -191,7 +189,7 @@ impl<'a> Mender<'a> {
     pub fn fold(&self, plan: &mut Plan) -> bool {
         let mut is_changed = false;
         for slot in 0..self.old.program.slots() {
-            if let (Some(insn), None) = (self.old.kept(slot), plan.constant(slot)) {
+            if let (Some(insn), None) = (self.old.kept(slot), plan.at(slot).constant) {
                 is_changed = self.fold_at(plan, slot, insn) || is_changed;
             }
         }
@@ -203,12 +201,7 @@ impl<'a> Mender<'a> {
         let Some(access) = insn.access() else {
             return false;
         };
-        let is_offset = match self.old.kind(slot, access.base) {
-            Kind::Context => plan.offsets,
-            Kind::Frame => plan.frames && access.base != Reg::R10,
-            Kind::Number | Kind::Unknown => false,
-        };
-        if !is_offset {
+        if !plan.is_offset(self.old.kind(slot, access.base), access.base) {
             return false;
         }
         let Some(number) = self.held(slot, access.base).number() else {
@@ -218,7 +211,9 @@ impl<'a> Mender<'a> {
         if offset != number.unsigned().hi() || offset >= MOST_CONSTANT {
             return false;
         }
-        plan.set_constant(slot, i64::try_from(offset).ok());
+        if let Some(planned) = plan.at_mut(slot) {
+            planned.constant = i64::try_from(offset).ok();
+        }
         true
     }
 
@@ -228,8 +223,7 @@ impl<'a> Mender<'a> {
         for slot in 0..self.old.program.slots() {
             if let Some(new) = self.trial.draft.start(slot) {
                 if !self.trial.survey.is_reached(new) {
-                    plan.leave_out(slot);
-                    is_changed = true;
+                    is_changed = plan.leave_out(slot) || is_changed;
                 }
             }
         }

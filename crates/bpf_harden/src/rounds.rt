@@ -10,7 +10,6 @@ use bpf_harden_notes::{HardenError, Hardened};
 use bpf_harden_plan::{Guard, Kind, Old, Plan, Rooms, Span};
 use bpf_harden_text::emitted;
 use bpf_infer_base::{Flow, Meter, Watch, get_or, put};
-use bpf_insn::Reg;
 use std::alloc::{AllocError, Global};
 
 /// The most rounds. A round mends all faults or counts all loops of a depth, so few are needed.
@@ -203,16 +202,11 @@ fn count_all(old: &Old, plan: &mut Plan) -> bool {
     is_changed
 }
 
-/// Plans a guard in front of each access by an offset, or of those to the context alone.
+/// Plans a guard in front of each access by an offset.
 pub fn guard_all(old: &Old, plan: &mut Plan) {
     for slot in 0..old.program.slots() {
         if let Some(access) = old.kept(slot).and_then(|insn| insn.access()) {
-            let is_due = match old.kind(slot, access.base) {
-                Kind::Context => true,
-                Kind::Frame => plan.frames && access.base != Reg::R10,
-                Kind::Number | Kind::Unknown => false,
-            };
-            if is_due {
+            if plan.is_offset(old.kind(slot, access.base), access.base) {
                 plan.set_guard(slot, Some(Guard::both(Span::of(access), access.off != 0)));
             }
         }

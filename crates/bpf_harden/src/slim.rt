@@ -66,8 +66,8 @@ pub fn slim(plan: &mut Plan, trial: &Trial) -> bool {
     }
     for new in 0..trial.draft.program.slots() {
         let owner = trial.draft.owner(new);
-        if owner.change == Some(Change::Guard) && plan.constant(owner.old).is_none() {
-            if let Some(guard) = plan.guard(owner.old) {
+        if owner.change == Some(Change::Guard) && plan.at(owner.old).constant.is_none() {
+            if let Some(guard) = plan.at(owner.old).guard {
                 let left = without(trial, new, guard);
                 if left.low != guard.low || left.high != guard.high {
                     plan.set_guard(owner.old, left.kept());

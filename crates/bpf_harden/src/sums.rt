@@ -38,7 +38,7 @@ impl<'a> Sums<'a> {
         let first = u64::try_from(offset.saturating_add(self.span.from)).ok()?;
         // Where the sum wraps, what is added is above the greatest, though the access may lie in its region.
         let can_lie = offset.saturating_add(self.span.to) <= self.end(plan);
-        if !can_lie || plan.early(slot).is_some() || added.hi() > u64::MAX - first {
+        if !can_lie || plan.at(slot).early.is_some() || added.hi() > u64::MAX - first {
             return None;
         }
         Some((

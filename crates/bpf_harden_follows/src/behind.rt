@@ -1,55 +1,55 @@
 //! What registers hold behind an old instruction and what stands for it.
 
-use crate::facts::{Facts, REGISTERS, is_offset, offset_bounds, slot_at};
+use crate::facts::{Facts, REGISTERS, offset_area, offset_bounds, slot_at};
 use bpf_follows::numbers::{number_kind, told};
 use bpf_follows::site::Site;
-use bpf_follows::{Kind, by_exact};
+use bpf_follows::{Area, Kind, by_exact};
 use bpf_insn::{Access, AluOp, FRAME_BYTES, Insn, Operand, Reg, Size, Width};
 
 /// What a copy of a register holds.
 fn copied(facts: &Facts, src: Reg) -> Kind {
-    match facts.get(src) {
-        Kind::Start => Kind::Start,
-        Kind::Fixed { .. } | Kind::Within { .. } => facts.get(src),
-        kind if is_offset(src, kind) => Kind::Offset,
+    match (facts.get(src), offset_area(src, facts.get(src))) {
+        (Kind::Start, _) => Kind::Start,
+        (Kind::Fixed { .. } | Kind::Within { .. }, _) => facts.get(src),
+        (_, Some(area)) => Kind::Offset { area },
         _ => Kind::Same,
     }
 }
 
 /// What a register holds behind a sum with a constant, or a difference.
 fn moved(facts: &Facts, dst: Reg, by: Option<i32>) -> Kind {
+    let Some(area) = offset_area(dst, facts.get(dst)) else {
+        return Kind::Same;
+    };
     match (facts.get(dst), by) {
-        (Kind::Fixed { offset }, Some(by)) => match offset.checked_add(by) {
-            Some(offset) => Kind::Fixed { offset },
-            None => Kind::Offset,
+        (Kind::Fixed { offset, .. }, Some(by)) => match offset.checked_add(by) {
+            Some(offset) => Kind::Fixed { area, offset },
+            None => Kind::Offset { area },
         },
-        (kind, _) if is_offset(dst, kind) => Kind::Offset,
-        _ => Kind::Same,
+        _ => Kind::Offset { area },
     }
 }
 
 /// The sum of an offset and a number.
-fn summed(kind: Kind, number: Kind) -> Kind {
+fn summed(area: Area, kind: Kind, number: Kind) -> Kind {
     let (Some((low, high)), Kind::Number { least, most }) = (offset_bounds(kind), number) else {
-        return Kind::Offset;
+        return Kind::Offset { area };
     };
     match (low.checked_add(least), high.checked_add(most)) {
-        (Some(least), Some(most)) => Kind::Within { least, most },
-        _ => Kind::Offset,
+        (Some(least), Some(most)) => Kind::Within { area, least, most },
+        _ => Kind::Offset { area },
     }
 }
 
 /// What a register holds behind a sum of two, or a difference.
 fn combined(facts: &Facts, op: AluOp, dst: Reg, src: Reg) -> Kind {
-    let left = is_offset(dst, facts.get(dst));
-    let right = is_offset(src, facts.get(src));
-    let is_sum = op == AluOp::Add;
-    if left && !right && is_sum {
-        summed(facts.get(dst), facts.get(src))
-    } else if left && !right || right && !left && is_sum {
-        Kind::Offset
-    } else {
-        Kind::Same
+    let left = offset_area(dst, facts.get(dst));
+    let right = offset_area(src, facts.get(src));
+    match (left, right) {
+        (Some(area), None) if op == AluOp::Add => summed(area, facts.get(dst), facts.get(src)),
+        (Some(area), None) => Kind::Offset { area },
+        (None, Some(area)) if op == AluOp::Add => Kind::Offset { area },
+        _ => Kind::Same,
     }
 }
 
@@ -114,9 +114,12 @@ fn stored(facts: &Facts, insn: &Insn) -> Kind {
         if slot_at(off).is_none() {
             return Kind::Same;
         }
-        match facts.get(src) {
-            Kind::Fixed { .. } | Kind::Number { .. } => return facts.get(src),
-            kind if is_offset(src, kind) => return Kind::Offset,
+        match (facts.get(src), offset_area(src, facts.get(src))) {
+            (Kind::Number { .. }, _) => return facts.get(src),
+            (Kind::Fixed { .. }, Some(Area::Given)) => return facts.get(src),
+            (_, Some(Area::Given)) => {
+                return Kind::Offset { area: Area::Given };
+            },
             _ => {}
         }
     }
@@ -167,7 +170,7 @@ fn loaded(facts: &Facts, insn: &Insn) -> Kind {
         return Kind::Same;
     };
     match facts.at(place) {
-        Kind::Offset | Kind::Fixed { .. } | Kind::Number { .. } => facts.at(place),
+        Kind::Offset { .. } | Kind::Fixed { .. } | Kind::Number { .. } => facts.at(place),
         _ => Kind::Same,
     }
 }
@@ -186,8 +189,35 @@ fn moved_by(facts: &Facts, insn: &Insn) -> Kind {
     computed(facts, op, dst, src)
 }
 
+/// Whether the end of the own frame is moved to a register, and the new instruction puts its offset there.
+fn is_framed(insn: &Insn, moved: &Insn) -> bool {
+    let is_end = matches!(
+        *insn,
+        Insn::Alu {
+            op: AluOp::Mov,
+            width: Width::W64,
+            src: Operand::Reg(Reg::R10),
+            ..
+        }
+    );
+    let is_offset = matches!(
+        *moved,
+        Insn::Alu {
+            src: Operand::Imm(_),
+            ..
+        }
+    );
+    is_end && is_offset
+}
+
 /// What the instruction puts into its register.
 fn written(facts: &Facts, site: &Site) -> Kind {
+    if is_framed(&site.insn, &site.moved) {
+        return Kind::Fixed {
+            area: Area::Own,
+            offset: FRAME_BYTES as i32,
+        };
+    }
     if let Some(kind) = by_exact(site) {
         return kind;
     }
@@ -200,7 +230,7 @@ fn written(facts: &Facts, site: &Site) -> Kind {
 /// What a test tells where it leads away (`taken`), or goes on.
 fn tell(facts: &mut Facts, site: &Site, taken: bool) {
     for number in 0..REGISTERS as u8 {
-        if let Kind::Number { .. } = facts.get(Reg::numbered(number)) {
+        if let Kind::Number { .. } | Kind::Natural = facts.get(Reg::numbered(number)) {
             facts.set(Reg::numbered(number), told(site, taken, number));
         }
     }

@@ -1,27 +1,47 @@
 //! Extra instructions: what they leave in the new program's registers, while the old one stands still.
 
 use crate::facts::{Facts, is_free, slot_at};
-use bpf_follows::Kind;
+use bpf_follows::{Area, Kind};
 use bpf_insn::{AluOp, Cond, Insn, Operand, Reg, Size, Width};
 
-/// The old register whose offset a register holds, and what it was moved by.
-fn offset_in(r: Reg, kind: Kind) -> Option<(Reg, i32)> {
+/// The old register whose offset a register holds, what that is counted in, and what it was moved by.
+fn offset_in(r: Reg, kind: Kind) -> Option<(Area, Reg, i32)> {
     match kind {
-        Kind::Offset | Kind::Fixed { .. } | Kind::Within { .. } => Some((r, 0)),
-        Kind::Moved { of, by } => Some((of, by)),
+        Kind::Offset { area } => Some((area, r, 0)),
+        Kind::Fixed { area, .. } => Some((area, r, 0)),
+        Kind::Within { area, .. } => Some((area, r, 0)),
+        Kind::Moved { area, of, by } => Some((area, of, by)),
         _ => None,
     }
 }
 
-/// Whether it is the pointer to the context's start.
-fn is_base(kind: Kind) -> bool {
-    matches!(kind, Kind::Base | Kind::Start)
+/// The area of which a register holds the pointer at 0: the context's start, or r10.
+fn base_of(r: Reg, kind: Kind) -> Option<Area> {
+    match kind {
+        Kind::Base | Kind::Start => Some(Area::Given),
+        _ if r == Reg::R10 => Some(Area::Own),
+        _ => None,
+    }
 }
 
 /// What a copy holds.
 fn copied(from: Reg, kind: Kind) -> Kind {
     match kind {
-        Kind::Offset | Kind::Fixed { .. } | Kind::Within { .. } => Kind::Moved { of: from, by: 0 },
+        Kind::Offset { area } => Kind::Moved {
+            area,
+            of: from,
+            by: 0,
+        },
+        Kind::Fixed { area, .. } => Kind::Moved {
+            area,
+            of: from,
+            by: 0,
+        },
+        Kind::Within { area, .. } => Kind::Moved {
+            area,
+            of: from,
+            by: 0,
+        },
         Kind::Start => Kind::Base,
         Kind::Base | Kind::Moved { .. } | Kind::Address { .. } | Kind::Constant { .. } => kind,
         _ => Kind::Nothing,
@@ -32,32 +52,38 @@ fn copied(from: Reg, kind: Kind) -> Kind {
 fn moved(r: Reg, kind: Kind, by: i32) -> Kind {
     match (kind, offset_in(r, kind)) {
         (Kind::Turn { head }, _) if by == -1 => Kind::Counter { head },
-        (_, Some((of, 0))) => Kind::Moved { of, by },
+        (_, Some((area, of, 0))) => Kind::Moved { area, of, by },
         _ => Kind::Nothing,
+    }
+}
+
+/// The pointer that is made of the pointer at 0 of an area, and an offset.
+fn address(base: Option<Area>, offset: Option<(Area, Reg, i32)>) -> Option<Kind> {
+    let (area, of, by) = offset?;
+    if base? == area {
+        Some(Kind::Address { area, of, by })
+    } else {
+        None
     }
 }
 
 /// What a register holds behind a sum of two.
 fn summed(facts: &Facts, dst: Reg, src: Reg) -> Kind {
     let (left, right) = (facts.get(dst), facts.get(src));
-    let found = if is_base(right) {
-        offset_in(dst, left)
-    } else if is_base(left) {
-        offset_in(src, right)
-    } else {
-        None
-    };
-    match found {
-        Some((of, by)) => Kind::Address { of, by },
-        None => Kind::Nothing,
+    if let Some(kind) = address(base_of(src, right), offset_in(dst, left)) {
+        return kind;
     }
+    address(base_of(dst, left), offset_in(src, right)).unwrap_or(Kind::Nothing)
 }
 
 /// What a 64-bit operation puts into its register.
 fn put(facts: &Facts, op: AluOp, dst: Reg, src: Operand) -> Kind {
     match (op, src) {
         (AluOp::Mov, Operand::Imm(value)) => if value == 0 && facts.get(dst) == Kind::Start {
-            Kind::Fixed { offset: 0 }
+            Kind::Fixed {
+                area: Area::Given,
+                offset: 0,
+            }
         } else {
             Kind::Constant { value }
         },
@@ -102,7 +128,7 @@ pub fn tested(insn: &Insn) -> Option<Reg> {
 fn kept(facts: &Facts, src: Reg) -> Kind {
     match facts.get(src) {
         Kind::Counter { head } => Kind::Counter { head },
-        Kind::Both => Kind::Saved { of: src },
+        Kind::Both | Kind::Natural => Kind::Saved { of: src },
         kind => copied(src, kind),
     }
 }
@@ -144,7 +170,7 @@ pub fn taken(insn: &Insn) -> Option<(Reg, usize)> {
     None
 }
 
-/// What a guard that isn't taken tells of a number.
+/// What a guard that isn't taken tells of a number or an offset.
 fn guarded(kind: Kind, cond: Cond, imm: i32) -> Kind {
     let Ok(bound) = u32::try_from(imm) else {
         return kind;
@@ -155,6 +181,21 @@ fn guarded(kind: Kind, cond: Cond, imm: i32) -> Kind {
             most: most.min(bound),
         },
         (Kind::Number { least, most }, Cond::Lt) => Kind::Number {
+            least: least.max(bound),
+            most,
+        },
+        (Kind::Offset { area }, Cond::Gt) => Kind::Within {
+            area,
+            least: 0,
+            most: bound,
+        },
+        (Kind::Within { area, least, most }, Cond::Gt) => Kind::Within {
+            area,
+            least,
+            most: most.min(bound),
+        },
+        (Kind::Within { area, least, most }, Cond::Lt) => Kind::Within {
+            area,
             least: least.max(bound),
             most,
         },

@@ -1,6 +1,6 @@
 //! What registers and slots of the frame hold at a place.
 
-use bpf_follows::{Kind, Kinds, PLACES};
+use bpf_follows::{Area, Kind, Kinds, PLACES};
 use bpf_insn::{FRAME_BYTES, Reg};
 
 /// How many registers there are. Behind them come the frame's slots, the lowest first.
@@ -39,8 +39,8 @@ fn joined_slot(a: Kind, b: Kind) -> Kind {
         (Kind::Constant { .. }, Kind::Counter { head })
         | (Kind::Counter { head }, Kind::Constant { .. }) => Kind::Counter { head },
         _ if a == b => a,
-        (Kind::Fixed { .. }, Kind::Fixed { .. } | Kind::Offset)
-        | (Kind::Offset, Kind::Fixed { .. }) => Kind::Offset,
+        (Kind::Fixed { area, .. }, Kind::Fixed { .. } | Kind::Offset { .. })
+        | (Kind::Offset { area }, Kind::Fixed { .. }) => Kind::Offset { area },
         (Kind::Number { .. }, Kind::Number { .. }) => joined_numbers(a, b),
         _ if is_free(a) && is_free(b) => Kind::Unset,
         _ if are_same => Kind::Same,
@@ -56,18 +56,35 @@ fn beside(kind: Kind) -> Option<Reg> {
     }
 }
 
-/// Whether a register holds the old one's offset.
-pub fn is_offset(r: Reg, kind: Kind) -> bool {
+/// What the offset is counted in that a register holds of the old one.
+pub fn offset_area(r: Reg, kind: Kind) -> Option<Area> {
     match kind {
-        Kind::Offset | Kind::Fixed { .. } | Kind::Within { .. } => true,
-        Kind::Moved { of, by } => of == r && by == 0,
-        _ => false,
+        Kind::Offset { area } => Some(area),
+        Kind::Fixed { area, .. } => Some(area),
+        Kind::Within { area, .. } => Some(area),
+        Kind::Moved { area, of, by } => if of == r && by == 0 { Some(area) } else { None },
+        _ => None,
     }
+}
+
+/// Whether it is said by another register, or by r10.
+fn is_of_other(kind: Kind) -> bool {
+    match kind {
+        Kind::Offset { area } => area == Area::Own,
+        Kind::Fixed { area, .. } => area == Area::Own,
+        Kind::Within { area, .. } => area == Area::Own,
+        _ => beside(kind).is_some(),
+    }
+}
+
+/// Whether both programs have a number that isn't below 0, and the same.
+fn is_natural(kind: Kind) -> bool {
+    matches!(kind, Kind::Natural | Kind::Number { .. })
 }
 
 /// Whether both programs have a value, and the same.
 fn is_sure(kind: Kind) -> bool {
-    matches!(kind, Kind::Both | Kind::Number { .. })
+    matches!(kind, Kind::Both) || is_natural(kind)
 }
 
 /// Whether both programs have the same.
@@ -76,7 +93,7 @@ fn is_same(kind: Kind) -> bool {
 }
 
 /// The bounds of both.
-fn joined_numbers(a: Kind, b: Kind) -> Kind {
+pub fn joined_numbers(a: Kind, b: Kind) -> Kind {
     match (a, b) {
         (
             Kind::Number { least, most },
@@ -88,6 +105,7 @@ fn joined_numbers(a: Kind, b: Kind) -> Kind {
             least: least.min(low),
             most: most.max(high),
         },
+        _ if is_natural(a) && is_natural(b) => Kind::Natural,
         _ if is_sure(a) && is_sure(b) => Kind::Both,
         _ => Kind::Same,
     }
@@ -96,8 +114,8 @@ fn joined_numbers(a: Kind, b: Kind) -> Kind {
 /// The bounds of an offset that isn't below 0, if they are known.
 pub fn offset_bounds(kind: Kind) -> Option<(u32, u32)> {
     match kind {
-        Kind::Within { least, most } => Some((least, most)),
-        Kind::Fixed { offset } => {
+        Kind::Within { least, most, .. } => Some((least, most)),
+        Kind::Fixed { offset, .. } => {
             let offset = u32::try_from(offset).ok()?;
             Some((offset, offset))
         }
@@ -105,19 +123,20 @@ pub fn offset_bounds(kind: Kind) -> Option<(u32, u32)> {
     }
 }
 
-/// What holds of two offsets.
-fn joined_offsets(a: Kind, b: Kind) -> Kind {
+/// What holds of two offsets into an area.
+fn joined_offsets(area: Area, a: Kind, b: Kind) -> Kind {
     match (offset_bounds(a), offset_bounds(b)) {
         (Some((least, most)), Some((low, high))) => Kind::Within {
+            area,
             least: least.min(low),
             most: most.max(high),
         },
-        _ => Kind::Offset,
+        _ => Kind::Offset { area },
     }
 }
 
-/// Bounds that grew again and again, and now grow at once.
-pub fn grown(before: Kind, after: Kind) -> Kind {
+/// Bounds that grew again and again, and now grow at once: up to the next of these stops, or farther.
+pub fn grown(before: Kind, after: Kind, stops: &[u32]) -> Kind {
     match (before, after) {
         (
             Kind::Number { least, most },
@@ -125,37 +144,48 @@ pub fn grown(before: Kind, after: Kind) -> Kind {
                 least: low,
                 most: high,
             },
-        ) => {
-            let (least, most) = farther(least, most, low, high);
-            Kind::Number { least, most }
-        }
+        ) => Kind::Number {
+            least: lower(least, low),
+            most: higher(most, high, stops),
+        },
         (
-            Kind::Within { least, most },
+            Kind::Within { area, least, most },
             Kind::Within {
                 least: low,
                 most: high,
+                ..
             },
-        ) => {
-            let (least, most) = farther(least, most, low, high);
-            Kind::Within { least, most }
-        }
+        ) => Kind::Within {
+            area,
+            least: lower(least, low),
+            most: higher(most, high, stops),
+        },
         _ => after,
     }
 }
 
-/// Bounds behind those before.
-fn farther(least: u32, most: u32, low: u32, high: u32) -> (u32, u32) {
-    let low = if low < least { low.min(1) } else { low };
-    let high = if high <= most {
-        high
-    } else if high <= 0xffff {
-        0xffff
-    } else if high <= 0x7fff_ffff {
-        0x7fff_ffff
-    } else {
-        0xffff_ffff
-    };
-    (low, high)
+/// A least number below the one before.
+fn lower(least: u32, low: u32) -> u32 {
+    if low < least { low.min(1) } else { low }
+}
+
+/// A greatest number above the one before.
+fn higher(most: u32, high: u32, stops: &[u32]) -> u32 {
+    if high <= most {
+        return high;
+    }
+    let mut next = 0xffff_ffff;
+    for stop in [0xffff, 0x7fff_ffff] {
+        if high <= stop && stop < next {
+            next = stop;
+        }
+    }
+    for stop in stops {
+        if high <= *stop && *stop < next {
+            next = *stop;
+        }
+    }
+    next
 }
 
 /// What holds on both ways to a place.
@@ -163,8 +193,10 @@ fn joined(r: Reg, a: Kind, b: Kind) -> Kind {
     if a == b {
         return a;
     }
-    if is_offset(r, a) && is_offset(r, b) {
-        return joined_offsets(a, b);
+    if let (Some(area), Some(into)) = (offset_area(r, a), offset_area(r, b)) {
+        if area == into {
+            return joined_offsets(area, a, b);
+        }
     }
     if is_same(a) && is_same(b) {
         return joined_numbers(a, b);
@@ -254,7 +286,7 @@ impl Facts {
     /// A call is made: what is said by another register is gone.
     pub fn call(&mut self, is_alone: bool) {
         for place in 0..PLACES {
-            if beside(self.at(place)).is_some() {
+            if is_of_other(self.at(place)) {
                 self.put(place, Kind::Nothing);
             }
             if place >= REGISTERS && !is_alone {
@@ -270,33 +302,29 @@ impl Facts {
     pub fn called(&self) -> Facts {
         let mut facts = Facts::entered();
         for r in [Reg::R1, Reg::R2, Reg::R3, Reg::R4, Reg::R5] {
-            if beside(self.get(r)).is_none() {
-                facts.set(r, self.get(r));
-            } else {
+            if is_of_other(self.get(r)) {
                 facts.set(r, Kind::Nothing);
+            } else {
+                facts.set(r, self.get(r));
             }
         }
         facts
     }
 
-    /// What holds on both ways, where bounds grow step by step, or at once (`far`). Whether that is less than this.
-    pub fn join(&mut self, other: &Facts, far: bool) -> bool {
+    /// What holds on both ways, where bounds grow step by step, or at once up to the next stop. Whether that is less than this.
+    pub fn join(&mut self, other: &Facts, stops: Option<&[u32]>) -> bool {
         let mut is_less = false;
-        for number in 0..REGISTERS as u8 {
-            let r = Reg::numbered(number);
-            let mut kind = joined(r, self.get(r), other.get(r));
-            if far {
-                kind = grown(self.get(r), kind);
+        for place in 0..PLACES {
+            let before = self.at(place);
+            let mut kind = if place < REGISTERS {
+                joined(Reg::numbered(place as u8), before, other.at(place))
+            } else {
+                joined_slot(before, other.at(place))
+            };
+            if let Some(stops) = stops {
+                kind = grown(before, kind, stops);
             }
-            is_less = is_less || kind != self.get(r);
-            self.set(r, kind);
-        }
-        for place in REGISTERS..PLACES {
-            let mut kind = joined_slot(self.at(place), other.at(place));
-            if far {
-                kind = grown(self.at(place), kind);
-            }
-            is_less = is_less || kind != self.at(place);
+            is_less = is_less || kind != before;
             self.put(place, kind);
         }
         is_less

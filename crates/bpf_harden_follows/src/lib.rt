@@ -6,5 +6,6 @@ mod behind;
 mod extra;
 mod facts;
 mod places;
+mod returns;
 
 pub use places::places_of;

@@ -3,6 +3,7 @@
 use crate::behind::{is_far, step};
 use crate::extra::{pass, taken, tested};
 use crate::facts::Facts;
+use crate::returns::Returns;
 use bpf_follows::site::Site;
 use bpf_follows::{Kind, Place, may_fall, may_lead};
 use bpf_harden_notes::{Change, Hardened};
@@ -13,10 +14,15 @@ use std::alloc::{AllocError, Global};
 const MOST_EXTRA: u32 = 128;
 
 /// The most rounds over all slots. What isn't stable by then isn't shown.
-const ROUNDS: u32 = 64;
+const ROUNDS: u32 = 96;
 
-/// How often bounds grow at a slot before they grow at once.
+/// How often bounds grow at a slot before they grow at once, and before they pass by what the old program compares with.
 const PATIENCE: u32 = 3;
+
+const MORE_PATIENCE: u32 = 12;
+
+/// How many numbers that the old program compares with are looked at.
+const MOST_STOPS: usize = 64;
 
 /// Both programs, and what is found so far.
 #[derive(Drop)]
@@ -35,6 +41,10 @@ struct Finder<'a> {
     is_alone: bool,
     /// By old slots, how often that was changed.
     times: Vec<u32>,
+    /// What the functions give back.
+    returns: Returns,
+    /// The numbers next to which the old program's tests are.
+    stops: Vec<u32>,
 }
 
 /// An element, if the list is so long.
@@ -84,6 +94,34 @@ fn is_alone(old: &Program) -> bool {
     true
 }
 
+/// The numbers that tests of a program compare with, and those next to them.
+fn stops_of(alloc: Global, old: &Program) -> Result<Vec<u32>, AllocError> {
+    let mut stops = Vec::new(alloc);
+    for slot in 0..old.slots() {
+        if let Some(
+            Insn::JumpIf {
+                src: Operand::Imm(imm),
+                ..
+            },
+        ) = old.at(slot)
+        {
+            if let Ok(stop) = u32::try_from(*imm) {
+                put_stop(&mut stops, stop.saturating_sub(1))?;
+                put_stop(&mut stops, stop)?;
+            }
+        }
+    }
+    Ok(stops)
+}
+
+/// Puts a number to others, if it is a new one, and they aren't too many.
+fn put_stop(stops: &mut Vec<u32>, stop: u32) -> Result<(), AllocError> {
+    if stops.len() < MOST_STOPS && !stops.contains(&stop) {
+        stops.push(stop)?;
+    }
+    Ok(())
+}
+
 impl<'a> Finder<'a> {
     /// Nothing is found.
     fn new(alloc: Global, old: &'a Program, new: &'a Hardened) -> Result<Finder<'a>, AllocError> {
@@ -104,14 +142,21 @@ impl<'a> Finder<'a> {
             is_new: vec![in alloc; false; old.slots() as usize]?,
             is_alone: is_alone(old),
             times: vec![in alloc; 0; old.slots() as usize]?,
+            returns: Returns::new(alloc, old.slots())?,
+            stops: stops_of(alloc, old)?,
         })
     }
 
     // ---- where what stands
 
-    /// Where what stands for an old slot begins.
+    /// Where what stands for an old slot begins: behind a CALL with the test of what came back.
     fn first(&self, slot: u32) -> Option<u32> {
-        at(&self.new.slots, slot)
+        let first = at(&self.new.slots, slot)?;
+        let before = first.saturating_sub(1);
+        match at(&self.changes, before) {
+            Some(Change::Returned) => Some(before),
+            _ => Some(first),
+        }
     }
 
     /// Where calls of a function lead that begins at an old slot; else as `first`.
@@ -169,7 +214,7 @@ impl<'a> Finder<'a> {
 
     /// The place from which a turn is taken in front of an old slot.
     fn counter(&self, old: u32) -> Option<usize> {
-        let first = self.first(old)?;
+        let first = at(&self.new.slots, old)?;
         if at(&self.changes, first) != Some(Change::Turn) {
             return None;
         }
@@ -189,17 +234,29 @@ impl<'a> Finder<'a> {
 
     // ---- along the edges
 
-    /// A way leads to an old slot, with what holds there.
-    fn arrive(&mut self, slot: u32, facts: &Facts) {
+    /// Where bounds stop that grew so often, if they grow at once.
+    fn stops_at(&self, times: u32) -> Option<&[u32]> {
+        if times <= PATIENCE {
+            None
+        } else if times <= MORE_PATIENCE {
+            Some(&self.stops)
+        } else {
+            Some(&[])
+        }
+    }
+
+    /// A way leads to an old slot, with what holds there, in the function that begins at `owner`.
+    fn arrive(&mut self, slot: u32, facts: &Facts, owner: u32) {
         if self.first(slot).is_none() {
             return;
         }
+        self.returns.reach(slot, owner);
         let mut found = *facts;
         let mut is_new = true;
         let times = self.times.get(slot as usize).copied().unwrap_or(0);
         if let Some(before) = at(&self.facts, slot) {
             found = before;
-            is_new = found.join(facts, PATIENCE < times);
+            is_new = found.join(facts, self.stops_at(times));
         }
         if let Some(counter) = self.counter(slot) {
             if let Kind::Constant { .. } = found.at(counter) {
@@ -217,7 +274,7 @@ impl<'a> Finder<'a> {
     fn enter(&mut self, slot: u32, facts: &Facts) {
         if let (Some(entry), Some(first)) = (self.entry(slot), self.first(slot)) {
             let set = self.passed(facts, slot, entry, first);
-            self.arrive(slot, &set);
+            self.arrive(slot, &set, slot);
         }
     }
 
@@ -228,8 +285,61 @@ impl<'a> Finder<'a> {
         } else {
             let mut behind = *before;
             step(&mut behind, site, true, self.is_alone);
-            self.arrive(target, &behind);
+            let owner = self.returns.owner(site.slot);
+            self.arrive(target, &behind, owner);
         }
+    }
+
+    /// Looks again at each call of the function that begins at an old slot.
+    fn call_again(&mut self, function: u32) {
+        for slot in 0..self.old.slots() {
+            if let Some(insn) = self.old.at(slot) {
+                if matches!(*insn, Insn::CallLocal { .. }) && led(slot, insn) == Some(function) {
+                    put(&mut self.is_new, slot, true);
+                }
+            }
+        }
+    }
+
+    /// An EXIT gives back what is in r0.
+    fn end(&mut self, slot: u32, before: &Facts) {
+        let owner = self.returns.owner(slot);
+        if self.returns.give(owner, before.get(Reg::R0)) {
+            self.call_again(owner);
+        }
+    }
+
+    /// Goes on behind an instruction: behind a call only when it is known what that gives back.
+    fn fall(&mut self, site: &Site, before: &Facts) {
+        let mut behind = *before;
+        step(&mut behind, site, false, self.is_alone);
+        if let (Insn::CallLocal { .. }, Some(to)) = (site.insn, led(site.slot, &site.insn)) {
+            match self.returns.given(to) {
+                Some(back) => behind.set(Reg::R0, back),
+                None => return,
+            }
+        }
+        let next = site.slot.saturating_add(site.insn.slots());
+        let owner = self.returns.owner(site.slot);
+        self.arrive(next, &behind, owner);
+    }
+
+    /// Calls of which no EXIT is found may give back anything. Whether there was one.
+    fn unanswered(&mut self) -> bool {
+        let mut is_found = false;
+        for slot in 0..self.old.slots() {
+            let (Some(_facts), Some(insn)) = (at(&self.facts, slot), self.old.at(slot)) else {
+                continue;
+            };
+            if let (Insn::CallLocal { .. }, Some(to)) = (*insn, led(slot, insn)) {
+                if self.returns.given(to).is_none() {
+                    self.returns.give(to, Kind::Same);
+                    put(&mut self.is_new, slot, true);
+                    is_found = true;
+                }
+            }
+        }
+        is_found
     }
 
     /// Goes on from an old slot.
@@ -243,17 +353,22 @@ impl<'a> Finder<'a> {
         };
         let insn = *insn;
         let before = self.passed(facts, slot, first, body);
+        let moved = match self.new.program.at(body) {
+            Some(moved) => *moved,
+            None => insn,
+        };
         let site = Site {
             slot,
             insn,
             new_slot: body,
-            moved: insn,
+            moved,
             kinds: before.kinds,
         };
+        if insn == Insn::Exit {
+            self.end(slot, &before);
+        }
         if insn.goes_on() && may_fall(&site) {
-            let mut behind = before;
-            step(&mut behind, &site, false, self.is_alone);
-            self.arrive(slot.saturating_add(insn.slots()), &behind);
+            self.fall(&site, &before);
         }
         match led(slot, &insn) {
             Some(target) if may_lead(&site) => self.lead(target, &site, &before),
@@ -279,7 +394,10 @@ impl<'a> Finder<'a> {
 
     /// What stands for an old slot, if a way leads there.
     fn place(&self, slot: u32) -> Option<Place> {
-        let facts = at(&self.facts, slot)?;
+        let mut facts = at(&self.facts, slot)?;
+        if let Some(Kind::Number { least, most }) = self.returns.of(slot) {
+            facts.set(Reg::R10, Kind::Returns { least, most });
+        }
         Some(Place {
             entry: self.entry(slot)?,
             first: self.first(slot)?,
@@ -301,7 +419,7 @@ pub fn places_of(
     let is_alone = finder.is_alone;
     finder.enter(0, &Facts::start(length, is_alone));
     for _ in 0..ROUNDS {
-        if !finder.round() {
+        if !finder.round() && !finder.unanswered() {
             break;
         }
     }

@@ -6,7 +6,6 @@ mod kinds;
 mod live;
 mod old;
 mod plan;
-mod registers;
 mod rooms;
 mod uses;
 
@@ -14,6 +13,5 @@ pub use kinds::Kind;
 pub use live::Liveness;
 pub use old::{Old, refusal};
 pub use plan::{Early, Guard, Plan, Span};
-pub use registers::{BY_CHOICE, Registers};
 pub use rooms::{Room, Rooms};
-pub use uses::Uses;
+pub use uses::{BY_CHOICE, Uses};

@@ -1,9 +1,8 @@
 //! Liveness: which registers hold what is still read, a backward data flow over all functions at once (Kildall, "A Unified
 //! Approach to Global Program Optimization", 1973).
 
-use crate::registers::Registers;
-use bpf_infer_base::{Flow, get_or, put};
-use bpf_insn::{Insn, Program, Reg};
+use bpf_infer_base::{Flow, PlaceSet, get_or, put};
+use bpf_insn::{Insn, Program};
 use std::alloc::{AllocError, Global};
 
 /// The most passes over a program. Where they don't do, all registers may be read.
@@ -12,46 +11,40 @@ const PASSES: u32 = 64;
 /// By slots, the registers whose content before the instruction may still be read.
 #[derive(Drop)]
 pub struct Liveness {
-    before: Vec<Registers>,
+    before: Vec<PlaceSet>,
 }
 
 impl Liveness {
     /// The registers that are read from a slot on.
-    pub fn before(&self, slot: u32) -> Registers {
-        get_or(&self.before, slot as usize, Registers::NONE)
+    pub fn before(&self, slot: u32) -> PlaceSet {
+        get_or(&self.before, slot as usize, PlaceSet::NONE)
     }
 
     /// The registers that are read behind an instruction.
-    pub fn after(&self, slot: u32, insn: &Insn) -> Registers {
-        let mut live = Registers::NONE;
+    pub fn after(&self, slot: u32, insn: &Insn) -> PlaceSet {
+        let mut live = PlaceSet::NONE;
         if insn.goes_on() {
             live = self.before(slot.saturating_add(insn.slots()));
         }
         if let Some(target) = Flow::of(slot, insn).jump() {
-            live.add_all(&self.before(target));
+            live = live.union(self.before(target));
         }
         live
     }
 
     /// The arguments that a function reads which begins at a slot.
-    pub fn arguments(&self, first: u32) -> Registers {
-        self.before(first).arguments()
+    pub fn arguments(&self, first: u32) -> PlaceSet {
+        self.before(first).intersection(PlaceSet::HANDED_OVER)
     }
 
     /// The registers that are read from an instruction on, as far as is known.
-    fn through(&self, slot: u32, insn: &Insn) -> Registers {
-        let mut live = self.after(slot, insn);
-        if let Some(r) = insn.register_written() {
-            live.remove(r);
-        }
+    fn through(&self, slot: u32, insn: &Insn) -> PlaceSet {
+        let mut read = PlaceSet::read_by(insn);
         if let Flow::Call(target) = Flow::of(slot, insn) {
-            for r in [Reg::R0, Reg::R1, Reg::R2, Reg::R3, Reg::R4, Reg::R5] {
-                live.remove(r);
-            }
-            live.add_all(&self.arguments(target));
+            read = read.union(self.arguments(target));
         }
-        live.add_some(insn.registers_read());
-        live
+        let live = self.after(slot, insn);
+        live.without(PlaceSet::written_by(insn)).union(read)
     }
 
     /// Goes once over a program, backwards. Whether something was learnt.
@@ -60,7 +53,7 @@ impl Liveness {
         for slot in (0..program.slots()).rev() {
             if let Some(insn) = program.at(slot) {
                 let live = self.through(slot, insn);
-                if !live.is_same(&self.before(slot)) {
+                if live != self.before(slot) {
                     put(&mut self.before, slot as usize, live);
                     is_changed = true;
                 }
@@ -72,7 +65,7 @@ impl Liveness {
     /// The registers of a program that are read.
     pub fn of(alloc: Global, program: &Program) -> Result<Liveness, AllocError> {
         let mut liveness = Liveness {
-            before: vec![in alloc; Registers::NONE; program.slots() as usize]?,
+            before: vec![in alloc; PlaceSet::NONE; program.slots() as usize]?,
         };
         for _ in 0..PASSES {
             if !liveness.pass(program) {
@@ -80,7 +73,7 @@ impl Liveness {
             }
         }
         Ok(Liveness {
-            before: vec![in alloc; Registers::ALL; program.slots() as usize]?,
+            before: vec![in alloc; PlaceSet::ALL; program.slots() as usize]?,
         })
     }
 }

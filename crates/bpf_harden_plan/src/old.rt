@@ -4,13 +4,13 @@ ghost use Rattle.std.specs.Prelude.{◌≤◌};
 
 use crate::kinds::Kind;
 use crate::live::Liveness;
-use crate::registers::Registers;
 use crate::uses::Uses;
 use bpf_harden_notes::HardenError;
-use bpf_infer_base::{Cfg, Flow, Meter, Quest, Watch, get_or};
+use bpf_infer_base::{Cfg, Flow, Meter, PlaceSet, Quest, Watch, get_or};
 use bpf_infer_error::InferError;
 use bpf_infer_states::{Survey, surveyed};
 use bpf_insn::{Insn, Program, Reg};
+use bpf_state::Place;
 use std::alloc::{AllocError, Global};
 
 /// A program as it came, and what is known of it.
@@ -44,12 +44,12 @@ impl<'a> Old<'a> {
     ) -> Result<Old<'a>, HardenError>
         requires { quest.least ≤ quest.most }
     {
-        let survey = match surveyed(alloc, quest, meter) {
-            Ok(survey) => survey,
-            Err(error) => return Err(refusal(error)),
-        };
         let cfg = match Cfg::of(alloc, quest.program) {
             Ok(cfg) => cfg,
+            Err(error) => return Err(refusal(error)),
+        };
+        let survey = match surveyed(alloc, quest, &cfg, meter) {
+            Ok(survey) => survey,
             Err(error) => return Err(refusal(error)),
         };
         let mut old = Old {
@@ -73,21 +73,17 @@ impl<'a> Old<'a> {
 
     /// The number of the function that a slot is in.
     pub fn function(&self, slot: u32) -> usize {
-        self.cfg.function_of(slot) as usize
+        self.cfg.function_of(slot)
     }
 
     /// The first slot of a function; of the one after the last, how many slots there are.
     pub fn first(&self, function: usize) -> u32 {
-        if function < self.count() {
-            self.cfg.label(self.cfg.first_block(function))
-        } else {
-            self.program.slots()
-        }
+        self.cfg.first_slot(function)
     }
 
     /// What a function uses.
     pub fn uses(&self, function: usize) -> Uses {
-        get_or(&self.uses, function, Uses::new(0, 0, Registers::NONE))
+        get_or(&self.uses, function, Uses::new(0, 0, PlaceSet::NONE))
     }
 
     /// Takes note of what each function uses.
@@ -106,7 +102,8 @@ impl<'a> Old<'a> {
         let mut uses = Uses::new(first, end, self.live.arguments(first));
         for slot in first..end {
             if let Some(insn) = self.kept(slot) {
-                uses.add_registers(insn);
+                let registers = PlaceSet::read_by(insn).union(PlaceSet::written_by(insn));
+                uses.registers = uses.registers.union(registers);
                 uses.calls = uses.calls || matches!(insn, Insn::CallLocal { .. });
                 if let Some(access) = insn.access() {
                     uses.add_access(access, self.survey.register(slot, access.base));
@@ -222,7 +219,7 @@ impl<'a> Old<'a> {
     fn hands_frame(&self, slot: u32, function: usize) -> bool {
         let arguments = self.uses(function).arguments;
         for r in [Reg::R1, Reg::R2, Reg::R3, Reg::R4, Reg::R5] {
-            if arguments.has(r) && self.kind(slot, r) == Kind::Frame {
+            if arguments.has(Place::Register(r)) && self.kind(slot, r) == Kind::Frame {
                 return true;
             }
         }

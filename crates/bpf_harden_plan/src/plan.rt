@@ -1,8 +1,9 @@
 //! What is planned for a program.
 
+use crate::kinds::Kind;
 use crate::old::Old;
 use bpf_harden_notes::Options;
-use bpf_infer_base::{get_or, put};
+use bpf_infer_base::get_or;
 use bpf_insn::{Access, Insn, Reg};
 use std::alloc::{AllocError, Global};
 
@@ -81,53 +82,40 @@ impl Guard {
 }
 
 /// What is planned for an old instruction.
-#[derive(Clone, Copy)]
-struct AtSlot {
-    guard: Option<Guard>,
-    early: Option<Early>,
-    /// The offset in the base of an access, where it is always the same.
-    constant: Option<i64>,
+#[derive(Clone, Copy, Default)]
+pub struct AtSlot {
+    /// What stands in front of the access.
+    pub guard: Option<Guard>,
+    /// The test in front of the sum.
+    pub early: Option<Early>,
+    /// The offset in the base of the access, where it is always the same.
+    pub constant: Option<i64>,
     /// Whether a counter of turns stands in front.
-    counts: bool,
+    pub counts: bool,
     /// Whether a 32-bit operation becomes a 64-bit one.
-    widens: bool,
+    pub widens: bool,
     /// Whether it is left out though the old program's states reach it.
-    is_left_out: bool,
+    pub is_left_out: bool,
     /// Whether the access always leaves its region.
-    is_hopeless: bool,
+    pub is_hopeless: bool,
 }
 
 /// What is planned for a function.
-#[derive(Clone, Copy)]
-struct OfFunction {
+#[derive(Clone, Copy, Default)]
+pub struct OfFunction {
     /// Whether all counters of turns are one.
-    shares: bool,
+    pub shares: bool,
     /// Whether the frame is set to zeros at the entry.
-    zeroes: bool,
+    pub zeroes: bool,
     /// Whether r0 is set to zero at the entry.
-    clears: bool,
+    pub clears: bool,
 }
 
-impl AtSlot {
-    /// Nothing.
-    const NOTHING: AtSlot = AtSlot {
-        guard: None,
-        early: None,
-        constant: None,
-        counts: false,
-        widens: false,
-        is_left_out: false,
-        is_hopeless: false,
-    };
-}
-
-impl OfFunction {
-    /// Nothing.
-    const NOTHING: OfFunction = OfFunction {
-        shares: false,
-        zeroes: false,
-        clears: false,
-    };
+/// Plans what may be planned already. Whether it wasn't.
+fn plan_on(planned: &mut bool) -> bool {
+    let is_new = !*planned;
+    *planned = true;
+    is_new
 }
 
 /// What is planned for a program.
@@ -160,8 +148,8 @@ impl Plan {
             length,
             offsets: options.padded || options.everywhere,
             frames: false,
-            slots: vec![in alloc; AtSlot::NOTHING; slots as usize]?,
-            functions: vec![in alloc; OfFunction::NOTHING; functions]?,
+            slots: vec![in alloc; AtSlot::default(); slots as usize]?,
+            functions: vec![in alloc; OfFunction::default(); functions]?,
         })
     }
 
@@ -170,101 +158,25 @@ impl Plan {
         if self.options.padded { 8 } else { 0 }
     }
 
+    /// Whether a register of a kind holds offsets, where it is the base of an access.
+    pub fn is_offset(&self, kind: Kind, base: Reg) -> bool {
+        match kind {
+            Kind::Context => self.offsets,
+            Kind::Frame => self.frames && base != Reg::R10,
+            Kind::Number | Kind::Unknown => false,
+        }
+    }
+
     // ---- slots
 
     /// What is planned for the instruction at a slot.
-    fn at(&self, slot: u32) -> AtSlot {
-        get_or(&self.slots, slot as usize, AtSlot::NOTHING)
+    pub fn at(&self, slot: u32) -> AtSlot {
+        get_or(&self.slots, slot as usize, AtSlot::default())
     }
 
-    /// Makes this the plan for the instruction at a slot.
-    fn put_at(&mut self, slot: u32, planned: AtSlot) {
-        put(&mut self.slots, slot as usize, planned);
-    }
-
-    /// The guard in front of the access at a slot.
-    pub fn guard(&self, slot: u32) -> Option<Guard> {
-        self.at(slot).guard
-    }
-
-    /// Makes this the guard in front of the access at a slot, or none.
-    pub fn set_guard(&mut self, slot: u32, guard: Option<Guard>) {
-        let mut planned = self.at(slot);
-        planned.guard = guard;
-        self.put_at(slot, planned);
-    }
-
-    /// The early test in front of the sum at a slot.
-    pub fn early(&self, slot: u32) -> Option<Early> {
-        self.at(slot).early
-    }
-
-    /// Puts an early test in front of the sum at a slot.
-    pub fn set_early(&mut self, slot: u32, early: Early) {
-        let mut planned = self.at(slot);
-        planned.early = Some(early);
-        self.put_at(slot, planned);
-    }
-
-    /// The offset that the base of the access at a slot always has.
-    pub fn constant(&self, slot: u32) -> Option<i64> {
-        self.at(slot).constant
-    }
-
-    /// Takes note of the offset that the base of the access at a slot always has.
-    pub fn set_constant(&mut self, slot: u32, constant: Option<i64>) {
-        let mut planned = self.at(slot);
-        planned.constant = constant;
-        self.put_at(slot, planned);
-    }
-
-    /// Whether a counter of turns stands in front of the instruction at a slot.
-    pub fn counts(&self, slot: u32) -> bool {
-        self.at(slot).counts
-    }
-
-    /// Puts a counter of turns in front of the instruction at a slot. Whether there was none.
-    pub fn count(&mut self, slot: u32) -> bool {
-        let mut planned = self.at(slot);
-        let is_new = !planned.counts;
-        planned.counts = true;
-        self.put_at(slot, planned);
-        is_new
-    }
-
-    /// Takes the counter of turns in front of the instruction at a slot away.
-    pub fn uncount(&mut self, slot: u32) {
-        let mut planned = self.at(slot);
-        planned.counts = false;
-        self.put_at(slot, planned);
-    }
-
-    /// Whether the operation at a slot becomes a 64-bit one.
-    pub fn widens(&self, slot: u32) -> bool {
-        self.at(slot).widens
-    }
-
-    /// Makes the operation at a slot a 64-bit one. Whether it wasn't.
-    pub fn widen(&mut self, slot: u32) -> bool {
-        let mut planned = self.at(slot);
-        let is_new = !planned.widens;
-        planned.widens = true;
-        self.put_at(slot, planned);
-        is_new
-    }
-
-    /// Whether the access at a slot always leaves its region.
-    pub fn is_hopeless(&self, slot: u32) -> bool {
-        self.at(slot).is_hopeless
-    }
-
-    /// The access at a slot always leaves its region. Whether that is new.
-    pub fn give_up(&mut self, slot: u32) -> bool {
-        let mut planned = self.at(slot);
-        let is_new = !planned.is_hopeless;
-        planned.is_hopeless = true;
-        self.put_at(slot, planned);
-        is_new
+    /// The same, to be changed.
+    pub fn at_mut(&mut self, slot: u32) -> Option<&mut AtSlot> {
+        self.slots.get_mut(slot as usize)
     }
 
     /// The old instruction at a slot, if it is kept.
@@ -275,59 +187,80 @@ impl Plan {
         old.kept(slot)
     }
 
-    /// Leaves the instruction at a slot out.
-    pub fn leave_out(&mut self, slot: u32) {
-        let mut planned = self.at(slot);
-        planned.is_left_out = true;
-        self.put_at(slot, planned);
+    /// Makes this the guard in front of the access at a slot, or none.
+    pub fn set_guard(&mut self, slot: u32, guard: Option<Guard>) {
+        if let Some(planned) = self.at_mut(slot) {
+            planned.guard = guard;
+        }
+    }
+
+    /// Puts a counter of turns in front of the instruction at a slot. Whether there was none.
+    pub fn count(&mut self, slot: u32) -> bool {
+        match self.at_mut(slot) {
+            Some(planned) => plan_on(&mut planned.counts),
+            None => false,
+        }
+    }
+
+    /// Takes the counter of turns in front of the instruction at a slot away.
+    pub fn uncount(&mut self, slot: u32) {
+        if let Some(planned) = self.at_mut(slot) {
+            planned.counts = false;
+        }
+    }
+
+    /// Leaves the instruction at a slot out. Whether it wasn't.
+    pub fn leave_out(&mut self, slot: u32) -> bool {
+        match self.at_mut(slot) {
+            Some(planned) => plan_on(&mut planned.is_left_out),
+            None => false,
+        }
+    }
+
+    /// Makes the operation at a slot a 64-bit one. Whether it wasn't.
+    pub fn widen(&mut self, slot: u32) -> bool {
+        match self.at_mut(slot) {
+            Some(planned) => plan_on(&mut planned.widens),
+            None => false,
+        }
+    }
+
+    /// The access at a slot always leaves its region. Whether that is new.
+    pub fn give_up(&mut self, slot: u32) -> bool {
+        match self.at_mut(slot) {
+            Some(planned) => plan_on(&mut planned.is_hopeless),
+            None => false,
+        }
     }
 
     // ---- functions
 
     /// What is planned for a function.
-    fn of(&self, function: usize) -> OfFunction {
-        get_or(&self.functions, function, OfFunction::NOTHING)
-    }
-
-    /// Whether all counters of turns in a function are one.
-    pub fn shares(&self, function: usize) -> bool {
-        self.of(function).shares
+    pub fn of(&self, function: usize) -> OfFunction {
+        get_or(&self.functions, function, OfFunction::default())
     }
 
     /// Makes all counters of turns in a function one. Whether they weren't.
     pub fn share(&mut self, function: usize) -> bool {
-        let mut planned = self.of(function);
-        let is_new = !planned.shares;
-        planned.shares = true;
-        put(&mut self.functions, function, planned);
-        is_new
-    }
-
-    /// Whether a function's frame is set to zeros.
-    pub fn zeroes(&self, function: usize) -> bool {
-        self.of(function).zeroes
+        match self.functions.get_mut(function) {
+            Some(planned) => plan_on(&mut planned.shares),
+            None => false,
+        }
     }
 
     /// Sets a function's frame to zeros. Whether it wasn't.
     pub fn zero(&mut self, function: usize) -> bool {
-        let mut planned = self.of(function);
-        let is_new = !planned.zeroes;
-        planned.zeroes = true;
-        put(&mut self.functions, function, planned);
-        is_new
-    }
-
-    /// Whether r0 is set to zero at the entry of a function.
-    pub fn clears(&self, function: usize) -> bool {
-        self.of(function).clears
+        match self.functions.get_mut(function) {
+            Some(planned) => plan_on(&mut planned.zeroes),
+            None => false,
+        }
     }
 
     /// Sets r0 to zero at the entry of a function. Whether it wasn't.
     pub fn clear(&mut self, function: usize) -> bool {
-        let mut planned = self.of(function);
-        let is_new = !planned.clears;
-        planned.clears = true;
-        put(&mut self.functions, function, planned);
-        is_new
+        match self.functions.get_mut(function) {
+            Some(planned) => plan_on(&mut planned.clears),
+            None => false,
+        }
     }
 }

@@ -2,10 +2,9 @@
 
 use crate::old::Old;
 use crate::plan::Plan;
-use crate::registers::{BY_CHOICE, Registers};
-use crate::uses::{FRAME_SLOTS, Uses};
+use crate::uses::{BY_CHOICE, FRAME_SLOTS, Uses};
 use bpf_harden_notes::HardenError;
-use bpf_infer_base::{Flow, get_or, put};
+use bpf_infer_base::{Flow, PlaceSet, get_or, put};
 use bpf_insn::{FRAME_BYTES, Reg};
 use bpf_num::Num;
 use bpf_state::Place;
@@ -43,7 +42,7 @@ pub struct Room {
     /// Whether it may come to a trap.
     pub traps: bool,
     /// The registers that hold what it keeps.
-    pub taken: Registers,
+    pub taken: PlaceSet,
     /// How many loops share their counter; 0 if each has one of its own.
     pub sharing: u32,
 }
@@ -58,7 +57,7 @@ impl Room {
         handed: None,
         spare: None,
         traps: false,
-        taken: Registers::NONE,
+        taken: PlaceSet::NONE,
         sharing: 0,
     };
 }
@@ -76,7 +75,7 @@ pub struct Rooms {
 #[derive(Clone, Copy)]
 struct Space {
     uses: Uses,
-    taken: Registers,
+    taken: PlaceSet,
     /// How many slots of the frame are taken: below those that the function uses, or from the frame's start on where nothing
     /// bounds these.
     slots: u32,
@@ -87,7 +86,7 @@ impl Space {
     fn of(uses: Uses) -> Space {
         Space {
             uses,
-            taken: Registers::NONE,
+            taken: PlaceSet::NONE,
             slots: 0,
         }
     }
@@ -104,13 +103,15 @@ impl Space {
     /// Whether a register is free: one that calls keep, or one that they don't where there is none.
     fn is_free(&self, r: Reg) -> bool {
         let is_kept = matches!(r, Reg::R6 | Reg::R7 | Reg::R8 | Reg::R9);
-        (is_kept || !self.uses.calls) && !self.uses.registers.has(r) && !self.taken.has(r)
+        let needed = self.uses.registers.union(self.taken);
+        (is_kept || !self.uses.calls) && !needed.has(Place::Register(r))
     }
 
     /// Whether a register is neither kept nor one of those that are read.
-    fn has_idle(&self, live: Registers) -> bool {
+    fn has_idle(&self, live: PlaceSet) -> bool {
+        let needed = live.union(self.taken);
         for r in BY_CHOICE {
-            if !live.has(r) && !self.taken.has(r) {
+            if !needed.has(Place::Register(r)) {
                 return true;
             }
         }
@@ -157,7 +158,7 @@ impl Space {
     fn place(&mut self) -> Option<Place> {
         for r in KEPT_IN {
             if self.is_free(r) {
-                self.taken.add(r);
+                self.taken.add(Place::Register(r));
                 return Some(Place::Register(r));
             }
         }
@@ -190,7 +191,7 @@ fn handed_to(uses: Uses, base: Option<Place>) -> Option<Reg> {
         }
     }
     for r in [Reg::R5, Reg::R4, Reg::R3, Reg::R2, Reg::R1] {
-        if !uses.arguments.has(r) {
+        if !uses.arguments.has(Place::Register(r)) {
             return Some(r);
         }
     }
@@ -266,7 +267,7 @@ impl Rooms {
         let uses = space.uses;
         let mut shared = None;
         for slot in uses.first..uses.end {
-            if plan.counts(slot) {
+            if plan.at(slot).counts {
                 let place = match shared {
                     Some(place) => place,
                     None => taken(space.place(), uses)?,
@@ -296,7 +297,7 @@ impl Rooms {
         let uses = old.uses(function);
         let mut traps = plan.options.padded && (function == 0 || uses.needs_context);
         for slot in uses.first..uses.end {
-            let is_tested = plan.guard(slot).is_some() || plan.counts(slot);
+            let is_tested = plan.at(slot).guard.is_some() || plan.at(slot).counts;
             traps = traps || is_tested || leads_out(old, plan, slot);
         }
         self.set_traps(function, traps);
@@ -326,11 +327,11 @@ impl Rooms {
 fn sharing(plan: &Plan, function: usize, space: &Space) -> u32 {
     let mut count = 0u32;
     for slot in space.uses.first..space.uses.end {
-        if plan.counts(slot) {
+        if plan.at(slot).counts {
             count = count.saturating_add(1);
         }
     }
-    if plan.shares(function) || count > space.places() {
+    if plan.of(function).shares || count > space.places() {
         count
     } else {
         0

@@ -1,11 +1,26 @@
 //! What the functions of a program use.
 
-use crate::registers::Registers;
-use bpf_insn::{Access, FRAME_BYTES, Insn};
+use bpf_infer_base::PlaceSet;
+use bpf_insn::{Access, FRAME_BYTES, Reg};
 use bpf_state::{FRAME_START, RegState};
 
 /// How many slots of eight bytes a frame has.
 pub const FRAME_SLOTS: u32 = FRAME_BYTES as u32 / 8;
+
+/// The registers that a program may write, in the order in which one is chosen that holds nothing: those first that calls
+/// overwrite.
+pub const BY_CHOICE: [Reg; 10] = [
+    Reg::R0,
+    Reg::R5,
+    Reg::R4,
+    Reg::R3,
+    Reg::R2,
+    Reg::R1,
+    Reg::R9,
+    Reg::R8,
+    Reg::R7,
+    Reg::R6,
+];
 
 /// What a function uses by itself.
 #[derive(Clone, Copy)]
@@ -13,10 +28,10 @@ pub struct Uses {
     /// Its first slot, and the one after it.
     pub first: u32,
     pub end: u32,
-    /// The registers that it reads or writes, or is given.
-    pub registers: Registers,
+    /// The registers that it reads or changes, or is given.
+    pub registers: PlaceSet,
     /// The arguments that it reads.
-    pub arguments: Registers,
+    pub arguments: PlaceSet,
     /// Whether it calls another one.
     pub calls: bool,
     /// How many bytes of its frame it uses, a multiple of 8.
@@ -29,7 +44,7 @@ pub struct Uses {
 
 impl Uses {
     /// A function of which nothing is known but its slots and arguments.
-    pub fn new(first: u32, end: u32, arguments: Registers) -> Uses {
+    pub fn new(first: u32, end: u32, arguments: PlaceSet) -> Uses {
         Uses {
             first,
             end,
@@ -39,14 +54,6 @@ impl Uses {
             depth: 0,
             is_wild: false,
             needs_context: false,
-        }
-    }
-
-    /// Takes note of the registers of an instruction.
-    pub fn add_registers(&mut self, insn: &Insn) {
-        self.registers.add_some(insn.registers_read());
-        if let Some(r) = insn.register_written() {
-            self.registers.add(r);
         }
     }
 

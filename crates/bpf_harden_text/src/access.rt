@@ -6,7 +6,8 @@ use crate::region::Region;
 use crate::share::{Made, Share, first_of, stores};
 use crate::writer::Writer;
 use bpf_harden_notes::{Change, HardenError};
-use bpf_harden_plan::{BY_CHOICE, Guard, Kind, Registers, Span};
+use bpf_harden_plan::{BY_CHOICE, Guard, Kind, Span};
+use bpf_infer_base::PlaceSet;
 use bpf_insn::{Access, AluOp, Cond, Insn, Operand, Reg};
 use bpf_state::Place;
 use std::alloc::AllocError;
@@ -61,13 +62,8 @@ impl Site {
     }
 
     /// The registers that it reads or fills.
-    fn registers(&self) -> Registers {
-        let mut registers = Registers::NONE;
-        registers.add_some(self.insn.registers_read());
-        if let Some(r) = self.insn.register_written() {
-            registers.add(r);
-        }
-        registers
+    fn registers(&self) -> PlaceSet {
+        PlaceSet::read_by(&self.insn).union(PlaceSet::written_by(&self.insn))
     }
 
     /// The register that has what a place keeps: its own one, or the one that is loaded.
@@ -138,7 +134,7 @@ impl Site {
 impl<'a> Writer<'a> {
     /// Puts an access by an offset. Whether the next instruction may follow.
     pub fn access(&mut self, site: &Site) -> Result<bool, HardenError> {
-        let constant = self.plan.constant(site.slot);
+        let constant = self.plan.at(site.slot).constant;
         if self.always_leaves(site, constant) {
             self.trap(site.slot)?;
             return Ok(false);
@@ -168,7 +164,7 @@ impl<'a> Writer<'a> {
             }
             None => site.never_lies(),
         };
-        is_out || self.plan.is_hopeless(site.slot)
+        is_out || self.plan.at(site.slot).is_hopeless
     }
 
     /// Puts an access at an offset that is always the same, if it can be put so.
@@ -364,7 +360,7 @@ impl<'a> Writer<'a> {
         let base = site.access.base;
         let live = self.old.live.after(site.slot, &site.insn);
         let is_kept = matches!(site.region.base, Place::Register(_));
-        is_kept && !live.has(base) && !site.reads_base_twice()
+        is_kept && !live.has(Place::Register(base)) && !site.reads_base_twice()
     }
 
     /// A register but this one that holds nothing which is read at an access or later.
@@ -393,7 +389,7 @@ impl<'a> Writer<'a> {
     /// Whether neither an access nor its function needs a register meanwhile.
     pub fn is_spare(&self, site: &Site, r: Reg, but: Reg) -> bool {
         let taken = self.rooms.room(self.old.function(site.slot)).taken;
-        r != but && !site.registers().has(r) && !taken.has(r)
+        r != but && !site.registers().union(taken).has(Place::Register(r))
     }
 
     /// Takes a register: it is saved, if it is to be, and else a pointer that was made is gone where it is free.

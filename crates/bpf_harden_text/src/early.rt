@@ -14,7 +14,7 @@ impl<'a> Writer<'a> {
         };
         let kind = self.old.kind(early.access, access.base);
         let region = Region::of(self.plan, &room, kind);
-        match (region, self.plan.guard(early.access)) {
+        match (region, self.plan.at(early.access).guard) {
             (Some(region), Some(guard)) => self.test_added(early, guard, region),
             _ => Ok(()),
         }

@@ -69,7 +69,7 @@ impl<'a> Writer<'a> {
         if let Some(counter) = self.rooms.counter(slot) {
             self.take_turn(slot, counter)?;
         }
-        if let Some(early) = self.plan.early(slot) {
+        if let Some(early) = self.plan.at(slot).early {
             self.test_early(early)?;
         }
         Ok(())
@@ -118,15 +118,16 @@ impl<'a> Writer<'a> {
     fn turn_register(&self, slot: u32) -> Result<(Reg, Option<Place>), HardenError> {
         let function = self.old.function(slot);
         let room = self.rooms.room(function);
-        let live = self.old.live.before(slot);
+        let needed = self.old.live.before(slot).union(room.taken);
         for r in BY_CHOICE {
-            if !live.has(r) && !room.taken.has(r) {
+            if !needed.has(Place::Register(r)) {
                 return Ok((r, None));
             }
         }
         if let Some(scratch) = room.scratch {
             for r in BY_CHOICE {
-                if !room.taken.has(r) && self.old.kind(slot, r) != Kind::Unknown {
+                let is_taken = room.taken.has(Place::Register(r));
+                if !is_taken && self.old.kind(slot, r) != Kind::Unknown {
                     return Ok((r, Some(Place::Slot(scratch))));
                 }
             }
@@ -150,7 +151,7 @@ impl<'a> Writer<'a> {
                     insn: edited,
                     access,
                     region,
-                    guard: self.plan.guard(slot),
+                    guard: self.plan.at(slot).guard,
                 };
                 self.access(&site)
             }
@@ -198,7 +199,7 @@ impl<'a> Writer<'a> {
     /// Puts an instruction as it was, or with offsets or 64 bits.
     fn put_edited(&mut self, slot: u32, insn: &Insn, goal: Goal) -> Result<(), HardenError> {
         let edited = self.edited(insn);
-        if self.plan.widens(slot) {
+        if self.plan.at(slot).widens {
             return Ok(self.put(slot, widened(&edited), goal, Some(Change::Widened))?);
         }
         let change = if self.plan.frames && takes_frame_pointer(insn) {

@@ -24,10 +24,10 @@ impl<'a> Writer<'a> {
             self.enter_called(function, uses)?;
         }
         self.set_turns(function, uses)?;
-        if self.plan.zeroes(function) {
+        if self.plan.of(function).zeroes {
             self.set_zeros(uses, self.rooms.room(function))?;
         }
-        if self.plan.clears(function) {
+        if self.plan.of(function).clears {
             self.add(uses.first, set(Reg::R0, 0), Change::Result)?;
         }
         Ok(())

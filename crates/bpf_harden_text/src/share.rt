@@ -4,7 +4,8 @@ use crate::access::Site;
 use crate::edits::with_base;
 use crate::writer::Writer;
 use bpf_harden_notes::Change;
-use bpf_harden_plan::{BY_CHOICE, Registers};
+use bpf_harden_plan::BY_CHOICE;
+use bpf_infer_base::PlaceSet;
 use bpf_insn::{Insn, Reg};
 use bpf_state::Place;
 use std::alloc::AllocError;
@@ -36,7 +37,7 @@ pub enum Share {
 #[derive(Clone, Copy)]
 struct Search {
     /// The registers that nothing needs so far.
-    free: Registers,
+    free: PlaceSet,
     /// The one that the pointer may be in.
     found: Option<Reg>,
     /// Whether there is a further access.
@@ -91,7 +92,8 @@ impl<'a> Writer<'a> {
             self.look_at(&mut search, base, next, insn);
             slot = next;
             let is_written = insn.register_written() == Some(base);
-            let is_over = is_written || !self.old.live.after(slot, insn).has(base);
+            let is_read = self.old.live.after(slot, insn).has(Place::Register(base));
+            let is_over = is_written || !is_read;
             if is_over && search.is_shared && !search.is_read {
                 return Share::Base;
             }
@@ -106,12 +108,12 @@ impl<'a> Writer<'a> {
     }
 
     /// The registers but one that hold nothing that is read behind an access, and that it doesn't fill.
-    pub fn free_after(&self, site: &Site, but: Reg) -> Registers {
-        let mut free = Registers::NONE;
+    pub fn free_after(&self, site: &Site, but: Reg) -> PlaceSet {
+        let mut free = PlaceSet::NONE;
         let live = self.old.live.after(site.slot, &site.insn);
         for r in BY_CHOICE {
-            if self.is_spare(site, r, but) && !live.has(r) {
-                free.add(r);
+            if self.is_spare(site, r, but) && !live.has(Place::Register(r)) {
+                free.add(Place::Register(r));
             }
         }
         free
@@ -120,39 +122,31 @@ impl<'a> Writer<'a> {
     /// Takes note of an instruction that follows.
     fn look_at(&self, search: &mut Search, base: Reg, slot: u32, insn: &Insn) {
         let by_base = insn.access().is_some_and(|access| access.base == base);
-        if by_base && self.plan.guard(slot).is_none() && self.plan.constant(slot).is_none() {
+        let planned = self.plan.at(slot);
+        if by_base && planned.guard.is_none() && planned.constant.is_none() {
             search.is_shared = true;
             if search.found.is_none() {
                 search.found = first_of(search.free);
             }
         } else {
-            search.is_read = search.is_read || reads(insn, base);
+            let read = PlaceSet::read_by(insn);
+            search.is_read = search.is_read || read.has(Place::Register(base));
         }
         search.is_read = search.is_read || by_base && stores(insn, base);
         if let Some(r) = insn.register_written() {
-            search.free.remove(r);
+            search.free = search.free.without(PlaceSet::of(Place::Register(r)));
         }
     }
 }
 
 /// The first of some registers.
-pub fn first_of(registers: Registers) -> Option<Reg> {
+pub fn first_of(registers: PlaceSet) -> Option<Reg> {
     for r in BY_CHOICE {
-        if registers.has(r) {
+        if registers.has(Place::Register(r)) {
             return Some(r);
         }
     }
     None
-}
-
-/// Whether an instruction reads a register.
-fn reads(insn: &Insn, r: Reg) -> bool {
-    for read in insn.registers_read() {
-        if read == Some(r) {
-            return true;
-        }
-    }
-    false
 }
 
 /// Whether an access stores a register, or compares it.

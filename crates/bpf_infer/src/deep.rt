@@ -2,7 +2,7 @@
 
 ghost use Rattle.std.specs.Prelude.{◌≤◌};
 
-use bpf_infer_base::{DEEP_WORK, Meter, Proposal, Quest, Stop, Watch};
+use bpf_infer_base::{Cfg, DEEP_WORK, Meter, Proposal, Quest, Stop, Watch};
 use bpf_infer_budgets::ranked;
 use bpf_infer_states::draft;
 use std::alloc::Global;
@@ -20,6 +20,7 @@ pub fn deep_proposal<W: Watch>(
     requires { quest.least ≤ quest.most }
 {
     let mut meter = Meter::new(watch, DEEP_WORK);
-    let functions = draft(alloc, quest, &mut meter)?;
-    ranked(alloc, quest, functions, &mut meter)
+    let cfg = Cfg::of(alloc, quest.program)?;
+    let functions = draft(alloc, quest, &cfg, &mut meter)?;
+    ranked(alloc, quest, &cfg, functions, &mut meter)
 }

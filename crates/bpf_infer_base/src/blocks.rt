@@ -104,11 +104,6 @@ impl Blocks {
     pub fn block_of(&self, slot: u32) -> usize {
         get_or(&self.numbers, self.index(slot), 0)
     }
-
-    /// Whether a label stands at a slot.
-    pub fn has_label(&self, slot: u32) -> bool {
-        self.label(self.block_of(slot)) == slot
-    }
 }
 
 // ---- where blocks lead

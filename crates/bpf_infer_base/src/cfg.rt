@@ -1,7 +1,9 @@
-//! The functions of a program, and its basic blocks.
+//! The functions of a program with the depths of their calls, and its basic blocks.
 
 use crate::blocks::Blocks;
 use crate::flow::Flow;
+use crate::functions::CallGraph;
+use crate::lists::get_or;
 use bpf_cert::MAX_FUNCTIONS;
 use bpf_infer_error::InferError;
 use bpf_insn::Program;
@@ -14,6 +16,7 @@ pub struct Cfg {
     functions: Blocks,
     /// The program cut where jumps lead, too.
     blocks: Blocks,
+    calls: CallGraph,
 }
 
 /// Where the calls of a program lead.
@@ -30,7 +33,9 @@ fn targets_of(alloc: Global, program: &Program) -> Result<Vec<u32>, AllocError> 
 }
 
 impl Cfg {
-    /// The functions and blocks of a program. I2 at the first of the 257th function.
+    /// The functions and blocks of a program whose jumps stay in their functions. I2 at the first of the 257th function, and at
+    /// that of the lowest function with a depth above 8; I3 at the lowest call of a recursion; I4 (C12) at the lowest
+    /// instruction that leaves its function.
     pub fn of(alloc: Global, program: &Program) -> Result<Cfg, InferError> {
         let (slots, targets) = (program.slots(), targets_of(alloc, program)?);
         let functions = Blocks::of(alloc, 0, slots, &targets)?;
@@ -39,8 +44,11 @@ impl Cfg {
                 slot: functions.label(MAX_FUNCTIONS),
             });
         }
-        let blocks = Blocks::cut_by_jumps(alloc, program, 0, slots, &targets)?;
-        Ok(Cfg { functions, blocks })
+        Ok(Cfg {
+            calls: CallGraph::of(alloc, program, &functions)?,
+            blocks: Blocks::cut_by_jumps(alloc, program, 0, slots, &targets)?,
+            functions,
+        })
     }
 
     /// The blocks of all functions.
@@ -64,8 +72,23 @@ impl Cfg {
     }
 
     /// The number of the function that a slot is in.
-    pub fn function_of(&self, slot: u32) -> u8 {
-        u8::try_from(self.functions.block_of(slot)).unwrap_or(u8::MAX)
+    pub fn function_of(&self, slot: u32) -> usize {
+        self.functions.block_of(slot)
+    }
+
+    /// How deep the calls of a function go, from 1 on.
+    pub fn depth(&self, function: usize) -> u32 {
+        get_or(&self.calls.depths, function, 0)
+    }
+
+    /// The functions' numbers, those that are called before those that call them.
+    pub fn callees_first(&self) -> &[usize] {
+        &self.calls.callees_first
+    }
+
+    /// The functions' numbers, those that call others before these.
+    pub fn callers_first(&self) -> &[usize] {
+        &self.calls.callers_first
     }
 
     /// The label that a block begins with.

@@ -1,10 +1,8 @@
 //! The one walk of the searches over straight code: each instruction is done, and then its edges are followed.
 
-use crate::fault::Fault;
 use crate::flow::Flow;
-use bpf_infer_error::{Condition, InferError};
 use bpf_insn::{Insn, Operand, Program, Reg};
-use bpf_state::{State, branch, transfer};
+use bpf_state::{State, branch};
 
 /// Where an edge leads.
 #[derive(Clone, Copy)]
@@ -114,24 +112,5 @@ fn compared(insn: &Insn) -> (Reg, Reg) {
     match src {
         Operand::Reg(src) => (dst, src),
         Operand::Imm(_imm) => (dst, dst),
-    }
-}
-
-/// Makes the state in front of the instruction at a slot the one behind it, as the checker does on contexts of at least so many
-/// bytes. Whether the next one may be reached. I4 where it is refused.
-#[inline]
-pub fn transfer_or_refuse(
-    program: &Program,
-    least: u32,
-    slot: u32,
-    insn: &Insn,
-    state: &mut State,
-) -> Result<bool, InferError> {
-    match transfer(insn, least, program.order(), state) {
-        Ok(goes_on) => Ok(goes_on),
-        Err(fault) => {
-            let condition = Condition::State(fault);
-            Err(Fault { slot, condition }.refusal())
-        }
     }
 }

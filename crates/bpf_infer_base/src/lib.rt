@@ -13,6 +13,7 @@ mod flow;
 mod functions;
 mod graph;
 mod joins;
+mod labels;
 mod lines;
 mod lists;
 mod losses;
@@ -29,24 +30,23 @@ mod widen;
 pub use blocks::{Blocks, graph_of};
 pub use cfg::Cfg;
 pub use component_search::ComponentSearch;
-pub use counter::Counter;
-pub use edges::{Edges, Stretch, Target, transfer_or_refuse};
+pub use counter::{Counter, Shift};
 pub use fault::Fault;
 pub use flow::Flow;
-pub use functions::{Depths, depths_of};
 pub use graph::{Arc, Components, Graph, longest_paths, nodes_on_cycles, number_in};
 pub use joins::{join, join_register, join_slots};
+pub use labels::{LabelState, held, labels_of, load, load_at};
 pub use lines::{Line, Span};
-pub use lists::{get_or, put, vacant};
+pub use lists::{get_or, numbers_below, put, vacant};
 pub use losses::{Losses, Tracker};
 pub use meter::{DEEP_WORK, LABEL_WORK, MOST_ENTRIES, Meter, PLAIN_WORK, edge_work};
 pub use places::{
-    PLACES, PlaceSet, REGISTERS, number_at, number_said, place, places_known, pointer_said, tag_own,
+    PLACES, PlaceSet, REGISTERS, number_at, place, places_known, said, slots_touched, tag_own,
+    tight_number,
 };
 pub use proposal::Proposal;
 pub use quest::Quest;
-pub use sketch::{Limit, Loss, Move, Obstacle, Sketch, Stop, Tangle, Trial};
+pub use sketch::{Halt, Limit, Loss, Move, Obstacle, Sketch, Stop, Tangle, Trial};
 pub use task::{Callee, Edge, Task, Visitor};
-pub use tolerant::touched;
 pub use watch::{Unwatched, Watch};
 pub use widen::Stops;

@@ -33,3 +33,12 @@ pub fn vacant<T: Drop>(alloc: Global, count: usize) -> Result<Vec<Option<T>>, Al
     }
     Ok(list)
 }
+
+/// The numbers from 0 on that are below another one.
+pub fn numbers_below(alloc: Global, count: usize) -> Result<Vec<usize>, AllocError> {
+    let mut numbers = Vec::with_capacity(alloc, count)?;
+    for number in 0..count {
+        numbers.push(number)?;
+    }
+    Ok(numbers)
+}

@@ -1,12 +1,14 @@
 //! Where a loop loses track of what its places held.
 
-use crate::edges::{Edges, Stretch, Target};
+use crate::edges::{Edges, Target};
+use crate::labels::load;
 use crate::lists::get_or;
 use crate::places::{PLACES, place, tag_own};
 use crate::sketch::Loss;
-use bpf_insn::{AluOp, Insn, Operand, Program, Reg, Width};
+use crate::task::Task;
+use bpf_insn::{AluOp, Insn, Operand, Reg, Width};
 use bpf_num::Num;
-use bpf_state::{Place, RegState, SlotState, State, Tag, leave, transfer};
+use bpf_state::{Entries, Place, RegState, SlotState, State, Tag, leave, transfer};
 use std::alloc::AllocError;
 
 /// By places, why each isn't followed; None of one that is.
@@ -90,10 +92,9 @@ fn is_followed(state: &State, number: usize) -> bool {
 /// A walk over a loop, from each of its labels to the next ones, that looks where the numbers of its places are lost.
 #[derive(Drop)]
 pub struct Tracker<'a> {
-    program: &'a Program,
-    least: u32,
-    /// The slots of the loop's labels, rising.
-    labels: &'a [u32],
+    task: Task<'a>,
+    /// The loop's blocks, rising.
+    blocks: &'a [usize],
     /// By places, why each isn't followed through the loop.
     pub losses: Losses,
     /// By the numbers of tags, why what they stand for was lost in this block.
@@ -101,12 +102,11 @@ pub struct Tracker<'a> {
 }
 
 impl<'a> Tracker<'a> {
-    /// Nothing is lost yet in a loop with labels at these slots, on contexts of at least so many bytes.
-    pub fn new(program: &'a Program, least: u32, labels: &'a [u32]) -> Self {
+    /// Nothing is lost yet in a loop of these blocks.
+    pub fn new(task: Task<'a>, blocks: &'a [usize]) -> Self {
         Tracker {
-            program,
-            least,
-            labels,
+            task,
+            blocks,
             losses: [None; PLACES],
             lost: [None; TERMS],
         }
@@ -168,7 +168,8 @@ impl<'a> Tracker<'a> {
 
     /// Looks what is lost on an edge to a slot.
     fn arrive(&mut self, to: u32, state: &State) {
-        if self.labels.binary_search(&to).is_err() {
+        let block = self.task.blocks.block_of(to);
+        if self.blocks.binary_search(&block).is_err() {
             return;
         }
         for number in 0..PLACES {
@@ -178,16 +179,17 @@ impl<'a> Tracker<'a> {
         }
     }
 
-    /// Goes from a label to the slot where the next one stands, in the state at the label.
-    pub fn over(&mut self, label: u32, end: u32, state: &mut State) -> Result<(), AllocError> {
-        self.begin(state);
-        let stretch = Stretch {
-            program: self.program,
-            first: label,
-            end,
-            limit: self.program.slots(),
-        };
-        stretch.walk(state, self)?;
+    /// Goes over a block of the loop from what is known at its label.
+    pub fn over(
+        &mut self,
+        block: usize,
+        known: &Entries,
+        room: &mut State,
+    ) -> Result<(), AllocError> {
+        if load(known, room) {
+            self.begin(room);
+            self.task.stretch(block).walk(room, self)?;
+        }
         Ok(())
     }
 }
@@ -197,7 +199,8 @@ impl<'a> Edges for Tracker<'a> {
 
     fn transfer(&mut self, slot: u32, insn: &Insn, state: &mut State) -> Result<bool, AllocError> {
         let doubt = doubt_at(slot, insn, state);
-        let goes_on = transfer(insn, self.least, self.program.order(), state).unwrap_or(false);
+        let task = self.task;
+        let goes_on = transfer(insn, task.least, task.program.order(), state).unwrap_or(false);
         if let Some(doubt) = doubt {
             self.note(doubt, state);
         }

@@ -3,9 +3,9 @@
 ghost use Rattle.std.specs.Prelude.{IfSome};
 ghost use Rattle.bpf_state.specs.State.{IsPlace};
 
-use bpf_insn::Reg;
+use bpf_insn::{Access, Insn, Reg};
 use bpf_num::Num;
-use bpf_state::{Entries, Place, RegState, SlotState, State, Tag};
+use bpf_state::{Entries, Place, Reach, RegState, SlotState, State, Tag};
 
 /// How many registers a program may write: r0 to r9.
 pub const REGISTERS: usize = 10;
@@ -52,6 +52,34 @@ impl PlaceSet {
             Place::Slot(k) => k.min(64) + 10,
         };
         PlaceSet { held: 1 << number }
+    }
+
+    /// The registers that an instruction reads.
+    pub fn read_by(insn: &Insn) -> PlaceSet {
+        let mut read = PlaceSet::NONE;
+        for r in insn.registers_read().into_iter().flatten() {
+            read.add(Place::Register(r));
+        }
+        read
+    }
+
+    /// The registers that an instruction changes.
+    pub fn written_by(insn: &Insn) -> PlaceSet {
+        match insn.register_written() {
+            Some(r) => PlaceSet::of(Place::Register(r)),
+            None if matches!(*insn, Insn::CallLocal { .. }) => PlaceSet::CHANGED_BY_CALL,
+            None => PlaceSet::NONE,
+        }
+    }
+
+    /// The slots that an access may touch.
+    pub fn touched_by(access: Access, state: &State) -> PlaceSet {
+        let (first, end) = slots_touched(access, state);
+        let mut slots = PlaceSet::NONE;
+        for k in first..end {
+            slots.add(Place::Slot(k));
+        }
+        slots
     }
 
     /// Whether no place is in it.
@@ -110,9 +138,14 @@ pub fn number_at(state: &State, number: usize) -> Option<Num> {
     state.held(place(number)).number()
 }
 
-/// The number that a label says of a place, if it says one.
-pub fn number_said(label: &Entries, number: usize) -> Option<Num> {
-    label.held(place(number)).number()
+/// What a label says of a place.
+pub fn said(label: &Entries, number: usize) -> RegState {
+    label.held(place(number))
+}
+
+/// The number that a label says of a place, if it says one, tightened.
+pub fn tight_number(label: &Entries, number: usize) -> Option<Num> {
+    said(label, number).number()?.tighten()
 }
 
 /// Tags a place with its own number: a tag with it tells from then on which place holds that number, and a constant more.
@@ -124,9 +157,15 @@ pub fn tag_own(state: &mut State, number: usize) {
     state.set_tag(place(number), Some(tag));
 }
 
-/// Whether a label says that a place holds a pointer.
-pub fn pointer_said(label: &Entries, number: usize) -> bool {
-    matches!(label.held(place(number)), RegState::Ptr(_))
+/// The slots of the frame that an access may touch, by their numbers: the first, and the one after the last. None elsewhere.
+pub fn slots_touched(access: Access, state: &State) -> (u8, u8) {
+    match Reach::of_access(access, state) {
+        Some(reach) => {
+            let (first, end) = reach.slots();
+            (first.min(64) as u8 + 1, end.min(64) as u8 + 1)
+        }
+        None => (1, 1),
+    }
 }
 
 /// How many places of a state something is known of.

@@ -1,9 +1,10 @@
 //! What a search has when it stops, for who explains it.
 
+use crate::counter::Shift;
 use bpf_cert::{Certificate, Function};
 use bpf_infer_error::InferError;
 use bpf_insn::Reg;
-use bpf_state::Place;
+use bpf_state::{Place, RegState};
 use std::alloc::AllocError;
 
 /// Why a place doesn't hold, on each way, what it held before and a constant more.
@@ -35,6 +36,19 @@ pub enum Move {
 }
 
 impl Move {
+    /// What a place does of which the loop's label says so much: how it is shifted, if it is followed, and else why it isn't. None
+    /// of one that holds nothing, or a pointer that is left as it is.
+    pub fn of(said: RegState, shift: Option<Shift>, loss: Option<Loss>) -> Option<Move> {
+        match (said, shift) {
+            (RegState::Num(_), Some(Shift { least, greatest })) => {
+                Some(Move::By { least, greatest })
+            }
+            (RegState::Num(_), None) => Some(Move::Lost(loss.unwrap_or(Loss::Given))),
+            (RegState::Ptr(_), _) if loss.is_some() => Some(Move::Pointer),
+            (RegState::Any | RegState::Ptr(_), _) => None,
+        }
+    }
+
     /// Whether it counts rounds: it falls in each, or rises in each.
     pub fn counts(self) -> bool {
         match self {
@@ -151,14 +165,52 @@ impl Stop {
             },
         }
     }
+}
 
+/// Why states or budgets aren't found: a refusal, and the limit that is passed, if it is known.
+#[derive(Clone, Copy)]
+pub struct Halt {
+    pub error: InferError,
+    pub limit: Option<Limit>,
+}
+
+impl Halt {
     /// I1 at a slot, for a limit.
-    pub fn unstable(slot: u32, limit: Limit) -> Stop {
-        Stop {
+    pub fn unstable(slot: u32, limit: Limit) -> Halt {
+        Halt {
             error: InferError::Unstable { slot },
+            limit: Some(limit),
+        }
+    }
+
+    /// I2 at a slot, for a limit.
+    pub fn no_budget(slot: u32, limit: Limit) -> Halt {
+        Halt {
+            error: InferError::NoBudget { slot },
+            limit: Some(limit),
+        }
+    }
+}
+
+impl From<InferError> for Halt {
+    fn from(error: InferError) -> Halt {
+        Halt { error, limit: None }
+    }
+}
+
+impl From<AllocError> for Halt {
+    fn from(_error: AllocError) -> Halt {
+        Halt::from(InferError::Memory)
+    }
+}
+
+impl From<Halt> for Stop {
+    fn from(halt: Halt) -> Stop {
+        Stop {
+            error: halt.error,
             sketch: Sketch {
                 certificate: None,
-                obstacle: Some(Obstacle::Over(limit)),
+                obstacle: halt.limit.map(Obstacle::Over),
             },
         }
     }
@@ -166,18 +218,12 @@ impl Stop {
 
 impl From<InferError> for Stop {
     fn from(error: InferError) -> Stop {
-        Stop {
-            error,
-            sketch: Sketch::nothing(),
-        }
+        Stop::from(Halt::from(error))
     }
 }
 
 impl From<AllocError> for Stop {
     fn from(_error: AllocError) -> Stop {
-        Stop {
-            error: InferError::Memory,
-            sketch: Sketch::nothing(),
-        }
+        Stop::from(InferError::Memory)
     }
 }

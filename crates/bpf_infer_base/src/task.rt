@@ -4,6 +4,7 @@ use crate::blocks::Blocks;
 use crate::cfg::Cfg;
 use crate::edges::{Edges, Stretch, Target};
 use crate::fault::Fault;
+use crate::labels::{LabelState, load_at};
 use crate::lists::get_or;
 use crate::quest::Quest;
 use crate::tolerant::go_on;
@@ -83,6 +84,16 @@ impl<'a> Task<'a> {
         }
     }
 
+    /// The code of a block.
+    pub fn stretch(&self, block: usize) -> Stretch<'a> {
+        Stretch {
+            program: self.program,
+            first: self.blocks.label(block),
+            end: self.blocks.block_end(block),
+            limit: self.blocks.end(),
+        }
+    }
+
     /// Goes over a block from the state at its label. The lowest slot of the block that isn't reached, else its end; or the
     /// fault that the walk ends at.
     pub fn walk<V: Visitor>(
@@ -91,23 +102,32 @@ impl<'a> Task<'a> {
         state: &mut State,
         visitor: &mut V,
     ) -> Result<Result<u32, Fault>, V::Stop> {
-        let stretch = Stretch {
-            program: self.program,
-            first: self.blocks.label(block),
-            end: self.blocks.block_end(block),
-            limit: self.blocks.end(),
-        };
         let mut walk = Walk {
             task: *self,
             block,
             visitor,
             end: None,
         };
-        let reached = stretch.walk(state, &mut walk)?;
+        let reached = self.stretch(block).walk(state, &mut walk)?;
         match walk.end {
             Some(fault) => Ok(Err(fault)),
             None => Ok(Ok(reached)),
         }
+    }
+
+    /// Goes over all blocks from the states of their labels.
+    pub fn walk_all<V: Visitor>(
+        &self,
+        states: &[LabelState],
+        visitor: &mut V,
+    ) -> Result<(), V::Stop> {
+        let mut room = State::blank();
+        for label in 0..self.blocks.count() {
+            if load_at(states, label, &mut room) {
+                let _reached = self.walk(label, &mut room, visitor)?;
+            }
+        }
+        Ok(())
     }
 }
 
@@ -152,7 +172,7 @@ impl<'a, 'v, V: Visitor> Edges for Walk<'a, 'v, V> {
 
     fn call(&mut self, callee: u32, state: &mut State) -> Result<bool, V::Stop> {
         let cfg = self.task.cfg;
-        let function = cfg.function_of(callee) as usize;
+        let function = cfg.function_of(callee);
         let block = cfg.block_of(callee);
         self.visitor.call(Callee { function, block }, state)?;
         Ok(leave(state, get_or(self.task.rets, function, Num::top())))

@@ -2,9 +2,10 @@
 
 ghost use Rattle.bpf_state.specs.State.{IsRegister};
 
+use crate::places::slots_touched;
 use bpf_insn::{Access, AluOp, Insn, Size, Width};
 use bpf_num::{KnownBits, Num, Signed, Unsigned, WordDomain};
-use bpf_state::{FARTHEST, FRAME_START, Pointer, RegState, SlotState, State};
+use bpf_state::{FARTHEST, Pointer, RegState, SlotState, State};
 
 /// Any number that a load of a size may give.
 fn any_number(size: Size) -> Num {
@@ -125,35 +126,11 @@ fn value_after(insn: &Insn, state: &State) -> RegState
     }
 }
 
-/// The number of the slot that a byte of the frame lies in, by its offset, cut to the frame.
-fn slot_of(offset: i64) -> u8 {
-    let below = 0i64.saturating_sub(offset.max(FRAME_START).min(-1));
-    u8::try_from(below.saturating_add(7) >> 3).unwrap_or(64)
-}
-
-/// The slots of the frame that an access may touch: the first, and the one after the last. None elsewhere.
-pub fn touched(state: &State, access: Access) -> Option<(u8, u8)> {
-    let RegState::Ptr(p) = state.reg(access.base) else {
-        return None;
-    };
-    let lowest = p.lo.saturating_add(access.off as i64);
-    let highest = p
-        .hi
-        .saturating_add(access.off as i64)
-        .saturating_add(i64::from(access.size.bytes()))
-        .saturating_sub(1);
-    if !p.area.is_frame() || highest < FRAME_START || lowest >= 0 {
-        return None;
-    }
-    Some((slot_of(highest), slot_of(lowest).saturating_add(1)))
-}
-
 /// Forgets what the slots held that an access may write.
 fn spoil(state: &mut State, access: Access) {
-    if let Some((first, end)) = touched(state, access) {
-        for k in first..end {
-            spoil_slot(state, k);
-        }
+    let (first, end) = slots_touched(access, state);
+    for k in first..end {
+        spoil_slot(state, k);
     }
 }
 

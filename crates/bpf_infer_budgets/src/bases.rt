@@ -3,7 +3,7 @@
 use crate::plan::{Part, Parts, Plan};
 use crate::weights::MOST_PASSES;
 use bpf_cert::{MAX_BASE, MAX_TERMS};
-use bpf_infer_base::{Components, Counter, Graph, Limit, Obstacle, Stop, get_or, number_in, put};
+use bpf_infer_base::{Components, Counter, Halt, Limit, get_or, number_in, put};
 use bpf_state::Tag;
 use std::alloc::Global;
 
@@ -72,7 +72,7 @@ impl Settling {
     }
 
     /// Finds the bases of a component. I2 at its first label if they aren't found in few passes.
-    fn settle(&mut self, plan: &mut Plan, start: usize, end: usize) -> Result<(), Stop> {
+    fn settle(&mut self, plan: &mut Plan, start: usize, end: usize) -> Result<(), Halt> {
         self.measure_all(plan, start, end);
         let passes = end.saturating_sub(start).saturating_add(2).min(MOST_PASSES);
         for _ in 0..passes {
@@ -80,16 +80,14 @@ impl Settling {
                 return Ok(());
             }
         }
-        Err(Stop::no_budget(
-            plan.slot(self.node(end.saturating_sub(1))),
-            Obstacle::Over(Limit::Passes),
-        ))
+        let slot = plan.slot(self.node(end.saturating_sub(1)));
+        Err(Halt::no_budget(slot, Limit::Passes))
     }
 
     // ---- terms of labels behind
 
     /// Puts terms into the place of a label's, and finds its base with them.
-    fn settle_with(&mut self, plan: &mut Plan, index: usize, parts: Parts) -> Result<(), Stop> {
+    fn settle_with(&mut self, plan: &mut Plan, index: usize, parts: Parts) -> Result<(), Halt> {
         let label = self.node(index);
         plan.set_parts(label, parts);
         put(&mut plan.bases, label, 0);
@@ -97,7 +95,7 @@ impl Settling {
     }
 
     /// Gives a label outside loops the terms of those behind it, if that doesn't raise its budget.
-    fn lift(&mut self, plan: &mut Plan, index: usize) -> Result<(), Stop> {
+    fn lift(&mut self, plan: &mut Plan, index: usize) -> Result<(), Halt> {
         let label = self.node(index);
         let lifted = lifted_to(plan, label);
         if lifted[0].is_none() || plan.parts(label)[0].is_some() {
@@ -112,7 +110,7 @@ impl Settling {
     }
 
     /// Finds the bases of a component, with lifted terms if that is asked for. I2 at a label with a base above 2^40.
-    fn settle_component(&mut self, plan: &mut Plan, start: usize, end: usize) -> Result<(), Stop> {
+    fn settle_component(&mut self, plan: &mut Plan, start: usize, end: usize) -> Result<(), Halt> {
         self.settle(plan, start, end)?;
         if self.lifts && end.saturating_sub(start) == 1 {
             self.lift(plan, start)?;
@@ -121,14 +119,14 @@ impl Settling {
             let (slot, base) = (plan.slot(self.node(index)), plan.base(self.node(index)));
             if base > MAX_BASE as i128 {
                 let wanted = u64::try_from(base).unwrap_or(u64::MAX);
-                return Err(Stop::no_budget(slot, Obstacle::Over(Limit::Base { wanted })));
+                return Err(Halt::no_budget(slot, Limit::Base { wanted }));
             }
         }
         Ok(())
     }
 
     /// Finds the bases of all components, those that the others lead to first.
-    fn settle_all(&mut self, plan: &mut Plan) -> Result<(), Stop> {
+    fn settle_all(&mut self, plan: &mut Plan) -> Result<(), Halt> {
         let mut start = 0usize;
         for index in 0..self.nodes.len() {
             let end = index.saturating_add(1);
@@ -212,13 +210,8 @@ fn lifted_to(plan: &Plan, label: usize) -> Parts {
 }
 
 /// Finds the bases of a function's labels, where the terms stand. I2 at a label with a base above 2^40.
-pub fn settle_bases(
-    alloc: Global,
-    plan: &mut Plan,
-    graph: &Graph,
-    lifts: bool,
-) -> Result<(), Stop> {
-    let components = Components::of(alloc, graph)?;
+pub fn settle_bases(alloc: Global, plan: &mut Plan, lifts: bool) -> Result<(), Halt> {
+    let components = Components::of(alloc, &plan.paths.graph)?;
     let mut settling = Settling {
         nodes: components.nodes(alloc)?,
         components,

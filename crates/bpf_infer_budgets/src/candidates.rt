@@ -5,6 +5,7 @@ use crate::plan::Plan;
 use bpf_infer_base::{
     Arc, Counter, Graph, PLACES, get_or, longest_paths, nodes_on_cycles, number_in, put,
 };
+use bpf_state::RegState;
 use std::alloc::{AllocError, Global};
 
 /// The most passes over a component for a counter that rises and falls on cycles.
@@ -236,7 +237,8 @@ pub fn candidates_of(
     let mut list = Vec::new(alloc);
     let first = component.label(0);
     for number in 0..PLACES {
-        if plan.is_number(first, number) && !plan.is_counted(first, number) {
+        let is_number = matches!(plan.said(first, number), RegState::Num(_));
+        if is_number && !plan.is_counted(first, number) {
             add_candidates(alloc, plan, component, number, &mut list)?;
         }
     }

@@ -1,79 +1,59 @@
-//! A program with the labels of a draft, and what its functions cost.
+//! A draft: the functions of a program with what is known at their labels; and what calls of them cost.
 
-use bpf_cert::{Function, Label, MAX_TERMS};
-use bpf_infer_base::{Line, Span, get_or, number_said, put};
-use bpf_insn::Program;
+use bpf_cert::{Function, MAX_TERMS};
+use bpf_infer_base::{Blocks, Cfg, Line, Quest, Span, Task};
+use bpf_num::Num;
 use bpf_state::State;
 use std::alloc::{AllocError, Global};
 
-/// A program on contexts of at least `least` bytes, and the labels of its functions with their states.
+/// The functions of a program on the lengths of a quest, with the states at their labels.
 #[derive(Clone, Copy)]
 pub struct Draft<'a> {
-    pub program: &'a Program,
-    pub least: u32,
-    /// By their first slots.
+    pub quest: Quest<'a>,
+    pub cfg: &'a Cfg,
+    /// By their numbers.
     pub functions: &'a [Function],
-    /// By slots, the number of the label in its function.
-    pub labels: &'a [Option<usize>],
+    /// What each of them returns.
+    pub rets: &'a [Num],
 }
 
-/// Puts the numbers of a function's labels at their slots.
-fn add_labels(labels: &mut Vec<Option<usize>>, function: &Function) {
-    for number in 0..function.labels.len() {
-        if let Some(label) = function.labels.get(number) {
-            put(labels, label.slot as usize, Some(number));
-        }
-    }
-}
-
-/// By slots, the numbers of the labels in their functions.
-pub fn labels_by_slots(
-    alloc: Global,
-    program: &Program,
-    functions: &[Function],
-) -> Result<Vec<Option<usize>>, AllocError> {
-    let mut labels = vec![in alloc; None; program.slots() as usize]?;
+/// What each function returns.
+pub fn rets_of(alloc: Global, functions: &[Function]) -> Result<Vec<Num>, AllocError> {
+    let mut rets = Vec::with_capacity(alloc, functions.len())?;
     for function in functions {
-        add_labels(&mut labels, function);
+        rets.push(function.ret)?;
     }
-    Ok(labels)
+    Ok(rets)
 }
 
 impl<'a> Draft<'a> {
-    /// The number of the label at a slot.
-    pub fn label_at(&self, slot: u32) -> Option<usize> {
-        get_or(&self.labels, slot as usize, None)
+    /// A function's blocks, each numbered as the label that it begins with.
+    pub fn blocks(
+        &self,
+        alloc: Global,
+        number: usize,
+        function: &Function,
+    ) -> Result<Blocks, AllocError> {
+        let mut labels = Vec::with_capacity(alloc, function.labels.len())?;
+        for label in function.labels.as_slice() {
+            labels.push(label.slot)?;
+        }
+        let end = self.cfg.first_slot(number.saturating_add(1));
+        Blocks::of(alloc, function.first, end, &labels)
     }
 
-    /// The number of the function that begins at a slot.
-    pub fn function_at(&self, slot: u32) -> Option<usize> {
-        for number in 0..self.functions.len() {
-            if let Some(function) = self.functions.get(number) {
-                if function.first == slot {
-                    return Some(number);
-                }
-            }
-        }
-        None
-    }
-
-    /// The slot after the part of a function that begins at a label.
-    pub fn end(&self, function: usize, label: usize) -> u32 {
-        if let Some(held) = self.functions.get(function) {
-            if let Some(next) = held.labels.get(label.saturating_add(1)) {
-                return next.slot;
-            }
-        }
-        match self.functions.get(function.saturating_add(1)) {
-            Some(next) => next.first,
-            None => self.program.slots(),
+    /// What a walk over a function's blocks is given.
+    pub fn task<'b>(&'b self, blocks: &'b Blocks) -> Task<'b> {
+        Task {
+            program: self.quest.program,
+            cfg: self.cfg,
+            blocks,
+            least: self.quest.least,
+            most: self.quest.most,
+            rets: self.rets,
+            stops: true,
         }
     }
-}
-
-/// What the number in a place may be at a label.
-pub fn span_at(label: &Label, number: usize) -> Span {
-    Span::of_number(number_said(&label.state, number).and_then(|held| held.tighten()))
 }
 
 /// The budget at the entry of a function: a base, and lines over what places hold.

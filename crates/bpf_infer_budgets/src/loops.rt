@@ -1,11 +1,11 @@
 //! The loops of a draft that nothing counts.
 
-use crate::draft::{Draft, Price, labels_by_slots};
-use crate::groups::{Groups, arcs_of};
+use crate::draft::{Draft, rets_of};
+use crate::groups::Groups;
 use crate::paths::paths_of;
 use crate::plan::Plan;
 use bpf_cert::Function;
-use bpf_infer_base::{Meter, Quest, Watch};
+use bpf_infer_base::{Cfg, Meter, Quest, Watch};
 use bpf_infer_error::InferError;
 use std::alloc::Global;
 
@@ -21,11 +21,9 @@ fn add_uncounted<W: Watch>(
         return Ok(());
     };
     // What a call costs counts nothing.
-    let prices = vec![in alloc; Price::NONE; draft.functions.len()]?;
-    let paths = paths_of(alloc, draft, number, function, &prices)?;
+    let paths = paths_of(alloc, draft, number, function, &[])?;
     let mut plan = Plan::new(alloc, function, &paths)?;
-    let graph = arcs_of(alloc, &plan)?;
-    let groups = Groups::of(alloc, &mut plan, &graph, meter)?;
+    let groups = Groups::of(alloc, &mut plan, meter)?;
     for label in &groups.all_uncounted {
         slots.push(plan.slot(*label))?;
     }
@@ -37,15 +35,16 @@ fn add_uncounted<W: Watch>(
 pub fn uncounted<W: Watch>(
     alloc: Global,
     quest: Quest<'_>,
+    cfg: &Cfg,
     functions: &[Function],
     meter: &mut Meter<'_, W>,
 ) -> Result<Vec<u32>, InferError> {
-    let labels = labels_by_slots(alloc, quest.program, functions)?;
+    let rets = rets_of(alloc, functions)?;
     let draft = Draft {
-        program: quest.program,
-        least: quest.least,
+        quest,
+        cfg,
         functions,
-        labels: &labels,
+        rets: &rets,
     };
     let mut slots = Vec::new(alloc);
     for number in 0..functions.len() {

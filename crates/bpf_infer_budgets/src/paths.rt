@@ -3,12 +3,12 @@
 use crate::draft::{Draft, Price};
 use bpf_cert::{Function, Label};
 use bpf_infer_base::{
-    Edges, Fault, PLACES, Span, Stretch, Target, get_or, number_at, number_said, place, tag_own,
-    transfer_or_refuse,
+    Arc, Blocks, Callee, Edge, Fault, Graph, PLACES, Span, Task, Visitor, get_or, load, number_at,
+    place, said, tag_own,
 };
 use bpf_infer_error::InferError;
 use bpf_insn::{Insn, Reg};
-use bpf_state::{RegState, State, Tag, enter, leave};
+use bpf_state::{RegState, State, Tag, enter};
 use std::alloc::{AllocError, Global};
 
 /// What a place holds at the end of a path. Its source is the place that held it at the start, less an offset.
@@ -33,6 +33,10 @@ pub struct Path {
 /// The paths of a function, by the labels that they leave.
 #[derive(Drop)]
 pub struct Paths {
+    /// From label to label.
+    pub blocks: Blocks,
+    /// The paths from label to label.
+    pub graph: Graph,
     list: Vec<Path>,
     /// What places hold at the ends of the paths, if their labels say that it is a number.
     held: Vec<Moved>,
@@ -76,55 +80,20 @@ impl Paths {
         let path = self.at(path)?;
         self.held(path, number)?.source
     }
-
-    /// Takes note of what the places hold that a label says a number of.
-    fn note(&mut self, state: &State, label: &Label) -> Result<(), AllocError> {
-        for number in 0..PLACES {
-            if number_said(&label.state, number).is_some() {
-                self.held.push(Moved {
-                    number,
-                    span: Span::of(state, number),
-                    source: state.tag(place(number)),
-                })?;
-            }
-        }
-        Ok(())
-    }
-
-    /// Takes in a path from a label, and what is held at its end.
-    fn add(
-        &mut self,
-        from: usize,
-        cost: i128,
-        to: Option<(usize, &Label)>,
-        state: &State,
-    ) -> Result<(), AllocError> {
-        let held_from = self.held.len();
-        if let Some((_, label)) = to {
-            self.note(state, label)?;
-        }
-        self.list.push(Path {
-            from,
-            to: to.map(|(number, _)| number),
-            cost,
-            held_from,
-            held_to: self.held.len(),
-        })?;
-        Ok(())
-    }
 }
 
-/// A walk over a function.
+/// A walk over a function, and what it came to.
 #[derive(Drop)]
 struct Walker<'a> {
-    draft: Draft<'a>,
+    functions: &'a [Function],
     function: &'a Function,
-    number: usize,
-    /// What is known to be the price of each function so far.
+    /// What is known to be the price of each function so far; nothing where it isn't known.
     prices: &'a [Price],
-    paths: Paths,
-    /// The number of the label that the walk began at last, and the cost since then.
-    label: usize,
+    list: Vec<Path>,
+    arcs: Vec<Arc>,
+    held: Vec<Moved>,
+    ends: Vec<usize>,
+    /// The cost since the last label.
     cost: i128,
 }
 
@@ -145,103 +114,121 @@ impl<'a> Walker<'a> {
         }
     }
 
-    /// Ends a path at a label. I1 where the state does not lie in what the label says.
-    fn arrive(&mut self, target: u32, state: &State) -> Result<(), InferError> {
-        let Some(number) = self.draft.label_at(target) else {
-            return Err(InferError::NoBudget { slot: target });
-        };
-        let Some(label) = self.function.labels.get(number) else {
-            return Err(InferError::NoBudget { slot: target });
-        };
-        if !state.entails_entries(&label.state) {
-            return Err(self.unstable());
+    /// Takes note of what the places hold that a label says a number of.
+    fn note(&mut self, state: &State, label: &Label) -> Result<(), AllocError> {
+        for number in 0..PLACES {
+            if let RegState::Num(_) = said(&label.state, number) {
+                self.held.push(Moved {
+                    number,
+                    span: Span::of(state, number),
+                    source: state.tag(place(number)),
+                })?;
+            }
         }
-        self.paths
-            .add(self.label, self.cost, Some((number, label)), state)?;
         Ok(())
     }
 
-    /// Ends a path at an EXIT. I1 where r0 is not what the function is said to return.
-    fn exit(&mut self, state: &State) -> Result<(), InferError> {
-        if !state.reg(Reg::R0).entails(RegState::Num(self.function.ret)) {
-            return Err(self.unstable());
-        }
-        self.paths.add(self.label, self.cost, None, state)?;
+    /// Ends a path at which so much is held as was noted since.
+    fn end(&mut self, from: usize, to: Option<usize>, held_from: usize) -> Result<(), AllocError> {
+        self.list.push(Path {
+            from,
+            to,
+            cost: self.cost,
+            held_from,
+            held_to: self.held.len(),
+        })?;
         Ok(())
     }
 
     /// Goes from a label to the labels behind it. I4 (C11) at an instruction on the path that isn't reached.
-    fn walk(&mut self, number: usize, label: &Label, state: &mut State) -> Result<(), InferError> {
-        label.state.put_into(state);
-        if !state.tighten() {
+    fn walk(
+        &mut self,
+        task: &Task,
+        number: usize,
+        label: &Label,
+        room: &mut State,
+    ) -> Result<(), InferError> {
+        if !load(&label.state, room) {
             return Err(self.unstable());
         }
-        tag_all(state);
-        let stretch = Stretch {
-            program: self.draft.program,
-            first: label.slot,
-            end: self.draft.end(self.number, number),
-            limit: self.draft.program.slots(),
-        };
-        (self.label, self.cost) = (number, 0);
-        let reached = stretch.walk(state, self)?;
-        if reached < stretch.end {
-            return Err(Fault::falls_off(reached).refusal());
+        tag_all(room);
+        self.cost = 0;
+        match task.walk(number, room, self)? {
+            Ok(reached) if reached < task.blocks.block_end(number) => {
+                Err(Fault::falls_off(reached).refusal())
+            }
+            Ok(_) => Ok(()),
+            Err(fault) => Err(fault.refusal()),
         }
-        Ok(())
     }
 
     /// Goes from each of the function's labels to those behind it.
-    fn walk_all(&mut self) -> Result<(), InferError> {
+    fn walk_all(&mut self, task: &Task) -> Result<(), InferError> {
         let function = self.function;
         let mut room = State::blank();
         for number in 0..function.labels.len() {
             if let Some(label) = function.labels.get(number) {
-                self.walk(number, label, &mut room)?;
+                self.walk(task, number, label, &mut room)?;
             }
-            self.paths.ends.push(self.paths.list.len())?;
+            self.ends.push(self.list.len())?;
         }
         Ok(())
     }
 }
 
-impl<'a> Edges for Walker<'a> {
+impl<'a> Visitor for Walker<'a> {
     type Stop = InferError;
 
-    fn transfer(&mut self, slot: u32, insn: &Insn, state: &mut State) -> Result<bool, InferError> {
+    fn before(&mut self, _slot: u32, _insn: &Insn, _state: &State) -> Result<(), InferError> {
         self.cost = self.cost.saturating_add(1);
-        transfer_or_refuse(self.draft.program, self.draft.least, slot, insn, state)
+        Ok(())
     }
 
-    fn call(&mut self, target: u32, state: &mut State) -> Result<bool, InferError> {
-        let Some(number) = self.draft.function_at(target) else {
-            return Err(InferError::NoBudget { slot: target });
+    /// I1 where the state does not lie in what the label says.
+    fn edge(&mut self, edge: Edge, state: &State) -> Result<(), InferError> {
+        let function = self.function;
+        let Some(label) = function.labels.get(edge.to) else {
+            return Err(self.unstable());
         };
-        let (Some(callee), Some(price)) = (
-            self.draft.functions.get(number),
-            self.prices.get(number),
-        ) else {
-            return Err(InferError::NoBudget { slot: target });
-        };
-        let mut entry = state.copy();
-        enter(&mut entry);
-        if !callee
-            .labels
-            .first()
-            .is_some_and(|label| entry.entails_entries(&label.state))
-        {
+        if !state.entails_entries(&label.state) {
             return Err(self.unstable());
         }
-        self.cost = self.cost.saturating_add(price.greatest(state));
-        Ok(leave(state, callee.ret))
+        let held_from = self.held.len();
+        self.note(state, label)?;
+        self.arcs.push(Arc {
+            from: edge.from,
+            to: edge.to,
+            path: self.list.len(),
+        })?;
+        self.end(edge.from, Some(edge.to), held_from)?;
+        Ok(())
     }
 
-    fn edge(&mut self, target: Target, state: &State) -> Result<(), InferError> {
-        match target {
-            Target::Slot(slot) => self.arrive(slot, state),
-            Target::Caller => self.exit(state),
-            Target::Nowhere(slot) => Err(Fault::falls_off(slot).refusal()),
+    /// I1 where the state does not lie in the one that the function begins in.
+    fn call(&mut self, callee: Callee, state: &State) -> Result<(), InferError> {
+        let mut entry = state.copy();
+        enter(&mut entry);
+        let lies_in = self
+            .functions
+            .get(callee.function)
+            .and_then(|called| called.labels.first())
+            .is_some_and(|label| entry.entails_entries(&label.state));
+        if !lies_in {
+            return Err(self.unstable());
         }
+        let price = get_or(self.prices, callee.function, Price::NONE);
+        self.cost = self.cost.saturating_add(price.greatest(state));
+        Ok(())
+    }
+
+    /// I1 where r0 is not what the function is said to return.
+    fn exit(&mut self, from: usize, state: &State) -> Result<(), InferError> {
+        if !state.reg(Reg::R0).entails(RegState::Num(self.function.ret)) {
+            return Err(self.unstable());
+        }
+        let held_from = self.held.len();
+        self.end(from, None, held_from)?;
+        Ok(())
     }
 }
 
@@ -254,19 +241,31 @@ pub fn paths_of(
     function: &Function,
     prices: &[Price],
 ) -> Result<Paths, InferError> {
+    let blocks = draft.blocks(alloc, number, function)?;
     let mut walker = Walker {
-        draft,
+        functions: draft.functions,
         function,
-        number,
         prices,
-        paths: Paths {
-            list: Vec::new(alloc),
-            held: Vec::new(alloc),
-            ends: Vec::new(alloc),
-        },
-        label: 0,
+        list: Vec::new(alloc),
+        arcs: Vec::new(alloc),
+        held: Vec::new(alloc),
+        ends: Vec::new(alloc),
         cost: 0,
     };
-    walker.walk_all()?;
-    Ok(walker.paths)
+    walker.walk_all(&draft.task(&blocks))?;
+    let Walker {
+        list,
+        arcs,
+        held,
+        ends,
+        ..
+    } = walker;
+    let graph = Graph::of(alloc, function.labels.len(), arcs)?;
+    Ok(Paths {
+        blocks,
+        graph,
+        list,
+        held,
+        ends,
+    })
 }

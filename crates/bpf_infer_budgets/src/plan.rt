@@ -1,10 +1,10 @@
 //! The budgets of a function's labels while they are looked for, and what they leave paths to pay.
 
-use crate::draft::{Price, span_at};
+use crate::draft::Price;
 use crate::paths::{Path, Paths};
 use bpf_cert::{Function, MAX_TERMS};
-use bpf_infer_base::{Counter, Line, Span, get_or, number_said, pointer_said, put};
-use bpf_state::{State, Tag};
+use bpf_infer_base::{Counter, Line, Span, get_or, put, said, tight_number};
+use bpf_state::{RegState, Tag};
 use std::alloc::{AllocError, Global};
 
 /// A term of the budget at a label: what its place counts there, and the number of its weight.
@@ -70,35 +70,16 @@ impl<'a> Plan<'a> {
     /// What the number in a place may be at a label.
     pub fn span(&self, label: usize, number: usize) -> Span {
         match self.function.labels.get(label) {
-            Some(label) => span_at(label, number),
+            Some(label) => Span::of_number(tight_number(&label.state, number)),
             None => Span::ALL,
         }
     }
 
-    /// Whether a place holds a number at a label.
-    pub fn is_number(&self, label: usize, number: usize) -> bool {
+    /// What a label says of a place.
+    pub fn said(&self, label: usize, number: usize) -> RegState {
         match self.function.labels.get(label) {
-            Some(label) => number_said(&label.state, number).is_some(),
-            None => false,
-        }
-    }
-
-    /// Whether a place holds a pointer at a label.
-    pub fn is_pointer(&self, label: usize, number: usize) -> bool {
-        match self.function.labels.get(label) {
-            Some(label) => pointer_said(&label.state, number),
-            None => false,
-        }
-    }
-
-    /// Makes a state the one at a label, with its numbers tightened. False if there is none.
-    pub fn load(&self, label: usize, room: &mut State) -> bool {
-        match self.function.labels.get(label) {
-            Some(label) => {
-                label.state.put_into(room);
-                room.tighten()
-            }
-            None => false,
+            Some(label) => said(&label.state, number),
+            None => RegState::Any,
         }
     }
 

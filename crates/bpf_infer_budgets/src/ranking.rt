@@ -4,15 +4,17 @@
 ghost use Rattle.std.specs.Prelude.{◌≤◌};
 
 use crate::bases::settle_bases;
-use crate::draft::{Draft, Price, labels_by_slots};
-use crate::groups::{Groups, Uncounted, arcs_of};
+use crate::draft::{Draft, Price, rets_of};
+use crate::groups::{Groups, Uncounted};
 use crate::paths::paths_of;
 use crate::plan::Plan;
 use crate::trials::trials_of;
 use crate::weights::weigh;
 use arrayvec::ArrayVec;
 use bpf_cert::{Budget, Function};
-use bpf_infer_base::{Limit, Meter, Obstacle, PLACES, Proposal, Quest, Sketch, Stop, Watch, put};
+use bpf_infer_base::{
+    Cfg, Halt, Limit, Meter, Obstacle, PLACES, Proposal, Quest, Sketch, Stop, Watch, put, vacant,
+};
 use bpf_state::State;
 use std::alloc::{AllocError, Global};
 
@@ -46,12 +48,11 @@ fn budgets_of(alloc: Global, plan: &Plan) -> Result<Vec<Budget>, AllocError> {
 fn stop_at(
     alloc: Global,
     draft: Draft,
-    number: usize,
     plan: &Plan,
     uncounted: Uncounted,
 ) -> Result<Stop, AllocError> {
     let obstacle = match &uncounted.component {
-        Some(component) => Obstacle::NoCounter(trials_of(alloc, draft, number, plan, component)?),
+        Some(component) => Obstacle::NoCounter(trials_of(alloc, draft, plan, component)?),
         None => Obstacle::Over(Limit::Terms),
     };
     Ok(Stop::no_budget(plan.slot(uncounted.label), obstacle))
@@ -65,23 +66,24 @@ fn rank<W: Watch>(
     plan: &mut Plan,
     meter: &mut Meter<'_, W>,
 ) -> Result<(), Stop> {
-    let graph = arcs_of(alloc, plan)?;
-    let mut groups = Groups::of(alloc, plan, &graph, meter)?;
+    let mut groups = Groups::of(alloc, plan, meter)?;
     if let Some(uncounted) = groups.uncounted.take() {
-        return Err(stop_at(alloc, draft, number, plan, uncounted)?);
+        return Err(stop_at(alloc, draft, plan, uncounted)?);
     }
     for group in groups.list.iter().rev() {
         meter.tell(group.component.labels.len(), 0);
         weigh(alloc, plan, group)?;
     }
-    settle_bases(alloc, plan, &graph, number > 0)
+    settle_bases(alloc, plan, number > 0)?;
+    Ok(())
 }
 
 /// The budgets of a program's functions.
 #[derive(Drop)]
 struct Ranking {
     prices: Vec<Price>,
-    budgets: Vec<Vec<Budget>>,
+    /// By functions, those of its labels.
+    budgets: Vec<Option<Vec<Budget>>>,
 }
 
 impl Ranking {
@@ -100,38 +102,9 @@ impl Ranking {
         let mut plan = Plan::new(alloc, function, &paths)?;
         rank(alloc, draft, number, &mut plan, meter)?;
         put(&mut self.prices, number, plan.price());
-        put(&mut self.budgets, number, budgets_of(alloc, &plan)?);
+        put(&mut self.budgets, number, Some(budgets_of(alloc, &plan)?));
         Ok(())
     }
-
-    /// Finds the budgets of the functions of a depth.
-    fn rank_depth<W: Watch>(
-        &mut self,
-        alloc: Global,
-        draft: Draft,
-        depth: u32,
-        meter: &mut Meter<'_, W>,
-    ) -> Result<(), Stop> {
-        for number in 0..draft.functions.len() {
-            if draft
-                .functions
-                .get(number)
-                .is_some_and(|function| function.depth == depth)
-            {
-                self.rank(alloc, draft, number, meter)?;
-            }
-        }
-        Ok(())
-    }
-}
-
-/// So many empty lists.
-fn no_budgets(alloc: Global, count: usize) -> Result<Vec<Vec<Budget>>, AllocError> {
-    let mut budgets = Vec::with_capacity(alloc, count)?;
-    for _ in 0..count {
-        budgets.push(Vec::new(alloc))?;
-    }
-    Ok(budgets)
 }
 
 /// The budgets of the functions of a draft, callees first.
@@ -143,28 +116,26 @@ fn ranking_of<W: Watch>(
     let count = draft.functions.len();
     let mut ranking = Ranking {
         prices: vec![in alloc; Price::NONE; count]?,
-        budgets: no_budgets(alloc, count)?,
+        budgets: vacant(alloc, count)?,
     };
-    for depth in 1..9 {
-        ranking.rank_depth(alloc, draft, depth, meter)?;
+    for number in draft.cfg.callees_first() {
+        ranking.rank(alloc, draft, *number, meter)?;
     }
     Ok(ranking)
 }
 
 /// The greatest number of steps of a run from a state. I2 at slot 0 above 2^32 - 1.
-fn steps_from(ranking: &Ranking, start: &State) -> Result<u32, Stop> {
+fn steps_from(ranking: &Ranking, start: &State) -> Result<u32, Halt> {
     let steps = match ranking.prices.first() {
         Some(price) => price.greatest(start),
         None => 0,
     };
     match u32::try_from(steps) {
         Ok(steps) => Ok(steps),
-        Err(_) => Err(Stop::no_budget(
-            0,
-            Obstacle::Over(Limit::Steps {
-                wanted: u64::try_from(steps).unwrap_or(u64::MAX),
-            }),
-        )),
+        Err(_) => {
+            let wanted = u64::try_from(steps).unwrap_or(u64::MAX);
+            Err(Halt::no_budget(0, Limit::Steps { wanted }))
+        }
     }
 }
 
@@ -176,9 +147,11 @@ fn put_budgets(function: &mut Function, budgets: Vec<Budget>) {
 }
 
 /// Gives the labels of all functions their budgets.
-fn put_all(functions: &mut Vec<Function>, budgets: Vec<Vec<Budget>>) {
+fn put_all(functions: &mut Vec<Function>, budgets: Vec<Option<Vec<Budget>>>) {
     for (function, budgets) in functions.iter_mut().zip(budgets) {
-        put_budgets(function, budgets);
+        if let Some(budgets) = budgets {
+            put_budgets(function, budgets);
+        }
     }
 }
 
@@ -186,17 +159,18 @@ fn put_all(functions: &mut Vec<Function>, budgets: Vec<Vec<Budget>>) {
 fn budgeted<W: Watch>(
     alloc: Global,
     quest: Quest<'_>,
+    cfg: &Cfg,
     functions: &[Function],
     meter: &mut Meter<'_, W>,
-) -> Result<(u32, Vec<Vec<Budget>>), Stop>
+) -> Result<(u32, Vec<Option<Vec<Budget>>>), Stop>
     requires { quest.least ≤ quest.most }
 {
-    let labels = labels_by_slots(alloc, quest.program, functions)?;
+    let rets = rets_of(alloc, functions)?;
     let draft = Draft {
-        program: quest.program,
-        least: quest.least,
+        quest,
+        cfg,
         functions,
-        labels: &labels,
+        rets: &rets,
     };
     let ranking = ranking_of(alloc, draft, meter)?;
     let steps = steps_from(&ranking, &quest.start())?;
@@ -212,18 +186,19 @@ fn with_states(quest: Quest<'_>, functions: Vec<Function>, stop: Stop) -> Stop {
     }
 }
 
-/// A draft with budgets. I1 if a state doesn't lie where it leads to, at the first slot of its function; I2 at the lowest
+/// A draft of all functions of a program with budgets. I1 if a state doesn't lie where it leads to, at the first slot of its function; I2 at the lowest
 /// label of the loops that nothing counts; I4 at an instruction that is refused or not reached. A refusal has the draft's
 /// states.
 pub fn ranked<W: Watch>(
     alloc: Global,
     quest: Quest<'_>,
+    cfg: &Cfg,
     mut functions: Vec<Function>,
     meter: &mut Meter<'_, W>,
 ) -> Result<Proposal, Stop>
     requires { quest.least ≤ quest.most }
 {
-    match budgeted(alloc, quest, &functions, meter) {
+    match budgeted(alloc, quest, cfg, &functions, meter) {
         Ok((steps, budgets)) => {
             put_all(&mut functions, budgets);
             Ok(Proposal { steps, functions })

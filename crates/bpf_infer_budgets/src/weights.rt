@@ -4,7 +4,7 @@ use crate::candidates::graph_of;
 use crate::groups::{Counted, Group};
 use crate::plan::Plan;
 use bpf_cert::MAX_WEIGHT;
-use bpf_infer_base::{Graph, Limit, Obstacle, Stop, get_or, longest_paths, put};
+use bpf_infer_base::{Graph, Halt, Limit, get_or, longest_paths, put};
 use std::alloc::{AllocError, Global};
 
 /// The most labels of a component whose weights are made least.
@@ -176,15 +176,15 @@ fn lower(
 
 /// Gives the counters of a group their weights; those of inner groups have theirs. I2 at the lowest label of a group with
 /// a weight above 2^20.
-pub fn weigh(alloc: Global, plan: &mut Plan, group: &Group) -> Result<(), Stop> {
+pub fn weigh(alloc: Global, plan: &mut Plan, group: &Group) -> Result<(), Halt> {
     let lengths = lengths_of(alloc, plan, &group.component.graph)?;
     let slot = plan.slot(group.component.label(0));
     let Some(weight) = weight_of(alloc, group, &lengths)? else {
-        return Err(Stop::no_budget(slot, Obstacle::Over(Limit::Passes)));
+        return Err(Halt::no_budget(slot, Limit::Passes));
     };
     if weight > MAX_WEIGHT as i128 {
         let wanted = u64::try_from(weight).unwrap_or(u64::MAX);
-        return Err(Stop::no_budget(slot, Obstacle::Over(Limit::Weight { wanted })));
+        return Err(Halt::no_budget(slot, Limit::Weight { wanted }));
     }
     for counted in &group.counters {
         plan.set_weight(counted.weight, weight);

@@ -1,10 +1,10 @@
 //! Budgets: how many instructions may still be done from each label on.
 
-use crate::loops::{Loop, Loops};
+use crate::loops::{Loop, Loops, loops_of};
 use crate::rounds::Rounds;
 use bpf_cert::{MAX_BASE, MAX_WEIGHT};
 use bpf_infer_base::{
-    Callee, Counter, Depths, Edge, Line, Span, Task, Visitor, get_or, place, put,
+    Callee, Counter, Edge, Line, Span, Task, Visitor, get_or, load_at, place, put,
 };
 use bpf_infer_error::InferError;
 use bpf_insn::Insn;
@@ -169,7 +169,7 @@ impl Budgets {
         block: usize,
         state: &mut State,
     ) -> Result<(), InferError> {
-        if !rounds.load(block, state) {
+        if !load_at(&rounds.states, block, state) {
             return Ok(());
         }
         let span = self.tag_counter(block, state);
@@ -316,6 +316,14 @@ impl Budgets {
 
     // ---- functions
 
+    /// Finds the budgets of all functions' labels, callees first.
+    fn plan_all(&mut self, alloc: Global, task: &Task, rounds: &Rounds) -> Result<(), InferError> {
+        for function in task.cfg.callees_first() {
+            self.plan_function(alloc, task, rounds, *function)?;
+        }
+        Ok(())
+    }
+
     /// Finds the budgets of a function's labels; those of its callees are there.
     fn plan_function(
         &mut self,
@@ -329,23 +337,6 @@ impl Budgets {
         self.walk_over_all(task, rounds, first, end)?;
         self.weigh_all(alloc, task, first, end)?;
         self.pay_all(task, first, end)
-    }
-
-    /// Finds the budgets of the functions of a depth.
-    fn plan_depth(
-        &mut self,
-        alloc: Global,
-        task: &Task,
-        rounds: &Rounds,
-        depths: &Depths,
-        depth: u32,
-    ) -> Result<(), InferError> {
-        for function in 0..task.cfg.function_count() {
-            if get_or(depths, function, 0) == depth {
-                self.plan_function(alloc, task, rounds, function)?;
-            }
-        }
-        Ok(())
     }
 }
 
@@ -370,22 +361,14 @@ fn follow(costs: &mut Vec<Option<i128>>, found: Loop, path: &Path) -> i128 {
     0
 }
 
-/// The budgets of a program's labels, callees first. I2 at a label that is over a limit.
-pub fn budgets_of(
-    alloc: Global,
-    task: &Task,
-    rounds: &Rounds,
-    loops: Loops,
-    depths: &Depths,
-) -> Result<Budgets, InferError> {
+/// The budgets of a program's labels. I2 as `loops_of` has it, else at a label that is over a limit.
+pub fn budgets_of(alloc: Global, task: &Task, rounds: &Rounds) -> Result<Budgets, InferError> {
     let mut budgets = Budgets {
-        loops,
+        loops: loops_of(alloc, task, rounds)?,
         plans: vec![in alloc; Plan::NONE; task.cfg.block_count()]?,
         paths: Vec::new(alloc),
         cost: 0,
     };
-    for depth in 1..9 {
-        budgets.plan_depth(alloc, task, rounds, depths, depth)?;
-    }
+    budgets.plan_all(alloc, task, rounds)?;
     Ok(budgets)
 }

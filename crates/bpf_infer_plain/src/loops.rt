@@ -2,7 +2,7 @@
 
 use crate::rounds::Rounds;
 use bpf_infer_base::{
-    Counter, Edge, PLACES, Task, Visitor, get_or, number_at, place, put, tag_own,
+    Counter, Edge, PLACES, Shift, Task, Visitor, get_or, load_at, number_at, place, put, tag_own,
 };
 use bpf_infer_error::InferError;
 use bpf_state::State;
@@ -15,6 +15,17 @@ pub struct Loop {
     pub last: usize,
     /// What falls on each way from the head to itself; None if there is no such way.
     pub counter: Option<Counter>,
+}
+
+impl Loop {
+    /// The numbers of its blocks.
+    pub fn blocks(self, alloc: Global) -> Result<Vec<usize>, AllocError> {
+        let mut blocks = Vec::new(alloc);
+        for block in self.head..self.last.saturating_add(1) {
+            blocks.push(block)?;
+        }
+        Ok(blocks)
+    }
 }
 
 /// The loops of a program by their heads, and the number of the one that each block is in.
@@ -73,34 +84,25 @@ pub fn first_crossing(rounds: &Rounds) -> Option<(Loop, Loop)> {
 
 // ---- how places move
 
-/// By how much each place has moved on the ways to a label, at the least and at the most.
-#[derive(Clone, Copy)]
-pub struct Moves {
-    pub least: [i64; PLACES],
-    pub greatest: [i64; PLACES],
+/// By places, by how much each has moved on the ways to a label.
+pub type Moves = [Shift; PLACES];
+
+/// The same ways with one more block.
+fn moved(mut moves: Moves, offsets: &[i64; PLACES]) -> Moves {
+    for i in 0..PLACES {
+        moves[i] = moves[i].moved(offsets[i]);
+    }
+    moves
 }
 
-impl Moves {
-    const NONE: Moves = Moves {
-        least: [0; PLACES],
-        greatest: [0; PLACES],
-    };
-
-    /// Moves further.
-    fn add(&mut self, offsets: &[i64; PLACES]) {
+/// These ways and those that are held.
+fn taken_in(held: Option<Moves>, mut moves: Moves) -> Moves {
+    if let Some(held) = held {
         for i in 0..PLACES {
-            self.least[i] = self.least[i].saturating_add(offsets[i]);
-            self.greatest[i] = self.greatest[i].saturating_add(offsets[i]);
+            moves[i] = moves[i].or(held[i]);
         }
     }
-
-    /// Takes in other ways.
-    fn join(&mut self, other: &Moves) {
-        for i in 0..PLACES {
-            self.least[i] = self.least[i].min(other.least[i]);
-            self.greatest[i] = self.greatest[i].max(other.greatest[i]);
-        }
-    }
+    moves
 }
 
 /// A walk over the blocks of a loop that looks where its places go.
@@ -116,17 +118,6 @@ pub struct Search {
     pub around: Option<Moves>,
 }
 
-/// The moves on these ways and on those that are held.
-fn taken_in(held: Option<Moves>, moves: &Moves) -> Moves {
-    match held {
-        Some(mut held) => {
-            held.join(moves);
-            held
-        }
-        None => *moves,
-    }
-}
-
 impl Visitor for Search {
     type Stop = AllocError;
 
@@ -135,16 +126,19 @@ impl Visitor for Search {
             return Ok(());
         }
         let offsets = self.offsets_in(state);
-        let Some(mut moves) = self.moves_to(edge.from) else {
+        let Some(before) = self.moves_to(edge.from) else {
             return Ok(());
         };
-        moves.add(&offsets);
+        let moves = moved(before, &offsets);
         if edge.to == self.head {
-            self.around = Some(taken_in(self.around, &moves));
+            self.around = Some(taken_in(self.around, moves));
         } else {
-            let held = self.moves_to(edge.to);
-            let index = edge.to.saturating_sub(self.head);
-            put(&mut self.moves, index, Some(taken_in(held, &moves)));
+            let joined = taken_in(self.moves_to(edge.to), moves);
+            put(
+                &mut self.moves,
+                edge.to.saturating_sub(self.head),
+                Some(joined),
+            );
         }
         Ok(())
     }
@@ -184,7 +178,7 @@ impl Search {
     fn walk_over(&mut self, task: &Task, rounds: &Rounds) -> Result<(), InferError> {
         let mut state = State::blank();
         for block in self.head..self.last.saturating_add(1) {
-            if rounds.load(block, &mut state) {
+            if load_at(&rounds.states, block, &mut state) {
                 self.tag_all(&mut state);
                 if let Err(fault) = task.walk(block, &mut state, self)? {
                     return Err(fault.refusal());
@@ -197,10 +191,10 @@ impl Search {
     /// The first place that falls on each way around, or rises.
     fn counter(&self, rounds: &Rounds, around: &Moves) -> Option<Counter> {
         for i in 0..PLACES {
-            if self.is_tagged[i] && around.greatest[i] < 0 {
+            if self.is_tagged[i] && around[i].greatest < 0 {
                 return Some(Counter::Falling(i));
             }
-            if self.is_tagged[i] && around.least[i] > 0 {
+            if self.is_tagged[i] && around[i].least > 0 {
                 return Some(Counter::Rising(i, self.limit(rounds, i)));
             }
         }
@@ -234,7 +228,7 @@ pub fn searched(
         moves: vec![in alloc; None; count]?,
         around: None,
     };
-    put(&mut search.moves, 0, Some(Moves::NONE));
+    put(&mut search.moves, 0, Some([Shift::NONE; PLACES]));
     search.walk_over(task, rounds)?;
     Ok(search)
 }

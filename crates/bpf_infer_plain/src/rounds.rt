@@ -1,14 +1,14 @@
 //! The states at the labels: rounds over each function until nothing changes, callers before callees.
 
-use arrayvec::ArrayVec;
-use bpf_cert::{Budget, Function, Label};
+use bpf_cert::Function;
 use bpf_infer_base::{
-    Callee, Cfg, Depths, Edge, Fault, LABEL_WORK, Limit, MOST_ENTRIES, Meter, Stops, Task, Visitor,
-    Watch, edge_work, get_or, join, number_said, places_known, pointer_said, put, vacant,
+    Callee, Cfg, Edge, Fault, LABEL_WORK, LabelState, Limit, MOST_ENTRIES, Meter, Stops, Task,
+    Visitor, Watch, edge_work, get_or, held, join, labels_of, load_at, places_known, put, said,
+    tight_number, vacant,
 };
 use bpf_infer_error::InferError;
 use bpf_num::Num;
-use bpf_state::{Entries, State, enter};
+use bpf_state::{Entries, RegState, State, enter};
 use std::alloc::{AllocError, Global};
 
 /// The most rounds over a function.
@@ -21,7 +21,7 @@ const FIRST_WIDE_ROUND: u32 = 4;
 #[derive(Drop)]
 pub struct Rounds {
     /// The states at the labels, None where none was reached.
-    pub states: Vec<Option<Entries>>,
+    pub states: Vec<LabelState>,
     /// The block of the last edge that leads back to each.
     pub backs: Vec<Option<usize>>,
     /// The lowest slot that isn't reached in each, else its end.
@@ -99,10 +99,7 @@ impl Rounds {
 
     /// Whether a state lies in that of a label.
     fn lies_in(&self, block: usize, state: &State) -> bool {
-        match self.states.get(block) {
-            Some(Some(held)) => state.entails_entries(held),
-            _ => false,
-        }
+        held(&self.states, block).is_some_and(|known| state.entails_entries(known))
     }
 
     /// What a label says if another state lies in it too; with stops, if it is wide.
@@ -112,22 +109,20 @@ impl Rounds {
         state: &State,
         is_wide: bool,
     ) -> Result<Entries, AllocError> {
-        match self.states.get(block) {
-            Some(Some(held)) => {
-                held.put_into(&mut self.room);
-                if is_wide {
-                    join(&mut self.room, state, Some(&self.stops));
-                } else {
-                    join(&mut self.room, state, None);
-                }
-                Entries::of(self.alloc, &self.room)
-            }
-            Some(None) | None => Entries::of(self.alloc, state),
+        let Some(known) = held(&self.states, block) else {
+            return Entries::of(self.alloc, state);
+        };
+        known.put_into(&mut self.room);
+        if is_wide {
+            join(&mut self.room, state, Some(&self.stops));
+        } else {
+            join(&mut self.room, state, None);
         }
+        Entries::of(self.alloc, &self.room)
     }
 
     /// Takes note that a label is reached in a state.
-    pub fn reach(&mut self, block: usize, state: &State, is_wide: bool) -> Result<(), AllocError> {
+    fn reach(&mut self, block: usize, state: &State, is_wide: bool) -> Result<(), AllocError> {
         let is_changed = !self.lies_in(block, state);
         self.count(block, state, is_changed);
         if is_changed {
@@ -154,30 +149,16 @@ impl Rounds {
         self.work = self.work.saturating_add(edge_work(entries, is_changed));
     }
 
-    /// Makes a state the one at a label, with its numbers tightened. False if it isn't reached.
-    pub fn load(&self, block: usize, room: &mut State) -> bool {
-        match self.states.get(block) {
-            Some(Some(held)) => {
-                held.put_into(room);
-                room.tighten()
-            }
-            _ => false,
-        }
-    }
-
     /// The number in a place at a label, tightened.
     pub fn number(&self, block: usize, number: usize) -> Option<Num> {
-        match self.states.get(block) {
-            Some(Some(held)) => number_said(held, number)?.tighten(),
-            _ => None,
-        }
+        tight_number(held(&self.states, block)?, number)
     }
 
-    /// Whether a place holds a pointer at a label.
-    pub fn has_pointer(&self, block: usize, number: usize) -> bool {
-        match self.states.get(block) {
-            Some(Some(held)) => pointer_said(held, number),
-            _ => false,
+    /// What is known of a place at a label.
+    pub fn said(&self, block: usize, number: usize) -> RegState {
+        match held(&self.states, block) {
+            Some(known) => said(known, number),
+            None => RegState::Any,
         }
     }
 
@@ -190,7 +171,7 @@ impl Rounds {
             .saturating_add(slots as usize)
             .saturating_add(LABEL_WORK);
         let mut reached = task.cfg.label(block);
-        if self.load(block, room) {
+        if load_at(&self.states, block, room) {
             match task.walk(block, room, self)? {
                 Ok(slot) => reached = slot,
                 Err(fault) => return Err(fault.refusal()),
@@ -270,20 +251,29 @@ impl Rounds {
         Err(unstable(task, function))
     }
 
-    /// Goes over the functions of a depth until nothing changes.
-    pub fn settle_depth<W: Watch>(
+    /// Goes over all functions, callers first, until nothing changes, from the state that the program starts in.
+    pub fn settle_all<W: Watch>(
         &mut self,
         task: &Task,
-        depths: &Depths,
-        depth: u32,
+        start: &State,
         meter: &mut Meter<'_, W>,
     ) -> Result<(), InferError> {
-        for function in 0..task.cfg.function_count() {
-            if get_or(depths, function, 0) == depth {
-                self.settle(task, function, meter)?;
-            }
+        self.reach(0, start, false)?;
+        for function in task.cfg.callers_first() {
+            self.settle(task, *function, meter)?;
         }
         Ok(())
+    }
+
+    /// As `settle_all`, and I4 (C11) at the lowest instruction that isn't reached then.
+    fn reach_all<W: Watch>(
+        &mut self,
+        task: &Task,
+        start: &State,
+        meter: &mut Meter<'_, W>,
+    ) -> Result<(), InferError> {
+        self.settle_all(task, start, meter)?;
+        self.check_reached(task)
     }
 
     /// I4 (C11) at the lowest instruction that isn't reached.
@@ -304,43 +294,12 @@ impl Rounds {
 pub fn states_of<W: Watch>(
     alloc: Global,
     task: &Task,
-    depths: &Depths,
     start: &State,
     meter: &mut Meter<'_, W>,
 ) -> Result<Rounds, InferError> {
     let mut rounds = Rounds::new(alloc, task)?;
-    rounds.reach(0, start, false)?;
-    for depth in (1..9).rev() {
-        rounds.settle_depth(task, depths, depth, meter)?;
-    }
-    rounds.check_reached(task)?;
+    rounds.reach_all(task, start, meter)?;
     Ok(rounds)
-}
-
-// ---- what comes of it
-
-/// The labels of a function that were reached, each with a budget of 0; their states are taken.
-fn labels_of(
-    alloc: Global,
-    cfg: &Cfg,
-    rounds: &mut Rounds,
-    number: usize,
-) -> Result<Vec<Label>, AllocError> {
-    let mut labels = Vec::new(alloc);
-    let end = cfg.first_block(number.saturating_add(1));
-    for block in cfg.first_block(number)..end {
-        if let Some(Some(state)) = rounds.states.get_mut(block).map(|held| held.take()) {
-            labels.push(Label {
-                slot: cfg.label(block),
-                state,
-                budget: Budget {
-                    base: 0,
-                    terms: ArrayVec::new(),
-                },
-            })?;
-        }
-    }
-    Ok(labels)
 }
 
 /// The functions that were reached, with their labels; the states are taken.
@@ -348,15 +307,16 @@ pub fn functions_of(
     alloc: Global,
     cfg: &Cfg,
     rounds: &mut Rounds,
-    depths: &Depths,
 ) -> Result<Vec<Function>, AllocError> {
     let mut functions = Vec::new(alloc);
     for number in 0..cfg.function_count() {
-        let labels = labels_of(alloc, cfg, rounds, number)?;
+        let first = cfg.first_block(number);
+        let end = cfg.first_block(number.saturating_add(1));
+        let labels = labels_of(alloc, cfg.blocks(), &mut rounds.states, first, end)?;
         if !labels.is_empty() {
             functions.push(Function {
                 first: cfg.first_slot(number),
-                depth: get_or(depths, number, 0),
+                depth: cfg.depth(number),
                 ret: Num::top(),
                 labels,
             })?;

@@ -26,14 +26,8 @@ fn graph_of(alloc: Global, task: &Task, rounds: &Rounds) -> Result<Graph, AllocE
     let mut arcs = Arcs {
         list: Vec::new(alloc),
     };
-    let count = task.cfg.block_count();
-    let mut room = State::blank();
-    for block in 0..count {
-        if rounds.load(block, &mut room) {
-            let _reached = task.walk(block, &mut room, &mut arcs)?;
-        }
-    }
-    Graph::of(alloc, count, arcs.list)
+    task.walk_all(&rounds.states, &mut arcs)?;
+    Graph::of(alloc, task.cfg.block_count(), arcs.list)
 }
 
 /// The slot of the last jump that leads back to a loop's head.
@@ -50,6 +44,40 @@ fn way_back(task: &Task, found: Loop) -> u32 {
     last
 }
 
+/// Whether a node leads to another one, on paths that meet no barred node.
+fn leads(
+    alloc: Global,
+    graph: &Graph,
+    from: usize,
+    to: usize,
+    barred: Option<usize>,
+) -> Result<bool, AllocError> {
+    let reached = graph.reached(alloc, from, barred)?;
+    Ok(get_or(&reached, to, false))
+}
+
+/// As `tangle_of` by the edges between the blocks.
+fn tangle_in(
+    alloc: Global,
+    task: &Task,
+    graph: &Graph,
+    outer: Loop,
+    inner: Loop,
+) -> Result<Tangle, AllocError> {
+    let (from, back) = (way_back(task, inner), way_back(task, outer));
+    if !leads(alloc, graph, outer.head, outer.head, None)? {
+        return Ok(Tangle::Backward { from: back });
+    }
+    let is_inner = leads(alloc, graph, inner.head, inner.head, Some(outer.head))?
+        && leads(alloc, graph, inner.head, outer.head, None)?;
+    let to = task.cfg.label(inner.head);
+    if is_inner && from <= back {
+        Ok(Tangle::Nested { inner: to })
+    } else {
+        Ok(Tangle::Middle { from, to, back })
+    }
+}
+
 /// What a loop is that begins between the head of another one and the last way back to it.
 pub fn tangle_of(
     alloc: Global,
@@ -59,18 +87,5 @@ pub fn tangle_of(
     inner: Loop,
 ) -> Result<Tangle, AllocError> {
     let graph = graph_of(alloc, task, rounds)?;
-    let (from, back) = (way_back(task, inner), way_back(task, outer));
-    let around = graph.reached(alloc, outer.head, None)?;
-    if !get_or(&around, outer.head, false) {
-        return Ok(Tangle::Backward { from: back });
-    }
-    let within = graph.reached(alloc, inner.head, Some(outer.head))?;
-    let beyond = graph.reached(alloc, inner.head, None)?;
-    let is_inner = get_or(&within, inner.head, false) && get_or(&beyond, outer.head, false);
-    let to = task.cfg.label(inner.head);
-    if is_inner && from <= back {
-        Ok(Tangle::Nested { inner: to })
-    } else {
-        Ok(Tangle::Middle { from, to, back })
-    }
+    tangle_in(alloc, task, &graph, outer, inner)
 }

@@ -3,10 +3,10 @@
 //! nothing leads to at all the one of the code in front of it; the search for a fixpoint joins them with what else
 //! arrives. Where an instruction is at fault then, the states that lead to it are changed.
 
-use crate::judge::{Report, walk_all};
+use crate::judge::Report;
 use crate::repair::{change_kinds, fill};
-use crate::sums::{LabelState, held, take_in_at};
-use bpf_infer_base::{Fault, Flow, Task, Visitor, get_or, graph_of, put, vacant};
+use crate::sums::take_in_at;
+use bpf_infer_base::{Fault, Flow, LabelState, Task, Visitor, get_or, graph_of, held, put, vacant};
 use bpf_infer_error::Condition;
 use bpf_insn::Insn;
 use bpf_state::{Entries, State, StateFault};
@@ -299,7 +299,7 @@ pub fn add_seeds(
         is_led_to: vec![in alloc; false; slots]?,
         waiting: Vec::new(alloc),
     };
-    walk_all(task, states, &mut seeker)?;
+    task.walk_all(states, &mut seeker)?;
     seeker.lead_from_all()?;
     seeker.seek_roots()?;
     seeds.take_over(seeker.found);

@@ -1,7 +1,6 @@
 //! What the states of a function's labels say of its instructions.
 
-use crate::sums::{LabelState, load};
-use bpf_infer_base::{Callee, Fault, Task, Visitor, get_or, join, put};
+use bpf_infer_base::{Callee, Fault, LabelState, Task, Visitor, get_or, join, put};
 use bpf_insn::{Insn, Reg};
 use bpf_num::Num;
 use bpf_state::{State, enter};
@@ -84,7 +83,7 @@ impl Report {
             entries: Vec::new(alloc),
             exit: None,
         };
-        walk_all(task, states, &mut report)?;
+        task.walk_all(states, &mut report)?;
         Ok(report)
     }
 
@@ -103,19 +102,4 @@ impl Report {
         }
         None
     }
-}
-
-/// Goes over all blocks from the states of their labels.
-pub fn walk_all<V: Visitor>(
-    task: Task,
-    states: &[LabelState],
-    visitor: &mut V,
-) -> Result<(), V::Stop> {
-    let mut room = State::blank();
-    for label in 0..task.blocks.count() {
-        if load(states, label, &mut room) {
-            let _reached = task.walk(label, &mut room, visitor)?;
-        }
-    }
-    Ok(())
 }

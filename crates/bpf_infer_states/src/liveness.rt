@@ -1,8 +1,6 @@
 //! Liveness, backwards over a function's labels, callees first; and states that say no more than what is read.
 
-use crate::judge::walk_all;
-use crate::sums::LabelState;
-use bpf_infer_base::{Flow, PlaceSet, REGISTERS, Task, Visitor, get_or, put, touched};
+use bpf_infer_base::{Flow, LabelState, PlaceSet, REGISTERS, Task, Visitor, get_or, put};
 use bpf_insn::{Access, Insn, Reg, Size};
 use bpf_num::{KnownBits, Num, Signed, Unsigned, WordDomain};
 use bpf_state::{Entries, Place, RegState, SlotState, State};
@@ -28,43 +26,12 @@ impl Needs {
     };
 }
 
-/// The registers that an instruction reads.
-fn registers_read(insn: &Insn) -> PlaceSet {
-    let mut read = PlaceSet::NONE;
-    for reg in insn.registers_read() {
-        if let Some(r) = reg {
-            read.add(Place::Register(r));
-        }
-    }
-    read
-}
-
-/// The registers that an instruction writes.
-fn registers_written(insn: &Insn) -> PlaceSet {
-    match insn.register_written() {
-        Some(r) => PlaceSet::of(Place::Register(r)),
-        None if matches!(*insn, Insn::CallLocal { .. }) => PlaceSet::CHANGED_BY_CALL,
-        None => PlaceSet::NONE,
-    }
-}
-
-/// The slots that an access may touch.
-fn slots_touched(state: &State, access: Access) -> PlaceSet {
-    let mut slots = PlaceSet::NONE;
-    if let Some((first, end)) = touched(state, access) {
-        for k in first..end {
-            slots.add(Place::Slot(k));
-        }
-    }
-    slots
-}
-
 /// The slot that a store writes as a whole.
 fn slot_written(state: &State, access: Access) -> PlaceSet {
     if let (Size::DW, RegState::Ptr(p)) = (access.size, state.reg(access.base)) {
         let offset = p.lo.saturating_add(access.off as i64);
         if p.lo == p.hi && offset & 7 == 0 {
-            return slots_touched(state, access);
+            return PlaceSet::touched_by(access, state);
         }
     }
     PlaceSet::NONE
@@ -73,12 +40,12 @@ fn slot_written(state: &State, access: Access) -> PlaceSet {
 /// What an instruction reads and writes in a state, but for what a callee reads.
 fn needs_of(insn: &Insn, state: &State) -> Needs {
     let mut needs = Needs {
-        read: registers_read(insn),
-        written: registers_written(insn),
+        read: PlaceSet::read_by(insn),
+        written: PlaceSet::written_by(insn),
     };
     if let Some(access) = insn.access() {
         if access.reads {
-            needs.read = needs.read.union(slots_touched(state, access));
+            needs.read = needs.read.union(PlaceSet::touched_by(access, state));
         } else {
             needs.written = needs.written.union(slot_written(state, access));
         }
@@ -106,7 +73,7 @@ impl<'a> Visitor for Liveness<'a> {
     fn before(&mut self, slot: u32, insn: &Insn, state: &State) -> Result<(), AllocError> {
         let mut needs = needs_of(insn, state);
         if let Flow::Call(target) = Flow::of(slot, insn) {
-            let callee = self.task.cfg.function_of(target) as usize;
+            let callee = self.task.cfg.function_of(target);
             let read = get_or(&self.callees, callee, PlaceSet::ALL);
             needs.read = needs.read.union(read.intersection(PlaceSet::HANDED_OVER));
         }
@@ -179,7 +146,7 @@ pub fn places_read(
         needs: vec![in alloc; Needs::NONE; task.blocks.slots()]?,
         live: vec![in alloc; PlaceSet::NONE; count]?,
     };
-    walk_all(task, states, &mut liveness)?;
+    task.walk_all(states, &mut liveness)?;
     for _ in 0..ROUNDS {
         if !liveness.round() {
             return Ok(liveness.live);

@@ -2,10 +2,11 @@
 //! of a loop is widened with thresholds until it stands, and then narrowed; loops inside are settled anew in each turn.
 
 use crate::nest::{Loop, Nest};
-use crate::sums::{LabelState, Sums, held, load};
+use crate::sums::Sums;
 use crate::thresholds::{Reach, Thresholds};
 use bpf_infer_base::{
-    Edge, LABEL_WORK, Limit, MOST_ENTRIES, Meter, Task, Visitor, Watch, get_or, put, vacant,
+    Edge, LABEL_WORK, LabelState, Limit, MOST_ENTRIES, Meter, Task, Visitor, Watch, get_or, held,
+    load_at, put, vacant,
 };
 use bpf_insn::Insn;
 use bpf_state::{Entries, State};
@@ -209,7 +210,7 @@ impl<'a> Settler<'a> {
             Some(room) => room,
             None => Box::new(self.alloc, State::blank())?,
         };
-        if load(&self.states, label, &mut *room) {
+        if load_at(&self.states, label, &mut *room) {
             let task = self.task;
             let slots = task
                 .blocks

@@ -7,11 +7,10 @@ use crate::dead::{Seeds, add_seeds};
 use crate::judge::Report;
 use crate::nest::Nest;
 use crate::settle::Settler;
-use crate::sums::{LabelState, held, take_in_at};
-use arrayvec::ArrayVec;
-use bpf_cert::{Budget, Label};
+use crate::sums::take_in_at;
 use bpf_infer_base::{
-    Blocks, Cfg, Depths, Limit, Meter, Quest, Stop, Task, Watch, get_or, graph_of, put, vacant,
+    Blocks, Cfg, Halt, LabelState, Limit, Meter, Quest, Task, Watch, get_or, graph_of, held, put,
+    vacant,
 };
 use bpf_num::Num;
 use bpf_state::{Entries, State};
@@ -37,26 +36,6 @@ struct Judged {
     report: Report,
     /// The lowest slot that isn't reached.
     unreached: Option<u32>,
-}
-
-impl Judged {
-    /// The labels with their states, which are taken, each with a budget of 0.
-    fn labels(&mut self, alloc: Global) -> Result<Vec<Label>, AllocError> {
-        let mut labels = Vec::with_capacity(alloc, self.states.len())?;
-        for label in 0..self.states.len() {
-            if let Some(Some(state)) = self.states.get_mut(label).map(|held| held.take()) {
-                labels.push(Label {
-                    slot: self.blocks.label(label),
-                    state,
-                    budget: Budget {
-                        base: 0,
-                        terms: ArrayVec::new(),
-                    },
-                })?;
-            }
-        }
-        Ok(labels)
-    }
 }
 
 /// The functions of a program and what is known of them so far, by their numbers.
@@ -115,6 +94,14 @@ impl<'a> Analysis<'a> {
         }
     }
 
+    /// What was found of a function.
+    fn judged(&self, function: usize) -> Option<&Judged> {
+        match self.judged.get(function) {
+            Some(Some(judged)) => Some(judged),
+            _ => None,
+        }
+    }
+
     // ---- one function
 
     /// Judges a function that begins in a state. I1 at its first slot if its states don't settle.
@@ -123,7 +110,7 @@ impl<'a> Analysis<'a> {
         function: usize,
         entry: &State,
         meter: &mut Meter<'_, W>,
-    ) -> Result<Judged, Stop> {
+    ) -> Result<Judged, Halt> {
         let first = self.cfg.first_slot(function);
         let end = self.cfg.first_slot(function.saturating_add(1));
         let slots = end.saturating_sub(first) as usize;
@@ -163,7 +150,7 @@ impl<'a> Analysis<'a> {
         entry: &State,
         seeds: &Seeds,
         meter: &mut Meter<'_, W>,
-    ) -> Result<Judged, Stop> {
+    ) -> Result<Judged, Halt> {
         let extra = seeds.slots()?;
         let blocks = Blocks::cut_by_jumps(self.alloc, self.quest.program, first, end, &extra)?;
         let states = self.states_of(&blocks, entry, seeds, meter)?;
@@ -186,10 +173,10 @@ impl<'a> Analysis<'a> {
         entry: &State,
         seeds: &Seeds,
         meter: &mut Meter<'_, W>,
-    ) -> Result<Vec<LabelState>, Stop> {
+    ) -> Result<Vec<LabelState>, Halt> {
         let graph = graph_of(self.alloc, self.quest.program, blocks)?;
         let Some(nest) = Nest::of(self.alloc, &graph, blocks.count())? else {
-            return Err(Stop::unstable(blocks.first(), Limit::Depth));
+            return Err(Halt::unstable(blocks.first(), Limit::Depth));
         };
         let mut settler = Settler::new(self.alloc, self.task(blocks), &nest)?;
         settler.seed(0, entry)?;
@@ -202,7 +189,7 @@ impl<'a> Analysis<'a> {
         }
         match settler.settle(meter)? {
             Ok(states) => Ok(states),
-            Err(limit) => Err(Stop::unstable(blocks.first(), limit)),
+            Err(limit) => Err(Halt::unstable(blocks.first(), limit)),
         }
     }
 
@@ -210,7 +197,7 @@ impl<'a> Analysis<'a> {
 
     /// Whether a function was judged with this entry, and with what its callees return.
     fn is_current(&self, function: usize, entry: &State) -> bool {
-        let Some(Some(judged)) = self.judged.get(function) else {
+        let Some(judged) = self.judged(function) else {
             return false;
         };
         for called in judged.report.entries.as_slice() {
@@ -222,7 +209,7 @@ impl<'a> Analysis<'a> {
     }
 
     /// Judges a function that is reached. I1 at its first slot if its states don't settle.
-    fn visit<W: Watch>(&mut self, function: usize, meter: &mut Meter<'_, W>) -> Result<(), Stop> {
+    fn visit<W: Watch>(&mut self, function: usize, meter: &mut Meter<'_, W>) -> Result<(), Halt> {
         let Some(entry) = held(&self.entries, function).map(|entry| entry.state()) else {
             return Ok(());
         };
@@ -252,42 +239,21 @@ impl<'a> Analysis<'a> {
     }
 
     /// Judges all functions, callers before callees. I1 at one whose states don't settle.
-    fn pass<W: Watch>(
-        &mut self,
-        depths: &Depths,
-        start: &State,
-        meter: &mut Meter<'_, W>,
-    ) -> Result<(), Stop> {
-        let count = self.judged.len();
-        self.entries = vacant(self.alloc, count)?;
+    fn pass<W: Watch>(&mut self, start: &State, meter: &mut Meter<'_, W>) -> Result<(), Halt> {
+        self.entries = vacant(self.alloc, self.judged.len())?;
         put(&mut self.entries, 0, Some(Entries::of(self.alloc, start)?));
-        for depth in (1..9).rev() {
-            self.pass_depth(depths, depth, meter)?;
-        }
-        Ok(())
-    }
-
-    /// Judges the functions of a depth. I1 at the first of them whose states don't settle.
-    fn pass_depth<W: Watch>(
-        &mut self,
-        depths: &Depths,
-        depth: u32,
-        meter: &mut Meter<'_, W>,
-    ) -> Result<(), Stop> {
-        for function in 0..self.judged.len() {
-            if get_or(depths, function, 0) == depth {
-                self.visit(function, meter)?;
-            }
+        let cfg = self.cfg;
+        for function in cfg.callers_first() {
+            self.visit(*function, meter)?;
         }
         Ok(())
     }
 
     /// What a function returns as far as its EXITs say.
     fn exit(&self, function: usize) -> Num {
-        match self.judged.get(function) {
-            Some(Some(judged)) => judged.report.exit.unwrap_or(Num::top()),
-            _ => Num::top(),
-        }
+        self.judged(function)
+            .and_then(|judged| judged.report.exit)
+            .unwrap_or(Num::top())
     }
 
     /// Makes each function return what its EXITs say, if that says more and may be taken; where they say less, any number.
@@ -314,23 +280,14 @@ impl<'a> Analysis<'a> {
 
     /// Judges all functions until what they return stands. I1 at a function whose states don't settle, and at slot 0 if what
     /// they return doesn't.
-    fn settle<W: Watch>(
-        &mut self,
-        depths: &Depths,
-        start: &State,
-        meter: &mut Meter<'_, W>,
-    ) -> Result<(), Stop> {
+    fn settle<W: Watch>(&mut self, start: &State, meter: &mut Meter<'_, W>) -> Result<(), Halt> {
         for pass in 0..MOST_PASSES {
-            self.pass(depths, start, meter)?;
+            self.pass(start, meter)?;
             if !self.update_rets(pass < PASSES) {
                 return Ok(());
             }
         }
-        Err(Stop::unstable(
-            0,
-            Limit::Returns {
-                passes: MOST_PASSES,
-            },
-        ))
+        let passes = MOST_PASSES;
+        Err(Halt::unstable(0, Limit::Returns { passes }))
     }
 }

@@ -1,31 +1,9 @@
 //! What arrives at labels over their edges.
 
 use crate::nest::Nest;
-use bpf_infer_base::{edge_work, get_or, join, places_known, put, vacant};
+use bpf_infer_base::{LabelState, edge_work, get_or, held, join, places_known, put, vacant};
 use bpf_state::{Entries, State};
 use std::alloc::{AllocError, Global};
-
-/// What is known where a label is reached; None where it isn't. Entries take memory for what is known alone.
-pub type LabelState = Option<Entries>;
-
-/// What is known at an index of a list.
-pub fn held(states: &[LabelState], index: usize) -> Option<&Entries> {
-    match states.get(index) {
-        Some(Some(state)) => Some(state),
-        _ => None,
-    }
-}
-
-/// Makes a state the one at an index of a list, with its numbers tightened. False if there is none.
-pub fn load(states: &[LabelState], index: usize, room: &mut State) -> bool {
-    match states.get(index) {
-        Some(Some(state)) => {
-            state.put_into(room);
-            room.tighten()
-        }
-        _ => false,
-    }
-}
 
 /// Makes a sum one that a state lies in too, in room of another state. Whether it changes.
 pub fn take_in(

@@ -1,11 +1,12 @@
 -- What is seen of labels.
-use Rattle.std.specs.Prelude.{◌≡◌, ℕ, ◌==◌, not, ◌&&◌, is_none, is_some, option_map, IfSome}
+use Rattle.std.specs.Prelude.{◌≡◌, ℕ, ◌==◌, Bool, not, ◌&&◌, ◌||◌, List, option_to_list, is_none, is_some, option_map, IfSome, if◌then◌else◌}
 use Rattle.std.specs.List.{list_any}
 use Rattle.bpf_insn.specs.Instruction.{Instructions, insn_at}
 use Rattle.bpf_state.specs.State.{tightened}
 use Rattle.bpf_cert.specs.View.{FunctionView, CertificateView, label_view, function_view}
-use Rattle.bpf_safety.specs.Labels.{first_with}
+use Rattle.bpf_safety.specs.Labels.{first_with, function_at}
 use Rattle.bpf_safety.specs.Flaw.{is_bad_term, is_first_label, is_outside}
+use Rattle.bpf_check.specs.LabelIndex.{are_in_place}
 use Rattle.bpf_check.specs.declared.shape.SeenLabel.{SeenLabel}
 use Rattle.bpf_check.specs.declared.standing.Standing.{Standing}
 
@@ -21,3 +22,11 @@ pub record IsStanding (p : Instructions) (c : CertificateView) (slot : ℕ) (s :
   pub lacks : s.lacks_label ≡ (s.function.now.first == slot && not (is_first_label (function_view s.function.now)))
   pub label : option_map (λ l. label_view l.label.now) s.label ≡ first_with (λ l. l.slot == slot) (function_view s.function.now).labels
   pub seen : IfSome s.label (IsSeenLabel p c (function_view s.function.now))
+
+-- a function begins at a slot, or has a label there
+abbrev pub stands_at : ℕ → FunctionView → Bool
+stands_at slot f = f.first == slot || is_some (first_with (λ l. l.slot == slot) f.labels)
+
+-- the functions that are told of at a slot, by their numbers: the one that it lies in where each label lies in its function, else all
+abbrev pub told_at : CertificateView → ℕ → List FunctionView
+told_at c slot = if are_in_place c then option_to_list (function_at c slot) else c.functions

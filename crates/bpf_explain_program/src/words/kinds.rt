@@ -1,12 +1,13 @@
 //! Registers of which nothing is known, and operands of the wrong kinds.
 
-use crate::effects::{slots_touched, unknown_register};
+use crate::effects::unknown_register;
 use crate::known::{Known, Name, Offset, known_register};
 use crate::places::content;
 use crate::sight::Sight;
 use crate::words::origins::tell_lost;
 use crate::words::register;
 use bpf_explain_page::Tell;
+use bpf_infer_base::slots_touched;
 use bpf_insn::{Access, AluOp, AtomicOp, Code, Insn, Operand, Reg, Width};
 use bpf_state::{Place, RegState, SlotState, State};
 
@@ -85,8 +86,8 @@ fn tell_number_wanted<W: Tell>(out: &mut W, state: &State, reg: Reg) {
 
 /// The first slot that an access may touch and that holds a pointer.
 fn pointer_slot(state: &State, access: Access) -> Option<u8> {
-    let (low, high) = slots_touched(access, state)?;
-    for slot in low..=high {
+    let (first, end) = slots_touched(access, state);
+    for slot in first..end {
         if let SlotState::Spilled(_) = content(state, Place::Slot(slot)) {
             return Some(slot);
         }

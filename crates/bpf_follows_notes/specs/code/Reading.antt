@@ -4,8 +4,10 @@ use Rattle.std.specs.List.{slice_get}
 use Rattle.std.specs.Option.{option_map_or}
 use Rattle.bpf_insn.specs.declared.instruction.Reg.{Reg}
 use Rattle.bpf_insn.specs.declared.instruction.Reg.TheVariants.{R0, R1, R2, R3, R4, R5, R6, R7, R8, R9, R10}
+use Rattle.bpf_follows.specs.declared.notes.Area.{Area}
+use Rattle.bpf_follows.specs.declared.notes.Area.TheVariants.{Given, Own}
 use Rattle.bpf_follows.specs.declared.notes.Kind.{Kind}
-use Rattle.bpf_follows.specs.declared.notes.Kind.TheVariants.{Nothing, Unset, Same, Both, Number, Offset, Fixed, Within, Start, Base, Moved, Address, Saved, Constant, Counter, Turn, Alone}
+use Rattle.bpf_follows.specs.declared.notes.Kind.TheVariants.{Nothing, Unset, Same, Both, Number, Natural, Offset, Fixed, Within, Start, Base, Moved, Address, Saved, Constant, Counter, Turn, Alone, Returns}
 use Rattle.bpf_follows.specs.declared.notes.Place.{Place}
 use Rattle.bpf_follows_notes.specs.declared.error.NotesError.{NotesError}
 use Rattle.bpf_follows_notes.specs.declared.error.NotesError.TheVariants.{Form}
@@ -96,7 +98,7 @@ unfoldable pub plain_in : List ℕ → Option (Kind × List ℕ)
 plain_in text =
     or_else (word_in (codes "same") Same text)
     (or_else (word_in (codes "unset") Unset text)
-    (or_else (word_in (codes "offset") Offset text)
+    (or_else (word_in (codes "natural") Natural text)
     (or_else (word_in (codes "start") Start text)
     (or_else (word_in (codes "base") Base text)
     (or_else (word_in (codes "both") Both text) (word_in (codes "alone") Alone text))))))
@@ -110,20 +112,26 @@ saved_in text = do
 
 unfoldable pub numbered_in : List ℕ → Option (Kind × List ℕ)
 numbered_in text =
-    or_else (option_map (λ x. (Fixed x.0, x.1)) (value_in (codes "fixed:") text))
-    (or_else (option_map (λ x. (Constant x.0, x.1)) (value_in (codes "constant:") text))
+    or_else (option_map (λ x. (Constant x.0, x.1)) (value_in (codes "constant:") text))
     (or_else (option_map (λ x. (Number x.0 x.1, x.2)) (bounds_in (codes "number:") text))
-    (or_else (option_map (λ x. (Within x.0 x.1, x.2)) (bounds_in (codes "within:") text))
     (or_else (option_map (λ x. (Counter x.0, x.1)) (number_in (codes "turns:") text))
-    (or_else (option_map (λ x. (Turn x.0, x.1)) (number_in (codes "turn:") text)) (saved_in text))))))
+    (or_else (option_map (λ x. (Turn x.0, x.1)) (number_in (codes "turn:") text))
+    (or_else (option_map (λ x. (Returns x.0 x.1, x.2)) (bounds_in (codes "returns:") text)) (saved_in text)))))
 
-unfoldable pub beside_in : List ℕ → Option (Kind × List ℕ)
-beside_in text =
-    or_else (option_map (λ x. (Moved x.0 x.1, x.2)) (behind_in (codes "moved:r") text))
-    (option_map (λ x. (Address x.0 x.1, x.2)) (behind_in (codes "address:r") text))
+-- an offset into an area, or the pointer there
+unfoldable pub offset_in : Area → List ℕ → Option (Kind × List ℕ)
+offset_in area text =
+    or_else (word_in (codes "offset") (Offset area) text)
+    (or_else (option_map (λ x. (Fixed area x.0, x.1)) (value_in (codes "fixed:") text))
+    (or_else (option_map (λ x. (Within area x.0 x.1, x.2)) (bounds_in (codes "within:") text))
+    (or_else (option_map (λ x. (Moved area x.0 x.1, x.2)) (behind_in (codes "moved:r") text))
+    (option_map (λ x. (Address area x.0 x.1, x.2)) (behind_in (codes "address:r") text)))))
+
+unfoldable pub area_in : List ℕ → Option (Kind × List ℕ)
+area_in text = option_map_or (offset_in Own) (behind (codes "frame:") text) (offset_in Given text)
 
 unfoldable pub kind_in : List ℕ → Option (Kind × List ℕ)
-kind_in text = or_else (plain_in text) (or_else (numbered_in text) (beside_in text))
+kind_in text = or_else (plain_in text) (or_else (numbered_in text) (area_in text))
 
 unfoldable pub entry_in : List ℕ → Option (ℕ × Kind × List ℕ)
 entry_in text = do

@@ -6,7 +6,7 @@ use crate::liveness::{keep_live, least_number, places_read};
 use crate::states::Analysis;
 use bpf_cert::{Function, Label};
 use bpf_infer_base::{
-    Cfg, Depths, Fault, Meter, PlaceSet, Quest, Sketch, Stop, Watch, depths_of, get_or, put,
+    Cfg, Fault, Halt, Meter, Obstacle, PlaceSet, Quest, Sketch, Stop, Watch, labels_of, put,
 };
 use bpf_infer_error::InferError;
 use bpf_num::Num;
@@ -26,14 +26,11 @@ impl<'a> Analysis<'a> {
     pub(super) fn fault(&self) -> Option<Fault> {
         let mut lowest = None;
         for function in 0..self.judged.len() {
-            let found = match self.judged.get(function) {
-                Some(Some(judged)) if self.stops => judged.report.fault,
-                Some(Some(judged)) => lower(
-                    judged.report.fault,
-                    judged.unreached.map(Fault::falls_off),
-                ),
-                _ if self.stops => None,
-                _ => Some(Fault::falls_off(self.cfg.first_slot(function))),
+            let found = match self.judged(function) {
+                Some(judged) if self.stops => judged.report.fault,
+                Some(judged) => lower(judged.report.fault, judged.unreached.map(Fault::falls_off)),
+                None if self.stops => None,
+                None => Some(Fault::falls_off(self.cfg.first_slot(function))),
             };
             lowest = lower(lowest, found);
         }
@@ -42,12 +39,12 @@ impl<'a> Analysis<'a> {
 
     /// By labels of a function, the places that are read behind each.
     fn places_read(&self, function: usize, read: &[PlaceSet]) -> Result<Vec<PlaceSet>, AllocError> {
-        match self.judged.get(function) {
-            Some(Some(judged)) => {
+        match self.judged(function) {
+            Some(judged) => {
                 let task = self.task(&judged.blocks);
                 places_read(self.alloc, task, &judged.states, read)
             }
-            _ => Ok(Vec::new(self.alloc)),
+            None => Ok(Vec::new(self.alloc)),
         }
     }
 
@@ -60,27 +57,13 @@ impl<'a> Analysis<'a> {
         Ok(live.first().copied().unwrap_or(PlaceSet::ALL))
     }
 
-    /// Makes the states of the functions of a depth say no more than is read, and takes note of what they read.
-    fn spare_depth(
-        &mut self,
-        depths: &Depths,
-        depth: u32,
-        read: &mut Vec<PlaceSet>,
-    ) -> Result<(), AllocError> {
-        for function in 0..self.judged.len() {
-            if get_or(depths, function, 0) == depth {
-                let places = self.keep_live(function, read)?;
-                put(read, function, places);
-            }
-        }
-        Ok(())
-    }
-
     /// Makes all labels' states say no more than is read.
-    pub(super) fn spare_all(&mut self, depths: &Depths) -> Result<(), AllocError> {
+    pub(super) fn keep_all_live(&mut self) -> Result<(), AllocError> {
         let mut read = vec![in self.alloc; PlaceSet::ALL; self.judged.len()]?;
-        for depth in 1..9 {
-            self.spare_depth(depths, depth, &mut read)?;
+        let cfg = self.cfg;
+        for function in cfg.callees_first() {
+            let places = self.keep_live(*function, &read)?;
+            put(&mut read, *function, places);
         }
         Ok(())
     }
@@ -88,7 +71,10 @@ impl<'a> Analysis<'a> {
     /// The labels of a function; their states are taken.
     fn labels(&mut self, function: usize) -> Result<Vec<Label>, AllocError> {
         match self.judged.get_mut(function) {
-            Some(Some(judged)) => judged.labels(self.alloc),
+            Some(Some(judged)) => {
+                let count = judged.blocks.count();
+                labels_of(self.alloc, &judged.blocks, &mut judged.states, 0, count)
+            }
             _ => Ok(Vec::new(self.alloc)),
         }
     }
@@ -102,14 +88,14 @@ impl<'a> Analysis<'a> {
     }
 
     /// The functions that were reached, with their labels; the states are taken.
-    pub(super) fn functions(&mut self, depths: &Depths) -> Result<Vec<Function>, AllocError> {
+    pub(super) fn functions(&mut self) -> Result<Vec<Function>, AllocError> {
         let mut functions = Vec::new(self.alloc);
         for number in 0..self.judged.len() {
             let labels = self.labels(number)?;
             if !labels.is_empty() {
                 functions.push(Function {
                     first: self.cfg.first_slot(number),
-                    depth: get_or(depths, number, 0),
+                    depth: self.cfg.depth(number),
                     ret: self.ret(number),
                     labels,
                 })?;
@@ -119,18 +105,17 @@ impl<'a> Analysis<'a> {
     }
 
     /// A refusal for what is found by then, with the states that it is seen in.
-    fn stop(mut self, depths: &Depths, stop: Stop) -> Stop {
-        if matches!(stop.error, InferError::Memory) {
-            return stop;
+    fn stop(&mut self, halt: Halt) -> Stop {
+        if matches!(halt.error, InferError::Memory) {
+            return Stop::from(halt);
         }
-        let Ok(functions) = self.functions(depths) else {
-            return stop;
+        let Ok(functions) = self.functions() else {
+            return Stop::from(halt);
         };
-        let (least, most) = (self.quest.least, self.quest.most);
-        let Stop { error, sketch } = stop;
+        let obstacle = halt.limit.map(Obstacle::Over);
         Stop {
-            error,
-            sketch: Sketch::of(least, most, functions, sketch.obstacle),
+            error: halt.error,
+            sketch: Sketch::of(self.quest.least, self.quest.most, functions, obstacle),
         }
     }
 }
@@ -142,20 +127,19 @@ fn first_fault<W: Watch>(
     alloc: Global,
     quest: Quest<'_>,
     cfg: &Cfg,
-    depths: &Depths,
     meter: &mut Meter<'_, W>,
 ) -> Result<Option<Stop>, Stop>
     requires { quest.least ≤ quest.most }
 {
     let mut analysis = Analysis::new(alloc, quest, cfg, true)?;
-    if let Err(stop) = analysis.settle(depths, &quest.start(), meter) {
-        return match stop.error {
-            InferError::Memory => Err(stop),
+    if let Err(halt) = analysis.settle(&quest.start(), meter) {
+        return match halt.error {
+            InferError::Memory => Err(Stop::from(halt)),
             _ => Ok(None),
         };
     }
     match analysis.fault() {
-        Some(fault) => Ok(Some(analysis.stop(depths, Stop::from(fault.refusal())))),
+        Some(fault) => Ok(Some(analysis.stop(Halt::from(fault.refusal())))),
         None => Ok(None),
     }
 }
@@ -166,23 +150,21 @@ fn first_fault<W: Watch>(
 pub fn draft<W: Watch>(
     alloc: Global,
     quest: Quest<'_>,
+    cfg: &Cfg,
     meter: &mut Meter<'_, W>,
 ) -> Result<Vec<Function>, Stop>
     requires { quest.least ≤ quest.most }
 {
-    let cfg = Cfg::of(alloc, quest.program)?;
-    let depths = depths_of(alloc, quest.program, &cfg)?;
-    let mut analysis = Analysis::new(alloc, quest, &cfg, false)?;
-    match analysis.settle(&depths, &quest.start(), meter) {
-        Ok(()) => {}
-        Err(stop) => return Err(analysis.stop(&depths, stop)),
+    let mut analysis = Analysis::new(alloc, quest, cfg, false)?;
+    if let Err(halt) = analysis.settle(&quest.start(), meter) {
+        return Err(analysis.stop(halt));
     }
     if let Some(fault) = analysis.fault() {
-        return Err(match first_fault(alloc, quest, &cfg, &depths, meter)? {
+        return Err(match first_fault(alloc, quest, cfg, meter)? {
             Some(stop) => stop,
-            None => analysis.stop(&depths, Stop::from(fault.refusal())),
+            None => analysis.stop(Halt::from(fault.refusal())),
         });
     }
-    analysis.spare_all(&depths)?;
-    Ok(analysis.functions(&depths)?)
+    analysis.keep_all_live()?;
+    Ok(analysis.functions()?)
 }

@@ -3,10 +3,9 @@
 ghost use Rattle.std.specs.Prelude.{◌≤◌};
 
 use crate::states::Analysis;
-use crate::sums::{LabelState, load};
 use bpf_cert::Function;
 use bpf_infer_base::{
-    Callee, Cfg, Depths, Edge, Fault, Meter, Quest, Task, Visitor, Watch, depths_of, get_or, put,
+    Callee, Cfg, Edge, Fault, LabelState, Meter, Quest, Task, Visitor, Watch, get_or, load_at, put,
     vacant,
 };
 use bpf_infer_error::{Condition, InferError};
@@ -129,7 +128,7 @@ impl Survey {
             let Some(label) = self.waiting.pop() else {
                 break;
             };
-            if load(states, label, &mut room) {
+            if load_at(states, label, &mut room) {
                 let _reached = task.walk(label, &mut room, self)?;
             }
         }
@@ -138,59 +137,41 @@ impl Survey {
 }
 
 impl<'a> Analysis<'a> {
-    /// Takes note of the functions of a depth that are called.
-    fn survey_depth(
-        &self,
-        depths: &Depths,
-        depth: u32,
-        survey: &mut Survey,
-    ) -> Result<(), AllocError> {
-        for function in 0..self.judged.len() {
-            let is_due = get_or(depths, function, 0) == depth;
-            if is_due && get_or(&survey.called, function, false) {
-                if let Some(Some(judged)) = self.judged.get(function) {
+    /// Takes note of what the states of all that is reached say.
+    fn surveyed(&self) -> Result<Survey, AllocError> {
+        let slots = self.quest.program.slots() as usize;
+        let mut survey = Survey::new(self.alloc, slots, self.judged.len())?;
+        put(&mut survey.called, 0, true);
+        for function in self.cfg.callers_first() {
+            if get_or(&survey.called, *function, false) {
+                if let Some(judged) = self.judged(*function) {
                     survey.visit(self.task(&judged.blocks), &judged.states)?;
                 }
             }
         }
-        Ok(())
-    }
-
-    /// Takes note of what the states of all that is reached say.
-    fn surveyed(&self, depths: &Depths) -> Result<Survey, AllocError> {
-        let slots = self.quest.program.slots() as usize;
-        let mut survey = Survey::new(self.alloc, slots, self.judged.len())?;
-        put(&mut survey.called, 0, true);
-        for depth in (1..9).rev() {
-            self.survey_depth(depths, depth, &mut survey)?;
-        }
-        for ret in &self.rets {
-            survey.rets.push(*ret)?;
-        }
+        survey.rets.extend_from_slice(&self.rets)?;
         Ok(survey)
     }
 }
 
 /// What the states of a program say of the instructions that are reached, and what comes of them where none is refused. I1 at a
-/// function whose states don't settle; I2 and I3 as `depths_of` has them; I4 (C12) at an instruction that leaves its function.
+/// function whose states don't settle.
 pub fn surveyed<W: Watch>(
     alloc: Global,
     quest: Quest<'_>,
+    cfg: &Cfg,
     meter: &mut Meter<'_, W>,
 ) -> Result<Survey, InferError>
     requires { quest.least ≤ quest.most }
 {
-    let cfg = Cfg::of(alloc, quest.program)?;
-    let depths = depths_of(alloc, quest.program, &cfg)?;
-    let mut analysis = Analysis::new(alloc, quest, &cfg, false)?;
-    match analysis.settle(&depths, &quest.start(), meter) {
-        Ok(()) => {}
-        Err(stop) => return Err(stop.error),
+    let mut analysis = Analysis::new(alloc, quest, cfg, false)?;
+    if let Err(halt) = analysis.settle(&quest.start(), meter) {
+        return Err(halt.error);
     }
-    let mut survey = analysis.surveyed(&depths)?;
+    let mut survey = analysis.surveyed()?;
     if analysis.fault().is_none() {
-        analysis.spare_all(&depths)?;
-        survey.draft = Some(analysis.functions(&depths)?);
+        analysis.keep_all_live()?;
+        survey.draft = Some(analysis.functions()?);
     }
     Ok(survey)
 }

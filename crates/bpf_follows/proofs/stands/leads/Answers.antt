@@ -3,7 +3,8 @@ use Rattle.std.proofs.lemmas.Option.{same_Some}
 use Rattle.bpf_insn.specs.Instruction.{Instructions}
 use Rattle.bpf_follows.specs.declared.site.Site.{Site}
 use Rattle.bpf_follows.specs.Relation.{Kinds, known}
-use Rattle.bpf_follows.specs.Matching.{is_call, kinds_called, listed, led, Enters, Reaches}
+use Rattle.bpf_follows.specs.Returned.{is_call, led}
+use Rattle.bpf_follows.specs.Matching.{kinds_called, listed, Enters, Reaches}
 use Rattle.bpf_follows.proofs.stands.leads.Goals as goal
 
 pub returns-then-is_call : goal.returns-then-is_call
@@ -17,7 +18,7 @@ returns-then-is_call g c =
       λ e to et may. (
         c.in-Some-led.new_slot,
         new_at,
-        subst (λ b. Reaches b c.args.notes.now new c.args.turns to c.in-Some-led.new_slot site.insn kinds) (sym call)
+        subst (λ b. Reaches b c.args.notes.now new c.args.turns to c.in-Some-led.new_slot site.slot site.insn site.moved kinds) (sym call)
             (subst (λ to. Enters c.args.notes.now new c.args.turns to c.in-Some-led.new_slot (listed (kinds_called kinds))) (same_Some _ _ (sym at ∙ et))
             (subst (λ given. Enters c.args.notes.now new c.args.turns c.in-Some.slot c.in-Some-led.new_slot given) c.all_called.ensures (c.enters.ensures.0 e))),
       ),
@@ -26,5 +27,5 @@ returns-then-is_call g c =
           c.enters.ensures.1
           (subst (λ given. Enters c.args.notes.now new c.args.turns c.in-Some.slot c.in-Some-led.new_slot given) (sym c.all_called.ensures)
           (subst (λ to. Enters c.args.notes.now new c.args.turns c.in-Some.slot to (listed (kinds_called kinds))) (same_Some _ _ (sym a.1 ∙ new_at))
-          (subst (λ b. Reaches b c.args.notes.now new c.args.turns c.in-Some.slot a.0 site.insn kinds) call a.2))),
+          (subst (λ b. Reaches b c.args.notes.now new c.args.turns c.in-Some.slot a.0 site.slot site.insn site.moved kinds) call a.2))),
     )

@@ -5,6 +5,7 @@ use Rattle.std.proofs.lemmas.Option.{same_Some}
 use Rattle.bpf_insn.specs.Instruction.{Instructions}
 use Rattle.bpf_follows.specs.declared.site.Site.{Site}
 use Rattle.bpf_follows.specs.Relation.{known, is_alone}
+use Rattle.bpf_follows.specs.Returned.{GivesBack}
 use Rattle.bpf_follows.specs.Matching.{front_at, IsLone, IsSite, Falls, Leads, Stands}
 use Rattle.bpf_follows.proofs.SiteLemmas.{one_site}
 use Rattle.bpf_follows.proofs.stands.stands_at.Goals as goal
@@ -24,6 +25,15 @@ returns-then-not-is_lone g c = (
       let s = all c.in-Some.place.now c.in-Some-insn.insn (sym c.place_at.ensures ∙ ap option_copied c.in-Some.is) (sym c.insn.ensures ∙ c.in-Some-insn.is) in
       let same = one_site (g.N.Code.program c.args.new.now) c.in-Some.place.now _ s.site c.in-Ok.site s.is_site (subst (λ front. IsSite (g.N.Code.program c.args.new.now) c.in-Some.place.now front c.in-Ok.site) c.front_at-front.ensures c.in-Ok.ensures.ok.0) in
       sym c.if-not-is_lone.true ∙ c.is_lone.ensures.1 (subst (λ (site : Site). IsLone (is_alone c.args.notes.now) (known site.slot site.kinds) site.insn) same s.lone),
+)
+
+pub returns-then-not-gives_back : goal.returns-then-not-gives_back
+returns-then-not-gives_back g c = (
+  λ h. absurd (false≢true h),
+  λ all.
+      let s = all c.in-Some.place.now c.in-Some-insn.insn (sym c.place_at.ensures ∙ ap option_copied c.in-Some.is) (sym c.insn.ensures ∙ c.in-Some-insn.is) in
+      let same = one_site (g.N.Code.program c.args.new.now) c.in-Some.place.now _ s.site c.in-Ok.site s.is_site (subst (λ front. IsSite (g.N.Code.program c.args.new.now) c.in-Some.place.now front c.in-Ok.site) c.front_at-front.ensures c.in-Ok.ensures.ok.0) in
+      sym c.if-not-gives_back.true ∙ c.gives_back.ensures.1 (subst (λ site. GivesBack c.args.notes.now c.args.bounds.turns c.in-Some.place.now site) same s.gives_back),
 )
 
 pub returns-then-not-falls : goal.returns-then-not-falls
@@ -53,6 +63,6 @@ returns g c = (
       subst (λ place. Stands new c.args.notes.now c.args.bounds.turns place (front_at (g.O.Code.program c.args.old.now) c.args.bounds c.args.slot i)) same_place
       (subst (λ i. Stands new c.args.notes.now c.args.bounds.turns c.in-Some.place.now (front_at (g.O.Code.program c.args.old.now) c.args.bounds c.args.slot i)) same_insn
       (subst (λ front. Stands new c.args.notes.now c.args.bounds.turns c.in-Some.place.now front) c.front_at-front.ensures
-      (record { site = c.in-Ok.site; is_site = c.in-Ok.ensures.ok.0; lone = c.is_lone.ensures.0 c.if-not-is_lone.false; falls = c.falls.ensures.0 c.if-not-falls.false; leads = c.leads.ensures.0 c.if-not-leads.false }))),
+      (record { site = c.in-Ok.site; is_site = c.in-Ok.ensures.ok.0; lone = c.is_lone.ensures.0 c.if-not-is_lone.false; gives_back = c.gives_back.ensures.0 c.if-not-gives_back.false; falls = c.falls.ensures.0 c.if-not-falls.false; leads = c.leads.ensures.0 c.if-not-leads.false }))),
   λ all. refl,
 )

@@ -5,7 +5,7 @@ use Rattle.bpf_cert.specs.Limits.{is_rising, IsCertificate, first_before, is_lim
 use Rattle.bpf_safety.specs.Labels.{function_at}
 use Rattle.bpf_check.proofs.CertificateFacts.{function_at_is, function_at_limited, functions_rise}
 use Rattle.bpf_check.proofs.SearchLemmas.{is_rising-map}
-use Rattle.bpf_check.proofs.labels.function_near.Goals as goal
+use Rattle.bpf_check.proofs.labels.function_among.Goals as goal
 
 pub last_from-requires : goal.last_from-requires
 last_from-requires c = sym (is_rising-map first_before function_view c.functions.result.now) ∙ ap (is_rising first_before) c.functions.ensures ∙ functions_rise c.args.certificate.now c.valid.ensures

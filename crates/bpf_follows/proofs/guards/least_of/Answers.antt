@@ -1,7 +1,7 @@
 use Rattle.std.proofs.Common.{◌≡◌, ◌-ℤ◌, to_z, of_z, w32, w64, ap₂, ◌∙◌}
 use Rattle.std.proofs.lemmas.Int.{to_z-of_z}
 use Rattle.bpf_follows.proofs.Offsets.{apart_held, least_held}
-use Rattle.bpf_follows.proofs.extras.least_of.Goals as goal
+use Rattle.bpf_follows.proofs.guards.least_of.Goals as goal
 
 pub returns : goal.returns
 returns c =
