@@ -57,7 +57,7 @@ def tried(names):
             for edit in list(later.glob("*.edit")):
                 edit.rename(gate / edit.name)
         for crate in crates:
-            if subprocess.run(["rt", "check", crate], cwd=tree, check=False, stdout=subprocess.DEVNULL).returncode:
+            if subprocess.run(["rt", "check"], cwd=tree / "crates" / crate, check=False, stdout=subprocess.DEVNULL).returncode:
                 print(f"{crate} isn't proved")
                 return 1
         return subprocess.run(["rt", "must-fail", *crates], cwd=tree, check=False).returncode
