@@ -2,8 +2,8 @@
 """edits.py: the wrong bodies in the folders must-fail-too, which the gate doesn't try.
 
   edits.py               looks whether each text that an edit replaces stands once in its file, as in the gate. Nothing is proved.
-  edits.py --try [NAME..]  has the prover try those of these crates, or all, on a clone of what is committed: each must be refused. Some 50
-                         minutes on four processors where nothing is kept.
+  edits.py --try [NAME..]  has the prover try those of these crates, or all, on a clone of what is committed: each must be refused.
+                         It begins with what checks on this machine kept: 51 of them took six minutes on four processors.
 """
 import pathlib
 import subprocess
