@@ -105,7 +105,7 @@ def try_batch(bpf, forced, seed, count):
             continue
         verdict = answer.split()[0]
         found['programs'] += 1
-        found[verdict] += 1
+        found['left' if verdict.startswith('yes-') else verdict] += 1
         for context, (old, new) in zip(given, ends):
             if not judged(case, verdict == 'yes', old, new):
                 raise Wrong(f'seed {seed}: on {context.hex()} {old} before, {new} by force: {line}')
@@ -131,6 +131,7 @@ def main():
         sys.exit(f'forced.py: too few were compared: {dict(found)}')
     print(f'forced: of {2 * count} programs {found["programs"]} with guards and counters by force: {found["same"]} runs end with the same number, '
           f'{found["trap"]} in the trap; no image {found["E"]}, refused {found["H"]}; shown to keep the meaning {found["yes"]}, '
+          f'{found["left"]} where the lowest bytes of frames are left alone, '
           f'else {harden.counted(found, "M")}')
 
 

@@ -170,17 +170,25 @@ class Runner:
         self.follow(length, order, words)
         return None
 
+    def taken(self, harden):
+        """How many of the lowest bytes of each frame hardening keeps accesses from."""
+        self.call(*harden, '--changes', 'changes')
+        return 512 - max(map(int, re.findall(r'^fn .* depth (\d+)', self.get('changes').decode(), re.M)), default=0)
+
     def follow(self, length, order, harden):
-        """What `follows` says of new.img with its notes, and that `harden --proved` goes by it."""
-        status, out = self.call('follows', *order, 'old.img', 'new.img', 'notes', str(length))
-        shown = status == 0
-        # Of blocks the old program sees nothing.
-        self.is_shown = shown and '--padded' not in harden
-        said = re.fullmatch(rf'yes length {length} turns 65536\n|no (M\d) at slot \d+\n', out)
+        """What `follows` says of new.img with its notes, for each run or for those that leave the bytes alone that hardening takes, and that
+        `harden --proved` goes by it."""
+        blocks = ['--padded'] if '--padded' in harden else []
+        asked = ('follows', *order, 'old.img', 'new.img', 'notes', str(length), *blocks)
+        status, out = self.call(*asked)
+        said = re.fullmatch(rf'yes length {length} turns 65536(?: padded)?\n|no (M\d) at slot \d+\n', out)
         if not said:
             raise Wrong(f'follows says {out!r}')
-        self.verdicts[said[1] or 'yes'] += 1
+        self.is_shown = status == 0
         new = self.get('new.img')
+        left = status != 0 and self.call(*asked, '--untouched', str(self.taken(harden)))[0] == 0
+        shown = status == 0 or left
+        self.verdicts['left' if left else said[1] or 'yes'] += 1
         os.remove(os.path.join(self.folder, 'new.img'))
         status, out = self.call(*harden, '--proved')
         if (status, out) != ((0, '') if shown else (1, f'no H13 at {said[0].split(" at ")[1]}')):
@@ -290,7 +298,8 @@ def main():
     if found['changed'] < count // 3:
         sys.exit(f'harden.py: of {count} programs {found["changed"]} alone were changed: {refused}')
     print(f'harden: {hardened} programs answer as before ({found["same"]} unchanged, {found["changed"]} changed, {found["blocks"]} in blocks); '
-          f'refused: {refused}; shown to keep the meaning {found["yes"]}, else {counted(found, "M")}')
+          f'refused: {refused}; shown to keep the meaning {found["yes"]}, '
+          f'{found["left"]} where the lowest bytes of frames are left alone, else {counted(found, "M")}')
 
 
 if __name__ == '__main__':

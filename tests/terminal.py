@@ -13,13 +13,18 @@ FILES = {
     "smallest.cert": "bpfcert 1 0 2\nfn 0 1 *\nat 0 2\nend\n",
     "other.cert": "bpfcert 1 0 1\nfn 0 1 *\nat 0 1\nend\n",
     "index.asm": "r2 = *(u8 *)(r1 + 0)\nr1 += r2\nr0 = *(u8 *)(r1 + 0)\nexit\n",
+    # Each register is in use, and a store that nothing bounds goes to the frame.
+    "full.asm": "".join(f"r{r} = {r}\n" for r in range(4, 10)) + "r2 = *(u64 *)(r1 + 0)\nr3 = r10\nr3 += r2\n*(u8 *)(r3 + 0) = r4\n"
+    "r2 = *(u8 *)(r1 + 8)\nr1 += r2\nr0 = *(u8 *)(r1 + 0)\n" + "".join(f"r0 += r{r}\n" for r in range(4, 10)) + "exit\n",
+    # The old machine has no order of pointers.
+    "order.asm": "r0 = 0\nr3 = *(u8 *)(r1 + 0)\nr3 += r1\nif r3 > r1 goto +1\nexit\nr0 = *(u8 *)(r3 + 0)\nexit\n",
     "round.asm": "goto -1\n",
     "itself.asm": "call -1\nexit\n",
     "wrong.asm": "r0 = \n",
     "short.img": "1234567",
 }
 
-IMAGES = ["smallest", "index", "round", "itself"]
+IMAGES = ["smallest", "index", "full", "order", "round", "itself"]
 
 # The words, the status, and the line that helps; None where there is none.
 CASES = [
@@ -58,8 +63,11 @@ CASES = [
     ("harden smallest.img 0 out --notes beside --changes beside", 2, "OUT, --notes and --changes are names of their own"),
     ("harden smallest.img 0 out", 0, "shown to keep the meaning"),
     ("harden smallest.img 0 out --proved", 0, "shown to keep the meaning"),
-    ("harden index.img 128 out --padded", 0, "not shown to keep the meaning: M2 at slot 0"),
-    ("harden index.img 128 out --padded --proved", 1, "M2 of its notes; without --proved it is written, too"),
+    ("harden full.img 16 out --proved", 0, "shown to keep the meaning where the old program leaves the lowest 16 bytes of its frames alone"),
+    ("harden index.img 128 out --padded", 0, "shown to keep the meaning"),
+    ("harden index.img 128 out --padded --proved", 0, "shown to keep the meaning"),
+    ("harden order.img 16 out", 0, "not shown to keep the meaning: M5 at slot 3"),
+    ("harden order.img 16 out --proved", 1, "M5 of its notes; without --proved it is written, too"),
     ("harden itself.img 0 out", 1, None),
     ("follows smallest.img smallest.img smallest.cert 0", 1, None),
 ]

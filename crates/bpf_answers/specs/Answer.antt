@@ -26,6 +26,7 @@ use Rattle.bpf_harden_notes.specs.RefusalNumbers.{harden_number, harden_slot}
 use Rattle.bpf_harden_notes.specs.declared.error.HardenError.{HardenError}
 use Rattle.bpf_follows.specs.MismatchNumbers.{mismatch_number, mismatch_slot}
 use Rattle.bpf_follows.specs.declared.mismatch.Mismatch.{Mismatch}
+use Rattle.bpf_follows.specs.declared.notes.Bounds.{Bounds}
 use Rattle.bpf_follows_notes.specs.Refused.{refusal_number as notes_number, refusal_line as notes_line}
 use Rattle.bpf_follows_notes.specs.declared.error.NotesError.{NotesError}
 use Rattle.bpf_machine.specs.declared.outcome.Outcome.{Outcome}
@@ -44,9 +45,8 @@ pub data Answer : Type 0 where
   -- a program isn't hardened; or it is, and isn't shown to keep its meaning
   NotHardened : (error : HardenError) → Answer
   NotShown : (mismatch : Mismatch) → Answer
-  -- notes show that one image's program keeps the meaning of another's, on contexts of `length` bytes, for runs that come to no slot more
-  -- than `turns` times
-  Follows : (length turns : ℕ) → Answer
+  -- notes show that one image's program keeps the meaning of another's, on these contexts and for these runs
+  Follows : (bounds : Bounds) → Answer
   -- what is at the name of the old one or of the new one is no image, what is at the notes' name none; or they don't show it
   NoOld : (error : DecodeError) → Answer
   NoNew : (error : DecodeError) → Answer
@@ -82,7 +82,7 @@ status_of (NotCertified refusal) = 1
 status_of (NotProposed error) = 1
 status_of (NotHardened error) = 1
 status_of (NotShown mismatch) = 1
-status_of (Follows length turns) = 0
+status_of (Follows bounds) = 0
 status_of (NoOld error) = 1
 status_of (NoNew error) = 1
 status_of (NoNotes error) = 1
@@ -161,9 +161,17 @@ range_pieces least most = if nat_eq least most then decimal least ∷ [] else de
 abbrev pub yes_line : ℕ → ℕ → ℕ → List ℕ
 yes_line least most bound = concat (codes "yes length " ∷ (range_pieces least most ++ (codes " bound " ∷ decimal bound ∷ codes "\n" ∷ [])))
 
--- `yes length 16 turns 65536`
-abbrev pub follows_line : ℕ → ℕ → List ℕ
-follows_line length turns = concat (codes "yes length " ∷ decimal length ∷ codes " turns " ∷ decimal turns ∷ codes "\n" ∷ [])
+-- nothing where no byte is left alone, or ` untouched 32`
+abbrev pub untouched_pieces : ℕ → List (List ℕ)
+untouched_pieces untouched = if nat_eq untouched 0 then [] else codes " untouched " ∷ decimal untouched ∷ []
+
+-- where contexts are blocks the line says so last
+abbrev pub follows_end : Bool → List ℕ
+follows_end padded = if padded then codes " padded\n" else codes "\n"
+
+-- `yes length 16 turns 65536`, or `yes length 512 turns 65536 padded`
+abbrev pub follows_line : Bounds → List ℕ
+follows_line bounds = concat (codes "yes length " ∷ decimal bounds.length ∷ codes " turns " ∷ decimal bounds.turns ∷ (untouched_pieces bounds.untouched ++ (follows_end bounds.padded ∷ [])))
 
 -- `no context of 3 bytes, want 16`
 abbrev pub no_context_line : ℕ → ℕ → ℕ → List ℕ
@@ -183,7 +191,7 @@ text_of (NotCertified refusal) = refusal_line (codes "C") (check_number refusal)
 text_of (NotProposed error) = infer_refusal_line error
 text_of (NotHardened error) = refusal_line (codes "H") (harden_number error) at_slot (harden_slot error)
 text_of (NotShown mismatch) = refusal_line (codes "H") not_shown at_slot (mismatch_slot mismatch)
-text_of (Follows length turns) = follows_line length turns
+text_of (Follows bounds) = follows_line bounds
 text_of (NoOld error) = refusal_line (codes "E") (decode_number error) at_slot_of_old (decode_slot error)
 text_of (NoNew error) = refusal_line (codes "E") (decode_number error) at_slot_of_new (decode_slot error)
 text_of (NoNotes error) = refusal_line (codes "N") (notes_number error) at_line (notes_line error)

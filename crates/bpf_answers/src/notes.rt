@@ -3,7 +3,7 @@
 ghost use Rattle.std.specs.Prelude.{◌≡◌, IfOk, IfErr, MatchResult};
 ghost use Rattle.std.specs.String.{string_bytes};
 ghost use Rattle.bpf_insn.specs.Written.{AppendsBeginning};
-ghost use Rattle.bpf_answers.specs.Answer.{Says, text_of};
+ghost use Rattle.bpf_answers.specs.Answer.{Says, follows_end, text_of};
 ghost use Rattle.bpf_answers.specs.Answer.Answer.{Follows, NoNotes, NotFollowed};
 ghost use Rattle.bpf_answers.specs.Loaded.{TextAt, Tried};
 ghost use Rattle.bpf_answers.specs.Notes.{LoadsNotes, NotesFail, NotesRefused};
@@ -11,7 +11,7 @@ ghost use Rattle.bpf_answers.specs.Told.{OutputFails};
 
 use crate::failure::{DONE, Failure, say};
 use crate::refusal::refuse_at;
-use bpf_follows::{Mismatch, Place};
+use bpf_follows::{Bounds, Mismatch, Place};
 use bpf_follows_notes::{NotesError, read};
 use bpf_places::{PlaceError, Places, read_up_to};
 use std::alloc::{AllocError, Global};
@@ -87,26 +87,42 @@ pub fn refuse_match<'a, W: Write>(
     refuse_at(alloc, out, "M", mismatch.number(), " at slot ", slot)
 }
 
-/// The line of what notes show.
-fn line_of(alloc: Global, length: u32, turns: u32) -> Result<String, AllocError>
-    ensures { IfOk result (λ line. string_bytes line ≡ text_of (Follows length turns)) }
+/// The end of the line of what notes show: where contexts are blocks it says so.
+fn end_of(padded: bool) -> &'static str
+    ensures { result.now ≡ follows_end padded }
 {
-    format!(in alloc; "yes length {length} turns {turns}\n")
+    if padded { " padded\n" } else { "\n" }
 }
 
-/// Prints for which contexts, and how many turns, notes show that a meaning is kept; where that fails, standard output has a beginning of
-/// the line.
+/// The line of what notes show.
+fn line_of(alloc: Global, bounds: Bounds) -> Result<String, AllocError>
+    ensures { IfOk result (λ line. string_bytes line ≡ text_of (Follows bounds)) }
+{
+    let Bounds {
+        length,
+        padded,
+        turns,
+        untouched,
+    } = bounds;
+    let end = end_of(padded);
+    if untouched == 0 {
+        format!(in alloc; "yes length {length} turns {turns}{end}")
+    } else {
+        format!(in alloc; "yes length {length} turns {turns} untouched {untouched}{end}")
+    }
+}
+
+/// Prints for which contexts and runs notes show that a meaning is kept; where that fails, standard output has a beginning of the line.
 pub fn say_followed<'a, W: Write>(
     alloc: Global,
     out: &mut W,
-    length: u32,
-    turns: u32,
+    bounds: Bounds,
 ) -> Result<u8, Failure<'a>>
-    ensures ok { IfOk result (λ status. Says (Follows length turns) status (W.contents out.old) (W.contents out.new)) }
+    ensures ok { IfOk result (λ status. Says (Follows bounds) status (W.contents out.old) (W.contents out.new)) }
     ensures err { IfErr result OutputFails }
-    ensures begun { IfErr result (λ _. AppendsBeginning (W.contents out.old) (W.contents out.new) (text_of (Follows length turns))) }
+    ensures begun { IfErr result (λ _. AppendsBeginning (W.contents out.old) (W.contents out.new) (text_of (Follows bounds))) }
 {
-    let line = line_of(alloc, length, turns)?;
+    let line = line_of(alloc, bounds)?;
     say(out, line.as_str())?;
     Ok(DONE)
 }

@@ -1,6 +1,6 @@
 //! Whether a certificate's functions and labels fit each other and the program.
 
-ghost use Rattle.std.specs.Prelude.{◌≡◌, ◌||◌, ◌++◌, flat_map, option_map, option_copied, is_none, is_some, IsTrue};
+ghost use Rattle.std.specs.Prelude.{◌≡◌, ◌||◌, ◌++◌, find, flat_map, option_map, option_copied, is_none, is_some, IsTrue};
 ghost use Rattle.std.specs.List.{list_any};
 ghost use Rattle.bpf_insn.specs.Instruction.{insn_at};
 ghost use Rattle.bpf_state.specs.State.{tightened};
@@ -51,7 +51,8 @@ fn is_bad_term(label: &Label, tight: Option<&State>, term: &Term) -> bool
 fn bad_term(label: &Label, tight: Option<&State>) -> Option<Term>
     requires limited { IsTrue (is_limited_label (label_view label.now)) }
     requires state { option_copied tight ≡ tightened label.now.state }
-    ensures { is_some result ≡ list_any (is_bad_term (label_view label.now)) (label_view label.now).terms }
+    ensures some { is_some result ≡ list_any (is_bad_term (label_view label.now)) (label_view label.now).terms }
+    ensures first { result ≡ find (is_bad_term (label_view label.now)) (label_view label.now).terms }
 {
     let terms = label.budget.terms.as_slice();
     for term in terms {

@@ -1,6 +1,6 @@
 //! Whether a certificate fits the start of a program.
 
-ghost use Rattle.std.specs.Prelude.{◌≡◌, ◌++◌, map, not, is_some, option_map};
+ghost use Rattle.std.specs.Prelude.{◌≡◌, ◌++◌, map, not, is_some, Some, IfSome, option_map};
 ghost use Rattle.bpf_cert.specs.View.{function_view};
 ghost use Rattle.bpf_state.specs.State.{first_state};
 ghost use Rattle.bpf_state.specs.declared.condition.Condition.TheVariants.{Misshapen, OverBudget};
@@ -11,6 +11,7 @@ ghost use Rattle.bpf_safety.specs.Flaw.{at, fails, begins_elsewhere, begins_wron
 ghost use Rattle.bpf_safety.specs.Work.{compared_at_start};
 ghost use Rattle.bpf_check.specs.code.Counting.{compared};
 ghost use Rattle.bpf_check.specs.code.Least.{IsLeastIn};
+ghost use Rattle.bpf_check.specs.code.Standing.{budget_at_start};
 ghost use Rattle.bpf_check.specs.RefusalNumbers.{flaw_of};
 
 use crate::budget::greatest_budget;
@@ -54,7 +55,8 @@ fn starts_outside(certificate: &Index, start: &State, work: &mut Work) -> bool
 /// The greatest value of the budget at the start, if it is above the steps that are promised.
 fn most_over(certificate: &Index, start: &State) -> Option<i128>
     requires { start.now ≡ first_state certificate.now.least certificate.now.most }
-    ensures { is_some result ≡ starts_over_budget certificate.now }
+    ensures over { is_some result ≡ starts_over_budget certificate.now }
+    ensures most { IfSome result (λ most. budget_at_start certificate.now ≡ Some most) }
 {
     let Some(label) = label_at(certificate, 0) else {
         return None;
@@ -85,6 +87,7 @@ pub fn see_start(certificate: &Index, room: &mut State, work: &mut Work) -> Seen
     ensures elsewhere { result.is_elsewhere ≡ begins_elsewhere certificate.now.functions }
     ensures outside { result.is_outside ≡ some_passes (λ l. not (state_entails (first_state certificate.now.least certificate.now.most) l.state)) (label_at certificate.now 0) }
     ensures over { is_some result.over ≡ starts_over_budget certificate.now }
+    ensures most { IfSome result.over (λ most. budget_at_start certificate.now ≡ Some most) }
     ensures state { room.new ≡ first_state certificate.now.least certificate.now.most }
     ensures work { work.new ≡ compared (compared_at_start certificate.now) work.old }
 {

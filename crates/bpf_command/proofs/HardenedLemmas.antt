@@ -5,14 +5,13 @@ use Rattle.bpf_insn.specs.Instruction.{Instructions}
 use Rattle.bpf_insn.specs.Image.{IsProgram, image}
 use Rattle.bpf_follows.specs.declared.notes.Place.{Place}
 use Rattle.bpf_follows.specs.Laws.{MatchingKeepsMeaning}
-use Rattle.bpf_follows.specs.Matching.{Matches}
 use Rattle.bpf_follows_notes.specs.NotesText.{notes_text}
 use Rattle.bpf_request.specs.declared.hardening.Hardening.{Hardening}
 use Rattle.bpf_places.specs.Opened.{Opening}
 use Rattle.bpf_places.specs.Made.{Making}
 use Rattle.bpf_answers.specs.Answer.{Answer, Answered, Says}
 use Rattle.bpf_answers.specs.Loaded.{LoadsImage}
-use Rattle.bpf_command.specs.Hardened.{BothStand, HardenFails, HardenSays, Hardens, IsLeft, NotAllMade, NotBothPut, NotBothStand, Stands, Unput, bounds_of}
+use Rattle.bpf_command.specs.Hardened.{BothStand, HardenFails, HardenSays, Hardens, IsLeft, MatchesLeaving, NotAllMade, NotBothPut, NotBothStand, Stands, Unput, bounds_of}
 use Rattle.bpf_answers.specs.declared.failure.Failure.{Failure}
 use Rattle.bpf_answers.specs.declared.failure.Failure.TheVariants.{CannotRead, CannotWrite, NoMemory}
 use Rattle.bpf_answers.proofs.MadeLemmas.{put_says}
@@ -63,9 +62,9 @@ other_fault making old h new name (inr never) = never.3
 
 -- what was made of the program at the name, with notes that match where they are to
 pub made_of : {S : Type 0} (opening : Opening S) (old : S) (h : Hardening) (new : S) (program made : Instructions) (notes : List (Option Place)) → MatchingKeepsMeaning
-    → LoadsImage opening h.order old h.input.now new program → IsProgram made.list → (h.proved ≡ true → Matches program made notes (bounds_of h)) → Hardens opening old h new made notes
+    → LoadsImage opening h.order old h.input.now new program → IsProgram made.list → (h.proved ≡ true → MatchesLeaving h program made notes) → Hardens opening old h new made notes
 made_of opening old h new program made notes law loads is_program matches =
-    record { program = program; loads = loads; is_program = is_program; matches = matches; keeps = λ asked. law program made notes (bounds_of h) loads.is_image.program (matches asked) }
+    record { program = program; loads = loads; is_program = is_program; matches = matches; keeps = λ asked. let m = matches asked in (m.0, m.1, law program made notes (bounds_of h m.0) loads.is_image.program m.2) }
 
 pub all_stand : {S E : Type 0} (result : Result ℕ E) (known : Option (List ℕ)) (opening : Opening S) (making : Making S) (old : S) (h : Hardening) (between put new : S) (made : Instructions) (notes : List (Option Place)) (text : List ℕ)
     → Hardens opening old h between made notes → making between h.output.now (image made.order made.list) true put → IfSome h.notes (λ _. text ≡ notes_text notes)

@@ -1,8 +1,9 @@
 -- What is hardened, and what is put at the names of the answer.
-use Rattle.std.specs.Prelude.{◌≡◌, ◌⊎◌, ◌<◌, ℕ, List, true, false, Option, Some, None, IsSomeAnd, ⊤}
+use Rattle.std.specs.Prelude.{◌≡◌, ◌⊎◌, ◌<◌, ◌≤◌, ℕ, List, true, false, Option, Some, None, IsSomeAnd, ⊤}
 use Rattle.std.specs.Borrow.{Bor}
 use Rattle.bpf_insn.specs.Instruction.{Instructions, slots}
 use Rattle.bpf_insn.specs.Image.{IsProgram, image}
+use Rattle.bpf_insn.specs.Limits.{frame_bytes}
 use Rattle.bpf_follows.specs.declared.notes.Bounds.{Bounds}
 use Rattle.bpf_follows.specs.declared.notes.Place.{Place}
 use Rattle.bpf_follows.specs.Matching.{IsMismatch, Matches}
@@ -55,22 +56,29 @@ NotBothStand {S} making old h new =
 
 -- ---- both behind OUT
 
--- the contexts and the turns for which it is hardened
-abbrev pub bounds_of : Hardening → Bounds
-bounds_of h = record { length = h.length; turns = h.turns }
+-- the contexts and the turns for which it is hardened, and how many of the lowest bytes of each frame the old program has to leave to r10
+abbrev pub bounds_of : Hardening → ℕ → Bounds
+bounds_of h untouched = record { length = h.length; padded = h.padded; turns = h.turns; untouched = untouched }
 
--- What was made isn't shown to keep the meaning: for want of memory, or where it is asked for and notes don't match.
+-- the notes match, and what was made keeps the meaning of the program, where so many of these bytes are left
+abbrev pub MatchesLeaving : Hardening → Instructions → Instructions → List (Option Place) → Type 0
+MatchesLeaving h program made notes = (untouched : ℕ) × (untouched ≤ frame_bytes) × Matches program made notes (bounds_of h untouched)
+
+abbrev pub KeepsLeaving : Hardening → Instructions → Instructions → Type 0
+KeepsLeaving h program made = (untouched : ℕ) × (untouched ≤ frame_bytes) × KeepsMeaning program made (bounds_of h untouched)
+
+-- What was made isn't shown to keep the meaning: for want of memory, or where it is asked for and notes don't match, whatever bytes runs leave.
 abbrev pub IsUnshown : Instructions → Instructions → Hardening → Unshown → Type 0
 IsUnshown program made h NoSpace = ⊤
-IsUnshown program made h (Differs m) = (h.proved ≡ true) × ((notes : List (Option Place)) × IsMismatch program made notes (bounds_of h) m)
+IsUnshown program made h (Differs m) = (h.proved ≡ true) × ((notes : List (Option Place)) × IsMismatch program made notes (bounds_of h 0) m)
 
 -- The image is a program's, and what was made of it is a program; with `--proved` it keeps the meaning, since the notes match.
 pub record Hardens {S : Type 0} (opening : Opening S) (old : S) (h : Hardening) (new : S) (made : Instructions) (notes : List (Option Place)) : Type 0 where
   pub program : Instructions
   pub loads : LoadsImage opening h.order old h.input.now new program
   pub is_program : IsProgram made.list
-  pub matches : h.proved ≡ true → Matches program made notes (bounds_of h)
-  pub keeps : h.proved ≡ true → KeepsMeaning program made (bounds_of h)
+  pub matches : h.proved ≡ true → MatchesLeaving h program made notes
+  pub keeps : h.proved ≡ true → KeepsLeaving h program made
 
 -- OUT holds the image of the program that was made, and the texts stand at their names; or none of them is opened
 abbrev pub HardenSays : {S : Type 0} → Opening S → Making S → S → Hardening → S → Answer → Type 0

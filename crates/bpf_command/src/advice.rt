@@ -185,9 +185,29 @@ impl Display for Unshown {
     }
 }
 
-/// Tells that notes show that a hardened program keeps the meaning.
-pub(crate) fn after_proof<H: Aside>(aside: &H) {
-    tell_line(aside, "shown to keep the meaning")
+/// The runs for which a hardened program is shown to keep the meaning: those that leave so many of the lowest bytes of each frame to r10.
+#[derive(Clone, Copy)]
+struct Kept {
+    untouched: u32,
+}
+
+impl Display for Kept {
+    fn fmt<W: fmt::Write>(&self, f: &mut fmt::Formatter<W>) -> fmt::Result {
+        let untouched = self.untouched;
+        if untouched == 0 {
+            write!(f, "shown to keep the meaning")
+        } else {
+            write!(
+                f,
+                "shown to keep the meaning where the old program leaves the lowest {untouched} bytes of its frames alone"
+            )
+        }
+    }
+}
+
+/// Tells that notes show that a hardened program keeps the meaning, and for which runs.
+pub(crate) fn after_proof<H: Aside>(aside: &H, untouched: u32) {
+    tell_line(aside, Kept { untouched })
 }
 
 /// Tells what of the notes of a hardened program fails.

@@ -16,7 +16,7 @@ use Rattle.bpf_answers.specs.declared.failure.Failure.{Failure}
 use Rattle.bpf_answers.specs.declared.failure.Failure.TheVariants.{CannotRead}
 
 abbrev pub bounds_of : Following → Bounds
-bounds_of f = record { length = f.length; turns = f.turns }
+bounds_of f = record { length = f.length; padded = f.padded; turns = f.turns; untouched = f.untouched }
 
 -- Of two programs and the notes at a name: why the text is refused, what of the notes fails, or that they match, by which the new program
 -- keeps the meaning of the old one.
@@ -24,8 +24,8 @@ abbrev pub NotedSays : {S : Type 0} → Opening S → S → Following → S → 
 NotedSays opening old f new p q (NoNotes e) = NotesRefused opening old f.notes.now new e
 NotedSays opening old f new p q (NotFollowed m) =
     (notes : List (Option Place)) × LoadsNotes opening old f.notes.now new notes × IsMismatch p q notes (bounds_of f) m
-NotedSays opening old f new p q (Follows length turns) =
-    (length ≡ f.length) × (turns ≡ f.turns) × KeepsMeaning p q (bounds_of f)
+NotedSays opening old f new p q (Follows bounds) =
+    (bounds ≡ bounds_of f) × KeepsMeaning p q (bounds_of f)
     × ((notes : List (Option Place)) × LoadsNotes opening old f.notes.now new notes × Matches p q notes (bounds_of f))
 NotedSays opening old f new p q answer = ⊥
 

@@ -37,10 +37,12 @@ fn noted<'a, P: Places, W: Write>(
     };
     let bounds = Bounds {
         length: asked.length,
+        padded: asked.padded,
         turns: asked.turns,
+        untouched: asked.untouched,
     };
     match follows(old, new, &notes, bounds) {
-        Ok(()) => say_followed(alloc, out, asked.length, asked.turns),
+        Ok(()) => say_followed(alloc, out, bounds),
         Err(mismatch) => refuse_match(alloc, out, mismatch),
     }
 }
@@ -65,8 +67,8 @@ fn rewritten<'a, P: Places, W: Write>(
     }
 }
 
-/// Judges whether notes show that the program of one image keeps the meaning of another one's, and prints for which contexts and how many
-/// turns, or what fails first. Each name is judged before the next one is opened.
+/// Judges whether notes show that the program of one image keeps the meaning of another one's, and prints for which contexts and runs, or
+/// what fails first. Each name is judged before the next one is opened.
 pub fn followed<'a, P: Places, W: Write>(
     alloc: Global,
     places: &mut P,

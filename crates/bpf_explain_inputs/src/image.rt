@@ -10,26 +10,23 @@ use bpf_insn::{
 use std::io::{self, Write};
 use std::str::from_utf8;
 
-const NAMES: [&str; 5] = ["dst", "src", "offset", "imm", "the reserved bits"];
-
 /// E4: the fields that must be zero.
 fn tell_unused<W: Tell>(out: &mut W, fields: FieldSet) {
-    let wrong = [
-        fields.dst,
-        fields.src,
-        fields.offset,
-        fields.imm,
-        fields.reserved,
+    let named = [
+        ("dst", fields.dst),
+        ("src", fields.src),
+        ("offset", fields.offset),
+        ("imm", fields.imm),
+        ("the reserved bits", fields.reserved),
     ];
-    let mut comma = "";
-    for (index, name) in NAMES.iter().enumerate() {
-        if wrong.get(index).copied().unwrap_or(false) {
+    let (mut comma, mut used) = ("", "it");
+    for (name, is_wrong) in named {
+        if is_wrong {
             write!(out, "{comma}{name}");
+            used = if comma.is_empty() { "it" } else { "them" };
             comma = " and ";
         }
     }
-    let count = wrong.iter().filter(|is_wrong| **is_wrong).count();
-    let used = if count > 1 { "them" } else { "it" };
     write!(out, " must be zero: the instruction doesn't use {used}\n");
 }
 
@@ -135,16 +132,6 @@ fn tell_bytes<W: Tell>(out: &mut W, bytes: &[u8], fields: Fields) {
 
 // ---- the image
 
-/// Whether bytes begin as an ELF object does.
-fn is_elf(bytes: &[u8]) -> bool {
-    bytes.starts_with(b"\x7fELF")
-}
-
-/// Whether bytes begin as a certificate does.
-fn is_certificate(bytes: &[u8]) -> bool {
-    bytes.starts_with(b"bpfcert ")
-}
-
 /// Whether a byte stands in a text: printed, or a blank or an end of line.
 fn is_printed(byte: u8) -> bool {
     matches!(byte, b'\t' | b'\n' | b'\r') || byte >= 32 && byte != 127
@@ -155,54 +142,55 @@ fn is_text(bytes: &[u8]) -> bool {
     !bytes.is_empty() && bytes.iter().all(|byte| is_printed(*byte)) && from_utf8(bytes).is_ok()
 }
 
+/// What bytes are that begin as an ELF object or a certificate does, or are a text.
+fn likeness_of(bytes: &[u8]) -> Option<&'static str> {
+    let text = if bytes.starts_with(b"\x7fELF") {
+        "an ELF object and no image: take its code, as by llvm-objcopy -O binary -j .text IN OUT"
+    } else if bytes.starts_with(b"bpfcert ") {
+        "a certificate and no image: the image comes first, and behind it its certificate"
+    } else if is_text(bytes) {
+        "a text and no image: assemble it, as by bpf asm IN OUT"
+    } else {
+        return None;
+    };
+    Some(text)
+}
+
 /// Tells what bytes are that are no image in a byte order, where they look like something else.
 fn tell_likeness<W: Tell>(out: &mut W, order: Order, bytes: &[u8]) {
-    if is_elf(bytes) {
-        write!(
-            out,
-            "these bytes are an ELF object and no image: take its code, as by llvm-objcopy -O binary -j .text IN OUT\n"
-        );
-    } else if is_certificate(bytes) {
-        write!(
-            out,
-            "these bytes are a certificate and no image: the image comes first, and behind it its certificate\n"
-        );
-    } else if is_text(bytes) {
-        write!(
-            out,
-            "these bytes are a text and no image: assemble it, as by bpf asm IN OUT\n"
-        );
+    if let Some(likeness) = likeness_of(bytes) {
+        write!(out, "these bytes are {likeness}\n");
     }
-    match order {
-        Order::Little if ProgramView::of(bytes, Order::Big).is_ok() => write!(
+    let (other, name, remedy) = match order {
+        Order::Little => (Order::Big, "big", "try --big"),
+        Order::Big => (Order::Little, "little", "leave --big out"),
+    };
+    if ProgramView::of(bytes, other).is_ok() {
+        write!(
             out,
-            "in big-endian order these bytes are an image: try --big\n"
-        ),
-        Order::Big if ProgramView::of(bytes, Order::Little).is_ok() => write!(
-            out,
-            "in little-endian order these bytes are an image: leave --big out\n"
-        ),
-        _ => {}
+            "in {name}-endian order these bytes are an image: {remedy}\n"
+        );
     }
 }
 
 /// E1: what is wrong with the number of bytes.
 fn tell_length<W: Tell>(out: &mut W, length: usize) {
+    write!(out, "E1: ");
     if length == 0 {
         write!(
             out,
-            "E1: there are no bytes: an image has at least one slot of 8 bytes\n"
+            "there are no bytes: an image has at least one slot of 8 bytes\n"
         );
     } else if length > MAX_IMAGE {
         // Who reads a longer image may have stopped behind so many bytes.
         write!(
             out,
-            "E1: more than {MAX_IMAGE} bytes: an image has at most {MAX_SLOTS} slots of 8 bytes\n"
+            "more than {MAX_IMAGE} bytes: an image has at most {MAX_SLOTS} slots of 8 bytes\n"
         );
     } else {
         write!(
             out,
-            "E1: {length} bytes are no multiple of 8, the size of a slot\n"
+            "{length} bytes are no multiple of 8, the size of a slot\n"
         );
     }
 }
@@ -233,27 +221,19 @@ fn tell_slot<W: Tell>(out: &mut W, order: Order, bytes: &[u8], slot: u32, fault:
 /// What leads from a slot: `jumps to`, and the slot there.
 fn lead_of(insn: Insn, slot: u32) -> Option<(&'static str, i64)> {
     let by = i64::from(insn.distance()?);
-    let verb = if matches!(insn, Insn::CallLocal { .. }) {
-        "calls"
-    } else {
-        "jumps to"
-    };
+    let is_call = matches!(insn, Insn::CallLocal { .. });
+    let verb = if is_call { "calls" } else { "jumps to" };
     Some((verb, i64::from(slot).saturating_add(1).saturating_add(by)))
 }
 
 /// Where a jump leads that leads to no instruction.
 fn tell_lead<W: Tell>(out: &mut W, slots: usize, slot: u32, verb: &str, to: i64) {
+    write!(out, "E8 at slot {slot}: {verb} slot {to}, ");
     if to < 0 || to >= i64::try_from(slots).unwrap_or(0) {
         let last = slots.saturating_sub(1);
-        write!(
-            out,
-            "E8 at slot {slot}: {verb} slot {to}, outside of the program's slots, 0 to {last}\n"
-        );
+        write!(out, "outside of the program's slots, 0 to {last}\n");
     } else {
-        write!(
-            out,
-            "E8 at slot {slot}: {verb} slot {to}, which is the second slot of a 64-bit constant\n"
-        );
+        write!(out, "which is the second slot of a 64-bit constant\n");
     }
 }
 

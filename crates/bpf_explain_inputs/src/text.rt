@@ -94,12 +94,7 @@ fn no_label<'a>(stop: &Stop<'a>) -> Option<&'a [u8]> {
 
 /// Whether the name of a label begins one of some endings.
 fn has_name(endings: &[(Item, &'static str)]) -> bool {
-    for (item, _) in endings {
-        if matches!(*item, Item::Name) {
-            return true;
-        }
-    }
-    false
+    endings.iter().any(|(item, _)| matches!(*item, Item::Name))
 }
 
 /// Whether an ending is told beside the one in front of it: of those that begin with one item the first is; where a name may
@@ -194,11 +189,8 @@ fn tell_excess<'a, W: Tell>(
     number: &[u8],
 ) {
     let column = column_of(line, stop.rest);
-    let sign = if last_token(&stop.front) == b"-".as_slice() {
-        "minus "
-    } else {
-        ""
-    };
+    let is_negative = last_token(&stop.front) == b"-".as_slice();
+    let sign = if is_negative { "minus " } else { "" };
     let number = Word(number);
     write!(out, ", column {column}: {sign}{number} is out of its range");
     match range_behind(alloc, &stop.front) {

@@ -2,18 +2,8 @@
 
 use crate::control::Control;
 use bpf_infer_base::PlaceSet;
-use bpf_insn::{Insn, Reg};
-use bpf_state::{RegState, State};
-
-/// The first register that is read and of which nothing is known.
-pub fn unknown_register(insn: &Insn, state: &State) -> Option<Reg> {
-    for reg in insn.registers_read().into_iter().flatten() {
-        if let RegState::Any = state.reg(reg) {
-            return Some(reg);
-        }
-    }
-    None
-}
+use bpf_insn::Insn;
+use bpf_state::State;
 
 /// The places that may not be the same behind an instruction as in a state in front of it.
 pub fn places_written(insn: &Insn, state: &State) -> PlaceSet {

@@ -1,6 +1,5 @@
 //! The flaws at a slot, told in the order of their numbers.
 
-use crate::effects::unknown_register;
 use crate::flaws::CONDITIONS;
 use crate::known::Spelled;
 use crate::listing::{write_edges, write_function, write_instruction, write_label};
@@ -15,7 +14,7 @@ use bpf_cert::MAX_FUNCTIONS;
 use bpf_check::{Index, Refusal, SeenLabel, SeenStart, Standing, standing_at};
 use bpf_explain_page::Tell;
 use bpf_insn::Code;
-use bpf_state::{Condition, State, StateFault};
+use bpf_state::{Condition, State, StateFault, unset_register};
 
 /// What is written of a program.
 #[derive(Clone, Copy, PartialEq, Eq)]
@@ -149,7 +148,7 @@ impl<'t> Report<'t> {
         certificate: &Index,
         sight: &Sight<'a>,
     ) {
-        let Some(reg) = unknown_register(&sight.site.insn, &sight.before) else {
+        let Some(reg) = unset_register(&sight.site.insn, &sight.before) else {
             return;
         };
         let handings = match self.handings.take() {

@@ -10,13 +10,14 @@ use Rattle.bpf_insn.specs.Instruction.{register_number}
 use Rattle.bpf_insn.specs.declared.order.Order.{Order}
 use Rattle.bpf_semantics.specs.State.{Cell, StackFrame, State}
 use Rattle.bpf_semantics.specs.declared.value.Value.{Value}
-use Rattle.bpf_semantics.specs.declared.value.Value.TheVariants.{Number}
+use Rattle.bpf_semantics.specs.declared.value.Value.TheVariants.{Number, Pointer}
+use Rattle.bpf_semantics.specs.declared.value.Region.TheVariants.{Frame as FrameAt}
 use Rattle.bpf_follows.specs.declared.notes.Area.TheVariants.{Given, Own}
 use Rattle.bpf_follows.specs.declared.notes.Kind.{Kind}
-use Rattle.bpf_follows.specs.declared.notes.Kind.TheVariants.{Unset, Same, Number as NumberKind, Natural, Offset, Fixed, Within, Start, Base, Moved, Constant, Counter, Alone, Returns, Both}
+use Rattle.bpf_follows.specs.declared.notes.Kind.TheVariants.{Unset, Same, Number as NumberKind, Natural, Inner, Length, Offset, Fixed, Within, Start, Head, Base, Moved, Constant, Counter, Alone, Returns, Both}
 use Rattle.bpf_follows.specs.declared.notes.Place.{Place}
 use Rattle.bpf_follows.specs.Areas.{same_area}
-use Rattle.bpf_follows.specs.Relation.{Kinds, places, Gives, weaker, most_natural, is_free, kinds_of, place_at, HasOffset, IsWithin, as_offset, register_in, FitsKind, FitsSlot, FrameFits, Follows}
+use Rattle.bpf_follows.specs.Relation.{Past, Kinds, places, Gives, weaker, natural_top, is_free, kinds_of, place_at, HasOffset, IsWithin, as_offset, register_in, FitsKind, FitsSlot, FrameFits, Follows}
 use Rattle.bpf_follows.specs.Matching.{Arrives}
 use Rattle.bpf_semantics.proofs.NumberLemmas.{modulo_below}
 use Rattle.bpf_follows.proofs.Slots.{register_below, unset_kept, free_unset, both_hold}
@@ -30,7 +31,7 @@ both_true false b e = absurd (false≢true e)
 pub plus_zero : (z : ℤ) → z ≡ z +ℤ pos 0
 plus_zero z = omega (arith, ints)
 
-module _ (ends : Order) (notes : List (Option Place)) (turns : ℕ) (passed : ℕ → ℕ) where
+module _ (ends : Order) (notes : List (Option Place)) (turns : ℕ) (passed : Past) where
   -- what is made of the new state follows the old one's successor
   pub record Arrived (u : State) (o : Option State) : Type 0 where
     pub state : State
@@ -75,12 +76,38 @@ module _ (ends : Order) (notes : List (Option Place)) (turns : ℕ) (passed : �
       let low_is = f.low in
       let high_is = f.high in
       record { number = f.number; low = omega arith; high = omega arith; old_is = f.old_is; new_is = f.new_is }
-  kind_weaker old r (NumberKind least most) Natural new lt e f =
-      let small = leb-true most most_natural (both_true (nat_lt r 11) (nat_le most most_natural) e).1 in
+  kind_weaker old r (NumberKind least most) (Natural half) new lt e f =
+      let small = leb-true most (natural_top half) (both_true (nat_lt r 11) (nat_le most (natural_top half)) e).1 in
       let high = f.high in
       record { number = f.number; low = omega arith; high = omega arith; old_is = f.old_is; new_is = f.new_is }
-  kind_weaker old r Natural Both new lt e f = record { value = Number f.number; old_is = f.old_is; new_is = f.new_is }
-  kind_weaker old r Natural Same new lt e f = λ v ev. f.new_is ∙ (sym f.old_is ∙ ev)
+  kind_weaker old r (Natural half) (Natural more) new lt e f =
+      let below = leb-true half more e in
+      let high = f.high in
+      record { number = f.number; low = omega arith; high = omega arith; old_is = f.old_is; new_is = f.new_is }
+  kind_weaker old r (Natural half) Both new lt e f = record { value = Number f.number; old_is = f.old_is; new_is = f.new_is }
+  kind_weaker old r (Natural half) Same new lt e f = λ v ev. f.new_is ∙ (sym f.old_is ∙ ev)
+  kind_weaker old r (Inner least most) (Inner low high) new lt e f =
+      let h = both_true (nat_le low least) (nat_le most high) e in
+      let above = leb-true low least h.0 in
+      let below = leb-true most high h.1 in
+      let low_is = f.low in
+      let high_is = f.high in
+      record { frame = f.frame; offset = f.offset; own_is = f.own_is; old_is = f.old_is; new_is = f.new_is; low = omega (arith, ints); high = omega (arith, ints) }
+  kind_weaker old r (Inner least most) Both new lt e f = record { value = Pointer (FrameAt f.frame) f.offset; old_is = f.old_is; new_is = f.new_is }
+  kind_weaker old r (Inner least most) Same new lt e f = λ v ev. f.new_is ∙ (sym f.old_is ∙ ev)
+  kind_weaker old r Head Base new lt e f = f.1
+  kind_weaker old r (Length most) (Length high) new lt e f =
+      let more = leb-true most high (both_true (nat_lt r 11) (nat_le most high) e).1 in
+      let few = f.is.0 in
+      record { size = f.size; packet_is = f.packet_is; short = f.short; is = (omega arith, f.is.1, f.is.2) }
+  kind_weaker old r (Length most) (NumberKind low high) new lt e f =
+      let h = both_true (low == 0) (nat_le most high) (both_true (nat_lt r 11) (low == 0 && nat_le most high) e).1 in
+      let none : low ≡ 0 = eqb-true low 0 h.0 in
+      let more = leb-true most high h.1 in
+      let few = f.is.0 in
+      record { number = f.size; low = omega arith; high = omega arith; old_is = f.is.1; new_is = f.is.2 }
+  kind_weaker old r (Length most) Both new lt e f = record { value = Number f.size; old_is = f.is.1; new_is = f.is.2 }
+  kind_weaker old r (Length most) Same new lt e f = λ v ev. f.is.2 ∙ (sym f.is.1 ∙ ev)
   kind_weaker old r (NumberKind least most) Both new lt e f = record { value = Number f.number; old_is = f.old_is; new_is = f.new_is }
   kind_weaker old r Both Same new lt e f = λ v ev. f.new_is ∙ (sym f.old_is ∙ ev)
   kind_weaker old r (NumberKind least most) Same new lt e f = λ v ev. f.new_is ∙ (sym f.old_is ∙ ev)
@@ -116,9 +143,18 @@ module _ (ends : Order) (notes : List (Option Place)) (turns : ℕ) (passed : �
       let low_is = f.low in
       let high_is = f.high in
       record { number = f.number; low = omega arith; high = omega arith; old_is = f.old_is; new_is = f.new_is }
-  slot_weaker registers xs ys k (NumberKind least most) Natural e f = let low = ltb-true (11 + k) 11 (both_true (nat_lt (11 + k) 11) (nat_le most most_natural) e).0 in absurd (omega arith)
-  slot_weaker registers xs ys k Natural Both e f = absurd f
-  slot_weaker registers xs ys k Natural Same e f = absurd f
+  slot_weaker registers xs ys k (NumberKind least most) (Natural half) e f = let low = ltb-true (11 + k) 11 (both_true (nat_lt (11 + k) 11) (nat_le most (natural_top half)) e).0 in absurd (omega arith)
+  slot_weaker registers xs ys k (Natural half) (Natural more) e f = absurd f
+  slot_weaker registers xs ys k (Natural half) Both e f = absurd f
+  slot_weaker registers xs ys k (Natural half) Same e f = absurd f
+  slot_weaker registers xs ys k (Inner least most) (Inner low high) e f = absurd f
+  slot_weaker registers xs ys k (Inner least most) Both e f = absurd f
+  slot_weaker registers xs ys k (Inner least most) Same e f = absurd f
+  slot_weaker registers xs ys k Head Base e f = absurd f
+  slot_weaker registers xs ys k (Length most) (Length high) e f = absurd f
+  slot_weaker registers xs ys k (Length most) (NumberKind low high) e f = absurd f
+  slot_weaker registers xs ys k (Length most) Both e f = absurd f
+  slot_weaker registers xs ys k (Length most) Same e f = absurd f
   slot_weaker registers xs ys k (NumberKind least most) Both e f = let low = ltb-true (11 + k) 11 e in absurd (omega arith)
   slot_weaker registers xs ys k Both Same e f = absurd f
   slot_weaker registers xs ys k (NumberKind least most) Same e f = both_hold ends xs ys k (Number f.number) f.old_is f.new_is

@@ -5,13 +5,13 @@ use Rattle.std.specs.Int.{w16, w64}
 use Rattle.std.specs.Option.{option_map_or}
 use Rattle.std.specs.Ordering.{int_eq}
 use Rattle.std.proofs.lemmas.Option.{none-some, same_Some, option_and_then_some}
-use Rattle.std.proofs.lemmas.Bool.{false≢true, eqb-true, cases_Bool}
+use Rattle.std.proofs.lemmas.Bool.{false≢true, eqb-true, and_right, cases_Bool}
 use Rattle.std.proofs.lemmas.Bool.Decides.{Decides-int_eq}
 use Rattle.std.proofs.lemmas.Int.{ints}
 use Rattle.bpf_insn.specs.Limits.{frame_bytes}
 use Rattle.bpf_insn.specs.Arithmetic.{extended}
 use Rattle.bpf_insn.specs.Effects.{Access, access_of}
-use Rattle.bpf_insn.specs.Instruction.{register_number, byte_count}
+use Rattle.bpf_insn.specs.Instruction.{register_number, byte_count, slot_count, goes_on}
 use Rattle.bpf_insn.specs.declared.order.Order.{Order}
 use Rattle.bpf_insn.specs.declared.instruction.Reg.{Reg}
 use Rattle.bpf_insn.specs.declared.instruction.Size.{Size}
@@ -32,20 +32,23 @@ use Rattle.bpf_follows.specs.declared.notes.Kind.{Kind}
 use Rattle.bpf_follows.specs.declared.notes.Kind.TheVariants.{Same, Fixed, Address}
 use Rattle.bpf_follows.specs.declared.notes.Place.{Place}
 use Rattle.bpf_follows.specs.Areas.{origin, is_own, same_area, IsInto}
-use Rattle.bpf_follows.specs.Relation.{Kinds, as_pointer, FitsKind, register_in, is_alone}
-use Rattle.bpf_follows.specs.Numbers.{loaded_number, number_kind}
+use Rattle.bpf_follows.specs.Relation.{Past, Kinds, as_pointer, FitsKind, register_in, is_alone}
+use Rattle.bpf_follows.specs.Numbers.{loaded_number, number_kind, told}
 use Rattle.bpf_follows.specs.Extras.{is_same, is_r10, base_of, slot_of}
+use Rattle.bpf_follows.specs.Inner.{is_inner, is_beside, misses}
 use Rattle.bpf_follows.specs.Exact.{exact_kind, may_fall}
-use Rattle.bpf_follows.specs.Matching.{IsTame, is_far, fills_slot, slot_kind, slot_whole, by_kinds, is_based, are_same_place, place_area, is_same_place, IsSafe, ByAddress, kinds_after}
+use Rattle.bpf_follows.specs.Matching.{IsTame, is_far, fills_slot, slot_kind, slot_whole, by_kinds, is_based, are_same_place, place_area, is_same_place, IsSafe, is_near, ByAddress, is_changed, held, kinds_after}
 use Rattle.bpf_follows.specs.declared.site.Span.{Span}
 use Rattle.bpf_follows.proofs.Lists.{bind, unmapped, same_is_kept}
 use Rattle.bpf_follows.proofs.Owns.{Owns}
 use Rattle.bpf_follows.proofs.Has.{area_same}
 use Rattle.bpf_follows.proofs.Offsets.{wrapped_near, fits_64}
-use Rattle.bpf_follows.proofs.Between.{is_double, Between, Goes, goes_as, same_depth, location_same, PointersKept, pointers_kept, load_kept, load_extended_kept}
+use Rattle.bpf_follows.proofs.Between.{is_double, Between, Goes, goes_as, goes_alike, same_depth, location_same, PointersKept, pointers_kept, load_kept, load_extended_kept}
 use Rattle.bpf_follows.proofs.Known.{load_own, load_known}
 use Rattle.bpf_follows.proofs.Instruction.{both_true, register_kept, put_as, store_at, Arrived, arrived, FallArrives, is_flow}
-use Rattle.bpf_follows.proofs.Onward.{room, placed, LieIn, access_in}
+use Rattle.bpf_follows.proofs.Frames.{or_false}
+use Rattle.bpf_follows.proofs.InnerStore.{stores_inner, inner_store, no_beside, store_hits}
+use Rattle.bpf_follows.proofs.Onward.{floor, room, placed, LieIn, all_rooms, access_in, in_all}
 use Rattle.bpf_follows.proofs.Extra.{base_at}
 use Rattle.bpf_follows.proofs.OffsetInsn.{fits_in}
 
@@ -55,7 +58,7 @@ abbrev span_at : ℤ → ℕ → Span
 span_at off k = record { from = off; to = off +ℤ pos k }
 
 -- what an access finds is near
-near_place : (region : Region) (bytes : ℕ) (offset off : ℤ) (k : ℕ) → bytes < 2 ^ 32 → LieIn (room bytes region) (placed region offset) (span_at off k) → (negsuc (2 ^ 32) ≤ℤ (offset +ℤ off)) × ((offset +ℤ off) ≤ℤ pos (2 ^ 32))
+near_place : (region : Region) (bytes : ℕ) (offset off : ℤ) (k : ℕ) → bytes < 2 ^ 32 → LieIn (floor (all_rooms bytes) region) (room (all_rooms bytes) region) (placed region offset) (span_at off k) → (negsuc (2 ^ 32) ≤ℤ (offset +ℤ off)) × ((offset +ℤ off) ≤ℤ pos (2 ^ 32))
 near_place Context bytes offset off k small l = let first = l.first in let last = l.last in (omega (arith, ints), omega (arith, ints))
 near_place (FrameAt n) bytes offset off k small l = let first = l.first in let last = l.last in (omega (arith, ints), omega (arith, ints))
 
@@ -75,13 +78,13 @@ based_is area r kind e = by_base_of (base_of r kind) refl e
     by_base_of None eo e = absurd (false≢true e)
     by_base_of (Some b) eo e = eo ∙ ap Some (area_same b area e)
 
-module _ (ends : Order) (notes : List (Option Place)) (turns : ℕ) (passed : ℕ → ℕ) where
+module _ (ends : Order) (notes : List (Option Place)) (turns : ℕ) (passed : Past) where
   -- the new machine's access goes to the same place, and where that isn't in the own frame, a pointer there is kept
-  record SamePlace (s t : State) (old new : Access) (area : Area) (at : Location) : Type 0 where
-    value : Value
-    is : register t new.base ≡ Some value
-    there : location_of t (byte_count old.size) new.offset value ≡ Some at
-    kept : is_own area ≡ false → PointersKept ends notes turns passed s t at
+  pub record SamePlace (s t : State) (old new : Access) (area : Area) (at : Location) : Type 0 where
+    pub value : Value
+    pub is : register t new.base ≡ Some value
+    pub there : location_of t (byte_count old.size) new.offset value ≡ Some at
+    pub kept : is_own area ≡ false → PointersKept ends notes turns passed s t at
 
   -- a place of the context
   area_kept : (area : Area) (own : Option Value) (s t : State) (k : ℕ) (off offset : ℤ) (region : Region) (at : Location) → IsInto area own region → location_of s k off (Pointer region offset) ≡ Some at → is_own area ≡ false → PointersKept ends notes turns passed s t at
@@ -98,7 +101,7 @@ module _ (ends : Order) (notes : List (Option Place)) (turns : ℕ) (passed : �
   by_pointer : (kinds : Kinds) (s t : State) (k : ℕ) (o a b : ℤ) (region : Region) (offset : ℤ) (at : Location) → Between ends notes turns passed kinds s t → length s.context < 2 ^ 32 → location_of s k o (Pointer region offset) ≡ Some at → FitsSigned w16 b → a +ℤ b ≡ o
       → location_of t k b (as_pointer region (offset +ℤ a)) ≡ Some at
   by_pointer kinds s t k o a b region offset at h short e near sum =
-      let l = near_place region (length s.context) offset o k short (access_in s k (length s.context) o region offset at refl e) in
+      let l = near_place region (length s.context) offset o k short (access_in s k (all_rooms (length s.context)) o region offset at (in_all s k o (Pointer region offset) at e) e) in
       let z_is : offset +ℤ a ≡ (offset +ℤ o) -ℤ b = omega (arith, ints) in
       let fits : FitsSigned w64 (offset +ℤ a) = subst (λ z. FitsSigned w64 z) (sym z_is) (near_fits (offset +ℤ o) b l.0 l.1 near) in
       let same : wrapped (offset +ℤ a) ≡ offset +ℤ a = wrapped_near (offset +ℤ a) fits in
@@ -110,7 +113,7 @@ module _ (ends : Order) (notes : List (Option Place)) (turns : ℕ) (passed : �
   based : (offset c at a o : ℤ) → offset +ℤ c ≡ at → at +ℤ o ≡ c +ℤ a → pos 0 +ℤ a ≡ offset +ℤ o
   based offset c at a o e f = omega (arith, ints)
 
-  same_place : (kinds : Kinds) (s t : State) (old new : Access) (base : Value) (at : Location) → Between ends notes turns passed kinds s t → length s.context < 2 ^ 32 → FitsSigned w16 new.offset → is_same_place kinds old new ≡ true
+  pub same_place : (kinds : Kinds) (s t : State) (old new : Access) (base : Value) (at : Location) → Between ends notes turns passed kinds s t → length s.context < 2 ^ 32 → FitsSigned w16 new.offset → is_same_place kinds old new ≡ true
       → register s old.base ≡ Some base → location_of s (byte_count old.size) old.offset base ≡ Some at → SamePlace s t old new (place_area (kinds (register_number new.base)) (kinds (register_number old.base))) at
   same_place kinds s t old new base at b short near e eb el =
       by_kinds (kinds (register_number new.base)) (kinds (register_number old.base)) (fits_in ends notes turns passed kinds s t new.base b) (fits_in ends notes turns passed kinds s t old.base b) e
@@ -146,16 +149,35 @@ module _ (ends : Order) (notes : List (Option Place)) (turns : ℕ) (passed : �
   abbrev Lone : Insn → Type 0
   Lone i = is_far i ≡ true → is_alone notes ≡ false
 
+  far_apart : (kinds : Kinds) (r : Reg) → is_near kinds r ≡ false → (is_r10 r ≡ false) × (is_inner (kinds (register_number r)) ≡ false)
+  far_apart kinds r e = or_false (is_r10 r) (is_inner (kinds (register_number r))) e
+
+  -- an access that goes by another register is no store by a pointer that both have
+  pub outer_store : (kinds : Kinds) (i moved : Insn) → ByAddress kinds i moved → inner_store kinds i ≡ false
+  outer_store kinds i moved a =
+      ap (λ o. option_map_or (stores_inner kinds) o false) a.old_is
+      ∙ ap (λ inner. a.old.writes && (not a.old.reads && (not (is_r10 a.old.base) && inner))) (far_apart kinds a.old.base a.other).1
+      ∙ none a.old.writes a.old.reads (is_r10 a.old.base)
+    where
+      none : (w r b : Bool) → (w && (not r && (not b && false))) ≡ false
+      none true true b = refl
+      none true false true = refl
+      none true false false = refl
+      none false r b = refl
+
   -- a pointer that is loaded whole
-  pointers_there : (kinds : Kinds) (s t : State) (size : Size) (dst src : Reg) (off : ℤ) (area : Area) (at : Location) → Between ends notes turns passed kinds s t → is_r10 src ≡ false → (is_own area ≡ true → IsTame kinds (Load size dst src off)) → Lone (Load size dst src off)
+  pointers_there : (kinds : Kinds) (s t : State) (size : Size) (dst src : Reg) (off : ℤ) (area : Area) (at : Location) → Between ends notes turns passed kinds s t → is_near kinds src ≡ false → (is_own area ≡ true → IsTame kinds (Load size dst src off)) → Lone (Load size dst src off)
       → (is_own area ≡ false → PointersKept ends notes turns passed s t at) → is_double size ≡ true → PointersKept ends notes turns passed s t at
   pointers_there kinds s t DW dst src off area at b far tame lone kept e = by_cases (cases_Bool (is_own area))
     where
       is_far_load : is_far (Load DW dst src off) ≡ true
-      is_far_load = ap (λ c. not c && true) far
+      is_far_load = ap (λ c. not c && true) (far_apart kinds src far).0
+
+      hits : (k : ℕ) → misses kinds (Load DW dst src off) k ≡ false
+      hits k = and_right (not (is_r10 src)) (is_beside (kinds (register_number src)) (record { base = src; offset = off; size = DW; reads = true; writes = false }) k) (no_beside (kinds (register_number src)) (record { base = src; offset = off; size = DW; reads = true; writes = false }) k (far_apart kinds src far).1)
 
       by_cases : (is_own area ≡ true) ⊎ (is_own area ≡ false) → PointersKept ends notes turns passed s t at
-      by_cases (inl own) = pointers_kept ends notes turns passed kinds s t at b ((tame own).far is_far_load, lone is_far_load)
+      by_cases (inl own) = pointers_kept ends notes turns passed kinds s t at b ((λ k lt. (tame own).far is_far_load k lt (hits k)), lone is_far_load)
       by_cases (inr away) = kept away
   pointers_there kinds s t B dst src off area at b far tame lone kept e = absurd (false≢true e)
   pointers_there kinds s t H dst src off area at b far tame lone kept e = absurd (false≢true e)
@@ -166,36 +188,34 @@ module _ (ends : Order) (notes : List (Option Place)) (turns : ℕ) (passed : �
   or_own false b e = e
 
   -- an access by another register does the same
-  pub by_address : (order : Order) (i moved : Insn) (kinds : Kinds) (s t u : State) → IsState s → Owns s → Between ends notes turns passed kinds s t → length s.context < 2 ^ 32 → Lone i → ByAddress kinds i moved → FallArrives ends notes turns passed i (number_kind kinds i) kinds s.top.slot t.top.slot
-      → does order i s ≡ Some u → Arrived ends notes turns passed u (does order moved t)
+  pub address_goes : (order : Order) (i moved : Insn) (kinds : Kinds) (s t u : State) → IsState s → Owns s → Between ends notes turns passed kinds s t → length s.context < 2 ^ 32 → Lone i → ByAddress kinds i moved → does order i s ≡ Some u
+      → Goes ends notes turns passed (kinds_after i (number_kind kinds i) kinds) (s.top.slot + slot_count i) (t.top.slot + slot_count i) u (does order moved t)
   unfolding does
-  by_address order (Load size dst src off) moved kinds s t u state o b short lone a falls e =
+  address_goes order (Load size dst src off) moved kinds s t u state o b short lone a e =
       let old : Access = record { base = src; offset = off; size = size; reads = true; writes = false } in
       option_and_then_some _ (register s src) u e (λ base eb e1. option_and_then_some _ (location_of s (byte_count size) off base) u e1 (λ at ea e2. option_and_then_some _ (load order s size at) u e2 (λ v ev e3.
       let old_is : old ≡ a.old = same_Some _ _ a.old_is in
       let area : Area = place_area (kinds (register_number a.new.base)) (kinds (register_number src)) in
       let place : SamePlace s t old a.new (place_area (kinds (register_number a.new.base)) (kinds (register_number src))) at = same_place kinds s t old a.new base at b short a.near (subst (λ old. is_same_place kinds old a.new ≡ true) (sym old_is) a.same_place) eb ea in
       let safe : IsSafe kinds (Load size dst src off) old a.new = subst (λ old. IsSafe kinds (Load size dst src off) old a.new) (sym old_is) a.safe in
-      let far : is_r10 src ≡ false = ap (λ (x : Access). is_r10 x.base) old_is ∙ a.other in
+      let far : is_near kinds src ≡ false = ap (λ (x : Access). is_near kinds x.base) old_is ∙ a.other in
       let moved_is : Load size dst a.new.base a.new.offset ≡ moved = same_Some _ _ a.alike in
-      arrived ends notes turns passed _ _ _ u _
       (subst (λ m. Goes ends notes turns passed (kinds_after (Load size dst src off) (loaded_number size) kinds) (s.top.slot + 1) (t.top.slot + 1) u (does order m t)) moved_is
       (goes_as ends notes turns passed _ _ _ u _ _
       (bind _ (register t a.new.base) place.value _ place.is (bind _ (location_of t (byte_count size) a.new.offset place.value) at _ place.there (bind _ (load order t size at) v _
       (load_kept ends notes turns passed order kinds s t size at b (pointers_there kinds s t size dst src off (place_area (kinds (register_number a.new.base)) (kinds (register_number src))) at b far (λ own. safe.tame (or_own a.new.writes _ own)) lone place.kept) v ev) refl)))
-      (put_as ends notes turns passed kinds s t u (Load size dst src off) (loaded_number size) dst v v (λ q. refl) (load_own ends notes turns passed size) (load_known ends notes turns passed (register_in s.top 10) order s size at v state ev) b e3))) (falls refl))))
-  by_address order (LoadSx size dst src off) moved kinds s t u state o b short lone a falls e =
+      (put_as ends notes turns passed kinds s t u (Load size dst src off) (loaded_number size) dst v v (λ q. refl) (load_own ends notes turns passed size) (load_known ends notes turns passed (register_in s.top 10) order s size at v state ev) b e3))))))
+  address_goes order (LoadSx size dst src off) moved kinds s t u state o b short lone a e =
       let old : Access = record { base = src; offset = off; size = size; reads = true; writes = false } in
       option_and_then_some _ (register s src) u e (λ base eb e1. option_and_then_some _ (location_of s (byte_count size) off base) u e1 (λ at ea e2. option_and_then_some _ (load_extended order s size at) u e2 (λ v ev e3.
       let old_is : old ≡ a.old = same_Some _ _ a.old_is in
       let place = same_place kinds s t old a.new base at b short a.near (subst (λ old. is_same_place kinds old a.new ≡ true) (sym old_is) a.same_place) eb ea in
       let moved_is : LoadSx size dst a.new.base a.new.offset ≡ moved = same_Some _ _ a.alike in
-      arrived ends notes turns passed _ _ _ u _
       (subst (λ m. Goes ends notes turns passed (kinds_after (LoadSx size dst src off) Same kinds) (s.top.slot + 1) (t.top.slot + 1) u (does order m t)) moved_is
       (goes_as ends notes turns passed _ _ _ u _ _
       (bind _ (register t a.new.base) place.value _ place.is (bind _ (location_of t (byte_count size) a.new.offset place.value) at _ place.there (bind _ (load_extended order t size at) v _ (load_extended_kept ends notes turns passed order kinds s t size at b v ev) refl)))
-      (put_as ends notes turns passed kinds s t u (LoadSx size dst src off) Same dst v v (λ q. refl) refl (same_is_kept (Some v)) b e3))) (falls refl))))
-  by_address order (Store size dst off src) moved kinds s t u state o b short lone a falls e =
+      (put_as ends notes turns passed kinds s t u (LoadSx size dst src off) Same dst v v (λ q. refl) refl (same_is_kept (Some v)) b e3))))))
+  address_goes order (Store size dst off src) moved kinds s t u state o b short lone a e =
       let old : Access = record { base = dst; offset = off; size = size; reads = false; writes = true } in
       option_and_then_some _ (register s dst) u e (λ base eb e1. option_and_then_some _ (register s src) u e1 (λ v ev e2. option_and_then_some _ (location_of s (byte_count size) off base) u e2 (λ at ea e3.
       let old_is : old ≡ a.old = same_Some _ _ a.old_is in
@@ -203,12 +223,11 @@ module _ (ends : Order) (notes : List (Option Place)) (turns : ℕ) (passed : �
       let moved_is : Store size a.new.base a.new.offset src ≡ moved = same_Some _ _ a.alike in
       let writes : true ≡ a.new.writes = ap (λ (x : Access). x.writes) (same_Some _ _ (ap access_of moved_is ∙ a.new_is)) in
       let tame : IsTame kinds (Store size dst off src) = a.safe.tame (ap (λ w. w || is_own (place_area (kinds (register_number a.new.base)) (kinds (register_number a.old.base)))) (sym writes)) in
-      arrived ends notes turns passed _ _ _ u _
       (subst (λ m. Goes ends notes turns passed (kinds_after (Store size dst off src) Same kinds) (s.top.slot + 1) (t.top.slot + 1) u (does order m t)) moved_is
       (goes_as ends notes turns passed _ _ _ u _ _
       (bind _ (register t a.new.base) place.value _ place.is (bind _ (register t src) v _ (register_kept ends notes turns passed kinds s t src b a.safe.stored v ev) (bind _ (location_of t (byte_count size) a.new.offset place.value) at _ place.there refl)))
-      (store_at ends notes turns passed order (Store size dst off src) kinds s t u dst size off base v at refl refl refl b o (record { far = λ f. (tame.far f, lone f); near = tame.near }) eb ea e3))) (falls refl))))
-  by_address order (StoreImm size dst off imm) moved kinds s t u state o b short lone a falls e =
+      (store_at ends notes turns passed order (Store size dst off src) kinds s t u dst size off base v at refl refl refl b o (record { far = λ f. (tame.far f, lone f); near = tame.near }) (λ k. store_hits kinds old k refl (outer_store kinds _ moved a)) eb ea e3))))))
+  address_goes order (StoreImm size dst off imm) moved kinds s t u state o b short lone a e =
       let old : Access = record { base = dst; offset = off; size = size; reads = false; writes = true } in
       option_and_then_some _ (register s dst) u e (λ base eb e1. option_and_then_some _ (location_of s (byte_count size) off base) u e1 (λ at ea e3.
       let old_is : old ≡ a.old = same_Some _ _ a.old_is in
@@ -216,29 +235,44 @@ module _ (ends : Order) (notes : List (Option Place)) (turns : ℕ) (passed : �
       let moved_is : StoreImm size a.new.base a.new.offset imm ≡ moved = same_Some _ _ a.alike in
       let writes : true ≡ a.new.writes = ap (λ (x : Access). x.writes) (same_Some _ _ (ap access_of moved_is ∙ a.new_is)) in
       let tame : IsTame kinds (StoreImm size dst off imm) = a.safe.tame (ap (λ w. w || is_own (place_area (kinds (register_number a.new.base)) (kinds (register_number a.old.base)))) (sym writes)) in
-      arrived ends notes turns passed _ _ _ u _
       (subst (λ m. Goes ends notes turns passed (kinds_after (StoreImm size dst off imm) Same kinds) (s.top.slot + 1) (t.top.slot + 1) u (does order m t)) moved_is
       (goes_as ends notes turns passed _ _ _ u _ _
       (bind _ (register t a.new.base) place.value _ place.is (bind _ (location_of t (byte_count size) a.new.offset place.value) at _ place.there refl))
-      (store_at ends notes turns passed order (StoreImm size dst off imm) kinds s t u dst size off base (Number (extended imm)) at refl refl refl b o (record { far = λ f. (tame.far f, lone f); near = tame.near }) eb ea e3))) (falls refl)))
-  by_address order i moved kinds s t u state o b short lone a falls e = absurd (none-some _ a.alike)
+      (store_at ends notes turns passed order (StoreImm size dst off imm) kinds s t u dst size off base (Number (extended imm)) at refl refl refl b o (record { far = λ f. (tame.far f, lone f); near = tame.near }) (λ k. store_hits kinds old k refl (outer_store kinds _ moved a)) eb ea e3)))))
+  address_goes order i moved kinds s t u state o b short lone a e = absurd (none-some _ a.alike)
+
+  -- a load or store tells nothing of numbers, and goes on
+  untold : (i moved : Insn) (kinds : Kinds) → ByAddress kinds i moved → (goes_on i ≡ true) × (may_fall kinds i ≡ true) × ((r : ℕ) → told false i kinds r ≡ kinds r)
+  untold (Load size dst src off) moved kinds a = (refl, refl, λ r. refl)
+  untold (LoadSx size dst src off) moved kinds a = (refl, refl, λ r. refl)
+  untold (Store size dst off src) moved kinds a = (refl, refl, λ r. refl)
+  untold (StoreImm size dst off imm) moved kinds a = (refl, refl, λ r. refl)
+  untold i moved kinds a = absurd (none-some _ a.alike)
+
+  pub by_address : (order : Order) (i moved : Insn) (kinds : Kinds) (s t u : State) → IsState s → Owns s → Between ends notes turns passed kinds s t → length s.context < 2 ^ 32 → Lone i → ByAddress kinds i moved → FallArrives ends notes turns passed i (number_kind kinds i) kinds s.top.slot t.top.slot
+      → does order i s ≡ Some u → Arrived ends notes turns passed u (does order moved t)
+  by_address order i moved kinds s t u state o b short lone a falls e =
+      let h = untold i moved kinds a in
+      arrived ends notes turns passed _ _ _ u _
+      (goes_alike ends notes turns passed (kinds_after i (number_kind kinds i) kinds) (kinds_after i (number_kind kinds i) (told false i kinds)) _ _ u _ (λ r. ap (λ kind. if is_changed i r then number_kind kinds i else held i kind) (sym (h.2 r)))
+      (address_goes order i moved kinds s t u state o b short lone a e)) (falls h.0 h.1)
 
   -- only loads and stores go by other registers
-  pub goes_on_plainly : (i moved : Insn) (kinds : Kinds) → ByAddress kinds i moved → (is_flow i ≡ false) × ((may_fall kinds i ≡ true) × (by_kinds kinds i ≡ None))
+  pub goes_on_plainly : (i moved : Insn) (kinds : Kinds) → ByAddress kinds i moved → (is_flow i ≡ false) × (by_kinds kinds i ≡ None)
   goes_on_plainly (Load DW dst src off) moved kinds a = (
     refl,
-    (refl, ap (λ b. if b && is_same (kinds 10) then option_and_then (slot_whole kinds) (slot_of off) else None) (ap (λ (x : Access). is_r10 x.base) (same_Some _ _ a.old_is) ∙ a.other)),
+    ap (λ b. if b && is_same (kinds 10) then option_and_then (slot_whole kinds) (slot_of off) else None) (ap (λ (x : Access). is_r10 x.base) (same_Some _ _ a.old_is) ∙ (far_apart kinds a.old.base a.other).0),
   )
   goes_on_plainly (Store DW dst off src) moved kinds a = (
     refl,
-    (refl, ap (λ b. if (b && is_same (kinds 10)) && fills_slot (kinds (register_number src)) then option_map (λ k. slot_kind (kinds (register_number src))) (slot_of off) else None) (ap (λ (x : Access). is_r10 x.base) (same_Some _ _ a.old_is) ∙ a.other)),
+    ap (λ b. if (b && is_same (kinds 10)) && fills_slot (kinds (register_number src)) then option_map (λ k. slot_kind (kinds (register_number src))) (slot_of off) else None) (ap (λ (x : Access). is_r10 x.base) (same_Some _ _ a.old_is) ∙ (far_apart kinds a.old.base a.other).0),
   )
   goes_on_plainly (StoreImm DW dst off imm) moved kinds a = (
     refl,
-    (refl, ap (λ b. if b && is_same (kinds 10) then option_and_then (λ k. exact_kind (extended imm)) (slot_of off) else None) (ap (λ (x : Access). is_r10 x.base) (same_Some _ _ a.old_is) ∙ a.other)),
+    ap (λ b. if b && is_same (kinds 10) then option_and_then (λ k. exact_kind (extended imm)) (slot_of off) else None) (ap (λ (x : Access). is_r10 x.base) (same_Some _ _ a.old_is) ∙ (far_apart kinds a.old.base a.other).0),
   )
-  goes_on_plainly (Load size dst src off) moved kinds a = (refl, (refl, refl))
-  goes_on_plainly (LoadSx size dst src off) moved kinds a = (refl, (refl, refl))
-  goes_on_plainly (Store size dst off src) moved kinds a = (refl, (refl, refl))
-  goes_on_plainly (StoreImm size dst off imm) moved kinds a = (refl, (refl, refl))
+  goes_on_plainly (Load size dst src off) moved kinds a = (refl, refl)
+  goes_on_plainly (LoadSx size dst src off) moved kinds a = (refl, refl)
+  goes_on_plainly (Store size dst off src) moved kinds a = (refl, refl)
+  goes_on_plainly (StoreImm size dst off imm) moved kinds a = (refl, refl)
   goes_on_plainly i moved kinds a = absurd (none-some _ a.alike)

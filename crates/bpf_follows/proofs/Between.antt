@@ -24,7 +24,7 @@ use Rattle.bpf_semantics.specs.declared.value.Region.TheVariants.{Context, Frame
 use Rattle.bpf_follows.specs.declared.notes.Kind.{Kind}
 use Rattle.bpf_follows.specs.declared.notes.Kind.TheVariants.{Same}
 use Rattle.bpf_follows.specs.declared.notes.Place.{Place}
-use Rattle.bpf_follows.specs.Relation.{Kinds, kinds_waiting, IsKept, IsRead, EachPair, FitsKind, SlotKept, FitsSlot, FrameFits, FrameWaits, register_in, is_alone}
+use Rattle.bpf_follows.specs.Relation.{Past, Kinds, kinds_waiting, IsKept, IsRead, EachPair, FitsKind, SlotKept, FitsSlot, FrameFits, FrameWaits, register_in, is_alone}
 use Rattle.bpf_follows.specs.Matching.{is_changed, kinds_after, AllPlain}
 use Rattle.bpf_follows.proofs.Lists.{mapped, unmapped, cond_first, cond_second, same_is_kept, as_long, pairs_weaker, pair_at, pair_inside, pairs_set, pairs_drop, pairs_take, Cells, bytes_kept, pointer_kept, no_pointer, each_kept, bytes_keep, parts_keep}
 use Rattle.bpf_follows.proofs.Owns.{top_stack, waiting_with, waiting_stack, IsLive}
@@ -39,7 +39,7 @@ is_double _ = false
 
 -- ---- states
 
-module _ (ends : Order) (notes : List (Option Place)) (turns : ℕ) (passed : ℕ → ℕ) where
+module _ (ends : Order) (notes : List (Option Place)) (turns : ℕ) (passed : Past) where
   -- the running frames by kinds, wherever they stand; the waiting ones follow
   pub record Between (kinds : Kinds) (s t : State) : Type 0 where
     pub top : FrameFits ends turns passed kinds s.top t.top

@@ -16,9 +16,9 @@ use Rattle.bpf_semantics.specs.declared.value.Value.TheVariants.{Number, Pointer
 use Rattle.bpf_semantics.specs.declared.value.Region.TheVariants.{Frame as FrameAt}
 use Rattle.bpf_follows.specs.declared.notes.Area.TheVariants.{Given, Own}
 use Rattle.bpf_follows.specs.declared.notes.Kind.{Kind}
-use Rattle.bpf_follows.specs.declared.notes.Kind.TheVariants.{Nothing, Unset, Same, Number as NumberKind, Natural, Offset, Fixed, Within, Start, Base, Moved, Address, Constant, Counter, Turn, Alone, Returns, Both, Saved}
+use Rattle.bpf_follows.specs.declared.notes.Kind.TheVariants.{Nothing, Unset, Same, Number as NumberKind, Natural, Inner, Length, Sized, Ending, Head, Offset, Fixed, Within, Start, Base, Moved, Address, Constant, Counter, Turn, Alone, Returns, Both, Saved}
 use Rattle.bpf_follows.specs.declared.notes.Place.{Place}
-use Rattle.bpf_follows.specs.Relation.{Kinds, Gives, weaker, kinds_of, EachPair, FitsKind, FitsSlot, FrameFollows, FrameWaits, register_in, is_of_other, is_alone, places, place_at, received, kinds_waiting}
+use Rattle.bpf_follows.specs.Relation.{Past, Kinds, Gives, weaker, kinds_of, EachPair, FitsKind, FitsSlot, FrameFollows, FrameWaits, register_in, is_of_other, is_alone, places, place_at, received, kinds_waiting}
 use Rattle.bpf_follows.specs.Extras.{is_same}
 use Rattle.bpf_follows.specs.Matching.{held, handed, kinds_behind, kinds_beyond, kinds_called, AllPlain, Arrives}
 use Rattle.bpf_follows.proofs.Lists.{bind, mapped, cond_first, same_is_kept, pairs_same}
@@ -66,7 +66,12 @@ held_by_call off Nothing = refl
 held_by_call off Unset = refl
 held_by_call off Same = refl
 held_by_call off (NumberKind least most) = refl
-held_by_call off Natural = refl
+held_by_call off (Natural half) = refl
+held_by_call off (Inner least most) = refl
+held_by_call off (Length most) = refl
+held_by_call off (Sized most) = refl
+held_by_call off (Ending by) = refl
+held_by_call off Head = refl
 held_by_call off (Offset Given) = refl
 held_by_call off (Offset Own) = refl
 held_by_call off (Fixed Given at) = refl
@@ -90,7 +95,12 @@ own_held off Nothing = refl
 own_held off Unset = refl
 own_held off Same = refl
 own_held off (NumberKind least most) = refl
-own_held off Natural = refl
+own_held off (Natural half) = refl
+own_held off (Inner least most) = refl
+own_held off (Length most) = refl
+own_held off (Sized most) = refl
+own_held off (Ending by) = refl
+own_held off Head = refl
 own_held off (Offset Given) = refl
 own_held off (Offset Own) = refl
 own_held off (Fixed Given at) = refl
@@ -105,7 +115,7 @@ own_held off (Turn head) = refl
 own_held off Alone = refl
 own_held off (Returns least most) = refl
 
-module _ (ends : Order) (notes : List (Option Place)) (turns : ℕ) (passed : ℕ → ℕ) where
+module _ (ends : Order) (notes : List (Option Place)) (turns : ℕ) (passed : Past) where
   abbrev AllFit : Kinds → Registers → Registers → Type 0
   AllFit kinds xs ys = (r : ℕ) → r < 11 → FitsKind turns passed (λ q. get_or xs q None) r (kinds r) (get_or ys r None)
 
@@ -119,7 +129,12 @@ module _ (ends : Order) (notes : List (Option Place)) (turns : ℕ) (passed : �
   handed_fits old more r Unset new e f = fits_moved turns passed old more r r Unset new refl e f
   handed_fits old more r Same new e f = fits_moved turns passed old more r r Same new refl e f
   handed_fits old more r (NumberKind least most) new e f = fits_moved turns passed old more r r (NumberKind least most) new refl e f
-  handed_fits old more r Natural new e f = fits_moved turns passed old more r r Natural new refl e f
+  handed_fits old more r (Natural half) new e f = fits_moved turns passed old more r r (Natural half) new refl e f
+  handed_fits old more r (Inner least most) new e f = record { value = Pointer (FrameAt f.frame) f.offset; old_is = e ∙ f.old_is; new_is = f.new_is }
+  handed_fits old more r (Length most) new e f = fits_moved turns passed old more r r (Length most) new refl e f
+  handed_fits old more r (Sized most) new e f = fits_moved turns passed old more r r (Sized most) new refl e f
+  handed_fits old more r (Ending by) new e f = fits_moved turns passed old more r r (Ending by) new refl e f
+  handed_fits old more r Head new e f = fits_moved turns passed old more r r Head new refl e f
   handed_fits old more r (Offset Given) new e f = fits_moved turns passed old more r r (Offset Given) new refl e f
   handed_fits old more r (Fixed Given at) new e f = fits_moved turns passed old more r r (Fixed Given at) new refl e f
   handed_fits old more r (Within Given least most) new e f = fits_moved turns passed old more r r (Within Given least most) new refl e f
@@ -230,9 +245,16 @@ module _ (ends : Order) (notes : List (Option Place)) (turns : ℕ) (passed : �
   own_weaker r Start Same e own = refl
   own_weaker r Start Base e own = refl
   own_weaker r (Constant value) (Counter head) e own = refl
-  own_weaker r (NumberKind least most) Natural e own = refl
+  own_weaker r (NumberKind least most) (Natural half) e own = refl
   own_weaker r (NumberKind least most) Both e own = refl
-  own_weaker r Natural Both e own = refl
+  own_weaker r (Natural half) (Natural more) e own = refl
+  own_weaker r (Natural half) Both e own = refl
+  own_weaker r (Inner least most) (Inner low high) e own = absurd (false≢true (sym own))
+  own_weaker r (Inner least most) Both e own = refl
+  own_weaker r Head Base e own = refl
+  own_weaker r (Length most) (Length high) e own = refl
+  own_weaker r (Length most) (NumberKind low high) e own = refl
+  own_weaker r (Length most) Both e own = refl
   own_weaker r (NumberKind least most) (NumberKind low high) e own = refl
   own_weaker r Same Alone e own = refl
   own_weaker r Same (Returns least most) e own = refl

@@ -10,7 +10,7 @@ use Rattle.bpf_follows.specs.declared.notes.Area.{Area}
 use Rattle.bpf_follows.specs.declared.notes.Area.TheVariants.{Given, Own}
 use Rattle.bpf_follows.specs.contracts.notes.AreaPartialEq.TheImpl as area_eq
 use Rattle.bpf_follows.specs.declared.notes.Kind.{Kind}
-use Rattle.bpf_follows.specs.declared.notes.Kind.TheVariants.{Nothing, Unset, Same, Both, Number, Natural, Offset, Fixed, Within, Start, Base, Moved, Address, Saved, Constant, Counter, Turn, Alone, Returns}
+use Rattle.bpf_follows.specs.declared.notes.Kind.TheVariants.{Nothing, Unset, Same, Both, Number, Natural, Inner, Length, Sized, Ending, Head, Offset, Fixed, Within, Start, Base, Moved, Address, Saved, Constant, Counter, Turn, Alone, Returns}
 use Rattle.bpf_follows.specs.contracts.notes.KindPartialEq.TheImpl as kind_eq
 
 both_true : (a b : Bool) → (a && b) ≡ true → (a ≡ true) × (b ≡ true)
@@ -61,7 +61,14 @@ kind_same Both Both e = refl
 kind_same (Number a0 a1) (Number b0 b1) e =
     let h = both_true (a0 == b0) (a1 == b1) e in
     ap (λ x. Number x a1) (eqb-true a0 b0 h.0) ∙ ap (λ x. Number b0 x) (eqb-true a1 b1 h.1)
-kind_same Natural Natural e = refl
+kind_same (Natural a0) (Natural b0) e = ap Natural (eqb-true a0 b0 e)
+kind_same (Inner a0 a1) (Inner b0 b1) e =
+    let h = both_true (a0 == b0) (a1 == b1) e in
+    ap (λ x. Inner x a1) (eqb-true a0 b0 h.0) ∙ ap (λ x. Inner b0 x) (eqb-true a1 b1 h.1)
+kind_same (Length a0) (Length b0) e = ap Length (eqb-true a0 b0 e)
+kind_same (Sized a0) (Sized b0) e = ap Sized (eqb-true a0 b0 e)
+kind_same (Ending a0) (Ending b0) e = ap Ending (eqb-true a0 b0 e)
+kind_same Head Head e = refl
 kind_same (Offset a0) (Offset b0) e = ap Offset (area_same a0 b0 e)
 kind_same (Fixed a0 a1) (Fixed b0 b1) e =
     let h = both_true ((area_eq.ghosts).eq a0 b0) (int_eq a1 b1) e in
@@ -96,7 +103,12 @@ kind_self Unset = refl
 kind_self Same = refl
 kind_self Both = refl
 kind_self (Number a0 a1) = and_from _ _ ((Decides-eqb a0 a0).1 refl) ((Decides-eqb a1 a1).1 refl)
-kind_self Natural = refl
+kind_self (Natural a0) = (Decides-eqb a0 a0).1 refl
+kind_self (Inner a0 a1) = and_from _ _ ((Decides-eqb a0 a0).1 refl) ((Decides-eqb a1 a1).1 refl)
+kind_self (Length a0) = (Decides-eqb a0 a0).1 refl
+kind_self (Sized a0) = (Decides-eqb a0 a0).1 refl
+kind_self (Ending a0) = (Decides-eqb a0 a0).1 refl
+kind_self Head = refl
 kind_self (Offset a0) = area_self a0
 kind_self (Fixed a0 a1) = and_from _ _ (area_self a0) ((Decides-int_eq a1 a1).1 refl)
 kind_self (Within a0 a1 a2) = and_from _ _ (area_self a0) (and_from _ _ ((Decides-eqb a1 a1).1 refl) ((Decides-eqb a2 a2).1 refl))

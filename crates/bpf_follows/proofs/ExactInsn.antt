@@ -1,23 +1,22 @@
--- Registers that hold one number always: what instructions make of it is what the notes say, and a test goes the way that is told.
-use Rattle.std.proofs.Common.{◌≡◌, ℕ, ◌<◌, ◌≤◌, ◌%◌, ◌^◌, ◌==◌, Bool, true, false, List, Option, Some, None, refl, sym, ap, ap₂, ◌∙◌, subst, arith}
-use Rattle.std.specs.Prelude.{◌&&◌, ℤ, pos, ◌+ℤ◌, ◌-ℤ◌, nat_le, nat_lt, unsigned_abs, option_and_then, if◌then◌else◌}
+-- Registers that hold one number always: what instructions make of it is what the notes say.
+use Rattle.std.proofs.Common.{◌≡◌, ℕ, ◌<◌, ◌≤◌, ◌%◌, ◌^◌, Bool, true, false, List, Option, Some, None, refl, sym, ap, ap₂, ◌∙◌, subst, arith}
+use Rattle.std.specs.Prelude.{ℤ, pos, ◌+ℤ◌, ◌-ℤ◌, nat_le, nat_lt, unsigned_abs, option_and_then, if◌then◌else◌}
 use Rattle.std.specs.Option.{option_or}
 use Rattle.std.proofs.lemmas.Option.{none-some, same_Some, option_and_then_some}
-use Rattle.std.proofs.lemmas.Bool.{eqb-true, leb-true, ltb-true}
+use Rattle.std.proofs.lemmas.Bool.{leb-true, ltb-true}
 use Rattle.std.proofs.lemmas.Int.{ints}
-use Rattle.bpf_insn.specs.Arithmetic.{modulo, alu, low, extended, jumps}
+use Rattle.bpf_insn.specs.Arithmetic.{modulo, alu, low, extended}
 use Rattle.bpf_insn.specs.Instruction.{register_number, not_negative}
 use Rattle.bpf_insn.specs.declared.order.Order.{Order}
-use Rattle.bpf_insn.specs.declared.instruction.Operand.{Operand}
 use Rattle.bpf_insn.specs.declared.instruction.Operand.TheVariants.{Imm, Reg as FromReg}
 use Rattle.bpf_insn.specs.declared.instruction.Width.{Width}
 use Rattle.bpf_insn.specs.declared.instruction.Width.TheVariants.{W32, W64}
 use Rattle.bpf_insn.specs.declared.instruction.AluOp.{AluOp}
 use Rattle.bpf_insn.specs.declared.instruction.AluOp.TheVariants.{Add, Sub, Mov}
 use Rattle.bpf_insn.specs.declared.instruction.Insn.{Insn}
-use Rattle.bpf_insn.specs.declared.instruction.Insn.TheVariants.{Alu, JumpIf}
-use Rattle.bpf_semantics.specs.State.{State, IsState, register}
-use Rattle.bpf_semantics.specs.Step.{does, next, operand, alu_result, test_of_values, jump, same_region, wrapped}
+use Rattle.bpf_insn.specs.declared.instruction.Insn.TheVariants.{Alu, LoadImm64}
+use Rattle.bpf_semantics.specs.State.{State, register, put}
+use Rattle.bpf_semantics.specs.Step.{does, alu_result, same_region, wrapped, next}
 use Rattle.bpf_semantics.specs.declared.value.Value.{Value}
 use Rattle.bpf_semantics.specs.declared.value.Value.TheVariants.{Number, Pointer}
 use Rattle.bpf_semantics.specs.declared.value.Region.{Region}
@@ -26,36 +25,21 @@ use Rattle.bpf_follows.specs.declared.notes.Kind.{Kind}
 use Rattle.bpf_follows.specs.declared.notes.Kind.TheVariants.{Number as NumberKind, Offset, Fixed}
 use Rattle.bpf_follows.specs.declared.notes.Place.{Place}
 use Rattle.bpf_follows.specs.Areas.{origin, same_area, IsInto}
-use Rattle.bpf_follows.specs.Relation.{Kinds, IsFixed, FitsKind, as_number, register_in}
-use Rattle.bpf_follows.specs.Exact.{exactly, operand_exactly, farthest, fixed_at, exact_kind, alu_exactly, apart, alu_fixed, alu_of_kinds, by_exact, decided}
-use Rattle.bpf_follows.proofs.Lists.{bind, unmapped, cond_first}
+use Rattle.bpf_follows.specs.Relation.{Past, Kinds, IsFixed, FitsKind, as_number, register_in}
+use Rattle.bpf_follows.specs.Exact.{exactly, farthest, fixed_at, exact_kind, alu_exactly, apart, alu_fixed, alu_of_kinds, by_exact}
+use Rattle.bpf_follows.proofs.Lists.{unmapped, cond_first}
 use Rattle.bpf_follows.proofs.Has.{area_same}
 use Rattle.bpf_follows.proofs.Offsets.{up, up_from, apart as far_apart, wrapped_near}
-use Rattle.bpf_follows.proofs.Between.{Between}
-use Rattle.bpf_follows.proofs.Known.{told_between}
-use Rattle.bpf_follows.proofs.Instruction.{both_true, Arrived, arrived, tested, FallArrives, JumpArrives, redirect}
+use Rattle.bpf_follows.proofs.Between.{Between, goes_as}
+use Rattle.bpf_follows.proofs.Ways.{exact_has}
+use Rattle.bpf_follows.proofs.Instruction.{put_as, Arrived, arrived, FallArrives, redirect}
 use Rattle.bpf_follows.proofs.OffsetInsn.{cond_is, near_origin, Computes, moves_to, fits_in, alu_arrives}
 
 natural_is : (z : ℤ) (n : ℕ) → not_negative z ≡ Some n → z ≡ pos n
 natural_is (pos m) n e = ap pos (same_Some _ _ e)
 natural_is z n e = absurd (none-some _ e)
 
-module _ (ends : Order) (notes : List (Option Place)) (turns : ℕ) (passed : ℕ → ℕ) where
-  exact_has : (old : ℕ → Option Value) (r : ℕ) (kind : Kind) (new : Option Value) (n : ℕ) → exactly kind ≡ Some n → FitsKind turns passed old r kind new → (old r ≡ Some (Number n)) × (new ≡ Some (Number n))
-  exact_has old r (NumberKind least most) new n e f =
-      let c = cond_is (least == most && nat_lt most (2 ^ 32)) most n e in
-      let same = eqb-true least most (both_true (least == most) (nat_lt most (2 ^ 32)) c.0).0 in
-      let low = f.low in
-      let high = f.high in
-      let number : f.number ≡ most = omega arith in
-      let is : Some (Number f.number) ≡ Some (Number n) = ap (λ n. Some (Number n)) (number ∙ c.1) in
-      (f.old_is ∙ is, f.new_is ∙ is)
-  exact_has old r kind new n e f = absurd (none-some _ e)
-
-  operand_has : (kinds : Kinds) (s t : State) (src : Operand) (n : ℕ) → Between ends notes turns passed kinds s t → operand_exactly kinds src ≡ Some n → (operand s src ≡ Some (Number n)) × (operand t src ≡ Some (Number n))
-  operand_has kinds s t (Imm imm) n b e = let is : Some (Number (extended imm)) ≡ Some (Number n) = ap (λ n. Some (Number n)) (same_Some _ _ e) in (is, is)
-  operand_has kinds s t (FromReg r) n b e = exact_has (register_in s.top) (register_number r) (kinds (register_number r)) (register t r) n e (fits_in ends notes turns passed kinds s t r b)
-
+module _ (ends : Order) (notes : List (Option Place)) (turns : ℕ) (passed : Past) where
   -- ---- what is written
 
   number_made : (own : Option Value) (n : ℕ) (made : Kind) (v : Value) (o : Option Value) → exact_kind n ≡ Some made → Number n ≡ v → o ≡ Some (Number n) → Computes ends notes turns passed own made v o
@@ -68,7 +52,7 @@ module _ (ends : Order) (notes : List (Option Place)) (turns : ℕ) (passed : �
   exact_made W64 Mov kind b made old r new v e f ev = number_made (old 10) b made v _ e (same_Some _ _ ev) refl
   exact_made W32 Mov kind b made old r new v e f ev = number_made (old 10) (low W32 b) made v _ e (same_Some _ _ ev) refl
   exact_made width op kind b made old r new v e f ev = option_and_then_some (λ a. exact_kind (alu width op a b)) (exactly kind) made e (λ a ea em.
-      let h = exact_has old r kind new a ea f in
+      let h = exact_has ends notes turns passed old r kind new a ea f in
       number_made (old 10) (alu width op a b) made v _ em (same_Some _ _ (sym (ap (λ o. alu_result width op o (Number b)) h.0) ∙ ev)) (ap (λ o. alu_result width op o (Number b)) h.1))
 
   -- a pointer at an offset that is always the same, moved by a number
@@ -98,7 +82,7 @@ module _ (ends : Order) (notes : List (Option Place)) (turns : ℕ) (passed : �
       → old q ≡ Some x → alu_result width op (old p) x ≡ Some v → Computes ends notes turns passed (old 10) made v (option_and_then (alu_result width op new) more)
   fixed_made W64 Add (Fixed area at) (NumberKind least most) made old p q new more x v e f g ex ev =
       let m = unmapped (λ n. fixed_at area (at +ℤ pos n)) (exactly (NumberKind least most)) made e in
-      let h = exact_has old q (NumberKind least most) more m.0 m.1 g in
+      let h = exact_has ends notes turns passed old q (NumberKind least most) more m.0 m.1 g in
       let l = f.has in
       let x_is : x ≡ Number m.0 = same_Some _ _ (sym ex ∙ h.0) in
       let to : alu_result W64 Add (Some (Pointer l.region l.offset)) (Number m.0) ≡ Some v = ap₂ (λ o x. alu_result W64 Add o x) (sym l.old_is) (sym x_is) ∙ ev in
@@ -106,7 +90,7 @@ module _ (ends : Order) (notes : List (Option Place)) (turns : ℕ) (passed : �
       (offset_made (old 10) area l.region l.offset at m.0 _ v _ l.into f.is (same_Some _ _ to) (ap₂ (λ o m. option_and_then (alu_result W64 Add o) m) l.new_is h.1) (up l.offset (origin area +ℤ pos 0) m.0))
   fixed_made W64 Add (NumberKind least most) (Fixed area at) made old p q new more x v e f g ex ev =
       let m = unmapped (λ n. fixed_at area (at +ℤ pos n)) (exactly (NumberKind least most)) made e in
-      let h = exact_has old p (NumberKind least most) new m.0 m.1 f in
+      let h = exact_has ends notes turns passed old p (NumberKind least most) new m.0 m.1 f in
       let l = g.has in
       let x_is : x ≡ Pointer l.region l.offset = same_Some _ _ (sym ex ∙ l.old_is) in
       let to : alu_result W64 Add (Some (Number m.0)) (Pointer l.region l.offset) ≡ Some v = ap₂ (λ o x. alu_result W64 Add o x) (sym h.0) (sym x_is) ∙ ev in
@@ -139,7 +123,7 @@ module _ (ends : Order) (notes : List (Option Place)) (turns : ℕ) (passed : �
     where
       by_first : (o : Option Kind) → option_and_then (alu_exactly width op a) (exactly b) ≡ o → option_or o (alu_fixed width op a b) ≡ Some made → Computes ends notes turns passed (old 10) made v (option_and_then (alu_result width op new) more)
       by_first (Some kind) eo e = option_and_then_some (alu_exactly width op a) (exactly b) kind eo (λ n en ek.
-          let h = exact_has old q b more n en g in
+          let h = exact_has ends notes turns passed old q b more n en g in
           let x_is : x ≡ Number n = same_Some _ _ (sym ex ∙ h.0) in
           let c = exact_made width op a n made old p new v (ek ∙ e) f (ap (alu_result width op (old p)) (sym x_is) ∙ ev) in
           record { value = c.value; is = ap (option_and_then (alu_result width op new)) h.1 ∙ c.is; alone = c.alone; fits = c.fits })
@@ -152,34 +136,14 @@ module _ (ends : Order) (notes : List (Option Place)) (turns : ℕ) (passed : �
   exact_arrives order (Alu op width dst (Imm imm)) z made kinds s t u b e falls es = option_and_then_some _ (alu_result width op (register s dst) (Number (extended imm))) u es (λ v ev ep.
       arrived ends notes turns passed _ _ _ u _
       (alu_arrives ends notes turns passed order width op dst (Imm imm) made kinds s t u v b
-      (exact_made width op (kinds (register_number dst)) (extended imm) made (register_in s.top) (register_number dst) (register t dst) v e (fits_in ends notes turns passed kinds s t dst b) ev) ep) (falls refl))
+      (exact_made width op (kinds (register_number dst)) (extended imm) made (register_in s.top) (register_number dst) (register t dst) v e (fits_in ends notes turns passed kinds s t dst b) ev) ep) (falls refl refl))
   exact_arrives order (Alu op width dst (FromReg src)) z made kinds s t u b e falls es = option_and_then_some _ (register s src) u es (λ x ex e1. option_and_then_some _ (alu_result width op (register s dst) x) u e1 (λ v ev ep.
       arrived ends notes turns passed _ _ _ u _
       (alu_arrives ends notes turns passed order width op dst (FromReg src) made kinds s t u v b
-      (both_made width op (kinds (register_number dst)) (kinds (register_number src)) made (register_in s.top) (register_number dst) (register_number src) (register t dst) (register t src) x v e (fits_in ends notes turns passed kinds s t dst b) (fits_in ends notes turns passed kinds s t src b) ex ev) ep) (falls refl)))
+      (both_made width op (kinds (register_number dst)) (kinds (register_number src)) made (register_in s.top) (register_number dst) (register_number src) (register t dst) (register t src) x v e (fits_in ends notes turns passed kinds s t dst b) (fits_in ends notes turns passed kinds s t src b) ex ev) ep) (falls refl refl)))
+  exact_arrives order (LoadImm64 dst value) z made kinds s t u b e falls es =
+      let c = number_made (register_in s.top 10) value made (Number value) (Some (Number value)) e refl refl in
+      arrived ends notes turns passed _ _ _ u _
+      (goes_as ends notes turns passed _ _ _ u _ _ (ap (λ x. put dst x (next (LoadImm64 dst value) t)) (same_Some _ _ c.is))
+      (put_as ends notes turns passed kinds s t u (LoadImm64 dst value) made dst (Number value) c.value (λ q. refl) c.alone c.fits b es)) (falls refl refl)
   exact_arrives order i z made kinds s t u b e falls es = absurd (none-some _ e)
-
-  -- ---- tests
-
-  -- a test that always goes one way needs the notes of that way alone
-  pub decided_arrives : (order : Order) (i : Insn) (z : ℤ) (kind : Kind) (kinds : Kinds) (s t u : State) (way : Bool) → IsState s → Between ends notes turns passed kinds s t → decided kinds i ≡ Some way
-      → (way ≡ false → FallArrives ends notes turns passed i kind kinds s.top.slot t.top.slot) → (way ≡ true → JumpArrives ends notes turns passed i (redirect i z) kind kinds s.top.slot t.top.slot)
-      → does order i s ≡ Some u → Arrived ends notes turns passed u (does order (redirect i z) t)
-  unfolding does
-  decided_arrives order (JumpIf cond width dst src off) z kind kinds s t u way state b ed falls leads e =
-      option_and_then_some _ (exactly (kinds (register_number dst))) way ed (λ n en e1.
-      let m = unmapped (jumps width cond n) (operand_exactly kinds src) way e1 in
-      let h = exact_has (register_in s.top) (register_number dst) (kinds (register_number dst)) (register t dst) n en (fits_in ends notes turns passed kinds s t dst b) in
-      let o = operand_has kinds s t src m.0 b m.1 in
-      option_and_then_some _ (register s dst) u e (λ x ex e2. option_and_then_some _ (operand s src) u e2 (λ y ey e3. option_and_then_some _ (test_of_values width cond x y) u e3 (λ taken et e4.
-      let x_is : x ≡ Number n = same_Some _ _ (sym ex ∙ h.0) in
-      let y_is : y ≡ Number m.0 = same_Some _ _ (sym ey ∙ o.0) in
-      let answer : test_of_values width cond (Number n) (Number m.0) ≡ Some taken = ap₂ (λ x y. test_of_values width cond x y) (sym x_is) (sym y_is) ∙ et in
-      let way_is : way ≡ taken = sym m.2 ∙ same_Some _ _ answer in
-      let gone = tested ends notes turns passed order cond width dst src off z kind kinds s t u taken (told_between ends notes turns passed cond width dst src off taken kinds s t x y state b ex ey et) (λ no. falls (way_is ∙ no)) (λ yes. leads (way_is ∙ yes)) e4 in
-      record {
-        state = gone.state;
-        is = bind _ (register t dst) (Number n) _ h.1 (bind _ (operand t src) (Number m.0) _ o.1 (bind (λ c. if c then jump t z else Some (next (JumpIf cond width dst src z) t)) (test_of_values width cond (Number n) (Number m.0)) taken _ answer gone.is));
-        follows = gone.follows;
-      }))))
-  decided_arrives order i z kind kinds s t u way state b ed falls leads e = absurd (none-some _ ed)

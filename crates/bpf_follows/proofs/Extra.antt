@@ -1,13 +1,14 @@
 -- Extra instructions of the new program that write registers: it does them alone, and what they make of them is as is said.
 use Rattle.std.proofs.Common.{◌≡◌, ℕ, zero, suc, ◌+◌, ◌-◌, ◌<◌, ◌≤◌, ◌⊎◌, inl, inr, ◌==◌, ◌^◌, Bool, true, false, cond, List, [], ◌∷◌, Option, Some, None, length, get_or, set, refl, sym, ap, ap₂, ◌∙◌, subst, arith}
-use Rattle.std.specs.Prelude.{◌&&◌, ℤ, pos, negsuc, ◌+ℤ◌, option_and_then, if◌then◌else◌}
+use Rattle.std.specs.Prelude.{take, drop, ◌&&◌, nat_lt, ℤ, pos, negsuc, ◌+ℤ◌, option_and_then, if◌then◌else◌}
 use Rattle.std.specs.Option.{option_or}
 use Rattle.std.specs.Ordering.{int_eq}
 use Rattle.std.proofs.lemmas.Option.{none-some, same_Some, option_and_then_some}
-use Rattle.std.proofs.lemmas.Bool.{cases_Bool, eqb-true, eqb-false, false≢true}
+use Rattle.std.proofs.lemmas.Bool.{cases_Bool, eqb-true, eqb-false, ltb-true, false≢true}
 use Rattle.std.proofs.lemmas.Bool.Decides.{Decides-int_eq}
 use Rattle.std.proofs.lemmas.List.{length-set, get_or-set_same, get_or-set_other}
 use Rattle.bpf_insn.specs.Arithmetic.{modulo, alu, extended}
+use Rattle.bpf_insn.specs.Order.{number_of}
 use Rattle.bpf_insn.specs.Instruction.{Instructions, register_number, insn_at}
 use Rattle.bpf_insn.specs.declared.order.Order.{Order}
 use Rattle.bpf_insn.specs.declared.instruction.Reg.{Reg}
@@ -19,6 +20,7 @@ use Rattle.bpf_insn.specs.declared.instruction.AluOp.TheVariants.{Add, Mov}
 use Rattle.bpf_insn.specs.declared.instruction.Insn.{Insn}
 use Rattle.bpf_insn.specs.declared.instruction.Insn.TheVariants.{Alu}
 use Rattle.bpf_semantics.specs.State.{State, register, with_register, at_slot}
+use Rattle.bpf_semantics.specs.Memory.{inside}
 use Rattle.bpf_semantics.specs.Step.{does, next, operand, alu_result, wrapped, Step, step_of}
 use Rattle.bpf_semantics.specs.Flat.{addresses}
 use Rattle.bpf_semantics.specs.declared.value.Value.{Value}
@@ -28,17 +30,18 @@ use Rattle.bpf_semantics.specs.declared.value.Region.TheVariants.{Context, Frame
 use Rattle.bpf_follows.specs.declared.notes.Area.{Area}
 use Rattle.bpf_follows.specs.declared.notes.Area.TheVariants.{Given, Own}
 use Rattle.bpf_follows.specs.declared.notes.Kind.{Kind}
-use Rattle.bpf_follows.specs.declared.notes.Kind.TheVariants.{Nothing, Same, Number as NumberKind, Natural, Offset, Fixed, Within, Start, Base, Moved, Address, Constant, Counter, Turn, Alone, Returns, Both}
+use Rattle.bpf_follows.specs.declared.notes.Kind.TheVariants.{Nothing, Same, Number as NumberKind, Natural, Inner, Length, Ending, Head, Offset, Fixed, Within, Start, Base, Moved, Address, Constant, Counter, Turn, Alone, Returns, Both}
 use Rattle.bpf_follows.specs.declared.notes.Place.{Place}
 use Rattle.bpf_follows.specs.declared.site.Span.{Span}
 use Rattle.bpf_follows.specs.declared.site.Front.{Front}
-use Rattle.bpf_follows.specs.Areas.{origin, is_own, same_area, IsInto}
-use Rattle.bpf_follows.specs.Relation.{kind_in, HasOffset, as_number, as_offset, as_pointer, CountsDown, FitsKind, FitsSlot, register_in}
-use Rattle.bpf_follows.specs.Extras.{constant_kind, kind_of, offset_in, copied, is_taken, shifted, added, is_same, is_r10, is_base, base_of, address_at, address, put_kind, put_by}
+use Rattle.bpf_packets.specs.Blocks.{head_bytes}
+use Rattle.bpf_follows.specs.Areas.{origin, is_own, same_area, first_of, IsInto}
+use Rattle.bpf_follows.specs.Relation.{Past, kind_in, HasOffset, as_number, as_offset, as_pointer, CountsDown, FitsKind, FitsSlot, register_in}
+use Rattle.bpf_follows.specs.Extras.{constant_kind, kind_of, offset_in, copied, is_taken, moved_end, shifted, added, is_same, is_r10, is_base, base_of, address_at, address, put_kind, put_by}
 use Rattle.bpf_follows.proofs.Lists.{bind, unmapped, cond_first}
 use Rattle.bpf_follows.proofs.Has.{area_same, has_new}
 use Rattle.bpf_follows.proofs.Offsets.{moved_number, pointer_there}
-use Rattle.bpf_follows.proofs.Onward.{room, placed, LieIn}
+use Rattle.bpf_follows.proofs.Onward.{Rooms, floor, room, placed, LieIn}
 use Rattle.bpf_follows.proofs.Between.{Between}
 use Rattle.bpf_follows.proofs.Slots.{register_below}
 use Rattle.bpf_follows.proofs.Instruction.{both_true}
@@ -54,20 +57,34 @@ kind_set (k ∷ kinds) (suc w) kind = kind_set kinds w kind
 -- ---- what is known of the old machine
 
 -- A register is added to a pointer, and by the sum these bytes are accessed.
-pub record SumLies (bytes : ℕ) (s : State) (src : Reg) (region : Region) (offset : ℤ) (span : Span) : Type 0 where
+pub record SumLies (rooms : Rooms) (s : State) (src : Reg) (region : Region) (offset : ℤ) (span : Span) : Type 0 where
   pub number : ℕ
   pub fits : number < 2 ^ 64
   pub is : register s src ≡ Some (Number number)
-  pub lies : LieIn (room bytes region) (placed region (wrapped (offset +ℤ pos number))) span
+  pub lies : LieIn (floor rooms region) (room rooms region) (placed region (wrapped (offset +ℤ pos number))) span
 
--- The old machine stands at the slot in front of which extra instructions stand, and what surely is accessed lies in its region.
-pub record InFront (passed : ℕ → ℕ) (turns : ℕ) (front : Front) (s : State) : Type 0 where
-  pub few : passed front.slot + 1 ≤ turns
-  pub long : length s.context ≡ front.length
-  pub spans : (r : Reg) (span : Span) (region : Region) (offset : ℤ) → get_or front.spans (register_number r) None ≡ Some span → register_in s.top (register_number r) ≡ Some (Pointer region offset) → LieIn (room front.length region) (placed region offset) span
-  pub sums : (dst src : Reg) (region : Region) (offset : ℤ) (span : Span) → front.insn ≡ Alu Add W64 dst (FromReg src) → front.behind ≡ Some span → register s dst ≡ Some (Pointer region offset) → SumLies front.length s src region offset span
+-- where they surely lie in front of an instruction
+abbrev pub rooms_in : Front → Rooms
+rooms_in front = record { low = front.untouched; head = first_of Given front.padded front.untouched; end = front.length }
 
-abbrev pub Facts : (ℕ → ℕ) → ℕ → Option Front → State → Type 0
+-- The old machine stands at the slot in front of which extra instructions stand, and what surely is accessed lies in its region; of a block,
+-- in the packet.
+pub record InFront (passed : Past) (turns : ℕ) (front : Front) (s : State) : Type 0 where
+  pub few : passed.visits front.slot + 1 ≤ turns
+  pub packet : (n : ℕ) → passed.packet ≡ Some n → (r : Reg) (span : Span) (offset : ℤ) → get_or front.spans (register_number r) None ≡ Some span → register_in s.top (register_number r) ≡ Some (Pointer Context offset) → LieIn head_bytes (n + head_bytes) offset span
+  pub spans : (r : Reg) (span : Span) (region : Region) (offset : ℤ) → get_or front.spans (register_number r) None ≡ Some span → register_in s.top (register_number r) ≡ Some (Pointer region offset) → LieIn (floor (rooms_in front) region) (room (rooms_in front) region) (placed region offset) span
+  pub sums : (dst src : Reg) (region : Region) (offset : ℤ) (span : Span) → front.insn ≡ Alu Add W64 dst (FromReg src) → front.behind ≡ Some span → register s dst ≡ Some (Pointer region offset) → SumLies (rooms_in front) s src region offset span
+
+-- the context begins with the packet's length, if it is a block
+pub record HoldsLength (order : Order) (context : List ℕ) (n : ℕ) : Type 0 where
+  pub short : n < 2 ^ 32
+  pub there : inside 8 (length context) (pos 0 +ℤ pos 0) ≡ Some 0
+  pub is : number_of order 8 (take 8 (drop 0 context)) ≡ n
+
+abbrev pub HoldsPacket : Order → Past → List ℕ → Type 0
+HoldsPacket order passed context = (n : ℕ) → passed.packet ≡ Some n → HoldsLength order context n
+
+abbrev pub Facts : Past → ℕ → Option Front → State → Type 0
 Facts passed turns None s = Unit {0}
 Facts passed turns (Some front) s = InFront passed turns front s
 
@@ -77,7 +94,7 @@ pub same_eqb : (n : ℕ) → n == n ≡ true
 same_eqb n = elim (cases_Bool (n == n)) [ inl e ↦ e | inr e ↦ absurd (eqb-false n n e refl) ]
 
 -- a register's number, the offset of a pointer of the old machine, moved
-pub moved_has : (turns : ℕ) (passed : ℕ → ℕ) (old : ℕ → Option Value) (r : Reg) (kind : Kind) (m : Area × Reg × ℤ) (new : Option Value) → offset_in r kind ≡ Some m → FitsKind turns passed old (register_number r) kind new → HasOffset m.0 m.2 as_offset (old 10) (old (register_number m.1)) new
+pub moved_has : (turns : ℕ) (passed : Past) (old : ℕ → Option Value) (r : Reg) (kind : Kind) (m : Area × Reg × ℤ) (new : Option Value) → offset_in r kind ≡ Some m → FitsKind turns passed old (register_number r) kind new → HasOffset m.0 m.2 as_offset (old 10) (old (register_number m.1)) new
 moved_has turns passed old r (Offset area) m new e f = subst (λ (m : Area × Reg × ℤ). HasOffset m.0 m.2 as_offset (old 10) (old (register_number m.1)) new) (same_Some _ _ e) f
 moved_has turns passed old r (Fixed area at) m new e f = subst (λ (m : Area × Reg × ℤ). HasOffset m.0 m.2 as_offset (old 10) (old (register_number m.1)) new) (same_Some _ _ e) f.has
 moved_has turns passed old r (Within area least most) m new e f = subst (λ (m : Area × Reg × ℤ). HasOffset m.0 m.2 as_offset (old 10) (old (register_number m.1)) new) (same_Some _ _ e) f.has
@@ -88,23 +105,26 @@ own_given : Own ≡ Given → ⊥
 own_given e = false≢true (sym (ap is_own e))
 
 -- the same in both, where the old machine has it
-same_has : (turns : ℕ) (passed : ℕ → ℕ) (old : ℕ → Option Value) (r : ℕ) (kind : Kind) (new : Option Value) (v : Value) → is_same kind ≡ true → FitsKind turns passed old r kind new → old r ≡ Some v → new ≡ Some v
+same_has : (turns : ℕ) (passed : Past) (old : ℕ → Option Value) (r : ℕ) (kind : Kind) (new : Option Value) (v : Value) → is_same kind ≡ true → FitsKind turns passed old r kind new → old r ≡ Some v → new ≡ Some v
 same_has turns passed old r Same new v e f ev = f v ev
 same_has turns passed old r Both new v e f ev = f.new_is ∙ (sym f.old_is ∙ ev)
 same_has turns passed old r Start new v e f ev = f.1 ∙ (sym f.0 ∙ ev)
 same_has turns passed old r (NumberKind least most) new v e f ev = f.new_is ∙ (sym f.old_is ∙ ev)
-same_has turns passed old r Natural new v e f ev = f.new_is ∙ (sym f.old_is ∙ ev)
+same_has turns passed old r (Natural half) new v e f ev = f.new_is ∙ (sym f.old_is ∙ ev)
+same_has turns passed old r (Inner least most) new v e f ev = f.new_is ∙ (sym f.old_is ∙ ev)
+same_has turns passed old r (Length most) new v e f ev = f.is.2 ∙ (sym f.is.1 ∙ ev)
 same_has turns passed old r Alone new v e f ev = f v ev
 same_has turns passed old r (Returns least most) new v e f ev = f v ev
 same_has turns passed old r kind new v e f ev = absurd (false≢true e)
 
-pub base_has : (turns : ℕ) (passed : ℕ → ℕ) (old : ℕ → Option Value) (r : ℕ) (kind : Kind) (new : Option Value) → is_base kind ≡ true → FitsKind turns passed old r kind new → new ≡ Some (Pointer Context (pos 0))
+pub base_has : (turns : ℕ) (passed : Past) (old : ℕ → Option Value) (r : ℕ) (kind : Kind) (new : Option Value) → is_base kind ≡ true → FitsKind turns passed old r kind new → new ≡ Some (Pointer Context (pos 0))
 base_has turns passed old r Start new e f = f.1
+base_has turns passed old r Head new e f = f.1
 base_has turns passed old r Base new e f = f
 base_has turns passed old r kind new e f = absurd (false≢true e)
 
 -- and the pointer at 0 of an area
-pub base_at : (turns : ℕ) (passed : ℕ → ℕ) (old : ℕ → Option Value) (r : Reg) (kind : Kind) (area : Area) (region : Region) (new : Option Value) → base_of r kind ≡ Some area → IsInto area (old 10) region → FitsKind turns passed old (register_number r) kind new → new ≡ Some (Pointer region (pos 0))
+pub base_at : (turns : ℕ) (passed : Past) (old : ℕ → Option Value) (r : Reg) (kind : Kind) (area : Area) (region : Region) (new : Option Value) → base_of r kind ≡ Some area → IsInto area (old 10) region → FitsKind turns passed old (register_number r) kind new → new ≡ Some (Pointer region (pos 0))
 base_at turns passed old r kind area region new e into f = by_cases (is_base kind) refl e
   where
     by_r10 : (b : Bool) → (is_r10 r && is_same kind) ≡ b → (if b then Some Own else None) ≡ Some area → new ≡ Some (Pointer region (pos 0))
@@ -134,17 +154,22 @@ free_is true w x e = absurd (none-some _ e)
 free_is false w x e = (refl, same_Some _ _ e)
 
 -- what is written, and of which kind it is
-pub record Writes (turns : ℕ) (passed : ℕ → ℕ) (old : ℕ → Option Value) (w : ℕ) (kind : Kind) (o : Option Value) : Type 0 where
+pub record Writes (turns : ℕ) (passed : Past) (old : ℕ → Option Value) (w : ℕ) (kind : Kind) (o : Option Value) : Type 0 where
   pub value : Value
   pub is : o ≡ Some value
   pub fits : FitsKind turns passed old w kind (Some value)
 
-module _ (turns : ℕ) (passed : ℕ → ℕ) (old : ℕ → Option Value) where
+module _ (turns : ℕ) (passed : Past) (old : ℕ → Option Value) where
   constant_fits : (w : ℕ) (kind : Kind) (new : Option Value) (imm : ℤ) → FitsKind turns passed old w kind new → FitsKind turns passed old w (constant_kind kind imm) (Some (Number (extended imm)))
   constant_fits w Start new imm f = by_cases (int_eq imm (pos 0)) (Decides-int_eq imm (pos 0)).0
     where
       by_cases : (b : Bool) → (b ≡ true → imm ≡ pos 0) → FitsKind turns passed old w (if b then Fixed Given (pos 0) else Constant imm) (Some (Number (extended imm)))
       by_cases true h = record { has = record { region = Context; into = refl; offset = pos 0; fits = record { sfits = omega arith }; old_is = f.0; new_is = ap (λ z. Some (Number (extended z))) (h refl) }; is = refl }
+      by_cases false h = refl
+  constant_fits w Head new imm f = by_cases (int_eq imm (pos head_bytes)) (Decides-int_eq imm (pos head_bytes)).0
+    where
+      by_cases : (b : Bool) → (b ≡ true → imm ≡ pos head_bytes) → FitsKind turns passed old w (if b then Fixed Given (pos head_bytes) else Constant imm) (Some (Number (extended imm)))
+      by_cases true h = record { has = record { region = Context; into = refl; offset = pos head_bytes; fits = record { sfits = omega arith }; old_is = f.0; new_is = ap (λ z. Some (Number (extended z))) (h refl) }; is = refl }
       by_cases false h = refl
   constant_fits w kind new imm f = refl
 
@@ -154,6 +179,14 @@ module _ (turns : ℕ) (passed : ℕ → ℕ) (old : ℕ → Option Value) where
   pub copied_fits : (w : ℕ) (r : Reg) (kind made : Kind) (new : Option Value) → copied r kind ≡ Some made → FitsKind turns passed old (register_number r) kind new → Writes turns passed old w made new
   copied_fits w r Start made new e f = subst (λ made. Writes turns passed old w made new) (same_Some _ _ e) (record { value = Pointer Context (pos 0); is = f.1; fits = refl })
   copied_fits w r Base made new e f = subst (λ made. Writes turns passed old w made new) (same_Some _ _ e) (record { value = Pointer Context (pos 0); is = f; fits = refl })
+  copied_fits w r Head made new e f = subst (λ made. Writes turns passed old w made new) (same_Some _ _ e) (record { value = Pointer Context (pos 0); is = f.1; fits = refl })
+  copied_fits w r (Length most) made new e f =
+      let same : f.size ≡ f.size + 0 = omega arith in
+      subst (λ made. Writes turns passed old w made new) (same_Some _ _ e)
+      (record { value = Number f.size; is = f.is.2; fits = record { size = f.size; packet_is = f.packet_is; short = f.short; is = (omega arith, ap (λ n. Some (Number n)) same) } })
+  copied_fits w r (Ending by) made new e f =
+      subst (λ made. Writes turns passed old w made new) (same_Some _ _ e)
+      (record { value = Number (f.size + by); is = f.is.1; fits = record { size = f.size; packet_is = f.packet_is; short = f.short; is = (f.is.0, refl) } })
   copied_fits w r (Offset area) made new e f = subst (λ made. Writes turns passed old w made new) (same_Some _ _ e) (moved_copy w area r (pos 0) new f)
   copied_fits w r (Fixed area at) made new e f = subst (λ made. Writes turns passed old w made new) (same_Some _ _ e) (moved_copy w area r (pos 0) new f.has)
   copied_fits w r (Within area least most) made new e f = subst (λ made. Writes turns passed old w made new) (same_Some _ _ e) (moved_copy w area r (pos 0) new f.has)
@@ -182,7 +215,7 @@ module _ (turns : ℕ) (passed : ℕ → ℕ) (old : ℕ → Option Value) where
       cond_is false x y e = absurd (none-some _ e)
 
   taken_fits : (w : ℕ) (front : Option Front) (s : State) (head : ℕ) (made : Kind) (new : Option Value) (imm : ℤ) → Facts passed turns front s → (if is_taken front (Counter head) && int_eq imm (negsuc 0) then Some (Turn head) else None) ≡ Some made
-      → CountsDown turns (passed head) new → Writes turns passed old w made (alu_result W64 Add new (Number (extended imm)))
+      → CountsDown turns (passed.visits head) new → Writes turns passed old w made (alu_result W64 Add new (Number (extended imm)))
   taken_fits w None s head made new imm facts e f = absurd (none-some _ e)
   taken_fits w (Some front) s head made new imm facts e f = by_cases (head == front.slot) (int_eq imm (negsuc 0)) refl refl e
     where
@@ -191,7 +224,7 @@ module _ (turns : ℕ) (passed : ℕ → ℕ) (old : ℕ → Option Value) where
           let here : head ≡ front.slot = eqb-true head front.slot ea in
           let one : imm ≡ negsuc 0 = (Decides-int_eq imm (negsuc 0)).0 eb in
           let few = facts.few in
-          let count : turns ≤ f.0 + passed front.slot = subst (λ h. turns ≤ f.0 + passed h) here f.3 in
+          let count : turns ≤ f.0 + passed.visits front.slot = subst (λ h. turns ≤ f.0 + passed.visits h) here f.3 in
           let less : alu W64 Add f.0 (extended (negsuc 0)) ≡ f.0 - 1 = one_less f.0 (omega arith) f.1 in
           subst (λ made. Writes turns passed old w made (alu_result W64 Add new (Number (extended imm)))) (same_Some _ _ e)
           (record {
@@ -202,8 +235,24 @@ module _ (turns : ℕ) (passed : ℕ → ℕ) (old : ℕ → Option Value) where
       by_cases true false ea eb e = absurd (none-some _ e)
       by_cases false b ea eb e = absurd (none-some _ e)
 
+  -- so much farther behind the packet's end
+  end_fits : (w by : ℕ) (made : Kind) (imm : ℤ) (new : Option Value) → FitsKind turns passed old w (Ending by) new → moved_end by imm ≡ Some made → Writes turns passed old w made (alu_result W64 Add new (Number (extended imm)))
+  end_fits w by made (pos n) new f e =
+      let c = cond_first (nat_lt (by + n) (2 ^ 32)) (Some (Ending (by + n))) made e in
+      let few = ltb-true (by + n) (2 ^ 32) c.0 in
+      let short = f.short in
+      let sum : alu W64 Add (f.size + by) (extended (pos n)) ≡ f.size + (by + n) = omega arith in
+      subst (λ made. Writes turns passed old w made (alu_result W64 Add new (Number (extended (pos n))))) (same_Some _ _ c.1)
+      (record {
+        value = Number (f.size + (by + n));
+        is = ap (λ o. alu_result W64 Add o (Number (extended (pos n)))) f.is.1 ∙ ap (λ n. Some (Number n)) sum;
+        fits = record { size = f.size; packet_is = f.packet_is; short = f.short; is = (few, refl) };
+      })
+  end_fits w by made (negsuc n) new f e = absurd (none-some _ e)
+
   added_fits : (w : ℕ) (front : Option Front) (s : State) (r : Reg) (kind made : Kind) (new : Option Value) (imm : ℤ) → Facts passed turns front s → added front r kind imm ≡ Some made → FitsKind turns passed old (register_number r) kind new → Writes turns passed old w made (alu_result W64 Add new (Number (extended imm)))
   added_fits w front s r (Counter head) made new imm facts e f = taken_fits w front s head made new imm facts e f
+  added_fits w front s r (Ending by) made new imm facts e f = end_fits w by made imm new f e
   added_fits w front s r (Offset area) made new imm facts e f = shifted_fits w r (Offset area) made new imm e f
   added_fits w front s r (Within area least most) made new imm facts e f = shifted_fits w r (Within area least most) made new imm e f
   added_fits w front s r (Fixed area at) made new imm facts e f = shifted_fits w r (Fixed area at) made new imm e f
@@ -262,7 +311,7 @@ alu_does order op dst src t v e free = option_and_then_some (alu_result W64 op (
     let after : State = with_register (next (Alu op W64 dst src) t) (register_number dst) (Some v) in
     bind _ (operand t src) b _ eb (bind _ (alu_result W64 op (register t dst) b) v _ ev (ap (λ c. cond c None (Some after)) free)))
 
-module _ (ends : Order) (notes : List (Option Place)) (turns : ℕ) (passed : ℕ → ℕ) where
+module _ (ends : Order) (notes : List (Option Place)) (turns : ℕ) (passed : Past) where
   -- the new machine has gone on by one slot
   pub record Goes1 (order : Order) (i : Insn) (made : List Kind) (s t : State) : Type 0 where
     pub state : State

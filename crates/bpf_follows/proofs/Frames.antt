@@ -11,11 +11,13 @@ use Rattle.bpf_insn.specs.declared.instruction.Insn.{Insn}
 use Rattle.bpf_semantics.specs.State.{StackFrame, put}
 use Rattle.bpf_semantics.specs.Memory.{with_stack_in}
 use Rattle.bpf_semantics.specs.declared.value.Value.{Value}
+use Rattle.bpf_semantics.specs.declared.value.Value.TheVariants.{Pointer}
+use Rattle.bpf_semantics.specs.declared.value.Region.TheVariants.{Frame as FrameAt}
 use Rattle.bpf_follows.specs.declared.notes.Area.{Area}
 use Rattle.bpf_follows.specs.declared.notes.Area.TheVariants.{Given, Own}
 use Rattle.bpf_follows.specs.declared.notes.Kind.{Kind}
-use Rattle.bpf_follows.specs.declared.notes.Kind.TheVariants.{Nothing, Unset, Same, Number as NumberKind, Natural, Offset, Fixed, Within, Start, Base, Moved, Address, Constant, Counter, Turn, Alone, Returns, Both, Saved}
-use Rattle.bpf_follows.specs.Relation.{Kinds, Gives, weaker, is_free, IsRead, EachPair, as_offset, as_pointer, IsOneValue, FitsKind, SlotKept, FitsSlot, FrameFits, register_in, is_of_other}
+use Rattle.bpf_follows.specs.declared.notes.Kind.TheVariants.{Nothing, Unset, Same, Number as NumberKind, Natural, Inner, Length, Sized, Ending, Offset, Fixed, Within, Start, Head, Base, Moved, Address, Constant, Counter, Turn, Alone, Returns, Both, Saved}
+use Rattle.bpf_follows.specs.Relation.{Past, Kinds, Gives, weaker, is_free, IsRead, EachPair, as_offset, as_pointer, IsOneValue, FitsKind, SlotKept, FitsSlot, FrameFits, register_in, is_of_other}
 use Rattle.bpf_follows.specs.Returned.{is_call}
 use Rattle.bpf_follows.specs.Matching.{is_changed, is_lost, held, kinds_after}
 use Rattle.bpf_follows.proofs.Lists.{Cells}
@@ -28,12 +30,17 @@ false_true : {A : Type 0} → true ≡ false → A
 false_true e = absurd (false≢true (sym e))
 
 -- what is said by its own value is said of a register with the same value
-pub fits_moved : (turns : ℕ) (passed : ℕ → ℕ) (old more : ℕ → Option Value) (q r : ℕ) (kind : Kind) (new : Option Value) → is_of_other kind ≡ false → more r ≡ old q → FitsKind turns passed old q kind new → FitsKind turns passed more r kind new
+pub fits_moved : (turns : ℕ) (passed : Past) (old more : ℕ → Option Value) (q r : ℕ) (kind : Kind) (new : Option Value) → is_of_other kind ≡ false → more r ≡ old q → FitsKind turns passed old q kind new → FitsKind turns passed more r kind new
 fits_moved turns passed old more q r Nothing new own e f = tt
 fits_moved turns passed old more q r Unset new own e f = e ∙ f
 fits_moved turns passed old more q r Same new own e f = λ v ev. f v (sym e ∙ ev)
 fits_moved turns passed old more q r (NumberKind least most) new own e f = record { number = f.number; low = f.low; high = f.high; old_is = e ∙ f.old_is; new_is = f.new_is }
-fits_moved turns passed old more q r Natural new own e f = record { number = f.number; low = f.low; high = f.high; old_is = e ∙ f.old_is; new_is = f.new_is }
+fits_moved turns passed old more q r (Natural half) new own e f = record { number = f.number; low = f.low; high = f.high; old_is = e ∙ f.old_is; new_is = f.new_is }
+fits_moved turns passed old more q r (Inner least most) new own e f = false_true own
+fits_moved turns passed old more q r (Length most) new own e f = record { size = f.size; packet_is = f.packet_is; short = f.short; is = (f.is.0, e ∙ f.is.1, f.is.2) }
+fits_moved turns passed old more q r (Sized most) new own e f = record { size = f.size; packet_is = f.packet_is; short = f.short; is = (f.is.0, e ∙ f.is.1) }
+fits_moved turns passed old more q r (Ending by) new own e f = f
+fits_moved turns passed old more q r Head new own e f = (e ∙ f.0, f.1)
 fits_moved turns passed old more q r (Offset Given) new own e f = has_given (pos 0) as_offset (old 10) (more 10) (old q) (more r) new e f
 fits_moved turns passed old more q r (Offset Own) new own e f = false_true own
 fits_moved turns passed old more q r (Fixed Given at) new own e f = record { has = has_given (pos 0) as_offset (old 10) (more 10) (old q) (more r) new e f.has; is = f.is }
@@ -66,7 +73,7 @@ not_register (Saved of) e = e
 not_register kind e = refl
 
 -- the same where r10 is the same, too
-pub fits_anew : (turns : ℕ) (passed : ℕ → ℕ) (old more : ℕ → Option Value) (q r : ℕ) (kind : Kind) (new : Option Value) → is_of_register kind ≡ false → more r ≡ old q → more 10 ≡ old 10 → FitsKind turns passed old q kind new → FitsKind turns passed more r kind new
+pub fits_anew : (turns : ℕ) (passed : Past) (old more : ℕ → Option Value) (q r : ℕ) (kind : Kind) (new : Option Value) → is_of_register kind ≡ false → more r ≡ old q → more 10 ≡ old 10 → FitsKind turns passed old q kind new → FitsKind turns passed more r kind new
 fits_anew turns passed old more q r (Offset area) new own e et f = has_moved area (pos 0) as_offset (old 10) (more 10) (old q) (more r) new et e f
 fits_anew turns passed old more q r (Fixed area at) new own e et f = record { has = has_moved area (pos 0) as_offset (old 10) (more 10) (old q) (more r) new et e f.has; is = f.is }
 fits_anew turns passed old more q r (Within area least most) new own e et f = record { has = has_moved area (pos 0) as_offset (old 10) (more 10) (old q) (more r) new et e f.has; low = f.low; high = f.high }
@@ -78,7 +85,12 @@ fits_anew turns passed old more q r Unset new own e et f = fits_moved turns pass
 fits_anew turns passed old more q r Same new own e et f = fits_moved turns passed old more q r Same new refl e f
 fits_anew turns passed old more q r Both new own e et f = fits_moved turns passed old more q r Both new refl e f
 fits_anew turns passed old more q r (NumberKind least most) new own e et f = fits_moved turns passed old more q r (NumberKind least most) new refl e f
-fits_anew turns passed old more q r Natural new own e et f = fits_moved turns passed old more q r Natural new refl e f
+fits_anew turns passed old more q r (Natural half) new own e et f = fits_moved turns passed old more q r (Natural half) new refl e f
+fits_anew turns passed old more q r (Inner least most) new own e et f = record { frame = f.frame; offset = f.offset; own_is = et ∙ f.own_is; old_is = e ∙ f.old_is; new_is = f.new_is; low = f.low; high = f.high }
+fits_anew turns passed old more q r (Length most) new own e et f = fits_moved turns passed old more q r (Length most) new refl e f
+fits_anew turns passed old more q r (Sized most) new own e et f = fits_moved turns passed old more q r (Sized most) new refl e f
+fits_anew turns passed old more q r (Ending by) new own e et f = fits_moved turns passed old more q r (Ending by) new refl e f
+fits_anew turns passed old more q r Head new own e et f = fits_moved turns passed old more q r Head new refl e f
 fits_anew turns passed old more q r Start new own e et f = fits_moved turns passed old more q r Start new refl e f
 fits_anew turns passed old more q r Base new own e et f = fits_moved turns passed old more q r Base new refl e f
 fits_anew turns passed old more q r (Constant value) new own e et f = fits_moved turns passed old more q r (Constant value) new refl e f
@@ -87,7 +99,7 @@ fits_anew turns passed old more q r (Turn head) new own e et f = fits_moved turn
 fits_anew turns passed old more q r Alone new own e et f = fits_moved turns passed old more q r Alone new refl e f
 fits_anew turns passed old more q r (Returns least most) new own e et f = fits_moved turns passed old more q r (Returns least most) new refl e f
 
-or_false : (a b : Bool) → (a || b) ≡ false → (a ≡ false) × (b ≡ false)
+pub or_false : (a b : Bool) → (a || b) ≡ false → (a ≡ false) × (b ≡ false)
 or_false true b e = false_true e
 or_false false b e = (refl, e)
 
@@ -96,7 +108,7 @@ lost_not : (i : Insn) (r : ℕ) → is_lost i r ≡ false → (is_changed i r �
 lost_not i r e = or_false (is_changed i r) (is_changed i 10) (or_false (is_call i) (is_changed i r || is_changed i 10) e).1
 
 -- what is said of a register that an instruction doesn't change, where the old machine's others are those behind it
-pub fits_held : (turns : ℕ) (passed : ℕ → ℕ) (i : Insn) (old more : ℕ → Option Value) (r : ℕ) (kind : Kind) (new : Option Value) → ((q : ℕ) → q < 11 → is_changed i q ≡ false → more q ≡ old q) → more r ≡ old r
+pub fits_held : (turns : ℕ) (passed : Past) (i : Insn) (old more : ℕ → Option Value) (r : ℕ) (kind : Kind) (new : Option Value) → ((q : ℕ) → q < 11 → is_changed i q ≡ false → more q ≡ old q) → more r ≡ old r
     → FitsKind turns passed old r kind new → FitsKind turns passed more r (held i kind) new
 fits_held turns passed i old more r kind new kept same = by_kind kind
   where
@@ -117,6 +129,10 @@ fits_held turns passed i old more r kind new kept same = by_kind kind
     saved of f true l = tt
     saved of f false l = subst (λ o. IsOneValue o new) (sym (kept (register_number of) (register_below of) (lost_not i (register_number of) l).0)) f
 
+    inner : (least most : ℕ) → FitsKind turns passed old r (Inner least most) new → (b : Bool) → is_lost i 10 ≡ b → FitsKind turns passed more r (if b then Both else Inner least most) new
+    inner least most f true l = record { value = Pointer (FrameAt f.frame) f.offset; old_is = same ∙ f.old_is; new_is = f.new_is }
+    inner least most f false l = fits_anew turns passed old more r r (Inner least most) new refl same (kept 10 (omega arith) (lost_not i 10 l).1) f
+
     by_kind : (kind : Kind) → FitsKind turns passed old r kind new → FitsKind turns passed more r (held i kind) new
     by_kind (Offset Own) f = own (Offset Own) refl f (is_lost i 10) refl
     by_kind (Fixed Own at) f = own (Fixed Own at) refl f (is_lost i 10) refl
@@ -129,7 +145,12 @@ fits_held turns passed i old more r kind new kept same = by_kind kind
     by_kind Same f = fits_moved turns passed old more r r Same new refl same f
     by_kind Both f = fits_moved turns passed old more r r Both new refl same f
     by_kind (NumberKind least most) f = fits_moved turns passed old more r r (NumberKind least most) new refl same f
-    by_kind Natural f = fits_moved turns passed old more r r Natural new refl same f
+    by_kind (Natural half) f = fits_moved turns passed old more r r (Natural half) new refl same f
+    by_kind (Inner least most) f = inner least most f (is_lost i 10) refl
+    by_kind (Length most) f = fits_moved turns passed old more r r (Length most) new refl same f
+    by_kind (Sized most) f = fits_moved turns passed old more r r (Sized most) new refl same f
+    by_kind (Ending by) f = fits_moved turns passed old more r r (Ending by) new refl same f
+    by_kind Head f = fits_moved turns passed old more r r Head new refl same f
     by_kind Start f = fits_moved turns passed old more r r Start new refl same f
     by_kind Base f = fits_moved turns passed old more r r Base new refl same f
     by_kind (Constant value) f = fits_moved turns passed old more r r (Constant value) new refl same f
@@ -142,7 +163,7 @@ fits_held turns passed i old more r kind new kept same = by_kind kind
     by_kind (Within Given least most) f = fits_moved turns passed old more r r (Within Given least most) new refl same f
 
 -- registers behind an instruction: what it changes is of a kind, the others are as they were
-pub fits_behind : (turns : ℕ) (passed : ℕ → ℕ) (i : Insn) (kind : Kind) (kinds : Kinds) (old more : ℕ → Option Value) (new after : ℕ → Option Value)
+pub fits_behind : (turns : ℕ) (passed : Past) (i : Insn) (kind : Kind) (kinds : Kinds) (old more : ℕ → Option Value) (new after : ℕ → Option Value)
     → ((q : ℕ) → q < 11 → is_changed i q ≡ false → more q ≡ old q) → ((q : ℕ) → q < 11 → is_changed i q ≡ false → after q ≡ new q) → ((q : ℕ) → q < 11 → is_changed i q ≡ true → FitsKind turns passed more q kind (after q))
     → ((r : ℕ) → r < 11 → FitsKind turns passed old r (kinds r) (new r)) → (r : ℕ) → r < 11 → FitsKind turns passed more r (kinds_after i kind kinds r) (after r)
 fits_behind turns passed i kind kinds old more new after kept kept_new put h r lt = by_cases (is_changed i r) refl
@@ -154,7 +175,7 @@ fits_behind turns passed i kind kinds old more new after kept kept_new put h r l
 -- ---- slots
 
 -- what is said of a slot whose cells stay, where the old machine's registers are those behind an instruction
-pub slot_held : (ends : Order) (turns : ℕ) (passed : ℕ → ℕ) (i : Insn) (old more : ℕ → Option Value) (xs ys : Cells) (k : ℕ) (kind : Kind) → ((q : ℕ) → q < 11 → is_changed i q ≡ false → more q ≡ old q)
+pub slot_held : (ends : Order) (turns : ℕ) (passed : Past) (i : Insn) (old more : ℕ → Option Value) (xs ys : Cells) (k : ℕ) (kind : Kind) → ((q : ℕ) → q < 11 → is_changed i q ≡ false → more q ≡ old q)
     → FitsSlot ends turns passed old xs ys k kind → FitsSlot ends turns passed more xs ys k (held i kind)
 slot_held ends turns passed i old more xs ys k (Moved area of by) kept f = by_cases (is_lost i (register_number of)) refl
   where
@@ -180,7 +201,12 @@ slot_held ends turns passed i old more xs ys k Unset kept f = f
 slot_held ends turns passed i old more xs ys k Same kept f = f
 slot_held ends turns passed i old more xs ys k Both kept f = f
 slot_held ends turns passed i old more xs ys k (NumberKind least most) kept f = f
-slot_held ends turns passed i old more xs ys k Natural kept f = absurd f
+slot_held ends turns passed i old more xs ys k (Natural half) kept f = absurd f
+slot_held ends turns passed i old more xs ys k (Inner least most) kept f = absurd f
+slot_held ends turns passed i old more xs ys k (Length most) kept f = absurd f
+slot_held ends turns passed i old more xs ys k (Sized most) kept f = absurd f
+slot_held ends turns passed i old more xs ys k Head kept f = absurd f
+slot_held ends turns passed i old more xs ys k (Ending by) kept f = record { unset = f.unset; value = f.value; holds = f.holds; fits = f.fits }
 slot_held ends turns passed i old more xs ys k (Offset Given) kept f = f
 slot_held ends turns passed i old more xs ys k (Offset Own) kept f = absurd f
 slot_held ends turns passed i old more xs ys k (Fixed Given at) kept f = f
@@ -195,7 +221,7 @@ slot_held ends turns passed i old more xs ys k Alone kept f = f
 slot_held ends turns passed i old more xs ys k (Returns least most) kept f = f
 
 -- what isn't said by registers is said whatever they are
-pub slot_moved : (ends : Order) (turns : ℕ) (passed : ℕ → ℕ) (old more : ℕ → Option Value) (xs ys : Cells) (k : ℕ) (kind : Kind) → is_of_register kind ≡ false → FitsSlot ends turns passed old xs ys k kind → FitsSlot ends turns passed more xs ys k kind
+pub slot_moved : (ends : Order) (turns : ℕ) (passed : Past) (old more : ℕ → Option Value) (xs ys : Cells) (k : ℕ) (kind : Kind) → is_of_register kind ≡ false → FitsSlot ends turns passed old xs ys k kind → FitsSlot ends turns passed more xs ys k kind
 slot_moved ends turns passed old more xs ys k (Moved area of by) own f = false_true own
 slot_moved ends turns passed old more xs ys k (Address area of by) own f = false_true own
 slot_moved ends turns passed old more xs ys k (Saved of) own f = false_true own
@@ -204,7 +230,12 @@ slot_moved ends turns passed old more xs ys k Nothing own f = tt
 slot_moved ends turns passed old more xs ys k Unset own f = f
 slot_moved ends turns passed old more xs ys k Same own f = f
 slot_moved ends turns passed old more xs ys k (NumberKind least most) own f = f
-slot_moved ends turns passed old more xs ys k Natural own f = absurd f
+slot_moved ends turns passed old more xs ys k (Natural half) own f = absurd f
+slot_moved ends turns passed old more xs ys k (Inner least most) own f = absurd f
+slot_moved ends turns passed old more xs ys k (Length most) own f = absurd f
+slot_moved ends turns passed old more xs ys k (Sized most) own f = absurd f
+slot_moved ends turns passed old more xs ys k Head own f = absurd f
+slot_moved ends turns passed old more xs ys k (Ending by) own f = record { unset = f.unset; value = f.value; holds = f.holds; fits = f.fits }
 slot_moved ends turns passed old more xs ys k (Offset Given) own f = f
 slot_moved ends turns passed old more xs ys k (Offset Own) own f = absurd f
 slot_moved ends turns passed old more xs ys k (Fixed Given at) own f = f
@@ -227,7 +258,7 @@ pub no_slots : (i : Insn) (w : ℕ) (kind : Kind) (kinds : Kinds) → w < 11 →
 no_slots i w kind kinds below changed k lt e = let same : 11 + k ≡ w = eqb-true (11 + k) w (sym (changed (11 + k)) ∙ e) in absurd (omega arith)
 
 -- what is said of each slot behind an instruction
-pub slots_behind : (ends : Order) (turns : ℕ) (passed : ℕ → ℕ) (i : Insn) (kind : Kind) (kinds : Kinds) (old more : ℕ → Option Value) (xs ys : Cells) → ((q : ℕ) → q < 11 → is_changed i q ≡ false → more q ≡ old q)
+pub slots_behind : (ends : Order) (turns : ℕ) (passed : Past) (i : Insn) (kind : Kind) (kinds : Kinds) (old more : ℕ → Option Value) (xs ys : Cells) → ((q : ℕ) → q < 11 → is_changed i q ≡ false → more q ≡ old q)
     → ((k : ℕ) → FitsSlot ends turns passed old xs ys k kind → FitsSlot ends turns passed more xs ys k kind) → SlotsAre i kind kinds
     → ((k : ℕ) → k < 64 → FitsSlot ends turns passed old xs ys k (kinds (11 + k))) → (k : ℕ) → k < 64 → FitsSlot ends turns passed more xs ys k (kinds_after i kind kinds (11 + k))
 slots_behind ends turns passed i kind kinds old more xs ys kept moved are h k lt = by_cases (is_changed i (11 + k)) refl
@@ -237,7 +268,7 @@ slots_behind ends turns passed i kind kinds old more xs ys kept moved are h k lt
     by_cases false e = slot_held ends turns passed i old more xs ys k (kinds (11 + k)) kept (h k lt)
 
 -- what is kept is enough for what is said of a slot behind a call
-pub slot_given : (ends : Order) (turns : ℕ) (passed : ℕ → ℕ) (registers : ℕ → Option Value) (xs ys : Cells) (k : ℕ) (want : Kind) → Gives turns (11 + k) Same want → SlotKept xs ys k → FitsSlot ends turns passed registers xs ys k want
+pub slot_given : (ends : Order) (turns : ℕ) (passed : Past) (registers : ℕ → Option Value) (xs ys : Cells) (k : ℕ) (want : Kind) → Gives turns (11 + k) Same want → SlotKept xs ys k → FitsSlot ends turns passed registers xs ys k want
 slot_given ends turns passed registers xs ys k want (inl e) f = subst (λ kind. FitsSlot ends turns passed registers xs ys k kind) (sym e) tt
 slot_given ends turns passed registers xs ys k want (inr (inl e)) f = subst (λ kind. FitsSlot ends turns passed registers xs ys k kind) (sym e) f
 slot_given ends turns passed registers xs ys k want (inr (inr e)) f = absurd (none_weaker want e)
@@ -252,7 +283,7 @@ slot_given ends turns passed registers xs ys k want (inr (inr e)) f = absurd (no
 -- ---- a frame
 
 -- both stacks are others
-pub fits_stack : (ends : Order) (turns : ℕ) (passed : ℕ → ℕ) (kinds kinds' : Kinds) (old new : StackFrame) (xs ys : Cells) → FrameFits ends turns passed kinds old new → ((r : ℕ) → r < 11 → kinds' r ≡ kinds r) → length xs ≡ frame_bytes → EachPair IsRead xs ys
+pub fits_stack : (ends : Order) (turns : ℕ) (passed : Past) (kinds kinds' : Kinds) (old new : StackFrame) (xs ys : Cells) → FrameFits ends turns passed kinds old new → ((r : ℕ) → r < 11 → kinds' r ≡ kinds r) → length xs ≡ frame_bytes → EachPair IsRead xs ys
     → ((k : ℕ) → k < 64 → FitsSlot ends turns passed (register_in old) xs ys k (kinds' (11 + k))) → FrameFits ends turns passed kinds' (with_stack_in old xs) (with_stack_in new ys)
 fits_stack ends turns passed kinds kinds' old new xs ys h low long stack slots = record {
   eleven_old = h.eleven_old;
@@ -264,7 +295,7 @@ fits_stack ends turns passed kinds kinds' old new xs ys h low long stack slots =
 }
 
 -- of other kinds that are the same
-pub fits_alike : (ends : Order) (turns : ℕ) (passed : ℕ → ℕ) (kinds same : Kinds) (old new : StackFrame) → ((r : ℕ) → kinds r ≡ same r) → FrameFits ends turns passed kinds old new → FrameFits ends turns passed same old new
+pub fits_alike : (ends : Order) (turns : ℕ) (passed : Past) (kinds same : Kinds) (old new : StackFrame) → ((r : ℕ) → kinds r ≡ same r) → FrameFits ends turns passed kinds old new → FrameFits ends turns passed same old new
 fits_alike ends turns passed kinds same old new e h = record {
   eleven_old = h.eleven_old;
   eleven = h.eleven;
@@ -274,7 +305,7 @@ fits_alike ends turns passed kinds same old new e h = record {
   slots = λ k lt. subst (λ kind. FitsSlot ends turns passed (register_in old) old.stack new.stack k kind) (e (11 + k)) (h.slots k lt);
 }
 
-pub fits_at : (ends : Order) (turns : ℕ) (passed : ℕ → ℕ) (kinds : Kinds) (old new : StackFrame) (x y : ℕ) → FrameFits ends turns passed kinds old new
+pub fits_at : (ends : Order) (turns : ℕ) (passed : Past) (kinds : Kinds) (old new : StackFrame) (x y : ℕ) → FrameFits ends turns passed kinds old new
     → FrameFits ends turns passed kinds (record { slot = x; registers = old.registers; stack = old.stack }) (record { slot = y; registers = new.registers; stack = new.stack })
 fits_at ends turns passed kinds old new x y h = record { eleven_old = h.eleven_old; eleven = h.eleven; registers = h.registers; long = h.long; stack = h.stack; slots = h.slots }
 
@@ -283,7 +314,7 @@ abbrev pub holding : Option Value → Value → ℕ → Option Value
 holding own v q = if q == 10 then own else Some v
 
 -- Both frames get values, of a kind that a value and r10 decide.
-pub fits_put : (ends : Order) (turns : ℕ) (passed : ℕ → ℕ) (i : Insn) (kind : Kind) (kinds : Kinds) (old new : StackFrame) (w : ℕ) (v x : Value) → ((q : ℕ) → q < 11 → is_changed i q ≡ (q == w)) → SlotsAre i kind kinds → is_of_register kind ≡ false → w == 10 ≡ false
+pub fits_put : (ends : Order) (turns : ℕ) (passed : Past) (i : Insn) (kind : Kind) (kinds : Kinds) (old new : StackFrame) (w : ℕ) (v x : Value) → ((q : ℕ) → q < 11 → is_changed i q ≡ (q == w)) → SlotsAre i kind kinds → is_of_register kind ≡ false → w == 10 ≡ false
     → FitsKind turns passed (holding (register_in old 10) v) 0 kind (Some x) → FrameFits ends turns passed kinds old new
     → FrameFits ends turns passed (kinds_after i kind kinds) (record { slot = old.slot; registers = set old.registers w (Some v); stack = old.stack }) (record { slot = new.slot; registers = set new.registers w (Some x); stack = new.stack })
 fits_put ends turns passed i kind kinds old new w v x changed are own other fit h = record {

@@ -33,17 +33,17 @@ use Rattle.bpf_follows.specs.declared.notes.Place.{Place}
 use Rattle.bpf_follows.specs.declared.site.Span.{Span}
 use Rattle.bpf_follows.specs.declared.site.Range.{Range}
 use Rattle.bpf_follows.specs.declared.site.Front.{Front}
-use Rattle.bpf_follows.specs.Areas.{origin, size_of, IsInto}
-use Rattle.bpf_follows.specs.Relation.{kind_in, most_natural, IsKept, as_number, CountsDown, IsOneNumber, IsFixed, IsWithin, FitsKind, FitsSlot, register_in}
+use Rattle.bpf_follows.specs.Areas.{origin, size_of, first_of, IsInto}
+use Rattle.bpf_follows.specs.Relation.{Past, kind_in, natural_top, IsKept, as_number, CountsDown, IsOneNumber, IsFixed, IsWithin, FitsKind, FitsSlot, register_in}
 use Rattle.bpf_follows.specs.Extras.{kind_of, offset_in, is_taken}
-use Rattle.bpf_follows.specs.Guards.{range_of, offset_range, is_near, clipped, natural_part, bounds_range, fixed_in, added_to, added_range, range_in, is_most, is_least, passes, at_most, at_least, passed_by, is_other}
+use Rattle.bpf_follows.specs.Guards.{range_of, offset_range, is_near, clipped, natural_part, bounds_range, fixed_in, added_to, added_range, range_in, is_most, is_least, at_most, at_least, passed_by, is_other}
 use Rattle.bpf_follows.proofs.Lists.{bind, unmapped, cond_first}
 use Rattle.bpf_follows.proofs.Offsets.{moved_back}
-use Rattle.bpf_follows.proofs.Onward.{room, placed, LieIn}
+use Rattle.bpf_follows.proofs.Onward.{floor, room, placed, LieIn}
 use Rattle.bpf_follows.proofs.Between.{Between}
 use Rattle.bpf_follows.proofs.Slots.{register_below}
 use Rattle.bpf_follows.proofs.Instruction.{both_true}
-use Rattle.bpf_follows.proofs.Extra.{kind_set, InFront, Facts, moved_has, Goes1, moves, fits_at}
+use Rattle.bpf_follows.proofs.Extra.{kind_set, rooms_in, InFront, moved_has, Goes1, moves, fits_at}
 
 abbrev number_value : Value → ℕ
 number_value (Number n) = n
@@ -52,7 +52,7 @@ number_value (Pointer region off) = 0
 number_same : {a b : ℕ} → Number a ≡ Number b → a ≡ b
 number_same e = ap number_value e
 
-mod_low : (n most : ℕ) → n ≤ most → n % addresses ≤ most
+pub mod_low : (n most : ℕ) → n ≤ most → n % addresses ≤ most
 mod_low n most h = omega arith
 
 -- where a pointer into an area points among its bytes, and how many there are
@@ -63,9 +63,13 @@ placed_in Given own region offset e = ap (λ region. placed region offset) e ∙
     plus_nothing z = omega (arith, ints)
 placed_in Own own region offset e = ap (λ region. placed region offset) e.1
 
-room_in : (area : Area) (own : Option Value) (region : Region) (bytes : ℕ) → IsInto area own region → room bytes region ≡ size_of area bytes
-room_in Given own region bytes e = ap (room bytes) e
-room_in Own own region bytes e = ap (room bytes) e.1
+room_in : (area : Area) (own : Option Value) (region : Region) (front : Front) → IsInto area own region → room (rooms_in front) region ≡ size_of area front.length
+room_in Given own region front e = ap (room (rooms_in front)) e
+room_in Own own region front e = ap (room (rooms_in front)) e.1
+
+floor_in : (area : Area) (own : Option Value) (region : Region) (front : Front) → IsInto area own region → floor (rooms_in front) region ≡ first_of area front.padded front.untouched
+floor_in Given own region front e = ap (floor (rooms_in front)) e
+floor_in Own own region front e = ap (floor (rooms_in front)) e.1
 
 -- ---- an offset that is as small as its number
 
@@ -91,12 +95,12 @@ small_there : (z : ℤ) (x n : ℕ) → IsNear z → modulo z addresses ≡ x �
 small_there (pos m) x n near e h small = let far = near.1 in let below : m ≤ 2 ^ 63 + 512 = omega (arith, ints) in let same : m ≡ x = omega arith in (omega (arith, ints), omega (arith, ints))
 small_there (negsuc m) x n near e h small = let far = near.0 in let below : m ≤ 2 ^ 63 = omega (arith, ints) in absurd (omega arith)
 
-module _ (ends : Order) (notes : List (Option Place)) (turns : ℕ) (passed : ℕ → ℕ) where
+module _ (ends : Order) (notes : List (Option Place)) (turns : ℕ) (passed : Past) where
   other_does : (order : Order) (t : State) (dst : Reg) (imm off : ℤ) (x : ℕ) → register t dst ≡ Some (Number x) → (x ≡ extended imm → ⊥) → does order (JumpIf Eq W64 dst (Imm imm) off) t ≡ Some (at_slot (t.top.slot + 1) t)
   unfolding does
   other_does order t dst imm off x e other = bind _ (register t dst) (Number x) _ e (ap (λ b. cond b (jump t off) (Some (at_slot (t.top.slot + 1) t))) (ne_eqb x (extended imm) other))
 
-  either_true : (a b : Bool) → (a || b) ≡ true → (a ≡ true) ⊎ (b ≡ true)
+  pub either_true : (a b : Bool) → (a || b) ≡ true → (a ≡ true) ⊎ (b ≡ true)
   either_true true b e = inl refl
   either_true false b e = inr e
 
@@ -108,7 +112,7 @@ module _ (ends : Order) (notes : List (Option Place)) (turns : ℕ) (passed : �
   ]
   other_number imm kind old r new e f = absurd (false≢true e)
 
-  jump_passes : (order : Order) (i : Insn) (kinds : List Kind) (s t : State) → Between ends notes turns passed (kind_in kinds) s t → does order i t ≡ Some (at_slot (t.top.slot + 1) t) → Goes1 ends notes turns passed order i kinds s t
+  pub jump_passes : (order : Order) (i : Insn) (kinds : List Kind) (s t : State) → Between ends notes turns passed (kind_in kinds) s t → does order i t ≡ Some (at_slot (t.top.slot + 1) t) → Goes1 ends notes turns passed order i kinds s t
   jump_passes order i kinds s t b e = record { state = at_slot (t.top.slot + 1) t; is = e; at = refl; between = moves ends notes turns passed kinds s t (t.top.slot + 1) b }
 
   test_does : (order : Order) (t : State) (dst : Reg) (off : ℤ) (left : ℕ) → register t dst ≡ Some (Number left) → 0 < left → does order (JumpIf Eq W64 dst (Imm (pos 0)) off) t ≡ Some (at_slot (t.top.slot + 1) t)
@@ -117,16 +121,16 @@ module _ (ends : Order) (notes : List (Option Place)) (turns : ℕ) (passed : �
       let not_zero : left ≡ 0 → ⊥ = λ z. absurd (omega arith) in
       bind _ (register t dst) (Number left) _ e (ap (λ b. cond b (jump t off) (Some (at_slot (t.top.slot + 1) t))) (ne_eqb left 0 not_zero))
 
-  guard_does : (order : Order) (t : State) (dst : Reg) (imm off : ℤ) (x : ℕ) → register t dst ≡ Some (Number x) → x ≤ extended imm → does order (JumpIf Gt W64 dst (Imm imm) off) t ≡ Some (at_slot (t.top.slot + 1) t)
+  pub guard_does : (order : Order) (t : State) (dst : Reg) (imm off : ℤ) (x : ℕ) → register t dst ≡ Some (Number x) → x ≤ extended imm → does order (JumpIf Gt W64 dst (Imm imm) off) t ≡ Some (at_slot (t.top.slot + 1) t)
   unfolding does
   guard_does order t dst imm off x e low = bind _ (register t dst) (Number x) _ e (ap (λ b. cond b (jump t off) (Some (at_slot (t.top.slot + 1) t))) (le-ltb (extended imm) x low))
 
-  low_does : (order : Order) (t : State) (dst : Reg) (imm off : ℤ) (x : ℕ) → register t dst ≡ Some (Number x) → extended imm ≤ x → does order (JumpIf Lt W64 dst (Imm imm) off) t ≡ Some (at_slot (t.top.slot + 1) t)
+  pub low_does : (order : Order) (t : State) (dst : Reg) (imm off : ℤ) (x : ℕ) → register t dst ≡ Some (Number x) → extended imm ≤ x → does order (JumpIf Lt W64 dst (Imm imm) off) t ≡ Some (at_slot (t.top.slot + 1) t)
   unfolding does
   low_does order t dst imm off x e high = bind _ (register t dst) (Number x) _ e (ap (λ b. cond b (jump t off) (Some (at_slot (t.top.slot + 1) t))) (le-ltb x (extended imm) high))
 
-  counter_has : (front : Front) (kind : Kind) (old : ℕ → Option Value) (r : ℕ) (new : Option Value) → is_taken (Some front) kind ≡ true → FitsKind turns passed old r kind new → CountsDown turns (passed front.slot) new
-  counter_has front (Counter head) old r new e f = subst (λ h. CountsDown turns (passed h) new) (eqb-true head front.slot e) f
+  counter_has : (front : Front) (kind : Kind) (old : ℕ → Option Value) (r : ℕ) (new : Option Value) → is_taken (Some front) kind ≡ true → FitsKind turns passed old r kind new → CountsDown turns (passed.visits front.slot) new
+  counter_has front (Counter head) old r new e f = subst (λ h. CountsDown turns (passed.visits h) new) (eqb-true head front.slot e) f
   counter_has front kind old r new e f = absurd (false≢true e)
 
   -- a register holds a number of a range
@@ -136,11 +140,11 @@ module _ (ends : Order) (notes : List (Option Place)) (turns : ℕ) (passed : �
     low : range.least ≤ℤ at
     high : at ≤ℤ range.most
 
-  natural : (z : ℤ) → pos 0 ≤ℤ z → (n : ℕ) × (z ≡ pos n)
+  pub natural : (z : ℤ) → pos 0 ≤ℤ z → (n : ℕ) × (z ≡ pos n)
   natural (pos n) h = (n, refl)
   natural (negsuc n) h = absurd (omega (arith, ints))
 
-  le_of : (a b : ℤ) → int_le a b ≡ true → a ≤ℤ b
+  pub le_of : (a b : ℤ) → int_le a b ≡ true → a ≤ℤ b
   le_of a b e = omega (arith, ints)
 
   most_is : (imm : ℤ) (range : Range) (new : Option Value) (h : IsIn range new) → is_most imm range ≡ true → modulo h.at addresses ≤ extended imm
@@ -172,26 +176,28 @@ module _ (ends : Order) (notes : List (Option Place)) (turns : ℕ) (passed : �
       subst (λ z. extended imm ≤ modulo z addresses) (sym n_is) (not_wrapped n.0 (2 ^ 48) (extended imm) above near (omega arith))
 
   -- where accesses go that lie in an area, moved
-  ranges : (bytes : ℕ) (span : Span) (up down offset : ℤ) (range : Range) (new : Option Value) → range_of bytes span up down ≡ range → LieIn bytes offset span → new ≡ Some (as_number (offset +ℤ (up -ℤ down))) → IsIn range new
-  ranges bytes span up down offset range new e l is =
+  ranges : (low bytes : ℕ) (span : Span) (up down offset : ℤ) (range : Range) (new : Option Value) → range_of low bytes span up down ≡ range → LieIn low bytes offset span → new ≡ Some (as_number (offset +ℤ (up -ℤ down))) → IsIn range new
+  ranges low bytes span up down offset range new e l is =
       let first = l.first in
       let last = l.last in
       subst (λ range. IsIn range new) e (record { at = offset +ℤ (up -ℤ down); is = is; low = omega (arith, ints); high = omega (arith, ints) })
 
   -- bytes beside a pointer into an area lie there, counted from its first byte
-  area_lies : (area : Area) (own : Option Value) (region : Region) (bytes : ℕ) (offset : ℤ) (span : Span) → IsInto area own region → LieIn (room bytes region) (placed region offset) span → LieIn (size_of area bytes) (offset +ℤ origin area) span
-  area_lies area own region bytes offset span into l =
-      subst (λ size. LieIn size (offset +ℤ origin area) span) (room_in area own region bytes into) (subst (λ at. LieIn (room bytes region) at span) (placed_in area own region offset into) l)
+  area_lies : (area : Area) (own : Option Value) (region : Region) (front : Front) (offset : ℤ) (span : Span) → IsInto area own region → LieIn (floor (rooms_in front) region) (room (rooms_in front) region) (placed region offset) span
+      → LieIn (first_of area front.padded front.untouched) (size_of area front.length) (offset +ℤ origin area) span
+  area_lies area own region front offset span into l =
+      subst (λ low. LieIn low (size_of area front.length) (offset +ℤ origin area) span) (floor_in area own region front into)
+      (subst (λ size. LieIn (floor (rooms_in front) region) size (offset +ℤ origin area) span) (room_in area own region front into) (subst (λ at. LieIn (floor (rooms_in front) region) (room (rooms_in front) region) at span) (placed_in area own region offset into) l))
 
   regroup : (a b c : ℤ) → a +ℤ (b +ℤ c) ≡ (a +ℤ b) +ℤ (c -ℤ pos 0)
   regroup a b c = omega (arith, ints)
 
   offset_in_range : (front : Front) (s t : State) (r : Reg) (kind : Kind) (range : Range) → InFront passed turns front s → FitsKind turns passed (register_in s.top) (register_number r) kind (register t r) → offset_range front r kind ≡ Some range → IsIn range (register t r)
   offset_in_range front s t r kind range facts f e = option_and_then_some _ (offset_in r kind) range e (λ m em e1.
-      let span = unmapped (λ span. range_of (size_of m.0 front.length) span m.2 (pos 0)) (get_or front.spans (register_number m.1) None) range e1 in
+      let span = unmapped (λ span. range_of (first_of m.0 front.padded front.untouched) (size_of m.0 front.length) span m.2 (pos 0)) (get_or front.spans (register_number m.1) None) range e1 in
       let h = moved_has turns passed (register_in s.top) r kind m (register t r) em f in
-      let l = area_lies m.0 (register_in s.top 10) h.region front.length h.offset span.0 h.into (facts.spans m.1 span.0 h.region h.offset span.1 h.old_is) in
-      ranges (size_of m.0 front.length) span.0 m.2 (pos 0) (h.offset +ℤ origin m.0) range (register t r) span.2 l (h.new_is ∙ ap (λ z. Some (as_number z)) (regroup h.offset (origin m.0) m.2)))
+      let l = area_lies m.0 (register_in s.top 10) h.region front h.offset span.0 h.into (facts.spans m.1 span.0 h.region h.offset span.1 h.old_is) in
+      ranges (first_of m.0 front.padded front.untouched) (size_of m.0 front.length) span.0 m.2 (pos 0) (h.offset +ℤ origin m.0) range (register t r) span.2 l (h.new_is ∙ ap (λ z. Some (as_number z)) (regroup h.offset (origin m.0) m.2)))
 
   -- what is added to an offset that is always the same
   pub record Adds (kinds : List Kind) (r : Reg) (i : Insn) (area : Area) (offset : ℤ) : Type 0 where
@@ -201,7 +207,7 @@ module _ (ends : Order) (notes : List (Option Place)) (turns : ℕ) (passed : �
     pub same : register_number src ≡ register_number r
     pub fixed : kind_of kinds dst ≡ Fixed area offset
 
-  fixed_is : (kind : Kind) (a : Area × ℤ) → fixed_in kind ≡ Some a → kind ≡ Fixed a.0 a.1
+  pub fixed_is : (kind : Kind) (a : Area × ℤ) → fixed_in kind ≡ Some a → kind ≡ Fixed a.0 a.1
   fixed_is (Fixed area o) a e = ap (λ (a : Area × ℤ). Fixed a.0 a.1) (same_Some _ _ e)
   fixed_is kind a e = absurd (none-some _ e)
 
@@ -214,15 +220,15 @@ module _ (ends : Order) (notes : List (Option Place)) (turns : ℕ) (passed : �
   added_in_range : (front : Front) (kinds : List Kind) (s t : State) (r : Reg) (range : Range) → InFront passed turns front s → Between ends notes turns passed (kind_in kinds) s t → IsKept (register s r) (register t r) → added_range front kinds r ≡ Some range → IsIn range (register t r)
   added_in_range front kinds s t r range facts b kept e = option_and_then_some _ (added_to kinds r front.insn) range e (λ p eo e1.
       let a = adds kinds r front.insn p eo in
-      let span = unmapped (λ span. range_of (size_of p.0 front.length) span (pos 0) p.1) front.behind range e1 in
+      let span = unmapped (λ span. range_of (first_of p.0 front.padded front.untouched) (size_of p.0 front.length) span (pos 0) p.1) front.behind range e1 in
       let f : IsFixed p.0 p.1 (register_in s.top 10) (register s a.dst) (register t a.dst) = subst (λ kind. FitsKind turns passed (register_in s.top) (register_number a.dst) kind (register t a.dst)) a.fixed (fits_at ends notes turns passed kinds s t a.dst b) in
       let h = f.has in
       let l = facts.sums a.dst a.src h.region h.offset span.0 a.is span.1 h.old_is in
       let w : ℤ = wrapped (h.offset +ℤ pos l.number) in
-      let lie = area_lies p.0 (register_in s.top 10) h.region front.length w span.0 h.into l.lies in
+      let lie = area_lies p.0 (register_in s.top 10) h.region front w span.0 h.into l.lies in
       let new_is : register t r ≡ Some (Number l.number) = kept (Number l.number) (ap (register_in s.top) (sym a.same) ∙ l.is) in
       let back : l.number ≡ modulo ((w +ℤ origin p.0) +ℤ (pos 0 -ℤ p.1)) addresses = moved_back h.offset (origin p.0) l.number l.fits ∙ ap (λ z. modulo ((w +ℤ origin p.0) +ℤ (pos 0 -ℤ z)) addresses) f.is in
-      ranges (size_of p.0 front.length) span.0 (pos 0) p.1 (w +ℤ origin p.0) range (register t r) span.2 lie (new_is ∙ ap (λ n. Some (Number n)) back))
+      ranges (first_of p.0 front.padded front.untouched) (size_of p.0 front.length) span.0 (pos 0) p.1 (w +ℤ origin p.0) range (register t r) span.2 lie (new_is ∙ ap (λ n. Some (Number n)) back))
 
   bounds_in : (least most : ℕ) (range : Range) (old new : Option Value) → IsOneNumber least most old new → bounds_range least most ≡ Some range → IsIn range new
   bounds_in least most range old new f e =
@@ -277,18 +283,18 @@ module _ (ends : Order) (notes : List (Option Place)) (turns : ℕ) (passed : �
       by_added None eo e = bounds_in least most range (register s r) (register t r) f e
 
   -- of the numbers of a range those that are below 2 ^ 63
-  natural_in : (range : Range) (old new : Option Value) → IsIn range new → IsOneNumber 0 most_natural old new → IsIn (natural_part range) new
-  natural_in range old new h f = by_cases (is_near range) refl
+  natural_in : (half : ℕ) (range : Range) (old new : Option Value) → IsIn range new → IsOneNumber 0 (natural_top half) old new → IsIn (natural_part half range) new
+  natural_in half range old new h f = by_cases (nat_lt half (2 ^ 31)) (is_near range) refl refl
     where
       same : (z : ℤ) → h.at ≡ z → modulo z (2 ^ 64) ≡ f.number
       same z ez = ap (λ z. modulo z (2 ^ 64)) (sym ez) ∙ number_same (same_Some _ _ (sym h.is ∙ f.new_is))
 
-      by_sign : (z : ℤ) → h.at ≡ z → is_near range ≡ true → IsIn (record { least = int_max (pos 0) range.least; most = range.most }) new
-      by_sign (pos n) ez near =
+      by_sign : (z : ℤ) → h.at ≡ z → half < 2 ^ 31 → is_near range ≡ true → IsIn (record { least = int_max (pos 0) range.least; most = range.most }) new
+      by_sign (pos n) ez small near =
           let low_is = subst (λ z. range.least ≤ℤ z) ez h.low in
           let high_is = subst (λ z. z ≤ℤ range.most) ez h.high in
           record { at = pos n; is = subst (λ z. new ≡ Some (as_number z)) ez h.is; low = omega (arith, ints, clamps); high = high_is }
-      by_sign (negsuc n) ez near =
+      by_sign (negsuc n) ez small near =
           let k = both_true (int_le (negsuc (2 ^ 48)) range.least) (int_le range.most (pos (2 ^ 48))) near in
           let far = le_of (negsuc (2 ^ 48)) range.least k.0 in
           let high = f.high in
@@ -297,9 +303,10 @@ module _ (ends : Order) (notes : List (Option Place)) (turns : ℕ) (passed : �
           let same_is = same (negsuc n) ez in
           absurd (omega arith)
 
-      by_cases : (b : Bool) → is_near range ≡ b → IsIn (if b then record { least = int_max (pos 0) range.least; most = range.most } else range) new
-      by_cases true eb = by_sign h.at refl eb
-      by_cases false eb = h
+      by_cases : (a b : Bool) → nat_lt half (2 ^ 31) ≡ a → is_near range ≡ b → IsIn (if a && b then record { least = int_max (pos 0) range.least; most = range.most } else range) new
+      by_cases true true ea eb = by_sign h.at refl (ltb-true half (2 ^ 31) ea) eb
+      by_cases true false ea eb = h
+      by_cases false b ea eb = h
 
   -- an offset between bounds is a number between them
   within_number : (area : Area) (least most : ℕ) (own old new : Option Value) → IsWithin area least most own old new → IsOneNumber least most new new
@@ -339,19 +346,19 @@ module _ (ends : Order) (notes : List (Option Place)) (turns : ℕ) (passed : �
           (clipped_in least most found (register t r) (register t r) (offset_in_range front s t r (Within area least most) found facts f eo) g)
       by_offset None eo e = bounds_in least most range (register t r) (register t r) g e
 
-  natural_in_range : (front : Front) (kinds : List Kind) (s t : State) (r : Reg) (range : Range) → InFront passed turns front s → Between ends notes turns passed (kind_in kinds) s t → IsOneNumber 0 most_natural (register s r) (register t r)
-      → option_map natural_part (added_range front kinds r) ≡ Some range → IsIn range (register t r)
-  natural_in_range front kinds s t r range facts b f e =
-      let m = unmapped natural_part (added_range front kinds r) range e in
+  natural_in_range : (front : Front) (kinds : List Kind) (s t : State) (r : Reg) (half : ℕ) (range : Range) → InFront passed turns front s → Between ends notes turns passed (kind_in kinds) s t → IsOneNumber 0 (natural_top half) (register s r) (register t r)
+      → option_map (natural_part half) (added_range front kinds r) ≡ Some range → IsIn range (register t r)
+  natural_in_range front kinds s t r half range facts b f e =
+      let m = unmapped (natural_part half) (added_range front kinds r) range e in
       subst (λ range. IsIn range (register t r)) m.2
-      (natural_in m.0 (register s r) (register t r) (added_in_range front kinds s t r m.0 facts b (λ v ev. f.new_is ∙ (sym f.old_is ∙ ev)) m.1) f)
+      (natural_in half m.0 (register s r) (register t r) (added_in_range front kinds s t r m.0 facts b (λ v ev. f.new_is ∙ (sym f.old_is ∙ ev)) m.1) f)
 
   in_range : (front : Front) (kinds : List Kind) (s t : State) (r : Reg) (kind : Kind) (range : Range) → InFront passed turns front s → Between ends notes turns passed (kind_in kinds) s t → FitsKind turns passed (register_in s.top) (register_number r) kind (register t r)
       → range_in front kinds r kind ≡ Some range → IsIn range (register t r)
   in_range front kinds s t r Same range facts b f e = added_in_range front kinds s t r range facts b f e
   in_range front kinds s t r Both range facts b f e = added_in_range front kinds s t r range facts b (λ v ev. f.new_is ∙ (sym f.old_is ∙ ev)) e
   in_range front kinds s t r (NumberKind least most) range facts b f e = number_in_range front kinds s t r least most range facts b f e
-  in_range front kinds s t r Natural range facts b f e = natural_in_range front kinds s t r range facts b f e
+  in_range front kinds s t r (Natural half) range facts b f e = natural_in_range front kinds s t r half range facts b f e
   in_range front kinds s t r (Offset area) range facts b f e = offset_in_range front s t r (Offset area) range facts f e
   in_range front kinds s t r (Within area least most) range facts b f e = within_in_range front s t r area least most range facts f e
   in_range front kinds s t r (Fixed area at) range facts b f e = offset_in_range front s t r (Fixed area at) range facts f e
@@ -389,7 +396,7 @@ module _ (ends : Order) (notes : List (Option Place)) (turns : ℕ) (passed : �
           let kept : kind_in (set kinds (register_number dst) kind) r ≡ kind_in kinds r = get_or-set_other kinds (register_number dst) r kind Nothing (eqb-false r (register_number dst) e) in
           subst (λ kind. FitsKind turns passed (register_in s.top) r kind (register_in t.top r)) (sym kept) (b.top.registers r lt)
 
-  most_fits : (kind : Kind) (n x : ℕ) (old : ℕ → Option Value) (r : ℕ) (new : Option Value) → new ≡ Some (Number x) → x ≤ n → FitsKind turns passed old r kind new → FitsKind turns passed old r (at_most n kind) new
+  pub most_fits : (kind : Kind) (n x : ℕ) (old : ℕ → Option Value) (r : ℕ) (new : Option Value) → new ≡ Some (Number x) → x ≤ n → FitsKind turns passed old r kind new → FitsKind turns passed old r (at_most n kind) new
   most_fits (NumberKind least most) n x old r new is below f =
       let same : f.number ≡ x = number_same (same_Some _ _ (sym f.new_is ∙ is)) in
       let high = f.high in
@@ -410,7 +417,7 @@ module _ (ends : Order) (notes : List (Option Place)) (turns : ℕ) (passed : �
       record { has = f.has; low = f.low; high = omega (arith, ints) }
   most_fits kind n x old r new is below f = f
 
-  least_fits : (kind : Kind) (n x : ℕ) (old : ℕ → Option Value) (r : ℕ) (new : Option Value) → new ≡ Some (Number x) → n ≤ x → FitsKind turns passed old r kind new → FitsKind turns passed old r (at_least n kind) new
+  pub least_fits : (kind : Kind) (n x : ℕ) (old : ℕ → Option Value) (r : ℕ) (new : Option Value) → new ≡ Some (Number x) → n ≤ x → FitsKind turns passed old r kind new → FitsKind turns passed old r (at_least n kind) new
   least_fits (NumberKind least most) n x old r new is above f = by_cases (nat_lt n (2 ^ 32))
     where
       by_cases : (b : Bool) → FitsKind turns passed old r (if b then NumberKind (max least n) most else NumberKind least most) new
@@ -431,7 +438,7 @@ module _ (ends : Order) (notes : List (Option Place)) (turns : ℕ) (passed : �
   least_fits kind n x old r new is above f = f
 
   -- a jump that isn't taken, behind which more is known
-  guard_passes : (order : Order) (i : Insn) (kinds : List Kind) (kind : Kind) (dst : Reg) (s t : State) → Between ends notes turns passed (kind_in kinds) s t → does order i t ≡ Some (at_slot (t.top.slot + 1) t) → FitsKind turns passed (register_in s.top) (register_number dst) kind (register t dst)
+  pub guard_passes : (order : Order) (i : Insn) (kinds : List Kind) (kind : Kind) (dst : Reg) (s t : State) → Between ends notes turns passed (kind_in kinds) s t → does order i t ≡ Some (at_slot (t.top.slot + 1) t) → FitsKind turns passed (register_in s.top) (register_number dst) kind (register t dst)
       → Goes1 ends notes turns passed order i (set kinds (register_number dst) kind) s t
   guard_passes order i kinds kind dst s t b e f = record {
     state = at_slot (t.top.slot + 1) t;
@@ -440,31 +447,31 @@ module _ (ends : Order) (notes : List (Option Place)) (turns : ℕ) (passed : �
     between = moves ends notes turns passed (set kinds (register_number dst) kind) s t (t.top.slot + 1) (narrowed kinds kind s t dst b f);
   }
 
-  most_goes : (order : Order) (front : Front) (dst : Reg) (imm off : ℤ) (kinds : List Kind) (s t : State) → InFront passed turns front s → Between ends notes turns passed (kind_in kinds) s t
+  -- a test that none of the range passes in which the number lies
+  range_goes : (order : Order) (front : Front) (i : Insn) (dst : Reg) (never : Range → Bool) (kind : Kind) (kinds : List Kind) (s t : State) → InFront passed turns front s → Between ends notes turns passed (kind_in kinds) s t
+      → ((range : Range) → IsIn range (register t dst) → never range ≡ true → (does order i t ≡ Some (at_slot (t.top.slot + 1) t)) × FitsKind turns passed (register_in s.top) (register_number dst) kind (register t dst))
+      → option_map_or never (range_in front kinds dst (kind_of kinds dst)) false ≡ true → Goes1 ends notes turns passed order i (set kinds (register_number dst) kind) s t
+  range_goes order front i dst never kind kinds s t facts b stays e = by_range (range_in front kinds dst (kind_of kinds dst)) refl e
+    where
+      by_range : (o : Option Range) → range_in front kinds dst (kind_of kinds dst) ≡ o → option_map_or never o false ≡ true → Goes1 ends notes turns passed order i (set kinds (register_number dst) kind) s t
+      by_range None eo e = absurd (false≢true e)
+      by_range (Some range) eo e =
+          let g = stays range (in_range front kinds s t dst (kind_of kinds dst) range facts b (fits_at ends notes turns passed kinds s t dst b) eo) e in
+          guard_passes order i kinds kind dst s t b g.0 g.1
+
+  pub most_goes : (order : Order) (front : Front) (dst : Reg) (imm off : ℤ) (kinds : List Kind) (s t : State) → InFront passed turns front s → Between ends notes turns passed (kind_in kinds) s t
       → option_map_or (is_most imm) (range_in front kinds dst (kind_of kinds dst)) false ≡ true → Goes1 ends notes turns passed order (JumpIf Gt W64 dst (Imm imm) off) (passed_by kinds (JumpIf Gt W64 dst (Imm imm) off)) s t
-  most_goes order front dst imm off kinds s t facts b e = by_range (range_in front kinds dst (kind_of kinds dst)) refl e
-    where
-      by_range : (o : Option Range) → range_in front kinds dst (kind_of kinds dst) ≡ o → option_map_or (is_most imm) o false ≡ true → Goes1 ends notes turns passed order (JumpIf Gt W64 dst (Imm imm) off) (passed_by kinds (JumpIf Gt W64 dst (Imm imm) off)) s t
-      by_range None eo e = absurd (false≢true e)
-      by_range (Some range) eo e =
-          let h = in_range front kinds s t dst (kind_of kinds dst) range facts b (fits_at ends notes turns passed kinds s t dst b) eo in
-          let below = most_is imm range (register t dst) h e in
-          guard_passes order (JumpIf Gt W64 dst (Imm imm) off) kinds (at_most (extended imm) (kind_of kinds dst)) dst s t b (guard_does order t dst imm off (modulo h.at addresses) h.is below)
-          (most_fits (kind_of kinds dst) (extended imm) (modulo h.at addresses) (register_in s.top) (register_number dst) (register t dst) h.is below (fits_at ends notes turns passed kinds s t dst b))
+  most_goes order front dst imm off kinds s t facts b = range_goes order front (JumpIf Gt W64 dst (Imm imm) off) dst (is_most imm) (at_most (extended imm) (kind_of kinds dst)) kinds s t facts b (λ range h never.
+      let below = most_is imm range (register t dst) h never in
+      (guard_does order t dst imm off (modulo h.at addresses) h.is below, most_fits (kind_of kinds dst) (extended imm) (modulo h.at addresses) (register_in s.top) (register_number dst) (register t dst) h.is below (fits_at ends notes turns passed kinds s t dst b)))
 
-  least_goes : (order : Order) (front : Front) (dst : Reg) (imm off : ℤ) (kinds : List Kind) (s t : State) → InFront passed turns front s → Between ends notes turns passed (kind_in kinds) s t
+  pub least_goes : (order : Order) (front : Front) (dst : Reg) (imm off : ℤ) (kinds : List Kind) (s t : State) → InFront passed turns front s → Between ends notes turns passed (kind_in kinds) s t
       → option_map_or (is_least imm) (range_in front kinds dst (kind_of kinds dst)) false ≡ true → Goes1 ends notes turns passed order (JumpIf Lt W64 dst (Imm imm) off) (passed_by kinds (JumpIf Lt W64 dst (Imm imm) off)) s t
-  least_goes order front dst imm off kinds s t facts b e = by_range (range_in front kinds dst (kind_of kinds dst)) refl e
-    where
-      by_range : (o : Option Range) → range_in front kinds dst (kind_of kinds dst) ≡ o → option_map_or (is_least imm) o false ≡ true → Goes1 ends notes turns passed order (JumpIf Lt W64 dst (Imm imm) off) (passed_by kinds (JumpIf Lt W64 dst (Imm imm) off)) s t
-      by_range None eo e = absurd (false≢true e)
-      by_range (Some range) eo e =
-          let h = in_range front kinds s t dst (kind_of kinds dst) range facts b (fits_at ends notes turns passed kinds s t dst b) eo in
-          let above = least_is imm range (register t dst) h e in
-          guard_passes order (JumpIf Lt W64 dst (Imm imm) off) kinds (at_least (extended imm) (kind_of kinds dst)) dst s t b (low_does order t dst imm off (modulo h.at addresses) h.is above)
-          (least_fits (kind_of kinds dst) (extended imm) (modulo h.at addresses) (register_in s.top) (register_number dst) (register t dst) h.is above (fits_at ends notes turns passed kinds s t dst b))
+  least_goes order front dst imm off kinds s t facts b = range_goes order front (JumpIf Lt W64 dst (Imm imm) off) dst (is_least imm) (at_least (extended imm) (kind_of kinds dst)) kinds s t facts b (λ range h never.
+      let above = least_is imm range (register t dst) h never in
+      (low_does order t dst imm off (modulo h.at addresses) h.is above, least_fits (kind_of kinds dst) (extended imm) (modulo h.at addresses) (register_in s.top) (register_number dst) (register t dst) h.is above (fits_at ends notes turns passed kinds s t dst b)))
 
-  taken_goes : (order : Order) (front : Front) (dst : Reg) (imm off : ℤ) (kinds : List Kind) (s t : State) → InFront passed turns front s → Between ends notes turns passed (kind_in kinds) s t → (int_eq imm (pos 0) && is_taken (Some front) (kind_of kinds dst)) ≡ true
+  pub taken_goes : (order : Order) (front : Front) (dst : Reg) (imm off : ℤ) (kinds : List Kind) (s t : State) → InFront passed turns front s → Between ends notes turns passed (kind_in kinds) s t → (int_eq imm (pos 0) && is_taken (Some front) (kind_of kinds dst)) ≡ true
       → Goes1 ends notes turns passed order (JumpIf Eq W64 dst (Imm imm) off) kinds s t
   taken_goes order front dst imm off kinds s t facts b e =
       let h = both_true (int_eq imm (pos 0)) (is_taken (Some front) (kind_of kinds dst)) e in
@@ -474,16 +481,7 @@ module _ (ends : Order) (notes : List (Option Place)) (turns : ℕ) (passed : �
       let more : 0 < c.0 = omega arith in
       subst (λ imm. Goes1 ends notes turns passed order (JumpIf Eq W64 dst (Imm imm) off) kinds s t) (sym zero_is) (jump_passes order (JumpIf Eq W64 dst (Imm (pos 0)) off) kinds s t b (test_does order t dst off c.0 c.2 more))
 
-  other_goes : (order : Order) (dst : Reg) (imm off : ℤ) (kinds : List Kind) (s t : State) → Between ends notes turns passed (kind_in kinds) s t → is_other imm (kind_of kinds dst) ≡ true → Goes1 ends notes turns passed order (JumpIf Eq W64 dst (Imm imm) off) kinds s t
+  pub other_goes : (order : Order) (dst : Reg) (imm off : ℤ) (kinds : List Kind) (s t : State) → Between ends notes turns passed (kind_in kinds) s t → is_other imm (kind_of kinds dst) ≡ true → Goes1 ends notes turns passed order (JumpIf Eq W64 dst (Imm imm) off) kinds s t
   other_goes order dst imm off kinds s t b e =
       let h = other_number imm (kind_of kinds dst) (register_in s.top) (register_number dst) (register t dst) e (fits_at ends notes turns passed kinds s t dst b) in
       jump_passes order (JumpIf Eq W64 dst (Imm imm) off) kinds s t b (other_does order t dst imm off h.0 h.1 h.2)
-
-  pub passes_goes : (order : Order) (front : Option Front) (i : Insn) (kinds : List Kind) (s t : State) → Facts passed turns front s → Between ends notes turns passed (kind_in kinds) s t → passes front kinds i ≡ true → Goes1 ends notes turns passed order i (passed_by kinds i) s t
-  passes_goes order (Some front) (JumpIf Eq W64 dst (Imm imm) off) kinds s t facts b e = elim (either_true (int_eq imm (pos 0) && is_taken (Some front) (kind_of kinds dst)) (is_other imm (kind_of kinds dst)) e) [
-    | inl taken ↦ taken_goes order front dst imm off kinds s t facts b taken
-    | inr other ↦ other_goes order dst imm off kinds s t b other
-  ]
-  passes_goes order (Some front) (JumpIf Gt W64 dst (Imm imm) off) kinds s t facts b e = most_goes order front dst imm off kinds s t facts b e
-  passes_goes order (Some front) (JumpIf Lt W64 dst (Imm imm) off) kinds s t facts b e = least_goes order front dst imm off kinds s t facts b e
-  passes_goes order front i kinds s t facts b e = absurd (false≢true e)

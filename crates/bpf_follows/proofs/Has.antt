@@ -15,7 +15,7 @@ use Rattle.bpf_follows.specs.declared.notes.Area.TheVariants.{Given, Own}
 use Rattle.bpf_follows.specs.declared.notes.Kind.{Kind}
 use Rattle.bpf_follows.specs.declared.notes.Kind.TheVariants.{Nothing, Offset, Fixed, Within}
 use Rattle.bpf_follows.specs.Areas.{same_area, IsInto, area_of, is_offset, alike, unbounded}
-use Rattle.bpf_follows.specs.Relation.{HasOffset, FitsKind, as_offset}
+use Rattle.bpf_follows.specs.Relation.{Past, HasOffset, FitsKind, as_offset}
 
 -- ---- areas
 
@@ -38,7 +38,7 @@ has_new area by make own old new new' e h = record { region = h.region; into = h
 
 -- ---- registers that hold offsets
 
-pub offset_has : (turns : ℕ) (passed : ℕ → ℕ) (old : ℕ → Option Value) (r : ℕ) (kind : Kind) (new : Option Value) (area : Area) → area_of kind ≡ Some area → FitsKind turns passed old r kind new → HasOffset area (pos 0) as_offset (old 10) (old r) new
+pub offset_has : (turns : ℕ) (passed : Past) (old : ℕ → Option Value) (r : ℕ) (kind : Kind) (new : Option Value) (area : Area) → area_of kind ≡ Some area → FitsKind turns passed old r kind new → HasOffset area (pos 0) as_offset (old 10) (old r) new
 offset_has turns passed old r (Offset into) new area e f = subst (λ area. HasOffset area (pos 0) as_offset (old 10) (old r) new) (same_Some _ _ e) f
 offset_has turns passed old r (Fixed into at) new area e f = subst (λ area. HasOffset area (pos 0) as_offset (old 10) (old r) new) (same_Some _ _ e) f.has
 offset_has turns passed old r (Within into least most) new area e f = subst (λ area. HasOffset area (pos 0) as_offset (old 10) (old r) new) (same_Some _ _ e) f.has

@@ -1,10 +1,10 @@
 -- The instruction itself, calls and ends aside: where the old machine does it, the new one does it, and goes where the notes say.
-use Rattle.std.proofs.Common.{◌≡◌, ℕ, ◌+◌, ◌*◌, ◌/◌, ◌%◌, ◌<◌, ◌≤◌, ◌⊎◌, inl, inr, ◌==◌, Bool, true, false, cond, List, Option, Some, None, length, get_or, refl, sym, ap, ap₂, ◌∙◌, subst, arith}
+use Rattle.std.proofs.Common.{◌≡◌, ℕ, ◌+◌, ◌/◌, ◌%◌, ◌<◌, ◌≤◌, ◌⊎◌, inl, inr, ◌==◌, Bool, true, false, cond, List, Option, Some, None, refl, sym, ap, ap₂, ◌∙◌, subst, arith}
 use Rattle.std.specs.Prelude.{ℤ, pos, not, ◌&&◌, ◌||◌, option_and_then, if◌then◌else◌}
 use Rattle.std.specs.Option.{option_map_or}
 use Rattle.std.specs.List.{AllByRecursion}
 use Rattle.std.proofs.lemmas.Option.{none-some, same_Some, option_and_then_some}
-use Rattle.std.proofs.lemmas.Bool.{false≢true, eqb-true, cases_Bool}
+use Rattle.std.proofs.lemmas.Bool.{false≢true, and_right, cases_Bool}
 use Rattle.bpf_insn.specs.Arithmetic.{alu, extended, sign_extend, swapped}
 use Rattle.bpf_insn.specs.Effects.{Access, access_of, register_written, registers_read, operand_register, atomic_registers, fetch_register}
 use Rattle.bpf_insn.specs.Instruction.{register_number, byte_count, word_size, slot_count, distance, target, goes_on}
@@ -23,29 +23,32 @@ use Rattle.bpf_insn.specs.declared.instruction.AtomicOp.{AtomicOp}
 use Rattle.bpf_insn.specs.declared.instruction.AtomicOp.TheVariants.{Modify as Changes, Xchg, CmpXchg}
 use Rattle.bpf_insn.specs.declared.instruction.Insn.{Insn}
 use Rattle.bpf_insn.specs.declared.instruction.Insn.TheVariants.{Alu, Neg, MovSx, End, LoadImm64, Load, LoadSx, Store, StoreImm, Atomic, Ja, JaLong, JumpIf, CallLocal, Exit}
-use Rattle.bpf_semantics.specs.State.{State, IsState, depth, register, number_in, number_of_register, put, at_slot}
-use Rattle.bpf_semantics.specs.Memory.Location.{InFrame}
-use Rattle.bpf_semantics.specs.Memory.{Location, location_of, is_within, number_at, stack_of, part_after, with_parts, store_number, store_pointer}
+use Rattle.bpf_semantics.specs.State.{State, IsState, register, number_in, number_of_register, put, at_slot}
+use Rattle.bpf_semantics.specs.Memory.{Location, location_of, is_within, number_at, store_number}
 use Rattle.bpf_semantics.specs.Step.{does, next, operand, alu_result, test_of_values, load, load_extended, store, atomic_result, fetched, jump}
 use Rattle.bpf_semantics.specs.declared.value.Value.{Value}
 use Rattle.bpf_semantics.specs.declared.value.Value.TheVariants.{Number, Pointer}
 use Rattle.bpf_semantics.specs.declared.value.Region.{Region}
 use Rattle.bpf_follows.specs.declared.notes.Kind.{Kind}
-use Rattle.bpf_follows.specs.declared.notes.Kind.TheVariants.{Same, Number as NumberKind, Natural, Start, Alone, Returns, Both}
+use Rattle.bpf_follows.specs.declared.notes.Kind.TheVariants.{Same, Number as NumberKind, Natural, Inner, Length, Start, Alone, Returns, Both}
 use Rattle.bpf_follows.specs.declared.notes.Place.{Place}
-use Rattle.bpf_follows.specs.Relation.{Kinds, IsKept, register_in, IsRead, EachPair, FitsKind, is_alone}
+use Rattle.bpf_follows.specs.Relation.{Past, Kinds, IsKept, register_in, FitsKind, is_alone}
+use Rattle.bpf_follows.specs.Exact.{may_go, may_fall, may_lead}
 use Rattle.bpf_follows.specs.Numbers.{loaded_number, number_kind, told}
 use Rattle.bpf_follows.specs.Extras.{is_same, is_r10, slot_of}
+use Rattle.bpf_follows.specs.Inner.{is_beside, is_inner, misses}
 use Rattle.bpf_follows.specs.Returned.{is_call, led}
-use Rattle.bpf_follows.specs.Matching.{is_changed, is_plain, is_whole, is_far, whole_slot, AllPlain, kinds_after, Arrives, undirected}
-use Rattle.bpf_follows.proofs.Lists.{bind, mapped, unmapped, cond_first, same_is_kept, as_long, Cells}
+use Rattle.bpf_follows.specs.Matching.{is_changed, is_plain, is_whole, is_far, whole_slot, IsPlainAt, kinds_after, Arrives, undirected}
+use Rattle.bpf_follows.proofs.Lists.{bind, mapped, unmapped, same_is_kept}
 use Rattle.bpf_follows.proofs.Owns.{Owns, live_location, live_next}
-use Rattle.bpf_follows.proofs.Slots.{register_below, plain_kept, parts_put, parts_read, each_read}
+use Rattle.bpf_follows.proofs.Slots.{register_below}
 use Rattle.bpf_follows.proofs.Frames.{is_of_register, holding, SlotsAre, InSome, no_slots}
-use Rattle.bpf_follows.proofs.Between.{is_double, Between, Goes, goes_held, goes_alike, same_depth, stands_at, goes_as, put_kept, location_same, number_kept, PointersKept, pointers_kept, pointer_at_kept, own_stack, own_stack_of, load_kept, load_extended_kept, number_stored, store_kept, number_near, value_near}
+use Rattle.bpf_follows.proofs.Between.{is_double, Between, Goes, goes_held, goes_alike, same_depth, stands_at, goes_as, put_kept, location_same, number_kept, Calm, PointersKept, pointers_kept, load_kept, load_extended_kept, number_stored, store_kept, number_near}
 pub use Rattle.bpf_follows.proofs.Arrivals.{both_true, plus_zero, Arrived, kind_given, fits_given, arrived}
-use Rattle.bpf_follows.proofs.Known.{alu_known, alu_own, load_own, load_known, told_between}
-use Rattle.bpf_follows.proofs.Near.{near, slot_here, stored, stored_are, after_stored, changed_low, in_all, in_some, in_one}
+use Rattle.bpf_follows.proofs.Known.{alu_known, load_own, load_known, told_between}
+use Rattle.bpf_follows.proofs.InnerStore.{inner_store, Lies, lies_by, not_beside, no_beside, store_hits, own_stored, whole_kept}
+use Rattle.bpf_follows.proofs.Ways.{goes_there}
+use Rattle.bpf_follows.proofs.Near.{near, slot_here, stored, stored_are, after_stored, changed_low, in_all, in_some}
 
 -- ---- an instruction with another distance
 
@@ -99,10 +102,10 @@ is_flow i = false
 
 -- what the instruction does on the frame is the same
 pub record Tame (notes : List (Option Place)) (kinds : Kinds) (i : Insn) : Type 0 where
-  pub far : is_far i ≡ true → AllPlain kinds × (is_alone notes ≡ false)
+  pub far : is_far i ≡ true → ((k : ℕ) → k < 64 → IsPlainAt kinds i k) × (is_alone notes ≡ false)
   pub near : (k : ℕ) → whole_slot i ≡ Some k → is_plain (kinds (11 + k)) ≡ true
 
-module _ (ends : Order) (notes : List (Option Place)) (turns : ℕ) (passed : ℕ → ℕ) where
+module _ (ends : Order) (notes : List (Option Place)) (turns : ℕ) (passed : Past) where
   -- ---- what is read
 
   abbrev AllSame : Kinds → List Reg → Type 0
@@ -113,7 +116,9 @@ module _ (ends : Order) (notes : List (Option Place)) (turns : ℕ) (passed : �
   same_kept old r Start new e f = λ v ev. f.1 ∙ (sym f.0 ∙ ev)
   same_kept old r Both new e f = λ v ev. f.new_is ∙ (sym f.old_is ∙ ev)
   same_kept old r (NumberKind least most) new e f = λ v ev. f.new_is ∙ (sym f.old_is ∙ ev)
-  same_kept old r Natural new e f = λ v ev. f.new_is ∙ (sym f.old_is ∙ ev)
+  same_kept old r (Natural half) new e f = λ v ev. f.new_is ∙ (sym f.old_is ∙ ev)
+  same_kept old r (Inner least most) new e f = λ v ev. f.new_is ∙ (sym f.old_is ∙ ev)
+  same_kept old r (Length most) new e f = λ v ev. f.is.2 ∙ (sym f.is.1 ∙ ev)
   same_kept old r Alone new e f = f
   same_kept old r (Returns least most) new e f = f
   same_kept old r kind new e f = absurd (false≢true e)
@@ -141,7 +146,7 @@ module _ (ends : Order) (notes : List (Option Place)) (turns : ℕ) (passed : �
       → Goes ends notes turns passed (kinds_after i Same kinds) (s.top.slot + slot_count i) (t.top.slot + slot_count i) u (put r v (next i t))
   put_next kinds s t u i r v writes h e = put_as kinds s t u i Same r v v writes refl (same_is_kept (Some v)) h e
 
-  location_kept : (kinds : Kinds) (s t : State) (k : ℕ) (off : ℤ) (base : Value) (at : Location) → Between ends notes turns passed kinds s t → location_of s k off base ≡ Some at → location_of t k off base ≡ Some at
+  pub location_kept : (kinds : Kinds) (s t : State) (k : ℕ) (off : ℤ) (base : Value) (at : Location) → Between ends notes turns passed kinds s t → location_of s k off base ≡ Some at → location_of t k off base ≡ Some at
   location_kept kinds s t k off base at h e = location_same ends notes turns passed s t k off base (same_depth ends notes turns passed kinds s t h) h.context_is ∙ e
 
   fetched_kept : (i : Insn) (kinds : Kinds) (s t u : State) (o : Option Reg) (old : ℕ) → ((q : ℕ) → q < 11 → is_changed i q ≡ option_map_or (λ w. q == register_number w) o false) → SlotsAre i Same kinds → Between ends notes turns passed kinds s t → fetched o old s ≡ Some u
@@ -156,16 +161,17 @@ module _ (ends : Order) (notes : List (Option Place)) (turns : ℕ) (passed : �
 
   -- ---- the instructions
 
-  abbrev Next : Order → Insn → Kinds → State → State → State → Type 0
+  abbrev pub Next : Order → Insn → Kinds → State → State → State → Type 0
   Next order i kinds s t u = Goes ends notes turns passed (kinds_after i (number_kind kinds i) kinds) (s.top.slot + slot_count i) (t.top.slot + slot_count i) u (does order i t)
 
-  alu_next : (order : Order) (op : AluOp) (width : Width) (dst : Reg) (src : Operand) (kinds : Kinds) (s t u : State) → IsState s → Between ends notes turns passed kinds s t
+  alu_next : (order : Order) (op : AluOp) (width : Width) (dst : Reg) (src : Operand) (kinds : Kinds) (s t u : State) → IsState s → Owns s → Between ends notes turns passed kinds s t
       → AllSame kinds (operand_register src) → ((b v : Value) → alu_result width op (register s dst) b ≡ Some v → alu_result width op (register t dst) b ≡ Some v)
       → does order (Alu op width dst src) s ≡ Some u → Next order (Alu op width dst src) kinds s t u
   unfolding does
-  alu_next order op width dst src kinds s t u state h same result e = option_and_then_some _ (operand s src) u e (λ b eb e1. option_and_then_some _ (alu_result width op (register s dst) b) u e1 (λ v ev e2.
+  alu_next order op width dst src kinds s t u state o h same result e = option_and_then_some _ (operand s src) u e (λ b eb e1. option_and_then_some _ (alu_result width op (register s dst) b) u e1 (λ v ev e2.
+      let known = alu_known ends notes turns passed width op dst src kinds s t b v state o h eb ev in
       goes_as ends notes turns passed _ _ _ u _ _ (bind _ (operand t src) b _ (operand_kept kinds s t src h same b eb) (bind _ (alu_result width op (register t dst) b) v _ (result b v ev) refl))
-      (put_as kinds s t u (Alu op width dst src) (number_kind kinds (Alu op width dst src)) dst v v (λ q. refl) (alu_own ends notes turns passed width op dst src kinds) (alu_known ends notes turns passed (register_in s.top 10) width op dst src kinds s t b v state h eb ev) h e2)))
+      (put_as kinds s t u (Alu op width dst src) (number_kind kinds (Alu op width dst src)) dst v v (λ q. refl) known.own known.fits h e2)))
 
   number_next : (order : Order) (i : Insn) (kinds : Kinds) (s t u : State) (r dst : Reg) (f : ℕ → ℕ) → Writes i dst → Between ends notes turns passed kinds s t → is_same (kinds (register_number r)) ≡ true
       → option_and_then (λ a. put dst (Number (f a)) (next i s)) (number_of_register s r) ≡ Some u
@@ -185,19 +191,7 @@ module _ (ends : Order) (notes : List (Option Place)) (turns : ℕ) (passed : �
 
   -- ---- stores
 
-  eighths : (n : ℕ) → n % 8 ≡ 0 → n ≡ 8 * (n / 8)
-  eighths n e = omega arith
-
-  -- a pointer is stored to a whole slot alone
-  whole_stored : (order : Order) (s u : State) (region : Region) (z : ℤ) (n i : ℕ) → store order DW (Pointer region z) (InFrame n i) s ≡ Some u → i % 8 == 0 ≡ true
-  unfolding store_pointer
-  whole_stored order s u region z n i e = (cond_first (i % 8 == 0) _ u e).0
-
-  same_parts : (region : Region) (z : ℤ) (i : ℕ) (xs ys : Cells) → EachPair IsRead xs ys → EachPair IsRead (with_parts region z i xs) (with_parts region z i ys)
-  unfolding with_parts
-  same_parts region z i xs ys h = each_read (part_after region z i) (part_after region z i) 0 xs ys (parts_read region z i) h
-
-  none_written : (i : Insn) → is_call i ≡ false → register_written i ≡ None → (q : ℕ) → q < 11 → is_changed i q ≡ false
+  pub none_written : (i : Insn) → is_call i ≡ false → register_written i ≡ None → (q : ℕ) → q < 11 → is_changed i q ≡ false
   none_written i call none q lt = changed_low i q call lt ∙ ap (λ o. option_map_or (λ w. q == register_number w) o false) none
 
   -- behind a store
@@ -206,15 +200,19 @@ module _ (ends : Order) (notes : List (Option Place)) (turns : ℕ) (passed : �
       goes_alike ends notes turns passed (kinds_after i kind (stored i kind kinds)) (kinds_after i kind kinds) x y u o (after_stored i kind kinds call)
       (goes_held ends notes turns passed i kind (stored i kind kinds) x y u o (none_written i call none) (stored_are i kind kinds call) g)
 
-  far_is : (i : Insn) (a : Access) → access_of i ≡ Some a → is_r10 a.base ≡ false → a.writes ≡ true → is_far i ≡ true
+  pub far_is : (i : Insn) (a : Access) → access_of i ≡ Some a → is_r10 a.base ≡ false → a.writes ≡ true → is_far i ≡ true
   far_is i a ea e ew =
       ap (λ o. option_map_or (λ a. not (is_r10 a.base) && (a.writes || is_whole i)) o false) ea ∙ ap₂ (λ b w. not b && (w || is_whole i)) e ew
 
+  -- where it may go to each slot all are plain
+  calm : (i : Insn) (kinds : Kinds) → Tame notes kinds i → is_far i ≡ true → ((k : ℕ) → misses kinds i k ≡ false) → Calm ends notes turns passed kinds
+  calm i kinds tame far hits = let t = tame.far far in (λ k lt. t.0 k lt (hits k), t.1)
+
   -- a number is put somewhere
-  number_put : (order : Order) (i : Insn) (a : Access) (kinds : Kinds) (s t u : State) (x : ℕ) (base : Value) (at : Location) → access_of i ≡ Some a → a.writes ≡ true → Between ends notes turns passed kinds s t → Owns s → Tame notes kinds i
+  number_put : (order : Order) (i : Insn) (a : Access) (kinds : Kinds) (s t u : State) (x : ℕ) (base : Value) (at : Location) → access_of i ≡ Some a → a.writes ≡ true → Between ends notes turns passed kinds s t → Owns s → Tame notes kinds i → ((k : ℕ) → misses kinds i k ≡ false)
       → register s a.base ≡ Some base → location_of s (byte_count a.size) a.offset base ≡ Some at → store_number order (byte_count a.size) x at (next i s) ≡ Some u
       → Goes ends notes turns passed (stored i Same kinds) (s.top.slot + slot_count i) (t.top.slot + slot_count i) u (store_number order (byte_count a.size) x at (next i t))
-  number_put order i a kinds s t u x base at ea ew h o tame eb el e = by_cases (cases_Bool (is_r10 a.base))
+  number_put order i a kinds s t u x base at ea ew h o tame hits eb el e = by_cases (cases_Bool (is_r10 a.base))
     where
       stands : Between ends notes turns passed kinds (next i s) (next i t)
       stands = stands_at ends notes turns passed kinds s t _ _ h
@@ -225,132 +223,120 @@ module _ (ends : Order) (notes : List (Option Place)) (turns : ℕ) (passed : �
           subst (λ at. Goes ends notes turns passed (stored i Same kinds) (s.top.slot + slot_count i) (t.top.slot + slot_count i) u (store_number order (byte_count a.size) x at (next i t))) (sym n.is)
           (number_near ends notes turns passed order kinds (stored i Same kinds) (next i s) (next i t) u (byte_count a.size) x n.first stands (in_some i a Same kinds n.first ea ew r10 n.away) (subst (λ at. store_number order (byte_count a.size) x at (next i s) ≡ Some u) n.is e))
       by_cases (inr far) =
-          number_stored ends notes turns passed order kinds (stored i Same kinds) (next i s) (next i t) u (byte_count a.size) x at stands (tame.far (far_is i a ea far ew)) (in_all i a kinds ea ew far)
+          number_stored ends notes turns passed order kinds (stored i Same kinds) (next i s) (next i t) u (byte_count a.size) x at stands (calm i kinds tame (far_is i a ea far ew) hits) (in_all i a kinds ea ew far)
           (live_next s (s.top.slot + slot_count i) at (live_location s (byte_count a.size) a.offset base at el)) e
 
   -- a pointer is put into a slot
-  pointer_put : (order : Order) (i : Insn) (a : Access) (kinds : Kinds) (s t u : State) (region : Region) (z : ℤ) (base : Value) (at : Location) → access_of i ≡ Some a → a.writes ≡ true → a.size ≡ DW → Between ends notes turns passed kinds s t → Owns s → Tame notes kinds i
+  pointer_put : (order : Order) (i : Insn) (a : Access) (kinds : Kinds) (s t u : State) (region : Region) (z : ℤ) (base : Value) (at : Location) → access_of i ≡ Some a → a.writes ≡ true → a.size ≡ DW → Between ends notes turns passed kinds s t → Owns s → Tame notes kinds i → ((k : ℕ) → misses kinds i k ≡ false)
       → register s a.base ≡ Some base → location_of s (byte_count a.size) a.offset base ≡ Some at → store order DW (Pointer region z) at (next i s) ≡ Some u
       → Goes ends notes turns passed (stored i Same kinds) (s.top.slot + slot_count i) (t.top.slot + slot_count i) u (store order DW (Pointer region z) at (next i t))
-  pointer_put order i a kinds s t u region z base at ea ew double h o tame eb el e = by_cases (cases_Bool (is_r10 a.base))
+  pointer_put order i a kinds s t u region z base at ea ew double h o tame hits eb el e = by_cases (cases_Bool (is_r10 a.base))
     where
       stands : Between ends notes turns passed kinds (next i s) (next i t)
       stands = stands_at ends notes turns passed kinds s t _ _ h
 
-      old_room : (m : ℕ) → m < 64 → 8 * m + 8 ≤ length s.top.stack
-      old_room m lt = let long : length s.top.stack ≡ 512 = h.top.long in omega arith
-
-      new_room : (m : ℕ) → m < 64 → 8 * m + 8 ≤ length t.top.stack
-      new_room m lt =
-          let long : length s.top.stack ≡ 512 = h.top.long in
-          let same : length t.top.stack ≡ length s.top.stack = as_long IsRead s.top.stack t.top.stack h.top.stack in
-          omega arith
-
       by_cases : (is_r10 a.base ≡ true) ⊎ (is_r10 a.base ≡ false) → Goes ends notes turns passed (stored i Same kinds) (s.top.slot + slot_count i) (t.top.slot + slot_count i) u (store order DW (Pointer region z) at (next i t))
       by_cases (inl r10) =
           let n = near s a.base (byte_count a.size) a.offset base at o r10 eb el in
-          let whole : n.first % 8 == 0 ≡ true = whole_stored order (next i s) u region z (depth s) n.first (subst (λ at. store order DW (Pointer region z) at (next i s) ≡ Some u) n.is e) in
-          let m : ℕ = n.first / 8 in
-          let there : n.first ≡ 8 * (n.first / 8) = eighths n.first (eqb-true (n.first % 8) 0 whole) in
-          let at_is : at ≡ InFrame (depth s) (8 * m) = n.is ∙ ap (InFrame (depth s)) there in
-          let eight : n.first + 8 ≤ 512 = subst (λ size. n.first + byte_count size ≤ 512) double n.fits in
-          let fits_slot : m < 64 = omega arith in
-          let slots = in_some i a Same kinds (8 * m) ea ew r10 (n.away ∙ ap pos there) in
-          subst (λ at. Goes ends notes turns passed (stored i Same kinds) (s.top.slot + slot_count i) (t.top.slot + slot_count i) u (store order DW (Pointer region z) at (next i t))) (sym at_is)
-          (value_near ends notes turns passed order kinds (stored i Same kinds) Same (next i s) (next i t) u m (Pointer region z) (Pointer region z) stands
-          (in_one kinds (stored i Same kinds) m Same (subst (λ size. InSome kinds (stored i Same kinds) (is_within ((8 * m) / 8) ((8 * m + byte_count size + 7) / 8)) Same) double slots))
-          fits_slot
-          (same_parts region z (8 * m) s.top.stack t.top.stack h.top.stack)
-          (λ j lj c ec. parts_put region z m t.top.stack (new_room m fits_slot) j lj ∙ sym (parts_put region z m s.top.stack (old_room m fits_slot) j lj) ∙ ec)
-          (subst (λ at. store order DW (Pointer region z) at (next i s) ≡ Some u) at_is e))
+          subst (λ at. Goes ends notes turns passed (stored i Same kinds) (s.top.slot + slot_count i) (t.top.slot + slot_count i) u (store order DW (Pointer region z) at (next i t))) (sym n.is)
+          (own_stored ends notes turns passed order kinds (stored i Same kinds) (next i s) (next i t) u DW (Pointer region z) n.first stands
+          (subst (λ size. InSome kinds (stored i Same kinds) (is_within (n.first / 8) ((n.first + byte_count size + 7) / 8)) Same) double (in_some i a Same kinds n.first ea ew r10 n.away))
+          (subst (λ size. n.first + byte_count size ≤ 512) double n.fits)
+          (subst (λ at. store order DW (Pointer region z) at (next i s) ≡ Some u) n.is e))
       by_cases (inr far) =
-          store_kept ends notes turns passed order kinds (stored i Same kinds) (next i s) (next i t) u DW (Pointer region z) at stands (tame.far (far_is i a ea far ew)) (in_all i a kinds ea ew far)
+          store_kept ends notes turns passed order kinds (stored i Same kinds) (next i s) (next i t) u DW (Pointer region z) at stands (calm i kinds tame (far_is i a ea far ew) hits) (in_all i a kinds ea ew far)
           (live_next s (s.top.slot + slot_count i) at (live_location s (byte_count a.size) a.offset base at el)) e
 
   -- a value is stored at a place
   pub store_at : (order : Order) (i : Insn) (kinds : Kinds) (s t u : State) (dst : Reg) (size : Size) (off : ℤ) (base v : Value) (at : Location) → access_of i ≡ Some (record { base = dst; offset = off; size = size; reads = false; writes = true }) → is_call i ≡ false → register_written i ≡ None
-      → Between ends notes turns passed kinds s t → Owns s → Tame notes kinds i → register s dst ≡ Some base → location_of s (byte_count size) off base ≡ Some at → store order size v at (next i s) ≡ Some u
+      → Between ends notes turns passed kinds s t → Owns s → Tame notes kinds i → ((k : ℕ) → misses kinds i k ≡ false) → register s dst ≡ Some base → location_of s (byte_count size) off base ≡ Some at → store order size v at (next i s) ≡ Some u
       → Goes ends notes turns passed (kinds_after i Same kinds) (s.top.slot + slot_count i) (t.top.slot + slot_count i) u (store order size v at (next i t))
-  store_at order i kinds s t u dst size off base v at ea call none h o tame eb el e = behind_store i Same kinds _ _ u _ call none (by_value size v ea el e)
+  store_at order i kinds s t u dst size off base v at ea call none h o tame hits eb el e = behind_store i Same kinds _ _ u _ call none (by_value size v ea el e)
     where
       by_value : (size : Size) (v : Value) → access_of i ≡ Some (record { base = dst; offset = off; size = size; reads = false; writes = true }) → location_of s (byte_count size) off base ≡ Some at → store order size v at (next i s) ≡ Some u
           → Goes ends notes turns passed (stored i Same kinds) (s.top.slot + slot_count i) (t.top.slot + slot_count i) u (store order size v at (next i t))
-      by_value size (Number x) ea el e1 = number_put order i (record { base = dst; offset = off; size = size; reads = false; writes = true }) kinds s t u x base at ea refl h o tame eb el e1
-      by_value DW (Pointer region z) ea el e1 = pointer_put order i (record { base = dst; offset = off; size = DW; reads = false; writes = true }) kinds s t u region z base at ea refl refl h o tame eb el e1
+      by_value size (Number x) ea el e1 = number_put order i (record { base = dst; offset = off; size = size; reads = false; writes = true }) kinds s t u x base at ea refl h o tame hits eb el e1
+      by_value DW (Pointer region z) ea el e1 = pointer_put order i (record { base = dst; offset = off; size = DW; reads = false; writes = true }) kinds s t u region z base at ea refl refl h o tame hits eb el e1
       by_value B (Pointer region z) ea el e1 = absurd (none-some _ e1)
       by_value H (Pointer region z) ea el e1 = absurd (none-some _ e1)
       by_value W (Pointer region z) ea el e1 = absurd (none-some _ e1)
 
   store_next : (order : Order) (i : Insn) (kinds : Kinds) (s t u : State) (dst : Reg) (size : Size) (off : ℤ) (base v : Value) → access_of i ≡ Some (record { base = dst; offset = off; size = size; reads = false; writes = true }) → is_call i ≡ false → register_written i ≡ None
-      → Between ends notes turns passed kinds s t → Owns s → Tame notes kinds i → register s dst ≡ Some base
+      → Between ends notes turns passed kinds s t → Owns s → Tame notes kinds i → ((k : ℕ) → misses kinds i k ≡ false) → register s dst ≡ Some base
       → option_and_then (λ at. store order size v at (next i s)) (location_of s (byte_count size) off base) ≡ Some u
       → Goes ends notes turns passed (kinds_after i Same kinds) (s.top.slot + slot_count i) (t.top.slot + slot_count i) u (option_and_then (λ at. store order size v at (next i t)) (location_of t (byte_count size) off base))
-  store_next order i kinds s t u dst size off base v ea call none h o tame eb e = option_and_then_some _ (location_of s (byte_count size) off base) u e (λ at el e1.
+  store_next order i kinds s t u dst size off base v ea call none h o tame hits eb e = option_and_then_some _ (location_of s (byte_count size) off base) u e (λ at el e1.
       goes_as ends notes turns passed _ _ _ u _ _ (bind _ (location_of t (byte_count size) off base) at _ (location_kept kinds s t (byte_count size) off base at h el) refl)
-      (store_at order i kinds s t u dst size off base v at ea call none h o tame eb el e1))
+      (store_at order i kinds s t u dst size off base v at ea call none h o tame hits eb el e1))
 
   -- a pointer that is loaded whole
   pointers_loaded : (kinds : Kinds) (s t : State) (size : Size) (dst src : Reg) (off : ℤ) (base : Value) (at : Location) → Between ends notes turns passed kinds s t → Owns s → Tame notes kinds (Load size dst src off) → register s src ≡ Some base → location_of s (byte_count size) off base ≡ Some at
       → is_double size ≡ true → PointersKept ends notes turns passed s t at
-  pointers_loaded kinds s t DW dst src off base at h o tame eb el e = by_cases (cases_Bool (is_r10 src))
+  pointers_loaded kinds s t DW dst src off base at h o tame eb el e = by_cases (cases_Bool (is_r10 src)) (cases_Bool (is_inner (kinds (register_number src))))
     where
-      by_cases : (is_r10 src ≡ true) ⊎ (is_r10 src ≡ false) → PointersKept ends notes turns passed s t at
-      by_cases (inl r10) =
+      a : Access
+      a = record { base = src; offset = off; size = DW; reads = true; writes = false }
+
+      far_load : is_r10 src ≡ false → is_far (Load DW dst src off) ≡ true
+      far_load far = ap (λ b. not b && true) far
+
+      by_cases : (is_r10 src ≡ true) ⊎ (is_r10 src ≡ false) → (is_inner (kinds (register_number src)) ≡ true) ⊎ (is_inner (kinds (register_number src)) ≡ false) → PointersKept ends notes turns passed s t at
+      by_cases (inl r10) way =
           let n = near s src 8 off base at o r10 eb el in
-          subst (PointersKept ends notes turns passed s t) (sym n.is) (λ v ev.
-          let c = cond_first (n.first % 8 == 0) _ v ev in
-          let below = n.fits in
-          let m : ℕ = n.first / 8 in
-          let there : n.first ≡ 8 * (n.first / 8) = eighths n.first (eqb-true (n.first % 8) 0 c.0) in
-          let slot : whole_slot (Load DW dst src off) ≡ Some (n.first / 8) = ap (λ b. if b then slot_of off else None) r10 ∙ slot_here off n.first n.away c.0 (omega arith) in
-          let plain : is_plain (kinds (11 + n.first / 8)) ≡ true = tame.near (n.first / 8) slot in
-          let kept = plain_kept ends turns passed (register_in s.top) s.top.stack t.top.stack (n.first / 8) (kinds (11 + n.first / 8)) plain (h.top.slots (n.first / 8) (omega arith)) 0 (omega arith) in
-          let cell_is : n.first ≡ 8 * (n.first / 8) + 0 = omega arith in
-          pointer_at_kept ends notes turns passed s t (depth s) n.first
-          (subst (λ xs. IsKept (get_or xs n.first None) (get_or (stack_of t (depth s)) n.first None)) (sym (own_stack ends notes turns passed s))
-          (subst (λ ys. IsKept (get_or s.top.stack n.first None) (get_or ys n.first None)) (sym (own_stack_of ends notes turns passed kinds s t h))
-          (subst (λ i. IsKept (get_or s.top.stack i None) (get_or t.top.stack i None)) (sym cell_is) kept))) v ev)
-      by_cases (inr far) = pointers_kept ends notes turns passed kinds s t at h (tame.far (ap (λ b. not b && true) far))
+          let fits = n.fits in
+          let slot : n.first % 8 == 0 ≡ true → whole_slot (Load DW dst src off) ≡ Some (n.first / 8) = λ whole. ap (λ b. if b then slot_of off else None) r10 ∙ slot_here off n.first n.away whole (omega arith) in
+          subst (PointersKept ends notes turns passed s t) (sym n.is) (whole_kept ends notes turns passed kinds s t n.first h n.fits (λ whole. tame.near (n.first / 8) (slot whole)))
+      by_cases (inr far) (inl inner) =
+          let l = lies_by ends notes turns passed kinds s t a base at h o inner eb el in
+          subst (PointersKept ends notes turns passed s t) (sym l.is) (whole_kept ends notes turns passed kinds s t l.first h l.fits (λ whole. (tame.far (far_load far)).0 (l.first / 8) (below l.first l.fits) (hit l)))
+        where
+          below : (i : ℕ) → i + 8 ≤ 512 → i / 8 < 64
+          below i fits = omega arith
+
+          hit : (l : Lies s (kinds (register_number src)) a at) → misses kinds (Load DW dst src off) (l.first / 8) ≡ false
+          hit l = and_right (not (is_r10 src)) (is_beside (kinds (register_number src)) a (l.first / 8)) (not_beside s (kinds (register_number src)) a at l)
+      by_cases (inr far) (inr outer) =
+          pointers_kept ends notes turns passed kinds s t at h (calm (Load DW dst src off) kinds tame (far_load far) (λ k. and_right (not (is_r10 src)) (is_beside (kinds (register_number src)) a k) (no_beside (kinds (register_number src)) a k outer)))
   pointers_loaded kinds s t B dst src off base at h o tame eb el e = absurd (false≢true e)
   pointers_loaded kinds s t H dst src off base at h o tame eb el e = absurd (false≢true e)
   pointers_loaded kinds s t W dst src off base at h o tame eb el e = absurd (false≢true e)
 
-  plain : (order : Order) (i : Insn) (kinds : Kinds) (s t u : State) → IsState s → Between ends notes turns passed kinds s t → Owns s → AllSame kinds (registers_read i) → Tame notes kinds i → goes_on i ≡ true → distance i ≡ None → does order i s ≡ Some u → Next order i kinds s t u
+  pub plain : (order : Order) (i : Insn) (kinds : Kinds) (s t u : State) → IsState s → Between ends notes turns passed kinds s t → Owns s → AllSame kinds (registers_read i) → Tame notes kinds i → inner_store kinds i ≡ false → goes_on i ≡ true → distance i ≡ None → does order i s ≡ Some u → Next order i kinds s t u
   unfolding does
-  plain order (Alu Mov width dst src) kinds s t u state h o same tame on none e = alu_next order Mov width dst src kinds s t u state h same (λ b v ev. ev) e
-  plain order (Alu op width dst src) kinds s t u state h o same tame on none e = alu_next order op width dst src kinds s t u state h same.1 (λ b v ev. alu_kept width op (register s dst) (register t dst) b v (register_kept kinds s t dst h same.0) ev) e
-  plain order (Neg width dst) kinds s t u state h o same tame on none e = number_next order (Neg width dst) kinds s t u dst dst (λ a. alu width Sub 0 a) (λ q. refl) h same.0 e
-  plain order (MovSx width bits dst src) kinds s t u state h o same tame on none e = number_next order (MovSx width bits dst src) kinds s t u src dst (λ b. sign_extend bits width b) (λ q. refl) h same.0 e
-  plain order (End kind bits dst) kinds s t u state h o same tame on none e = number_next order (End kind bits dst) kinds s t u dst dst (λ a. swapped order kind bits a) (λ q. refl) h same.0 e
-  plain order (LoadImm64 dst value) kinds s t u state h o same tame on none e = put_next kinds s t u (LoadImm64 dst value) dst (Number value) (λ q. refl) h e
-  plain order (Load size dst src off) kinds s t u state h o same tame on none e = load_next (Load size dst src off) (loaded_number size) kinds s t u (byte_count size) dst src off (λ s at. load order s size at) (λ q. refl) (load_own ends notes turns passed size) (λ at v ev. load_known ends notes turns passed (register_in s.top 10) order s size at v state ev) h same.0 (λ base at eb el. load_kept ends notes turns passed order kinds s t size at h (pointers_loaded kinds s t size dst src off base at h o tame eb el)) e
-  plain order (LoadSx size dst src off) kinds s t u state h o same tame on none e = load_next (LoadSx size dst src off) Same kinds s t u (byte_count size) dst src off (λ s at. load_extended order s size at) (λ q. refl) refl (λ at v ev. same_is_kept (Some v)) h same.0 (λ base at eb el. load_extended_kept ends notes turns passed order kinds s t size at h) e
-  plain order (Store size dst off src) kinds s t u state h o same tame on none e = option_and_then_some _ (register s dst) u e (λ base eb e1. option_and_then_some _ (register s src) u e1 (λ v ev e2.
+  plain order (Alu Mov width dst src) kinds s t u state h o same tame outer on none e = alu_next order Mov width dst src kinds s t u state o h same (λ b v ev. ev) e
+  plain order (Alu op width dst src) kinds s t u state h o same tame outer on none e = alu_next order op width dst src kinds s t u state o h same.1 (λ b v ev. alu_kept width op (register s dst) (register t dst) b v (register_kept kinds s t dst h same.0) ev) e
+  plain order (Neg width dst) kinds s t u state h o same tame outer on none e = number_next order (Neg width dst) kinds s t u dst dst (λ a. alu width Sub 0 a) (λ q. refl) h same.0 e
+  plain order (MovSx width bits dst src) kinds s t u state h o same tame outer on none e = number_next order (MovSx width bits dst src) kinds s t u src dst (λ b. sign_extend bits width b) (λ q. refl) h same.0 e
+  plain order (End kind bits dst) kinds s t u state h o same tame outer on none e = number_next order (End kind bits dst) kinds s t u dst dst (λ a. swapped order kind bits a) (λ q. refl) h same.0 e
+  plain order (LoadImm64 dst value) kinds s t u state h o same tame outer on none e = put_next kinds s t u (LoadImm64 dst value) dst (Number value) (λ q. refl) h e
+  plain order (Load size dst src off) kinds s t u state h o same tame outer on none e = load_next (Load size dst src off) (loaded_number size) kinds s t u (byte_count size) dst src off (λ s at. load order s size at) (λ q. refl) (load_own ends notes turns passed size) (λ at v ev. load_known ends notes turns passed (register_in s.top 10) order s size at v state ev) h same.0 (λ base at eb el. load_kept ends notes turns passed order kinds s t size at h (pointers_loaded kinds s t size dst src off base at h o tame eb el)) e
+  plain order (LoadSx size dst src off) kinds s t u state h o same tame outer on none e = load_next (LoadSx size dst src off) Same kinds s t u (byte_count size) dst src off (λ s at. load_extended order s size at) (λ q. refl) refl (λ at v ev. same_is_kept (Some v)) h same.0 (λ base at eb el. load_extended_kept ends notes turns passed order kinds s t size at h) e
+  plain order (Store size dst off src) kinds s t u state h o same tame outer on none e = option_and_then_some _ (register s dst) u e (λ base eb e1. option_and_then_some _ (register s src) u e1 (λ v ev e2.
       goes_as ends notes turns passed _ _ _ u _ _
       (bind _ (register t dst) base _ (register_kept kinds s t dst h same.0 base eb) (bind _ (register t src) v _ (register_kept kinds s t src h same.1.0 v ev) refl))
-      (store_next order (Store size dst off src) kinds s t u dst size off base v refl refl refl h o tame eb e2)))
-  plain order (StoreImm size dst off imm) kinds s t u state h o same tame on none e = option_and_then_some _ (register s dst) u e (λ base eb e1.
+      (store_next order (Store size dst off src) kinds s t u dst size off base v refl refl refl h o tame (λ k. store_hits kinds (record { base = dst; offset = off; size = size; reads = false; writes = true }) k refl outer) eb e2)))
+  plain order (StoreImm size dst off imm) kinds s t u state h o same tame outer on none e = option_and_then_some _ (register s dst) u e (λ base eb e1.
       goes_as ends notes turns passed _ _ _ u _ _
       (bind _ (register t dst) base _ (register_kept kinds s t dst h same.0 base eb) refl)
-      (store_next order (StoreImm size dst off imm) kinds s t u dst size off base (Number (extended imm)) refl refl refl h o tame eb e1))
-  plain order (Atomic wide op dst off src) kinds s t u state h o same tame on none e =
+      (store_next order (StoreImm size dst off imm) kinds s t u dst size off base (Number (extended imm)) refl refl refl h o tame (λ k. store_hits kinds (record { base = dst; offset = off; size = size; reads = false; writes = true }) k refl outer) eb e1))
+  plain order (Atomic wide op dst off src) kinds s t u state h o same tame outer on none e =
       let i : Insn = Atomic wide op dst off src in
       let size : Size = word_size wide in
       let k : ℕ = byte_count size in
       option_and_then_some _ (register s dst) u e (λ base eb e1. option_and_then_some _ (number_of_register s src) u e1 (λ x ex e2. option_and_then_some _ (location_of s k off base) u e2 (λ at ea e3. option_and_then_some _ (number_at order s k at) u e3 (λ old eo e4. option_and_then_some _ (atomic_result op size old x (number_of_register s R0)) u e4 (λ new en e5. option_and_then_some _ (store_number order k new at (next i s)) u e5 (λ mid em e6.
       let a : Access = record { base = dst; offset = off; size = size; reads = true; writes = true } in
-      let put = number_put order i a kinds s t mid new base at refl refl h o tame eb ea em in
+      let put = number_put order i a kinds s t mid new base at refl refl h o tame (λ k. and_right (not (is_r10 dst)) false refl) eb ea em in
       let fetch = goes_alike ends notes turns passed (kinds_after i Same (stored i Same kinds)) (kinds_after i Same kinds) _ _ u _ (after_stored i Same kinds refl)
       (fetched_kept i (stored i Same kinds) mid put.state u (fetch_register op src) old (λ q lt. changed_low i q refl lt) (stored_are i Same kinds refl) put.between e6) in
       goes_as ends notes turns passed _ _ _ u _ _
       (bind _ (register t dst) base _ (register_kept kinds s t dst h same.0 base eb) (bind _ (number_of_register t src) x _ (number_same kinds s t src h same.1.0 x ex) (bind _ (location_of t k off base) at _ (location_kept kinds s t k off base at h ea) (bind _ (number_at order t k at) old _ (number_kept ends notes turns passed order kinds s t k old at h eo)
       (bind _ (atomic_result op size old x (number_of_register t R0)) new _ (atomic_kept op size old x new (number_of_register s R0) (number_of_register t R0) (λ r. is_same (kinds (register_number r)) ≡ true) (number_same kinds s t R0 h) same.1.1 en) refl)))))
       (goes_on_by (stored i Same kinds) (kinds_after i Same kinds) _ _ mid u (store_number order k new at (next i t)) (fetched (fetch_register op src) old) put fetch)))))))
-  plain order (Ja off) kinds s t u state h o same tame on none e = absurd (false≢true on)
-  plain order (JaLong off) kinds s t u state h o same tame on none e = absurd (false≢true on)
-  plain order (JumpIf cond width dst src off) kinds s t u state h o same tame on none e = absurd (none-some _ (sym none))
-  plain order (CallLocal off) kinds s t u state h o same tame on none e = absurd (none-some _ (sym none))
-  plain order Exit kinds s t u state h o same tame on none e = absurd (false≢true on)
+  plain order (Ja off) kinds s t u state h o same tame outer on none e = absurd (false≢true on)
+  plain order (JaLong off) kinds s t u state h o same tame outer on none e = absurd (false≢true on)
+  plain order (JumpIf cond width dst src off) kinds s t u state h o same tame outer on none e = absurd (none-some _ (sym none))
+  plain order (CallLocal off) kinds s t u state h o same tame outer on none e = absurd (none-some _ (sym none))
+  plain order Exit kinds s t u state h o same tame outer on none e = absurd (false≢true on)
 
   -- ---- jumps
 
@@ -367,10 +353,10 @@ module _ (ends : Order) (notes : List (Option Place)) (turns : ℕ) (passed : �
 
   -- with what it tells where it leads away, and where it goes on
   abbrev pub JumpArrives : Insn → Insn → Kind → Kinds → ℕ → ℕ → Type 0
-  JumpArrives i j kind kinds x y = JumpLeads i j kind (told true i kinds) x y
+  JumpArrives i j kind kinds x y = may_lead kinds i ≡ true → JumpLeads i j kind (told true i kinds) x y
 
   abbrev pub FallArrives : Insn → Kind → Kinds → ℕ → ℕ → Type 0
-  FallArrives i kind kinds x y = goes_on i ≡ true → Arrives notes turns (x + slot_count i) (y + slot_count i) (kinds_after i kind (told false i kinds))
+  FallArrives i kind kinds x y = goes_on i ≡ true → may_fall kinds i ≡ true → Arrives notes turns (x + slot_count i) (y + slot_count i) (kinds_after i kind (told false i kinds))
 
   jumped : (i j : Insn) (kind : Kind) (kinds : Kinds) (s t u : State) (off x : ℤ) → Between ends notes turns passed kinds s t → ((q : ℕ) → is_changed i q ≡ false) → led s.top.slot i ≡ target s.top.slot off → led t.top.slot j ≡ target t.top.slot x
       → JumpLeads i j kind kinds s.top.slot t.top.slot → jump s off ≡ Some u → Arrived ends notes turns passed u (jump t x)
@@ -381,31 +367,31 @@ module _ (ends : Order) (notes : List (Option Place)) (turns : ℕ) (passed : �
 
   -- a test that answers the same in both
   pub tested : (order : Order) (cond : Cond) (width : Width) (dst : Reg) (src : Operand) (off z : ℤ) (kind : Kind) (kinds : Kinds) (s t u : State) (taken : Bool) → Between ends notes turns passed (told taken (JumpIf cond width dst src off) kinds) s t
-      → (taken ≡ false → FallArrives (JumpIf cond width dst src off) kind kinds s.top.slot t.top.slot) → (taken ≡ true → JumpArrives (JumpIf cond width dst src off) (JumpIf cond width dst src z) kind kinds s.top.slot t.top.slot)
+      → may_go taken kinds (JumpIf cond width dst src off) ≡ true → FallArrives (JumpIf cond width dst src off) kind kinds s.top.slot t.top.slot → JumpArrives (JumpIf cond width dst src off) (JumpIf cond width dst src z) kind kinds s.top.slot t.top.slot
       → (if taken then jump s off else Some (next (JumpIf cond width dst src off) s)) ≡ Some u → Arrived ends notes turns passed u (if taken then jump t z else Some (next (JumpIf cond width dst src z) t))
-  tested order cond width dst src off z kind kinds s t u true h falls jumps e = jumped (JumpIf cond width dst src off) (JumpIf cond width dst src z) kind (told true (JumpIf cond width dst src off) kinds) s t u off z h (λ q. refl) refl refl (jumps refl) e
-  tested order cond width dst src off z kind kinds s t u false h falls jumps e =
+  tested order cond width dst src off z kind kinds s t u true h may falls jumps e = jumped (JumpIf cond width dst src off) (JumpIf cond width dst src z) kind (told true (JumpIf cond width dst src off) kinds) s t u off z h (λ q. refl) refl refl (jumps may) e
+  tested order cond width dst src off z kind kinds s t u false h may falls jumps e =
       let i : Insn = JumpIf cond width dst src off in
       let j : Insn = JumpIf cond width dst src z in
       let after : Kinds = told false i kinds in
       subst (λ u. Arrived ends notes turns passed u (Some (next j t))) (same_Some _ _ e)
       (arrived ends notes turns passed (kinds_after i kind after) _ _ _ (Some (next j t))
-      (goes_held ends notes turns passed i kind after _ _ (next i s) (Some (next j t)) (λ q lt. refl) (λ k lt c. absurd (false≢true c)) (record { state = next j t; is = refl; between = stands_at ends notes turns passed after s t _ _ h; old_slot = refl; new_slot = refl })) (falls refl refl))
+      (goes_held ends notes turns passed i kind after _ _ (next i s) (Some (next j t)) (λ q lt. refl) (λ k lt c. absurd (false≢true c)) (record { state = next j t; is = refl; between = stands_at ends notes turns passed after s t _ _ h; old_slot = refl; new_slot = refl })) (falls refl may))
 
   -- an instruction that neither calls nor ends, on registers that hold the same, with another distance
-  pub same_arrives : (order : Order) (i : Insn) (z : ℤ) (kinds : Kinds) (s t u : State) → IsState s → Between ends notes turns passed kinds s t → Owns s → AllSame kinds (registers_read i) → Tame notes kinds i → is_flow i ≡ false
+  pub same_arrives : (order : Order) (i : Insn) (z : ℤ) (kinds : Kinds) (s t u : State) → IsState s → Between ends notes turns passed kinds s t → Owns s → AllSame kinds (registers_read i) → Tame notes kinds i → inner_store kinds i ≡ false → is_flow i ≡ false
       → FallArrives i (number_kind kinds i) kinds s.top.slot t.top.slot → JumpArrives i (redirect i z) (number_kind kinds i) kinds s.top.slot t.top.slot → does order i s ≡ Some u → Arrived ends notes turns passed u (does order (redirect i z) t)
   unfolding does
-  same_arrives order (Ja off) z kinds s t u state h o same tame flow falls jumps e = jumped (Ja off) (Ja z) Same kinds s t u off z h (λ q. refl) refl refl jumps e
-  same_arrives order (JaLong off) z kinds s t u state h o same tame flow falls jumps e = jumped (JaLong off) (JaLong z) Same kinds s t u off z h (λ q. refl) refl refl jumps e
-  same_arrives order (JumpIf cond width dst src off) z kinds s t u state h o same tame flow falls jumps e =
+  same_arrives order (Ja off) z kinds s t u state h o same tame outer flow falls jumps e = jumped (Ja off) (Ja z) Same kinds s t u off z h (λ q. refl) refl refl (jumps refl) e
+  same_arrives order (JaLong off) z kinds s t u state h o same tame outer flow falls jumps e = jumped (JaLong off) (JaLong z) Same kinds s t u off z h (λ q. refl) refl refl (jumps refl) e
+  same_arrives order (JumpIf cond width dst src off) z kinds s t u state h o same tame outer flow falls jumps e =
       option_and_then_some _ (register s dst) u e (λ a ea e1. option_and_then_some _ (operand s src) u e1 (λ b eb e2. option_and_then_some _ (test_of_values width cond a b) u e2 (λ taken et e3.
-      let way = tested order cond width dst src off z Same kinds s t u taken (told_between ends notes turns passed cond width dst src off taken kinds s t a b state h ea eb et) (λ no. falls) (λ yes. jumps) e3 in
+      let way = tested order cond width dst src off z Same kinds s t u taken (told_between ends notes turns passed cond width dst src off taken kinds s t a b state h ea eb et) (goes_there ends notes turns passed cond width dst src off taken kinds s t a b state h ea eb et) falls jumps e3 in
       record {
         state = way.state;
         is = bind _ (register t dst) a _ (register_kept kinds s t dst h same.0 a ea) (bind _ (operand t src) b _ (operand_kept kinds s t src h same.1 b eb) (bind _ (test_of_values width cond a b) taken _ et way.is));
         follows = way.follows;
       })))
-  same_arrives order (CallLocal off) z kinds s t u state h o same tame flow falls jumps e = absurd (false≢true (sym flow))
-  same_arrives order Exit z kinds s t u state h o same tame flow falls jumps e = absurd (false≢true (sym flow))
-  same_arrives order i z kinds s t u state h o same tame flow falls jumps e = arrived ends notes turns passed (kinds_after i (number_kind kinds i) kinds) _ _ u (does order i t) (plain order i kinds s t u state h o same tame refl refl e) (falls refl)
+  same_arrives order (CallLocal off) z kinds s t u state h o same tame outer flow falls jumps e = absurd (false≢true (sym flow))
+  same_arrives order Exit z kinds s t u state h o same tame outer flow falls jumps e = absurd (false≢true (sym flow))
+  same_arrives order i z kinds s t u state h o same tame outer flow falls jumps e = arrived ends notes turns passed (kinds_after i (number_kind kinds i) kinds) _ _ u (does order i t) (plain order i kinds s t u state h o same tame outer refl refl e) (falls refl refl)

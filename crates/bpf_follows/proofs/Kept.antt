@@ -1,12 +1,15 @@
 -- What the new program keeps in its frame, and extra instructions one after another.
-use Rattle.std.proofs.Common.{◌≡◌, ℕ, zero, suc, ◌+◌, ◌*◌, ◌-◌, ◌<◌, ◌≤◌, ◌⊎◌, inl, inr, ◌==◌, Bool, true, false, cond, List, Option, Some, None, length, get_or, set, refl, sym, ap, ◌∙◌, subst, arith}
-use Rattle.std.specs.Prelude.{ℤ, pos, ◌+ℤ◌, ◌&&◌, nat_le, option_map, if◌then◌else◌}
+use Rattle.std.proofs.Common.{◌≡◌, ℕ, zero, suc, ◌+◌, ◌*◌, ◌-◌, ◌<◌, ◌≤◌, ◌⊎◌, inl, inr, ◌==◌, ◌^◌, Bool, true, false, cond, List, Option, Some, None, length, get_or, set, refl, sym, ap, ◌∙◌, subst, arith}
+use Rattle.std.specs.Prelude.{ℤ, pos, ◌+ℤ◌, not, take, drop, ◌&&◌, nat_le, option_map, if◌then◌else◌}
 use Rattle.std.specs.Option.{option_or}
+use Rattle.std.specs.Ordering.{int_eq}
 use Rattle.std.proofs.lemmas.Option.{none-some, same_Some, option_and_then_some}
 use Rattle.std.proofs.lemmas.Bool.{leb-true, le-leb, cases_Bool, eqb-true, eqb-false, eq-eqb, false≢true}
+use Rattle.std.proofs.lemmas.Bool.Decides.{Decides-int_eq}
 use Rattle.std.proofs.lemmas.Int.{ints}
 use Rattle.std.proofs.lemmas.List.{get_or-set_other}
 use Rattle.bpf_insn.specs.Limits.{frame_bytes}
+use Rattle.bpf_insn.specs.Order.{number_of}
 use Rattle.bpf_insn.specs.Arithmetic.{extended}
 use Rattle.bpf_insn.specs.Instruction.{Instructions, register_number, insn_at}
 use Rattle.bpf_insn.specs.declared.order.Order.{Order}
@@ -14,22 +17,22 @@ use Rattle.bpf_insn.specs.declared.instruction.Reg.{Reg}
 use Rattle.bpf_insn.specs.declared.instruction.Size.TheVariants.{DW}
 use Rattle.bpf_insn.specs.declared.instruction.Insn.{Insn}
 use Rattle.bpf_insn.specs.declared.instruction.Insn.TheVariants.{Load, Store, StoreImm}
-use Rattle.bpf_semantics.specs.State.{State, FitsMachine, depth, register, with_top, with_register, at_slot}
+use Rattle.bpf_semantics.specs.State.{State, FitsMachine, depth, register, with_top, with_register, put, at_slot}
 use Rattle.bpf_semantics.specs.Memory.{location_of, inside, stack_of, with_stack_in, with_stack}
-use Rattle.bpf_semantics.specs.Memory.Location.{InFrame}
-use Rattle.bpf_semantics.specs.Step.{does, load, store}
+use Rattle.bpf_semantics.specs.Memory.Location.{InContext, InFrame}
+use Rattle.bpf_semantics.specs.Step.{does, next, load, store}
 use Rattle.bpf_semantics.specs.Run.{Steps}
 use Rattle.bpf_semantics.specs.declared.value.Value.{Value}
 use Rattle.bpf_semantics.specs.declared.value.Value.TheVariants.{Number, Pointer}
-use Rattle.bpf_semantics.specs.declared.value.Region.TheVariants.{Frame as FrameAt}
+use Rattle.bpf_semantics.specs.declared.value.Region.TheVariants.{Context, Frame as FrameAt}
 use Rattle.bpf_semantics.proofs.NumberLemmas.{modulo_below}
 use Rattle.bpf_follows.specs.declared.notes.Kind.{Kind}
-use Rattle.bpf_follows.specs.declared.notes.Kind.TheVariants.{Nothing, Natural, Offset, Fixed, Within, Start, Base, Moved, Address, Constant, Counter, Turn, Both, Saved}
+use Rattle.bpf_follows.specs.declared.notes.Kind.TheVariants.{Nothing, Natural, Inner, Length, Sized, Ending, Offset, Fixed, Within, Start, Head, Base, Moved, Address, Constant, Counter, Turn, Both, Saved}
 use Rattle.bpf_follows.specs.declared.notes.Place.{Place}
 use Rattle.bpf_follows.specs.declared.site.Front.{Front}
 use Rattle.bpf_follows.specs.Areas.{origin}
-use Rattle.bpf_follows.specs.Relation.{kind_in, is_free, IsOneValue, FitsKind, Holds, IsUnset, IsRead, FitsSlot, register_in}
-use Rattle.bpf_follows.specs.Extras.{is_same, is_r10, slot_of, kind_of, copied, frame_slot, own_kind, kept_kind, free_slot, stored, stored_constant, restored, taken, moved_by, made, put_by}
+use Rattle.bpf_follows.specs.Relation.{Past, kind_in, is_free, IsOneValue, FitsKind, Holds, IsUnset, IsRead, FitsSlot, register_in}
+use Rattle.bpf_follows.specs.Extras.{is_same, is_r10, slot_of, kind_of, copied, frame_slot, own_kind, kept_kind, free_slot, stored, stored_constant, restored, taken, is_base, size_in, packet_length, moved_by, made, put_by}
 use Rattle.bpf_follows.specs.Guards.{passes, passed_by}
 use Rattle.bpf_follows.specs.Sequence.{written, extra, extra_at, behind, most_extras, extras}
 use Rattle.bpf_follows.proofs.Lists.{bind, unmapped, cond_first, cond_second, as_long, Cells}
@@ -37,11 +40,11 @@ use Rattle.bpf_follows.proofs.Owns.{Owns, top_stack}
 use Rattle.bpf_follows.proofs.Has.{machine_there}
 use Rattle.bpf_follows.proofs.Offsets.{wrapped_fits}
 use Rattle.bpf_follows.proofs.Slots.{register_below, free_unset, slot_as, load_holds, with_value, store_whole, value_put, value_other, own_read, room, whole_room}
-use Rattle.bpf_follows.proofs.Between.{Between, same_depth, own_stack_of}
+use Rattle.bpf_follows.proofs.Between.{Between, same_depth, location_same, own_stack_of}
 use Rattle.bpf_follows.proofs.Near.{whole_slot_at}
 use Rattle.bpf_follows.proofs.Instruction.{both_true, same_kept}
-use Rattle.bpf_follows.proofs.Extra.{kind_set, Facts, free_is, copied_fits, Goes1, moves, writes, fits_at, put_goes, new_step}
-use Rattle.bpf_follows.proofs.Guard.{passes_goes}
+use Rattle.bpf_follows.proofs.Extra.{kind_set, HoldsPacket, Facts, free_is, base_has, copied_fits, Goes1, moves, writes, fits_at, put_goes, new_step}
+use Rattle.bpf_follows.proofs.PacketGuards.{passes_goes}
 
 -- ---- values that are kept
 
@@ -53,9 +56,10 @@ is_own (Saved of) = true
 is_own (Constant value) = true
 is_own (Counter head) = true
 is_own (Turn head) = true
+is_own (Ending by) = true
 is_own kind = false
 
-module _ (ends : Order) (turns : ℕ) (passed : ℕ → ℕ) (registers : ℕ → Option Value) where
+module _ (ends : Order) (turns : ℕ) (passed : Past) (registers : ℕ → Option Value) where
   -- what is kept is said wherever it stands, and what was saved is put back
   restored_fits : (dst : Reg) (x : ℕ) (kind : Kind) (v : Value) → is_own kind ≡ true → FitsKind turns passed registers x kind (Some v) → FitsKind turns passed registers (register_number dst) (restored dst kind) (Some v)
   unfolding restored
@@ -70,6 +74,7 @@ module _ (ends : Order) (turns : ℕ) (passed : ℕ → ℕ) (registers : ℕ �
   restored_fits dst x (Constant value) v e f = f
   restored_fits dst x (Counter head) v e f = f
   restored_fits dst x (Turn head) v e f = f
+  restored_fits dst x (Ending by) v e f = f
   restored_fits dst x kind v e f = absurd (false≢true e)
 
   own_value : (w : ℕ) (kind : Kind) (v : Value) → ((q : ℕ) → FitsMachine (registers q)) → is_own kind ≡ true → FitsKind turns passed registers w kind (Some v) → FitsMachine (Some v)
@@ -80,6 +85,7 @@ module _ (ends : Order) (turns : ℕ) (passed : ℕ → ℕ) (registers : ℕ �
   own_value w (Constant value) v machine e f = subst FitsMachine (sym f) (modulo_below value)
   own_value w (Counter head) v machine e f = subst FitsMachine (sym f.2) f.1
   own_value w (Turn head) v machine e f = subst FitsMachine (sym f.2) f.1
+  own_value w (Ending by) v machine e f = let short = f.short in let few = f.is.0 in subst FitsMachine (sym f.is.1) (let fits : f.size + by < 2 ^ 64 = omega arith in fits)
   own_value w kind v machine e f = absurd (false≢true e)
 
   own_slot : (xs ys : Cells) (k : ℕ) (kind : Kind) (v : Value) → is_own kind ≡ true → IsUnset xs k → Holds ends ys k v → FitsKind turns passed registers (11 + k) kind (Some v) → FitsSlot ends turns passed registers xs ys k kind
@@ -90,6 +96,7 @@ module _ (ends : Order) (turns : ℕ) (passed : ℕ → ℕ) (registers : ℕ �
   own_slot xs ys k (Constant value) v e u h f = record { unset = u; value = v; holds = h; fits = f }
   own_slot xs ys k (Counter head) v e u h f = record { unset = u; value = v; holds = h; fits = f }
   own_slot xs ys k (Turn head) v e u h f = record { unset = u; value = v; holds = h; fits = f }
+  own_slot xs ys k (Ending by) v e u h f = record { unset = u; value = v; holds = h; fits = f }
   own_slot xs ys k kind v e u h f = absurd (false≢true e)
 
   -- what a slot holds
@@ -107,6 +114,7 @@ module _ (ends : Order) (turns : ℕ) (passed : ℕ → ℕ) (registers : ℕ �
   slot_has xs ys k (Constant value) made e f = subst (Has ys k) (same_Some _ _ e) (record { value = f.value; holds = f.holds; fits = f.fits; own = refl })
   slot_has xs ys k (Counter head) made e f = subst (Has ys k) (same_Some _ _ e) (record { value = f.value; holds = f.holds; fits = f.fits; own = refl })
   slot_has xs ys k (Turn head) made e f = subst (Has ys k) (same_Some _ _ e) (record { value = f.value; holds = f.holds; fits = f.fits; own = refl })
+  slot_has xs ys k (Ending by) made e f = subst (Has ys k) (same_Some _ _ e) (record { value = f.value; holds = f.holds; fits = f.fits; own = refl })
   slot_has xs ys k kind made e f = absurd (none-some _ e)
 
   -- what is put into a slot
@@ -119,6 +127,9 @@ module _ (ends : Order) (turns : ℕ) (passed : ℕ → ℕ) (registers : ℕ �
   copied_own : (r : Reg) (kind made : Kind) → copied r kind ≡ Some made → is_own made ≡ true
   copied_own r Start made e = subst (λ made. is_own made ≡ true) (same_Some _ _ e) refl
   copied_own r Base made e = subst (λ made. is_own made ≡ true) (same_Some _ _ e) refl
+  copied_own r Head made e = subst (λ made. is_own made ≡ true) (same_Some _ _ e) refl
+  copied_own r (Length most) made e = subst (λ made. is_own made ≡ true) (same_Some _ _ e) refl
+  copied_own r (Ending by) made e = subst (λ made. is_own made ≡ true) (same_Some _ _ e) refl
   copied_own r (Offset area) made e = subst (λ made. is_own made ≡ true) (same_Some _ _ e) refl
   copied_own r (Fixed area at) made e = subst (λ made. is_own made ≡ true) (same_Some _ _ e) refl
   copied_own r (Within area least most) made e = subst (λ made. is_own made ≡ true) (same_Some _ _ e) refl
@@ -131,7 +142,8 @@ module _ (ends : Order) (turns : ℕ) (passed : ℕ → ℕ) (registers : ℕ �
   register_put w r (Counter head) made new e f = subst (λ made. Put made new w) (same_Some _ _ e) (record { value = Number f.0; is = f.2; fits = (f.0, f.1, refl, f.3); own = refl })
   register_put w r (Turn head) made new e f = subst (λ made. Put made new w) (same_Some _ _ e) (record { value = Number f.0; is = f.2; fits = (f.0, f.1, refl, f.3); own = refl })
   register_put w r Both made new e f = subst (λ made. Put made new w) (same_Some _ _ e) (record { value = f.value; is = f.new_is; fits = record { value = f.value; old_is = f.old_is; new_is = refl }; own = refl })
-  register_put w r Natural made new e f = subst (λ made. Put made new w) (same_Some _ _ e) (record { value = Number f.number; is = f.new_is; fits = record { value = Number f.number; old_is = f.old_is; new_is = refl }; own = refl })
+  register_put w r (Natural half) made new e f = subst (λ made. Put made new w) (same_Some _ _ e) (record { value = Number f.number; is = f.new_is; fits = record { value = Number f.number; old_is = f.old_is; new_is = refl }; own = refl })
+  register_put w r (Inner least most) made new e f = subst (λ made. Put made new w) (same_Some _ _ e) (record { value = Pointer (FrameAt f.frame) f.offset; is = f.new_is; fits = record { value = Pointer (FrameAt f.frame) f.offset; old_is = f.old_is; new_is = refl }; own = refl })
   register_put w r kind made new e f =
       let h = copied_fits turns passed registers w r kind made new e f in
       record { value = h.value; is = h.is; fits = h.fits; own = copied_own r kind made e }
@@ -140,7 +152,7 @@ module _ (ends : Order) (turns : ℕ) (passed : ℕ → ℕ) (registers : ℕ �
 abbrev pub Sound : State → Type 0
 Sound s = Owns s × ((q : ℕ) → FitsMachine (register_in s.top q))
 
-module _ (ends : Order) (notes : List (Option Place)) (turns : ℕ) (passed : ℕ → ℕ) where
+module _ (ends : Order) (notes : List (Option Place)) (turns : ℕ) (passed : Past) where
   -- ---- the new machine's own frame
 
   record AtSlot (s t : State) (r : Reg) (off : ℤ) (k : ℕ) : Type 0 where
@@ -285,19 +297,59 @@ module _ (ends : Order) (notes : List (Option Place)) (turns : ℕ) (passed : �
             (restored_fits ends turns passed (register_in s.top) dst (11 + k) m.0 has.value has.own has.fits));
       })
 
-  move_goes : (i : Insn) (kinds made_kinds : List Kind) (w : ℕ × Kind) (s t : State) → Sound s → Between ends notes turns passed (kind_in kinds) s t → moved_by kinds i ≡ Some w → set kinds w.0 w.1 ≡ made_kinds → Goes1 ends notes turns passed ends i made_kinds s t
-  move_goes (Store DW dst off src) kinds made_kinds w s t o b e is = stored_goes kinds made_kinds dst src off w s t o b e is
-  move_goes (StoreImm DW dst off imm) kinds made_kinds w s t o b e is = constant_goes kinds made_kinds dst off imm w s t o b e is
-  move_goes (Load DW dst src off) kinds made_kinds w s t o b e is = taken_goes kinds made_kinds dst src off w s t o b e is
-  move_goes i kinds made_kinds w s t o b e is = absurd (none-some _ e)
+  -- a packet's length, with which its block begins
+  length_goes : (kinds made_kinds : List Kind) (dst src : Reg) (off : ℤ) (w : ℕ × Kind) (s t : State) → HoldsPacket ends passed s.context → Between ends notes turns passed (kind_in kinds) s t → packet_length kinds dst src off ≡ Some w → set kinds w.0 w.1 ≡ made_kinds
+      → Goes1 ends notes turns passed ends (Load DW dst src off) made_kinds s t
+  unfolding does
+  length_goes kinds made_kinds dst src off w s t holds b e is =
+      let c = cond_first (not (is_r10 dst) && (is_base (kind_of kinds src) && int_eq off (pos 0))) (option_map (λ most. (register_number dst, Length most)) (size_in (kind_of kinds dst))) w e in
+      let d = both_true (not (is_r10 dst)) (is_base (kind_of kinds src) && int_eq off (pos 0)) c.0 in
+      let g = both_true (is_base (kind_of kinds src)) (int_eq off (pos 0)) d.1 in
+      let m = unmapped (λ most. (register_number dst, Length most)) (size_in (kind_of kinds dst)) w c.1 in
+      let zero_is : off ≡ pos 0 = (Decides-int_eq off (pos 0)).0 g.1 in
+      let free : is_r10 dst ≡ false = not_true (is_r10 dst) d.0 in
+      let f = sized_has (kind_of kinds dst) m.0 (register t dst) m.1 (fits_at ends notes turns passed kinds s t dst b) in
+      let h = holds f.size f.packet_is in
+      let start : register t src ≡ Some (Pointer Context (pos 0)) = base_has turns passed (register_in s.top) (register_number src) (kind_of kinds src) (register t src) g.0 (fits_at ends notes turns passed kinds s t src b) in
+      let there : location_of t 8 off (Pointer Context (pos 0)) ≡ Some (InContext 0) =
+      ap (λ off. location_of t 8 off (Pointer Context (pos 0))) zero_is ∙ (location_same ends notes turns passed s t 8 (pos 0) (Pointer Context (pos 0)) (same_depth ends notes turns passed (kind_in kinds) s t b) b.context_is ∙ ap (option_map InContext) h.there) in
+      let read : load ends t DW (InContext 0) ≡ Some (Number f.size) = ap (λ (bytes : List ℕ). Some (Number (number_of ends 8 (take 8 (drop 0 bytes))))) b.context_is ∙ ap (λ n. Some (Number n)) h.is in
+      let after : State = at_slot (t.top.slot + 1) t in
+      let end : State = with_register after (register_number dst) (Some (Number f.size)) in
+      record {
+        state = end;
+        is = bind _ (register t src) _ _ start (bind _ (location_of t 8 off (Pointer Context (pos 0))) _ _ there (bind (λ value. put dst value (next (Load DW dst src off) t)) (load ends t DW (InContext 0)) (Number f.size) _ read (ap (λ c. cond c None (Some end)) free)));
+        at = refl;
+        between = subst (λ made. Between ends notes turns passed (kind_in made) s end) (ap (λ (w : ℕ × Kind). set kinds w.0 w.1) m.2 ∙ is)
+            (writes ends notes turns passed kinds (Length m.0) s after (register_number dst) (Some (Number f.size)) (register_below dst) (moves ends notes turns passed kinds s t (t.top.slot + 1) b)
+            (record { size = f.size; packet_is = f.packet_is; short = f.short; is = (f.is.0, f.is.1, refl) }));
+      }
+    where
+      not_true : (b : Bool) → not b ≡ true → b ≡ false
+      not_true true e = absurd (false≢true e)
+      not_true false e = refl
+
+      sized_has : (kind : Kind) (most : ℕ) (new : Option Value) → size_in kind ≡ Some most → FitsKind turns passed (register_in s.top) (register_number dst) kind new → FitsKind turns passed (register_in s.top) (register_number dst) (Sized most) new
+      sized_has (Sized most) m new e f = subst (λ most. FitsKind turns passed (register_in s.top) (register_number dst) (Sized most) new) (same_Some _ _ e) f
+      sized_has kind m new e f = absurd (none-some _ e)
+
+  move_goes : (i : Insn) (kinds made_kinds : List Kind) (w : ℕ × Kind) (s t : State) → Sound s → HoldsPacket ends passed s.context → Between ends notes turns passed (kind_in kinds) s t → moved_by kinds i ≡ Some w → set kinds w.0 w.1 ≡ made_kinds → Goes1 ends notes turns passed ends i made_kinds s t
+  move_goes (Store DW dst off src) kinds made_kinds w s t o holds b e is = stored_goes kinds made_kinds dst src off w s t o b e is
+  move_goes (StoreImm DW dst off imm) kinds made_kinds w s t o holds b e is = constant_goes kinds made_kinds dst off imm w s t o b e is
+  move_goes (Load DW dst src off) kinds made_kinds w s t o holds b e is = by_taken (taken kinds dst src off) refl e
+    where
+      by_taken : (p : Option (ℕ × Kind)) → taken kinds dst src off ≡ p → option_or p (packet_length kinds dst src off) ≡ Some w → Goes1 ends notes turns passed ends (Load DW dst src off) made_kinds s t
+      by_taken (Some p) ep e = taken_goes kinds made_kinds dst src off w s t o b (ep ∙ e) is
+      by_taken None ep e = length_goes kinds made_kinds dst src off w s t holds b e is
+  move_goes i kinds made_kinds w s t o holds b e is = absurd (none-some _ e)
 
   -- ---- all of them
 
-  extra_goes : (order : Order) (front : Option Front) (i : Insn) (kinds made_kinds : List Kind) (s t : State) → order ≡ ends → Sound s → Facts passed turns front s → Between ends notes turns passed (kind_in kinds) s t → extra front i kinds ≡ Some made_kinds → Goes1 ends notes turns passed order i made_kinds s t
-  extra_goes order front i kinds made_kinds s t same o facts b e = by_cases (passes front kinds i) refl e
+  extra_goes : (order : Order) (front : Option Front) (i : Insn) (kinds made_kinds : List Kind) (s t : State) → order ≡ ends → Sound s → HoldsPacket ends passed s.context → Facts passed turns front s → Between ends notes turns passed (kind_in kinds) s t → extra front i kinds ≡ Some made_kinds → Goes1 ends notes turns passed order i made_kinds s t
+  extra_goes order front i kinds made_kinds s t same o holds facts b e = by_cases (passes front kinds i) refl e
     where
       by_move : (m : Option (ℕ × Kind)) → moved_by kinds i ≡ m → option_map (λ (w : ℕ × Kind). set kinds w.0 w.1) (option_or m (option_map (λ (w : Reg × Kind). (register_number w.0, w.1)) (made front kinds i))) ≡ Some made_kinds → Goes1 ends notes turns passed order i made_kinds s t
-      by_move (Some w) em e = subst (λ order. Goes1 ends notes turns passed order i made_kinds s t) (sym same) (move_goes i kinds made_kinds w s t o b em (same_Some _ _ e))
+      by_move (Some w) em e = subst (λ order. Goes1 ends notes turns passed order i made_kinds s t) (sym same) (move_goes i kinds made_kinds w s t o holds b em (same_Some _ _ e))
       by_move None em e =
           let p = unmapped (λ (w : ℕ × Kind). set kinds w.0 w.1) (option_map (λ (w : Reg × Kind). (register_number w.0, w.1)) (made front kinds i)) made_kinds e in
           let m = unmapped (λ (w : Reg × Kind). (register_number w.0, w.1)) (made front kinds i) p.0 p.1 in
@@ -317,20 +369,20 @@ module _ (ends : Order) (notes : List (Option Place)) (turns : ℕ) (passed : �
     pub at : state.top.slot ≡ slot
     pub between : Between ends notes turns passed (kind_in made_kinds) s state
 
-  behind_goes : (new : Instructions) (front : Option Front) (slot n : ℕ) (kinds made_kinds : List Kind) (s t : State) → new.order ≡ ends → Sound s → Facts passed turns front s → Between ends notes turns passed (kind_in kinds) s t → t.top.slot ≡ slot → behind new front slot n kinds ≡ Some made_kinds → Reached new made_kinds (slot + n) s t
-  behind_goes new front slot zero kinds made_kinds s t same o facts b at e =
+  behind_goes : (new : Instructions) (front : Option Front) (slot n : ℕ) (kinds made_kinds : List Kind) (s t : State) → new.order ≡ ends → Sound s → HoldsPacket ends passed s.context → Facts passed turns front s → Between ends notes turns passed (kind_in kinds) s t → t.top.slot ≡ slot → behind new front slot n kinds ≡ Some made_kinds → Reached new made_kinds (slot + n) s t
+  behind_goes new front slot zero kinds made_kinds s t same o holds facts b at e =
       record { count = 0; state = t; steps = refl; at = at ∙ omega arith; between = subst (λ kinds. Between ends notes turns passed (kind_in kinds) s t) (same_Some _ _ e) b }
-  behind_goes new front slot (suc n) kinds made_kinds s t same o facts b at e = option_and_then_some (extra_at new front (slot + n)) (behind new front slot n kinds) made_kinds e (λ mid em e1. option_and_then_some _ (insn_at new.list (slot + n)) made_kinds e1 (λ i ei ex.
-      let h = behind_goes new front slot n kinds mid s t same o facts b at em in
-      let g = extra_goes new.order front i mid made_kinds s h.state same o facts h.between ex in
+  behind_goes new front slot (suc n) kinds made_kinds s t same o holds facts b at e = option_and_then_some (extra_at new front (slot + n)) (behind new front slot n kinds) made_kinds e (λ mid em e1. option_and_then_some _ (insn_at new.list (slot + n)) made_kinds e1 (λ i ei ex.
+      let h = behind_goes new front slot n kinds mid s t same o holds facts b at em in
+      let g = extra_goes new.order front i mid made_kinds s h.state same o holds facts h.between ex in
       record { count = suc h.count; state = g.state; steps = (h.state, h.steps, new_step new h.state g.state i (slot + n) h.at ei g.is); at = g.at ∙ ap (λ n. n + 1) h.at ∙ omega arith; between = g.between }))
 
-  pub extras_go : (new : Instructions) (front : Option Front) (from to : ℕ) (kinds made_kinds : List Kind) (s t : State) → new.order ≡ ends → Sound s → Facts passed turns front s → Between ends notes turns passed (kind_in kinds) s t → t.top.slot ≡ from → extras new front from to kinds ≡ Some made_kinds → Reached new made_kinds to s t
-  extras_go new front from to kinds made_kinds s t same o facts b at e = by_cases (nat_le from to && nat_le (to - from) most_extras) refl e
+  pub extras_go : (new : Instructions) (front : Option Front) (from to : ℕ) (kinds made_kinds : List Kind) (s t : State) → new.order ≡ ends → Sound s → HoldsPacket ends passed s.context → Facts passed turns front s → Between ends notes turns passed (kind_in kinds) s t → t.top.slot ≡ from → extras new front from to kinds ≡ Some made_kinds → Reached new made_kinds to s t
+  extras_go new front from to kinds made_kinds s t same o holds facts b at e = by_cases (nat_le from to && nat_le (to - from) most_extras) refl e
     where
       by_cases : (c : Bool) → (nat_le from to && nat_le (to - from) most_extras) ≡ c → (if c then behind new front from (to - from) kinds else None) ≡ Some made_kinds → Reached new made_kinds to s t
       by_cases true ec e =
           let up : from ≤ to = leb-true from to (both_true (nat_le from to) (nat_le (to - from) most_extras) ec).0 in
           let there : from + (to - from) ≡ to = omega arith in
-          subst (λ slot. Reached new made_kinds slot s t) there (behind_goes new front from (to - from) kinds made_kinds s t same o facts b at e)
+          subst (λ slot. Reached new made_kinds slot s t) there (behind_goes new front from (to - from) kinds made_kinds s t same o holds facts b at e)
       by_cases false ec e = absurd (none-some _ e)

@@ -1,5 +1,5 @@
 -- Numbers of which bounds are known: what an operation makes of them, and what a test tells.
-use Rattle.std.proofs.Common.{◌≡◌, ℕ, ◌+◌, ◌-◌, ◌^◌, ◌<◌, ◌≤◌, ◌==◌, Bool, true, false, cond, List, Option, Some, None, refl, sym, ap, ap₂, ◌∙◌, subst, arith}
+use Rattle.std.proofs.Common.{◌≡◌, ℕ, ◌+◌, ◌-◌, ◌/◌, ◌^◌, ◌<◌, ◌≤◌, ◌==◌, Bool, true, false, cond, List, Option, Some, None, refl, sym, ap, ap₂, ◌∙◌, subst, arith}
 use Rattle.std.specs.Prelude.{nat_le, nat_lt, ℤ, option_and_then, option_map, if◌then◌else◌}
 use Rattle.std.specs.Option.{option_map_or}
 use Rattle.std.proofs.lemmas.Option.{none-some, same_Some, option_and_then_some}
@@ -42,14 +42,17 @@ use Rattle.bpf_num.proofs.TightenLaws.{unsigned_meet_keeps, tighten_keeps}
 use Rattle.bpf_num.proofs.NumberLaws.{num_alu_keeps}
 use Rattle.bpf_num.proofs.RefineLaws.{refine_keeps}
 use Rattle.bpf_follows.specs.declared.notes.Kind.{Kind}
-use Rattle.bpf_follows.specs.declared.notes.Kind.TheVariants.{Same, Number, Natural, Both}
+use Rattle.bpf_follows.specs.declared.notes.Kind.TheVariants.{Same, Number, Natural, Length, Both}
 use Rattle.bpf_follows.specs.declared.notes.Place.{Place}
-use Rattle.bpf_follows.specs.Relation.{Kinds, FitsKind, FitsSlot, register_in, most_natural}
-use Rattle.bpf_follows.specs.Numbers.{bounded, number_of, bounds_of, is_numeric, read_number, operand_number, left_number, alu_number, loaded_number, number_kind, told_by, is_operand, told}
+use Rattle.bpf_follows.specs.Relation.{Past, Kinds, FitsKind, FitsSlot, register_in, most_natural, natural_top}
+use Rattle.bpf_follows.specs.Numbers.{bounded, number_of, bounds_of, is_numeric, read_number, operand_number, left_number, alu_number, loaded_number, alu_kind, number_kind, told_by, may_answer, is_operand, told}
 use Rattle.bpf_follows.proofs.Lists.{unmapped, same_is_kept}
 use Rattle.bpf_follows.proofs.Slots.{register_below}
 use Rattle.bpf_follows.proofs.Frames.{is_of_register, holding}
 use Rattle.bpf_follows.proofs.Between.{Between}
+use Rattle.bpf_follows.proofs.Owns.{Owns}
+use Rattle.bpf_follows.proofs.Pointers.{Makes, made_known}
+use Rattle.bpf_follows.specs.Inner.{inner_made}
 use Rattle.bpf_follows.proofs.Bytes.{loaded_below}
 
 -- ---- members
@@ -80,10 +83,10 @@ member_of o n x old new h e eo en =
     record { value = x; old_is = eo; new_is = en; valid = subst IsNumber is h.valid; has = subst (λ n. Has n x) is h.has }
 
 -- what is told of a member
-bounds_known : (turns : ℕ) (passed : ℕ → ℕ) (old : ℕ → Option Value) (r : ℕ) (kind : Kind) (n : Num) (new : Option Value) (x : ℕ) → Has n x → old r ≡ Some (ANumber x) → new ≡ Some (ANumber x) → FitsKind turns passed old r kind new → FitsKind turns passed old r (bounds_of kind n) new
+bounds_known : (turns : ℕ) (passed : Past) (old : ℕ → Option Value) (r : ℕ) (kind : Kind) (n : Num) (new : Option Value) (x : ℕ) → Has n x → old r ≡ Some (ANumber x) → new ≡ Some (ANumber x) → FitsKind turns passed old r kind new → FitsKind turns passed old r (bounds_of kind n) new
 bounds_known turns passed old r kind n new x has eo en f = by_cases (nat_lt n.unsigned.hi (2 ^ 32)) (nat_le n.unsigned.hi most_natural) (leb-true n.unsigned.hi most_natural)
   where
-    by_cases : (b c : Bool) → (c ≡ true → n.unsigned.hi ≤ most_natural) → FitsKind turns passed old r (if b then Number n.unsigned.lo n.unsigned.hi else if c then Natural else kind) new
+    by_cases : (b c : Bool) → (c ≡ true → n.unsigned.hi ≤ most_natural) → FitsKind turns passed old r (if b then Number n.unsigned.lo n.unsigned.hi else if c then Natural (n.unsigned.hi / 2 ^ 32) else kind) new
     by_cases true c small = record { number = x; low = has.unsigned.above; high = has.unsigned.below; old_is = eo; new_is = en }
     by_cases false true small =
         let high = small refl in
@@ -120,7 +123,7 @@ numeric_left : (width : Width) (op : AluOp) → is_numeric width op ≡ true →
 numeric_left width op e (ANumber x) b v h = (x, refl)
 numeric_left width op e (Pointer region off) b v h = absurd (pointer_left width op e b v region off h)
 
-module _ (ends : Order) (notes : List (Option Place)) (turns : ℕ) (passed : ℕ → ℕ) where
+module _ (ends : Order) (notes : List (Option Place)) (turns : ℕ) (passed : Past) where
   fits_register : (kinds : Kinds) (s t : State) (r : Reg) → Between ends notes turns passed kinds s t → FitsKind turns passed (register_in s.top) (register_number r) (kinds (register_number r)) (register t r)
   fits_register kinds s t r b = b.top.registers (register_number r) (register_below r)
 
@@ -130,14 +133,16 @@ module _ (ends : Order) (notes : List (Option Place)) (turns : ℕ) (passed : �
   -- a register that surely holds a number
   number_is : (kind : Kind) (n : Num) (s : State) (r : Reg) (new : Option Value) → IsState s → FitsKind turns passed (register_in s.top) (register_number r) kind new → number_of kind ≡ Some n → IsMember n (register s r) new
   number_is (Number least most) n s r new state f e = member_of (bounded least most) n f.number (register s r) new (bounded_holds least most f.number (small s r f.number state f.old_is) f.low f.high) e f.old_is f.new_is
-  number_is Natural n s r new state f e = member_of (bounded 0 most_natural) n f.number (register s r) new (bounded_holds 0 most_natural f.number (small s r f.number state f.old_is) f.low f.high) e f.old_is f.new_is
+  number_is (Natural half) n s r new state f e = member_of (bounded 0 (natural_top half)) n f.number (register s r) new (bounded_holds 0 (natural_top half) f.number (small s r f.number state f.old_is) f.low f.high) e f.old_is f.new_is
+  number_is (Length most) n s r new state f e = member_of (bounded 0 most) n f.size (register s r) new (bounded_holds 0 most f.size (small s r f.size state f.is.1) (omega arith) f.is.0) e f.is.1 f.is.2
   number_is kind n s r new state f e = absurd (none-some _ e)
 
   -- one that an operation reads
   read_is : (numeric : Bool) (kind : Kind) (n : Num) (s : State) (r : Reg) (v : Value) (new : Option Value) → IsState s → FitsKind turns passed (register_in s.top) (register_number r) kind new → register s r ≡ Some v → (numeric ≡ true → IsNumeral v)
       → read_number numeric kind ≡ Some n → IsMember n (register s r) new
   read_is numeric (Number least most) n s r v new state f ev number e = member_of (bounded least most) n f.number (register s r) new (bounded_holds least most f.number (small s r f.number state f.old_is) f.low f.high) e f.old_is f.new_is
-  read_is numeric Natural n s r v new state f ev number e = member_of (bounded 0 most_natural) n f.number (register s r) new (bounded_holds 0 most_natural f.number (small s r f.number state f.old_is) f.low f.high) e f.old_is f.new_is
+  read_is numeric (Natural half) n s r v new state f ev number e = member_of (bounded 0 (natural_top half)) n f.number (register s r) new (bounded_holds 0 (natural_top half) f.number (small s r f.number state f.old_is) f.low f.high) e f.old_is f.new_is
+  read_is numeric (Length most) n s r v new state f ev number e = member_of (bounded 0 most) n f.size (register s r) new (bounded_holds 0 most f.size (small s r f.size state f.is.1) (omega arith) f.is.0) e f.is.1 f.is.2
   read_is true Same n s r v new state f ev number e =
       let x = number refl in
       let old_is : register s r ≡ Some (ANumber x.0) = ev ∙ ap Some x.1 in
@@ -198,10 +203,9 @@ module _ (ends : Order) (notes : List (Option Place)) (turns : ℕ) (passed : �
       let is : b ≡ ANumber m.value = same_Some _ _ (sym eb ∙ m.old_is) in
       by_left width op dst kinds s t nb na n m.value v state h ena m.valid m.has (subst (λ b. alu_result width op (register s dst) b ≡ Some v) is ev) e2))
 
-  -- what is written fits the kind
-  pub alu_known : (own : Option Value) (width : Width) (op : AluOp) (dst : Reg) (src : Operand) (kinds : Kinds) (s t : State) (b v : Value) → IsState s → Between ends notes turns passed kinds s t → operand s src ≡ Some b → alu_result width op (register s dst) b ≡ Some v
-      → FitsKind turns passed (holding own v) 0 (number_kind kinds (Alu op width dst src)) (Some v)
-  alu_known own width op dst src kinds s t b v state h eb ev = by_number (alu_number kinds op width dst src) refl
+  numbers_known : (own : Option Value) (width : Width) (op : AluOp) (dst : Reg) (src : Operand) (kinds : Kinds) (s t : State) (b v : Value) → IsState s → Between ends notes turns passed kinds s t → operand s src ≡ Some b → alu_result width op (register s dst) b ≡ Some v
+      → FitsKind turns passed (holding own v) 0 (alu_kind kinds op width dst src) (Some v)
+  numbers_known own width op dst src kinds s t b v state h eb ev = by_number (alu_number kinds op width dst src) refl
     where
       by_number : (o : Option Num) → alu_number kinds op width dst src ≡ o → FitsKind turns passed (holding own v) 0 (option_map_or (bounds_of Both) o Both) (Some v)
       by_number None eo = record { value = v; old_is = refl; new_is = refl }
@@ -209,17 +213,26 @@ module _ (ends : Order) (notes : List (Option Place)) (turns : ℕ) (passed : �
           let g = alu_gives width op dst src kinds s t b v n state h eb ev eo in
           bounds_known turns passed (holding own v) 0 Both n (Some v) g.value g.has (ap Some g.is) (ap Some g.is) (record { value = v; old_is = refl; new_is = refl })
 
-  own_bounds : (b c : Bool) (least most : ℕ) → is_of_register (if b then Number least most else if c then Natural else Both) ≡ false
-  own_bounds true c least most = refl
-  own_bounds false true least most = refl
-  own_bounds false false least most = refl
+  own_bounds : (b c : Bool) (least most half : ℕ) → is_of_register (if b then Number least most else if c then Natural half else Both) ≡ false
+  own_bounds true c least most half = refl
+  own_bounds false true least most half = refl
+  own_bounds false false least most half = refl
 
-  pub alu_own : (width : Width) (op : AluOp) (dst : Reg) (src : Operand) (kinds : Kinds) → is_of_register (number_kind kinds (Alu op width dst src)) ≡ false
-  alu_own width op dst src kinds = by_number (alu_number kinds op width dst src)
+  numbers_own : (width : Width) (op : AluOp) (dst : Reg) (src : Operand) (kinds : Kinds) → is_of_register (alu_kind kinds op width dst src) ≡ false
+  numbers_own width op dst src kinds = by_number (alu_number kinds op width dst src)
     where
       by_number : (o : Option Num) → is_of_register (option_map_or (bounds_of Both) o Both) ≡ false
       by_number None = refl
-      by_number (Some n) = own_bounds (nat_lt n.unsigned.hi (2 ^ 32)) (nat_le n.unsigned.hi most_natural) n.unsigned.lo n.unsigned.hi
+      by_number (Some n) = own_bounds (nat_lt n.unsigned.hi (2 ^ 32)) (nat_le n.unsigned.hi most_natural) n.unsigned.lo n.unsigned.hi (n.unsigned.hi / 2 ^ 32)
+
+  -- what is written fits the kind
+  pub alu_known : (width : Width) (op : AluOp) (dst : Reg) (src : Operand) (kinds : Kinds) (s t : State) (b v : Value) → IsState s → Owns s → Between ends notes turns passed kinds s t → operand s src ≡ Some b → alu_result width op (register s dst) b ≡ Some v
+      → Makes ends notes turns passed s (number_kind kinds (Alu op width dst src)) v
+  alu_known width op dst src kinds s t b v state o h eb ev = by_made (inner_made kinds width op dst src) refl
+    where
+      by_made : (made : Option Kind) → inner_made kinds width op dst src ≡ made → Makes ends notes turns passed s (option_map_or (λ (kind : Kind). kind) made (alu_kind kinds op width dst src)) v
+      by_made None em = record { fits = numbers_known (register_in s.top 10) width op dst src kinds s t b v state h eb ev; own = numbers_own width op dst src kinds }
+      by_made (Some made) em = made_known ends notes turns passed width op dst src kinds s t made b v o h eb ev em
 
   pub load_own : (size : Size) → is_of_register (loaded_number size) ≡ false
   load_own B = refl
@@ -273,6 +286,26 @@ module _ (ends : Order) (notes : List (Option Place)) (turns : ℕ) (passed : �
         left_has = subst (λ (p : Num × Num). Has p.0 m.value) is r.have.0;
         right_has = subst (λ (p : Num × Num). Has p.1 n.value) is r.have.1;
       }))
+
+  -- a test answers what numbers between the bounds of its operands may answer
+  pub answers_by : (cond : Cond) (width : Width) (dst : Reg) (src : Operand) (taken : Bool) (kinds : Kinds) (s t : State) (a b : Value) → IsState s → Between ends notes turns passed kinds s t → register s dst ≡ Some a → operand s src ≡ Some b
+      → test_of_values width cond a b ≡ Some taken → may_answer kinds cond width taken dst src ≡ true
+  answers_by cond width dst src taken kinds s t a b state h ea eb et = by_right (operand_number kinds false src) refl
+    where
+      by_left : (nb : Num) (o : Option Num) → operand_number kinds false src ≡ Some nb → number_of (kinds (register_number dst)) ≡ o → option_map_or (λ na. option_map_or (λ (p : Num × Num). true) (refine cond width taken na nb) false) o true ≡ true
+      by_left nb None enb eo = refl
+      by_left nb (Some na) enb eo =
+          let m = number_is (kinds (register_number dst)) na s dst (register t dst) state (fits_register kinds s t dst h) eo in
+          let n = operand_is false src nb kinds s t b state h eb (λ no. absurd (false≢true no)) enb in
+          let a_is : a ≡ ANumber m.value = same_Some _ _ (sym ea ∙ m.old_is) in
+          let b_is : b ≡ ANumber n.value = same_Some _ _ (sym eb ∙ n.old_is) in
+          let test : jumps width cond m.value n.value ≡ taken = same_Some _ _ (sym (ap₂ (λ a b. test_of_values width cond a b) a_is b_is) ∙ et) in
+          let r = refine_keeps cond width taken na nb m.value n.value m.valid n.valid m.has n.has test in
+          ap (λ o. option_map_or (λ (p : Num × Num). true) o false) r.are_there
+
+      by_right : (o : Option Num) → operand_number kinds false src ≡ o → option_map_or (λ nb. option_map_or (λ na. option_map_or (λ (p : Num × Num). true) (refine cond width taken na nb) false) (number_of (kinds (register_number dst))) true) o true ≡ true
+      by_right None eo = refl
+      by_right (Some nb) eo = by_left nb (number_of (kinds (register_number dst))) eo refl
 
   -- where a test answers so, what it tells is so
   pub told_between : (cond : Cond) (width : Width) (dst : Reg) (src : Operand) (off : ℤ) (taken : Bool) (kinds : Kinds) (s t : State) (a b : Value) → IsState s → Between ends notes turns passed kinds s t → register s dst ≡ Some a → operand s src ≡ Some b

@@ -35,28 +35,33 @@ pub record Near (s : State) (k : ℕ) (off : ℤ) (at : Location) : Type 0 where
   pub away : off +ℤ pos frame_bytes ≡ pos first
   pub fits : first + k ≤ frame_bytes
 
-own_pointer : (s : State) (r : Reg) (base : Value) → Owns s → is_r10 r ≡ true → register s r ≡ Some base → base ≡ Pointer (FrameAt (depth s)) (pos 0)
+pub own_pointer : (s : State) (r : Reg) (base : Value) → Owns s → is_r10 r ≡ true → register s r ≡ Some base → base ≡ Pointer (FrameAt (depth s)) (pos 0)
 own_pointer s r base o e eb = same_Some _ _ (sym eb ∙ ap (λ n. get_or s.top.registers n None) (eqb-true (register_number r) 10 e) ∙ o.0)
 
-pub near : (s : State) (r : Reg) (k : ℕ) (off : ℤ) (base : Value) (at : Location) → Owns s → is_r10 r ≡ true → register s r ≡ Some base → location_of s k off base ≡ Some at → Near s k off at
-near s r k off base at o e eb el =
-    let there : location_of s k off (Pointer (FrameAt (depth s)) (pos 0)) ≡ Some at = subst (λ v. location_of s k off v ≡ Some at) (own_pointer s r base o e eb) el in
-    let c = cond_first (nat_le (depth s) (depth s)) _ at there in
-    let m = unmapped (InFrame (depth s)) (inside k frame_bytes ((pos 0 +ℤ off) +ℤ pos frame_bytes)) at c.1 in
-    by_inside ((pos 0 +ℤ off) +ℤ pos frame_bytes) refl m.0 m.1 m.2
+-- by a pointer into the running frame
+pub own_placed : (s : State) (k : ℕ) (off z : ℤ) (at : Location) → location_of s k off (Pointer (FrameAt (depth s)) z) ≡ Some at → Near s k (z +ℤ off) at
+own_placed s k off z at el =
+    let c = cond_first (nat_le (depth s) (depth s)) _ at el in
+    let m = unmapped (InFrame (depth s)) (inside k frame_bytes ((z +ℤ off) +ℤ pos frame_bytes)) at c.1 in
+    by_inside ((z +ℤ off) +ℤ pos frame_bytes) refl m.0 m.1 m.2
   where
-    sum_is : (off : ℤ) → off +ℤ pos frame_bytes ≡ (pos 0 +ℤ off) +ℤ pos frame_bytes
-    sum_is off = omega (arith, ints)
-
-    by_inside : (z : ℤ) → (pos 0 +ℤ off) +ℤ pos frame_bytes ≡ z → (i : ℕ) → inside k frame_bytes z ≡ Some i → InFrame (depth s) i ≡ at → Near s k off at
+    by_inside : (y : ℤ) → (z +ℤ off) +ℤ pos frame_bytes ≡ y → (i : ℕ) → inside k frame_bytes y ≡ Some i → InFrame (depth s) i ≡ at → Near s k (z +ℤ off) at
     by_inside (pos j) ez i e is =
         let c = in_region (nat_le (j + k) frame_bytes) i refl e in
-        record { first = i; is = sym is; away = sum_is off ∙ ez ∙ ap pos c.1; fits = subst (λ j. j + k ≤ frame_bytes) c.1 c.0 }
+        record { first = i; is = sym is; away = ez ∙ ap pos c.1; fits = subst (λ j. j + k ≤ frame_bytes) c.1 c.0 }
       where
         in_region : (b : Bool) (i : ℕ) → nat_le (j + k) frame_bytes ≡ b → (if b then Some j else None) ≡ Some i → (j + k ≤ frame_bytes) × (j ≡ i)
         in_region true i eb e = (leb-true (j + k) frame_bytes eb, same_Some _ _ e)
         in_region false i eb e = absurd (none-some _ e)
     by_inside (negsuc j) ez i e is = absurd (none-some _ e)
+
+pub near : (s : State) (r : Reg) (k : ℕ) (off : ℤ) (base : Value) (at : Location) → Owns s → is_r10 r ≡ true → register s r ≡ Some base → location_of s k off base ≡ Some at → Near s k off at
+near s r k off base at o e eb el =
+    let n = own_placed s k off (pos 0) at (subst (λ v. location_of s k off v ≡ Some at) (own_pointer s r base o e eb) el) in
+    record { first = n.first; is = n.is; away = sum_is off ∙ n.away; fits = n.fits }
+  where
+    sum_is : (off : ℤ) → off +ℤ pos frame_bytes ≡ (pos 0 +ℤ off) +ℤ pos frame_bytes
+    sum_is off = omega (arith, ints)
 
 -- a whole slot begins there
 pub slot_here : (off : ℤ) (i : ℕ) → off +ℤ pos frame_bytes ≡ pos i → i % 8 == 0 ≡ true → i < frame_bytes → slot_of off ≡ Some (i / 8)
@@ -143,7 +148,7 @@ stored_low i kind kinds r lt = ap (λ b. if b then kind else kinds r) (low_unwri
 
 -- ---- a store by another register, and one by r10
 
-far_writes : (i : Insn) (a : Access) (k : ℕ) → access_of i ≡ Some a → a.writes ≡ true → is_r10 a.base ≡ false → writes_slot i (11 + k) ≡ true
+pub far_writes : (i : Insn) (a : Access) (k : ℕ) → access_of i ≡ Some a → a.writes ≡ true → is_r10 a.base ≡ false → writes_slot i (11 + k) ≡ true
 far_writes i a k ea ew e =
     ap (λ o. option_map_or (is_written (11 + k)) o false) ea
     ∙ and_from a.writes _ ew (and_from (nat_le 11 (11 + k)) _ (le-leb 11 (11 + k) (omega arith)) (ap (λ b. if b then touches a (11 + k - 11) else true) e))

@@ -34,7 +34,7 @@ use Rattle.bpf_follows.specs.declared.notes.Kind.{Kind}
 use Rattle.bpf_follows.specs.declared.notes.Kind.TheVariants.{Both, Number as NumberKind, Offset, Fixed, Within, Start}
 use Rattle.bpf_follows.specs.declared.notes.Place.{Place}
 use Rattle.bpf_follows.specs.Areas.{origin, area_of, is_offset, are_alike, unbounded, IsInto}
-use Rattle.bpf_follows.specs.Relation.{Kinds, HasOffset, IsFixed, IsWithin, IsOneNumber, as_number, as_offset, FitsKind, register_in}
+use Rattle.bpf_follows.specs.Relation.{Past, Kinds, HasOffset, IsFixed, IsWithin, IsOneNumber, as_number, as_offset, FitsKind, register_in}
 use Rattle.bpf_follows.specs.Extras.{is_same, is_r10}
 use Rattle.bpf_follows.specs.Exact.{farthest, fixed_at}
 use Rattle.bpf_follows.specs.Matching.{copy_kind, within_at, offset_sum, computed, moved_kind, is_equality, are_offsets, is_framed, kinds_after}
@@ -46,6 +46,7 @@ use Rattle.bpf_follows.proofs.Frames.{is_of_register, holding, fits_anew}
 use Rattle.bpf_follows.proofs.Offsets.{up, up_from, down, apart, wrapped_fits, wrapped_near, equal_offsets, fits_64, moved_number, fixed_sum}
 use Rattle.bpf_follows.proofs.Between.{Between, Goes, goes_as}
 use Rattle.bpf_follows.proofs.Known.{told_between}
+use Rattle.bpf_follows.proofs.Ways.{goes_there}
 use Rattle.bpf_follows.proofs.Instruction.{both_true, same_kept, put_as, Arrived, arrived, tested, FallArrives, JumpArrives}
 
 pub cond_is : {A : Type 0} (b : Bool) (x y : A) → (if b then Some x else None) ≡ Some y → (b ≡ true) × (x ≡ y)
@@ -66,7 +67,7 @@ small_origin Own z low high l h small = fits_64 z (omega (arith, ints)) (omega (
 turned : (a b c : ℤ) → a +ℤ (b +ℤ c) ≡ (a +ℤ c) +ℤ (b +ℤ pos 0)
 turned a b c = omega (arith, ints)
 
-module _ (ends : Order) (notes : List (Option Place)) (turns : ℕ) (passed : ℕ → ℕ) where
+module _ (ends : Order) (notes : List (Option Place)) (turns : ℕ) (passed : Past) where
   -- what the new machine computes, where the old one computes v, and has `own` in r10
   pub record Computes (own : Option Value) (kind : Kind) (v : Value) (o : Option Value) : Type 0 where
     pub value : Value
@@ -304,7 +305,7 @@ module _ (ends : Order) (notes : List (Option Place)) (turns : ℕ) (passed : �
       let y_is : y ≡ Pointer l.region l.offset = same_Some _ _ (sym ey ∙ l.old_is) in
       let answer : test_of_values W64 cond (as_number (h.offset +ℤ (origin k.0 +ℤ pos 0))) (as_number (l.offset +ℤ (origin k.0 +ℤ pos 0))) ≡ Some taken =
       equality_tests cond (origin k.0 +ℤ pos 0) equal h.region l.region h.offset l.offset taken h.fits l.fits (ap₂ (λ x y. test_of_values W64 cond x y) (sym x_is) (sym y_is) ∙ et) in
-      let way = tested ends notes turns passed order cond W64 dst (FromReg src) off z kind kinds s t u taken (told_between ends notes turns passed cond W64 dst (FromReg src) off taken kinds s t x y state b ex ey et) (λ no. falls) (λ yes. jumps) e3 in
+      let way = tested ends notes turns passed order cond W64 dst (FromReg src) off z kind kinds s t u taken (told_between ends notes turns passed cond W64 dst (FromReg src) off taken kinds s t x y state b ex ey et) (goes_there ends notes turns passed cond W64 dst (FromReg src) off taken kinds s t x y state b ex ey et) falls jumps e3 in
       record {
         state = way.state;
         is = bind _ (register t dst) (as_number (h.offset +ℤ (origin k.0 +ℤ pos 0))) _ h.new_is (bind _ (register t src) (as_number (l.offset +ℤ (origin k.0 +ℤ pos 0))) _ l.new_is
@@ -329,5 +330,5 @@ module _ (ends : Order) (notes : List (Option Place)) (turns : ℕ) (passed : �
       arrived ends notes turns passed _ _ _ u _
       (goes_as ends notes turns passed _ _ _ u _ _ (sym kept)
       (put_as ends notes turns passed kinds s t u (Alu Mov W64 dst (FromReg src)) (Fixed Own (origin Own)) dst (Pointer (FrameAt (depth s)) (pos 0)) (Number (extended (origin Own))) (λ q. refl) refl
-      (record { has = record { region = FrameAt (depth s); into = (depth s, refl, o.0); offset = pos 0; fits = record { sfits = omega arith }; old_is = refl; new_is = refl }; is = refl }) b step)) (falls refl)
+      (record { has = record { region = FrameAt (depth s); into = (depth s, refl, o.0); offset = pos 0; fits = record { sfits = omega arith }; old_is = refl; new_is = refl }; is = refl }) b step)) (falls refl refl)
   framed_arrives order i moved kinds s t u o b e falls es = absurd (false≢true e)

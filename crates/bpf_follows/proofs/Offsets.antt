@@ -132,19 +132,6 @@ apart_held a b f g =
     let b2 = hb.1 in
     held_64 (a -ℤ b) (omega (arith, ints)) (omega (arith, ints))
 
-pub least_held : (a b c : ℤ) → FitsSigned w32 a → FitsSigned w32 b → FitsSigned w32 c → to_z w64 (of_z w64 ((a -ℤ b) -ℤ c)) ≡ (a -ℤ b) -ℤ c
-least_held a b c f g h =
-    let ha = near_32 a f in
-    let a1 = ha.0 in
-    let a2 = ha.1 in
-    let hb = near_32 b g in
-    let b1 = hb.0 in
-    let b2 = hb.1 in
-    let hc = near_32 c h in
-    let c1 = hc.0 in
-    let c2 = hc.1 in
-    held_64 ((a -ℤ b) -ℤ c) (omega (arith, ints)) (omega (arith, ints))
-
 pub sum_held : (n : ℕ) (a b : ℤ) → n < 2 ^ 32 → FitsSigned w32 a → FitsSigned w32 b → to_z w64 (of_z w64 (pos n +ℤ (a -ℤ b))) ≡ pos n +ℤ (a -ℤ b)
 sum_held n a b low f g =
     let ha = near_32 a f in

@@ -26,8 +26,8 @@ use Rattle.bpf_semantics.proofs.FlatBytes.{number-bytes}
 use Rattle.bpf_semantics.proofs.StateLemmas.{get_each, length-each_cell, without_is}
 use Rattle.bpf_follows.specs.declared.notes.Area.TheVariants.{Given, Own}
 use Rattle.bpf_follows.specs.declared.notes.Kind.{Kind}
-use Rattle.bpf_follows.specs.declared.notes.Kind.TheVariants.{Nothing, Unset, Same, Number as NumberKind, Natural, Offset, Fixed, Within, Start, Alone, Returns, Both}
-use Rattle.bpf_follows.specs.Relation.{IsKept, EachPair, IsRead, cell_of, Holds, IsUnset, SlotKept, FitsSlot, as_number, is_free}
+use Rattle.bpf_follows.specs.declared.notes.Kind.TheVariants.{Nothing, Unset, Same, Number as NumberKind, Natural, Inner, Length, Sized, Head, Offset, Fixed, Within, Start, Alone, Returns, Both}
+use Rattle.bpf_follows.specs.Relation.{Past, IsKept, EachPair, IsRead, cell_of, Holds, IsUnset, SlotKept, FitsSlot, as_number, is_free}
 use Rattle.bpf_follows.specs.Matching.{is_plain}
 use Rattle.bpf_follows.proofs.Lists.{mapped, same_is_kept, pairs_weaker, pair_at, Cells}
 
@@ -101,14 +101,18 @@ both_hold order xs ys k v h g j lt c e = g.cells j lt ∙ (sym (h.cells j lt) �
 pub holds_as : (order : Order) (xs xs' : Cells) (k : ℕ) (v : Value) → ((j : ℕ) → j < 8 → cell xs' (8 * k + j) ≡ cell xs (8 * k + j)) → Holds order xs k v → Holds order xs' k v
 holds_as order xs xs' k v e h = record { fits = h.fits; cells = λ j lt. e j lt ∙ h.cells j lt }
 
-module _ (order : Order) (turns : ℕ) (passed : ℕ → ℕ) (registers : ℕ → Option Value) where
+module _ (order : Order) (turns : ℕ) (passed : Past) (registers : ℕ → Option Value) where
   pub plain_kept : (xs ys : Cells) (k : ℕ) (kind : Kind) → is_plain kind ≡ true → FitsSlot order turns passed registers xs ys k kind → SlotKept xs ys k
   plain_kept xs ys k Nothing e f = absurd (false≢true e)
   plain_kept xs ys k Unset e f = unset_kept xs ys k f
   plain_kept xs ys k Same e f = f
   plain_kept xs ys k Both e f = absurd f
   plain_kept xs ys k (NumberKind least most) e f = both_hold order xs ys k (Number f.number) f.old_is f.new_is
-  plain_kept xs ys k Natural e f = absurd f
+  plain_kept xs ys k (Natural half) e f = absurd f
+  plain_kept xs ys k (Inner least most) e f = absurd f
+  plain_kept xs ys k (Length most) e f = absurd f
+  plain_kept xs ys k (Sized most) e f = absurd f
+  plain_kept xs ys k Head e f = absurd f
   plain_kept xs ys k (Offset area) e f = absurd (false≢true e)
   plain_kept xs ys k (Fixed area offset) e f = absurd (false≢true e)
   plain_kept xs ys k (Within area least most) e f = absurd f
@@ -124,7 +128,11 @@ module _ (order : Order) (turns : ℕ) (passed : ℕ → ℕ) (registers : ℕ �
   free_unset xs ys k Same e f = absurd (false≢true e)
   free_unset xs ys k Both e f = absurd f
   free_unset xs ys k (NumberKind least most) e f = absurd (false≢true e)
-  free_unset xs ys k Natural e f = absurd f
+  free_unset xs ys k (Natural half) e f = absurd f
+  free_unset xs ys k (Inner least most) e f = absurd f
+  free_unset xs ys k (Length most) e f = absurd f
+  free_unset xs ys k (Sized most) e f = absurd f
+  free_unset xs ys k Head e f = absurd f
   free_unset xs ys k (Offset area) e f = absurd (false≢true e)
   free_unset xs ys k (Fixed area offset) e f = absurd (false≢true e)
   free_unset xs ys k (Within area least most) e f = absurd f
@@ -147,7 +155,11 @@ module _ (order : Order) (turns : ℕ) (passed : ℕ → ℕ) (registers : ℕ �
     old_is = holds_as order xs xs' k (Number f.number) ex f.old_is;
     new_is = holds_as order ys ys' k (Number f.number) ey f.new_is;
   }
-  slot_as xs ys xs' ys' k Natural ex ey f = f
+  slot_as xs ys xs' ys' k (Natural half) ex ey f = f
+  slot_as xs ys xs' ys' k (Inner least most) ex ey f = f
+  slot_as xs ys xs' ys' k (Length most) ex ey f = f
+  slot_as xs ys xs' ys' k (Sized most) ex ey f = f
+  slot_as xs ys xs' ys' k Head ex ey f = f
   slot_as xs ys xs' ys' k (Offset Own) ex ey f = f
   slot_as xs ys xs' ys' k (Fixed Own offset) ex ey f = f
   slot_as xs ys xs' ys' k (Offset Given) ex ey f = record {

@@ -25,7 +25,7 @@ use Rattle.bpf_follows.specs.declared.notes.Area.TheVariants.{Given, Own}
 use Rattle.bpf_follows.specs.declared.notes.Kind.{Kind}
 use Rattle.bpf_follows.specs.declared.notes.Kind.TheVariants.{Nothing, Number as NumberKind, Offset, Fixed, Within}
 use Rattle.bpf_follows.specs.declared.notes.Place.{Place}
-use Rattle.bpf_follows.specs.Relation.{Kinds, HasOffset, as_number, as_offset, IsRead, EachPair, Holds, FitsKind, FitsSlot, register_in}
+use Rattle.bpf_follows.specs.Relation.{Past, Kinds, HasOffset, as_number, as_offset, IsRead, EachPair, Holds, FitsKind, FitsSlot, register_in}
 use Rattle.bpf_follows.specs.Extras.{is_same, is_r10, slot_of}
 use Rattle.bpf_follows.specs.Exact.{exact_kind}
 use Rattle.bpf_follows.specs.Matching.{is_equality, are_offsets, fills_slot, slot_kind, slot_whole, loaded, spilled, put_constant, by_offsets, kinds_after}
@@ -39,7 +39,7 @@ use Rattle.bpf_follows.proofs.Between.{Between, Goes, goes_as, same_depth, stand
 use Rattle.bpf_follows.proofs.Instruction.{both_true, plus_zero, same_kept, put_as, behind_store, Arrived, arrived, FallArrives, JumpArrives, redirect}
 use Rattle.bpf_follows.proofs.OffsetInsn.{cond_is, fits_in, alu_arrives, moved_by, computed_by, offsets_tested}
 
-module _ (ends : Order) (notes : List (Option Place)) (turns : ℕ) (passed : ℕ → ℕ) where
+module _ (ends : Order) (notes : List (Option Place)) (turns : ℕ) (passed : Past) where
   -- r10 in both
   own_base : (kinds : Kinds) (s t : State) (r : Reg) (base : Value) → Between ends notes turns passed kinds s t → is_r10 r ≡ true → is_same (kinds 10) ≡ true → register s r ≡ Some base → register t r ≡ Some base
   own_base kinds s t r base b r10 same eb =
@@ -241,11 +241,11 @@ module _ (ends : Order) (notes : List (Option Place)) (turns : ℕ) (passed : �
   unfolding does
   offsets_arrive order (Alu op W64 dst (Imm imm)) z made kinds s t u same state o b e falls jumps es = option_and_then_some _ (alu_result W64 op (register s dst) (Number (extended imm))) u es (λ v ev ep.
       arrived ends notes turns passed _ _ _ u _
-      (alu_arrives ends notes turns passed order W64 op dst (Imm imm) made kinds s t u v b (moved_by ends notes turns passed op (kinds (register_number dst)) made (register_in s.top) (register_number dst) (register t dst) imm v e (fits_in ends notes turns passed kinds s t dst b) ev) ep) (falls refl))
+      (alu_arrives ends notes turns passed order W64 op dst (Imm imm) made kinds s t u v b (moved_by ends notes turns passed op (kinds (register_number dst)) made (register_in s.top) (register_number dst) (register t dst) imm v e (fits_in ends notes turns passed kinds s t dst b) ev) ep) (falls refl refl))
   offsets_arrive order (Alu op W64 dst (FromReg src)) z made kinds s t u same state o b e falls jumps es = option_and_then_some _ (register s src) u es (λ x ex e1. option_and_then_some _ (alu_result W64 op (register s dst) x) u e1 (λ v ev ep.
       arrived ends notes turns passed _ _ _ u _
       (alu_arrives ends notes turns passed order W64 op dst (FromReg src) made kinds s t u v b
-      (computed_by ends notes turns passed op (kinds (register_number dst)) (kinds (register_number src)) made (register_in s.top) (register_number dst) (register_number src) (register t dst) (register t src) x v e (fits_in ends notes turns passed kinds s t dst b) (fits_in ends notes turns passed kinds s t src b) ex ev) ep) (falls refl)))
+      (computed_by ends notes turns passed op (kinds (register_number dst)) (kinds (register_number src)) made (register_in s.top) (register_number dst) (register_number src) (register t dst) (register t src) x v e (fits_in ends notes turns passed kinds s t dst b) (fits_in ends notes turns passed kinds s t src b) ex ev) ep) (falls refl refl)))
   offsets_arrive order (JumpIf cond W64 dst (FromReg src) off) z made kinds s t u same state o b e falls jumps es =
       let c = cond_is (is_equality cond && are_offsets kinds dst src) Nothing made e in
       let k = both_true (is_equality cond) (are_offsets kinds dst src) c.0 in
@@ -253,13 +253,13 @@ module _ (ends : Order) (notes : List (Option Place)) (turns : ℕ) (passed : �
   offsets_arrive order (Load DW dst src off) z made kinds s t u same state o b e falls jumps es =
       arrived ends notes turns passed _ _ _ u _
       (subst (λ order. Goes ends notes turns passed (kinds_after (Load DW dst src off) made kinds) (s.top.slot + 1) (t.top.slot + 1) u (does order (Load DW dst src off) t)) (sym same)
-      (loads_whole dst src off made kinds s t u o b e (subst (λ order. does order (Load DW dst src off) s ≡ Some u) same es))) (falls refl)
+      (loads_whole dst src off made kinds s t u o b e (subst (λ order. does order (Load DW dst src off) s ≡ Some u) same es))) (falls refl refl)
   offsets_arrive order (Store DW dst off src) z made kinds s t u same state o b e falls jumps es =
       arrived ends notes turns passed _ _ _ u _
       (subst (λ order. Goes ends notes turns passed (kinds_after (Store DW dst off src) made kinds) (s.top.slot + 1) (t.top.slot + 1) u (does order (Store DW dst off src) t)) (sym same)
-      (stores_whole dst src off made kinds s t u state o b e (subst (λ order. does order (Store DW dst off src) s ≡ Some u) same es))) (falls refl)
+      (stores_whole dst src off made kinds s t u state o b e (subst (λ order. does order (Store DW dst off src) s ≡ Some u) same es))) (falls refl refl)
   offsets_arrive order (StoreImm DW dst off imm) z made kinds s t u same state o b e falls jumps es =
       arrived ends notes turns passed _ _ _ u _
       (subst (λ order. Goes ends notes turns passed (kinds_after (StoreImm DW dst off imm) made kinds) (s.top.slot + 1) (t.top.slot + 1) u (does order (StoreImm DW dst off imm) t)) (sym same)
-      (stores_constant dst off imm made kinds s t u o b e (subst (λ order. does order (StoreImm DW dst off imm) s ≡ Some u) same es))) (falls refl)
+      (stores_constant dst off imm made kinds s t u o b e (subst (λ order. does order (StoreImm DW dst off imm) s ≡ Some u) same es))) (falls refl refl)
   offsets_arrive order i z made kinds s t u same state o b e falls jumps es = absurd (none-some _ e)

@@ -21,17 +21,18 @@ use Rattle.bpf_semantics.specs.Step.{does, next, operand, alu_result}
 use Rattle.bpf_semantics.specs.declared.value.Value.{Value}
 use Rattle.bpf_semantics.specs.declared.value.Value.TheVariants.{Number as ANumber}
 use Rattle.bpf_follows.specs.declared.notes.Kind.{Kind}
-use Rattle.bpf_follows.specs.declared.notes.Kind.TheVariants.{Number}
+use Rattle.bpf_follows.specs.declared.notes.Kind.TheVariants.{Number, Length}
 use Rattle.bpf_follows.specs.declared.notes.Place.{Place}
-use Rattle.bpf_follows.specs.Relation.{Kinds, FitsKind, register_in}
+use Rattle.bpf_follows.specs.Relation.{Past, Kinds, FitsKind, register_in}
 use Rattle.bpf_follows.specs.Numbers.{is_bounded, number_kind}
 use Rattle.bpf_follows.specs.Extras.{is_same}
-use Rattle.bpf_follows.specs.Exact.{by_exact, may_fall}
+use Rattle.bpf_follows.specs.Exact.{by_exact}
 use Rattle.bpf_follows.specs.Matching.{AreSame, result_kind, is_sum, is_moved, is_natural, is_wide, widened}
 use Rattle.bpf_follows.proofs.Lists.{bind}
 use Rattle.bpf_follows.proofs.Owns.{Owns}
 use Rattle.bpf_follows.proofs.Slots.{register_below}
 use Rattle.bpf_follows.proofs.Between.{Between}
+use Rattle.bpf_follows.proofs.InnerStore.{inner_store}
 use Rattle.bpf_follows.proofs.Instruction.{both_true, is_flow, Arrived, FallArrives, Tame, same_arrives}
 use Rattle.bpf_follows.proofs.ExactInsn.{exact_arrives}
 
@@ -59,7 +60,7 @@ low_natural n small = let e : n % 2 ^ 64 ≡ n % 2 ^ 64 % 2 ^ 32 = omega arith i
 tame : (notes : List (Option Place)) (op : AluOp) (dst : Reg) (src : Operand) (kinds : Kinds) → Tame notes kinds (Alu op W32 dst src)
 tame notes op dst src kinds = record { far = λ e. absurd (false≢true e); near = λ k e. absurd (none-some _ e) }
 
-module _ (ends : Order) (notes : List (Option Place)) (turns : ℕ) (passed : ℕ → ℕ) where
+module _ (ends : Order) (notes : List (Option Place)) (turns : ℕ) (passed : Past) where
   -- what both widths make of the new machine's registers
   record IsAlike (kinds : Kinds) (op : AluOp) (dst : Reg) (src : Operand) (t : State) : Type 0 where
     same : AreSame kinds (registers_read (Alu op W32 dst src))
@@ -117,6 +118,9 @@ module _ (ends : Order) (notes : List (Option Place)) (turns : ℕ) (passed : �
       let small = ltb-true most (2 ^ 32) e in
       let high = f.high in
       record { value = ANumber f.number; same = refl; is = f.new_is; alike = low_same f.number (omega arith) }
+  copied_alike (Length most) old r op new e f =
+      let short = f.short in
+      record { value = ANumber f.size; same = refl; is = f.is.2; alike = low_same f.size (omega arith) }
   copied_alike kind old r op new e f = absurd (false≢true e)
 
   natural_alike : (imm : ℤ) (op : Option Value) → is_natural imm ≡ true → alu_result W64 Mov op (ANumber (extended imm)) ≡ alu_result W32 Mov op (ANumber (extended imm))
@@ -144,7 +148,7 @@ module _ (ends : Order) (notes : List (Option Place)) (turns : ℕ) (passed : �
   does_alike order op dst src t v ev alike = bind _ (operand t src) v _ ev (ap (option_and_then (λ x. put dst x (next (Alu op W32 dst src) t))) alike) ∙ sym (bind _ (operand t src) v _ ev refl)
 
   -- it goes on
-  pub narrow : (kinds : Kinds) (i moved : Insn) → widened kinds i ≡ Some moved → (is_flow i ≡ false) × (may_fall kinds i ≡ true)
+  pub narrow : (kinds : Kinds) (i moved : Insn) → widened kinds i ≡ Some moved → (is_flow i ≡ false) × (inner_store kinds i ≡ false)
   narrow kinds (Alu op W32 dst src) moved e = (refl, refl)
   narrow kinds i moved e = absurd (none-some _ e)
 
@@ -165,7 +169,7 @@ module _ (ends : Order) (notes : List (Option Place)) (turns : ℕ) (passed : �
           exact_arrives ends notes turns passed order (Alu op W32 dst src) (pos 0) made kinds s t u b eo
           (subst (λ o. FallArrives ends notes turns passed (Alu op W32 dst src) (option_map_or (λ (kind : Kind). kind) (option_or o None) (number_kind kinds (Alu op W32 dst src))) kinds s.top.slot t.top.slot) eo falls) e
       by_exact_or None eo same falls =
-          same_arrives ends notes turns passed order (Alu op W32 dst src) (pos 0) kinds s t u state b o same (tame notes op dst src kinds) refl
+          same_arrives ends notes turns passed order (Alu op W32 dst src) (pos 0) kinds s t u state b o same (tame notes op dst src kinds) refl refl
           (subst (λ o. FallArrives ends notes turns passed (Alu op W32 dst src) (option_map_or (λ (kind : Kind). kind) (option_or o None) (number_kind kinds (Alu op W32 dst src))) kinds s.top.slot t.top.slot) eo falls)
-          (λ to et. absurd (none-some _ et)) e
+          (λ may to et. absurd (none-some _ et)) e
   widened_arrives order i moved kinds s t u state b o w falls e = absurd (none-some _ w)

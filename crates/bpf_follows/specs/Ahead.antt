@@ -40,11 +40,11 @@ farthest_ahead = 33
 abbrev pub span_ahead : Instructions → ℕ → ℕ → Option Span
 span_ahead old slot r = ahead old r slot farthest_ahead None
 
--- beside each of r0 to r10
+-- beside each of r0 to r10; of r10, by which a program goes to any byte of its frame, none
 abbrev pub spans_ahead : Instructions → ℕ → List (Option Span)
 spans_ahead old slot =
     span_ahead old slot 0 ∷ span_ahead old slot 1 ∷ span_ahead old slot 2 ∷ span_ahead old slot 3 ∷ span_ahead old slot 4 ∷ span_ahead old slot 5
-    ∷ span_ahead old slot 6 ∷ span_ahead old slot 7 ∷ span_ahead old slot 8 ∷ span_ahead old slot 9 ∷ span_ahead old slot 10 ∷ []
+    ∷ span_ahead old slot 6 ∷ span_ahead old slot 7 ∷ span_ahead old slot 8 ∷ span_ahead old slot 9 ∷ None ∷ []
 
 -- beside the register that an instruction at a slot writes, behind it
 abbrev pub span_behind : Instructions → ℕ → Insn → Option Span

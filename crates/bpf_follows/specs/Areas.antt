@@ -1,11 +1,12 @@
 -- What offsets are counted in: the context, or the function's own frame.
-use Rattle.std.specs.Prelude.{◌≡◌, ℕ, ℤ, pos, Bool, true, false, Option, Some, None}
+use Rattle.std.specs.Prelude.{◌≡◌, ℕ, ℤ, pos, Bool, true, false, Option, Some, None, if◌then◌else◌}
 use Rattle.std.specs.Option.{option_map_or}
 use Rattle.bpf_insn.specs.Limits.{frame_bytes}
 use Rattle.bpf_semantics.specs.declared.value.Value.{Value}
 use Rattle.bpf_semantics.specs.declared.value.Value.TheVariants.{Pointer}
 use Rattle.bpf_semantics.specs.declared.value.Region.{Region}
 use Rattle.bpf_semantics.specs.declared.value.Region.TheVariants.{Context, Frame as FrameAt}
+use Rattle.bpf_packets.specs.Blocks.{head_bytes}
 use Rattle.bpf_follows.specs.declared.notes.Area.{Area}
 use Rattle.bpf_follows.specs.declared.notes.Area.TheVariants.{Given, Own}
 use Rattle.bpf_follows.specs.declared.notes.Kind.{Kind}
@@ -29,6 +30,11 @@ same_area _ _ = false
 abbrev pub size_of : Area → ℕ → ℕ
 size_of Given length = length
 size_of Own length = frame_bytes
+
+-- the first of its bytes to which registers but r10 go: behind a block's head, and behind what they leave alone of each frame
+abbrev pub first_of : Area → Bool → ℕ → ℕ
+first_of Given padded untouched = if padded then head_bytes else 0
+first_of Own padded untouched = untouched
 
 -- The machine's region, where r10 holds this.
 abbrev pub IsInto : Area → Option Value → Region → Type 0

@@ -1,22 +1,27 @@
 -- Registers that hold one number always, the same in both programs: what instructions make of it, and which way tests on it go. Nothing here
 -- speaks of runs.
-use Rattle.std.specs.Prelude.{ℕ, ◌-◌, ◌^◌, ◌==◌, ◌&&◌, nat_le, nat_lt, unsigned_abs, ℤ, pos, ◌+ℤ◌, ◌-ℤ◌, Bool, true, not, Option, Some, None, option_and_then, option_map, if◌then◌else◌}
+use Rattle.std.specs.Prelude.{ℕ, ◌-◌, ◌^◌, ◌==◌, ◌&&◌, nat_le, nat_lt, unsigned_abs, ℤ, pos, ◌+ℤ◌, ◌-ℤ◌, Bool, true, false, not, Option, Some, None, option_and_then, option_map, if◌then◌else◌}
 use Rattle.std.specs.Option.{option_map_or, option_or}
+use Rattle.std.specs.Ordering.{int_eq}
 use Rattle.bpf_insn.specs.Arithmetic.{alu, low, extended, jumps}
 use Rattle.bpf_insn.specs.Instruction.{register_number, not_negative}
+use Rattle.bpf_insn.specs.declared.instruction.Reg.{Reg}
 use Rattle.bpf_insn.specs.declared.instruction.Operand.{Operand}
 use Rattle.bpf_insn.specs.declared.instruction.Operand.TheVariants.{Imm, Reg as FromReg}
 use Rattle.bpf_insn.specs.declared.instruction.Width.{Width}
 use Rattle.bpf_insn.specs.declared.instruction.Width.TheVariants.{W64}
 use Rattle.bpf_insn.specs.declared.instruction.AluOp.{AluOp}
 use Rattle.bpf_insn.specs.declared.instruction.AluOp.TheVariants.{Add, Sub, Mov}
+use Rattle.bpf_insn.specs.declared.instruction.Cond.{Cond}
+use Rattle.bpf_insn.specs.declared.instruction.Cond.TheVariants.{Eq, Ne}
 use Rattle.bpf_insn.specs.declared.instruction.Insn.{Insn}
-use Rattle.bpf_insn.specs.declared.instruction.Insn.TheVariants.{Alu, JumpIf}
+use Rattle.bpf_insn.specs.declared.instruction.Insn.TheVariants.{Alu, LoadImm64, JumpIf}
 use Rattle.bpf_follows.specs.declared.notes.Area.{Area}
 use Rattle.bpf_follows.specs.declared.notes.Kind.{Kind}
 use Rattle.bpf_follows.specs.declared.notes.Kind.TheVariants.{Number, Offset, Fixed}
 use Rattle.bpf_follows.specs.Areas.{same_area}
 use Rattle.bpf_follows.specs.Relation.{Kinds}
+use Rattle.bpf_follows.specs.Numbers.{may_answer}
 
 -- the number that a place surely holds: both bounds are that
 abbrev pub exactly : Kind → Option ℕ
@@ -68,18 +73,40 @@ alu_of_kinds width op kind other = option_or (option_and_then (alu_exactly width
 abbrev pub by_exact : Kinds → Insn → Option Kind
 by_exact kinds (Alu op width dst (Imm imm)) = alu_exactly width op (kinds (register_number dst)) (extended imm)
 by_exact kinds (Alu op width dst (FromReg src)) = alu_of_kinds width op (kinds (register_number dst)) (kinds (register_number src))
+by_exact kinds (LoadImm64 dst value) = exact_kind value
 by_exact kinds i = None
 
 -- ---- which way a test goes
 
--- whether a test jumps, where that is always the same
-abbrev pub decided : Kinds → Insn → Option Bool
-decided kinds (JumpIf cond width dst src off) = option_and_then (λ a. option_map (jumps width cond a) (operand_exactly kinds src)) (exactly (kinds (register_number dst)))
-decided kinds i = None
+-- whether two offsets into one area are equal that are always the same
+abbrev pub equal_fixed : Kind → Kind → Option Bool
+equal_fixed (Fixed area offset) (Fixed into other) = if same_area area into then Some (int_eq offset other) else None
+equal_fixed kind other = None
 
--- what a test never does needs nothing that stands for it
+abbrev pub decided_fixed : Cond → Width → Kind → Kind → Option Bool
+decided_fixed Eq W64 kind other = equal_fixed kind other
+decided_fixed Ne W64 kind other = option_map not (equal_fixed kind other)
+decided_fixed cond width kind other = None
+
+-- whether a test jumps, where that is always the same: of numbers, and of offsets
+abbrev pub decided_numbers : Kinds → Cond → Width → Reg → Operand → Option Bool
+decided_numbers kinds cond width dst src = option_and_then (λ a. option_map (jumps width cond a) (operand_exactly kinds src)) (exactly (kinds (register_number dst)))
+
+abbrev pub decided_offsets : Kinds → Cond → Width → Reg → Operand → Option Bool
+decided_offsets kinds cond width dst (Imm imm) = None
+decided_offsets kinds cond width dst (FromReg src) = decided_fixed cond width (kinds (register_number dst)) (kinds (register_number src))
+
+abbrev pub decided : Kinds → Cond → Width → Reg → Operand → Option Bool
+decided kinds cond width dst src = option_or (decided_numbers kinds cond width dst src) (decided_offsets kinds cond width dst src)
+
+-- A test may go a way (`taken`) that is the one it always goes, or, where that isn't known, that bounds allow. What it never does needs nothing
+-- that stands for it.
+abbrev pub may_go : Bool → Kinds → Insn → Bool
+may_go taken kinds (JumpIf cond width dst src off) = option_map_or (λ way. if taken then way else not way) (decided kinds cond width dst src) (may_answer kinds cond width taken dst src)
+may_go taken kinds i = true
+
 abbrev pub may_fall : Kinds → Insn → Bool
-may_fall kinds i = option_map_or not (decided kinds i) true
+may_fall kinds i = may_go false kinds i
 
 abbrev pub may_lead : Kinds → Insn → Bool
-may_lead kinds i = option_map_or (λ taken. taken) (decided kinds i) true
+may_lead kinds i = may_go true kinds i

@@ -1,5 +1,5 @@
 -- Extra instructions that write a register or a slot of the frame: what they make of it, while the old program stands still.
-use Rattle.std.specs.Prelude.{ℕ, ◌+◌, ◌/◌, ◌%◌, ◌==◌, nat_lt, ◌&&◌, ℤ, pos, negsuc, ◌+ℤ◌, Bool, true, false, List, Option, Some, None, option_and_then, option_map, if◌then◌else◌}
+use Rattle.std.specs.Prelude.{ℕ, ◌+◌, ◌/◌, ◌%◌, ◌^◌, ◌==◌, nat_lt, not, ◌&&◌, ℤ, pos, negsuc, ◌+ℤ◌, Bool, true, false, List, Option, Some, None, option_and_then, option_map, if◌then◌else◌}
 use Rattle.std.specs.Option.{option_or}
 use Rattle.std.specs.Ordering.{int_eq}
 use Rattle.bpf_insn.specs.Limits.{frame_bytes}
@@ -13,10 +13,11 @@ use Rattle.bpf_insn.specs.declared.instruction.Width.TheVariants.{W64}
 use Rattle.bpf_insn.specs.declared.instruction.AluOp.TheVariants.{Add, Mov}
 use Rattle.bpf_insn.specs.declared.instruction.Insn.{Insn}
 use Rattle.bpf_insn.specs.declared.instruction.Insn.TheVariants.{Alu, Load, Store, StoreImm}
+use Rattle.bpf_packets.specs.Blocks.{head_bytes}
 use Rattle.bpf_follows.specs.declared.notes.Area.{Area}
 use Rattle.bpf_follows.specs.declared.notes.Area.TheVariants.{Given, Own}
 use Rattle.bpf_follows.specs.declared.notes.Kind.{Kind}
-use Rattle.bpf_follows.specs.declared.notes.Kind.TheVariants.{Same, Both, Number, Natural, Offset, Fixed, Within, Start, Base, Moved, Address, Saved, Constant, Counter, Turn, Alone, Returns}
+use Rattle.bpf_follows.specs.declared.notes.Kind.TheVariants.{Same, Both, Number, Natural, Inner, Length, Sized, Ending, Offset, Fixed, Within, Start, Head, Base, Moved, Address, Saved, Constant, Counter, Turn, Alone, Returns}
 use Rattle.bpf_follows.specs.declared.site.Front.{Front}
 use Rattle.bpf_follows.specs.Areas.{same_area}
 use Rattle.bpf_follows.specs.Relation.{kind_in, is_free}
@@ -28,7 +29,9 @@ is_same Same = true
 is_same Both = true
 is_same Start = true
 is_same (Number least most) = true
-is_same Natural = true
+is_same (Natural half) = true
+is_same (Inner least most) = true
+is_same (Length most) = true
 is_same Alone = true
 is_same (Returns least most) = true
 is_same _ = false
@@ -38,9 +41,10 @@ kind_of kinds r = kind_in kinds (register_number r)
 
 -- ---- what an instruction writes
 
--- a constant in the place of the context's start is its offset
+-- a constant in the place of the context's start is its offset, and so in the place of a packet's start in its block
 abbrev pub constant_kind : Kind → ℤ → Kind
 constant_kind Start imm = if int_eq imm (pos 0) then Fixed Given (pos 0) else Constant imm
+constant_kind Head imm = if int_eq imm (pos head_bytes) then Fixed Given (pos head_bytes) else Constant imm
 constant_kind kind imm = Constant imm
 
 -- the register of the old program whose pointer's offset register r holds, what it points into, and by how much that is moved
@@ -53,7 +57,10 @@ offset_in r _ = None
 
 abbrev pub copied : Reg → Kind → Option Kind
 copied r Start = Some Base
+copied r Head = Some Base
 copied r Base = Some Base
+copied r (Length most) = Some (Ending 0)
+copied r (Ending by) = Some (Ending by)
 copied r (Offset area) = Some (Moved area r (pos 0))
 copied r (Fixed area offset) = Some (Moved area r (pos 0))
 copied r (Within area least most) = Some (Moved area r (pos 0))
@@ -70,7 +77,13 @@ is_taken _ _ = false
 abbrev pub shifted : ℤ → Area × Reg × ℤ → Option Kind
 shifted imm m = if int_eq m.2 (pos 0) then Some (Moved m.0 m.1 imm) else None
 
+-- as far behind the packet's end, if that has 32 bits
+abbrev pub moved_end : ℕ → ℤ → Option Kind
+moved_end by (pos n) = if nat_lt (by + n) (2 ^ 32) then Some (Ending (by + n)) else None
+moved_end by (negsuc n) = None
+
 abbrev pub added : Option Front → Reg → Kind → ℤ → Option Kind
+added front r (Ending by) imm = moved_end by imm
 added front r (Counter head) imm = if is_taken front (Counter head) && int_eq imm (negsuc 0) then Some (Turn head) else None
 added front r kind imm = option_and_then (shifted imm) (offset_in r kind)
 
@@ -79,6 +92,7 @@ is_r10 r = register_number r == 10
 
 abbrev pub is_base : Kind → Bool
 is_base Start = true
+is_base Head = true
 is_base Base = true
 is_base _ = false
 
@@ -132,6 +146,7 @@ own_kind (Saved of) = Some (Saved of)
 own_kind (Constant value) = Some (Constant value)
 own_kind (Counter head) = Some (Counter head)
 own_kind (Turn head) = Some (Turn head)
+own_kind (Ending by) = Some (Ending by)
 own_kind _ = None
 
 -- what is put into a slot: of what both have, whose it is
@@ -139,7 +154,8 @@ abbrev pub kept_kind : Reg → Kind → Option Kind
 kept_kind r (Counter head) = Some (Counter head)
 kept_kind r (Turn head) = Some (Turn head)
 kept_kind r Both = Some (Saved r)
-kept_kind r Natural = Some (Saved r)
+kept_kind r (Natural half) = Some (Saved r)
+kept_kind r (Inner least most) = Some (Saved r)
 kept_kind r kind = copied r kind
 
 -- into a slot in which the old program has nothing
@@ -161,12 +177,24 @@ restored r kind = kind
 abbrev pub taken : List Kind → Reg → Reg → ℤ → Option (ℕ × Kind)
 taken kinds dst src off = if is_r10 dst then None else option_and_then (λ k. option_map (λ kind. (register_number dst, restored dst kind)) (own_kind (kind_in kinds (11 + k)))) (frame_slot kinds src off)
 
+-- ---- blocks
+
+-- the register in which the old program has a packet's length
+abbrev pub size_in : Kind → Option ℕ
+size_in (Sized most) = Some most
+size_in _ = None
+
+-- a load of a packet's length, with which the block begins, into that register
+abbrev pub packet_length : List Kind → Reg → Reg → ℤ → Option (ℕ × Kind)
+packet_length kinds dst src off =
+    if not (is_r10 dst) && (is_base (kind_of kinds src) && int_eq off (pos 0)) then option_map (λ most. (register_number dst, Length most)) (size_in (kind_of kinds dst)) else None
+
 abbrev pub constant_put : List Kind → Insn → Option (ℕ × Kind)
 constant_put kinds (StoreImm DW dst off imm) = stored_constant kinds dst off imm
 constant_put kinds i = None
 
--- what an extra instruction puts into a slot, or takes out of one: the place, and what it holds then
+-- what an extra instruction puts into a slot, or takes out of one, or loads of a block: the place, and what it holds then
 abbrev pub moved_by : List Kind → Insn → Option (ℕ × Kind)
 moved_by kinds (Store DW dst off src) = stored kinds dst off src
-moved_by kinds (Load DW dst src off) = taken kinds dst src off
+moved_by kinds (Load DW dst src off) = option_or (taken kinds dst src off) (packet_length kinds dst src off)
 moved_by kinds i = constant_put kinds i

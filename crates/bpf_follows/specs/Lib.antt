@@ -9,10 +9,12 @@ pub mod Relation
 pub mod Ahead
 -- what functions give back
 pub mod Returned
--- what is known of numbers
-pub mod Numbers
 -- what extra instructions of the new program make of registers
 pub mod Extras
+-- pointers into the own frame that both programs have
+pub mod Inner
+-- what is known of numbers
+pub mod Numbers
 -- guards, and tests of counters
 pub mod Guards
 -- extra instructions one after another

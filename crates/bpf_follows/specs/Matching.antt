@@ -1,5 +1,5 @@
 -- What has to hold of the notes at each slot. Nothing here speaks of runs.
-use Rattle.std.specs.Prelude.{◌≡◌, ◌≢◌, ℕ, ◌+◌, ◌-◌, ◌/◌, ◌^◌, ◌<◌, nat_le, ◌==◌, nat_lt, ℤ, pos, negsuc, ◌+ℤ◌, ◌-ℤ◌, FitsSigned, ◌⊎◌, true, false, Bool, not, ◌&&◌, ◌||◌, List, [], ◌∷◌, ◌++◌, replicate, Option, Some, None, IsSome, option_and_then, option_map, if◌then◌else◌}
+use Rattle.std.specs.Prelude.{◌≡◌, ◌≢◌, ℕ, ◌+◌, ◌-◌, ◌*◌, ◌/◌, ◌^◌, ◌<◌, nat_le, ◌==◌, nat_lt, ℤ, pos, negsuc, ◌+ℤ◌, ◌-ℤ◌, FitsSigned, ◌⊎◌, true, false, Bool, not, ◌&&◌, ◌||◌, List, [], ◌∷◌, ◌++◌, replicate, Option, Some, None, IsSome, option_and_then, option_map, if◌then◌else◌}
 use Rattle.std.specs.Int.{w16}
 use Rattle.std.specs.List.{AllByRecursion}
 use Rattle.std.specs.Option.{option_map_or, option_or}
@@ -20,10 +20,11 @@ use Rattle.bpf_insn.specs.declared.instruction.Cond.TheVariants.{Eq, Ne}
 use Rattle.bpf_insn.specs.declared.instruction.Insn.{Insn}
 use Rattle.bpf_insn.specs.declared.instruction.Insn.TheVariants.{Alu, Load, LoadSx, Store, StoreImm, Ja, JaLong, JumpIf, CallLocal}
 use Rattle.bpf_semantics.specs.Memory.{is_within}
+use Rattle.bpf_packets.specs.Blocks.{head_bytes}
 use Rattle.bpf_follows.specs.declared.notes.Area.{Area}
 use Rattle.bpf_follows.specs.declared.notes.Area.TheVariants.{Given, Own}
 use Rattle.bpf_follows.specs.declared.notes.Kind.{Kind}
-use Rattle.bpf_follows.specs.declared.notes.Kind.TheVariants.{Nothing, Unset, Same, Both, Number, Offset, Fixed, Within, Start, Moved, Address, Saved}
+use Rattle.bpf_follows.specs.declared.notes.Kind.TheVariants.{Nothing, Unset, Same, Both, Number, Inner, Sized, Head, Offset, Fixed, Within, Start, Moved, Address, Saved}
 use Rattle.bpf_follows.specs.declared.notes.Bounds.{Bounds}
 use Rattle.bpf_follows.specs.declared.notes.Place.{Place}
 use Rattle.bpf_follows.specs.declared.site.Front.{Front}
@@ -34,6 +35,7 @@ use Rattle.bpf_follows.specs.Areas.{origin, is_own, same_area, is_offset, are_al
 use Rattle.bpf_follows.specs.Relation.{places, Kinds, Gives, kind_in, kinds_of, known, place_at, is_of_other, is_alone, received}
 use Rattle.bpf_follows.specs.Returned.{is_call, led, called_back, GivesBack}
 use Rattle.bpf_follows.specs.Ahead.{spans_ahead, span_behind}
+use Rattle.bpf_follows.specs.Inner.{is_inner, misses}
 use Rattle.bpf_follows.specs.Numbers.{is_bounded, number_kind, told}
 use Rattle.bpf_follows.specs.Extras.{is_same, is_r10, base_of, slot_of}
 use Rattle.bpf_follows.specs.Sequence.{extras}
@@ -133,14 +135,18 @@ spilled kinds dst off src = if (is_r10 dst && is_same (kinds 10)) && fills_slot 
 abbrev pub put_constant : Kinds → Reg → ℤ → ℤ → Option Kind
 put_constant kinds dst off imm = if is_r10 dst && is_same (kinds 10) then option_and_then (λ k. exact_kind (extended imm)) (slot_of off) else None
 
+-- what is put into a whole slot, or taken out of it
+abbrev pub by_slot : Kinds → Insn → Option Kind
+by_slot kinds (Load DW dst src off) = loaded kinds src off
+by_slot kinds (Store DW dst off src) = spilled kinds dst off src
+by_slot kinds (StoreImm DW dst off imm) = put_constant kinds dst off imm
+by_slot kinds i = None
+
 -- what the instruction writes, where it does on offsets what the old program does on pointers, or takes a whole slot; of a test nothing
 abbrev pub by_offsets : Kinds → Insn → Option Kind
 by_offsets kinds (Alu op W64 dst src) = of_operand kinds op dst src
 by_offsets kinds (JumpIf cond W64 dst (FromReg src) off) = if is_equality cond && are_offsets kinds dst src then Some Nothing else None
-by_offsets kinds (Load DW dst src off) = loaded kinds src off
-by_offsets kinds (Store DW dst off src) = spilled kinds dst off src
-by_offsets kinds (StoreImm DW dst off imm) = put_constant kinds dst off imm
-by_offsets kinds i = None
+by_offsets kinds i = by_slot kinds i
 
 -- the same, or where what it writes is always the same
 abbrev pub by_kinds : Kinds → Insn → Option Kind
@@ -175,8 +181,12 @@ abbrev pub whole_slot : Insn → Option ℕ
 whole_slot (Load DW dst src off) = if is_r10 src then slot_of off else None
 whole_slot _ = None
 
+-- a slot to which it may go
+abbrev pub IsPlainAt : Kinds → Insn → ℕ → Type 0
+IsPlainAt kinds i k = misses kinds i k ≡ false → is_plain (kinds (11 + k)) ≡ true
+
 pub record IsTame (kinds : Kinds) (i : Insn) : Type 0 where
-  pub far : is_far i ≡ true → AllPlain kinds
+  pub far : is_far i ≡ true → (k : ℕ) → k < 64 → IsPlainAt kinds i k
   pub near : (k : ℕ) → whole_slot i ≡ Some k → is_plain (kinds (11 + k)) ≡ true
 
 -- Where functions leave the frames of others alone the instruction goes to the own frame alone; else it calls only where all slots are so.
@@ -242,6 +252,10 @@ pub record IsSafe (kinds : Kinds) (i : Insn) (old new : Access) : Type 0 where
   pub tame : (new.writes || is_own (place_area (kinds (register_number new.base)) (kinds (register_number old.base)))) ≡ true → IsTame kinds i
   pub stored : IsSame kinds (stored_by i)
 
+-- both programs have the pointer into the own frame
+abbrev pub is_near : Kinds → Reg → Bool
+is_near kinds r = is_r10 r || is_inner (kinds (register_number r))
+
 -- displacements have 16 bits
 pub record ByAddress (kinds : Kinds) (i moved : Insn) : Type 0 where
   pub old : Access
@@ -250,7 +264,7 @@ pub record ByAddress (kinds : Kinds) (i moved : Insn) : Type 0 where
   pub new_is : access_of moved ≡ Some new
   pub alike : rebased i new.base new.offset ≡ Some moved
   pub same_place : is_same_place kinds old new ≡ true
-  pub other : is_r10 old.base ≡ false
+  pub other : is_near kinds old.base ≡ false
   pub safe : IsSafe kinds i old new
   pub near : FitsSigned w16 new.offset
 
@@ -322,6 +336,7 @@ is_gone i (Saved of) = is_lost i (register_number of)
 is_gone i kind = false
 
 abbrev pub held : Insn → Kind → Kind
+held i (Inner least most) = if is_lost i 10 then Both else Inner least most
 held i kind = if is_gone i kind then Nothing else kind
 
 -- what is said of places behind an instruction that writes what is of a kind
@@ -332,16 +347,33 @@ kinds_after i kind kinds r = if is_changed i r then kind else held i (kinds r)
 abbrev pub kinds_behind : Bool → Insn → Insn → Kinds → Kinds
 kinds_behind taken i moved kinds = kinds_after i (written_kind kinds i moved) (told taken i kinds)
 
--- behind a call that leaves its frame alone the slots hold what they held
+-- a store that may go to any slot, and never goes to this one
+abbrev pub is_spared : Kinds → Insn → ℕ → Bool
+is_spared kinds i r = writes_slot i r && misses kinds i (r - 11)
+
+-- behind a call that leaves its frame alone the slots hold what they held, and so do those to which a store never goes
 abbrev pub kinds_beyond : Bool → Bool → Insn → Insn → Kinds → Kinds
-kinds_beyond alone taken i moved kinds r = if is_call i && (alone && nat_le 11 r) then held i (kinds r) else kinds_behind taken i moved kinds r
+kinds_beyond alone taken i moved kinds r = if is_spared kinds i r || (is_call i && (alone && nat_le 11 r)) then held i (kinds r) else kinds_behind taken i moved kinds r
 
 -- behind a call r0 is what the function gives back
-abbrev pub kinds_along : List (Option Place) → ℕ → Bool → Insn → Insn → Kinds → Kinds
-kinds_along notes slot taken i moved kinds r =
+abbrev pub kinds_back : List (Option Place) → ℕ → Bool → Insn → Insn → Kinds → Kinds
+kinds_back notes slot taken i moved kinds r =
     if is_call i then received (called_back notes slot i) (kinds_beyond (is_alone notes) taken i moved kinds) r else kinds_beyond (is_alone notes) taken i moved kinds r
 
+-- a store by another register than r10
+abbrev pub is_far_store : Insn → Bool
+is_far_store i = option_map_or (λ a. a.writes && not (is_r10 a.base)) (access_of i) false
+
+-- it leaves the lowest bytes of each frame to r10, and so the slots that lie among them
+abbrev pub is_lowest : ℕ → Insn → ℕ → Bool
+is_lowest untouched i r = is_far_store i && (nat_le 11 r && nat_le (8 * (r - 11) + 8) untouched)
+
+-- those hold what they held
+abbrev pub kinds_along : List (Option Place) → ℕ → ℕ → Bool → Insn → Insn → Kinds → Kinds
+kinds_along notes untouched slot taken i moved kinds r = if is_lowest untouched i r then held i (kinds r) else kinds_back notes slot taken i moved kinds r
+
 abbrev pub handed : Kind → Kind
+handed (Inner least most) = Both
 handed kind = if is_of_other kind then Nothing else kind
 
 -- at the entry of a function: r1 to r5 are the caller's, r10 is its own frame in both, and the old program has nothing in the others, nor in
@@ -384,47 +416,51 @@ pub record IsSite (new : Instructions) (place : Place) (front : Front) (site : S
   pub pairs : Pairs (known site.slot site.kinds) site.insn site.moved
 
 -- the next instruction, where it may follow, stands behind
-abbrev pub Falls : List (Option Place) → ℕ → Site → Type 0
-Falls notes turns site = goes_on site.insn ≡ true → may_fall (known site.slot site.kinds) site.insn ≡ true
-    → Arrives notes turns (site.slot + slot_count site.insn) (site.new_slot + slot_count site.insn) (kinds_along notes site.slot false site.insn site.moved (known site.slot site.kinds))
+abbrev pub Falls : List (Option Place) → Bounds → Site → Type 0
+Falls notes bounds site = goes_on site.insn ≡ true → may_fall (known site.slot site.kinds) site.insn ≡ true
+    → Arrives notes bounds.turns (site.slot + slot_count site.insn) (site.new_slot + slot_count site.insn) (kinds_along notes bounds.untouched site.slot false site.insn site.moved (known site.slot site.kinds))
 
 -- where the old one leads to a slot the new one leads: a call to the entry
-abbrev pub Reaches : Bool → List (Option Place) → Instructions → ℕ → ℕ → ℕ → ℕ → Insn → Insn → Kinds → Type 0
-Reaches true notes new turns to new_to slot i moved kinds = Enters notes new turns to new_to (listed (kinds_called kinds))
-Reaches false notes new turns to new_to slot i moved kinds = Arrives notes turns to new_to (kinds_along notes slot true i moved kinds)
+abbrev pub Reaches : Bool → List (Option Place) → Instructions → Bounds → ℕ → ℕ → ℕ → Insn → Insn → Kinds → Type 0
+Reaches true notes new bounds to new_to slot i moved kinds = Enters notes new bounds.turns to new_to (listed (kinds_called kinds))
+Reaches false notes new bounds to new_to slot i moved kinds = Arrives notes bounds.turns to new_to (kinds_along notes bounds.untouched slot true i moved kinds)
 
-abbrev pub Leads : List (Option Place) → Instructions → ℕ → Site → Type 0
-Leads notes new turns site =
+abbrev pub Leads : List (Option Place) → Instructions → Bounds → Site → Type 0
+Leads notes new bounds site =
     (to : ℕ) → led site.slot site.insn ≡ Some to → may_lead (known site.slot site.kinds) site.insn ≡ true
-    → (new_to : ℕ) × (led site.new_slot site.moved ≡ Some new_to) × Reaches (is_call site.insn) notes new turns to new_to site.slot site.insn site.moved (known site.slot site.kinds)
+    → (new_to : ℕ) × (led site.new_slot site.moved ≡ Some new_to) × Reaches (is_call site.insn) notes new bounds to new_to site.slot site.insn site.moved (known site.slot site.kinds)
 
 -- what stands for the old instruction at a slot
-pub record Stands (new : Instructions) (notes : List (Option Place)) (turns : ℕ) (place : Place) (front : Front) : Type 0 where
+pub record Stands (new : Instructions) (notes : List (Option Place)) (bounds : Bounds) (place : Place) (front : Front) : Type 0 where
   pub site : Site
   pub is_site : IsSite new place front site
   pub lone : IsLone (is_alone notes) (known site.slot site.kinds) site.insn
-  pub gives_back : GivesBack notes turns place site
-  pub falls : Falls notes turns site
-  pub leads : Leads notes new turns site
+  pub gives_back : GivesBack notes bounds.turns place site
+  pub falls : Falls notes bounds site
+  pub leads : Leads notes new bounds site
 
 -- ---- the notes match
 
 abbrev pub front_at : Instructions → Bounds → ℕ → Insn → Front
-front_at old bounds slot i = record { slot = slot; insn = i; length = bounds.length; spans = spans_ahead old slot; behind = span_behind old slot i }
+front_at old bounds slot i = record { slot = slot; insn = i; length = bounds.length; padded = bounds.padded; untouched = bounds.untouched; spans = spans_ahead old slot; behind = span_behind old slot i }
 
 -- at a slot that is noted, where an instruction of the old program begins
 abbrev pub StandsAt : Instructions → Instructions → List (Option Place) → Bounds → ℕ → Type 0
 StandsAt old new notes bounds slot = (place : Place) (i : Insn) → place_at notes slot ≡ Some place → insn_at old.list slot ≡ Some i
-    → Stands new notes bounds.turns place (front_at old bounds slot i)
+    → Stands new notes bounds place (front_at old bounds slot i)
 
--- r1 is the context, and r2 its length
-abbrev pub start_kinds : ℕ → List Kind
-start_kinds length = in_new_frame (Same ∷ Start ∷ Number length length ∷ Same ∷ Same ∷ Same ∷ Same ∷ Same ∷ Same ∷ Same ∷ Same ∷ [])
+-- r1 is the context, and r2 its length; in blocks, the old program's are the packet and its length
+abbrev pub given_kinds : Bool → ℕ → Kind × Kind
+given_kinds false length = (Start, Number length length)
+given_kinds true length = (Head, Sized (length - head_bytes))
+
+abbrev pub start_kinds : Bounds → List Kind
+start_kinds bounds = in_new_frame (Same ∷ (given_kinds bounds.padded bounds.length).0 ∷ (given_kinds bounds.padded bounds.length).1 ∷ Same ∷ Same ∷ Same ∷ Same ∷ Same ∷ Same ∷ Same ∷ Same ∷ [])
 
 pub record Matches (old new : Instructions) (notes : List (Option Place)) (bounds : Bounds) : Type 0 where
   pub short : bounds.length < 2 ^ 32
   pub order_is : new.order ≡ old.order
-  pub start : Enters notes new bounds.turns 0 0 (start_kinds bounds.length)
+  pub start : Enters notes new bounds.turns 0 0 (start_kinds bounds)
   pub each : (slot : ℕ) → StandsAt old new notes bounds slot
 
 -- ---- why they don't
@@ -432,5 +468,5 @@ pub record Matches (old new : Instructions) (notes : List (Option Place)) (bound
 -- The byte orders differ; or the start isn't entered; or the slot is the lowest one at which what is noted doesn't hold.
 abbrev pub IsMismatch : Instructions → Instructions → List (Option Place) → Bounds → Mismatch → Type 0
 IsMismatch old new notes bounds Order = new.order ≢ old.order
-IsMismatch old new notes bounds AtStart = Enters notes new bounds.turns 0 0 (start_kinds bounds.length) → ⊥
+IsMismatch old new notes bounds AtStart = Enters notes new bounds.turns 0 0 (start_kinds bounds) → ⊥
 IsMismatch old new notes bounds (At slot fault) = (StandsAt old new notes bounds slot → ⊥) × ((lower : ℕ) → lower < slot → StandsAt old new notes bounds lower)

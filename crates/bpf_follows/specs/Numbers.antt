@@ -1,6 +1,6 @@
 -- Numbers of which bounds are known: what an instruction makes of them, and what a test tells of them, by the number domain. Nothing here
 -- speaks of runs.
-use Rattle.std.specs.Prelude.{ℕ, ◌-◌, ◌^◌, ◌==◌, nat_le, nat_lt, Bool, true, false, Option, Some, None, option_and_then, if◌then◌else◌}
+use Rattle.std.specs.Prelude.{ℕ, ◌-◌, ◌/◌, ◌^◌, ◌==◌, nat_le, nat_lt, Bool, true, false, Option, Some, None, option_and_then, if◌then◌else◌}
 use Rattle.std.specs.Option.{option_map_or}
 use Rattle.bpf_insn.specs.Arithmetic.{extended}
 use Rattle.bpf_insn.specs.Instruction.{register_number, byte_count}
@@ -23,8 +23,9 @@ use Rattle.bpf_num.specs.Number.{Number as Num, number, top, constant, tighten}
 use Rattle.bpf_num.specs.Operation.{num_alu}
 use Rattle.bpf_num.specs.Refine.{refine}
 use Rattle.bpf_follows.specs.declared.notes.Kind.{Kind}
-use Rattle.bpf_follows.specs.declared.notes.Kind.TheVariants.{Same, Both, Number, Natural}
-use Rattle.bpf_follows.specs.Relation.{Kinds, most_natural}
+use Rattle.bpf_follows.specs.declared.notes.Kind.TheVariants.{Same, Both, Number, Natural, Length}
+use Rattle.bpf_follows.specs.Relation.{Kinds, most_natural, natural_top}
+use Rattle.bpf_follows.specs.Inner.{inner_made}
 
 -- ---- kinds and sets of numbers
 
@@ -35,16 +36,18 @@ bounded least most = option_and_then (λ u. tighten (number bits_top u signed_to
 -- of a register that surely holds a number
 abbrev pub number_of : Kind → Option Num
 number_of (Number least most) = bounded least most
-number_of Natural = bounded 0 most_natural
+number_of (Natural half) = bounded 0 (natural_top half)
+number_of (Length most) = bounded 0 most
 number_of _ = None
 
--- the bounds of a set, if they have 32 bits, or that all are below 2 ^ 63
+-- the bounds of a set, if they have 32 bits, or its greatest upper half, if all are below 2 ^ 63
 abbrev pub bounds_of : Kind → Num → Kind
-bounds_of kind n = if nat_lt n.unsigned.hi (2 ^ 32) then Number n.unsigned.lo n.unsigned.hi else if nat_le n.unsigned.hi most_natural then Natural else kind
+bounds_of kind n = if nat_lt n.unsigned.hi (2 ^ 32) then Number n.unsigned.lo n.unsigned.hi else if nat_le n.unsigned.hi most_natural then Natural (n.unsigned.hi / 2 ^ 32) else kind
 
 -- of a register that surely holds a number of 32 bits
 abbrev pub is_bounded : Kind → Bool
 is_bounded (Number least most) = nat_lt most (2 ^ 32)
+is_bounded (Length most) = nat_lt most (2 ^ 32)
 is_bounded _ = false
 
 -- ---- operations
@@ -59,7 +62,8 @@ is_numeric _ _ = true
 -- of a register that an operation reads
 abbrev pub read_number : Bool → Kind → Option Num
 read_number numeric (Number least most) = bounded least most
-read_number numeric Natural = bounded 0 most_natural
+read_number numeric (Natural half) = bounded 0 (natural_top half)
+read_number numeric (Length most) = bounded 0 most
 read_number numeric Same = if numeric then Some top else None
 read_number numeric Both = if numeric then Some top else None
 read_number numeric _ = None
@@ -82,9 +86,12 @@ abbrev pub loaded_number : Size → Kind
 loaded_number DW = Same
 loaded_number size = Number 0 (256 ^ byte_count size - 1)
 
+abbrev pub alu_kind : Kinds → AluOp → Width → Reg → Operand → Kind
+alu_kind kinds op width dst src = option_map_or (bounds_of Both) (alu_number kinds op width dst src) Both
+
 -- what an instruction writes, where it does the same in both
 abbrev pub number_kind : Kinds → Insn → Kind
-number_kind kinds (Alu op width dst src) = option_map_or (bounds_of Both) (alu_number kinds op width dst src) Both
+number_kind kinds (Alu op width dst src) = option_map_or (λ kind. kind) (inner_made kinds width op dst src) (alu_kind kinds op width dst src)
 number_kind kinds (Load size dst src off) = loaded_number size
 number_kind kinds i = Same
 
@@ -94,6 +101,11 @@ number_kind kinds i = Same
 abbrev pub told_by : Kinds → Cond → Width → Bool → Reg → Operand → Option (Num × Num)
 told_by kinds cond width taken dst src =
     option_and_then (λ b. option_and_then (λ a. refine cond width taken a b) (number_of (kinds (register_number dst)))) (operand_number kinds false src)
+
+-- whether numbers between the bounds of both operands may answer so
+abbrev pub may_answer : Kinds → Cond → Width → Bool → Reg → Operand → Bool
+may_answer kinds cond width taken dst src =
+    option_map_or (λ b. option_map_or (λ a. option_map_or (λ p. true) (refine cond width taken a b) false) (number_of (kinds (register_number dst))) true) (operand_number kinds false src) true
 
 abbrev pub is_operand : Operand → ℕ → Bool
 is_operand (Imm imm) r = false

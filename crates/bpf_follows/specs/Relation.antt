@@ -15,11 +15,12 @@ use Rattle.bpf_semantics.specs.Step.{wrapped}
 use Rattle.bpf_semantics.specs.declared.value.Value.{Value}
 use Rattle.bpf_semantics.specs.declared.value.Value.TheVariants.{Number as ANumber, Pointer}
 use Rattle.bpf_semantics.specs.declared.value.Region.{Region}
-use Rattle.bpf_semantics.specs.declared.value.Region.TheVariants.{Context}
+use Rattle.bpf_semantics.specs.declared.value.Region.TheVariants.{Context, Frame as FrameAt}
+use Rattle.bpf_packets.specs.Blocks.{head_bytes}
 use Rattle.bpf_follows.specs.declared.notes.Area.{Area}
 use Rattle.bpf_follows.specs.declared.notes.Area.TheVariants.{Given, Own}
 use Rattle.bpf_follows.specs.declared.notes.Kind.{Kind}
-use Rattle.bpf_follows.specs.declared.notes.Kind.TheVariants.{Nothing, Unset, Same, Both, Number, Natural, Offset, Fixed, Within, Start, Base, Moved, Address, Saved, Constant, Counter, Turn, Alone, Returns}
+use Rattle.bpf_follows.specs.declared.notes.Kind.TheVariants.{Nothing, Unset, Same, Both, Number, Natural, Inner, Length, Sized, Ending, Offset, Fixed, Within, Start, Head, Base, Moved, Address, Saved, Constant, Counter, Turn, Alone, Returns}
 use Rattle.bpf_follows.specs.declared.notes.Place.{Place}
 use Rattle.bpf_follows.specs.Areas.{origin, is_own, same_area, IsInto}
 
@@ -52,10 +53,15 @@ is_free Base = true
 is_free (Moved area of by) = true
 is_free (Address area of by) = true
 is_free (Saved of) = true
+is_free (Ending by) = true
 is_free (Constant value) = true
 is_free (Counter head) = true
 is_free (Turn head) = true
 is_free _ = false
+
+-- the greatest number with these upper 32 bits
+abbrev pub natural_top : ℕ → ℕ
+natural_top half = half * 2 ^ 32 + (2 ^ 32 - 1)
 
 -- numbers that aren't below 0 where they are read with their sign
 abbrev pub most_natural : ℕ
@@ -80,13 +86,22 @@ weaker turns r have (Offset into) = offset_weaker r have into
 weaker turns r have (Within into low high) = within_weaker r have into low high
 weaker turns r Start Same = true
 weaker turns r Start Base = true
+weaker turns r Head Base = true
 weaker turns r (Constant value) (Counter head) = nat_le turns (extended value)
 weaker turns r (Number least most) (Number low high) = nat_le low least && nat_le most high
-weaker turns r (Number least most) Natural = nat_lt r 11 && nat_le most most_natural
+weaker turns r (Number least most) (Natural half) = nat_lt r 11 && nat_le most (natural_top half)
+weaker turns r (Natural half) (Natural more) = nat_le half more
 weaker turns r (Number least most) Both = nat_lt r 11
-weaker turns r Natural Both = nat_lt r 11
+weaker turns r (Natural half) Both = nat_lt r 11
+weaker turns r (Inner least most) (Inner low high) = nat_le low least && nat_le most high
+weaker turns r (Inner least most) Both = nat_lt r 11
+weaker turns r (Inner least most) Same = true
+weaker turns r (Length most) (Length high) = nat_lt r 11 && nat_le most high
+weaker turns r (Length most) (Number low high) = nat_lt r 11 && (low == 0 && nat_le most high)
+weaker turns r (Length most) Both = nat_lt r 11
+weaker turns r (Length most) Same = nat_lt r 11
 weaker turns r (Number least most) Same = true
-weaker turns r Natural Same = true
+weaker turns r (Natural half) Same = true
 weaker turns r Both Same = true
 weaker turns r Same Alone = nat_lt r 11
 weaker turns r Same (Returns least most) = nat_lt r 11
@@ -149,6 +164,16 @@ pub record IsOneNumber (least most : ℕ) (old new : Option Value) : Type 0 wher
   pub old_is : old ≡ Some (ANumber number)
   pub new_is : new ≡ Some (ANumber number)
 
+-- both values are one pointer into the frame whose end r10 is, between these two of its bytes
+pub record IsInner (least most : ℕ) (own old new : Option Value) : Type 0 where
+  pub frame : ℕ
+  pub offset : ℤ
+  pub own_is : own ≡ Some (Pointer (FrameAt frame) (pos 0))
+  pub old_is : old ≡ Some (Pointer (FrameAt frame) offset)
+  pub new_is : new ≡ Some (Pointer (FrameAt frame) offset)
+  pub low : pos least ≤ℤ (offset +ℤ pos frame_bytes)
+  pub high : (offset +ℤ pos frame_bytes) ≤ℤ pos most
+
 -- an offset that isn't moved is this one
 pub record IsFixed (area : Area) (at : ℤ) (own old new : Option Value) : Type 0 where
   pub has : HasOffset area (pos 0) as_offset own old new
@@ -160,18 +185,34 @@ pub record IsWithin (area : Area) (least most : ℕ) (own old new : Option Value
   pub low : pos least ≤ℤ (has.offset +ℤ origin area)
   pub high : (has.offset +ℤ origin area) ≤ℤ pos most
 
--- A register of the new machine by its kind, where the old machine has these registers. `passed` says how often the old run has come to
--- each slot so far.
-abbrev pub FitsKind : ℕ → (ℕ → ℕ) → (ℕ → Option Value) → ℕ → Kind → Option Value → Type 0
+-- The old run so far: how often it has come to each slot, and how long the packet is that the block holds, where contexts are blocks.
+pub record Past : Type 0 where
+  pub visits : ℕ → ℕ
+  pub packet : Option ℕ
+
+-- The block holds a packet, and of its length this holds.
+pub record OfPacket (packet : Option ℕ) (holds : ℕ → Type 0) : Type 0 where
+  pub size : ℕ
+  pub packet_is : packet ≡ Some size
+  pub short : size < 2 ^ 32
+  pub is : holds size
+
+-- A register of the new machine by its kind, where the old machine has these registers.
+abbrev pub FitsKind : ℕ → Past → (ℕ → Option Value) → ℕ → Kind → Option Value → Type 0
 FitsKind turns passed old r Nothing new = Unit {0}
 FitsKind turns passed old r Unset new = old r ≡ None
 FitsKind turns passed old r Same new = IsKept (old r) new
 FitsKind turns passed old r Both new = IsOneValue (old r) new
 FitsKind turns passed old r (Number least most) new = IsOneNumber least most (old r) new
-FitsKind turns passed old r Natural new = IsOneNumber 0 most_natural (old r) new
+FitsKind turns passed old r (Natural half) new = IsOneNumber 0 (natural_top half) (old r) new
+FitsKind turns passed old r (Inner least most) new = IsInner least most (old 10) (old r) new
 FitsKind turns passed old r (Offset area) new = HasOffset area (pos 0) as_offset (old 10) (old r) new
 FitsKind turns passed old r (Fixed area offset) new = IsFixed area offset (old 10) (old r) new
 FitsKind turns passed old r (Within area least most) new = IsWithin area least most (old 10) (old r) new
+FitsKind turns passed old r (Length most) new = OfPacket passed.packet (λ n. (n ≤ most) × (old r ≡ Some (ANumber n)) × (new ≡ Some (ANumber n)))
+FitsKind turns passed old r (Sized most) new = OfPacket passed.packet (λ n. (n ≤ most) × (old r ≡ Some (ANumber n)))
+FitsKind turns passed old r (Ending by) new = OfPacket passed.packet (λ n. (by < 2 ^ 32) × (new ≡ Some (ANumber (n + by))))
+FitsKind turns passed old r Head new = (old r ≡ Some (Pointer Context (pos head_bytes))) × (new ≡ Some (Pointer Context (pos 0)))
 FitsKind turns passed old r Start new = (old r ≡ Some (Pointer Context (pos 0))) × (new ≡ Some (Pointer Context (pos 0)))
 FitsKind turns passed old r Base new = new ≡ Some (Pointer Context (pos 0))
 FitsKind turns passed old r (Moved area of by) new = HasOffset area by as_offset (old 10) (old (register_number of)) new
@@ -180,8 +221,8 @@ FitsKind turns passed old r (Saved of) new = IsOneValue (old (register_number of
 FitsKind turns passed old r (Constant value) new = new ≡ Some (ANumber (extended value))
 FitsKind turns passed old r Alone new = IsKept (old r) new
 FitsKind turns passed old r (Returns least most) new = IsKept (old r) new
-FitsKind turns passed old r (Counter head) new = CountsDown turns (passed head) new
-FitsKind turns passed old r (Turn head) new = CountsDown turns (passed head + 1) new
+FitsKind turns passed old r (Counter head) new = CountsDown turns (passed.visits head) new
+FitsKind turns passed old r (Turn head) new = CountsDown turns (passed.visits head + 1) new
 
 abbrev pub register_in : StackFrame → ℕ → Option Value
 register_in frame r = get_or frame.registers r None
@@ -227,7 +268,7 @@ pub record HoldsNumber (order : Order) (least most : ℕ) (old new : List (Optio
   pub new_is : Holds order new k (ANumber number)
 
 -- The old machine holds nothing, and the new one a value of the kind.
-pub record HoldsOwn (order : Order) (turns : ℕ) (passed : ℕ → ℕ) (registers : ℕ → Option Value) (old new : List (Option Cell)) (k : ℕ) (kind : Kind) : Type 0 where
+pub record HoldsOwn (order : Order) (turns : ℕ) (passed : Past) (registers : ℕ → Option Value) (old new : List (Option Cell)) (k : ℕ) (kind : Kind) : Type 0 where
   pub unset : IsUnset old k
   pub value : Value
   pub holds : Holds order new k value
@@ -239,16 +280,20 @@ IfGiven Given T = T
 IfGiven Own T = ⊥
 
 -- A slot of the new machine's frame by its kind, where the old machine has these registers and these cells.
-abbrev pub FitsSlot : Order → ℕ → (ℕ → ℕ) → (ℕ → Option Value) → List (Option Cell) → List (Option Cell) → ℕ → Kind → Type 0
+abbrev pub FitsSlot : Order → ℕ → Past → (ℕ → Option Value) → List (Option Cell) → List (Option Cell) → ℕ → Kind → Type 0
 FitsSlot order turns passed registers old new k Nothing = Unit {0}
 FitsSlot order turns passed registers old new k Unset = IsUnset old k
 FitsSlot order turns passed registers old new k Same = SlotKept old new k
 FitsSlot order turns passed registers old new k Both = ⊥
 FitsSlot order turns passed registers old new k (Number least most) = HoldsNumber order least most old new k
-FitsSlot order turns passed registers old new k Natural = ⊥
+FitsSlot order turns passed registers old new k (Natural half) = ⊥
+FitsSlot order turns passed registers old new k (Inner least most) = ⊥
 FitsSlot order turns passed registers old new k (Offset area) = IfGiven area (HoldsOffset order old new k)
 FitsSlot order turns passed registers old new k (Fixed area offset) = IfGiven area (HoldsFixed order offset old new k)
 FitsSlot order turns passed registers old new k (Within area least most) = ⊥
+FitsSlot order turns passed registers old new k (Length most) = ⊥
+FitsSlot order turns passed registers old new k (Sized most) = ⊥
+FitsSlot order turns passed registers old new k Head = ⊥
 FitsSlot order turns passed registers old new k Start = ⊥
 FitsSlot order turns passed registers old new k Alone = ⊥
 FitsSlot order turns passed registers old new k (Returns least most) = ⊥
@@ -259,7 +304,7 @@ abbrev pub IsRead : Option Cell → Option Cell → Type 0
 IsRead old new = IsKept (byte_in old) (byte_in new)
 
 -- registers and slots are as their kinds say, and each byte of the stack is kept
-pub record FrameFits (order : Order) (turns : ℕ) (passed : ℕ → ℕ) (kinds : Kinds) (old new : StackFrame) : Type 0 where
+pub record FrameFits (order : Order) (turns : ℕ) (passed : Past) (kinds : Kinds) (old new : StackFrame) : Type 0 where
   pub eleven_old : length old.registers ≡ 11
   pub eleven : length new.registers ≡ 11
   pub registers : (r : ℕ) → r < 11 → FitsKind turns passed (register_in old) r (kinds r) (register_in new r)
@@ -276,7 +321,7 @@ abbrev pub kinds_waiting : Place → Kinds
 kinds_waiting place = received Nothing (kinds_of place)
 
 -- and the new frame goes on where the notes say; they say these kinds of it
-pub record FrameFollows (order : Order) (notes : List (Option Place)) (turns : ℕ) (passed : ℕ → ℕ) (kinds : Place → Kinds) (old new : StackFrame) : Type 0 where
+pub record FrameFollows (order : Order) (notes : List (Option Place)) (turns : ℕ) (passed : Past) (kinds : Place → Kinds) (old new : StackFrame) : Type 0 where
   pub place : Place
   pub noted : place_at notes old.slot ≡ Some place
   pub slot_is : new.slot ≡ place.first
@@ -284,6 +329,7 @@ pub record FrameFollows (order : Order) (notes : List (Option Place)) (turns : �
 
 -- it is said of a register by another register's value, or by r10
 abbrev pub is_of_other : Kind → Bool
+is_of_other (Inner least most) = true
 is_of_other (Offset area) = is_own area
 is_of_other (Fixed area offset) = is_own area
 is_of_other (Within area least most) = is_own area
@@ -302,7 +348,7 @@ is_alone notes = option_map_or (λ place. is_lone (kind_in place.kinds 10)) (pla
 
 -- A frame that waits for a call. What it loses by it is lost in both; and each cell of its stack is the same, if the functions that are
 -- called may reach it.
-pub record FrameWaits (order : Order) (notes : List (Option Place)) (turns : ℕ) (passed : ℕ → ℕ) (old new : StackFrame) : Type 0 where
+pub record FrameWaits (order : Order) (notes : List (Option Place)) (turns : ℕ) (passed : Past) (old new : StackFrame) : Type 0 where
   pub follows : FrameFollows order notes turns passed kinds_waiting old new
   pub result : (r : ℕ) → r < 6 → Gives turns r Same (kinds_waiting follows.place r)
   pub own : (r : ℕ) → r < places → is_of_other (kinds_of follows.place r) ≡ false
@@ -310,7 +356,7 @@ pub record FrameWaits (order : Order) (notes : List (Option Place)) (turns : ℕ
   pub slots : is_alone notes ≡ false → (k : ℕ) → k < 64 → Gives turns (11 + k) Same (kinds_waiting follows.place (11 + k))
 
 -- The new state follows the old one: as many frames are live, each follows, and the context is the same.
-pub record Follows (order : Order) (notes : List (Option Place)) (turns : ℕ) (passed : ℕ → ℕ) (old new : State) : Type 0 where
+pub record Follows (order : Order) (notes : List (Option Place)) (turns : ℕ) (passed : Past) (old new : State) : Type 0 where
   pub top : FrameFollows order notes turns passed kinds_of old.top new.top
   pub waiting : EachPair (FrameWaits order notes turns passed) old.waiting new.waiting
   pub context_is : new.context ≡ old.context

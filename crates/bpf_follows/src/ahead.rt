@@ -87,7 +87,7 @@ fn span_ahead<C: Code>(old: &C, slot: u32, r: u8) -> Option<Span>
     found
 }
 
-/// The same, beside each of r0 to r10.
+/// The same, beside each of r0 to r10; of r10, by which a program goes to any byte of its frame, none.
 pub fn spans_ahead<C: Code>(old: &C, slot: u32) -> [Option<Span>; 11]
     requires { slot < max_slots + 2 }
     ensures { result ≡ spans_ahead (C.program old.now) slot }
@@ -103,7 +103,7 @@ pub fn spans_ahead<C: Code>(old: &C, slot: u32) -> [Option<Span>; 11]
         span_ahead(old, slot, 7),
         span_ahead(old, slot, 8),
         span_ahead(old, slot, 9),
-        span_ahead(old, slot, 10),
+        None,
     ]
 }
 

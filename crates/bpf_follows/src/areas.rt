@@ -1,10 +1,11 @@
 //! Offsets, and what they are counted in: the context, or the function's own frame.
 
 ghost use Rattle.std.specs.Prelude.{◌≡◌};
-ghost use Rattle.bpf_follows.specs.Areas.{origin, is_own, same_area, size_of, area_of, is_offset, are_alike, unbounded};
+ghost use Rattle.bpf_follows.specs.Areas.{origin, is_own, same_area, size_of, first_of, area_of, is_offset, are_alike, unbounded};
 
 use crate::notes::{Area, Kind};
 use bpf_insn::FRAME_BYTES;
+use bpf_packets::HEAD_BYTES;
 
 /// Where pointers at 0 point, counted from an area's first byte: r10 is the end of its frame.
 pub fn origin(area: Area) -> i32
@@ -37,6 +38,17 @@ pub fn size_of(area: Area, length: u32) -> u32
     match area {
         Area::Given => length,
         Area::Own => FRAME_BYTES as u32,
+    }
+}
+
+/// The first of its bytes to which registers but r10 go: behind a block's head, and behind what they leave alone of each frame.
+pub fn first_of(area: Area, padded: bool, untouched: u32) -> u32
+    ensures { result ≡ first_of area padded untouched }
+{
+    match area {
+        Area::Given if padded => HEAD_BYTES,
+        Area::Given => 0,
+        Area::Own => untouched,
     }
 }
 

@@ -24,15 +24,15 @@ pub struct Edge {
 // ---- jumps, and the ways to the next instruction
 
 /// Whether what places hold behind an instruction is enough for a place.
-fn all_given(notes: &[Option<Place>], turns: u32, site: &Site, taken: bool, to: &Place) -> bool
+fn all_given(notes: &[Option<Place>], bounds: Bounds, site: &Site, taken: bool, to: &Place) -> bool
     requires below { site.now.slot < max_slots }
-    ensures { IsTrue result ↔ ((r : ℕ) → r < places → Gives turns r (kinds_along notes.now site.now.slot taken site.now.insn site.now.moved (known site.now.slot site.now.kinds) r) (kinds_of to.now r)) }
+    ensures { IsTrue result ↔ ((r : ℕ) → r < places → Gives bounds.turns r (kinds_along notes.now bounds.untouched site.now.slot taken site.now.insn site.now.moved (known site.now.slot site.now.kinds) r) (kinds_of to.now r)) }
 {
     for r in 0..PLACES as u8 {
         if !gives(
-            turns,
+            bounds.turns,
             r,
-            kind_along(notes, site, taken, r),
+            kind_along(notes, bounds.untouched, site, taken, r),
             kind_of(&to.kinds, r),
         ) {
             return false;
@@ -42,12 +42,12 @@ fn all_given(notes: &[Option<Place>], turns: u32, site: &Site, taken: bool, to: 
 }
 
 /// Whether an edge leads where the notes say, and they ask no more there than they give here.
-pub fn arrives(notes: &[Option<Place>], turns: u32, site: &Site, edge: Edge) -> bool
+pub fn arrives(notes: &[Option<Place>], bounds: Bounds, site: &Site, edge: Edge) -> bool
     requires below { site.now.slot < max_slots }
-    ensures { IsTrue result ↔ Arrives notes.now turns edge.slot edge.new_slot (kinds_along notes.now site.now.slot edge.taken site.now.insn site.now.moved (known site.now.slot site.now.kinds)) }
+    ensures { IsTrue result ↔ Arrives notes.now bounds.turns edge.slot edge.new_slot (kinds_along notes.now bounds.untouched site.now.slot edge.taken site.now.insn site.now.moved (known site.now.slot site.now.kinds)) }
 {
     match place_at(notes, edge.slot) {
-        Some(to) => { edge.new_slot == to.first && all_given(notes, turns, site, edge.taken, to) },
+        Some(to) => { edge.new_slot == to.first && all_given(notes, bounds, site, edge.taken, to) },
         None => false,
     }
 }
@@ -90,12 +90,12 @@ pub fn enters<N: Code>(
 
 /// Whether the new program begins with the entry of what stands for the old one's start.
 pub fn starts<N: Code>(new: &N, notes: &[Option<Place>], bounds: Bounds) -> bool
-    ensures { IsTrue result ↔ Enters notes.now (N.program new.now) bounds.turns 0 0 (start_kinds bounds.length) }
+    ensures { IsTrue result ↔ Enters notes.now (N.program new.now) bounds.turns 0 0 (start_kinds bounds) }
 {
     let edge = Edge {
         slot: 0,
         new_slot: 0,
         taken: true,
     };
-    enters(new, notes, bounds.turns, start_kinds(bounds.length), edge)
+    enters(new, notes, bounds.turns, start_kinds(bounds), edge)
 }

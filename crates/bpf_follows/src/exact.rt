@@ -4,13 +4,14 @@
 ghost use Rattle.std.specs.Prelude.{◌≡◌};
 ghost use Rattle.bpf_insn.specs.Arithmetic.{low};
 ghost use Rattle.bpf_follows.specs.Relation.{known};
-ghost use Rattle.bpf_follows.specs.Exact.{exactly, operand_exactly, fixed_at, exact_kind, alu_exactly, apart, sum_kind, alu_fixed, alu_of_kinds, by_exact, decided, may_fall, may_lead};
+ghost use Rattle.bpf_follows.specs.Exact.{exactly, operand_exactly, fixed_at, exact_kind, alu_exactly, apart, sum_kind, alu_fixed, alu_of_kinds, by_exact, equal_fixed, decided_fixed, decided_numbers, decided_offsets, decided, may_go, may_fall, may_lead};
 
 use crate::areas::same_area;
 use crate::kinds::known_in;
 use crate::notes::{Area, Kind};
+use crate::numbers::{Test, may_answer};
 use crate::site::Site;
-use bpf_insn::{AluOp, Insn, Operand, Width, extended};
+use bpf_insn::{AluOp, Cond, Insn, Operand, Width, extended};
 
 /// The number that a place surely holds.
 fn exactly(kind: Kind) -> Option<u32>
@@ -148,6 +149,9 @@ fn alu_of_kinds(width: Width, op: AluOp, kind: Kind, other: Kind) -> Option<Kind
 pub fn by_exact(site: &Site) -> Option<Kind>
     ensures { result ≡ by_exact (known site.now.slot site.now.kinds) site.now.insn }
 {
+    if let Insn::LoadImm64 { value, dst: _dst } = site.insn {
+        return exact_kind(value);
+    }
     let Insn::Alu {
         op,
         width,
@@ -166,9 +170,70 @@ pub fn by_exact(site: &Site) -> Option<Kind>
 
 // ---- which way a test goes
 
-/// Whether the instruction jumps, if it is a test that always goes one way.
-fn decided(site: &Site) -> Option<bool>
-    ensures { result ≡ decided (known site.now.slot site.now.kinds) site.now.insn }
+/// Whether two offsets into one area are equal that are always the same.
+fn equal_fixed(kind: Kind, other: Kind) -> Option<bool>
+    ensures { result ≡ equal_fixed kind other }
+{
+    match (kind, other) {
+        (
+            Kind::Fixed { area, offset },
+            Kind::Fixed {
+                area: into,
+                offset: other,
+            },
+        ) if same_area(area, into) => Some(offset == other),
+        _ => None,
+    }
+}
+
+/// Whether a test of two such offsets jumps.
+fn decided_fixed(cond: Cond, width: Width, kind: Kind, other: Kind) -> Option<bool>
+    ensures { result ≡ decided_fixed cond width kind other }
+{
+    match (cond, width) {
+        (Cond::Eq, Width::W64) => equal_fixed(kind, other),
+        (Cond::Ne, Width::W64) => equal_fixed(kind, other).map(|equal| !equal),
+        _ => None,
+    }
+}
+
+/// Whether a test of numbers that are always the same jumps.
+fn decided_numbers(site: &Site, test: Test) -> Option<bool>
+    ensures { result ≡ decided_numbers (known site.now.slot site.now.kinds) test.cond test.width test.dst test.src }
+{
+    let a = exactly(known_in(site, test.dst))?;
+    let b = operand_exactly(site, test.src)?;
+    Some(test.cond.holds(test.width, u64::from(a), b))
+}
+
+/// Whether a test of offsets that are always the same jumps.
+fn decided_offsets(site: &Site, test: Test) -> Option<bool>
+    ensures { result ≡ decided_offsets (known site.now.slot site.now.kinds) test.cond test.width test.dst test.src }
+{
+    match test.src {
+        Operand::Imm(_imm) => None,
+        Operand::Reg(src) => decided_fixed(
+            test.cond,
+            test.width,
+            known_in(site, test.dst),
+            known_in(site, src),
+        ),
+    }
+}
+
+/// Whether a test jumps, if it always goes one way.
+fn decided(site: &Site, test: Test) -> Option<bool>
+    ensures { result ≡ decided (known site.now.slot site.now.kinds) test.cond test.width test.dst test.src }
+{
+    match decided_numbers(site, test) {
+        Some(taken) => Some(taken),
+        None => decided_offsets(site, test),
+    }
+}
+
+/// Whether the instruction may go one way (`taken`), if it is a test.
+fn may_go(site: &Site, taken: bool) -> bool
+    ensures { result ≡ may_go taken (known site.now.slot site.now.kinds) site.now.insn }
 {
     let Insn::JumpIf {
         cond,
@@ -178,26 +243,31 @@ fn decided(site: &Site) -> Option<bool>
         off: _off,
     } = site.insn
     else {
-        return None;
+        return true;
     };
-    let a = exactly(known_in(site, dst))?;
-    let b = operand_exactly(site, src)?;
-    Some(cond.holds(width, u64::from(a), b))
+    let test = Test {
+        cond,
+        width,
+        taken,
+        dst,
+        src,
+    };
+    match decided(site, test) {
+        Some(way) => way == taken,
+        None => may_answer(site, test),
+    }
 }
 
 /// Whether the instruction may go on to the next one.
 pub fn may_fall(site: &Site) -> bool
     ensures { result ≡ may_fall (known site.now.slot site.now.kinds) site.now.insn }
 {
-    match decided(site) {
-        Some(taken) => !taken,
-        None => true,
-    }
+    may_go(site, false)
 }
 
 /// Whether the instruction may lead elsewhere, if it does so at all.
 pub fn may_lead(site: &Site) -> bool
     ensures { result ≡ may_lead (known site.now.slot site.now.kinds) site.now.insn }
 {
-    decided(site).unwrap_or(true)
+    may_go(site, true)
 }

@@ -2,7 +2,7 @@
 //! and make addresses in front of an instruction.
 
 ghost use Rattle.std.specs.Prelude.{◌≡◌, ◌<◌, IfSome};
-ghost use Rattle.bpf_follows.specs.Extras.{is_same, constant_kind, offset_in, copied, is_taken, added, is_base, base_of, address_at, address, put_kind, put_by, made};
+ghost use Rattle.bpf_follows.specs.Extras.{is_same, constant_kind, offset_in, copied, is_taken, moved_end, added, is_base, base_of, address_at, address, put_kind, put_by, made};
 ghost use Rattle.bpf_follows.specs.Sequence.{written, extra, extra_at, extras};
 
 use crate::areas::same_area;
@@ -13,6 +13,7 @@ use crate::kinds::kind_in;
 use crate::notes::{Area, Kind, Kinds};
 use crate::site::Front;
 use bpf_insn::{AluOp, Code, Insn, Operand, Reg, Width};
+use bpf_packets::HEAD_BYTES;
 
 /// The most extra instructions in one place.
 const MOST_EXTRAS: u32 = 128;
@@ -29,7 +30,9 @@ pub fn is_same(kind: Kind) -> bool
             | Kind::Both
             | Kind::Start
             | Kind::Number { .. }
-            | Kind::Natural
+            | Kind::Natural { .. }
+            | Kind::Inner { .. }
+            | Kind::Length { .. }
             | Kind::Alone
             | Kind::Returns { .. }
     )
@@ -39,13 +42,17 @@ pub fn is_same(kind: Kind) -> bool
 fn constant_kind(kind: Kind, imm: i32) -> Kind
     ensures { result ≡ constant_kind kind imm }
 {
-    if imm == 0 && matches!(kind, Kind::Start) {
-        Kind::Fixed {
+    let first = match kind {
+        Kind::Start => Some(0),
+        Kind::Head => Some(HEAD_BYTES as i32),
+        _ => None,
+    };
+    match first {
+        Some(offset) if imm == offset => Kind::Fixed {
             area: Area::Given,
-            offset: 0,
-        }
-    } else {
-        Kind::Constant { value: imm }
+            offset,
+        },
+        _ => Kind::Constant { value: imm },
     }
 }
 
@@ -67,11 +74,13 @@ pub fn copied(r: Reg, kind: Kind) -> Option<Kind>
     ensures { result ≡ copied r kind }
 {
     match kind {
-        Kind::Start | Kind::Base => Some(Kind::Base),
+        Kind::Start | Kind::Head | Kind::Base => Some(Kind::Base),
+        Kind::Length { .. } => Some(Kind::Ending { by: 0 }),
         Kind::Offset { area } => Some(Kind::Moved { area, of: r, by: 0 }),
         Kind::Fixed { area, .. } => Some(Kind::Moved { area, of: r, by: 0 }),
         Kind::Within { area, .. } => Some(Kind::Moved { area, of: r, by: 0 }),
-        Kind::Moved { .. } | Kind::Address { .. } | Kind::Constant { .. } => Some(kind),
+        Kind::Moved { .. } | Kind::Address { .. } => Some(kind),
+        Kind::Constant { .. } | Kind::Ending { .. } => Some(kind),
         _ => None,
     }
 }
@@ -86,12 +95,22 @@ pub fn is_taken(front: Option<Front>, kind: Kind) -> bool
     }
 }
 
+/// What is so much farther behind the packet's end, if that has 32 bits.
+fn moved_end(by: u32, imm: i32) -> Option<Kind>
+    ensures { result ≡ moved_end by imm }
+{
+    let more = u32::try_from(imm).ok()?;
+    let by = by.checked_add(more)?;
+    Some(Kind::Ending { by })
+}
+
 /// What a sum of a register and a constant holds.
 fn added(front: Option<Front>, r: Reg, kind: Kind, imm: i32) -> Option<Kind>
     ensures { result ≡ added front r kind imm }
 {
     match (offset_in(r, kind), kind) {
         (Some((area, of, 0)), _) => Some(Kind::Moved { area, of, by: imm }),
+        (None, Kind::Ending { by }) => moved_end(by, imm),
         (None, Kind::Counter { head }) if is_taken(front, kind) && imm == -1 => {
             Some(Kind::Turn { head })
         }
@@ -103,7 +122,7 @@ fn added(front: Option<Front>, r: Reg, kind: Kind, imm: i32) -> Option<Kind>
 pub fn is_base(kind: Kind) -> bool
     ensures { result ≡ is_base kind }
 {
-    matches!(kind, Kind::Start | Kind::Base)
+    matches!(kind, Kind::Start | Kind::Head | Kind::Base)
 }
 
 /// The area of which a register holds the pointer at 0: the context's start, or r10.

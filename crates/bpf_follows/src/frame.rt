@@ -4,7 +4,7 @@ ghost use Rattle.std.specs.Prelude.{◌≡◌, ◌<◌, ◌+ℤ◌, pos, IfSome}
 ghost use Rattle.bpf_insn.specs.Limits.{frame_bytes};
 ghost use Rattle.bpf_insn.specs.Instruction.{not_negative};
 ghost use Rattle.bpf_follows.specs.Extras.{is_r10, whole_at, slot_of};
-ghost use Rattle.bpf_follows.specs.Matching.{touches, is_written, writes_slot, is_whole, is_far_access, is_far, whole_slot};
+ghost use Rattle.bpf_follows.specs.Matching.{touches, is_written, writes_slot, is_whole, is_far_access, is_far, whole_slot, is_far_store, is_lowest};
 
 use crate::kinds::REGISTERS;
 use bpf_insn::{Access, FRAME_BYTES, Insn, Reg, Size};
@@ -101,6 +101,23 @@ pub fn is_far(insn: &Insn) -> bool
         Some(access) => is_far_access(insn, access),
         None => false,
     }
+}
+
+/// Whether the instruction is a store by another register than r10.
+fn is_far_store(insn: &Insn) -> bool
+    ensures { result ≡ is_far_store insn.now }
+{
+    match insn.access() {
+        Some(access) => access.writes && !is_r10(access.base),
+        None => false,
+    }
+}
+
+/// Whether it is one, and the place a slot of the frame among so many of its lowest bytes.
+pub fn is_lowest(untouched: u32, insn: &Insn, r: u8) -> bool
+    ensures { result ≡ is_lowest untouched insn.now r }
+{
+    is_far_store(insn) && r >= REGISTERS && u32::from(r - REGISTERS) * 8 + 8 <= untouched
 }
 
 /// The slot of its own frame that an instruction reads whole.

@@ -1,38 +1,32 @@
 //! Guards, and tests of counters: extra jumps that aren't taken where the old program's run goes on to its end.
 
 ghost use Rattle.std.specs.Prelude.{◌≡◌, pos, ◌+ℤ◌, ◌-ℤ◌};
-ghost use Rattle.bpf_follows.specs.Guards.{range_of, offset_range, fixed_in, added_to, added_range, is_near, clipped, natural_part, bounds_range, range_in, is_most, is_least, is_other, passes, at_most, at_least, passed_by};
+ghost use Rattle.bpf_packets.specs.Blocks.{head_bytes};
+ghost use Rattle.bpf_follows.specs.Guards.{range_of, offset_range, fixed_in, added_to, added_range, is_near, clipped, natural_part, bounds_range, range_in, is_most, is_least, is_other, is_long, is_before, ends_behind, is_reached, reached, reaches, passes_constant, passes, at_most, at_least, passed_by};
 
-use crate::areas::size_of;
+use crate::areas::{first_of, same_area, size_of};
 use crate::extras::{is_taken, offset_in};
 use crate::kinds::{is_register, kind_in};
 use crate::notes::{Area, Kind, Kinds};
 use crate::site::{Front, Range, Span};
 use bpf_insn::{AluOp, Cond, Insn, Operand, Reg, Width, extended};
+use bpf_packets::HEAD_BYTES;
 
-/// The least number of a range: bytes that begin at a region's first one, moved up and down.
-fn least_of(from: i32, up: i32, down: i32) -> i64
-    ensures { result ≡ ((up -ℤ down) -ℤ from) }
+/// How far a register is from an area's byte, moved up and down, where this displacement from it leads there.
+fn away(byte: u32, displacement: i32, up: i32, down: i32) -> i64
+    ensures { result ≡ ((pos byte +ℤ (up -ℤ down)) -ℤ displacement) }
 {
     let by = i64::from(up) - i64::from(down);
-    by - i64::from(from)
+    i64::from(byte) + by - i64::from(displacement)
 }
 
-/// The greatest: bytes that end at its end.
-fn most_of(length: u32, to: i32, up: i32, down: i32) -> i64
-    ensures { result ≡ ((pos length +ℤ (up -ℤ down)) -ℤ to) }
-{
-    let by = i64::from(up) - i64::from(down);
-    i64::from(length) + by - i64::from(to)
-}
-
-/// Where accesses go that lie among so many bytes, moved up and down: between which numbers that is.
-fn range_of(length: u32, span: Span, up: i32, down: i32) -> Range
-    ensures { result ≡ range_of length span up down }
+/// Where accesses go that lie among the bytes from the first one to before the end, moved up and down: between which numbers that is.
+fn range_of(first: u32, end: u32, span: Span, up: i32, down: i32) -> Range
+    ensures { result ≡ range_of first end span up down }
 {
     Range {
-        least: least_of(span.from, up, down),
-        most: most_of(length, span.to, up, down),
+        least: away(first, span.from, up, down),
+        most: away(end, span.to, up, down),
     }
 }
 
@@ -42,7 +36,8 @@ fn offset_range(front: &Front, r: Reg, kind: Kind) -> Option<Range>
 {
     let (area, of, by) = offset_in(r, kind)?;
     let span = front.spans[usize::from(of as u8)]?;
-    Some(range_of(size_of(area, front.length), span, by, 0))
+    let first = first_of(area, front.padded, front.untouched);
+    Some(range_of(first, size_of(area, front.length), span, by, 0))
 }
 
 /// The offset that is always the same, if a register holds one.
@@ -81,7 +76,8 @@ fn added_range(front: &Front, kinds: &Kinds, r: Reg) -> Option<Range>
 {
     let (area, offset) = added_to(kinds, r, &front.insn)?;
     let span = front.behind?;
-    Some(range_of(size_of(area, front.length), span, 0, offset))
+    let first = first_of(area, front.padded, front.untouched);
+    Some(range_of(first, size_of(area, front.length), span, 0, offset))
 }
 
 /// The greatest number of a range that is looked at, and the least.
@@ -110,11 +106,11 @@ fn clipped(least: u32, most: u32, range: Range) -> Range
     }
 }
 
-/// The numbers of a range that are below 2^63.
-fn natural_part(range: Range) -> Range
-    ensures { result ≡ natural_part range }
+/// The numbers of a range, where they have at most these upper 32 bits, which tell that they are below 2^63.
+fn natural_part(half: u32, range: Range) -> Range
+    ensures { result ≡ natural_part half range }
 {
-    if is_near(range) {
+    if half < 1 << 31 && is_near(range) {
         Range {
             least: range.least.max(0),
             most: range.most,
@@ -148,7 +144,10 @@ fn range_in(front: &Front, kinds: &Kinds, r: Reg, kind: Kind) -> Option<Range>
             Some(range) => Some(clipped(least, most, range)),
             None => bounds_range(least, most),
         },
-        Kind::Natural => added_range(front, kinds, r).map(natural_part),
+        Kind::Natural { half } => {
+            let range = added_range(front, kinds, r)?;
+            Some(natural_part(half, range))
+        }
         Kind::Within { least, most, .. } => match offset_range(front, r, kind) {
             Some(range) => Some(clipped(least, most, range)),
             None => bounds_range(least, most),
@@ -183,34 +182,142 @@ fn is_other(imm: i32, kind: Kind) -> bool
     }
 }
 
+// ---- the end of a block's packet
+
+/// Whether the packet isn't longer than a constant.
+fn is_long(imm: i32, kind: Kind) -> bool
+    ensures { result ≡ is_long imm kind }
+{
+    match kind {
+        Kind::Length { most } => u64::from(most) <= extended(imm),
+        _ => false,
+    }
+}
+
+/// A displacement, so much farther.
+fn farther(displacement: i32, by: u32) -> i64
+    ensures { result ≡ (displacement +ℤ pos by) }
+{
+    i64::from(displacement) + i64::from(by)
+}
+
+/// An offset moved by a displacement.
+fn moved_to(offset: i32, displacement: i32) -> i64
+    ensures { result ≡ (offset +ℤ displacement) }
+{
+    i64::from(offset) + i64::from(displacement)
+}
+
+/// How many bytes a packet has surely, and so many more, if it has the bytes beside an offset up to one of them.
+fn surely(offset: i32, to: i32, by: u32) -> i64
+    ensures { result ≡ (((offset +ℤ to) +ℤ pos by) -ℤ pos head_bytes) }
+{
+    let end = moved_to(offset, to);
+    end + i64::from(by) - i64::from(HEAD_BYTES)
+}
+
+/// Whether an offset that is moved is at most so far behind the packet's end, if the bytes beside it lie in the packet.
+fn is_before(moved: i32, by: u32, span: Span) -> bool
+    ensures { result ≡ is_before moved by span }
+{
+    let at = farther(moved, HEAD_BYTES);
+    at <= farther(span.to, by) && i64::from(span.from) <= at
+}
+
+/// Whether that holds of the offset in a register, and of the packet's end in another one, by the accesses that surely follow.
+fn ends_behind(front: &Front, moved: Option<(Area, Reg, i32)>, end: Kind) -> bool
+    ensures { result ≡ ends_behind front.now moved end }
+{
+    let (Some((area, of, moved)), Kind::Ending { by }) = (moved, end) else {
+        return false;
+    };
+    match front.spans[usize::from(of as u8)] {
+        Some(span) => same_area(area, Area::Given) && is_before(moved, by, span),
+        None => false,
+    }
+}
+
+/// Whether the packet's end, and so many bytes more, isn't below a constant, if the bytes beside an offset lie in the packet.
+fn is_reached(offset: i32, by: u32, imm: i32, span: Span) -> bool
+    ensures { result ≡ is_reached offset by imm span }
+{
+    i128::from(extended(imm)) <= i128::from(surely(offset, span.to, by))
+}
+
+/// Whether that holds by what surely is accessed by a register whose offset is always the same.
+fn reached(front: &Front, fixed: Option<(Area, i32)>, r: Reg, by: u32, imm: i32) -> bool
+    ensures { result ≡ reached front.now fixed r by imm }
+{
+    let Some((area, offset)) = fixed else {
+        return false;
+    };
+    match front.spans[usize::from(r as u8)] {
+        Some(span) => same_area(area, Area::Given) && is_reached(offset, by, imm, span),
+        None => false,
+    }
+}
+
+/// Whether it holds by the instruction's own access.
+fn reaches(front: &Front, kinds: &Kinds, end: Kind, imm: i32) -> bool
+    ensures { result ≡ reaches front.now kinds.now end imm }
+{
+    let (Kind::Ending { by }, Some(access)) = (end, front.insn.access()) else {
+        return false;
+    };
+    reached(
+        front,
+        fixed_in(kind_in(kinds, access.base)),
+        access.base,
+        by,
+        imm,
+    )
+}
+
+// ---- all of them
+
+/// Whether a jump isn't taken that compares a register with a constant.
+fn passes_constant(front: &Front, kinds: &Kinds, cond: Cond, dst: Reg, imm: i32) -> bool
+    ensures { result ≡ passes_constant front.now kinds.now cond dst imm }
+{
+    let kind = kind_in(kinds, dst);
+    match cond {
+        Cond::Eq => imm == 0 && is_taken(Some(*front), kind) || is_other(imm, kind),
+        Cond::Gt => match range_in(front, kinds, dst, kind) {
+            Some(range) => is_most(imm, range),
+            None => false,
+        },
+        Cond::Lt => {
+            reaches(front, kinds, kind, imm)
+                || match range_in(front, kinds, dst, kind) {
+                    Some(range) => is_least(imm, range),
+                    None => false,
+                }
+        }
+        _ => false,
+    }
+}
+
 /// Whether a jump isn't taken: a counter is tested that has turns left, a number that is another one, or a guard stands in front of an access.
 pub fn passes(front: Option<Front>, kinds: &Kinds, insn: &Insn) -> bool
     ensures { result ≡ passes front kinds.now insn.now }
 {
-    let (
-        Some(front),
-        Insn::JumpIf {
-            cond,
-            width: Width::W64,
-            dst,
-            src: Operand::Imm(imm),
-            ..
-        },
-    ) = (front, *insn)
+    let Insn::JumpIf {
+        cond,
+        width: Width::W64,
+        dst,
+        src,
+        ..
+    } = *insn
     else {
         return false;
     };
     let kind = kind_in(kinds, dst);
-    match cond {
-        Cond::Eq => imm == 0 && is_taken(Some(front), kind) || is_other(imm, kind),
-        Cond::Gt => match range_in(&front, kinds, dst, kind) {
-            Some(range) => is_most(imm, range),
-            None => false,
-        },
-        Cond::Lt => match range_in(&front, kinds, dst, kind) {
-            Some(range) => is_least(imm, range),
-            None => false,
-        },
+    match (front, cond, src) {
+        (Some(front), cond, Operand::Imm(imm)) => passes_constant(&front, kinds, cond, dst, imm),
+        (Some(front), Cond::Gt, Operand::Reg(src)) => {
+            ends_behind(&front, offset_in(dst, kind), kind_in(kinds, src))
+        }
+        (None, Cond::Gt, Operand::Imm(imm)) => is_long(imm, kind),
         _ => false,
     }
 }

@@ -1,9 +1,9 @@
 //! Extra instructions that put what the new program keeps into its frame, and take it out again.
 
 ghost use Rattle.std.specs.Prelude.{◌≡◌, ◌<◌, IfSome};
-ghost use Rattle.bpf_follows.specs.Extras.{frame_slot, own_kind, kept_kind, free_slot, stored, restored, taken, constant_put, moved_by};
+ghost use Rattle.bpf_follows.specs.Extras.{frame_slot, own_kind, kept_kind, free_slot, stored, restored, taken, packet_length, constant_put, moved_by};
 
-use crate::extras::{copied, is_same};
+use crate::extras::{copied, is_base, is_same};
 use crate::frame::{is_r10, slot_of};
 use crate::kinds::{REGISTERS, is_free, is_register, kind_in, kind_of};
 use crate::notes::{Kind, Kinds};
@@ -28,6 +28,7 @@ fn own_kind(kind: Kind) -> Option<Kind>
     match kind {
         Kind::Base | Kind::Moved { .. } | Kind::Address { .. } | Kind::Saved { .. } => Some(kind),
         Kind::Constant { .. } | Kind::Counter { .. } | Kind::Turn { .. } => Some(kind),
+        Kind::Ending { .. } => Some(kind),
         _ => None,
     }
 }
@@ -38,7 +39,7 @@ fn kept_kind(r: Reg, kind: Kind) -> Option<Kind>
 {
     match kind {
         Kind::Counter { .. } | Kind::Turn { .. } => Some(kind),
-        Kind::Both | Kind::Natural => Some(Kind::Saved { of: r }),
+        Kind::Both | Kind::Natural { .. } | Kind::Inner { .. } => Some(Kind::Saved { of: r }),
         _ => copied(r, kind),
     }
 }
@@ -90,6 +91,20 @@ fn taken(kinds: &Kinds, dst: Reg, src: Reg, off: i16) -> Option<(u8, Kind)>
     Some((dst as u8, restored(dst, kind)))
 }
 
+/// What a register holds behind a load of a packet's length, with which its block begins.
+fn packet_length(kinds: &Kinds, dst: Reg, src: Reg, off: i16) -> Option<(u8, Kind)>
+    ensures exact { result ≡ packet_length kinds.now dst src off }
+    ensures inside { IfSome result (λ w. w.0 < 75) }
+{
+    if is_r10(dst) || !is_base(kind_in(kinds, src)) || off != 0 {
+        return None;
+    }
+    match kind_in(kinds, dst) {
+        Kind::Sized { most } => Some((dst as u8, Kind::Length { most })),
+        _ => None,
+    }
+}
+
 /// The slot to which an instruction stores a constant, and what it holds then.
 fn constant_put(kinds: &Kinds, insn: &Insn) -> Option<(u8, Kind)>
     ensures exact { result ≡ constant_put kinds.now insn.now }
@@ -108,7 +123,7 @@ fn constant_put(kinds: &Kinds, insn: &Insn) -> Option<(u8, Kind)>
     Some((REGISTERS + slot, Kind::Constant { value: imm }))
 }
 
-/// What an extra instruction puts into a slot, or takes out of one: the place, and what it holds then.
+/// What an extra instruction puts into a slot, or takes out of one, or loads of a block: the place, and what it holds then.
 pub fn moved_by(kinds: &Kinds, insn: &Insn) -> Option<(u8, Kind)>
     ensures exact { result ≡ moved_by kinds.now insn.now }
     ensures inside { IfSome result (λ w. w.0 < 75) }
@@ -129,7 +144,10 @@ pub fn moved_by(kinds: &Kinds, insn: &Insn) -> Option<(u8, Kind)>
         off,
     } = *insn
     {
-        return taken(kinds, dst, src, off);
+        return match taken(kinds, dst, src, off) {
+            Some(found) => Some(found),
+            None => packet_length(kinds, dst, src, off),
+        };
     }
     constant_put(kinds, insn)
 }

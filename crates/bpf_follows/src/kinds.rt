@@ -4,15 +4,17 @@ ghost use Rattle.std.specs.Prelude.{◌≡◌, ◌<◌, ◌==◌, ◌↔◌, IsT
 ghost use Rattle.bpf_insn.specs.Instruction.{register_number};
 ghost use Rattle.bpf_follows.specs.Relation.{kind_in, place_at, is_lone, is_alone, is_free, is_of_other, offset_weaker, within_weaker, weaker, Gives, known};
 ghost use Rattle.bpf_follows.specs.Returned.{is_call};
-ghost use Rattle.bpf_follows.specs.Matching.{is_changed, is_lost, is_gone, held, kinds_behind, kinds_beyond, kinds_called, listed, start_kinds};
+ghost use Rattle.bpf_follows.specs.Matching.{is_changed, is_lost, is_gone, held, kinds_behind, is_spared, kinds_beyond, handed, kinds_called, listed, given_kinds, start_kinds};
 
 use crate::areas::{is_own, same_area};
 use crate::frame::writes_slot;
-use crate::notes::{Area, Kind, Kinds, PLACES, Place};
-use crate::numbers::{MOST_NATURAL, told};
+use crate::inner::misses;
+use crate::notes::{Area, Bounds, Kind, Kinds, PLACES, Place};
+use crate::numbers::{natural_top, told};
 use crate::pairs::written_kind;
 use crate::site::Site;
 use bpf_insn::{Insn, Reg, extended};
+use bpf_packets::HEAD_BYTES;
 
 /// How many registers there are.
 pub const REGISTERS: u8 = 11;
@@ -72,7 +74,7 @@ pub fn is_free(kind: Kind) -> bool
 {
     match kind {
         Kind::Unset | Kind::Base | Kind::Moved { .. } | Kind::Address { .. } => true,
-        Kind::Saved { .. } => true,
+        Kind::Saved { .. } | Kind::Ending { .. } => true,
         Kind::Constant { .. } | Kind::Counter { .. } | Kind::Turn { .. } => true,
         _ => false,
     }
@@ -112,14 +114,10 @@ fn within_weaker(r: u8, have: Kind, into: Area, low: u32, high: u32) -> bool
 fn weaker(turns: u32, r: u8, have: Kind, want: Kind) -> bool
     ensures { result ≡ weaker turns r have want }
 {
-    if let Kind::Offset { area } = want {
-        return offset_weaker(r, have, area);
-    }
-    if let Kind::Within { area, least, most } = want {
-        return within_weaker(r, have, area, least, most);
-    }
     match (have, want) {
-        (Kind::Start, Kind::Same | Kind::Base) => true,
+        (_, Kind::Offset { area }) => offset_weaker(r, have, area),
+        (_, Kind::Within { area, least, most }) => within_weaker(r, have, area, least, most),
+        (Kind::Start, Kind::Same | Kind::Base) | (Kind::Head, Kind::Base) => true,
         (Kind::Constant { value }, Kind::Counter { .. }) => u64::from(turns) <= extended(value),
         (
             Kind::Number { least, most },
@@ -128,11 +126,32 @@ fn weaker(turns: u32, r: u8, have: Kind, want: Kind) -> bool
                 most: high,
             },
         ) => { low <= least && most <= high }
-        (Kind::Number { most, .. }, Kind::Natural) => {
-            r < REGISTERS && u64::from(most) <= MOST_NATURAL
+        (Kind::Number { most, .. }, Kind::Natural { half }) => {
+            r < REGISTERS && u64::from(most) <= natural_top(half)
         }
-        (Kind::Number { .. } | Kind::Natural, Kind::Both) => r < REGISTERS,
-        (Kind::Number { .. } | Kind::Natural | Kind::Both, Kind::Same) => true,
+        (Kind::Length { most }, Kind::Length { most: high }) => r < REGISTERS && most <= high,
+        (
+            Kind::Length { most },
+            Kind::Number {
+                least: low,
+                most: high,
+            },
+        ) => { r < REGISTERS && low == 0 && most <= high }
+        (Kind::Length { .. }, Kind::Both | Kind::Same) => r < REGISTERS,
+        (Kind::Natural { half }, Kind::Natural { half: more }) => half <= more,
+        (
+            Kind::Inner { least, most },
+            Kind::Inner {
+                least: low,
+                most: high,
+            },
+        ) => { low <= least && most <= high }
+        (Kind::Number { .. } | Kind::Natural { .. } | Kind::Inner { .. }, Kind::Both) => r
+            < REGISTERS,
+        (
+            Kind::Number { .. } | Kind::Natural { .. } | Kind::Inner { .. } | Kind::Both,
+            Kind::Same,
+        ) => true,
         (Kind::Same, Kind::Alone | Kind::Returns { .. }) => r < REGISTERS,
         (_, Kind::Same | Kind::Unset) => r >= REGISTERS && is_free(have),
         _ => false,
@@ -201,13 +220,13 @@ fn is_gone(insn: &Insn, kind: Kind) -> bool
 }
 
 /// What is left of what was said of a register.
-fn held(insn: &Insn, kind: Kind) -> Kind
+pub fn held(insn: &Insn, kind: Kind) -> Kind
     ensures { result ≡ held insn.now kind }
 {
-    if is_gone(insn, kind) {
-        Kind::Nothing
-    } else {
-        kind
+    match kind {
+        Kind::Inner { .. } if is_lost(insn, 10) => Kind::Both,
+        _ if is_gone(insn, kind) => Kind::Nothing,
+        _ => kind,
     }
 }
 
@@ -241,12 +260,19 @@ fn kind_behind(site: &Site, taken: bool, r: u8) -> Kind
     }
 }
 
+/// Whether the instruction is a store that may go to any slot, and never goes to this one.
+fn is_spared(site: &Site, r: u8) -> bool
+    ensures { result ≡ is_spared (known site.now.slot site.now.kinds) site.now.insn r }
+{
+    writes_slot(&site.insn, r) && misses(site, r - REGISTERS)
+}
+
 /// The same, where each function leaves the frames of others alone, if it does.
 pub fn kind_beyond(alone: bool, site: &Site, taken: bool, r: u8) -> Kind
     requires { r < 75 }
     ensures { result ≡ kinds_beyond alone taken site.now.insn site.now.moved (known site.now.slot site.now.kinds) r }
 {
-    if is_call(&site.insn) && alone && r >= REGISTERS {
+    if is_spared(site, r) || is_call(&site.insn) && alone && r >= REGISTERS {
         held(&site.insn, known(site, r))
     } else {
         kind_behind(site, taken, r)
@@ -258,11 +284,23 @@ fn is_of_other(kind: Kind) -> bool
     ensures { result ≡ is_of_other kind }
 {
     match kind {
+        Kind::Inner { .. } => true,
         Kind::Offset { area } => is_own(area),
         Kind::Fixed { area, .. } => is_own(area),
         Kind::Within { area, .. } => is_own(area),
         Kind::Moved { .. } | Kind::Address { .. } | Kind::Saved { .. } => true,
         _ => false,
+    }
+}
+
+/// What is handed on of a register.
+fn handed(kind: Kind) -> Kind
+    ensures { result ≡ handed kind }
+{
+    match kind {
+        Kind::Inner { .. } => Kind::Both,
+        _ if is_of_other(kind) => Kind::Nothing,
+        _ => kind,
     }
 }
 
@@ -274,12 +312,7 @@ fn kind_called(site: &Site, r: u8) -> Kind
     if r == 0 || r > 5 {
         return Kind::Same;
     }
-    let kind = known(site, r);
-    if is_of_other(kind) {
-        Kind::Nothing
-    } else {
-        kind
-    }
+    handed(known(site, r))
 }
 
 /// What places hold at the entry of a function that is called.
@@ -301,17 +334,31 @@ pub fn all_called(site: &Site) -> Kinds
     kinds
 }
 
-/// What places hold at the start, on contexts of so many bytes.
-pub fn start_kinds(length: u32) -> Kinds
-    ensures { result ≡ start_kinds length }
+/// What r1 and r2 hold at the start, on contexts of so many bytes, or blocks.
+fn given_kinds(padded: bool, length: u32) -> (Kind, Kind)
+    ensures { result ≡ given_kinds padded length }
 {
+    if padded {
+        let most = length.saturating_sub(HEAD_BYTES);
+        (Kind::Head, Kind::Sized { most })
+    } else {
+        let number = Kind::Number {
+            least: length,
+            most: length,
+        };
+        (Kind::Start, number)
+    }
+}
+
+/// What places hold at the start.
+pub fn start_kinds(bounds: Bounds) -> Kinds
+    ensures { result ≡ start_kinds bounds }
+{
+    let (context, length) = given_kinds(bounds.padded, bounds.length);
     let mut kinds = [Kind::Unset; PLACES];
     kinds[0] = Kind::Same;
-    kinds[1] = Kind::Start;
-    kinds[2] = Kind::Number {
-        least: length,
-        most: length,
-    };
+    kinds[1] = context;
+    kinds[2] = length;
     kinds[3] = Kind::Same;
     kinds[4] = Kind::Same;
     kinds[5] = Kind::Same;

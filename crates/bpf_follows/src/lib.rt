@@ -8,6 +8,7 @@ mod exact;
 mod extras;
 mod frame;
 mod guards;
+pub mod inner;
 mod keeps;
 mod kinds;
 mod laws;
@@ -24,7 +25,7 @@ mod tame;
 mod whole;
 
 pub use exact::{by_exact, may_fall, may_lead};
-pub use laws::matching_keeps_meaning;
+pub use laws::{leaving_none_asks_nothing, matching_keeps_meaning};
 pub use mismatch::{Fault, Mismatch};
 pub use notes::{Area, Bounds, Kind, Kinds, PLACES, Place};
 pub use pass::follows;

@@ -25,8 +25,16 @@ pub enum Kind {
     Both,
     /// The same number, from the least to the most. Both have one there.
     Number { least: u32, most: u32 },
-    /// The same number, below 2^63. Both have one there.
-    Natural,
+    /// The same number, whose upper 32 bits are at most this. Both have one there.
+    Natural { half: u32 },
+    /// The same pointer into the function's own frame: to one of its bytes from the least to the most, r10 to 512. Both have one there.
+    Inner { least: u32, most: u32 },
+    /// The length of the packet that a block holds. Both have it there, and it is at most this.
+    Length { most: u32 },
+    /// The old program has that length there. Of the new one nothing is said.
+    Sized { most: u32 },
+    /// That length, and so many bytes more. Of the old program nothing is said.
+    Ending { by: u32 },
     /// The offset, modulo 2^64, of the pointer into an area that the old program has there.
     Offset { area: Area },
     /// The same, and the offset is always this one.
@@ -35,6 +43,8 @@ pub enum Kind {
     Within { area: Area, least: u32, most: u32 },
     /// The pointer to the context's first byte, as the old program.
     Start,
+    /// The pointer to a block's first byte, where the old program has the one to the packet's.
+    Head,
     /// The pointer to the context's first byte. Of the old program nothing is said.
     Base,
     /// The offset of the pointer into an area that the old program has in a register, moved, modulo 2^64.
@@ -75,9 +85,15 @@ pub struct Place {
     pub kinds: Kinds,
 }
 
-/// How many bytes a context has, and how often a run comes to a slot at most.
+/// Of which runs of the old program it is said that the new one ends with their number.
 #[derive(Clone, Copy)]
 pub struct Bounds {
+    /// How many bytes a context has, a block where they are blocks.
     pub length: u32,
+    /// Whether contexts are blocks: the old program is given a packet, and the new one the block that holds it.
+    pub padded: bool,
+    /// How often a run comes to a slot at most.
     pub turns: u32,
+    /// How many of the lowest bytes of each frame it accesses by r10 alone. A frame has 512.
+    pub untouched: u32,
 }

@@ -2,9 +2,10 @@
 
 ghost use Rattle.std.specs.Prelude.{◌≡◌, ◌<◌};
 ghost use Rattle.bpf_insn.specs.Instruction.{register_number};
-ghost use Rattle.bpf_follows.specs.Relation.{known};
-ghost use Rattle.bpf_follows.specs.Numbers.{bounded, number_of, bounds_of, is_bounded, is_numeric, read_number, operand_number, left_number, alu_number, loaded_number, number_kind, told_by, is_operand, told};
+ghost use Rattle.bpf_follows.specs.Relation.{natural_top, known};
+ghost use Rattle.bpf_follows.specs.Numbers.{bounded, number_of, bounds_of, is_bounded, is_numeric, read_number, operand_number, left_number, alu_number, loaded_number, alu_kind, number_kind, told_by, may_answer, is_operand, told};
 
+use crate::inner::inner_made;
 use crate::kinds::{known, known_in};
 use crate::notes::Kind;
 use crate::site::Site;
@@ -14,7 +15,14 @@ use bpf_num::{KnownBits, Num, Signed, Unsigned, WordDomain};
 // ---- kinds and sets of numbers
 
 /// The greatest number that isn't below 0 where it is read with its sign.
-pub(crate) const MOST_NATURAL: u64 = 0x7fff_ffff_ffff_ffff;
+const MOST_NATURAL: u64 = 0x7fff_ffff_ffff_ffff;
+
+/// The greatest number with these upper 32 bits.
+pub(crate) fn natural_top(half: u32) -> u64
+    ensures { result ≡ natural_top half }
+{
+    u64::from(half) * (1 << 32) + 0xffff_ffff
+}
 
 /// The numbers from the least to the most.
 fn bounded(least: u64, most: u64) -> Option<Num>
@@ -30,12 +38,13 @@ fn number_of(kind: Kind) -> Option<Num>
 {
     match kind {
         Kind::Number { least, most } => bounded(u64::from(least), u64::from(most)),
-        Kind::Natural => bounded(0, MOST_NATURAL),
+        Kind::Natural { half } => bounded(0, natural_top(half)),
+        Kind::Length { most } => bounded(0, u64::from(most)),
         _ => None,
     }
 }
 
-/// The bounds of a set, if they have 32 bits, or that all are below 2^63.
+/// The bounds of a set, if they have 32 bits, or its greatest upper half, if all are below 2^63.
 fn bounds_of(kind: Kind, number: Num) -> Kind
     ensures { result ≡ bounds_of kind number }
 {
@@ -47,7 +56,9 @@ fn bounds_of(kind: Kind, number: Num) -> Kind
             most: unsigned.hi() as u32,
         }
     } else if unsigned.hi() <= MOST_NATURAL {
-        Kind::Natural
+        Kind::Natural {
+            half: (unsigned.hi() / (1 << 32)) as u32,
+        }
     } else {
         kind
     }
@@ -58,7 +69,7 @@ pub(crate) fn is_bounded(kind: Kind) -> bool
     ensures { result ≡ is_bounded kind }
 {
     match kind {
-        Kind::Number { most, .. } => u64::from(most) < 1 << 32,
+        Kind::Number { most, .. } | Kind::Length { most } => u64::from(most) < 1 << 32,
         _ => false,
     }
 }
@@ -81,7 +92,8 @@ fn read_number(numeric: bool, kind: Kind) -> Option<Num>
 {
     match kind {
         Kind::Number { least, most } => bounded(u64::from(least), u64::from(most)),
-        Kind::Natural => bounded(0, MOST_NATURAL),
+        Kind::Natural { half } => bounded(0, natural_top(half)),
+        Kind::Length { most } => bounded(0, u64::from(most)),
         Kind::Same | Kind::Both if numeric => Some(Num::top()),
         _ => None,
     }
@@ -137,6 +149,16 @@ fn loaded_number(size: Size) -> Kind
     }
 }
 
+/// What an operation on numbers writes.
+fn alu_kind(site: &Site, op: AluOp, width: Width, dst: Reg, src: Operand) -> Kind
+    ensures { result ≡ alu_kind (known site.now.slot site.now.kinds) op width dst src }
+{
+    match alu_number(site, op, width, dst, src) {
+        Some(number) => bounds_of(Kind::Both, number),
+        None => Kind::Both,
+    }
+}
+
 /// What an instruction writes, where it does the same in both.
 pub fn number_kind(site: &Site) -> Kind
     ensures { result ≡ number_kind (known site.now.slot site.now.kinds) site.now.insn }
@@ -148,9 +170,9 @@ pub fn number_kind(site: &Site) -> Kind
         src,
     } = site.insn
     {
-        return match alu_number(site, op, width, dst, src) {
-            Some(number) => bounds_of(Kind::Both, number),
-            None => Kind::Both,
+        return match inner_made(site, width, op, dst, src) {
+            Some(kind) => kind,
+            None => alu_kind(site, op, width, dst, src),
         };
     }
     if let Insn::Load { size, .. } = site.insn {
@@ -163,12 +185,12 @@ pub fn number_kind(site: &Site) -> Kind
 
 /// A test, on the edge where it holds (`taken`) or fails.
 #[derive(Clone, Copy)]
-struct Test {
-    cond: Cond,
-    width: Width,
-    taken: bool,
-    dst: Reg,
-    src: Operand,
+pub(crate) struct Test {
+    pub(crate) cond: Cond,
+    pub(crate) width: Width,
+    pub(crate) taken: bool,
+    pub(crate) dst: Reg,
+    pub(crate) src: Operand,
 }
 
 /// The numbers of both operands.
@@ -178,6 +200,19 @@ fn told_by(site: &Site, test: Test) -> Option<(Num, Num)>
     let b = operand_number(site, false, test.src)?;
     let a = number_of(known_in(site, test.dst))?;
     Num::refine(test.cond, test.width, test.taken, a, b)
+}
+
+/// Whether numbers between the bounds of both operands may answer so.
+pub(crate) fn may_answer(site: &Site, test: Test) -> bool
+    ensures { result ≡ may_answer (known site.now.slot site.now.kinds) test.cond test.width test.taken test.dst test.src }
+{
+    let Some(b) = operand_number(site, false, test.src) else {
+        return true;
+    };
+    let Some(a) = number_of(known_in(site, test.dst)) else {
+        return true;
+    };
+    Num::refine(test.cond, test.width, test.taken, a, b).is_some()
 }
 
 /// Whether an operand is a register.

@@ -16,8 +16,8 @@ use crate::numbers::{is_bounded, number_kind};
 use crate::rebased::by_address;
 use crate::site::Site;
 use crate::tame::is_tame;
-use crate::whole::{loaded, put_constant, spilled};
-use bpf_insn::{AluOp, Cond, Insn, Operand, Reg, Size, Width};
+use crate::whole::by_slot;
+use bpf_insn::{AluOp, Cond, Insn, Operand, Reg, Width};
 
 /// Whether two instructions are the same.
 pub fn same(a: Insn, b: Insn) -> bool
@@ -206,34 +206,7 @@ fn by_offsets(site: &Site) -> Option<Kind>
             return Some(Kind::Nothing);
         }
     }
-    if let Insn::Load {
-        size: Size::DW,
-        dst: _dst,
-        src,
-        off,
-    } = site.insn
-    {
-        return loaded(site, src, off);
-    }
-    if let Insn::Store {
-        size: Size::DW,
-        dst,
-        off,
-        src,
-    } = site.insn
-    {
-        return spilled(site, dst, off, src);
-    }
-    if let Insn::StoreImm {
-        size: Size::DW,
-        dst,
-        off,
-        imm,
-    } = site.insn
-    {
-        return put_constant(site, dst, off, imm);
-    }
-    None
+    by_slot(site)
 }
 
 /// What the instruction writes, if it does so, or if that is always the same.

@@ -58,8 +58,9 @@ fn matches<O: Code, N: Code>(
 }
 
 /// Whether the new program is shown to keep the meaning of the old one: on every context of so many bytes on which the old one ends with a
-/// number and comes to no slot more than `bounds.turns` times, the new one ends with that number. The notes, one for each slot of the old
-/// program that is kept, are looked at and not trusted. It takes one pass. Else it is told what fails first.
+/// number, comes to no slot more than `bounds.turns` times and leaves the lowest `bounds.untouched` bytes of each frame to r10, the new one ends
+/// with that number. The notes, one for each slot of the old program that is kept, are looked at and not trusted. It takes one pass. Else it
+/// is told what fails first.
 pub fn follows<O: Code, N: Code>(
     old: &O,
     new: &N,

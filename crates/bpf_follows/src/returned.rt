@@ -7,9 +7,12 @@ ghost use Rattle.bpf_insn.specs.declared.instruction.Insn.TheVariants.{Exit};
 ghost use Rattle.bpf_follows.specs.declared.notes.Kind.TheVariants.{Same};
 ghost use Rattle.bpf_follows.specs.Relation.{Gives, known, is_alone};
 ghost use Rattle.bpf_follows.specs.Returned.{is_call, led, given_back, back_of, back_at, called_back, KeepsBack, GivesBack};
-ghost use Rattle.bpf_follows.specs.Matching.{kinds_along};
+ghost use Rattle.bpf_follows.specs.Matching.{kinds_back, kinds_along};
 
-use crate::kinds::{gives, is_alone, is_call, is_same, kind_beyond, kind_in, known, place_at};
+use crate::frame::is_lowest;
+use crate::kinds::{
+    gives, held, is_alone, is_call, is_same, kind_beyond, kind_in, known, place_at,
+};
 use crate::notes::{Kind, Place};
 use crate::site::Site;
 use bpf_insn::{Insn, Reg, target};
@@ -62,15 +65,28 @@ fn called_back(notes: &[Option<Place>], slot: u32, insn: &Insn) -> Kind
 }
 
 /// What a place holds behind an instruction: behind a call r0 is what the function gives back.
-pub fn kind_along(notes: &[Option<Place>], site: &Site, taken: bool, r: u8) -> Kind
+fn kind_back(notes: &[Option<Place>], site: &Site, taken: bool, r: u8) -> Kind
     requires place { r < 75 }
     requires below { site.now.slot < max_slots }
-    ensures { result ≡ kinds_along notes.now site.now.slot taken site.now.insn site.now.moved (known site.now.slot site.now.kinds) r }
+    ensures { result ≡ kinds_back notes.now site.now.slot taken site.now.insn site.now.moved (known site.now.slot site.now.kinds) r }
 {
     if is_call(&site.insn) && r == 0 {
         called_back(notes, site.slot, &site.insn)
     } else {
         kind_beyond(is_alone(notes), site, taken, r)
+    }
+}
+
+/// The same, where stores by other registers than r10 leave so many of the lowest bytes of each frame alone.
+pub fn kind_along(notes: &[Option<Place>], untouched: u32, site: &Site, taken: bool, r: u8) -> Kind
+    requires place { r < 75 }
+    requires below { site.now.slot < max_slots }
+    ensures { result ≡ kinds_along notes.now untouched site.now.slot taken site.now.insn site.now.moved (known site.now.slot site.now.kinds) r }
+{
+    if is_lowest(untouched, &site.insn, r) {
+        held(&site.insn, known(site, r))
+    } else {
+        kind_back(notes, site, taken, r)
     }
 }
 

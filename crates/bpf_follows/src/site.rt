@@ -28,13 +28,15 @@ pub struct Range {
     pub most: i64,
 }
 
-/// In front of which old instruction extra ones stand, the bytes of a context, and which bytes are surely accessed: beside what each register
-/// holds there, and beside what the instruction writes.
+/// In front of which old instruction extra ones stand, the bytes of a context, whether that is a block, how many of the lowest of a frame are left to r10, and which
+/// bytes are surely accessed: beside what each register but r10 holds there, and beside what the instruction writes.
 #[derive(Clone, Copy)]
 pub struct Front {
     pub slot: u32,
     pub insn: Insn,
     pub length: u32,
+    pub padded: bool,
+    pub untouched: u32,
     pub spans: [Option<Span>; 11],
     pub behind: Option<Span>,
 }

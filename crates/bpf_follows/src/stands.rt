@@ -56,10 +56,10 @@ fn site_of<N: Code>(new: &N, place: &Place, front: Front) -> Result<Site, Fault>
 }
 
 /// Whether the next instruction, where it may follow, stands behind.
-fn falls(notes: &[Option<Place>], turns: u32, site: &Site) -> bool
+fn falls(notes: &[Option<Place>], bounds: Bounds, site: &Site) -> bool
     requires below { site.now.slot < max_slots }
     requires new_below { site.now.new_slot < max_slots }
-    ensures { IsTrue result ↔ Falls notes.now turns site.now }
+    ensures { IsTrue result ↔ Falls notes.now bounds site.now }
 {
     if !site.insn.goes_on() || !may_fall(site) {
         return true;
@@ -70,14 +70,14 @@ fn falls(notes: &[Option<Place>], turns: u32, site: &Site) -> bool
         new_slot: site.new_slot + count,
         taken: false,
     };
-    arrives(notes, turns, site, edge)
+    arrives(notes, bounds, site, edge)
 }
 
 /// Whether the new instruction leads where the notes say, if the old one leads to a slot.
-fn leads<N: Code>(new: &N, notes: &[Option<Place>], turns: u32, site: &Site) -> bool
+fn leads<N: Code>(new: &N, notes: &[Option<Place>], bounds: Bounds, site: &Site) -> bool
     requires below { site.now.slot < max_slots }
     requires new_below { site.now.new_slot < max_slots }
-    ensures { IsTrue result ↔ Leads notes.now (N.program new.now) turns site.now }
+    ensures { IsTrue result ↔ Leads notes.now (N.program new.now) bounds site.now }
 {
     let Some(slot) = led(site.slot, &site.insn) else {
         return true;
@@ -94,9 +94,9 @@ fn leads<N: Code>(new: &N, notes: &[Option<Place>], turns: u32, site: &Site) -> 
         taken: true,
     };
     if is_call(&site.insn) {
-        enters(new, notes, turns, all_called(site), edge)
+        enters(new, notes, bounds.turns, all_called(site), edge)
     } else {
-        arrives(notes, turns, site, edge)
+        arrives(notes, bounds, site, edge)
     }
 }
 
@@ -109,6 +109,8 @@ fn front_at<O: Code>(old: &O, bounds: Bounds, slot: u32, insn: Insn) -> Front
         slot,
         insn,
         length: bounds.length,
+        padded: bounds.padded,
+        untouched: bounds.untouched,
         spans: spans_ahead(old, slot),
         behind: span_behind(old, slot, &insn),
     }
@@ -142,10 +144,10 @@ pub fn stands_at<O: Code, N: Code>(
     if !gives_back(notes, bounds.turns, place, &site) {
         return Err(Fault::Next);
     }
-    if !falls(notes, bounds.turns, &site) {
+    if !falls(notes, bounds, &site) {
         return Err(Fault::Next);
     }
-    if !leads(new, notes, bounds.turns, &site) {
+    if !leads(new, notes, bounds, &site) {
         return Err(Fault::Target);
     }
     Ok(())

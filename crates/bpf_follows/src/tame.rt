@@ -2,9 +2,10 @@
 
 ghost use Rattle.std.specs.Prelude.{◌≡◌, ◌<◌, ◌+◌, ◌↔◌, ℕ, IsTrue, Some, true};
 ghost use Rattle.bpf_follows.specs.Relation.{known, is_alone};
-ghost use Rattle.bpf_follows.specs.Matching.{is_plain, AllPlain, whole_slot, IsTame, IsLone};
+ghost use Rattle.bpf_follows.specs.Matching.{is_plain, AllPlain, IsPlainAt, whole_slot, IsTame, IsLone};
 
 use crate::frame::{is_far, whole_slot};
+use crate::inner::misses;
 use crate::kinds::{REGISTERS, is_alone, is_call, known};
 use crate::notes::{Kind, PLACES, Place};
 use crate::site::Site;
@@ -31,6 +32,26 @@ fn all_plain(site: &Site) -> bool
     true
 }
 
+/// Whether that holds of a slot, if the instruction may go to it.
+fn is_plain_at(site: &Site, slot: u8) -> bool
+    requires { slot < 64 }
+    ensures { IsTrue result ↔ IsPlainAt (known site.now.slot site.now.kinds) site.now.insn slot }
+{
+    misses(site, slot) || is_plain(known(site, REGISTERS + slot))
+}
+
+/// Whether that holds of all slots to which the instruction may go.
+fn reached_plain(site: &Site) -> bool
+    ensures { IsTrue result ↔ ((k : ℕ) → k < 64 → IsPlainAt (known site.now.slot site.now.kinds) site.now.insn k) }
+{
+    for slot in 0..PLACES as u8 - REGISTERS {
+        if !is_plain_at(site, slot) {
+            return false;
+        }
+    }
+    true
+}
+
 /// Whether the slot that the instruction reads whole is so, if it reads one of its own frame.
 fn is_near_plain(site: &Site) -> bool
     ensures { IsTrue result ↔ ((k : ℕ) → whole_slot site.now.insn ≡ Some k → is_plain (known site.now.slot site.now.kinds (11 + k)) ≡ true) }
@@ -45,7 +66,7 @@ fn is_near_plain(site: &Site) -> bool
 pub fn is_tame(site: &Site) -> bool
     ensures { IsTrue result ↔ IsTame (known site.now.slot site.now.kinds) site.now.insn }
 {
-    if is_far(&site.insn) && !all_plain(site) {
+    if is_far(&site.insn) && !reached_plain(site) {
         return false;
     }
     is_near_plain(site)

@@ -2,7 +2,7 @@
 
 ghost use Rattle.std.specs.Prelude.{◌≡◌, ◌<◌};
 ghost use Rattle.bpf_follows.specs.Relation.{known};
-ghost use Rattle.bpf_follows.specs.Matching.{fills_slot, slot_kind, slot_whole, loaded, spilled, put_constant};
+ghost use Rattle.bpf_follows.specs.Matching.{fills_slot, slot_kind, slot_whole, loaded, spilled, put_constant, by_slot};
 
 use crate::areas::is_own;
 use crate::exact::exact_kind;
@@ -11,7 +11,7 @@ use crate::frame::{is_r10, slot_of};
 use crate::kinds::{known, known_in};
 use crate::notes::Kind;
 use crate::site::Site;
-use bpf_insn::{Reg, extended};
+use bpf_insn::{Insn, Reg, Size, extended};
 
 /// Whether a slot holds what is of this kind whole.
 fn fills_slot(kind: Kind) -> bool
@@ -46,7 +46,7 @@ fn slot_whole(site: &Site, slot: u32) -> Option<Kind>
 }
 
 /// The offset or number that is loaded from the frame.
-pub fn loaded(site: &Site, src: Reg, off: i16) -> Option<Kind>
+fn loaded(site: &Site, src: Reg, off: i16) -> Option<Kind>
     ensures { result ≡ loaded (known site.now.slot site.now.kinds) src off }
 {
     if !is_r10(src) || !is_same(known(site, 10)) {
@@ -57,7 +57,7 @@ pub fn loaded(site: &Site, src: Reg, off: i16) -> Option<Kind>
 }
 
 /// The offset or number that is stored to the frame.
-pub fn spilled(site: &Site, dst: Reg, off: i16, src: Reg) -> Option<Kind>
+fn spilled(site: &Site, dst: Reg, off: i16, src: Reg) -> Option<Kind>
     ensures { result ≡ spilled (known site.now.slot site.now.kinds) dst off src }
 {
     if !is_r10(dst) || !is_same(known(site, 10)) || !fills_slot(known_in(site, src)) {
@@ -68,7 +68,7 @@ pub fn spilled(site: &Site, dst: Reg, off: i16, src: Reg) -> Option<Kind>
 }
 
 /// What a slot holds behind a store of a constant.
-pub fn put_constant(site: &Site, dst: Reg, off: i16, imm: i32) -> Option<Kind>
+fn put_constant(site: &Site, dst: Reg, off: i16, imm: i32) -> Option<Kind>
     ensures { result ≡ put_constant (known site.now.slot site.now.kinds) dst off imm }
 {
     if !is_r10(dst) || !is_same(known(site, 10)) {
@@ -76,4 +76,38 @@ pub fn put_constant(site: &Site, dst: Reg, off: i16, imm: i32) -> Option<Kind>
     }
     let _slot = slot_of(off)?;
     exact_kind(extended(imm))
+}
+
+/// What the instruction puts into a whole slot of the frame, or takes out of it.
+pub fn by_slot(site: &Site) -> Option<Kind>
+    ensures { result ≡ by_slot (known site.now.slot site.now.kinds) site.now.insn }
+{
+    if let Insn::Load {
+        size: Size::DW,
+        dst: _dst,
+        src,
+        off,
+    } = site.insn
+    {
+        return loaded(site, src, off);
+    }
+    if let Insn::Store {
+        size: Size::DW,
+        dst,
+        off,
+        src,
+    } = site.insn
+    {
+        return spilled(site, dst, off, src);
+    }
+    if let Insn::StoreImm {
+        size: Size::DW,
+        dst,
+        off,
+        imm,
+    } = site.insn
+    {
+        return put_constant(site, dst, off, imm);
+    }
+    None
 }

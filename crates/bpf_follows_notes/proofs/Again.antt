@@ -1,102 +1,24 @@
 -- What is spelled is read again.
-use Rattle.std.proofs.Common.{◌≡◌, ℕ, zero, suc, ◌+◌, ◌*◌, ◌-◌, ◌/◌, ◌%◌, ◌^◌, ◌<◌, ◌≤◌, ◌⊎◌, inl, inr, Bool, true, false, eqb, List, [], ◌∷◌, ◌++◌, length, replicate, Option, Some, None, ℤ, pos, negsuc, refl, sym, ap, subst, ◌∙◌, append_assoc, append-nil, length-append, arith}
-use Rattle.std.specs.Prelude.{◌&&◌, codes, decimal, set, Result, Ok, Err}
+use Rattle.std.proofs.Common.{◌≡◌, ℕ, zero, suc, ◌+◌, ◌-◌, ◌^◌, ◌<◌, ◌≤◌, ◌⊎◌, inl, inr, List, [], ◌∷◌, ◌++◌, length, replicate, Option, Some, None, ℤ, refl, sym, ap, subst, ◌∙◌, append_assoc, append-nil, length-append, arith}
+use Rattle.std.specs.Prelude.{codes, decimal, set, Result, Ok, Err}
 use Rattle.std.specs.Fmt.{signed_decimal}
 use Rattle.std.specs.List.{AllByRecursion}
 use Rattle.std.proofs.Math.Seq.{set-append_seam}
-use Rattle.std.proofs.lemmas.Bool.{le-leb, lt-ltb, le-ltb}
-use Rattle.std.proofs.lemmas.Fmt.{decimal_by_steps}
+use Rattle.std.proofs.lemmas.Bool.{lt-ltb, le-ltb}
 use Rattle.bpf_insn.specs.Instruction.{register_number}
 use Rattle.bpf_insn.specs.Limits.{max_slots}
 use Rattle.bpf_insn.specs.declared.instruction.Reg.{Reg}
-use Rattle.bpf_insn.specs.declared.instruction.Reg.TheVariants.{R0, R1, R2, R3, R4, R5, R6, R7, R8, R9, R10}
 use Rattle.bpf_follows.specs.declared.notes.Area.{Area}
 use Rattle.bpf_follows.specs.declared.notes.Area.TheVariants.{Given, Own}
 use Rattle.bpf_follows.specs.declared.notes.Kind.{Kind}
-use Rattle.bpf_follows.specs.declared.notes.Kind.TheVariants.{Nothing, Unset, Same, Both, Number, Natural, Offset, Fixed, Within, Start, Base, Moved, Address, Saved, Constant, Counter, Turn, Alone, Returns}
+use Rattle.bpf_follows.specs.declared.notes.Kind.TheVariants.{Nothing, Unset, Same, Both, Number, Natural, Inner, Length, Sized, Ending, Offset, Fixed, Within, Start, Head, Base, Moved, Address, Saved, Constant, Counter, Turn, Alone, Returns}
 use Rattle.bpf_follows.specs.declared.notes.Place.{Place}
 use Rattle.bpf_follows_notes.specs.declared.error.NotesError.{NotesError}
 use Rattle.bpf_follows_notes.specs.declared.error.NotesError.TheVariants.{Form}
 use Rattle.bpf_follows_notes.specs.NotesText.{IntFits, KindFits, PlaceFits, NoteFits, entry_text, behind_text, bounds_text, area_text, held_text, kinds_text, place_text, note_text, note_line, note_lines}
-use Rattle.bpf_follows_notes.specs.code.Reading.{behind, is_digit, digits_in, number_in, minus_in, plus_in, int_in, register_at, word_in, value_in, bounds_in, behind_in, plain_in, numbered_in, offset_in, area_in, kind_in, entry_in, kinds_in, nothing_said, place_in, note_in, taken_at, with_front, lines_in, after_lines, saved_in}
+use Rattle.bpf_follows_notes.specs.code.Reading.{behind, number_in, word_in, value_in, bounds_in, behind_in, plain_in, numbered_in, offset_in, area_in, kind_in, entry_in, kinds_in, nothing_said, place_in, note_in, taken_at, with_front, lines_in, after_lines, saved_in}
 use Rattle.bpf_follows_notes.proofs.Spelled.{behind_word}
-
--- ---- numbers
-
-both : {a b : Bool} → a ≡ true → b ≡ true → (a && b) ≡ true
-both {a} {b} e f = rw (e, f) refl
-
-digit_is : (d : ℕ) → d < 10 → is_digit (48 + d) ≡ true
-digit_is d h = both (le-leb 48 (48 + d) (omega arith)) (le-leb (48 + d) 57 (omega arith))
-
--- one digit more
-next_digit : (n d : ℕ) (rest : List ℕ) → d < 10 → n * 10 + d < 2 ^ 32 → digits_in n ((48 + d) ∷ rest) ≡ digits_in (n * 10 + d) rest
-unfolding digits_in
-next_digit n d rest h small = let value : 48 + d - 48 ≡ d = omega arith in rw (digit_is d h, value, lt-ltb (n * 10 + d) (2 ^ 32) small) refl
-
-Digits : ℕ → List ℕ → Type 0
-Digits n ds = n < 2 ^ 32 → (rest : List ℕ) → digits_in 0 (ds ++ rest) ≡ digits_in n rest
-
-one_digit : (n : ℕ) → n < 10 → Digits n ((48 + n) ∷ [])
-unfolding Digits
-one_digit n h small rest = let value : 0 * 10 + n ≡ n = omega arith in next_digit 0 n rest h (omega arith) ∙ ap (λ m. digits_in m rest) value
-
-more_digits : (n : ℕ) (ds : List ℕ) → 10 ≤ n → Digits (n / 10) ds → Digits n (ds ++ ((48 + n % 10) ∷ []))
-unfolding Digits
-more_digits n ds large front small rest =
-    let value : n / 10 * 10 + n % 10 ≡ n = omega arith in
-    ap (digits_in 0) (append_assoc ds ((48 + n % 10) ∷ []) rest) ∙ front (omega arith) ((48 + n % 10) ∷ rest)
-    ∙ next_digit (n / 10) (n % 10) rest (omega arith) (omega arith) ∙ ap (λ m. digits_in m rest) value
-
-decimal_again : (n : ℕ) → n < 2 ^ 32 → (rest : List ℕ) → digits_in 0 (decimal n ++ rest) ≡ digits_in n rest
-unfolding Digits
-decimal_again n small rest = decimal_by_steps Digits one_digit more_digits n (omega arith) small rest
-
--- a byte that ends a number, and is no sign
-abbrev Ends : ℕ → Type 0
-Ends c = (is_digit c ≡ false) × (eqb c 45 ≡ false)
-
-digits_end : (n c : ℕ) (rest : List ℕ) → is_digit c ≡ false → digits_in n (c ∷ rest) ≡ Some (n, c ∷ rest)
-unfolding digits_in
-digits_end n c rest h = rw h refl
-
-digits_again : (n c : ℕ) (rest : List ℕ) → n < 2 ^ 32 → Ends c → digits_in 0 (decimal n ++ c ∷ rest) ≡ Some (n, c ∷ rest)
-digits_again n c rest small h = decimal_again n small (c ∷ rest) ∙ digits_end n c rest (h.0)
-
-pub number_again : (word : List ℕ) (n c : ℕ) (rest : List ℕ) → n < 2 ^ 32 → Ends c → number_in word (word ++ (decimal n ++ c ∷ rest)) ≡ Some (n, c ∷ rest)
-unfolding number_in
-number_again word n c rest small h = rw (behind_word word (word ++ (decimal n ++ c ∷ rest)) (decimal n ++ c ∷ rest) refl) (digits_again n c rest small h)
-
-int_again : (z : ℤ) (c : ℕ) (rest : List ℕ) → IntFits z → Ends c → int_in (signed_decimal z ++ c ∷ rest) ≡ Some (z, c ∷ rest)
-unfolding int_in behind plus_in minus_in
-int_again (pos n) c rest small h = rw (digits_again n c rest (omega arith) h, h.1, lt-ltb n (2 ^ 31) small) refl
-int_again (negsuc n) c rest small h = rw (digits_end 0 45 (decimal (suc n) ++ c ∷ rest) refl, digits_again (suc n) c rest (omega arith) h, le-leb (suc n) (2 ^ 31) (omega arith)) refl
-
-register_again : (r : Reg) → register_at (register_number r) ≡ Some r
-register_again R0 = refl
-register_again R1 = refl
-register_again R2 = refl
-register_again R3 = refl
-register_again R4 = refl
-register_again R5 = refl
-register_again R6 = refl
-register_again R7 = refl
-register_again R8 = refl
-register_again R9 = refl
-register_again R10 = refl
-
-register_small : (r : Reg) → register_number r < 11
-register_small R0 = omega arith
-register_small R1 = omega arith
-register_small R2 = omega arith
-register_small R3 = omega arith
-register_small R4 = omega arith
-register_small R5 = omega arith
-register_small R6 = omega arith
-register_small R7 = omega arith
-register_small R8 = omega arith
-register_small R9 = omega arith
-register_small R10 = omega arith
+use Rattle.bpf_follows_notes.proofs.Decimals.{Ends, digits_again, number_again, int_again, register_again, register_small}
 
 -- ---- kinds
 
@@ -114,9 +36,9 @@ unset_again : (c : ℕ) (rest : List ℕ) → kind_in (codes "unset" ++ c ∷ re
 unfolding kind_in plain_in word_in behind
 unset_again c rest = refl
 
-natural_again : (c : ℕ) (rest : List ℕ) → kind_in (codes "natural" ++ c ∷ rest) ≡ Some (Natural, c ∷ rest)
+head_again : (c : ℕ) (rest : List ℕ) → kind_in (codes "head" ++ c ∷ rest) ≡ Some (Head, c ∷ rest)
 unfolding kind_in plain_in word_in behind
-natural_again c rest = refl
+head_again c rest = refl
 
 offset_again : (area : Area) (c : ℕ) (rest : List ℕ) → kind_in ((area_text area ++ codes "offset") ++ c ∷ rest) ≡ Some (Offset area, c ∷ rest)
 unfolding kind_in plain_in word_in numbered_in value_in bounds_in number_in saved_in area_in offset_in behind
@@ -178,10 +100,18 @@ no_returns_there : (text : List ℕ) → bounds_in (codes "returns:") (102 ∷ t
 unfolding bounds_in number_in behind
 no_returns_there text = refl
 
+no_inner : (text : List ℕ) → bounds_in (codes "inner:") (119 ∷ text) ≡ None
+unfolding bounds_in number_in behind
+no_inner text = refl
+
+no_inner_there : (text : List ℕ) → bounds_in (codes "inner:") (102 ∷ text) ≡ None
+unfolding bounds_in number_in behind
+no_inner_there text = refl
+
 within_again : (area : Area) (least most : ℕ) → least < 2 ^ 32 → most < 2 ^ 32 → (c : ℕ) (rest : List ℕ) → Ends c → kind_in ((area_text area ++ (codes "within:" ++ bounds_text least most)) ++ c ∷ rest) ≡ Some (Within area least most, c ∷ rest)
 unfolding kind_in plain_in word_in numbered_in value_in number_in saved_in area_in offset_in behind
-within_again Given least most low high c rest h = rw (no_number (codes "ithin:" ++ (bounds_text least most ++ c ∷ rest)), no_returns (codes "ithin:" ++ (bounds_text least most ++ c ∷ rest)), both_again (codes "within:") least most low high c rest h) refl
-within_again Own least most low high c rest h = rw (no_number_there (codes "rame:within:" ++ (bounds_text least most ++ c ∷ rest)), no_returns_there (codes "rame:within:" ++ (bounds_text least most ++ c ∷ rest)), both_again (codes "within:") least most low high c rest h) refl
+within_again Given least most low high c rest h = rw (no_number (codes "ithin:" ++ (bounds_text least most ++ c ∷ rest)), no_returns (codes "ithin:" ++ (bounds_text least most ++ c ∷ rest)), no_inner (codes "ithin:" ++ (bounds_text least most ++ c ∷ rest)), both_again (codes "within:") least most low high c rest h) refl
+within_again Own least most low high c rest h = rw (no_number_there (codes "rame:within:" ++ (bounds_text least most ++ c ∷ rest)), no_returns_there (codes "rame:within:" ++ (bounds_text least most ++ c ∷ rest)), no_inner_there (codes "rame:within:" ++ (bounds_text least most ++ c ∷ rest)), both_again (codes "within:") least most low high c rest h) refl
 
 -- no other such word stands there
 no_number_then : (text : List ℕ) → bounds_in (codes "number:") (114 ∷ text) ≡ None
@@ -196,6 +126,23 @@ returns_again least most low high c rest h =
       both_again (codes "returns:") least most low high c rest h,
     ) refl
 
+no_number_here : (text : List ℕ) → bounds_in (codes "number:") (105 ∷ text) ≡ None
+unfolding bounds_in number_in behind
+no_number_here text = refl
+
+no_returns_here : (text : List ℕ) → bounds_in (codes "returns:") (105 ∷ text) ≡ None
+unfolding bounds_in number_in behind
+no_returns_here text = refl
+
+inner_again : (least most : ℕ) → least < 2 ^ 32 → most < 2 ^ 32 → (c : ℕ) (rest : List ℕ) → Ends c → kind_in ((codes "inner:" ++ bounds_text least most) ++ c ∷ rest) ≡ Some (Inner least most, c ∷ rest)
+unfolding kind_in plain_in word_in numbered_in value_in number_in behind
+inner_again least most low high c rest h =
+    rw (
+      no_number_here (codes "nner:" ++ (bounds_text least most ++ c ∷ rest)),
+      no_returns_here (codes "nner:" ++ (bounds_text least most ++ c ∷ rest)),
+      both_again (codes "inner:") least most low high c rest h,
+    ) refl
+
 turns_again : (head : ℕ) → head < 2 ^ 32 → (c : ℕ) (rest : List ℕ) → Ends c → kind_in ((codes "turns:" ++ decimal head) ++ c ∷ rest) ≡ Some (Counter head, c ∷ rest)
 unfolding kind_in plain_in word_in numbered_in value_in bounds_in number_in behind
 turns_again head fits c rest h = rw (digits_again head c rest fits h) refl
@@ -203,6 +150,22 @@ turns_again head fits c rest h = rw (digits_again head c rest fits h) refl
 turn_again : (head : ℕ) → head < 2 ^ 32 → (c : ℕ) (rest : List ℕ) → Ends c → kind_in ((codes "turn:" ++ decimal head) ++ c ∷ rest) ≡ Some (Turn head, c ∷ rest)
 unfolding kind_in plain_in word_in numbered_in value_in bounds_in number_in behind
 turn_again head fits c rest h = rw (digits_again head c rest fits h) refl
+
+natural_again : (half : ℕ) → half < 2 ^ 32 → (c : ℕ) (rest : List ℕ) → Ends c → kind_in ((codes "natural:" ++ decimal half) ++ c ∷ rest) ≡ Some (Natural half, c ∷ rest)
+unfolding kind_in plain_in word_in numbered_in value_in bounds_in number_in behind
+natural_again half fits c rest h = rw (digits_again half c rest fits h) refl
+
+length_again : (most : ℕ) → most < 2 ^ 32 → (c : ℕ) (rest : List ℕ) → Ends c → kind_in ((codes "length:" ++ decimal most) ++ c ∷ rest) ≡ Some (Length most, c ∷ rest)
+unfolding kind_in plain_in word_in numbered_in value_in bounds_in number_in behind
+length_again most fits c rest h = rw (digits_again most c rest fits h) refl
+
+sized_again : (most : ℕ) → most < 2 ^ 32 → (c : ℕ) (rest : List ℕ) → Ends c → kind_in ((codes "sized:" ++ decimal most) ++ c ∷ rest) ≡ Some (Sized most, c ∷ rest)
+unfolding kind_in plain_in word_in numbered_in value_in bounds_in number_in behind
+sized_again most fits c rest h = rw (digits_again most c rest fits h) refl
+
+ending_again : (by : ℕ) → by < 2 ^ 32 → (c : ℕ) (rest : List ℕ) → Ends c → kind_in ((codes "ending:" ++ decimal by) ++ c ∷ rest) ≡ Some (Ending by, c ∷ rest)
+unfolding kind_in plain_in word_in numbered_in value_in bounds_in number_in behind
+ending_again by fits c rest h = rw (digits_again by c rest fits h) refl
 
 saved_again : (of : Reg) (c : ℕ) (rest : List ℕ) → Ends c → kind_in ((codes "saved:r" ++ decimal (register_number of)) ++ c ∷ rest) ≡ Some (Saved of, c ∷ rest)
 unfolding kind_in plain_in word_in numbered_in value_in bounds_in number_in saved_in behind
@@ -240,7 +203,12 @@ held_is r Unset fits = inr (record { word = codes "unset"; text = refl; again = 
 held_is r Same fits = inr (record { word = codes "same"; text = refl; again = λ c rest h. same_again c rest })
 held_is r Both fits = inr (record { word = codes "both"; text = refl; again = λ c rest h. both_word_again c rest })
 held_is r (Number least most) fits = inr (record { word = codes "number:" ++ bounds_text least most; text = refl; again = bounds_again least most fits.0 fits.1 })
-held_is r Natural fits = inr (record { word = codes "natural"; text = refl; again = λ c rest h. natural_again c rest })
+held_is r (Inner least most) fits = inr (record { word = codes "inner:" ++ bounds_text least most; text = refl; again = inner_again least most fits.0 fits.1 })
+held_is r (Natural half) fits = inr (record { word = codes "natural:" ++ decimal half; text = refl; again = natural_again half fits })
+held_is r (Length most) fits = inr (record { word = codes "length:" ++ decimal most; text = refl; again = length_again most fits })
+held_is r (Sized most) fits = inr (record { word = codes "sized:" ++ decimal most; text = refl; again = sized_again most fits })
+held_is r (Ending by) fits = inr (record { word = codes "ending:" ++ decimal by; text = refl; again = ending_again by fits })
+held_is r Head fits = inr (record { word = codes "head"; text = refl; again = λ c rest h. head_again c rest })
 held_is r (Offset area) fits = inr (record { word = area_text area ++ codes "offset"; text = refl; again = λ c rest h. offset_again area c rest })
 held_is r (Fixed area offset) fits = inr (record { word = area_text area ++ (codes "fixed:" ++ signed_decimal offset); text = refl; again = fixed_again area offset fits })
 held_is r (Within area least most) fits = inr (record { word = area_text area ++ (codes "within:" ++ bounds_text least most); text = refl; again = within_again area least most fits.0 fits.1 })

@@ -1,4 +1,5 @@
 pub mod Spelled
+pub mod Decimals
 pub mod Again
 pub mod Found
 pub mod Whole

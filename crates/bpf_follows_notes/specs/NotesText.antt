@@ -8,7 +8,7 @@ use Rattle.bpf_insn.specs.declared.instruction.Reg.{Reg}
 use Rattle.bpf_follows.specs.declared.notes.Area.{Area}
 use Rattle.bpf_follows.specs.declared.notes.Area.TheVariants.{Given, Own}
 use Rattle.bpf_follows.specs.declared.notes.Kind.{Kind}
-use Rattle.bpf_follows.specs.declared.notes.Kind.TheVariants.{Nothing, Unset, Same, Both, Number, Natural, Offset, Fixed, Within, Start, Base, Moved, Address, Saved, Constant, Counter, Turn, Alone, Returns}
+use Rattle.bpf_follows.specs.declared.notes.Kind.TheVariants.{Nothing, Unset, Same, Both, Number, Natural, Inner, Length, Sized, Ending, Offset, Fixed, Within, Start, Head, Base, Moved, Address, Saved, Constant, Counter, Turn, Alone, Returns}
 use Rattle.bpf_follows.specs.declared.notes.Place.{Place}
 
 -- ---- what has a text
@@ -25,11 +25,16 @@ KindFits Unset = Unit {0}
 KindFits Same = Unit {0}
 KindFits Both = Unit {0}
 KindFits (Number least most) = (least < 2 ^ 32) × (most < 2 ^ 32)
-KindFits Natural = Unit {0}
+KindFits (Natural half) = half < 2 ^ 32
+KindFits (Inner least most) = (least < 2 ^ 32) × (most < 2 ^ 32)
+KindFits (Length most) = most < 2 ^ 32
+KindFits (Sized most) = most < 2 ^ 32
+KindFits (Ending by) = by < 2 ^ 32
 KindFits (Offset area) = Unit {0}
 KindFits (Fixed area offset) = IntFits offset
 KindFits (Within area least most) = (least < 2 ^ 32) × (most < 2 ^ 32)
 KindFits Start = Unit {0}
+KindFits Head = Unit {0}
 KindFits Base = Unit {0}
 KindFits (Moved area of by) = IntFits by
 KindFits (Address area of by) = IntFits by
@@ -81,11 +86,16 @@ held_text r Unset = entry_text r (codes "unset")
 held_text r Same = entry_text r (codes "same")
 held_text r Both = entry_text r (codes "both")
 held_text r (Number least most) = entry_text r (codes "number:" ++ bounds_text least most)
-held_text r Natural = entry_text r (codes "natural")
+held_text r (Natural half) = entry_text r (codes "natural:" ++ decimal half)
+held_text r (Inner least most) = entry_text r (codes "inner:" ++ bounds_text least most)
+held_text r (Length most) = entry_text r (codes "length:" ++ decimal most)
+held_text r (Sized most) = entry_text r (codes "sized:" ++ decimal most)
+held_text r (Ending by) = entry_text r (codes "ending:" ++ decimal by)
 held_text r (Offset area) = entry_text r (area_text area ++ codes "offset")
 held_text r (Fixed area offset) = entry_text r (area_text area ++ (codes "fixed:" ++ signed_decimal offset))
 held_text r (Within area least most) = entry_text r (area_text area ++ (codes "within:" ++ bounds_text least most))
 held_text r Start = entry_text r (codes "start")
+held_text r Head = entry_text r (codes "head")
 held_text r Base = entry_text r (codes "base")
 held_text r (Moved area of by) = entry_text r (area_text area ++ (codes "moved:r" ++ behind_text of by))
 held_text r (Address area of by) = entry_text r (area_text area ++ (codes "address:r" ++ behind_text of by))

@@ -43,11 +43,11 @@ fn plain_in(text: &[u8]) -> Option<(Kind, &[u8])>
     if let Some(rest) = behind(text, b"unset") {
         return Some((Kind::Unset, rest));
     }
-    if let Some(rest) = behind(text, b"natural") {
-        return Some((Kind::Natural, rest));
-    }
     if let Some(rest) = behind(text, b"start") {
         return Some((Kind::Start, rest));
+    }
+    if let Some(rest) = behind(text, b"head") {
+        return Some((Kind::Head, rest));
     }
     if let Some(rest) = behind(text, b"base") {
         return Some((Kind::Base, rest));
@@ -117,8 +117,23 @@ fn numbered_in(text: &[u8]) -> Option<(Kind, &[u8])>
     if let Some((head, rest)) = number_in(text, b"turn:") {
         return Some((Kind::Turn { head }, rest));
     }
+    if let Some((half, rest)) = number_in(text, b"natural:") {
+        return Some((Kind::Natural { half }, rest));
+    }
+    if let Some((most, rest)) = number_in(text, b"length:") {
+        return Some((Kind::Length { most }, rest));
+    }
+    if let Some((most, rest)) = number_in(text, b"sized:") {
+        return Some((Kind::Sized { most }, rest));
+    }
+    if let Some((by, rest)) = number_in(text, b"ending:") {
+        return Some((Kind::Ending { by }, rest));
+    }
     if let Some((least, most, rest)) = bounds_in(text, b"returns:") {
         return Some((Kind::Returns { least, most }, rest));
+    }
+    if let Some((least, most, rest)) = bounds_in(text, b"inner:") {
+        return Some((Kind::Inner { least, most }, rest));
     }
     saved_in(text)
 }

@@ -125,34 +125,19 @@ fn put_named(
     put_number(text, word, u32::from(of as u8))
 }
 
-/// Puts a register that holds another one's offset, moved.
+/// Puts a register, what an offset is counted in, a word, the register whose offset it is, and by how much it is moved.
 #[tactic(auto, using(crate::proofs::Spelled::texts), unfolding(crate::specs::NotesText::entry_text))]
-fn put_moved(
+fn put_behind(
     text: &mut Vec<u8>,
     register: u8,
     area: Area,
-    of: Reg,
-    by: i32,
+    word: &[u8],
+    behind: (Reg, i32),
 ) -> Result<(), AllocError>
-    ensures { OnOk result (text.new.items ≡ text.old.items ++ entry_text register (area_text area ++ (codes "moved:r" ++ behind_text of by))) }
+    ensures { OnOk result (text.new.items ≡ text.old.items ++ entry_text register (area_text area ++ (word.now ++ behind_text behind.0 behind.1))) }
 {
-    put_named(text, register, area, b"moved:r", of)?;
-    put_number(text, b":", by)
-}
-
-/// Puts a register that holds the pointer there.
-#[tactic(auto, using(crate::proofs::Spelled::texts), unfolding(crate::specs::NotesText::entry_text))]
-fn put_address(
-    text: &mut Vec<u8>,
-    register: u8,
-    area: Area,
-    of: Reg,
-    by: i32,
-) -> Result<(), AllocError>
-    ensures { OnOk result (text.new.items ≡ text.old.items ++ entry_text register (area_text area ++ (codes "address:r" ++ behind_text of by))) }
-{
-    put_named(text, register, area, b"address:r", of)?;
-    put_number(text, b":", by)
+    put_named(text, register, area, word, behind.0)?;
+    put_number(text, b":", behind.1)
 }
 
 /// Puts what a register holds, if that is something.
@@ -166,7 +151,12 @@ fn put_held(text: &mut Vec<u8>, register: u8, kind: Kind) -> Result<(), AllocErr
         Kind::Same => put_entry(text, register, b"same"),
         Kind::Both => put_entry(text, register, b"both"),
         Kind::Number { least, most } => put_bounds(text, register, b"number:", least, most),
-        Kind::Natural => put_entry(text, register, b"natural"),
+        Kind::Natural { half } => put_head(text, register, b"natural:", half),
+        Kind::Inner { least, most } => put_bounds(text, register, b"inner:", least, most),
+        Kind::Length { most } => put_head(text, register, b"length:", most),
+        Kind::Sized { most } => put_head(text, register, b"sized:", most),
+        Kind::Ending { by } => put_head(text, register, b"ending:", by),
+        Kind::Head => put_entry(text, register, b"head"),
         Kind::Start => put_entry(text, register, b"start"),
         Kind::Base => put_entry(text, register, b"base"),
         Kind::Saved { of } => put_head(text, register, b"saved:r", u32::from(of as u8)),
@@ -178,8 +168,8 @@ fn put_held(text: &mut Vec<u8>, register: u8, kind: Kind) -> Result<(), AllocErr
         Kind::Offset { area } => put_offset(text, register, area),
         Kind::Fixed { area, offset } => put_fixed(text, register, area, offset),
         Kind::Within { area, least, most } => put_within(text, register, area, least, most),
-        Kind::Moved { area, of, by } => put_moved(text, register, area, of, by),
-        Kind::Address { area, of, by } => put_address(text, register, area, of, by),
+        Kind::Moved { area, of, by } => put_behind(text, register, area, b"moved:r", (of, by)),
+        Kind::Address { area, of, by } => put_behind(text, register, area, b"address:r", (of, by)),
     }
 }
 

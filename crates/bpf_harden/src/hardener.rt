@@ -10,31 +10,23 @@ use crate::rounds::{certified, guard_all, guarded_everywhere};
 use bpf_harden_notes::{HardenError, Hardened, Options};
 use bpf_harden_plan::{Old, Plan};
 use bpf_infer::infer;
-use bpf_infer_base::{DEEP_WORK, Meter, Quest, Unwatched, Watch};
+use bpf_infer_base::{DEEP_WORK, Meter, Quest, Task, Unwatched, Watch};
 use bpf_insn::{Code, Program};
 use std::alloc::{AllocError, Global};
 
 /// The same program once more.
 fn copy_of(alloc: Global, program: &Program) -> Result<Program, HardenError> {
-    let mut list = Vec::new(alloc);
-    for slot in 0..Code::slots(program) {
-        if let Some(insn) = program.at(slot) {
-            list.push(*insn)?;
-        }
-    }
-    match Program::new(alloc, list, program.order()) {
-        Ok(copy) => Ok(copy),
-        Err(_) => Err(HardenError::Memory),
-    }
+    let insn_at = |slot| program.at(slot).copied();
+    let list = (0..Code::slots(program))
+        .filter_map(insn_at)
+        .collect(alloc)?;
+    Program::new(alloc, list, program.order()).map_err(|_error| HardenError::Memory)
 }
 
 /// By slots, where an instruction begins.
 fn slots_of(alloc: Global, program: &Program) -> Result<Vec<Option<u32>>, AllocError> {
-    let mut slots = Vec::new(alloc);
-    for slot in 0..program.slots() {
-        slots.push(program.at(slot).map(|_| slot))?;
-    }
-    Ok(slots)
+    let begins_at = |slot| program.at(slot).map(|_insn| slot);
+    (0..program.slots()).map(begins_at).collect(alloc)
 }
 
 /// A program that comes out as it is.
@@ -64,7 +56,7 @@ fn is_certified<W: Watch>(
     requires { quest.least ≤ quest.most }
 {
     let draft = old.survey.draft.take();
-    let verdict = verdict_of(alloc, quest, &old.cfg, draft, meter)?;
+    let verdict = verdict_of(Task::whole(alloc, quest, &old.cfg), draft, meter)?;
     Ok(matches!(verdict, Verdict::Yes))
 }
 

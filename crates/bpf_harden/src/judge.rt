@@ -6,7 +6,7 @@ use bpf_cert::{Certificate, Function};
 use bpf_harden_notes::HardenError;
 use bpf_harden_plan::{Old, Plan, Rooms, refusal};
 use bpf_harden_text::{Draft, emitted};
-use bpf_infer_base::{Cfg, Meter, Quest, Watch};
+use bpf_infer_base::{Cfg, Meter, Quest, Task, Watch};
 use bpf_infer_budgets::{ranked, uncounted};
 use bpf_infer_error::InferError;
 use bpf_infer_states::{Survey, surveyed};
@@ -36,27 +36,22 @@ pub struct Trial {
 
 /// What the loops of a draft come to.
 pub fn verdict_of<W: Watch>(
-    alloc: Global,
-    quest: Quest<'_>,
-    cfg: &Cfg,
+    task: Task,
     draft: Option<Vec<Function>>,
     meter: &mut Meter<'_, W>,
 ) -> Result<Verdict, HardenError>
-    requires { quest.least ≤ quest.most }
+    requires { task.least ≤ task.most }
 {
     let Some(functions) = draft else {
         return Ok(Verdict::Faults);
     };
-    let loops = match uncounted(alloc, quest, cfg, &functions, meter) {
-        Ok(loops) => loops,
-        Err(error) => return Err(refusal(error)),
-    };
+    let loops = uncounted(task, &functions, meter).map_err(refusal)?;
     if !loops.is_empty() {
         return Ok(Verdict::Uncounted(loops));
     }
-    match ranked(alloc, quest, cfg, functions, meter) {
+    match ranked(task, functions, meter) {
         Ok(found) => {
-            match Certificate::new(2, quest.least, quest.most, found.steps, found.functions) {
+            match Certificate::new(2, task.least, task.most, found.steps, found.functions) {
                 Ok(_) => Ok(Verdict::Yes),
                 Err(_) => Ok(Verdict::TooGreat),
             }
@@ -83,16 +78,10 @@ impl Trial {
             least: plan.length,
             most: plan.length,
         };
-        let cfg = match Cfg::of(alloc, quest.program) {
-            Ok(cfg) => cfg,
-            Err(error) => return Err(refusal(error)),
-        };
-        let mut survey = match surveyed(alloc, quest, &cfg, meter) {
-            Ok(survey) => survey,
-            Err(error) => return Err(refusal(error)),
-        };
-        let functions = survey.draft.take();
-        let verdict = verdict_of(alloc, quest, &cfg, functions, meter)?;
+        let cfg = Cfg::of(alloc, quest.program).map_err(refusal)?;
+        let task = Task::whole(alloc, quest, &cfg);
+        let mut survey = surveyed(task, meter).map_err(refusal)?;
+        let verdict = verdict_of(task, survey.draft.take(), meter)?;
         Ok(Trial {
             draft,
             rooms,

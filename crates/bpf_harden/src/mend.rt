@@ -58,14 +58,8 @@ impl<'a> Mender<'a> {
 
     /// Whether some fault asks for pointers of a kind as offsets.
     fn is_asked_for(&self, kind: Kind) -> bool {
-        for new in 0..self.trial.draft.program.slots() {
-            if let Some(flaw) = self.flaw(new) {
-                if self.asks_for(&flaw, kind) {
-                    return true;
-                }
-            }
-        }
-        false
+        let mut flaws = (0..self.trial.draft.program.slots()).filter_map(|new| self.flaw(new));
+        flaws.any(|flaw| self.asks_for(&flaw, kind))
     }
 
     /// Changes the plan so that faults may go away. Whether something was changed.
@@ -160,10 +154,9 @@ impl<'a> Mender<'a> {
 
     /// Whether the instruction at a slot writes a register.
     fn writes(&self, slot: u32, r: Reg) -> bool {
-        match self.old.kept(slot) {
-            Some(insn) => insn.register_written() == Some(r),
-            None => true,
-        }
+        self.old
+            .kept(slot)
+            .is_none_or(|insn| insn.register_written() == Some(r))
     }
 
     /// Whether a register may hold an offset before its region that a displacement leads back into it.
@@ -179,10 +172,8 @@ impl<'a> Mender<'a> {
 
     /// What is known of a register in front of what stands in the place of an old instruction.
     pub fn held(&self, slot: u32, r: Reg) -> RegState {
-        match self.trial.draft.start(slot) {
-            Some(new) => self.trial.survey.register(new, r),
-            None => RegState::Any,
-        }
+        let start = self.trial.draft.start(slot);
+        start.map_or(RegState::Any, |new| self.trial.survey.register(new, r))
     }
 
     /// Takes note of the offsets that are always the same. Whether one is new.

@@ -45,21 +45,12 @@ pub fn recorded(
     rooms: &Rooms,
     draft: Draft,
 ) -> Result<Hardened, HardenError> {
-    let mut functions = Vec::new(alloc);
-    for function in 0..old.count() {
-        if let Some(note) = function_note(old, rooms, &draft, function) {
-            functions.push(note)?;
-        }
-    }
+    let note_of = |function| function_note(old, rooms, &draft, function);
+    let functions = (0..old.count()).filter_map(note_of).collect(alloc)?;
     let notes = notes_of(alloc, &draft)?;
-    let Draft {
-        program,
-        starts,
-        ..
-    } = draft;
     Ok(Hardened {
-        program,
-        slots: starts,
+        program: draft.program,
+        slots: draft.starts,
         functions,
         notes,
     })

@@ -46,10 +46,8 @@ impl<'a> Rounds<'a> {
 
     /// Mends all faults.
     fn mend(&mut self, trial: &Trial) -> Result<bool, HardenError> {
-        let mender = Mender {
-            old: self.old,
-            trial,
-        };
+        let old = self.old;
+        let mender = Mender { old, trial };
         let is_dead = trial.survey.lowest_fault().is_none();
         if mender.mend(&mut self.plan) || is_dead && mender.leave_out(&mut self.plan) {
             Ok(true)
@@ -104,12 +102,10 @@ impl<'a> Rounds<'a> {
 
     /// The refusal of the first loop that isn't counted though it has a counter of turns.
     fn without_counter(&self, trial: &Trial, loops: &[u32]) -> HardenError {
-        match loops.first() {
-            Some(label) => HardenError::NoBudget {
-                slot: trial.draft.owner(*label).old,
-            },
-            None => HardenError::NoBudget { slot: 0 },
-        }
+        let slot = loops
+            .first()
+            .map_or(0, |label| trial.draft.owner(*label).old);
+        HardenError::NoBudget { slot }
     }
 
     /// The first text that has a certificate.
@@ -126,10 +122,8 @@ impl<'a> Rounds<'a> {
 
     /// Takes the tests away that never hold, and folds offsets that are always the same. Whether there was something.
     fn trim(&mut self, trial: &Trial) -> bool {
-        let mender = Mender {
-            old: self.old,
-            trial,
-        };
+        let old = self.old;
+        let mender = Mender { old, trial };
         let is_slimmer = slim(&mut self.plan, trial);
         mender.fold(&mut self.plan) || is_slimmer
     }
@@ -152,11 +146,10 @@ impl<'a> Rounds<'a> {
 
 /// The old slots that labels of the new text belong to.
 fn old_slots(alloc: Global, trial: &Trial, labels: &[u32]) -> Result<Vec<u32>, AllocError> {
-    let mut slots = Vec::with_capacity(alloc, labels.len())?;
-    for label in labels {
-        slots.push(trial.draft.owner(*label).old)?;
-    }
-    Ok(slots)
+    labels
+        .iter()
+        .map(|label| trial.draft.owner(*label).old)
+        .collect(alloc)
 }
 
 /// A program rewritten under a plan until it has a certificate.

@@ -4,7 +4,7 @@
 use crate::judge::Trial;
 use bpf_harden_notes::Change;
 use bpf_harden_plan::{Guard, Plan};
-use bpf_insn::{Cond, Insn, Operand, Reg};
+use bpf_insn::{Cond, Insn, Operand};
 
 /// The bounds of what is compared with.
 fn bounds(trial: &Trial, new: u32, src: Operand) -> (u64, u64) {
@@ -13,15 +13,7 @@ fn bounds(trial: &Trial, new: u32, src: Operand) -> (u64, u64) {
             let number = i64::from(imm).cast_unsigned();
             (number, number)
         }
-        Operand::Reg(r) => register_bounds(trial, new, r),
-    }
-}
-
-/// The bounds of a register.
-fn register_bounds(trial: &Trial, new: u32, r: Reg) -> (u64, u64) {
-    match trial.survey.register(new, r).number() {
-        Some(number) => (number.unsigned().lo(), number.unsigned().hi()),
-        None => (u64::MIN, u64::MAX),
+        Operand::Reg(r) => trial.survey.bounds(new, r).unwrap_or((u64::MIN, u64::MAX)),
     }
 }
 
@@ -42,7 +34,7 @@ fn without(trial: &Trial, new: u32, guard: Guard) -> Guard {
         return guard;
     };
     let (cond, dst, src) = (*cond, *dst, *src);
-    let held = register_bounds(trial, new, dst);
+    let held = bounds(trial, new, Operand::Reg(dst));
     let limit = bounds(trial, new, src);
     match cond {
         Cond::Gt if held.1 <= limit.0 => Guard {

@@ -82,10 +82,6 @@ impl<'a> Sums<'a> {
         else {
             return None;
         };
-        if dst == self.base && added != dst {
-            Some(added)
-        } else {
-            None
-        }
+        (dst == self.base && added != dst).then_some(added)
     }
 }

@@ -3,20 +3,14 @@
 use bpf_harden_plan::{Old, Plan};
 use bpf_harden_text::Draft;
 use bpf_infer_states::Survey;
-use bpf_insn::{AluOp, Insn, Operand, Reg, Width};
-
-/// The bounds of a register in front of an old instruction, if it holds a number.
-fn bounds(survey: &Survey, new: u32, r: Reg) -> Option<(u64, u64)> {
-    let number = survey.register(new, r).number()?;
-    Some((number.unsigned().lo(), number.unsigned().hi()))
-}
+use bpf_insn::{AluOp, Insn, Operand, Width};
 
 /// The bounds of a second operand, as a signed distance.
 fn operand_bounds(survey: &Survey, new: u32, src: Operand) -> Option<(i128, i128)> {
     match src {
         Operand::Imm(imm) => Some((i128::from(imm), i128::from(imm))),
         Operand::Reg(r) => {
-            let (lo, hi) = bounds(survey, new, r)?;
+            let (lo, hi) = survey.bounds(new, r)?;
             Some((i128::from(lo), i128::from(hi)))
         }
     }
@@ -44,10 +38,9 @@ fn can_widen(survey: &Survey, new: u32, insn: &Insn) -> bool {
     if op == AluOp::Mov {
         return is_low(low, high);
     }
-    let Some((lo, hi)) = bounds(survey, new, dst) else {
+    let Some((lo, hi)) = operand_bounds(survey, new, Operand::Reg(dst)) else {
         return false;
     };
-    let (lo, hi) = (i128::from(lo), i128::from(hi));
     let is_from_low = is_low(lo, hi);
     match op {
         AluOp::Add => { is_from_low && is_low(lo.saturating_add(low), hi.saturating_add(high)) }

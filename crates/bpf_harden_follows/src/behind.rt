@@ -1,6 +1,7 @@
 //! What registers hold behind an old instruction and what stands for it.
 
 use crate::facts::{Facts, REGISTERS, offset_area, offset_bounds, slot_at};
+use bpf_follows::inner::misses;
 use bpf_follows::numbers::{number_kind, told};
 use bpf_follows::site::Site;
 use bpf_follows::{Area, Kind, by_exact};
@@ -137,19 +138,25 @@ fn touches(access: Access, slot: u8) -> bool {
     first < low.saturating_add(8) && low < end
 }
 
-/// Whether the instruction writes to a slot, or may do so.
-fn writes(insn: &Insn, slot: u8) -> bool {
-    let Some(access) = insn.access() else {
+/// Whether the instruction writes to a slot, or may do so, where other registers than r10 leave so many of the frame's lowest bytes alone.
+fn writes(site: &Site, slot: u8, untouched: u32) -> bool {
+    let Some(access) = site.insn.access() else {
         return false;
     };
-    access.writes && (access.base != Reg::R10 || touches(access, slot))
+    if !access.writes {
+        return false;
+    }
+    if access.base == Reg::R10 {
+        return touches(access, slot);
+    }
+    u32::from(slot).saturating_mul(8).saturating_add(8) > untouched && !misses(site, slot)
 }
 
 /// The instruction writes to the frame, or may do so.
-fn write_frame(facts: &mut Facts, insn: &Insn) {
-    let kind = stored(facts, insn);
+fn write_frame(facts: &mut Facts, site: &Site, untouched: u32) {
+    let kind = stored(facts, &site.insn);
     for slot in 0..SLOTS {
-        if writes(insn, slot) {
+        if writes(site, slot, untouched) {
             facts.put(usize::from(slot).saturating_add(REGISTERS), kind);
         }
     }
@@ -230,7 +237,7 @@ fn written(facts: &Facts, site: &Site) -> Kind {
 /// What a test tells where it leads away (`taken`), or goes on.
 fn tell(facts: &mut Facts, site: &Site, taken: bool) {
     for number in 0..REGISTERS as u8 {
-        if let Kind::Number { .. } | Kind::Natural = facts.get(Reg::numbered(number)) {
+        if let Kind::Number { .. } | Kind::Natural { .. } = facts.get(Reg::numbered(number)) {
             facts.set(Reg::numbered(number), told(site, taken, number));
         }
     }
@@ -245,14 +252,23 @@ pub fn is_far(insn: &Insn) -> bool {
     }
 }
 
+/// What frames are left alone.
+#[derive(Clone, Copy)]
+pub struct Frames {
+    /// Whether each function of the old program leaves the frames of others alone.
+    pub are_alone: bool,
+    /// How many of the lowest bytes of each frame it accesses by r10 alone.
+    pub untouched: u32,
+}
+
 /// The instruction was done in both programs, and led away (`taken`) or went on. A call may write to the frame, unless functions leave the
 /// frames of others alone.
-pub fn step(facts: &mut Facts, site: &Site, taken: bool, is_alone: bool) {
+pub fn step(facts: &mut Facts, site: &Site, taken: bool, frames: Frames) {
     tell(facts, site, taken);
     facts.forget_saved();
-    write_frame(facts, &site.insn);
+    write_frame(facts, site, frames.untouched);
     if let Insn::CallLocal { .. } = site.insn {
-        facts.call(is_alone);
+        facts.call(frames.are_alone);
     }
     if let Some(r) = site.insn.register_written() {
         let kind = written(facts, site);

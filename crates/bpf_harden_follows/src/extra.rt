@@ -3,6 +3,7 @@
 use crate::facts::{Facts, is_free, slot_at};
 use bpf_follows::{Area, Kind};
 use bpf_insn::{AluOp, Cond, Insn, Operand, Reg, Size, Width};
+use bpf_packets::HEAD_BYTES;
 
 /// The old register whose offset a register holds, what that is counted in, and what it was moved by.
 fn offset_in(r: Reg, kind: Kind) -> Option<(Area, Reg, i32)> {
@@ -18,7 +19,7 @@ fn offset_in(r: Reg, kind: Kind) -> Option<(Area, Reg, i32)> {
 /// The area of which a register holds the pointer at 0: the context's start, or r10.
 fn base_of(r: Reg, kind: Kind) -> Option<Area> {
     match kind {
-        Kind::Base | Kind::Start => Some(Area::Given),
+        Kind::Base | Kind::Start | Kind::Head => Some(Area::Given),
         _ if r == Reg::R10 => Some(Area::Own),
         _ => None,
     }
@@ -42,9 +43,34 @@ fn copied(from: Reg, kind: Kind) -> Kind {
             of: from,
             by: 0,
         },
-        Kind::Start => Kind::Base,
+        Kind::Start | Kind::Head => Kind::Base,
+        Kind::Length { .. } => Kind::Ending { by: 0 },
         Kind::Base | Kind::Moved { .. } | Kind::Address { .. } | Kind::Constant { .. } => kind,
+        Kind::Ending { .. } => kind,
         _ => Kind::Nothing,
+    }
+}
+
+/// What is so much farther behind the packet's end.
+fn ending(before: u32, by: i32) -> Kind {
+    match u32::try_from(by) {
+        Ok(by) => Kind::Ending {
+            by: before.saturating_add(by),
+        },
+        Err(_) => Kind::Nothing,
+    }
+}
+
+/// What a constant makes of a register: it is the offset of the pointer that the old program has there at the start, or the new one's alone.
+fn constant(kind: Kind, value: i32) -> Kind {
+    match kind {
+        Kind::Start if value == 0 => {}
+        Kind::Head if value == HEAD_BYTES as i32 => {}
+        _ => return Kind::Constant { value },
+    }
+    Kind::Fixed {
+        area: Area::Given,
+        offset: value,
     }
 }
 
@@ -52,6 +78,7 @@ fn copied(from: Reg, kind: Kind) -> Kind {
 fn moved(r: Reg, kind: Kind, by: i32) -> Kind {
     match (kind, offset_in(r, kind)) {
         (Kind::Turn { head }, _) if by == -1 => Kind::Counter { head },
+        (Kind::Ending { by: before }, _) => ending(before, by),
         (_, Some((area, of, 0))) => Kind::Moved { area, of, by },
         _ => Kind::Nothing,
     }
@@ -79,14 +106,7 @@ fn summed(facts: &Facts, dst: Reg, src: Reg) -> Kind {
 /// What a 64-bit operation puts into its register.
 fn put(facts: &Facts, op: AluOp, dst: Reg, src: Operand) -> Kind {
     match (op, src) {
-        (AluOp::Mov, Operand::Imm(value)) => if value == 0 && facts.get(dst) == Kind::Start {
-            Kind::Fixed {
-                area: Area::Given,
-                offset: 0,
-            }
-        } else {
-            Kind::Constant { value }
-        },
+        (AluOp::Mov, Operand::Imm(value)) => constant(facts.get(dst), value),
         (AluOp::Mov, Operand::Reg(src)) => copied(src, facts.get(src)),
         (AluOp::Add, Operand::Imm(by)) => moved(dst, facts.get(dst), by),
         (AluOp::Add, Operand::Reg(src)) => summed(facts, dst, src),
@@ -128,7 +148,7 @@ pub fn tested(insn: &Insn) -> Option<Reg> {
 fn kept(facts: &Facts, src: Reg) -> Kind {
     match facts.get(src) {
         Kind::Counter { head } => Kind::Counter { head },
-        Kind::Both | Kind::Natural => Kind::Saved { of: src },
+        Kind::Both | Kind::Natural { .. } | Kind::Inner { .. } => Kind::Saved { of: src },
         kind => copied(src, kind),
     }
 }
@@ -168,6 +188,23 @@ pub fn taken(insn: &Insn) -> Option<(Reg, usize)> {
         return Some((dst, slot_at(off)?));
     }
     None
+}
+
+/// What is loaded of a packet's length, with which its block begins, where the old program has it.
+fn length_taken(facts: &Facts, insn: &Insn) -> Option<(Reg, Kind)> {
+    let Insn::Load {
+        size: Size::DW,
+        dst,
+        src,
+        off: 0,
+    } = *insn
+    else {
+        return None;
+    };
+    match (facts.get(src), facts.get(dst)) {
+        (Kind::Base | Kind::Head, Kind::Sized { most }) => Some((dst, Kind::Length { most })),
+        _ => None,
+    }
 }
 
 /// What a guard that isn't taken tells of a number or an offset.
@@ -233,6 +270,10 @@ fn pass_other(facts: &mut Facts, slot: u32, insn: &Insn) {
             facts.set(dst, kind);
             return;
         }
+    }
+    if let Some((r, kind)) = length_taken(facts, insn) {
+        facts.set(r, kind);
+        return;
     }
     if let Some(r) = insn.register_written() {
         facts.set(r, Kind::Nothing);

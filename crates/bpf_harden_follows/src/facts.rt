@@ -1,7 +1,8 @@
 //! What registers and slots of the frame hold at a place.
 
-use bpf_follows::{Area, Kind, Kinds, PLACES};
+use bpf_follows::{Area, Bounds, Kind, Kinds, PLACES};
 use bpf_insn::{FRAME_BYTES, Reg};
+use bpf_packets::HEAD_BYTES;
 
 /// How many registers there are. Behind them come the frame's slots, the lowest first.
 pub const REGISTERS: usize = 11;
@@ -28,6 +29,7 @@ pub fn is_free(kind: Kind) -> bool {
         Kind::Unset | Kind::Base | Kind::Moved { .. } | Kind::Address { .. } => true,
         Kind::Saved { .. } => true,
         Kind::Constant { .. } | Kind::Counter { .. } | Kind::Turn { .. } => true,
+        Kind::Ending { .. } => true,
         _ => false,
     }
 }
@@ -77,14 +79,27 @@ fn is_of_other(kind: Kind) -> bool {
     }
 }
 
-/// Whether both programs have a number that isn't below 0, and the same.
-fn is_natural(kind: Kind) -> bool {
-    matches!(kind, Kind::Natural | Kind::Number { .. })
+/// What is left where r10 may be another one.
+fn left(kind: Kind) -> Kind {
+    match kind {
+        Kind::Inner { .. } => Kind::Both,
+        _ if is_of_other(kind) => Kind::Nothing,
+        _ => kind,
+    }
+}
+
+/// What the upper 32 bits are at most of a number that both programs have.
+fn natural_half(kind: Kind) -> Option<u32> {
+    match kind {
+        Kind::Number { .. } => Some(0),
+        Kind::Natural { half } => Some(half),
+        _ => None,
+    }
 }
 
 /// Whether both programs have a value, and the same.
 fn is_sure(kind: Kind) -> bool {
-    matches!(kind, Kind::Both) || is_natural(kind)
+    matches!(kind, Kind::Both | Kind::Inner { .. }) || natural_half(kind).is_some()
 }
 
 /// Whether both programs have the same.
@@ -105,9 +120,23 @@ pub fn joined_numbers(a: Kind, b: Kind) -> Kind {
             least: least.min(low),
             most: most.max(high),
         },
-        _ if is_natural(a) && is_natural(b) => Kind::Natural,
-        _ if is_sure(a) && is_sure(b) => Kind::Both,
-        _ => Kind::Same,
+        (
+            Kind::Inner { least, most },
+            Kind::Inner {
+                least: low,
+                most: high,
+            },
+        ) => Kind::Inner {
+            least: least.min(low),
+            most: most.max(high),
+        },
+        _ => match (natural_half(a), natural_half(b)) {
+            (Some(half), Some(more)) => Kind::Natural {
+                half: half.max(more),
+            },
+            _ if is_sure(a) && is_sure(b) => Kind::Both,
+            _ => Kind::Same,
+        },
     }
 }
 
@@ -160,8 +189,42 @@ pub fn grown(before: Kind, after: Kind, stops: &[u32]) -> Kind {
             least: lower(least, low),
             most: higher(most, high, stops),
         },
+        (Kind::Natural { half }, Kind::Natural { half: more }) if half < more => {
+            Kind::Natural {
+                half: higher_half(more),
+            }
+        }
+        (
+            Kind::Inner { least, most },
+            Kind::Inner {
+                least: low,
+                most: high,
+            },
+        ) => grown_inner(least, most, low, high),
         _ => after,
     }
+}
+
+/// Bounds of a pointer into the own frame that grew: down to its first byte, or up to its end. Farther away it points to nothing.
+fn grown_inner(least: u32, most: u32, low: u32, high: u32) -> Kind {
+    let end = FRAME_BYTES as u32;
+    if high > end {
+        return Kind::Both;
+    }
+    Kind::Inner {
+        least: if low < least { 0 } else { low },
+        most: if high > most { end } else { high },
+    }
+}
+
+/// A greatest upper half above the one before.
+fn higher_half(half: u32) -> u32 {
+    for stop in [0xff, 0xffff, 0x00ff_ffff] {
+        if half <= stop {
+            return stop;
+        }
+    }
+    0x7fff_ffff
 }
 
 /// A least number below the one before.
@@ -209,6 +272,21 @@ fn joined(r: Reg, a: Kind, b: Kind) -> Kind {
     }
 }
 
+/// What r1 and r2 hold at the start.
+fn given(bounds: Bounds) -> (Kind, Kind) {
+    let length = bounds.length;
+    if bounds.padded {
+        let most = length.saturating_sub(HEAD_BYTES);
+        (Kind::Head, Kind::Sized { most })
+    } else {
+        let length = Kind::Number {
+            least: length,
+            most: length,
+        };
+        (Kind::Start, length)
+    }
+}
+
 impl Facts {
     /// At an entry all registers are the same, and the old program has nothing in the frame.
     fn entered() -> Facts {
@@ -221,22 +299,27 @@ impl Facts {
         facts
     }
 
-    /// At the start both programs have the same, r1 points to the context's start, and r2 is its length. Functions may leave the frames of
-    /// others alone.
-    pub fn start(length: u32, is_alone: bool) -> Facts {
+    /// At the start both programs have the same, r1 points to the context's start, and r2 is its length; with blocks the old program has
+    /// the packet's. Functions may leave the frames of others alone.
+    pub fn start(bounds: Bounds, is_alone: bool) -> Facts {
         let mut facts = Facts::entered();
         if is_alone {
             facts.set(Reg::R10, Kind::Alone);
         }
-        facts.set(Reg::R1, Kind::Start);
-        facts.set(
-            Reg::R2,
-            Kind::Number {
-                least: length,
-                most: length,
-            },
-        );
+        let (context, length) = given(bounds);
+        facts.set(Reg::R1, context);
+        facts.set(Reg::R2, length);
         facts
+    }
+
+    /// Behind an entry a packet's length is a number.
+    pub fn settle(&mut self) {
+        for number in 0..REGISTERS as u8 {
+            let r = Reg::numbered(number);
+            if let Kind::Length { most } = self.get(r) {
+                self.set(r, Kind::Number { least: 0, most });
+            }
+        }
     }
 
     /// What a place holds.
@@ -286,9 +369,7 @@ impl Facts {
     /// A call is made: what is said by another register is gone.
     pub fn call(&mut self, is_alone: bool) {
         for place in 0..PLACES {
-            if is_of_other(self.at(place)) {
-                self.put(place, Kind::Nothing);
-            }
+            self.put(place, left(self.at(place)));
             if place >= REGISTERS && !is_alone {
                 self.put(place, Kind::Same);
             }
@@ -302,11 +383,7 @@ impl Facts {
     pub fn called(&self) -> Facts {
         let mut facts = Facts::entered();
         for r in [Reg::R1, Reg::R2, Reg::R3, Reg::R4, Reg::R5] {
-            if is_of_other(self.get(r)) {
-                facts.set(r, Kind::Nothing);
-            } else {
-                facts.set(r, self.get(r));
-            }
+            facts.set(r, left(self.get(r)));
         }
         facts
     }

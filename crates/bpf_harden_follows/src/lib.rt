@@ -3,9 +3,11 @@
 #![tactic(auto)]
 
 mod behind;
+mod evidence;
 mod extra;
 mod facts;
 mod places;
 mod returns;
 
+pub use evidence::{Evidence, evidence_of};
 pub use places::places_of;

@@ -1,11 +1,11 @@
 //! The places of a hardened program, by the slots of the old one.
 
-use crate::behind::{is_far, step};
+use crate::behind::{Frames, is_far, step};
 use crate::extra::{pass, taken, tested};
 use crate::facts::Facts;
 use crate::returns::Returns;
 use bpf_follows::site::Site;
-use bpf_follows::{Kind, Place, may_fall, may_lead};
+use bpf_follows::{Bounds, Kind, Place, may_fall, may_lead};
 use bpf_harden_notes::{Change, Hardened};
 use bpf_insn::{AluOp, Insn, Operand, Program, Reg, Width};
 use std::alloc::{AllocError, Global};
@@ -37,8 +37,7 @@ struct Finder<'a> {
     facts: Vec<Option<Facts>>,
     /// By old slots, whether that was changed since it was looked at.
     is_new: Vec<bool>,
-    /// Whether each function of the old program leaves the frames of others alone.
-    is_alone: bool,
+    frames: Frames,
     /// By old slots, how often that was changed.
     times: Vec<u32>,
     /// What the functions give back.
@@ -124,7 +123,12 @@ fn put_stop(stops: &mut Vec<u32>, stop: u32) -> Result<(), AllocError> {
 
 impl<'a> Finder<'a> {
     /// Nothing is found.
-    fn new(alloc: Global, old: &'a Program, new: &'a Hardened) -> Result<Finder<'a>, AllocError> {
+    fn new(
+        alloc: Global,
+        old: &'a Program,
+        new: &'a Hardened,
+        untouched: u32,
+    ) -> Result<Finder<'a>, AllocError> {
         let mut changes = vec![in alloc; None; new.program.slots() as usize]?;
         for note in &new.notes {
             put(&mut changes, note.new, Some(note.change));
@@ -140,7 +144,10 @@ impl<'a> Finder<'a> {
             entries,
             facts: vec![in alloc; None; old.slots() as usize]?,
             is_new: vec![in alloc; false; old.slots() as usize]?,
-            is_alone: is_alone(old),
+            frames: Frames {
+                are_alone: is_alone(old),
+                untouched,
+            },
             times: vec![in alloc; 0; old.slots() as usize]?,
             returns: Returns::new(alloc, old.slots())?,
             stops: stops_of(alloc, old)?,
@@ -273,7 +280,8 @@ impl<'a> Finder<'a> {
     /// A call, or the start, leads to a function's first slot.
     fn enter(&mut self, slot: u32, facts: &Facts) {
         if let (Some(entry), Some(first)) = (self.entry(slot), self.first(slot)) {
-            let set = self.passed(facts, slot, entry, first);
+            let mut set = self.passed(facts, slot, entry, first);
+            set.settle();
             self.arrive(slot, &set, slot);
         }
     }
@@ -284,7 +292,7 @@ impl<'a> Finder<'a> {
             self.enter(target, &before.called());
         } else {
             let mut behind = *before;
-            step(&mut behind, site, true, self.is_alone);
+            step(&mut behind, site, true, self.frames);
             let owner = self.returns.owner(site.slot);
             self.arrive(target, &behind, owner);
         }
@@ -312,7 +320,7 @@ impl<'a> Finder<'a> {
     /// Goes on behind an instruction: behind a call only when it is known what that gives back.
     fn fall(&mut self, site: &Site, before: &Facts) {
         let mut behind = *before;
-        step(&mut behind, site, false, self.is_alone);
+        step(&mut behind, site, false, self.frames);
         if let (Insn::CallLocal { .. }, Some(to)) = (site.insn, led(site.slot, &site.insn)) {
             match self.returns.given(to) {
                 Some(back) => behind.set(Reg::R0, back),
@@ -407,17 +415,18 @@ impl<'a> Finder<'a> {
     }
 }
 
-/// By the slots of a program, what stands in the one that it was hardened to, for contexts of so many bytes, for its instructions, as
-/// `follows` of `bpf_follows` takes it. None where no way is known to lead, and at second slots.
+/// By the slots of a program, what stands in the one that it was hardened to, for contexts of so many bytes and runs that leave so many of
+/// the lowest bytes of each frame to r10, for its instructions, as `follows` of `bpf_follows` takes it. None where no way is known to lead,
+/// and at second slots.
 pub fn places_of(
     alloc: Global,
     old: &Program,
     new: &Hardened,
-    length: u32,
+    bounds: Bounds,
 ) -> Result<Vec<Option<Place>>, AllocError> {
-    let mut finder = Finder::new(alloc, old, new)?;
-    let is_alone = finder.is_alone;
-    finder.enter(0, &Facts::start(length, is_alone));
+    let mut finder = Finder::new(alloc, old, new, bounds.untouched)?;
+    let are_alone = finder.frames.are_alone;
+    finder.enter(0, &Facts::start(bounds, are_alone));
     for _ in 0..ROUNDS {
         if !finder.round() && !finder.unanswered() {
             break;

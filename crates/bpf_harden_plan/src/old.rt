@@ -6,7 +6,7 @@ use crate::kinds::Kind;
 use crate::live::Liveness;
 use crate::uses::Uses;
 use bpf_harden_notes::HardenError;
-use bpf_infer_base::{Cfg, Flow, Meter, PlaceSet, Quest, Watch, get_or};
+use bpf_infer_base::{Cfg, Flow, Meter, PlaceSet, Quest, Task, Watch, get_or};
 use bpf_infer_error::InferError;
 use bpf_infer_states::{Survey, surveyed};
 use bpf_insn::{Insn, Program, Reg};
@@ -44,14 +44,8 @@ impl<'a> Old<'a> {
     ) -> Result<Old<'a>, HardenError>
         requires { quest.least ≤ quest.most }
     {
-        let cfg = match Cfg::of(alloc, quest.program) {
-            Ok(cfg) => cfg,
-            Err(error) => return Err(refusal(error)),
-        };
-        let survey = match surveyed(alloc, quest, &cfg, meter) {
-            Ok(survey) => survey,
-            Err(error) => return Err(refusal(error)),
-        };
+        let cfg = Cfg::of(alloc, quest.program).map_err(refusal)?;
+        let survey = surveyed(Task::whole(alloc, quest, &cfg), meter).map_err(refusal)?;
         let mut old = Old {
             program: quest.program,
             cfg,
@@ -68,7 +62,7 @@ impl<'a> Old<'a> {
 
     /// How many functions there are.
     pub fn count(&self) -> usize {
-        self.cfg.function_count()
+        self.cfg.functions.count()
     }
 
     /// The number of the function that a slot is in.
@@ -147,18 +141,16 @@ impl<'a> Old<'a> {
 
     /// The instruction at a slot, if it is reached.
     pub fn kept(&self, slot: u32) -> Option<&'a Insn> {
-        if self.survey.is_reached(slot) {
-            self.program.at(slot)
-        } else {
-            None
-        }
+        self.program
+            .at(slot)
+            .filter(|_insn| self.survey.is_reached(slot))
     }
 
     /// The slot behind an instruction that leads there alone, and to which nothing else leads.
     pub fn following(&self, slot: u32) -> Option<u32> {
         let insn = self.kept(slot)?;
         let next = slot.saturating_add(insn.slots());
-        let is_alone = self.cfg.block_of(next) == self.cfg.block_of(slot);
+        let is_alone = self.cfg.blocks.block_of(next) == self.cfg.blocks.block_of(slot);
         match Flow::of(slot, insn) {
             Flow::Next if is_alone && self.kept(next).is_some() => Some(next),
             _ => None,
@@ -172,11 +164,7 @@ impl<'a> Old<'a> {
             Some(_) => near,
             None => near.checked_sub(1)?,
         };
-        if self.following(before) == Some(slot) {
-            Some(before)
-        } else {
-            None
-        }
+        (self.following(before) == Some(slot)).then_some(before)
     }
 
     /// The kind of what a register holds before the instruction at a slot.
@@ -186,14 +174,8 @@ impl<'a> Old<'a> {
 
     /// Whether the instruction at a slot reads a register of a kind.
     pub fn reads_kind(&self, slot: u32, insn: &Insn, kind: Kind) -> bool {
-        for register in insn.registers_read() {
-            if let Some(r) = register {
-                if self.kind(slot, r) == kind {
-                    return true;
-                }
-            }
-        }
-        false
+        let mut read = insn.registers_read().into_iter().flatten();
+        read.any(|r| self.kind(slot, r) == kind)
     }
 
     /// Why an access by a register isn't hardened of which nothing is known.
@@ -207,22 +189,17 @@ impl<'a> Old<'a> {
 
     /// Whether a call hands a function a frame pointer.
     fn is_handed_frame(&self, function: usize) -> bool {
-        for slot in 0..self.program.slots() {
-            if self.callee(slot) == Some(function) && self.hands_frame(slot, function) {
-                return true;
-            }
-        }
-        false
+        let hands_frame = |slot| self.callee(slot) == Some(function)
+            && self.hands_frame(slot, function);
+        (0..self.program.slots()).any(hands_frame)
     }
 
     /// Whether the call at a slot hands a frame pointer to a function that reads it.
     fn hands_frame(&self, slot: u32, function: usize) -> bool {
         let arguments = self.uses(function).arguments;
-        for r in [Reg::R1, Reg::R2, Reg::R3, Reg::R4, Reg::R5] {
-            if arguments.has(Place::Register(r)) && self.kind(slot, r) == Kind::Frame {
-                return true;
-            }
-        }
-        false
+        let is_frame = |r| arguments.has(Place::Register(r)) && self.kind(slot, r) == Kind::Frame;
+        [Reg::R1, Reg::R2, Reg::R3, Reg::R4, Reg::R5]
+            .into_iter()
+            .any(is_frame)
     }
 }

@@ -73,11 +73,7 @@ impl Guard {
 
     /// Itself, or none where it tests nothing and the access needs nothing of it.
     pub fn kept(self) -> Option<Guard> {
-        if self.exact || self.low || self.high {
-            Some(self)
-        } else {
-            None
-        }
+        (self.exact || self.low || self.high).then_some(self)
     }
 }
 
@@ -196,10 +192,8 @@ impl Plan {
 
     /// Puts a counter of turns in front of the instruction at a slot. Whether there was none.
     pub fn count(&mut self, slot: u32) -> bool {
-        match self.at_mut(slot) {
-            Some(planned) => plan_on(&mut planned.counts),
-            None => false,
-        }
+        self.at_mut(slot)
+            .is_some_and(|planned| plan_on(&mut planned.counts))
     }
 
     /// Takes the counter of turns in front of the instruction at a slot away.
@@ -211,26 +205,20 @@ impl Plan {
 
     /// Leaves the instruction at a slot out. Whether it wasn't.
     pub fn leave_out(&mut self, slot: u32) -> bool {
-        match self.at_mut(slot) {
-            Some(planned) => plan_on(&mut planned.is_left_out),
-            None => false,
-        }
+        self.at_mut(slot)
+            .is_some_and(|planned| plan_on(&mut planned.is_left_out))
     }
 
     /// Makes the operation at a slot a 64-bit one. Whether it wasn't.
     pub fn widen(&mut self, slot: u32) -> bool {
-        match self.at_mut(slot) {
-            Some(planned) => plan_on(&mut planned.widens),
-            None => false,
-        }
+        self.at_mut(slot)
+            .is_some_and(|planned| plan_on(&mut planned.widens))
     }
 
     /// The access at a slot always leaves its region. Whether that is new.
     pub fn give_up(&mut self, slot: u32) -> bool {
-        match self.at_mut(slot) {
-            Some(planned) => plan_on(&mut planned.is_hopeless),
-            None => false,
-        }
+        self.at_mut(slot)
+            .is_some_and(|planned| plan_on(&mut planned.is_hopeless))
     }
 
     // ---- functions
@@ -240,27 +228,26 @@ impl Plan {
         get_or(&self.functions, function, OfFunction::default())
     }
 
+    /// The same, to be changed.
+    fn of_mut(&mut self, function: usize) -> Option<&mut OfFunction> {
+        self.functions.get_mut(function)
+    }
+
     /// Makes all counters of turns in a function one. Whether they weren't.
     pub fn share(&mut self, function: usize) -> bool {
-        match self.functions.get_mut(function) {
-            Some(planned) => plan_on(&mut planned.shares),
-            None => false,
-        }
+        self.of_mut(function)
+            .is_some_and(|planned| plan_on(&mut planned.shares))
     }
 
     /// Sets a function's frame to zeros. Whether it wasn't.
     pub fn zero(&mut self, function: usize) -> bool {
-        match self.functions.get_mut(function) {
-            Some(planned) => plan_on(&mut planned.zeroes),
-            None => false,
-        }
+        self.of_mut(function)
+            .is_some_and(|planned| plan_on(&mut planned.zeroes))
     }
 
     /// Sets r0 to zero at the entry of a function. Whether it wasn't.
     pub fn clear(&mut self, function: usize) -> bool {
-        match self.functions.get_mut(function) {
-            Some(planned) => plan_on(&mut planned.clears),
-            None => false,
-        }
+        self.of_mut(function)
+            .is_some_and(|planned| plan_on(&mut planned.clears))
     }
 }

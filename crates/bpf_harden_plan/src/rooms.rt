@@ -8,7 +8,7 @@ use bpf_infer_base::{Flow, PlaceSet, get_or, put};
 use bpf_insn::{FRAME_BYTES, Reg};
 use bpf_num::Num;
 use bpf_state::Place;
-use std::alloc::{AllocError, Global};
+use std::alloc::Global;
 
 /// How many instructions from a loop's head on its counter may stand.
 const FARTHEST: u32 = 16;
@@ -25,7 +25,7 @@ const KEPT_IN: [Reg; 7] = [
 ];
 
 /// What a function keeps, and what it is given and gives.
-#[derive(Clone, Copy)]
+#[derive(Clone, Copy, Default)]
 pub struct Room {
     /// The pointer to the context's start.
     pub base: Option<Place>,
@@ -45,21 +45,6 @@ pub struct Room {
     pub taken: PlaceSet,
     /// How many loops share their counter; 0 if each has one of its own.
     pub sharing: u32,
-}
-
-impl Room {
-    /// Nothing is kept.
-    const EMPTY: Room = Room {
-        base: None,
-        end: None,
-        frame: 0,
-        scratch: None,
-        handed: None,
-        spare: None,
-        traps: false,
-        taken: PlaceSet::NONE,
-        sharing: 0,
-    };
 }
 
 /// What the functions of a program keep.
@@ -82,15 +67,6 @@ struct Space {
 }
 
 impl Space {
-    /// What a function leaves.
-    fn of(uses: Uses) -> Space {
-        Space {
-            uses,
-            taken: PlaceSet::NONE,
-            slots: 0,
-        }
-    }
-
     /// How many bytes of the frame are the function's own.
     fn frame(&self) -> u32 {
         if self.uses.is_wild {
@@ -110,12 +86,9 @@ impl Space {
     /// Whether a register is neither kept nor one of those that are read.
     fn has_idle(&self, live: PlaceSet) -> bool {
         let needed = live.union(self.taken);
-        for r in BY_CHOICE {
-            if !needed.has(Place::Register(r)) {
-                return true;
-            }
-        }
-        false
+        BY_CHOICE
+            .into_iter()
+            .any(|r| !needed.has(Place::Register(r)))
     }
 
     /// A slot of the frame, by its number.
@@ -156,13 +129,11 @@ impl Space {
 
     /// A register or else a slot.
     fn place(&mut self) -> Option<Place> {
-        for r in KEPT_IN {
-            if self.is_free(r) {
-                self.taken.add(Place::Register(r));
-                return Some(Place::Register(r));
-            }
-        }
-        Some(Place::Slot(self.slot()?))
+        let Some(r) = KEPT_IN.into_iter().find(|r| self.is_free(*r)) else {
+            return Some(Place::Slot(self.slot()?));
+        };
+        self.taken.add(Place::Register(r));
+        Some(Place::Register(r))
     }
 }
 
@@ -185,17 +156,12 @@ fn spare_of(ret: Num) -> Option<i32> {
 /// The register in which a function is given the base: the one that keeps it where that is an argument, else one that isn't
 /// read.
 fn handed_to(uses: Uses, base: Option<Place>) -> Option<Reg> {
-    for r in [Reg::R5, Reg::R4, Reg::R3, Reg::R2, Reg::R1] {
-        if base == Some(Place::Register(r)) {
-            return Some(r);
-        }
+    let arguments = [Reg::R5, Reg::R4, Reg::R3, Reg::R2, Reg::R1];
+    let is_unread = |r: &Reg| !uses.arguments.has(Place::Register(*r));
+    match base {
+        Some(Place::Register(r)) if arguments.contains(&r) => Some(r),
+        _ => arguments.into_iter().find(is_unread),
     }
-    for r in [Reg::R5, Reg::R4, Reg::R3, Reg::R2, Reg::R1] {
-        if !uses.arguments.has(Place::Register(r)) {
-            return Some(r);
-        }
-    }
-    None
 }
 
 impl Rooms {
@@ -203,7 +169,7 @@ impl Rooms {
     /// arguments and needs the context.
     pub fn of(alloc: Global, old: &Old, plan: &Plan) -> Result<Rooms, HardenError> {
         let mut rooms = Rooms {
-            rooms: vec![in alloc; Room::EMPTY; old.count()]?,
+            rooms: vec![in alloc; Room::default(); old.count()]?,
             counters: vec![in alloc; None; old.program.slots() as usize]?,
         };
         for function in 0..old.count() {
@@ -221,7 +187,7 @@ impl Rooms {
 
     /// What a function keeps.
     pub fn room(&self, function: usize) -> Room {
-        get_or(&self.rooms, function, Room::EMPTY)
+        get_or(&self.rooms, function, Room::default())
     }
 
     /// Where the turns of the loop are counted that has its counter at a slot.
@@ -234,8 +200,12 @@ impl Rooms {
     /// Finds the places of a function.
     fn furnish(&mut self, old: &Old, plan: &Plan, function: usize) -> Result<(), HardenError> {
         let uses = old.uses(function);
-        let mut space = Space::of(uses);
-        let mut room = Room::EMPTY;
+        let mut space = Space {
+            uses,
+            taken: PlaceSet::NONE,
+            slots: 0,
+        };
+        let mut room = Room::default();
         if plan.offsets && uses.needs_context {
             room.base = Some(taken(space.place(), uses)?);
             if plan.options.padded {
@@ -359,10 +329,7 @@ fn counting_slot(old: &Old, space: &Space, head: u32, place: Place) -> u32 {
 
 /// A place that was found. H3 if there is none.
 fn taken(found: Option<Place>, uses: Uses) -> Result<Place, HardenError> {
-    match found {
-        Some(place) => Ok(place),
-        None => Err(HardenError::FullFrame { slot: uses.first }),
-    }
+    found.ok_or(HardenError::FullFrame { slot: uses.first })
 }
 
 /// Whether an instruction that is reached leads to one that isn't.

@@ -2,17 +2,17 @@
 //! other.
 //!
 //! Each line of standard input is a case: `little` or `big`, the length of contexts, the turns that a loop has, an image in hex, and
-//! contexts in hex, `none` for an empty one. The line that answers it has `yes` where the new program is shown to keep the meaning, else the
-//! number of what fails, as `M3`, and then `OLD/NEW` for each context, what the old and the new program end with: a number, `trap`, the
+//! contexts in hex, `none` for an empty one. The line that answers it has `yes` where the new program is shown to keep the meaning, `yes-32`
+//! where that is for runs that leave the lowest 32 bytes of each frame alone, else the number of what fails, as `M3`, and then `OLD/NEW` for each context, what the old and the new program end with: a number, `trap`, the
 //! number of a fault, as `F3`, or `on` where it goes on. Where there is no new program it has the number of the refusal, as `E3` or `H2`.
 #![tactic(auto)]
 
 ghost use Rattle.std.specs.Prelude.{◌≤◌, IfSome, length};
 ghost use Rattle.bpf_insn.specs.Limits.{max_context};
 
-use bpf_follows::{Bounds, Mismatch, follows};
+use bpf_follows::{Bounds, Mismatch};
 use bpf_harden::{Options, harden};
-use bpf_harden_follows::places_of;
+use bpf_harden_follows::evidence_of;
 use bpf_insn::{MAX_CONTEXT, Order, Program, decode};
 use bpf_machine::{Outcome, run};
 use std::alloc::Global;
@@ -52,6 +52,8 @@ struct Pair {
     old: Program,
     new: Program,
     mismatch: Option<Mismatch>,
+    /// How many of the lowest bytes of each frame runs have to leave to r10 for that.
+    untouched: u32,
 }
 
 /// A number, 0 where the word isn't one.
@@ -98,15 +100,20 @@ impl Pair {
             Ok(hardened) => hardened,
             Err(error) => return Err(Refusal::Hardening(error.number())),
         };
-        let Ok(notes) = places_of(alloc, &old, &hardened, length) else {
+        let runs = Bounds {
+            length,
+            padded: false,
+            turns: case.turns,
+            untouched: 0,
+        };
+        let Ok(found) = evidence_of(alloc, &old, &hardened, runs) else {
             return Err(Refusal::Hex);
         };
-        let turns = case.turns;
-        let verdict = follows(&old, &hardened.program, &notes, Bounds { length, turns });
         Ok(Pair {
             old,
             new: hardened.program,
-            mismatch: verdict.err(),
+            mismatch: found.mismatch,
+            untouched: found.untouched,
         })
     }
 
@@ -116,6 +123,10 @@ impl Pair {
             Some(mismatch) => {
                 let number = mismatch.number();
                 write!(out, "M{number}")
+            }
+            None if self.untouched > 0 => {
+                let untouched = self.untouched;
+                write!(out, "yes-{untouched}")
             }
             None => write!(out, "yes"),
         }

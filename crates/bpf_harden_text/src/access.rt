@@ -1,12 +1,13 @@
 //! Accesses by offsets: guards, and pointers that are made for one access.
 
 use crate::edits::{loaded, with_base};
-use crate::parts::{add, add_constant, alu, constant, copy, displacement, fetch, is_near, keep};
+use crate::parts::{add, add_constant, alu, constant, copy, displacement, fetch, is_near};
 use crate::region::Region;
-use crate::share::{Made, Share, first_of, stores};
+use crate::share::{Made, Share, stores};
+use crate::temps::{Temp, Way, first_of};
 use crate::writer::Writer;
 use bpf_harden_notes::{Change, HardenError};
-use bpf_harden_plan::{BY_CHOICE, Guard, Kind, Span};
+use bpf_harden_plan::{Guard, Span};
 use bpf_infer_base::PlaceSet;
 use bpf_insn::{Access, AluOp, Cond, Insn, Operand, Reg};
 use bpf_state::Place;
@@ -20,34 +21,6 @@ pub struct Site {
     pub access: Access,
     pub region: Region,
     pub guard: Option<Guard>,
-}
-
-/// How the register that holds the pointer is come by.
-#[derive(Clone, Copy, PartialEq, Eq)]
-enum Way {
-    /// It holds nothing that is read later, or is loaded.
-    Free,
-    /// It is the base itself, and gets its offset back.
-    InPlace,
-    /// It is saved in the frame, and restored.
-    Saved,
-}
-
-/// The register in which a pointer is made.
-#[derive(Clone, Copy)]
-struct Temp {
-    register: Reg,
-    way: Way,
-}
-
-impl Temp {
-    /// A register that holds nothing that is read later.
-    fn free(register: Reg) -> Temp {
-        Temp {
-            register,
-            way: Way::Free,
-        }
-    }
 }
 
 impl Site {
@@ -81,10 +54,7 @@ impl Site {
 
     /// The bytes that its guard tests: its own, and those of further accesses that surely follow.
     fn span(&self) -> Span {
-        match self.guard {
-            Some(guard) => guard.span,
-            None => Span::of(self.access),
-        }
+        self.guard.map_or(Span::of(self.access), |guard| guard.span)
     }
 
     /// How many bytes its guard tests.
@@ -206,7 +176,7 @@ impl<'a> Writer<'a> {
         let share = self.share(site);
         let temp = self.temp(site, share)?;
         let pointer = temp.register;
-        self.take(site, temp)?;
+        self.take(site.slot, temp)?;
         self.test_base(site)?;
         let is_direct = self.begin_pointer(site, pointer)?;
         self.test_moved(site, pointer)?;
@@ -215,7 +185,10 @@ impl<'a> Writer<'a> {
         }
         let insn = with_base(&site.insn, pointer, site.displacement());
         self.add(site.slot, insn, Change::Access)?;
-        self.give_back(site, temp)?;
+        self.give_back(site.slot, temp)?;
+        if temp.way == Way::InPlace {
+            self.take_back(site)?;
+        }
         if let Share::Base | Share::By(_) = share {
             self.made = Some(Made {
                 base: site.access.base,
@@ -286,7 +259,7 @@ impl<'a> Writer<'a> {
         let other = self.fetched(site, moved, end, Change::Guard)?;
         let src = Operand::Reg(other.register);
         self.trap_if(site.slot, Cond::Gt, moved, src, Change::Guard)?;
-        Ok(self.give_back(site, other)?)
+        Ok(self.give_back(site.slot, other)?)
     }
 
     /// Adds the region's base to an offset.
@@ -294,7 +267,7 @@ impl<'a> Writer<'a> {
         let other = self.fetched(site, pointer, site.region.base, Change::Address)?;
         let insn = add(pointer, other.register);
         self.add(site.slot, insn, Change::Address)?;
-        Ok(self.give_back(site, other)?)
+        Ok(self.give_back(site.slot, other)?)
     }
 
     /// The register that keeps what a place does, or one but the pointer's into which it is fetched.
@@ -308,11 +281,8 @@ impl<'a> Writer<'a> {
         if let Place::Register(register) = place {
             return Ok(Temp::free(register));
         }
-        let other = match self.dead(site, pointer) {
-            Some(register) => Temp::free(register),
-            None => self.borrowed(site, pointer)?,
-        };
-        self.take(site, other)?;
+        let other = self.other(site, pointer)?;
+        self.take(site.slot, other)?;
         self.add(site.slot, fetch(other.register, place), change)?;
         Ok(other)
     }
@@ -343,7 +313,8 @@ impl<'a> Writer<'a> {
             Share::Alone if self.is_last_use(site) => Some(base),
             Share::Alone => None,
         };
-        if let Some(register) = shared.or(loaded(&site.insn)).or(self.dead(site, base)) {
+        let free = first_of(self.free_after(site, base));
+        if let Some(register) = shared.or(loaded(&site.insn)).or(free) {
             return Ok(Temp::free(register));
         }
         if let (Place::Register(_), false) = (site.region.base, site.reads_base_twice()) {
@@ -352,7 +323,7 @@ impl<'a> Writer<'a> {
                 way: Way::InPlace,
             });
         }
-        self.borrowed(site, base)
+        self.borrowed(site.slot, self.needed(site, base))
     }
 
     /// Whether an access needs its base no more than for this, and what is added to it is kept in a register.
@@ -363,67 +334,24 @@ impl<'a> Writer<'a> {
         is_kept && !live.has(Place::Register(base)) && !site.reads_base_twice()
     }
 
-    /// A register but this one that holds nothing which is read at an access or later.
-    fn dead(&self, site: &Site, but: Reg) -> Option<Reg> {
-        first_of(self.free_after(site, but))
+    /// The registers that an access needs meanwhile, or its function: what is read or filled or kept, and one more.
+    fn needed(&self, site: &Site, more: Reg) -> PlaceSet {
+        let needed = site.registers().union(self.kept_in(site.slot));
+        needed.union(PlaceSet::of(Place::Register(more)))
     }
 
-    /// A register but this one that is to be saved meanwhile. H3 if the frame has no room for it.
-    fn borrowed(&self, site: &Site, but: Reg) -> Result<Temp, HardenError> {
-        let function = self.old.function(site.slot);
-        if self.rooms.room(function).scratch.is_some() {
-            for r in BY_CHOICE {
-                if self.is_spare(site, r, but) && self.old.kind(site.slot, r) != Kind::Unknown {
-                    return Ok(Temp {
-                        register: r,
-                        way: Way::Saved,
-                    });
-                }
-            }
+    /// The registers but one that hold nothing that is read behind an access, and that it doesn't fill.
+    pub fn free_after(&self, site: &Site, but: Reg) -> PlaceSet {
+        let live = self.old.live.after(site.slot, &site.insn);
+        PlaceSet::ALL.without(self.needed(site, but).union(live))
+    }
+
+    /// A register but this one: one that holds nothing which is read at an access or later, or else one that is saved
+    /// meanwhile. H3 if the frame has no room for it.
+    fn other(&self, site: &Site, but: Reg) -> Result<Temp, HardenError> {
+        match first_of(self.free_after(site, but)) {
+            Some(register) => Ok(Temp::free(register)),
+            None => self.borrowed(site.slot, self.needed(site, but)),
         }
-        Err(HardenError::FullFrame {
-            slot: self.old.uses(function).first,
-        })
-    }
-
-    /// Whether neither an access nor its function needs a register meanwhile.
-    pub fn is_spare(&self, site: &Site, r: Reg, but: Reg) -> bool {
-        let taken = self.rooms.room(self.old.function(site.slot)).taken;
-        r != but && !site.registers().union(taken).has(Place::Register(r))
-    }
-
-    /// Takes a register: it is saved, if it is to be, and else a pointer that was made is gone where it is free.
-    fn take(&mut self, site: &Site, temp: Temp) -> Result<(), AllocError> {
-        match temp.way {
-            Way::Free => self.forget(temp.register),
-            Way::InPlace => {}
-            Way::Saved => self.save(site, temp.register)?,
-        }
-        Ok(())
-    }
-
-    /// Gives a register what it held, if that is to be.
-    fn give_back(&mut self, site: &Site, temp: Temp) -> Result<(), AllocError> {
-        match temp.way {
-            Way::Free => Ok(()),
-            Way::InPlace => self.take_back(site),
-            Way::Saved => self.restore(site, temp.register),
-        }
-    }
-
-    /// Saves a register in the frame.
-    fn save(&mut self, site: &Site, r: Reg) -> Result<(), AllocError> {
-        if let Some(slot) = self.rooms.room(self.old.function(site.slot)).scratch {
-            self.add(site.slot, keep(Place::Slot(slot), r), Change::Save)?;
-        }
-        Ok(())
-    }
-
-    /// Restores a register that was saved.
-    fn restore(&mut self, site: &Site, r: Reg) -> Result<(), AllocError> {
-        if let Some(slot) = self.rooms.room(self.old.function(site.slot)).scratch {
-            self.add(site.slot, fetch(r, Place::Slot(slot)), Change::Save)?;
-        }
-        Ok(())
     }
 }

@@ -21,7 +21,7 @@ pub struct Draft {
 }
 
 /// The old slot that a new instruction belongs to, and what it does.
-#[derive(Clone, Copy)]
+#[derive(Clone, Copy, Default)]
 pub struct Owner {
     pub old: u32,
     pub change: Option<Change>,
@@ -39,27 +39,17 @@ impl Draft {
         let order = writer.old.program.order();
         let program = resolved(alloc, &writer, order)?;
         let owners = owners_of(alloc, &writer.pieces)?;
-        let Writer {
-            starts,
-            entries,
-            ..
-        } = writer;
         Ok(Draft {
             program,
             owners,
-            starts,
-            entries,
+            starts: writer.starts,
+            entries: writer.entries,
         })
     }
 
     /// To which old slot the new instruction at a slot belongs, and what it does.
     pub fn owner(&self, slot: u32) -> Owner {
-        let none = Owner {
-            old: 0,
-            change: None,
-            is_first: false,
-        };
-        get_or(&self.owners, slot as usize, none)
+        get_or(&self.owners, slot as usize, Owner::default())
     }
 
     /// Where what stands in the place of the old instruction at a slot begins.
@@ -110,10 +100,7 @@ fn resolved(alloc: Global, writer: &Writer, order: Order) -> Result<Program, Har
         list.push(insn)?;
         at = at.saturating_add(piece.insn.slots());
     }
-    match Program::new(alloc, list, order) {
-        Ok(program) => Ok(program),
-        Err(_) => Err(HardenError::Memory),
-    }
+    Program::new(alloc, list, order).map_err(|_error| HardenError::Memory)
 }
 
 /// How far it is from the instruction behind a slot to another one.

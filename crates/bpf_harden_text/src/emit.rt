@@ -6,10 +6,11 @@ use crate::edits::{takes_frame_pointer, widened, with_offset};
 use crate::parts::{JUMP, add_constant, fetch, keep};
 use crate::piece::Goal;
 use crate::region::Region;
+use crate::temps::{Temp, first_of};
 use crate::writer::Writer;
 use bpf_harden_notes::{Change, HardenError};
-use bpf_harden_plan::{BY_CHOICE, Kind, Old, Plan, Rooms};
-use bpf_infer_base::{Flow, put};
+use bpf_harden_plan::{Old, Plan, Rooms};
+use bpf_infer_base::{Flow, PlaceSet, put};
 use bpf_insn::{Access, Cond, Insn, Operand, Reg};
 use bpf_state::Place;
 use std::alloc::Global;
@@ -63,7 +64,8 @@ impl<'a> Writer<'a> {
 
     /// Puts what stands in front of an old instruction. At a label no pointer is known that was made.
     fn begin_slot(&mut self, slot: u32) -> Result<(), HardenError> {
-        if self.old.cfg.label(self.old.cfg.block_of(slot)) == slot {
+        let blocks = &self.old.cfg.blocks;
+        if blocks.label(blocks.block_of(slot)) == slot {
             self.made = None;
         }
         if let Some(counter) = self.rooms.counter(slot) {
@@ -94,18 +96,12 @@ impl<'a> Writer<'a> {
         if let Place::Register(r) = counter {
             return self.take_turn_in(slot, r);
         }
-        let (r, saved) = self.turn_register(slot)?;
-        match saved {
-            Some(place) => self.add(slot, keep(place, r), Change::Save)?,
-            None => self.forget(r),
-        }
-        self.add(slot, fetch(r, counter), Change::Turn)?;
-        self.take_turn_in(slot, r)?;
-        self.add(slot, keep(counter, r), Change::Turn)?;
-        if let Some(place) = saved {
-            self.add(slot, fetch(r, place), Change::Save)?;
-        }
-        Ok(())
+        let temp = self.turn_register(slot)?;
+        self.take(slot, temp)?;
+        self.add(slot, fetch(temp.register, counter), Change::Turn)?;
+        self.take_turn_in(slot, temp.register)?;
+        self.add(slot, keep(counter, temp.register), Change::Turn)?;
+        Ok(self.give_back(slot, temp)?)
     }
 
     /// As `take_turn` for a counter in a register.
@@ -114,27 +110,14 @@ impl<'a> Writer<'a> {
         Ok(self.add(slot, add_constant(r, -1), Change::Turn)?)
     }
 
-    /// A register for a counter that is kept in the frame, and where it is saved meanwhile, if it is. H3 if there is none.
-    fn turn_register(&self, slot: u32) -> Result<(Reg, Option<Place>), HardenError> {
-        let function = self.old.function(slot);
-        let room = self.rooms.room(function);
-        let needed = self.old.live.before(slot).union(room.taken);
-        for r in BY_CHOICE {
-            if !needed.has(Place::Register(r)) {
-                return Ok((r, None));
-            }
+    /// A register for a counter that is kept in the frame. H3 if there is none.
+    fn turn_register(&self, slot: u32) -> Result<Temp, HardenError> {
+        let kept_in = self.kept_in(slot);
+        let needed = self.old.live.before(slot).union(kept_in);
+        match first_of(PlaceSet::ALL.without(needed)) {
+            Some(register) => Ok(Temp::free(register)),
+            None => self.borrowed(slot, kept_in),
         }
-        if let Some(scratch) = room.scratch {
-            for r in BY_CHOICE {
-                let is_taken = room.taken.has(Place::Register(r));
-                if !is_taken && self.old.kind(slot, r) != Kind::Unknown {
-                    return Ok((r, Some(Place::Slot(scratch))));
-                }
-            }
-        }
-        Err(HardenError::FullFrame {
-            slot: self.old.uses(function).first,
-        })
     }
 
     // ---- instructions
@@ -202,12 +185,8 @@ impl<'a> Writer<'a> {
         if self.plan.at(slot).widens {
             return Ok(self.put(slot, widened(&edited), goal, Some(Change::Widened))?);
         }
-        let change = if self.plan.frames && takes_frame_pointer(insn) {
-            Some(Change::Offset)
-        } else {
-            None
-        };
-        Ok(self.put(slot, edited, goal, change)?)
+        let takes_offset = self.plan.frames && takes_frame_pointer(insn);
+        Ok(self.put(slot, edited, goal, takes_offset.then_some(Change::Offset))?)
     }
 }
 

@@ -145,22 +145,14 @@ impl<'a> Writer<'a> {
     pub fn call(&mut self, slot: u32, insn: Insn, callee: usize) -> Result<(), HardenError> {
         let caller = self.rooms.room(self.old.function(slot));
         let called = self.rooms.room(callee);
-        if let (Some(base), true, Some(handed)) = (
-            caller.base,
-            called.base.is_some(),
-            called.handed,
-        ) {
+        let handed = called.handed.filter(|_handed| called.base.is_some());
+        if let (Some(base), Some(handed)) = (caller.base, handed) {
             self.add(slot, fetch(handed, base), Change::Handed)?;
         }
         self.put(slot, insn, Goal::Entry(callee), None)?;
         if let (true, Some(spare)) = (called.traps, called.spare) {
-            self.trap_if(
-                slot,
-                Cond::Eq,
-                Reg::R0,
-                Operand::Imm(spare),
-                Change::Returned,
-            )?;
+            let src = Operand::Imm(spare);
+            self.trap_if(slot, Cond::Eq, Reg::R0, src, Change::Returned)?;
         }
         Ok(())
     }

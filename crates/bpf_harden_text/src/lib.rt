@@ -12,6 +12,7 @@ mod parts;
 mod piece;
 mod region;
 mod share;
+mod temps;
 mod writer;
 
 pub use draft::{Draft, Owner};

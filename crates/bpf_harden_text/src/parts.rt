@@ -104,16 +104,12 @@ pub const JUMP: Insn = Insn::Ja { off: 0 };
 
 /// The nearest constant that fits an instruction.
 pub fn constant(number: i64) -> i32 {
-    let least = i64::from(i32::MIN);
-    let most = i64::from(i32::MAX);
-    i32::try_from(number.max(least).min(most)).unwrap_or(0)
+    i32::try_from(number).unwrap_or(if number < 0 { i32::MIN } else { i32::MAX })
 }
 
 /// The nearest displacement that fits an instruction.
 pub fn displacement(number: i64) -> i16 {
-    let least = i64::from(i16::MIN);
-    let most = i64::from(i16::MAX);
-    i16::try_from(number.max(least).min(most)).unwrap_or(0)
+    i16::try_from(number).unwrap_or(if number < 0 { i16::MIN } else { i16::MAX })
 }
 
 /// Whether a displacement fits an instruction.

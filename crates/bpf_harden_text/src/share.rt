@@ -2,9 +2,9 @@
 
 use crate::access::Site;
 use crate::edits::with_base;
+use crate::temps::first_of;
 use crate::writer::Writer;
 use bpf_harden_notes::Change;
-use bpf_harden_plan::BY_CHOICE;
 use bpf_infer_base::PlaceSet;
 use bpf_insn::{Insn, Reg};
 use bpf_state::Place;
@@ -58,10 +58,7 @@ impl<'a> Writer<'a> {
 
     /// The pointer of an access, where one was made already.
     pub fn made_for(&self, site: &Site) -> Option<Made> {
-        match self.made {
-            Some(made) if made.base == site.access.base && site.guard.is_none() => Some(made),
-            _ => None,
-        }
+        self.made.filter(|made| made.base == site.access.base && site.guard.is_none())
     }
 
     /// Puts an access by a pointer that was made already.
@@ -101,22 +98,7 @@ impl<'a> Writer<'a> {
                 break;
             }
         }
-        match search.found {
-            Some(r) => Share::By(r),
-            None => Share::Alone,
-        }
-    }
-
-    /// The registers but one that hold nothing that is read behind an access, and that it doesn't fill.
-    pub fn free_after(&self, site: &Site, but: Reg) -> PlaceSet {
-        let mut free = PlaceSet::NONE;
-        let live = self.old.live.after(site.slot, &site.insn);
-        for r in BY_CHOICE {
-            if self.is_spare(site, r, but) && !live.has(Place::Register(r)) {
-                free.add(Place::Register(r));
-            }
-        }
-        free
+        search.found.map_or(Share::Alone, |r| Share::By(r))
     }
 
     /// Takes note of an instruction that follows.
@@ -137,16 +119,6 @@ impl<'a> Writer<'a> {
             search.free = search.free.without(PlaceSet::of(Place::Register(r)));
         }
     }
-}
-
-/// The first of some registers.
-pub fn first_of(registers: PlaceSet) -> Option<Reg> {
-    for r in BY_CHOICE {
-        if registers.has(Place::Register(r)) {
-            return Some(r);
-        }
-    }
-    None
 }
 
 /// Whether an access stores a register, or compares it.

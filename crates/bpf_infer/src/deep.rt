@@ -2,7 +2,7 @@
 
 ghost use Rattle.std.specs.Prelude.{◌≤◌};
 
-use bpf_infer_base::{Cfg, DEEP_WORK, Meter, Proposal, Quest, Stop, Watch};
+use bpf_infer_base::{Cfg, DEEP_WORK, Meter, Proposal, Quest, Stop, Task, Watch};
 use bpf_infer_budgets::ranked;
 use bpf_infer_states::draft;
 use std::alloc::Global;
@@ -21,6 +21,7 @@ pub fn deep_proposal<W: Watch>(
 {
     let mut meter = Meter::new(watch, DEEP_WORK);
     let cfg = Cfg::of(alloc, quest.program)?;
-    let functions = draft(alloc, quest, &cfg, &mut meter)?;
-    ranked(alloc, quest, &cfg, functions, &mut meter)
+    let task = Task::whole(alloc, quest, &cfg);
+    let functions = draft(task, &mut meter)?;
+    ranked(task, functions, &mut meter)
 }

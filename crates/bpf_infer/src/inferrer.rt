@@ -14,21 +14,23 @@ use bpf_infer_plain::plain_proposal;
 use bpf_insn::{Code, Program};
 use std::alloc::Global;
 
-/// The certificate of a proposal. I2 at slot 0 if it is over a limit.
-fn certificate_of(
+/// The certificate of a proposal, where there is one. I2 at slot 0 if it is over a limit.
+fn certificate_of<E: From<InferError> + Drop>(
     least: u32,
     most: u32,
-    found: Result<Proposal, InferError>,
-) -> Result<Certificate, InferError>
+    found: Result<Proposal, E>,
+) -> Result<Certificate, E>
     ensures version { IfOk result (λ c. c.version ≡ 2) }
     ensures least { IfOk result (λ c. c.least ≡ least) }
     ensures most { IfOk result (λ c. c.most ≡ most) }
     ensures certificate { IfOk result (λ c. IsCertificate c) }
 {
-    let found = found?;
-    match Certificate::new(2, least, most, found.steps, found.functions) {
-        Ok(certificate) => Ok(certificate),
-        Err(_) => Err(InferError::NoBudget { slot: 0 }),
+    match found {
+        Ok(found) => match Certificate::new(2, least, most, found.steps, found.functions) {
+            Ok(certificate) => Ok(certificate),
+            Err(_) => Err(E::from(InferError::NoBudget { slot: 0 })),
+        },
+        Err(refused) => Err(refused),
     }
 }
 
@@ -62,26 +64,6 @@ pub fn infer(
     }
 }
 
-/// The certificate of what the deep search found, or where it stopped. I2 at slot 0 if it is over a limit.
-fn certificate_or_stop(
-    least: u32,
-    most: u32,
-    found: Result<Proposal, Stop>,
-) -> Result<Certificate, Stop>
-    ensures version { IfOk result (λ c. c.version ≡ 2) }
-    ensures least { IfOk result (λ c. c.least ≡ least) }
-    ensures most { IfOk result (λ c. c.most ≡ most) }
-    ensures certificate { IfOk result (λ c. IsCertificate c) }
-{
-    match found {
-        Ok(found) => match certificate_of(least, most, Ok(found)) {
-            Ok(certificate) => Ok(certificate),
-            Err(error) => Err(Stop::from(error)),
-        },
-        Err(stop) => Err(stop),
-    }
-}
-
 /// As `search`; where it finds no certificate, with what the deep search had when it stopped: the states at its labels, and
 /// what was in the way.
 pub fn search_or_stop<W: Watch>(
@@ -108,7 +90,7 @@ pub fn search_or_stop<W: Watch>(
     let deep = deep_proposal(alloc, quest, watch);
     watch.end();
     let plain = certificate_of(least, most, plain);
-    match certificate_or_stop(least, most, deep) {
+    match certificate_of(least, most, deep) {
         Ok(deep) => match plain {
             Ok(plain) if plain.steps() < deep.steps() => Ok(plain),
             _ => Ok(deep),

@@ -52,13 +52,9 @@ impl Blocks {
         end: u32,
         others: &[u32],
     ) -> Result<Blocks, AllocError> {
-        let mut cuts = Vec::new(alloc);
-        cuts.extend_from_slice(others)?;
+        let mut cuts = others.to_vec(alloc)?;
         for slot in first..end {
-            if let Some(target) = program
-                .at(slot)
-                .and_then(|insn| Flow::of(slot, insn).jump())
-            {
+            if let Some(target) = Flow::at(program, slot).and_then(Flow::jump) {
                 cuts.push(target)?;
             }
         }

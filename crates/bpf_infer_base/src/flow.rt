@@ -1,6 +1,6 @@
 //! Where instructions lead.
 
-use bpf_insn::{Insn, MAX_SLOTS};
+use bpf_insn::{Insn, MAX_SLOTS, Program};
 
 /// Where an instruction leads. Targets are slots.
 #[derive(Clone, Copy)]
@@ -43,6 +43,11 @@ impl Flow {
             | Insn::StoreImm { .. }
             | Insn::Atomic { .. } => Flow::Next,
         }
+    }
+
+    /// Where the instruction at a slot of a program leads, if one begins there.
+    pub fn at(program: &Program, slot: u32) -> Option<Flow> {
+        Some(Flow::of(slot, program.at(slot)?))
     }
 
     /// The target of a jump.

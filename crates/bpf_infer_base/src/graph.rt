@@ -15,7 +15,12 @@ pub struct Arc {
 impl Arc {
     /// An edge that stands for itself.
     pub fn of(from: usize, to: usize) -> Arc {
-        Arc { from, to, path: 0 }
+        Arc::numbered(from, to, 0)
+    }
+
+    /// An edge that stands for the path with a number.
+    pub fn numbered(from: usize, to: usize, path: usize) -> Arc {
+        Arc { from, to, path }
     }
 }
 
@@ -56,15 +61,8 @@ fn sum_up(counts: &mut Vec<usize>) {
 
 /// Arcs that lead the other way.
 fn turned(alloc: Global, arcs: &[Arc]) -> Result<Vec<Arc>, AllocError> {
-    let mut others = Vec::with_capacity(alloc, arcs.len())?;
-    for arc in arcs {
-        others.push(Arc {
-            from: arc.to,
-            to: arc.from,
-            path: arc.path,
-        })?;
-    }
-    Ok(others)
+    let turn = |arc: &Arc| Arc::numbered(arc.to, arc.from, arc.path);
+    arcs.iter().map(turn).collect(alloc)
 }
 
 impl Graph {
@@ -101,20 +99,12 @@ impl Graph {
 
     /// The node that the arc with a number leads to.
     pub fn target(&self, number: usize) -> usize {
-        match self.arcs.get(number) {
-            Some(arc) => arc.to,
-            None => 0,
-        }
+        self.arcs.get(number).map_or(0, |arc| arc.to)
     }
 
     /// Whether an arc leads from a node to itself.
     pub fn has_own_arc(&self, node: usize) -> bool {
-        for number in self.start(node)..self.end(node) {
-            if self.target(number) == node {
-                return true;
-            }
-        }
-        false
+        (self.start(node)..self.end(node)).any(|number| self.target(number) == node)
     }
 
     /// The same nodes with each arc turned round.
@@ -141,15 +131,21 @@ impl Graph {
         Ok(growth.is_met)
     }
 
+    /// Whether a node leads to another one, on paths that meet no barred node.
+    pub fn leads(
+        &self,
+        alloc: Global,
+        from: usize,
+        to: usize,
+        barred: Option<usize>,
+    ) -> Result<bool, AllocError> {
+        Ok(get_or(&self.reached(alloc, from, barred)?, to, false))
+    }
+
     /// Arcs that lead from all nodes with a path to node 0 towards it: each leads to node 0 or to where one before it leaves.
     pub fn tree_to_first(&self, alloc: Global) -> Result<Vec<Arc>, AllocError> {
         let reversed = self.reversed(alloc)?;
-        reversed.turned_tree(alloc)
-    }
-
-    /// Arcs by which node 0 leads to all that it leads to, turned round.
-    fn turned_tree(&self, alloc: Global) -> Result<Vec<Arc>, AllocError> {
-        let mut growth = Growth::new(alloc, self)?;
+        let mut growth = Growth::new(alloc, &reversed)?;
         growth.meet(0)?;
         growth.grow_all()?;
         turned(alloc, &growth.tree)
@@ -276,10 +272,7 @@ impl Components {
 
     /// The nodes by the numbers of their components, and in each the highest first.
     pub fn nodes(&self, alloc: Global) -> Result<Vec<usize>, AllocError> {
-        let mut nodes = Vec::with_capacity(alloc, self.numbers.len())?;
-        for node in (0..self.numbers.len()).rev() {
-            nodes.push(node)?;
-        }
+        let mut nodes: Vec<usize> = (0..self.numbers.len()).rev().collect(alloc)?;
         nodes.sort_by_key(|node| self.of_node(*node))?;
         Ok(nodes)
     }
@@ -289,13 +282,8 @@ impl Components {
 pub fn nodes_on_cycles(alloc: Global, graph: &Graph) -> Result<usize, AllocError> {
     let components = Components::of(alloc, graph)?;
     let cyclic = components.cyclic(alloc, graph)?;
-    let mut count = 0usize;
-    for node in 0..graph.count() {
-        if get_or(&cyclic, components.of_node(node), false) {
-            count = count.saturating_add(1);
-        }
-    }
-    Ok(count)
+    let is_on_cycle = |node: &usize| get_or(&cyclic, components.of_node(*node), false);
+    Ok((0..graph.count()).filter(is_on_cycle).count())
 }
 
 // ---- longest paths

@@ -1,6 +1,7 @@
 //! What is known at labels, and the labels of a certificate with it.
 
 use crate::blocks::Blocks;
+use crate::lists::held;
 use arrayvec::ArrayVec;
 use bpf_cert::{Budget, Label};
 use bpf_state::{Entries, State};
@@ -8,14 +9,6 @@ use std::alloc::{AllocError, Global};
 
 /// What is known where a label is reached; None where it isn't. Entries take memory for what is known alone.
 pub type LabelState = Option<Entries>;
-
-/// What is known at an index of a list.
-pub fn held(states: &[LabelState], index: usize) -> Option<&Entries> {
-    match states.get(index) {
-        Some(Some(state)) => Some(state),
-        _ => None,
-    }
-}
 
 /// Makes a state what is known, with its numbers tightened. False if no state is such.
 pub fn load(known: &Entries, room: &mut State) -> bool {
@@ -25,10 +18,7 @@ pub fn load(known: &Entries, room: &mut State) -> bool {
 
 /// As `load` for what is known at an index of a list. False if that is nothing.
 pub fn load_at(states: &[LabelState], index: usize, room: &mut State) -> bool {
-    match held(states, index) {
-        Some(known) => load(known, room),
-        None => false,
-    }
+    held(states, index).is_some_and(|known| load(known, room))
 }
 
 /// The labels of the blocks from one to before another that were reached, each with a budget of 0; their states are taken.

@@ -7,7 +7,6 @@ mod blocks;
 mod cfg;
 mod component_search;
 mod counter;
-mod edges;
 mod fault;
 mod flow;
 mod functions;
@@ -35,11 +34,11 @@ pub use fault::Fault;
 pub use flow::Flow;
 pub use graph::{Arc, Components, Graph, longest_paths, nodes_on_cycles, number_in};
 pub use joins::{join, join_register, join_slots};
-pub use labels::{LabelState, held, labels_of, load, load_at};
+pub use labels::{LabelState, labels_of, load, load_at};
 pub use lines::{Line, Span};
-pub use lists::{get_or, numbers_below, put, vacant};
+pub use lists::{get_or, held, put, vacant};
 pub use losses::{Losses, Tracker};
-pub use meter::{DEEP_WORK, LABEL_WORK, MOST_ENTRIES, Meter, PLAIN_WORK, edge_work};
+pub use meter::{DEEP_WORK, LABEL_WORK, Meter, PLAIN_WORK, Tally};
 pub use places::{
     PLACES, PlaceSet, REGISTERS, number_at, place, places_known, said, slots_touched, tag_own,
     tight_number,
@@ -47,6 +46,6 @@ pub use places::{
 pub use proposal::Proposal;
 pub use quest::Quest;
 pub use sketch::{Halt, Limit, Loss, Move, Obstacle, Sketch, Stop, Tangle, Trial};
-pub use task::{Callee, Edge, Task, Visitor};
+pub use task::{Callee, Edge, Task, Visitor, compared};
 pub use watch::{Unwatched, Watch};
 pub use widen::Stops;

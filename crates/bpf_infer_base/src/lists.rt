@@ -14,6 +14,11 @@ pub fn get_or<T: Copy>(list: &[T], index: usize, other: T) -> T
     }
 }
 
+/// What stands at an index, if something does.
+pub fn held<T>(list: &[Option<T>], index: usize) -> Option<&T> {
+    list.get(index)?.as_ref()
+}
+
 /// Puts an element into its place, if there is one.
 pub fn put<T: Drop>(list: &mut Vec<T>, index: usize, element: T)
     ensures { list.new.items ≡ slice_set list.old.items index element }
@@ -32,13 +37,4 @@ pub fn vacant<T: Drop>(alloc: Global, count: usize) -> Result<Vec<Option<T>>, Al
         list.push(None)?;
     }
     Ok(list)
-}
-
-/// The numbers from 0 on that are below another one.
-pub fn numbers_below(alloc: Global, count: usize) -> Result<Vec<usize>, AllocError> {
-    let mut numbers = Vec::with_capacity(alloc, count)?;
-    for number in 0..count {
-        numbers.push(number)?;
-    }
-    Ok(numbers)
 }

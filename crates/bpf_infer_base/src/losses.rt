@@ -1,14 +1,13 @@
 //! Where a loop loses track of what its places held.
 
-use crate::edges::{Edges, Target};
 use crate::labels::load;
 use crate::lists::get_or;
 use crate::places::{PLACES, place, tag_own};
 use crate::sketch::Loss;
-use crate::task::Task;
+use crate::task::{Edge, Task, Visitor};
 use bpf_insn::{AluOp, Insn, Operand, Reg, Width};
 use bpf_num::Num;
-use bpf_state::{Entries, Place, RegState, SlotState, State, Tag, leave, transfer};
+use bpf_state::{Entries, Place, RegState, SlotState, State, Tag};
 use std::alloc::AllocError;
 
 /// By places, why each isn't followed; None of one that is.
@@ -99,16 +98,19 @@ pub struct Tracker<'a> {
     pub losses: Losses,
     /// By the numbers of tags, why what they stand for was lost in this block.
     lost: [Option<Loss>; TERMS],
+    /// What the instruction that is done may lose.
+    doubt: Option<Doubt>,
 }
 
 impl<'a> Tracker<'a> {
-    /// Nothing is lost yet in a loop of these blocks.
+    /// Nothing is lost yet in a loop of these blocks. Callees may return any number.
     pub fn new(task: Task<'a>, blocks: &'a [usize]) -> Self {
         Tracker {
-            task,
+            task: Task { rets: &[], ..task },
             blocks,
             losses: [None; PLACES],
             lost: [None; TERMS],
+            doubt: None,
         }
     }
 
@@ -166,19 +168,6 @@ impl<'a> Tracker<'a> {
         }
     }
 
-    /// Looks what is lost on an edge to a slot.
-    fn arrive(&mut self, to: u32, state: &State) {
-        let block = self.task.blocks.block_of(to);
-        if self.blocks.binary_search(&block).is_err() {
-            return;
-        }
-        for number in 0..PLACES {
-            if let Some(loss) = self.loss(state, number) {
-                self.lose(number, loss);
-            }
-        }
-    }
-
     /// Goes over a block of the loop from what is known at its label.
     pub fn over(
         &mut self,
@@ -188,33 +177,35 @@ impl<'a> Tracker<'a> {
     ) -> Result<(), AllocError> {
         if load(known, room) {
             self.begin(room);
-            self.task.stretch(block).walk(room, self)?;
+            let task = self.task;
+            let _reached = task.walk(block, room, self)?;
         }
         Ok(())
     }
 }
 
-impl<'a> Edges for Tracker<'a> {
+impl<'a> Visitor for Tracker<'a> {
     type Stop = AllocError;
 
-    fn transfer(&mut self, slot: u32, insn: &Insn, state: &mut State) -> Result<bool, AllocError> {
-        let doubt = doubt_at(slot, insn, state);
-        let task = self.task;
-        let goes_on = transfer(insn, task.least, task.program.order(), state).unwrap_or(false);
-        if let Some(doubt) = doubt {
+    fn before(&mut self, slot: u32, insn: &Insn, state: &State) -> Result<(), AllocError> {
+        self.doubt = doubt_at(slot, insn, state);
+        Ok(())
+    }
+
+    fn after(&mut self, state: &mut State) {
+        if let Some(doubt) = self.doubt {
             self.note(doubt, state);
         }
-        Ok(goes_on)
     }
 
-    fn call(&mut self, _callee: u32, state: &mut State) -> Result<bool, AllocError> {
-        Ok(leave(state, Num::top()))
-    }
-
-    fn edge(&mut self, target: Target, state: &State) -> Result<(), AllocError> {
-        match target {
-            Target::Slot(slot) => self.arrive(slot, state),
-            Target::Caller | Target::Nowhere(_) => {}
+    fn edge(&mut self, edge: Edge, state: &State) -> Result<(), AllocError> {
+        if self.blocks.binary_search(&edge.to).is_err() {
+            return Ok(());
+        }
+        for number in 0..PLACES {
+            if let Some(loss) = self.loss(state, number) {
+                self.lose(number, loss);
+            }
         }
         Ok(())
     }

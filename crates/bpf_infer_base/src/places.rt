@@ -27,7 +27,7 @@ pub fn place(number: usize) -> Place
 // ---- sets
 
 /// A set of places, each a bit at its number.
-#[derive(Clone, Copy, PartialEq, Eq)]
+#[derive(Clone, Copy, PartialEq, Eq, Default)]
 pub struct PlaceSet {
     held: u128,
 }

@@ -1,17 +1,21 @@
-//! The searches' walk over blocks, which goes on behind faults or stops there.
+//! The one walk of the searches over blocks: each instruction is done, and then its edges are followed. It goes on behind faults
+//! or stops there.
+
+ghost use Rattle.std.specs.Prelude.{◌≡◌, ◌≤◌};
 
 use crate::blocks::Blocks;
 use crate::cfg::Cfg;
-use crate::edges::{Edges, Stretch, Target};
 use crate::fault::Fault;
+use crate::flow::Flow;
 use crate::labels::{LabelState, load_at};
 use crate::lists::get_or;
 use crate::quest::Quest;
 use crate::tolerant::go_on;
 use bpf_infer_error::Condition;
-use bpf_insn::{Insn, Program};
+use bpf_insn::{Insn, Operand, Program, Reg};
 use bpf_num::Num;
-use bpf_state::{State, leave, transfer};
+use bpf_state::{State, branch, leave, transfer};
+use std::alloc::Global;
 
 /// An edge from one block to another, by their numbers.
 #[derive(Clone, Copy)]
@@ -37,6 +41,9 @@ pub trait Visitor {
         Ok(())
     }
 
+    /// An instruction was done. The tags of the state behind it may be changed.
+    fn after(&mut self, _state: &mut State) {}
+
     /// An edge from one block to another is reached in a state.
     fn edge(&mut self, _edge: Edge, _state: &State) -> Result<(), Self::Stop> {
         Ok(())
@@ -59,6 +66,7 @@ pub trait Visitor {
 /// Blocks to be judged on contexts of `least` to `most` bytes.
 #[derive(Clone, Copy)]
 pub struct Task<'a> {
+    pub alloc: Global,
     pub program: &'a Program,
     pub cfg: &'a Cfg,
     pub blocks: &'a Blocks,
@@ -72,11 +80,15 @@ pub struct Task<'a> {
 
 impl<'a> Task<'a> {
     /// The blocks of a whole program, of whose functions it isn't known what they return. Walks end at faults.
-    pub fn whole(quest: Quest<'a>, cfg: &'a Cfg) -> Self {
+    pub fn whole(alloc: Global, quest: Quest<'a>, cfg: &'a Cfg) -> Self
+        ensures least { result.least ≡ quest.entry.least }
+        ensures most { result.most ≡ quest.entry.most }
+    {
         Task {
+            alloc,
             program: quest.program,
             cfg,
-            blocks: cfg.blocks(),
+            blocks: &cfg.blocks,
             least: quest.least,
             most: quest.most,
             rets: &[],
@@ -84,14 +96,19 @@ impl<'a> Task<'a> {
         }
     }
 
-    /// The code of a block.
-    pub fn stretch(&self, block: usize) -> Stretch<'a> {
-        Stretch {
-            program: self.program,
-            first: self.blocks.label(block),
-            end: self.blocks.block_end(block),
-            limit: self.blocks.end(),
+    /// The same, but walks go on behind faults.
+    pub fn tolerant(self) -> Self {
+        Task {
+            stops: false,
+            ..self
         }
+    }
+
+    /// The state that the program starts in.
+    pub fn start(&self) -> State
+        requires { self.now.least ≤ self.now.most }
+    {
+        State::start(self.least, self.most)
     }
 
     /// Goes over a block from the state at its label. The lowest slot of the block that isn't reached, else its end; or the
@@ -108,7 +125,7 @@ impl<'a> Task<'a> {
             visitor,
             end: None,
         };
-        let reached = self.stretch(block).walk(state, &mut walk)?;
+        let reached = walk.go(state)?;
         match walk.end {
             Some(fault) => Ok(Err(fault)),
             None => Ok(Ok(reached)),
@@ -142,6 +159,74 @@ struct Walk<'a, 'v, V: Visitor> {
 }
 
 impl<'a, 'v, V: Visitor> Walk<'a, 'v, V> {
+    /// Goes over the instructions from the state at the label. The lowest slot that isn't reached, else the end.
+    fn go(&mut self, state: &mut State) -> Result<u32, V::Stop> {
+        let blocks = self.task.blocks;
+        let end = blocks.block_end(self.block);
+        let mut last = blocks.label(self.block);
+        for slot in last..end {
+            if let Some(insn) = self.task.program.at(slot) {
+                last = slot;
+                if !self.step(slot, insn, state)? {
+                    return Ok(slot.saturating_add(insn.slots()));
+                }
+            }
+        }
+        if end < blocks.end() {
+            self.lead(end, state)?;
+        } else {
+            let _goes_on = self.meet(Fault::falls_off(last));
+        }
+        Ok(end)
+    }
+
+    /// Does the instruction at a slot, and follows its edges. Whether the next one is reached.
+    #[inline]
+    fn step(&mut self, slot: u32, insn: &Insn, state: &mut State) -> Result<bool, V::Stop> {
+        self.visitor.before(slot, insn, state)?;
+        if !self.transfer(slot, insn, state) {
+            return Ok(false);
+        }
+        self.visitor.after(state);
+        match Flow::of(slot, insn) {
+            Flow::Next => Ok(true),
+            Flow::Jump(target) => {
+                self.lead(target, state)?;
+                Ok(false)
+            }
+            Flow::Branch(target) => {
+                let (a, b) = registers_compared(insn);
+                let (held_a, held_b) = (state.reg(a), state.reg(b));
+                if branch(insn, true, state) {
+                    self.lead(target, state)?;
+                    state.set_reg(a, held_a);
+                    state.set_reg(b, held_b);
+                }
+                Ok(branch(insn, false, state))
+            }
+            Flow::Call(callee) => self.call(callee, state),
+            Flow::Exit => {
+                self.visitor.exit(self.block, state)?;
+                Ok(false)
+            }
+        }
+    }
+
+    /// Makes the state in front of the instruction at a slot the one behind it. Whether its edges are followed.
+    fn transfer(&mut self, slot: u32, insn: &Insn, state: &mut State) -> bool {
+        match transfer(insn, self.task.least, self.task.program.order(), state) {
+            Ok(goes_on) => goes_on,
+            Err(fault) => {
+                let condition = Condition::State(fault);
+                let goes_on = self.meet(Fault { slot, condition });
+                if goes_on {
+                    go_on(insn, state);
+                }
+                goes_on
+            }
+        }
+    }
+
     /// An instruction is at fault. Whether the walk goes on.
     fn meet(&mut self, fault: Fault) -> bool {
         self.visitor.fault(fault);
@@ -150,46 +235,46 @@ impl<'a, 'v, V: Visitor> Walk<'a, 'v, V> {
         }
         !self.task.stops
     }
-}
 
-impl<'a, 'v, V: Visitor> Edges for Walk<'a, 'v, V> {
-    type Stop = V::Stop;
-
-    fn transfer(&mut self, slot: u32, insn: &Insn, state: &mut State) -> Result<bool, V::Stop> {
-        self.visitor.before(slot, insn, state)?;
-        match transfer(insn, self.task.least, self.task.program.order(), state) {
-            Ok(goes_on) => Ok(goes_on),
-            Err(fault) => {
-                let condition = Condition::State(fault);
-                let goes_on = self.meet(Fault { slot, condition });
-                if goes_on {
-                    go_on(insn, state);
-                }
-                Ok(goes_on)
-            }
-        }
-    }
-
+    /// Makes the state at a CALL of the function at a slot the one behind it. Whether it may return.
     fn call(&mut self, callee: u32, state: &mut State) -> Result<bool, V::Stop> {
         let cfg = self.task.cfg;
         let function = cfg.function_of(callee);
-        let block = cfg.block_of(callee);
+        let block = cfg.blocks.block_of(callee);
         self.visitor.call(Callee { function, block }, state)?;
         Ok(leave(state, get_or(self.task.rets, function, Num::top())))
     }
 
-    fn edge(&mut self, target: Target, state: &State) -> Result<(), V::Stop> {
+    /// An edge leads to a slot in a state.
+    fn lead(&mut self, slot: u32, state: &State) -> Result<(), V::Stop> {
+        let to = self.task.blocks.block_of(slot);
         let from = self.block;
-        match target {
-            Target::Slot(slot) => {
-                let to = self.task.blocks.block_of(slot);
-                self.visitor.edge(Edge { from, to }, state)?;
-            }
-            Target::Caller => self.visitor.exit(from, state)?,
-            Target::Nowhere(slot) => {
-                let _goes_on = self.meet(Fault::falls_off(slot));
-            }
-        }
-        Ok(())
+        self.visitor.edge(Edge { from, to }, state)
+    }
+}
+
+/// What a conditional jump compares: a register, and another one or a constant.
+#[inline]
+pub fn compared(insn: &Insn) -> Option<(Reg, Operand)> {
+    let Insn::JumpIf {
+        dst,
+        src,
+        off: _off,
+        ..
+    } = *insn
+    else {
+        return None;
+    };
+    Some((dst, src))
+}
+
+/// The registers that a conditional jump compares; where there is but one, that one twice. On its edges nothing else of a
+/// state differs.
+#[inline]
+fn registers_compared(insn: &Insn) -> (Reg, Reg) {
+    match compared(insn) {
+        Some((dst, Operand::Reg(src))) => (dst, src),
+        Some((dst, Operand::Imm(_imm))) => (dst, dst),
+        None => (Reg::R0, Reg::R0),
     }
 }

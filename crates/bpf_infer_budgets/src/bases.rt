@@ -5,7 +5,6 @@ use crate::weights::MOST_PASSES;
 use bpf_cert::{MAX_BASE, MAX_TERMS};
 use bpf_infer_base::{Components, Counter, Halt, Limit, get_or, number_in, put};
 use bpf_state::Tag;
-use std::alloc::Global;
 
 /// Bases that are found.
 #[derive(Drop)]
@@ -28,12 +27,9 @@ impl Settling {
     /// What the paths from a label have to be paid with.
     fn base_of(&self, plan: &Plan, label: usize) -> i128 {
         let mut base = 0i128;
-        for number in plan.paths.first(label)..plan.paths.first(label.saturating_add(1)) {
+        for number in plan.paths.leaving(label) {
             if let Some(path) = plan.paths.at(number) {
-                let behind = match path.to {
-                    Some(to) => plan.base(to),
-                    None => 0,
-                };
+                let behind = path.to.map_or(0, |to| plan.base(to));
                 let length = get_or(&self.lengths, number, 0);
                 base = base.max(length.saturating_add(behind));
             }
@@ -43,7 +39,7 @@ impl Settling {
 
     /// Measures the paths from a label.
     fn measure(&mut self, plan: &Plan, label: usize) {
-        for number in plan.paths.first(label)..plan.paths.first(label.saturating_add(1)) {
+        for number in plan.paths.leaving(label) {
             if let Some(path) = plan.paths.at(number) {
                 put(&mut self.lengths, number, plan.length(path));
             }
@@ -116,10 +112,10 @@ impl Settling {
             self.lift(plan, start)?;
         }
         for index in start..end {
-            let (slot, base) = (plan.slot(self.node(index)), plan.base(self.node(index)));
-            if base > MAX_BASE as i128 {
-                let wanted = u64::try_from(base).unwrap_or(u64::MAX);
-                return Err(Halt::no_budget(slot, Limit::Base { wanted }));
+            let label = self.node(index);
+            if plan.base(label) > MAX_BASE as i128 {
+                let wanted = u64::try_from(plan.base(label)).unwrap_or(u64::MAX);
+                return Err(Halt::no_budget(plan.slot(label), Limit::Base { wanted }));
             }
         }
         Ok(())
@@ -177,20 +173,11 @@ fn take_in(plan: &Plan, parts: &mut Parts, taken: Part) {
 
 /// Takes in the terms at the end of a path, at the places where they come from.
 fn take_all(plan: &Plan, number: usize, to: usize, label: usize, parts: &mut Parts) {
-    for part in plan.parts(to) {
-        if let Some(part) = part {
-            if let Some(Tag { term, .. }) = plan.paths.source(number, part.counter.number()) {
-                let counter = counter_in(part.counter, term as usize);
-                if is_countable(plan, label, counter) {
-                    take_in(
-                        plan,
-                        parts,
-                        Part {
-                            counter,
-                            weight: part.weight,
-                        },
-                    );
-                }
+    for part in plan.parts(to).into_iter().flatten() {
+        if let Some(Tag { term, .. }) = plan.paths.source(number, part.counter.number()) {
+            let counter = counter_in(part.counter, term as usize);
+            if is_countable(plan, label, counter) {
+                take_in(plan, parts, Part { counter, ..part });
             }
         }
     }
@@ -199,18 +186,17 @@ fn take_all(plan: &Plan, number: usize, to: usize, label: usize, parts: &mut Par
 /// The terms of the labels behind a label, at the places where they come from.
 fn lifted_to(plan: &Plan, label: usize) -> Parts {
     let mut parts = [None; MAX_TERMS];
-    for number in plan.paths.first(label)..plan.paths.first(label.saturating_add(1)) {
-        if let Some(path) = plan.paths.at(number) {
-            if let Some(to) = path.to {
-                take_all(plan, number, to, label, &mut parts);
-            }
+    for number in plan.paths.leaving(label) {
+        if let Some(to) = plan.paths.at(number).and_then(|path| path.to) {
+            take_all(plan, number, to, label, &mut parts);
         }
     }
     parts
 }
 
 /// Finds the bases of a function's labels, where the terms stand. I2 at a label with a base above 2^40.
-pub fn settle_bases(alloc: Global, plan: &mut Plan, lifts: bool) -> Result<(), Halt> {
+pub fn settle_bases(plan: &mut Plan, lifts: bool) -> Result<(), Halt> {
+    let alloc = plan.alloc;
     let components = Components::of(alloc, &plan.paths.graph)?;
     let mut settling = Settling {
         nodes: components.nodes(alloc)?,

@@ -39,103 +39,27 @@ impl Candidate {
         self.changes
     }
 
-    /// Whether it falls on an arc.
-    fn is_strict(&self, arc: usize) -> bool {
-        get_or(&self.changes, arc, 0) < 0
+    /// The arcs on which it doesn't fall, of those that are left.
+    pub fn without_strict(&self, alloc: Global, left: &[usize]) -> Result<Vec<usize>, AllocError> {
+        let is_left = |number: &usize| get_or(&self.changes, *number, 0) >= 0;
+        left.iter().copied().filter(is_left).collect(alloc)
     }
-}
-
-// ---- following a place backwards
-
-/// The place that holds the counter at the start of an arc.
-fn place_before(plan: &Plan, component: &Component, places: &[usize], arc: &Arc) -> Option<usize> {
-    let tag = plan.paths.source(arc.path, number_in(places, arc.to))?;
-    let number = tag.term as usize;
-    if plan.is_counted(component.label(arc.from), number) {
-        None
-    } else {
-        Some(number)
-    }
-}
-
-/// By nodes, the places that hold the counter that a place holds at the first label. None if it isn't the same from all
-/// sides.
-fn places_of(
-    alloc: Global,
-    plan: &Plan,
-    component: &Component,
-    number: usize,
-) -> Result<Option<Vec<usize>>, AllocError> {
-    let mut places = vec![in alloc; number; component.labels.len()]?;
-    for arc in &component.tree {
-        let Some(before) = place_before(plan, component, &places, arc) else {
-            return Ok(None);
-        };
-        put(&mut places, arc.from, before);
-    }
-    Ok(Some(places))
-}
-
-/// How much the counter grows on an arc.
-fn growth(plan: &Plan, places: &[usize], arc: &Arc) -> Option<i128> {
-    let tag = plan.paths.source(arc.path, number_in(places, arc.to))?;
-    if tag.term as usize == number_in(places, arc.from) {
-        Some(tag.offset as i128)
-    } else {
-        None
-    }
-}
-
-/// By arcs, how much the counter grows. None if it isn't followed on one.
-fn growths(
-    alloc: Global,
-    plan: &Plan,
-    component: &Component,
-    places: &[usize],
-) -> Result<Option<Vec<i128>>, AllocError> {
-    let mut list = Vec::with_capacity(alloc, component.graph.arcs().len())?;
-    for arc in component.graph.arcs() {
-        let Some(growth) = growth(plan, places, arc) else {
-            return Ok(None);
-        };
-        list.push(growth)?;
-    }
-    Ok(Some(list))
 }
 
 // ---- measures
 
-/// Makes what grows fall, and what falls grow.
-fn turned(list: &mut Vec<i128>) {
-    for change in list.iter_mut() {
-        *change = 0i128.saturating_sub(*change);
-    }
-}
-
-/// Whether no change is above 0.
-fn never_grows(changes: &[i128]) -> bool {
-    for change in changes {
-        if *change > 0 {
-            return false;
-        }
-    }
-    true
-}
-
 /// What is counted, with the heights of the nodes added.
 fn level(graph: &Graph, heights: &[i128], changes: &mut Vec<i128>) {
-    for number in 0..graph.arcs().len() {
-        if let (Some(arc), Some(change)) = (graph.arcs().get(number), changes.get_mut(number)) {
-            let start = get_or(heights, arc.from, 0);
-            let end = get_or(heights, arc.to, 0);
-            *change = change.saturating_add(end).saturating_sub(start);
-        }
+    for (arc, change) in graph.arcs().iter().zip(changes.iter_mut()) {
+        let start = get_or(heights, arc.from, 0);
+        let end = get_or(heights, arc.to, 0);
+        *change = change.saturating_add(end).saturating_sub(start);
     }
 }
 
 /// Changes such that none is above 0, and the sums on cycles are the same. False if a cycle has a sum above 0.
 fn even_out(alloc: Global, graph: &Graph, changes: &mut Vec<i128>) -> Result<bool, AllocError> {
-    if never_grows(changes) {
+    if changes.iter().all(|change| *change <= 0) {
         return Ok(true);
     }
     let heights = vec![in alloc; 0; graph.count()]?;
@@ -148,134 +72,144 @@ fn even_out(alloc: Global, graph: &Graph, changes: &mut Vec<i128>) -> Result<boo
     }
 }
 
-/// The least and the greatest number in the place of a counter at the labels of a component.
-fn span_over(plan: &Plan, component: &Component, places: &[usize]) -> (u64, u64) {
-    let mut least = u64::MAX;
-    let mut most = 0;
-    for node in 0..component.labels.len() {
-        let span = plan.span(component.label(node), number_in(places, node));
-        least = least.min(span.lo);
-        most = most.max(span.hi);
-    }
-    (least, most)
-}
-
 /// The least by which something falls, where it does.
 fn least_step(changes: &[i128]) -> Option<i128> {
-    let mut step = None;
-    for change in changes {
-        if *change < 0 {
-            let fall = 0i128.saturating_sub(*change);
-            step = Some(fall.min(step.unwrap_or(fall)));
-        }
-    }
-    step
+    let falls = changes.iter().filter(|change| **change < 0);
+    falls.map(|change| 0i128.saturating_sub(*change)).min()
 }
 
-/// The counter of places that falls, or rises, if no cycle turns it and some path changes it.
-fn candidate_of(
-    alloc: Global,
-    plan: &Plan,
-    component: &Component,
-    places: &[usize],
-    changes: &[i128],
-    rises: bool,
-) -> Result<Option<Candidate>, AllocError> {
-    let mut changes = changes.to_vec(alloc)?;
-    if rises {
-        turned(&mut changes);
-    }
-    if !even_out(alloc, &component.graph, &mut changes)? {
-        return Ok(None);
-    }
-    let Some(step) = least_step(&changes) else {
-        return Ok(None);
-    };
-    let (least, most) = span_over(plan, component, places);
-    let (limit, range) = if rises {
-        (Some(most), most.saturating_sub(least))
-    } else {
-        (None, most)
-    };
-    let range = (range as i128).checked_div(step).unwrap_or(0);
-    Ok(Some(Candidate {
-        places: places.to_vec(alloc)?,
-        limit,
-        changes,
-        range,
-    }))
+// ---- following a place backwards
+
+/// What counts a component is sought by following places along its arcs.
+#[derive(Clone, Copy)]
+struct Search<'a> {
+    plan: &'a Plan<'a>,
+    component: &'a Component,
 }
 
-/// Adds the counters that a place at the first label gives.
-fn add_candidates(
-    alloc: Global,
-    plan: &Plan,
-    component: &Component,
-    number: usize,
-    list: &mut Vec<Candidate>,
-) -> Result<(), AllocError> {
-    let Some(places) = places_of(alloc, plan, component, number)? else {
-        return Ok(());
-    };
-    let Some(changes) = growths(alloc, plan, component, &places)? else {
-        return Ok(());
-    };
-    for rises in [false, true] {
-        if let Some(found) = candidate_of(alloc, plan, component, &places, &changes, rises)? {
-            list.push(found)?;
-        }
+impl<'a> Search<'a> {
+    /// Whether a place is counted already at the label of a node.
+    fn is_counted(&self, node: usize, number: usize) -> bool {
+        self.plan.is_counted(self.component.label(node), number)
     }
-    Ok(())
+
+    /// The place that holds the counter at the start of an arc.
+    fn place_before(&self, places: &[usize], arc: &Arc) -> Option<usize> {
+        let tag = self.plan.paths.source(arc.path, number_in(places, arc.to))?;
+        let number = tag.term as usize;
+        (!self.is_counted(arc.from, number)).then_some(number)
+    }
+
+    /// By nodes, the places that hold the counter that a place holds at the first label. None if it isn't the same from all
+    /// sides.
+    fn places_of(&self, number: usize) -> Result<Option<Vec<usize>>, AllocError> {
+        let mut places = vec![in self.plan.alloc; number; self.component.labels.len()]?;
+        for arc in &self.component.tree {
+            let Some(before) = self.place_before(&places, arc) else {
+                return Ok(None);
+            };
+            put(&mut places, arc.from, before);
+        }
+        Ok(Some(places))
+    }
+
+    /// How much the counter grows on an arc.
+    fn growth(&self, places: &[usize], arc: &Arc) -> Option<i128> {
+        let tag = self.plan.paths.source(arc.path, number_in(places, arc.to))?;
+        let is_followed = tag.term as usize == number_in(places, arc.from);
+        is_followed.then_some(tag.offset as i128)
+    }
+
+    /// By arcs, how much the counter grows. None if it isn't followed on one.
+    fn growths(&self, places: &[usize]) -> Result<Option<Vec<i128>>, AllocError> {
+        let arcs = self.component.graph.arcs();
+        let mut list = Vec::with_capacity(self.plan.alloc, arcs.len())?;
+        for arc in arcs {
+            let Some(growth) = self.growth(places, arc) else {
+                return Ok(None);
+            };
+            list.push(growth)?;
+        }
+        Ok(Some(list))
+    }
+
+    /// The least and the greatest number in the place of a counter at the labels of a component.
+    fn span_over(&self, places: &[usize]) -> (u64, u64) {
+        let mut least = u64::MAX;
+        let mut most = 0;
+        for (label, number) in self.component.labels.iter().zip(places) {
+            let span = self.plan.span(*label, *number);
+            least = least.min(span.lo);
+            most = most.max(span.hi);
+        }
+        (least, most)
+    }
+
+    /// The counter of places that falls, or rises, if no cycle turns it and some path changes it.
+    fn candidate_of(
+        &self,
+        places: &[usize],
+        growths: &[i128],
+        rises: bool,
+    ) -> Result<Option<Candidate>, AllocError> {
+        let alloc = self.plan.alloc;
+        let sign = if rises { -1i128 } else { 1 };
+        let signed = growths.iter().map(|growth| growth.saturating_mul(sign));
+        let mut changes: Vec<i128> = signed.collect(alloc)?;
+        if !even_out(alloc, &self.component.graph, &mut changes)? {
+            return Ok(None);
+        }
+        let Some(step) = least_step(&changes) else {
+            return Ok(None);
+        };
+        let (least, most) = self.span_over(places);
+        let (limit, range) = if rises {
+            (Some(most), most.saturating_sub(least))
+        } else {
+            (None, most)
+        };
+        Ok(Some(Candidate {
+            places: places.to_vec(alloc)?,
+            limit,
+            changes,
+            range: (range as i128).checked_div(step).unwrap_or(0),
+        }))
+    }
+
+    /// Adds the counters that a place at the first label gives.
+    fn add(&self, number: usize, list: &mut Vec<Candidate>) -> Result<(), AllocError> {
+        let Some(places) = self.places_of(number)? else {
+            return Ok(());
+        };
+        let Some(growths) = self.growths(&places)? else {
+            return Ok(());
+        };
+        for rises in [false, true] {
+            if let Some(found) = self.candidate_of(&places, &growths, rises)? {
+                list.push(found)?;
+            }
+        }
+        Ok(())
+    }
 }
 
 /// All that may count the rounds of a component.
-pub fn candidates_of(
-    alloc: Global,
-    plan: &Plan,
-    component: &Component,
+pub fn candidates_of<'x>(
+    plan: &'x Plan<'x>,
+    component: &'x Component,
 ) -> Result<Vec<Candidate>, AllocError> {
-    let mut list = Vec::new(alloc);
-    let first = component.label(0);
+    let search = Search { plan, component };
+    let mut list = Vec::new(plan.alloc);
     for number in 0..PLACES {
-        let is_number = matches!(plan.said(first, number), RegState::Num(_));
-        if is_number && !plan.is_counted(first, number) {
-            add_candidates(alloc, plan, component, number, &mut list)?;
+        let is_number = matches!(plan.said(component.label(0), number), RegState::Num(_));
+        if is_number && !search.is_counted(0, number) {
+            search.add(number, &mut list)?;
         }
     }
     Ok(list)
 }
 
 // ---- choosing
-
-/// The arcs on which what was left doesn't fall, by their numbers in the component.
-pub fn without_strict(
-    alloc: Global,
-    left: &[usize],
-    candidate: &Candidate,
-) -> Result<Vec<usize>, AllocError> {
-    let mut list = Vec::with_capacity(alloc, left.len())?;
-    for number in left {
-        if !candidate.is_strict(*number) {
-            list.push(*number)?;
-        }
-    }
-    Ok(list)
-}
-
-/// The graph of some arcs of a component.
-pub fn graph_of(
-    alloc: Global,
-    component: &Component,
-    numbers: &[usize],
-) -> Result<Graph, AllocError> {
-    let mut arcs = Vec::with_capacity(alloc, numbers.len())?;
-    for number in numbers {
-        if let Some(arc) = component.graph.arcs().get(*number) {
-            arcs.push(*arc)?;
-        }
-    }
-    Graph::of(alloc, component.graph.count(), arcs)
-}
 
 /// A candidate by its number, and how many labels stay on cycles.
 #[derive(Clone, Copy)]
@@ -294,21 +228,15 @@ pub fn choose(
     left: &[usize],
 ) -> Result<Option<Choice>, AllocError> {
     let mut best: Option<Choice> = None;
-    for number in 0..candidates.len() {
-        if let Some(candidate) = candidates.get(number) {
-            let numbers = without_strict(alloc, left, candidate)?;
-            let choice = Choice {
-                number,
-                cyclic: nodes_on_cycles(alloc, &graph_of(alloc, component, &numbers)?)?,
-                range: candidate.range,
-            };
-            let is_better = match best {
-                Some(best) => (choice.cyclic, choice.range) < (best.cyclic, best.range),
-                None => true,
-            };
-            if is_better {
-                best = Some(choice);
-            }
+    for (number, candidate) in candidates.iter().enumerate() {
+        let numbers = candidate.without_strict(alloc, left)?;
+        let choice = Choice {
+            number,
+            cyclic: nodes_on_cycles(alloc, &component.part(alloc, &numbers)?)?,
+            range: candidate.range,
+        };
+        if best.is_none_or(|best| (choice.cyclic, choice.range) < (best.cyclic, best.range)) {
+            best = Some(choice);
         }
     }
     Ok(best)

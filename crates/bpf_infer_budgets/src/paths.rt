@@ -4,12 +4,13 @@ use crate::draft::{Draft, Price};
 use bpf_cert::{Function, Label};
 use bpf_infer_base::{
     Arc, Blocks, Callee, Edge, Fault, Graph, PLACES, Span, Task, Visitor, get_or, load, number_at,
-    place, said, tag_own,
+    number_in, place, said, tag_own,
 };
 use bpf_infer_error::InferError;
 use bpf_insn::{Insn, Reg};
 use bpf_state::{RegState, State, Tag, enter};
 use std::alloc::{AllocError, Global};
+use std::ops::Range;
 
 /// What a place holds at the end of a path. Its source is the place that held it at the start, less an offset.
 #[derive(Clone, Copy)]
@@ -40,8 +41,8 @@ pub struct Paths {
     list: Vec<Path>,
     /// What places hold at the ends of the paths, if their labels say that it is a number.
     held: Vec<Moved>,
-    /// By labels, how many paths leave it or lower ones.
-    ends: Vec<usize>,
+    /// By labels, the number of the first path that leaves this one or a later one.
+    starts: Vec<usize>,
 }
 
 impl Paths {
@@ -55,24 +56,15 @@ impl Paths {
         self.list.get(number)
     }
 
-    /// The number of the first path that leaves a label or a higher one.
-    pub fn first(&self, label: usize) -> usize {
-        match label.checked_sub(1) {
-            Some(before) => get_or(&self.ends, before, 0),
-            None => 0,
-        }
+    /// The numbers of the paths that leave a label.
+    pub fn leaving(&self, label: usize) -> Range<usize> {
+        number_in(&self.starts, label)..number_in(&self.starts, label.saturating_add(1))
     }
 
     /// What a place holds at the end of a path, if its label says that it is a number.
     pub fn held(&self, path: &Path, number: usize) -> Option<&Moved> {
-        for index in path.held_from..path.held_to {
-            if let Some(held) = self.held.get(index) {
-                if held.number == number {
-                    return Some(held);
-                }
-            }
-        }
-        None
+        let held = self.held.get(path.held_from..path.held_to)?;
+        held.iter().find(|held| held.number == number)
     }
 
     /// Where the number in a place comes from on a path.
@@ -80,6 +72,17 @@ impl Paths {
         let path = self.at(path)?;
         self.held(path, number)?.source
     }
+}
+
+/// The arcs from label to label among some paths, each with the number of its path.
+fn arcs_of(alloc: Global, paths: &[Path]) -> Result<Vec<Arc>, AllocError> {
+    let mut arcs = Vec::new(alloc);
+    for (number, path) in paths.iter().enumerate() {
+        if let Some(to) = path.to {
+            arcs.push(Arc::numbered(path.from, to, number))?;
+        }
+    }
+    Ok(arcs)
 }
 
 /// A walk over a function, and what it came to.
@@ -90,9 +93,8 @@ struct Walker<'a> {
     /// What is known to be the price of each function so far; nothing where it isn't known.
     prices: &'a [Price],
     list: Vec<Path>,
-    arcs: Vec<Arc>,
     held: Vec<Moved>,
-    ends: Vec<usize>,
+    starts: Vec<usize>,
     /// The cost since the last label.
     cost: i128,
 }
@@ -166,11 +168,9 @@ impl<'a> Walker<'a> {
     fn walk_all(&mut self, task: &Task) -> Result<(), InferError> {
         let function = self.function;
         let mut room = State::blank();
-        for number in 0..function.labels.len() {
-            if let Some(label) = function.labels.get(number) {
-                self.walk(task, number, label, &mut room)?;
-            }
-            self.ends.push(self.list.len())?;
+        for (number, label) in function.labels.iter().enumerate() {
+            self.walk(task, number, label, &mut room)?;
+            self.starts.push(self.list.len())?;
         }
         Ok(())
     }
@@ -195,11 +195,6 @@ impl<'a> Visitor for Walker<'a> {
         }
         let held_from = self.held.len();
         self.note(state, label)?;
-        self.arcs.push(Arc {
-            from: edge.from,
-            to: edge.to,
-            path: self.list.len(),
-        })?;
         self.end(edge.from, Some(edge.to), held_from)?;
         Ok(())
     }
@@ -235,37 +230,28 @@ impl<'a> Visitor for Walker<'a> {
 /// The paths of a function. I1 if a state on one doesn't lie in its label's, I4 at an instruction that is refused or not
 /// reached.
 pub fn paths_of(
-    alloc: Global,
     draft: Draft,
     number: usize,
     function: &Function,
     prices: &[Price],
 ) -> Result<Paths, InferError> {
-    let blocks = draft.blocks(alloc, number, function)?;
+    let (alloc, blocks) = (draft.whole.alloc, draft.blocks(number, function)?);
     let mut walker = Walker {
         functions: draft.functions,
         function,
         prices,
         list: Vec::new(alloc),
-        arcs: Vec::new(alloc),
         held: Vec::new(alloc),
-        ends: Vec::new(alloc),
+        starts: vec![in alloc; 0]?,
         cost: 0,
     };
     walker.walk_all(&draft.task(&blocks))?;
-    let Walker {
-        list,
-        arcs,
-        held,
-        ends,
-        ..
-    } = walker;
-    let graph = Graph::of(alloc, function.labels.len(), arcs)?;
+    let arcs = arcs_of(alloc, &walker.list)?;
     Ok(Paths {
         blocks,
-        graph,
-        list,
-        held,
-        ends,
+        graph: Graph::of(alloc, function.labels.len(), arcs)?,
+        list: walker.list,
+        held: walker.held,
+        starts: walker.starts,
     })
 }

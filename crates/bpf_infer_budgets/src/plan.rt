@@ -20,6 +20,7 @@ pub type Parts = [Option<Part>; MAX_TERMS];
 /// Budgets of a function's labels.
 #[derive(Drop)]
 pub struct Plan<'a> {
+    pub alloc: Global,
     pub function: &'a Function,
     pub paths: &'a Paths,
     /// By labels.
@@ -28,18 +29,6 @@ pub struct Plan<'a> {
     weights: Vec<i128>,
     /// By labels.
     pub bases: Vec<i128>,
-}
-
-/// The part that counts a place.
-fn part_of(parts: &Parts, number: usize) -> Option<Part> {
-    for part in parts {
-        if let Some(part) = part {
-            if part.counter.number() == number {
-                return Some(*part);
-            }
-        }
-    }
-    None
 }
 
 impl<'a> Plan<'a> {
@@ -51,6 +40,7 @@ impl<'a> Plan<'a> {
     ) -> Result<Plan<'a>, AllocError> {
         let count = function.labels.len();
         Ok(Plan {
+            alloc,
             function,
             paths,
             parts: vec![in alloc; [None; MAX_TERMS]; count]?,
@@ -95,7 +85,8 @@ impl<'a> Plan<'a> {
 
     /// The term of a label's budget that counts a place.
     pub fn part(&self, label: usize, number: usize) -> Option<Part> {
-        part_of(self.parts.get(label)?, number)
+        let mut parts = self.parts.get(label)?.iter().flatten();
+        parts.find(|part| part.counter.number() == number).copied()
     }
 
     /// Whether a place is counted at a label.
@@ -111,11 +102,8 @@ impl<'a> Plan<'a> {
     /// Adds a term to a label's, if there are fewer than four.
     pub fn add_part(&mut self, label: usize, added: Part) {
         let mut parts = self.parts(label);
-        for part in parts.iter_mut() {
-            if part.is_none() {
-                *part = Some(added);
-                break;
-            }
+        if let Some(part) = parts.iter_mut().find(|part| part.is_none()) {
+            *part = Some(added);
         }
         self.set_parts(label, parts);
     }
@@ -149,12 +137,10 @@ impl<'a> Plan<'a> {
     /// How much of an old term's place the new terms on a path take, less what the old one gives, at the greatest.
     fn taken(&self, path: &Path, old: Part, parts: &Parts) -> i128 {
         let mut line = Line::ZERO.minus(self.line(old));
-        for part in parts {
-            if let Some(part) = part {
-                if let Some(tag) = self.source(path, *part) {
-                    if tag.term as usize == old.counter.number() {
-                        line = line.plus(self.line(*part).moved(tag.offset));
-                    }
+        for part in parts.iter().flatten() {
+            if let Some(tag) = self.source(path, *part) {
+                if tag.term as usize == old.counter.number() {
+                    line = line.plus(self.line(*part).moved(tag.offset));
                 }
             }
         }
@@ -163,13 +149,8 @@ impl<'a> Plan<'a> {
 
     /// Where a new term's place comes from, if that is the place of an old term.
     fn source(&self, path: &Path, part: Part) -> Option<Tag> {
-        let held = self.paths.held(path, part.counter.number())?;
-        let tag = held.source?;
-        if self.is_counted(path.from, tag.term as usize) {
-            Some(tag)
-        } else {
-            None
-        }
+        let tag = self.paths.held(path, part.counter.number())?.source?;
+        self.is_counted(path.from, tag.term as usize).then_some(tag)
     }
 
     /// What a new term takes on a path beside the old places, at the greatest.
@@ -177,19 +158,16 @@ impl<'a> Plan<'a> {
         if self.source(path, part).is_some() {
             return 0;
         }
-        match self.paths.held(path, part.counter.number()) {
-            Some(held) => self.line(part).greatest(held.span),
-            None => self.line(part).greatest(Span::ALL),
-        }
+        let held = self.paths.held(path, part.counter.number());
+        self.line(part)
+            .greatest(held.map_or(Span::ALL, |held| held.span))
     }
 
     /// As `taken` for all old terms together.
     fn taken_by_all(&self, path: &Path, parts: &Parts) -> i128 {
         let mut sum = 0i128;
-        for old in self.parts(path.from) {
-            if let Some(old) = old {
-                sum = sum.saturating_add(self.taken(path, old, parts));
-            }
+        for old in self.parts(path.from).into_iter().flatten() {
+            sum = sum.saturating_add(self.taken(path, old, parts));
         }
         sum
     }
@@ -197,15 +175,10 @@ impl<'a> Plan<'a> {
     /// What the base at the start of a path has to pay beside the one at its end: its cost, and what terms take more than
     /// terms give.
     pub fn length(&self, path: &Path) -> i128 {
-        let parts = match path.to {
-            Some(to) => self.parts(to),
-            None => [None; MAX_TERMS],
-        };
+        let parts = path.to.map_or([None; MAX_TERMS], |to| self.parts(to));
         let mut sum = path.cost.saturating_add(self.taken_by_all(path, &parts));
-        for part in parts {
-            if let Some(part) = part {
-                sum = sum.saturating_add(self.free(path, part));
-            }
+        for part in parts.into_iter().flatten() {
+            sum = sum.saturating_add(self.free(path, part));
         }
         sum
     }
@@ -214,27 +187,20 @@ impl<'a> Plan<'a> {
 
     /// What a call of the function costs.
     pub fn price(&self) -> Price {
-        let mut price = Price {
+        Price {
             base: self.base(0),
-            lines: [None; MAX_TERMS],
-        };
-        let parts = self.parts(0);
-        for i in 0..MAX_TERMS {
-            if let Some(part) = parts[i] {
-                price.lines[i] = Some((part.counter.number(), self.line(part)));
-            }
+            lines: self.parts(0).map(|part| {
+                part.map(|part| (part.counter.number(), self.line(part)))
+            }),
         }
-        price
     }
 
     /// The greatest budget at a label.
     pub fn greatest(&self, label: usize) -> i128 {
         let mut sum = self.base(label);
-        for part in self.parts(label) {
-            if let Some(part) = part {
-                let span = self.span(label, part.counter.number());
-                sum = sum.saturating_add(self.line(part).greatest(span));
-            }
+        for part in self.parts(label).into_iter().flatten() {
+            let span = self.span(label, part.counter.number());
+            sum = sum.saturating_add(self.line(part).greatest(span));
         }
         sum
     }

@@ -13,10 +13,10 @@ use crate::weights::weigh;
 use arrayvec::ArrayVec;
 use bpf_cert::{Budget, Function};
 use bpf_infer_base::{
-    Cfg, Halt, Limit, Meter, Obstacle, PLACES, Proposal, Quest, Sketch, Stop, Watch, put, vacant,
+    Halt, Limit, Meter, Obstacle, PLACES, Proposal, Sketch, Stop, Task, Watch, put, vacant,
 };
 use bpf_state::State;
-use std::alloc::{AllocError, Global};
+use std::alloc::AllocError;
 
 /// The budget at a label, its terms by their places.
 fn budget_of(plan: &Plan, label: usize) -> Budget {
@@ -35,24 +35,17 @@ fn budget_of(plan: &Plan, label: usize) -> Budget {
 }
 
 /// The budgets of a function's labels.
-fn budgets_of(alloc: Global, plan: &Plan) -> Result<Vec<Budget>, AllocError> {
-    let count = plan.function.labels.len();
-    let mut budgets = Vec::with_capacity(alloc, count)?;
-    for label in 0..count {
-        budgets.push(budget_of(plan, label))?;
-    }
-    Ok(budgets)
+fn budgets_of(plan: &Plan) -> Result<Vec<Budget>, AllocError> {
+    let labels = 0..plan.function.labels.len();
+    labels
+        .map(|label| budget_of(plan, label))
+        .collect(plan.alloc)
 }
 
 /// I2 at the lowest label of a component without a counter.
-fn stop_at(
-    alloc: Global,
-    draft: Draft,
-    plan: &Plan,
-    uncounted: Uncounted,
-) -> Result<Stop, AllocError> {
+fn stop_at(draft: Draft, plan: &Plan, uncounted: Uncounted) -> Result<Stop, AllocError> {
     let obstacle = match &uncounted.component {
-        Some(component) => Obstacle::NoCounter(trials_of(alloc, draft, plan, component)?),
+        Some(component) => Obstacle::NoCounter(trials_of(draft, plan, component)?),
         None => Obstacle::Over(Limit::Terms),
     };
     Ok(Stop::no_budget(plan.slot(uncounted.label), obstacle))
@@ -60,21 +53,20 @@ fn stop_at(
 
 /// Finds the counters of a function, their weights and the bases.
 fn rank<W: Watch>(
-    alloc: Global,
     draft: Draft,
     number: usize,
     plan: &mut Plan,
     meter: &mut Meter<'_, W>,
 ) -> Result<(), Stop> {
-    let mut groups = Groups::of(alloc, plan, meter)?;
+    let mut groups = Groups::of(plan, meter)?;
     if let Some(uncounted) = groups.uncounted.take() {
-        return Err(stop_at(alloc, draft, plan, uncounted)?);
+        return Err(stop_at(draft, plan, uncounted)?);
     }
     for group in groups.list.iter().rev() {
         meter.tell(group.component.labels.len(), 0);
-        weigh(alloc, plan, group)?;
+        weigh(plan, group)?;
     }
-    settle_bases(alloc, plan, number > 0)?;
+    settle_bases(plan, number > 0)?;
     Ok(())
 }
 
@@ -90,7 +82,6 @@ impl Ranking {
     /// Finds the budgets of a function and what a call of it costs.
     fn rank<W: Watch>(
         &mut self,
-        alloc: Global,
         draft: Draft,
         number: usize,
         meter: &mut Meter<'_, W>,
@@ -98,45 +89,36 @@ impl Ranking {
         let Some(function) = draft.functions.get(number) else {
             return Ok(());
         };
-        let paths = paths_of(alloc, draft, number, function, &self.prices)?;
-        let mut plan = Plan::new(alloc, function, &paths)?;
-        rank(alloc, draft, number, &mut plan, meter)?;
+        let paths = paths_of(draft, number, function, &self.prices)?;
+        let mut plan = Plan::new(draft.whole.alloc, function, &paths)?;
+        rank(draft, number, &mut plan, meter)?;
         put(&mut self.prices, number, plan.price());
-        put(&mut self.budgets, number, Some(budgets_of(alloc, &plan)?));
+        put(&mut self.budgets, number, Some(budgets_of(&plan)?));
         Ok(())
     }
 }
 
 /// The budgets of the functions of a draft, callees first.
-fn ranking_of<W: Watch>(
-    alloc: Global,
-    draft: Draft,
-    meter: &mut Meter<'_, W>,
-) -> Result<Ranking, Stop> {
+fn ranking_of<W: Watch>(draft: Draft, meter: &mut Meter<'_, W>) -> Result<Ranking, Stop> {
     let count = draft.functions.len();
     let mut ranking = Ranking {
-        prices: vec![in alloc; Price::NONE; count]?,
-        budgets: vacant(alloc, count)?,
+        prices: vec![in draft.whole.alloc; Price::NONE; count]?,
+        budgets: vacant(draft.whole.alloc, count)?,
     };
-    for number in draft.cfg.callees_first() {
-        ranking.rank(alloc, draft, *number, meter)?;
+    for number in &draft.whole.cfg.callees_first {
+        ranking.rank(draft, *number, meter)?;
     }
     Ok(ranking)
 }
 
 /// The greatest number of steps of a run from a state. I2 at slot 0 above 2^32 - 1.
 fn steps_from(ranking: &Ranking, start: &State) -> Result<u32, Halt> {
-    let steps = match ranking.prices.first() {
-        Some(price) => price.greatest(start),
-        None => 0,
-    };
-    match u32::try_from(steps) {
-        Ok(steps) => Ok(steps),
-        Err(_) => {
-            let wanted = u64::try_from(steps).unwrap_or(u64::MAX);
-            Err(Halt::no_budget(0, Limit::Steps { wanted }))
-        }
-    }
+    let steps = ranking
+        .prices
+        .first()
+        .map_or(0, |price| price.greatest(start));
+    let wanted = u64::try_from(steps).unwrap_or(u64::MAX);
+    u32::try_from(steps).map_err(|_error| Halt::no_budget(0, Limit::Steps { wanted }))
 }
 
 /// Gives a function's labels their budgets.
@@ -157,32 +139,24 @@ fn put_all(functions: &mut Vec<Function>, budgets: Vec<Option<Vec<Budget>>>) {
 
 /// What is found for a draft: the steps that it is to promise, and the budgets of its functions.
 fn budgeted<W: Watch>(
-    alloc: Global,
-    quest: Quest<'_>,
-    cfg: &Cfg,
+    task: Task,
     functions: &[Function],
     meter: &mut Meter<'_, W>,
 ) -> Result<(u32, Vec<Option<Vec<Budget>>>), Stop>
-    requires { quest.least ≤ quest.most }
+    requires { task.least ≤ task.most }
 {
-    let rets = rets_of(alloc, functions)?;
-    let draft = Draft {
-        quest,
-        cfg,
-        functions,
-        rets: &rets,
-    };
-    let ranking = ranking_of(alloc, draft, meter)?;
-    let steps = steps_from(&ranking, &quest.start())?;
+    let rets = rets_of(task.alloc, functions)?;
+    let ranking = ranking_of(Draft::of(task, functions, &rets), meter)?;
+    let steps = steps_from(&ranking, &task.start())?;
     Ok((steps, ranking.budgets))
 }
 
 /// A refusal with the states of a draft.
-fn with_states(quest: Quest<'_>, functions: Vec<Function>, stop: Stop) -> Stop {
+fn with_states(task: Task, functions: Vec<Function>, stop: Stop) -> Stop {
     let Stop { error, sketch } = stop;
     Stop {
         error,
-        sketch: Sketch::of(quest.least, quest.most, functions, sketch.obstacle),
+        sketch: Sketch::of(task.least, task.most, functions, sketch.obstacle),
     }
 }
 
@@ -190,19 +164,17 @@ fn with_states(quest: Quest<'_>, functions: Vec<Function>, stop: Stop) -> Stop {
 /// label of the loops that nothing counts; I4 at an instruction that is refused or not reached. A refusal has the draft's
 /// states.
 pub fn ranked<W: Watch>(
-    alloc: Global,
-    quest: Quest<'_>,
-    cfg: &Cfg,
+    task: Task,
     mut functions: Vec<Function>,
     meter: &mut Meter<'_, W>,
 ) -> Result<Proposal, Stop>
-    requires { quest.least ≤ quest.most }
+    requires { task.least ≤ task.most }
 {
-    match budgeted(alloc, quest, cfg, &functions, meter) {
+    match budgeted(task, &functions, meter) {
         Ok((steps, budgets)) => {
             put_all(&mut functions, budgets);
             Ok(Proposal { steps, functions })
         }
-        Err(stop) => Err(with_states(quest, functions, stop)),
+        Err(stop) => Err(with_states(task, functions, stop)),
     }
 }

@@ -5,16 +5,15 @@ use crate::draft::Draft;
 use crate::plan::Plan;
 use bpf_infer_base::{Losses, Move, PLACES, Shift, Tracker, Trial, get_or, place, put};
 use bpf_state::State;
-use std::alloc::{AllocError, Global};
+use std::alloc::AllocError;
 
 /// How a place moves from the first label of a component to itself, past rounds of inner loops; None if it isn't followed.
 fn round_of(
-    alloc: Global,
     plan: &Plan,
     component: &Component,
     number: usize,
 ) -> Result<Option<Shift>, AllocError> {
-    let mut shifts = vec![in alloc; None; component.labels.len()]?;
+    let mut shifts = vec![in plan.alloc; None; component.labels.len()]?;
     put(&mut shifts, 0, Some(Shift::NONE));
     let mut around = None;
     for arc in component.graph.arcs() {
@@ -52,24 +51,21 @@ fn losses_in(draft: Draft, plan: &Plan, component: &Component) -> Result<Losses,
 
 /// The places that were tried as counters of a component, with what they do in a round.
 pub fn trials_of(
-    alloc: Global,
     draft: Draft,
     plan: &Plan,
     component: &Component,
 ) -> Result<Vec<Trial>, AllocError> {
     let losses = losses_in(draft, plan, component)?;
     let first = component.label(0);
-    let mut trials = Vec::new(alloc);
+    let mut trials = Vec::new(plan.alloc);
     for number in 0..PLACES {
         if plan.is_counted(first, number) {
             continue;
         }
-        let shift = round_of(alloc, plan, component, number)?;
+        let shift = round_of(plan, component, number)?;
         if let Some(moves) = Move::of(plan.said(first, number), shift, losses[number]) {
-            trials.push(Trial {
-                place: place(number),
-                moves,
-            })?;
+            let place = place(number);
+            trials.push(Trial { place, moves })?;
         }
     }
     Ok(trials)

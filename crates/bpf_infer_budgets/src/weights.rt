@@ -1,10 +1,9 @@
 //! How often the counters of a group are counted: longest paths to their steps, and halving for the least weights.
 
-use crate::candidates::graph_of;
 use crate::groups::{Counted, Group};
 use crate::plan::Plan;
 use bpf_cert::MAX_WEIGHT;
-use bpf_infer_base::{Graph, Halt, Limit, get_or, longest_paths, put};
+use bpf_infer_base::{Arc, Graph, Halt, Limit, get_or, longest_paths, put};
 use std::alloc::{AllocError, Global};
 
 /// The most labels of a component whose weights are made least.
@@ -17,24 +16,15 @@ pub const MOST_PASSES: usize = 1024;
 const HALVINGS: usize = 20;
 
 /// By arcs, what bases have to pay beside one another.
-fn lengths_of(alloc: Global, plan: &Plan, graph: &Graph) -> Result<Vec<i128>, AllocError> {
-    let mut lengths = Vec::with_capacity(alloc, graph.arcs().len())?;
-    for arc in graph.arcs() {
-        let length = match plan.paths.at(arc.path) {
-            Some(path) => plan.length(path),
-            None => 0,
-        };
-        lengths.push(length)?;
-    }
-    Ok(lengths)
+fn lengths_of(plan: &Plan, graph: &Graph) -> Result<Vec<i128>, AllocError> {
+    let length_of = |arc: &Arc| plan.paths.at(arc.path).map_or(0, |path| plan.length(path));
+    graph.arcs().iter().map(length_of).collect(plan.alloc)
 }
 
 /// Adds what a counter grows by, so many times.
 fn add_changes(sums: &mut Vec<i128>, counted: &Counted, weight: i128) {
-    for number in 0..counted.changes.len() {
-        if let (Some(sum), Some(change)) = (sums.get_mut(number), counted.changes.get(number)) {
-            *sum = sum.saturating_add(change.saturating_mul(weight));
-        }
+    for (sum, change) in sums.iter_mut().zip(&counted.changes) {
+        *sum = sum.saturating_add(change.saturating_mul(weight));
     }
 }
 
@@ -100,15 +90,6 @@ impl Split {
     }
 }
 
-/// The greatest of some numbers, 0 if all are below.
-fn greatest_of(list: &[i128]) -> i128 {
-    let mut greatest = 0;
-    for number in list {
-        greatest = greatest.max(*number);
-    }
-    greatest
-}
-
 /// How many passes a graph of so many nodes is given.
 fn passes_over(count: usize) -> usize {
     count.saturating_add(2).min(MOST_PASSES)
@@ -122,35 +103,30 @@ fn weight_of(alloc: Global, group: &Group, lengths: &[i128]) -> Result<Option<i1
         heights,
         step,
     } = Split::of(alloc, group, lengths)?;
-    let graph = graph_of(alloc, &group.component, &left)?;
+    let graph = group.component.part(alloc, &left)?;
     let Some(heights) = longest_paths(&graph, &lengths, heights, passes_over(graph.count())) else {
         return Ok(None);
     };
-    let rounded = greatest_of(&heights).saturating_add(step.saturating_sub(1));
+    let greatest = heights.iter().copied().max().unwrap_or(0).max(0);
+    let rounded = greatest.saturating_add(step.saturating_sub(1));
     Ok(Some(rounded.checked_div(step).unwrap_or(1).max(1)))
 }
 
 // ---- the least weights
 
 /// Whether no cycle costs more than the counters pay.
-fn is_paid(
-    alloc: Global,
-    plan: &Plan,
-    group: &Group,
-    lengths: &[i128],
-) -> Result<bool, AllocError> {
-    let mut sums = lengths.to_vec(alloc)?;
+fn is_paid(plan: &Plan, group: &Group, lengths: &[i128]) -> Result<bool, AllocError> {
+    let mut sums = lengths.to_vec(plan.alloc)?;
     for counted in &group.counters {
         add_changes(&mut sums, counted, plan.weight(counted.weight));
     }
     let graph = &group.component.graph;
-    let heights = vec![in alloc; 0; graph.count()]?;
+    let heights = vec![in plan.alloc; 0; graph.count()]?;
     Ok(longest_paths(graph, &sums, heights, passes_over(graph.count())).is_some())
 }
 
 /// Makes a weight the least with which cycles are paid.
 fn lower(
-    alloc: Global,
     plan: &mut Plan,
     group: &Group,
     lengths: &[i128],
@@ -164,7 +140,7 @@ fn lower(
         }
         let middle = least.saturating_add(most).checked_div(2).unwrap_or(least);
         plan.set_weight(number, middle);
-        if is_paid(alloc, plan, group, lengths)? {
+        if is_paid(plan, group, lengths)? {
             most = middle;
         } else {
             least = middle.saturating_add(1);
@@ -176,10 +152,10 @@ fn lower(
 
 /// Gives the counters of a group their weights; those of inner groups have theirs. I2 at the lowest label of a group with
 /// a weight above 2^20.
-pub fn weigh(alloc: Global, plan: &mut Plan, group: &Group) -> Result<(), Halt> {
-    let lengths = lengths_of(alloc, plan, &group.component.graph)?;
+pub fn weigh(plan: &mut Plan, group: &Group) -> Result<(), Halt> {
+    let lengths = lengths_of(plan, &group.component.graph)?;
     let slot = plan.slot(group.component.label(0));
-    let Some(weight) = weight_of(alloc, group, &lengths)? else {
+    let Some(weight) = weight_of(plan.alloc, group, &lengths)? else {
         return Err(Halt::no_budget(slot, Limit::Passes));
     };
     if weight > MAX_WEIGHT as i128 {
@@ -191,7 +167,7 @@ pub fn weigh(alloc: Global, plan: &mut Plan, group: &Group) -> Result<(), Halt> 
     }
     if group.component.labels.len() <= FEW_LABELS {
         for counted in &group.counters {
-            lower(alloc, plan, group, &lengths, counted.weight)?;
+            lower(plan, group, &lengths, counted.weight)?;
         }
     }
     Ok(())

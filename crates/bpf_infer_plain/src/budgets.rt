@@ -3,13 +3,11 @@
 use crate::loops::{Loop, Loops, loops_of};
 use crate::rounds::Rounds;
 use bpf_cert::{MAX_BASE, MAX_WEIGHT};
-use bpf_infer_base::{
-    Callee, Counter, Edge, Line, Span, Task, Visitor, get_or, load_at, place, put,
-};
+use bpf_infer_base::{Callee, Counter, Edge, Line, Span, Visitor, get_or, load_at, place, put};
 use bpf_infer_error::InferError;
 use bpf_insn::Insn;
 use bpf_state::{State, Tag};
-use std::alloc::{AllocError, Global};
+use std::alloc::AllocError;
 
 /// What the place of an edge's target holds: an offset more than the place of the label before did, or any number of
 /// some.
@@ -30,9 +28,9 @@ struct Path {
 
 /// The budget at a label.
 #[derive(Clone, Copy)]
-pub struct Plan {
+struct Plan {
     /// At most 2^40, where no limit is passed.
-    pub base: i128,
+    base: i128,
     /// At a loop's head the weight of its counter, from 1 to 2^20.
     weight: i128,
     /// What the counter's place holds.
@@ -99,31 +97,27 @@ impl Visitor for Budgets {
 }
 
 impl Budgets {
-    /// The budget's base, and its counter with the weight.
-    pub fn at(&self, block: usize) -> (i128, Option<(Counter, i128)>) {
-        let base = self.plan(block).base;
-        match self.loops.at(block) {
-            Some(
-                Loop {
-                    counter: Some(counter),
-                    head,
-                    ..
-                },
-            ) => (base, Some((counter, self.plan(head).weight))),
-            _ => (base, None),
-        }
-    }
-
     /// What is planned at a label.
     fn plan(&self, block: usize) -> Plan {
         get_or(&self.plans, block, Plan::NONE)
     }
 
+    /// The base of a label's budget.
+    pub fn base(&self, block: usize) -> i128 {
+        self.plan(block).base
+    }
+
+    /// The counter of a label's budget, with its weight.
+    pub fn counted(&self, block: usize) -> Option<(Counter, i128)> {
+        let found = self.loops.at(block)?;
+        Some((found.counter?, self.plan(found.head).weight))
+    }
+
     /// The term of a label's budget, as a line over what its place holds.
     fn line_at(&self, block: usize) -> Line {
-        match self.at(block) {
-            (_, Some((counter, weight))) => Line::of(counter, weight),
-            (_, None) => Line::ZERO,
+        match self.counted(block) {
+            Some((counter, weight)) => Line::of(counter, weight),
+            None => Line::ZERO,
         }
     }
 
@@ -140,11 +134,11 @@ impl Budgets {
 
     /// The greatest budget of a label over a state.
     pub fn greatest(&self, block: usize, state: &State) -> i128 {
-        let base = self.plan(block).base;
-        match self.loops.counter_at(block) {
-            Some(counter) => {
+        let base = self.base(block);
+        match self.counted(block) {
+            Some((counter, weight)) => {
                 let span = Span::of(state, counter.number());
-                base.saturating_add(self.line_at(block).greatest(span))
+                base.saturating_add(Line::of(counter, weight).greatest(span))
             }
             None => base,
         }
@@ -164,18 +158,17 @@ impl Budgets {
     /// Goes over a block, and takes note of its paths and of what its counter holds.
     fn walk_over(
         &mut self,
-        task: &Task,
         rounds: &Rounds,
         block: usize,
-        state: &mut State,
+        room: &mut State,
     ) -> Result<(), InferError> {
-        if !load_at(&rounds.states, block, state) {
+        if !load_at(&rounds.states, block, room) {
             return Ok(());
         }
-        let span = self.tag_counter(block, state);
+        let span = self.tag_counter(block, room);
         let paths_from = self.paths.len();
         self.cost = 0;
-        if let Err(fault) = task.walk(block, state, self)? {
+        if let Err(fault) = rounds.task.walk(block, room, self)? {
             return Err(fault.refusal());
         }
         let plan = Plan {
@@ -189,16 +182,10 @@ impl Budgets {
     }
 
     /// Goes over the blocks from one to another.
-    fn walk_over_all(
-        &mut self,
-        task: &Task,
-        rounds: &Rounds,
-        first: usize,
-        end: usize,
-    ) -> Result<(), InferError> {
+    fn walk_all(&mut self, rounds: &Rounds, first: usize, end: usize) -> Result<(), InferError> {
         let mut room = State::blank();
         for block in first..end {
-            self.walk_over(task, rounds, block, &mut room)?;
+            self.walk_over(rounds, block, &mut room)?;
         }
         Ok(())
     }
@@ -206,9 +193,9 @@ impl Budgets {
     // ---- weights
 
     /// The greatest cost of a path from the head of a loop to itself.
-    fn cost_around(&self, alloc: Global, found: Loop) -> Result<i128, AllocError> {
+    fn cost_around(&self, rounds: &Rounds, found: Loop) -> Result<i128, AllocError> {
         let count = found.last.saturating_sub(found.head).saturating_add(1);
-        let mut costs = vec![in alloc; None; count]?;
+        let mut costs = vec![in rounds.task.alloc; None; count]?;
         put(&mut costs, 0, Some(0i128));
         let mut around = 0;
         for number in self.plan(found.head).paths_from..self.plan(found.last).paths_to {
@@ -220,34 +207,22 @@ impl Budgets {
     }
 
     /// I2 at the head of a loop with a weight above 2^20.
-    fn weigh(&mut self, alloc: Global, task: &Task, head: usize) -> Result<(), InferError> {
-        let Some(found) = self.loops.at(head) else {
-            return Ok(());
-        };
-        if found.head != head {
-            return Ok(());
-        }
-        let weight = self.cost_around(alloc, found)?.max(1);
+    fn weigh(&mut self, rounds: &Rounds, found: Loop) -> Result<(), InferError> {
+        let weight = self.cost_around(rounds, found)?.max(1);
         if weight > MAX_WEIGHT as i128 {
-            return Err(InferError::NoBudget {
-                slot: task.cfg.label(head),
-            });
+            return Err(rounds.no_budget(found.head));
         }
-        let plan = self.plan(head);
-        put(&mut self.plans, head, Plan { weight, ..plan });
+        let plan = self.plan(found.head);
+        put(&mut self.plans, found.head, Plan { weight, ..plan });
         Ok(())
     }
 
     /// Weighs the counters of the loops whose heads are among the blocks from one to another.
-    fn weigh_all(
-        &mut self,
-        alloc: Global,
-        task: &Task,
-        first: usize,
-        end: usize,
-    ) -> Result<(), InferError> {
+    fn weigh_all(&mut self, rounds: &Rounds, first: usize, end: usize) -> Result<(), InferError> {
         for block in first..end {
-            self.weigh(alloc, task, block)?;
+            if let Some(found) = self.loops.headed(block) {
+                self.weigh(rounds, found)?;
+            }
         }
         Ok(())
     }
@@ -259,7 +234,7 @@ impl Budgets {
         let own = self.line_at(path.from);
         let span = self.plan(path.from).span;
         let (base, line) = match path.to {
-            Some(to) => (self.plan(to).base, self.line_at(to)),
+            Some(to) => (self.base(to), self.line_at(to)),
             None => (0, Line::ZERO),
         };
         let varying = match path.held {
@@ -273,7 +248,7 @@ impl Budgets {
     }
 
     /// The least base that pays the paths from a label, of those that lead back only if wanted. I2 above 2^40.
-    fn pay(&mut self, task: &Task, block: usize, pays_back: bool) -> Result<(), InferError> {
+    fn pay(&mut self, rounds: &Rounds, block: usize, pays_back: bool) -> Result<(), InferError> {
         let plan = self.plan(block);
         let mut base = 0;
         for number in plan.paths_from..plan.paths_to {
@@ -285,30 +260,26 @@ impl Budgets {
             }
         }
         if base > MAX_BASE as i128 {
-            return Err(InferError::NoBudget {
-                slot: task.cfg.label(block),
-            });
+            return Err(rounds.no_budget(block));
         }
         put(&mut self.plans, block, Plan { base, ..plan });
         Ok(())
     }
 
     /// Pays the paths from the labels of a loop, those back to its head too.
-    fn pay_back(&mut self, task: &Task, found: Loop) -> Result<(), InferError> {
+    fn pay_back(&mut self, rounds: &Rounds, found: Loop) -> Result<(), InferError> {
         for block in (found.head.saturating_add(1)..found.last.saturating_add(1)).rev() {
-            self.pay(task, block, true)?;
+            self.pay(rounds, block, true)?;
         }
         Ok(())
     }
 
     /// From the highest label on; the paths in a loop are paid once its head is.
-    fn pay_all(&mut self, task: &Task, first: usize, end: usize) -> Result<(), InferError> {
+    fn pay_all(&mut self, rounds: &Rounds, first: usize, end: usize) -> Result<(), InferError> {
         for block in (first..end).rev() {
-            self.pay(task, block, false)?;
-            if let Some(found) = self.loops.at(block) {
-                if found.head == block {
-                    self.pay_back(task, found)?;
-                }
+            self.pay(rounds, block, false)?;
+            if let Some(found) = self.loops.headed(block) {
+                self.pay_back(rounds, found)?;
             }
         }
         Ok(())
@@ -317,26 +288,16 @@ impl Budgets {
     // ---- functions
 
     /// Finds the budgets of all functions' labels, callees first.
-    fn plan_all(&mut self, alloc: Global, task: &Task, rounds: &Rounds) -> Result<(), InferError> {
-        for function in task.cfg.callees_first() {
-            self.plan_function(alloc, task, rounds, *function)?;
+    fn plan_all(&mut self, rounds: &Rounds) -> Result<(), InferError> {
+        let cfg = rounds.task.cfg;
+        for function in &cfg.callees_first {
+            let first = cfg.first_block(*function);
+            let end = cfg.first_block(function.saturating_add(1));
+            self.walk_all(rounds, first, end)?;
+            self.weigh_all(rounds, first, end)?;
+            self.pay_all(rounds, first, end)?;
         }
         Ok(())
-    }
-
-    /// Finds the budgets of a function's labels; those of its callees are there.
-    fn plan_function(
-        &mut self,
-        alloc: Global,
-        task: &Task,
-        rounds: &Rounds,
-        function: usize,
-    ) -> Result<(), InferError> {
-        let first = task.cfg.first_block(function);
-        let end = task.cfg.first_block(function.saturating_add(1));
-        self.walk_over_all(task, rounds, first, end)?;
-        self.weigh_all(alloc, task, first, end)?;
-        self.pay_all(task, first, end)
     }
 }
 
@@ -362,13 +323,13 @@ fn follow(costs: &mut Vec<Option<i128>>, found: Loop, path: &Path) -> i128 {
 }
 
 /// The budgets of a program's labels. I2 as `loops_of` has it, else at a label that is over a limit.
-pub fn budgets_of(alloc: Global, task: &Task, rounds: &Rounds) -> Result<Budgets, InferError> {
+pub fn budgets_of(rounds: &Rounds) -> Result<Budgets, InferError> {
     let mut budgets = Budgets {
-        loops: loops_of(alloc, task, rounds)?,
-        plans: vec![in alloc; Plan::NONE; task.cfg.block_count()]?,
-        paths: Vec::new(alloc),
+        loops: loops_of(rounds)?,
+        plans: vec![in rounds.task.alloc; Plan::NONE; rounds.states.len()]?,
+        paths: Vec::new(rounds.task.alloc),
         cost: 0,
     };
-    budgets.plan_all(alloc, task, rounds)?;
+    budgets.plan_all(rounds)?;
     Ok(budgets)
 }

@@ -2,7 +2,7 @@
 
 use crate::rounds::Rounds;
 use bpf_infer_base::{
-    Counter, Edge, PLACES, Shift, Task, Visitor, get_or, load_at, number_at, place, put, tag_own,
+    Counter, Edge, PLACES, Shift, Visitor, get_or, load_at, number_at, place, put, tag_own,
 };
 use bpf_infer_error::InferError;
 use bpf_state::State;
@@ -20,11 +20,7 @@ pub struct Loop {
 impl Loop {
     /// The numbers of its blocks.
     pub fn blocks(self, alloc: Global) -> Result<Vec<usize>, AllocError> {
-        let mut blocks = Vec::new(alloc);
-        for block in self.head..self.last.saturating_add(1) {
-            blocks.push(block)?;
-        }
-        Ok(blocks)
+        (self.head..self.last.saturating_add(1)).collect(alloc)
     }
 }
 
@@ -40,6 +36,11 @@ impl Loops {
     pub fn at(&self, block: usize) -> Option<Loop> {
         let number = get_or(&self.loop_of, block, None)?;
         self.loops.get(number).copied()
+    }
+
+    /// The loop whose head is a block.
+    pub fn headed(&self, block: usize) -> Option<Loop> {
+        self.at(block).filter(|found| found.head == block)
     }
 
     /// What is counted in the loop that a block is in.
@@ -107,7 +108,8 @@ fn taken_in(held: Option<Moves>, mut moves: Moves) -> Moves {
 
 /// A walk over the blocks of a loop that looks where its places go.
 #[derive(Drop)]
-pub struct Search {
+pub struct Search<'a> {
+    rounds: &'a Rounds<'a>,
     head: usize,
     last: usize,
     /// Whether each place holds on each edge what it held at the label before, and an offset more.
@@ -118,7 +120,7 @@ pub struct Search {
     pub around: Option<Moves>,
 }
 
-impl Visitor for Search {
+impl<'a> Visitor for Search<'a> {
     type Stop = AllocError;
 
     fn edge(&mut self, edge: Edge, state: &State) -> Result<(), AllocError> {
@@ -134,17 +136,14 @@ impl Visitor for Search {
             self.around = Some(taken_in(self.around, moves));
         } else {
             let joined = taken_in(self.moves_to(edge.to), moves);
-            put(
-                &mut self.moves,
-                edge.to.saturating_sub(self.head),
-                Some(joined),
-            );
+            let index = edge.to.saturating_sub(self.head);
+            put(&mut self.moves, index, Some(joined));
         }
         Ok(())
     }
 }
 
-impl Search {
+impl<'a> Search<'a> {
     /// The moves on the ways to a block.
     fn moves_to(&self, block: usize) -> Option<Moves> {
         let index = block.saturating_sub(self.head);
@@ -175,12 +174,13 @@ impl Search {
     }
 
     /// Goes over all blocks of the loop.
-    fn walk_over(&mut self, task: &Task, rounds: &Rounds) -> Result<(), InferError> {
+    fn walk_over(&mut self) -> Result<(), InferError> {
+        let rounds = self.rounds;
         let mut state = State::blank();
         for block in self.head..self.last.saturating_add(1) {
             if load_at(&rounds.states, block, &mut state) {
                 self.tag_all(&mut state);
-                if let Err(fault) = task.walk(block, &mut state, self)? {
+                if let Err(fault) = rounds.task.walk(block, &mut state, self)? {
                     return Err(fault.refusal());
                 }
             }
@@ -189,23 +189,23 @@ impl Search {
     }
 
     /// The first place that falls on each way around, or rises.
-    fn counter(&self, rounds: &Rounds, around: &Moves) -> Option<Counter> {
+    fn counter(&self, around: &Moves) -> Option<Counter> {
         for i in 0..PLACES {
             if self.is_tagged[i] && around[i].greatest < 0 {
                 return Some(Counter::Falling(i));
             }
             if self.is_tagged[i] && around[i].least > 0 {
-                return Some(Counter::Rising(i, self.limit(rounds, i)));
+                return Some(Counter::Rising(i, self.limit(i)));
             }
         }
         None
     }
 
     /// The greatest number that a place holds at a label of the loop.
-    fn limit(&self, rounds: &Rounds, number: usize) -> u64 {
+    fn limit(&self, number: usize) -> u64 {
         let mut limit = 0;
         for block in self.head..self.last.saturating_add(1) {
-            if let Some(held) = rounds.number(block, number) {
+            if let Some(held) = self.rounds.number(block, number) {
                 limit = limit.max(held.unsigned().hi());
             }
         }
@@ -214,59 +214,46 @@ impl Search {
 }
 
 /// Where the places of a loop go on the ways from its head to itself.
-pub fn searched(
-    alloc: Global,
-    task: &Task,
-    rounds: &Rounds,
-    found: Loop,
-) -> Result<Search, InferError> {
+pub fn searched<'a>(rounds: &'a Rounds<'a>, found: Loop) -> Result<Search<'a>, InferError> {
     let count = found.last.saturating_sub(found.head).saturating_add(1);
     let mut search = Search {
+        rounds,
         head: found.head,
         last: found.last,
         is_tagged: [true; PLACES],
-        moves: vec![in alloc; None; count]?,
+        moves: vec![in rounds.task.alloc; None; count]?,
         around: None,
     };
     put(&mut search.moves, 0, Some([Shift::NONE; PLACES]));
-    search.walk_over(task, rounds)?;
+    search.walk_over()?;
     Ok(search)
 }
 
 /// What falls on each way from the head of a loop to itself, or rises up to a limit. I2 at the head if nothing does.
-fn counter_of(
-    alloc: Global,
-    task: &Task,
-    rounds: &Rounds,
-    found: Loop,
-) -> Result<Option<Counter>, InferError> {
-    let search = searched(alloc, task, rounds, found)?;
+fn counter_of(rounds: &Rounds, found: Loop) -> Result<Option<Counter>, InferError> {
+    let search = searched(rounds, found)?;
     let Some(around) = search.around else {
         return Ok(None);
     };
-    match search.counter(rounds, &around) {
+    match search.counter(&around) {
         Some(counter) => Ok(Some(counter)),
-        None => Err(InferError::NoBudget {
-            slot: task.cfg.label(found.head),
-        }),
+        None => Err(rounds.no_budget(found.head)),
     }
 }
 
 /// The loops of a program with their counters. I2 at the head of the lowest loop in which another one begins, else of
 /// the lowest one without a counter.
-pub fn loops_of(alloc: Global, task: &Task, rounds: &Rounds) -> Result<Loops, InferError> {
+pub fn loops_of(rounds: &Rounds) -> Result<Loops, InferError> {
     if let Some((open, _)) = first_crossing(rounds) {
-        return Err(InferError::NoBudget {
-            slot: task.cfg.label(open.head),
-        });
+        return Err(rounds.no_budget(open.head));
     }
     let mut loops = Loops {
-        loops: Vec::new(alloc),
-        loop_of: Vec::new(alloc),
+        loops: Vec::new(rounds.task.alloc),
+        loop_of: Vec::new(rounds.task.alloc),
     };
     for block in 0..rounds.backs.len() {
         if let Some(found) = loop_from(rounds, block) {
-            let counter = counter_of(alloc, task, rounds, found)?;
+            let counter = counter_of(rounds, found)?;
             loops.loops.push(Loop { counter, ..found })?;
         }
         loops.continue_to(block)?;

@@ -4,67 +4,49 @@ ghost use Rattle.std.specs.Prelude.{◌≤◌};
 ghost use Rattle.bpf_insn.specs.Limits.{max_context};
 
 use crate::budgets::{Budgets, budgets_of};
-use crate::rounds::{Rounds, functions_of, states_of};
+use crate::rounds::states_of;
 use arrayvec::ArrayVec;
 use bpf_cert::{Budget, Function};
-use bpf_infer_base::{Cfg, Meter, PLAIN_WORK, Proposal, Quest, Task, Watch};
+use bpf_infer_base::{Blocks, Cfg, Meter, PLAIN_WORK, Proposal, Quest, Task, Watch};
 use bpf_infer_error::InferError;
 use bpf_state::State;
-use std::alloc::{AllocError, Global};
+use std::alloc::Global;
 
 /// The budget at the label of a block.
 fn budget_of(budgets: &Budgets, block: usize) -> Budget {
-    let (base, counter) = budgets.at(block);
     let mut terms = ArrayVec::new();
-    if let Some((counter, weight)) = counter {
+    if let Some((counter, weight)) = budgets.counted(block) {
         terms.push(counter.term(weight));
     }
     Budget {
-        base: u64::try_from(base).unwrap_or(u64::MAX),
+        base: u64::try_from(budgets.base(block)).unwrap_or(u64::MAX),
         terms,
     }
 }
 
 /// Gives a function's labels their budgets.
-fn put_budgets(cfg: &Cfg, budgets: &Budgets, function: &mut Function) {
+fn put_budgets(blocks: &Blocks, budgets: &Budgets, function: &mut Function) {
     for label in function.labels.iter_mut() {
-        label.budget = budget_of(budgets, cfg.block_of(label.slot));
+        label.budget = budget_of(budgets, blocks.block_of(label.slot));
     }
 }
 
-/// Gives the labels of all functions their budgets.
-fn put_all(cfg: &Cfg, budgets: &Budgets, functions: &mut Vec<Function>) {
-    for function in functions.iter_mut() {
-        put_budgets(cfg, budgets, function);
-    }
-}
-
-/// The functions that were reached, with budgets, and the steps that these promise; the states are taken.
-fn proposal_of(
-    alloc: Global,
-    cfg: &Cfg,
-    rounds: &mut Rounds,
-    budgets: &Budgets,
-    steps: u32,
-) -> Result<Proposal, AllocError> {
-    let mut functions = functions_of(alloc, cfg, rounds)?;
-    put_all(cfg, budgets, &mut functions);
-    Ok(Proposal { steps, functions })
-}
-
-/// What is found for blocks, from the state that the program starts in.
+/// What is found for the blocks of a program, from a state that it starts in.
 fn proposal_for<W: Watch>(
-    alloc: Global,
-    task: &Task,
+    task: Task,
     start: &State,
     meter: &mut Meter<'_, W>,
 ) -> Result<Proposal, InferError> {
-    let mut rounds = states_of(alloc, task, start, meter)?;
-    let budgets = budgets_of(alloc, task, &rounds)?;
-    match u32::try_from(budgets.greatest(0, start)) {
-        Ok(steps) => Ok(proposal_of(alloc, task.cfg, &mut rounds, &budgets, steps)?),
-        Err(_) => Err(InferError::NoBudget { slot: 0 }),
+    let mut rounds = states_of(task, start, meter)?;
+    let budgets = budgets_of(&rounds)?;
+    let Ok(steps) = u32::try_from(budgets.greatest(0, start)) else {
+        return Err(InferError::NoBudget { slot: 0 });
+    };
+    let mut functions = rounds.take_functions()?;
+    for function in functions.iter_mut() {
+        put_budgets(task.blocks, &budgets, function);
     }
+    Ok(Proposal { steps, functions })
 }
 
 /// What the table of one counter for a loop gives a program. I1 if a function's states aren't stable after 64 rounds,
@@ -80,5 +62,6 @@ pub fn plain_proposal<W: Watch>(
 {
     let cfg = Cfg::of(alloc, quest.program)?;
     let mut meter = Meter::new(watch, PLAIN_WORK);
-    proposal_for(alloc, &Task::whole(quest, &cfg), &quest.start(), &mut meter)
+    let task = Task::whole(alloc, quest, &cfg);
+    proposal_for(task, &task.start(), &mut meter)
 }

@@ -2,90 +2,55 @@
 
 use crate::loops::Loop;
 use crate::rounds::Rounds;
-use bpf_infer_base::{Arc, Edge, Flow, Graph, Tangle, Task, Visitor, get_or};
+use bpf_infer_base::{Arc, Edge, Flow, Graph, Tangle, Task, Visitor};
 use bpf_state::State;
-use std::alloc::{AllocError, Global};
+use std::alloc::AllocError;
 
 /// The edges from block to block.
 #[derive(Drop)]
-struct Arcs {
-    list: Vec<Arc>,
-}
+struct Arcs(Vec<Arc>);
 
 impl Visitor for Arcs {
     type Stop = AllocError;
 
     fn edge(&mut self, edge: Edge, _state: &State) -> Result<(), AllocError> {
-        self.list.push(Arc::of(edge.from, edge.to))?;
+        self.0.push(Arc::of(edge.from, edge.to))?;
         Ok(())
     }
 }
 
 /// The blocks that were reached, and the edges between them as far as nothing is refused.
-fn graph_of(alloc: Global, task: &Task, rounds: &Rounds) -> Result<Graph, AllocError> {
-    let mut arcs = Arcs {
-        list: Vec::new(alloc),
-    };
-    task.walk_all(&rounds.states, &mut arcs)?;
-    Graph::of(alloc, task.cfg.block_count(), arcs.list)
+fn graph_of(rounds: &Rounds) -> Result<Graph, AllocError> {
+    let mut arcs = Arcs(Vec::new(rounds.task.alloc));
+    rounds.task.walk_all(&rounds.states, &mut arcs)?;
+    Graph::of(rounds.task.alloc, rounds.states.len(), arcs.0)
 }
 
 /// The slot of the last jump that leads back to a loop's head.
 fn way_back(task: &Task, found: Loop) -> u32 {
-    let head = task.cfg.label(found.head);
-    let mut last = task.cfg.label(found.last);
-    for slot in last..task.cfg.end(found.last) {
-        if let Some(insn) = task.program.at(slot) {
-            if Flow::of(slot, insn).jump() == Some(head) {
-                last = slot;
-            }
+    let head = task.blocks.label(found.head);
+    let mut last = task.blocks.label(found.last);
+    for slot in last..task.blocks.block_end(found.last) {
+        if Flow::at(task.program, slot).and_then(Flow::jump) == Some(head) {
+            last = slot;
         }
     }
     last
 }
 
-/// Whether a node leads to another one, on paths that meet no barred node.
-fn leads(
-    alloc: Global,
-    graph: &Graph,
-    from: usize,
-    to: usize,
-    barred: Option<usize>,
-) -> Result<bool, AllocError> {
-    let reached = graph.reached(alloc, from, barred)?;
-    Ok(get_or(&reached, to, false))
-}
-
-/// As `tangle_of` by the edges between the blocks.
-fn tangle_in(
-    alloc: Global,
-    task: &Task,
-    graph: &Graph,
-    outer: Loop,
-    inner: Loop,
-) -> Result<Tangle, AllocError> {
+/// What a loop is that begins between the head of another one and the last way back to it.
+pub fn tangle_of(rounds: &Rounds, outer: Loop, inner: Loop) -> Result<Tangle, AllocError> {
+    let (task, graph) = (&rounds.task, graph_of(rounds)?);
     let (from, back) = (way_back(task, inner), way_back(task, outer));
-    if !leads(alloc, graph, outer.head, outer.head, None)? {
+    if !graph.leads(task.alloc, outer.head, outer.head, None)? {
         return Ok(Tangle::Backward { from: back });
     }
-    let is_inner = leads(alloc, graph, inner.head, inner.head, Some(outer.head))?
-        && leads(alloc, graph, inner.head, outer.head, None)?;
-    let to = task.cfg.label(inner.head);
+    let is_inner = graph.leads(task.alloc, inner.head, inner.head, Some(outer.head))?
+        && graph.leads(task.alloc, inner.head, outer.head, None)?;
+    let to = task.blocks.label(inner.head);
     if is_inner && from <= back {
         Ok(Tangle::Nested { inner: to })
     } else {
         Ok(Tangle::Middle { from, to, back })
     }
-}
-
-/// What a loop is that begins between the head of another one and the last way back to it.
-pub fn tangle_of(
-    alloc: Global,
-    task: &Task,
-    rounds: &Rounds,
-    outer: Loop,
-    inner: Loop,
-) -> Result<Tangle, AllocError> {
-    let graph = graph_of(alloc, task, rounds)?;
-    tangle_in(alloc, task, &graph, outer, inner)
 }

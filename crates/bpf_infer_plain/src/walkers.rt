@@ -2,7 +2,7 @@
 
 use crate::loops::{Loop, loop_from};
 use crate::rounds::Rounds;
-use bpf_infer_base::{Task, held};
+use bpf_infer_base::{Obstacle, Task, held};
 use bpf_insn::{AluOp, Insn, Operand, Reg, Width};
 use bpf_state::RegState;
 
@@ -51,13 +51,11 @@ fn deed_of(insn: &Insn, reg: Reg) -> Deed {
 /// Whether instructions of a loop move a register by constants, and none sets it.
 fn moves(task: &Task, found: Loop, reg: Reg) -> bool {
     let mut is_moved = false;
-    for slot in task.cfg.label(found.head)..task.cfg.end(found.last) {
-        if let Some(insn) = task.program.at(slot) {
-            match deed_of(insn, reg) {
-                Deed::Keeps => {}
-                Deed::Moves => is_moved = true,
-                Deed::Sets => return false,
-            }
+    for slot in task.blocks.label(found.head)..task.blocks.block_end(found.last) {
+        match task.program.at(slot).map(|insn| deed_of(insn, reg)) {
+            None | Some(Deed::Keeps) => {}
+            Some(Deed::Moves) => is_moved = true,
+            Some(Deed::Sets) => return false,
         }
     }
     is_moved
@@ -73,24 +71,19 @@ fn is_wide(rounds: &Rounds, block: usize, reg: Reg) -> bool {
 
 /// The last loop that begins at a block or before it, and has it between its ends.
 fn loop_around(rounds: &Rounds, block: usize) -> Option<Loop> {
-    for head in (0..block.saturating_add(1)).rev() {
-        if let Some(found) = loop_from(rounds, head) {
-            if block <= found.last {
-                return Some(found);
-            }
-        }
-    }
-    None
+    let mut found = (0..block.saturating_add(1))
+        .rev()
+        .filter_map(|head| loop_from(rounds, head));
+    found.find(|found| block <= found.last)
 }
 
-/// The register whose pointer the instruction at a slot takes, if the loop around it moves that pointer by constants and does
-/// nothing else to it; and the slot of the loop.
-pub fn walker_at(task: &Task, rounds: &Rounds, slot: u32) -> Option<(Reg, u32)> {
+/// The loop around the instruction at a slot, if it moves the pointer that the instruction takes by constants and does nothing
+/// else to it.
+pub fn walker_at(rounds: &Rounds, slot: u32) -> Option<Obstacle> {
+    let task = &rounds.task;
     let reg = pointer_in(task.program.at(slot)?)?;
-    let found = loop_around(rounds, task.cfg.block_of(slot))?;
-    if is_wide(rounds, found.head, reg) && moves(task, found, reg) {
-        Some((reg, task.cfg.label(found.head)))
-    } else {
-        None
-    }
+    let found = loop_around(rounds, task.blocks.block_of(slot))?;
+    let head = task.blocks.label(found.head);
+    let is_walked = is_wide(rounds, found.head, reg) && moves(task, found, reg);
+    is_walked.then_some(Obstacle::Walking { reg, head })
 }

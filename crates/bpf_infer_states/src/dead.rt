@@ -16,7 +16,9 @@ use std::alloc::{AllocError, Global};
 #[derive(Drop)]
 pub struct Seeds {
     alloc: Global,
+    /// The function's first slot, and the one behind its last.
     first: u32,
+    end: u32,
     /// By slots from the function's first on.
     states: Vec<LabelState>,
     /// Where states are changed.
@@ -24,12 +26,13 @@ pub struct Seeds {
 }
 
 impl Seeds {
-    /// None, for a function of so many slots.
-    pub fn new(alloc: Global, first: u32, slots: usize) -> Result<Seeds, AllocError> {
+    /// None, for a function of the slots from one to before another.
+    pub fn new(alloc: Global, first: u32, end: u32) -> Result<Seeds, AllocError> {
         Ok(Seeds {
             alloc,
             first,
-            states: vacant(alloc, slots)?,
+            end,
+            states: vacant(alloc, end.saturating_sub(first) as usize)?,
             room: Box::new(alloc, State::blank())?,
         })
     }
@@ -72,55 +75,44 @@ impl Seeds {
 
     /// Takes over the states of others.
     fn take_over(&mut self, others: Seeds) {
-        let mut states = others.states;
-        for index in 0..states.len() {
-            if let Some(state) = states.get_mut(index) {
-                if state.is_some() {
-                    put(&mut self.states, index, state.take());
-                }
+        for (index, state) in others.states.into_iter().enumerate() {
+            if state.is_some() {
+                put(&mut self.states, index, state);
             }
         }
     }
 
     /// The slots that have a state, rising.
     pub fn slots(&self) -> Result<Vec<u32>, AllocError> {
-        let mut slots = Vec::new(self.alloc);
-        let mut slot = self.first;
-        for index in 0..self.states.len() {
-            if held(&self.states, index).is_some() {
-                slots.push(slot)?;
-            }
-            slot = slot.saturating_add(1);
-        }
-        Ok(slots)
+        let has_state = |slot: &u32| self.at(*slot).is_some();
+        (self.first..self.end).filter(has_state).collect(self.alloc)
     }
 
     // ---- repairs
 
-    /// Puts the changed state back to its slot.
-    fn change(&mut self, slot: u32) -> Result<(), AllocError> {
-        let index = self.index(slot);
-        let changed = Entries::of(self.alloc, &*self.room)?;
-        put(&mut self.states, index, Some(changed));
-        Ok(())
-    }
-
-    /// Gives each register that a slot's state doesn't know a number, and each slot of the frame too if that is asked for.
-    /// Whether there is one.
-    fn fill(&mut self, slot: u32, fills_slots: bool) -> Result<bool, AllocError> {
+    /// Changes the state for a slot, if there is one. Whether something was changed.
+    fn change<F: FnOnce(&mut State) -> bool>(
+        &mut self,
+        slot: u32,
+        change: F,
+    ) -> Result<bool, AllocError>
+        requires { F.IsAlwaysCallable change }
+    {
         let index = self.index(slot);
         let Some(state) = held(&self.states, index) else {
             return Ok(false);
         };
         state.put_into(&mut *self.room);
-        let is_filled = fill(&mut *self.room, fills_slots);
-        if is_filled {
-            self.change(slot)?;
+        let is_changed = change(&mut *self.room);
+        if is_changed {
+            let changed = Entries::of(self.alloc, &*self.room)?;
+            put(&mut self.states, index, Some(changed));
         }
-        Ok(is_filled)
+        Ok(is_changed)
     }
 
-    /// The same for the states of all slots that lead to a fault. Whether there is one.
+    /// Gives each register that the states of slots which lead to a fault don't know a number, and each slot of the frame too
+    /// if that is asked for. Whether there is one.
     fn fill_before(
         &mut self,
         task: Task,
@@ -136,7 +128,8 @@ impl Seeds {
         let mut is_filled = false;
         for label in 0..blocks.count() {
             if label == target || get_or(&before, label, false) {
-                is_filled = self.fill(blocks.label(label), fills_slots)? || is_filled;
+                let change = |state: &mut State| fill(state, fills_slots);
+                is_filled = self.change(blocks.label(label), change)? || is_filled;
             }
         }
         Ok(is_filled)
@@ -145,16 +138,10 @@ impl Seeds {
     /// Changes the state for the label before a slot so that the instruction there takes its kinds. Whether that is a change.
     fn change_kinds(&mut self, task: Task, slot: u32) -> Result<bool, AllocError> {
         let label = task.blocks.label(task.blocks.block_of(slot));
-        let index = self.index(label);
-        let Some(state) = held(&self.states, index) else {
-            return Ok(false);
-        };
-        state.put_into(&mut *self.room);
-        let is_changed = change_kinds(task, label, slot, &mut *self.room);
-        if is_changed {
-            self.change(label)?;
-        }
-        Ok(is_changed)
+        self.change(
+            label,
+            |state: &mut State| change_kinds(task, label, slot, state),
+        )
     }
 
     /// Changes the states so that a fault may go away. Whether something was changed.
@@ -290,13 +277,13 @@ pub fn add_seeds(
     report: &Report,
     seeds: &mut Seeds,
 ) -> Result<(), AllocError> {
-    let (first, slots) = (task.blocks.first(), task.blocks.slots());
+    let (first, end) = (task.blocks.first(), task.blocks.end());
     let mut seeker = Seeker {
         task,
         report,
-        found: Seeds::new(alloc, first, slots)?,
-        behind: Seeds::new(alloc, first, slots)?,
-        is_led_to: vec![in alloc; false; slots]?,
+        found: Seeds::new(alloc, first, end)?,
+        behind: Seeds::new(alloc, first, end)?,
+        is_led_to: vec![in alloc; false; task.blocks.slots()]?,
         waiting: Vec::new(alloc),
     };
     task.walk_all(states, &mut seeker)?;

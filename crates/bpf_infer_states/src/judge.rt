@@ -13,6 +13,15 @@ pub struct Entry {
     pub state: Box<State>,
 }
 
+/// The lower of two faults.
+pub fn lower(a: Option<Fault>, b: Option<Fault>) -> Option<Fault> {
+    match (a, b) {
+        (Some(first), Some(second)) if second.slot < first.slot => Some(second),
+        (Some(first), _) => Some(first),
+        (None, second) => second,
+    }
+}
+
 /// What a walk over all blocks of a function saw.
 #[derive(Drop)]
 pub struct Report {
@@ -57,18 +66,12 @@ impl Visitor for Report {
 
     fn exit(&mut self, _from: usize, state: &State) -> Result<(), AllocError> {
         let number = state.reg(Reg::R0).number().unwrap_or(Num::top());
-        self.exit = match self.exit {
-            Some(others) => Some(others.join(number)),
-            None => Some(number),
-        };
+        self.exit = Some(self.exit.map_or(number, |others| others.join(number)));
         Ok(())
     }
 
     fn fault(&mut self, fault: Fault) {
-        match self.fault {
-            Some(lowest) if lowest.slot <= fault.slot => {}
-            _ => self.fault = Some(fault),
-        }
+        self.fault = lower(self.fault, Some(fault));
     }
 }
 
@@ -95,11 +98,7 @@ impl Report {
 
     /// The lowest instruction that isn't reached.
     pub fn unreached(&self, task: Task) -> Option<u32> {
-        for slot in task.blocks.first()..task.blocks.end() {
-            if task.program.at(slot).is_some() && !self.is_reached(slot) {
-                return Some(slot);
-            }
-        }
-        None
+        let is_dead = |slot: &u32| task.program.at(*slot).is_some() && !self.is_reached(*slot);
+        (task.blocks.first()..task.blocks.end()).find(is_dead)
     }
 }

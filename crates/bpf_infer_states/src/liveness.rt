@@ -12,18 +12,10 @@ const ROUNDS: u32 = 64;
 // ---- what instructions read
 
 /// What an instruction reads, and what it writes as a whole.
-#[derive(Clone, Copy)]
+#[derive(Clone, Copy, Default)]
 struct Needs {
     read: PlaceSet,
     written: PlaceSet,
-}
-
-impl Needs {
-    /// Nothing.
-    const NONE: Needs = Needs {
-        read: PlaceSet::NONE,
-        written: PlaceSet::NONE,
-    };
 }
 
 /// The slot that a store writes as a whole.
@@ -100,10 +92,8 @@ impl<'a> Liveness<'a> {
         if let Some(target) = Flow::of(slot, insn).jump() {
             live = live.union(self.live_at(blocks.block_of(target)));
         }
-        match self.needs.get(blocks.index(slot)) {
-            Some(needs) => live.without(needs.written).union(needs.read),
-            None => live,
-        }
+        let needs = get_or(&self.needs, blocks.index(slot), Needs::default());
+        live.without(needs.written).union(needs.read)
     }
 
     /// What is read behind a label, by its block's instructions and from what is read behind the labels that follow.
@@ -143,7 +133,7 @@ pub fn places_read(
     let mut liveness = Liveness {
         task,
         callees,
-        needs: vec![in alloc; Needs::NONE; task.blocks.slots()]?,
+        needs: vec![in alloc; Needs::default(); task.blocks.slots()]?,
         live: vec![in alloc; PlaceSet::NONE; count]?,
     };
     task.walk_all(states, &mut liveness)?;

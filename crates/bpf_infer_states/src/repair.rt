@@ -35,12 +35,8 @@ fn fill_slots(state: &mut State) -> bool {
 
 /// Gives what isn't known a number: each register, and each slot too if that is asked for. Whether there is one.
 pub fn fill(state: &mut State, fills_slots: bool) -> bool {
-    let mut is_filled = fill_registers(state);
-    if fills_slots {
-        let has_slot = fill_slots(state);
-        is_filled = is_filled || has_slot;
-    }
-    is_filled
+    let is_filled = fill_registers(state);
+    fills_slots && fill_slots(state) || is_filled
 }
 
 /// The register that held before an instruction what one holds after it.
@@ -92,11 +88,7 @@ fn point(state: &mut State, base: Reg, off: i16) -> bool {
 /// Makes the base of the access at a slot point into the frame by a change of the state at the label before it. Whether that
 /// is a change.
 fn lead(task: Task, label: u32, slot: u32, state: &mut State) -> bool {
-    let found = match task.program.at(slot) {
-        Some(insn) => insn.access(),
-        None => None,
-    };
-    match found {
+    match task.program.at(slot).and_then(|insn| insn.access()) {
         Some(access) => point(state, traced(task, label, slot, access.base), access.off),
         None => false,
     }
@@ -112,8 +104,7 @@ fn operands_of(insn: &Insn) -> [Option<Reg>; 2] {
             off: _off,
             ..
         } => [Some(dst), register_in(src)],
-        Insn::Neg { dst, .. } => [Some(dst), None],
-        Insn::End { dst, .. } => [Some(dst), None],
+        Insn::Neg { dst, .. } | Insn::End { dst, .. } => [Some(dst), None],
         Insn::MovSx { src, .. } => [Some(src), None],
         Insn::Store { src, off: _off, .. } => [Some(src), None],
         Insn::Atomic { src, off: _off, .. } => [Some(src), Some(Reg::R0)],
@@ -139,33 +130,23 @@ fn make_numbers(task: Task, label: u32, slot: u32, state: &mut State) -> bool {
         return false;
     };
     let mut is_changed = false;
-    for operand in operands_of(insn) {
-        if let Some(r) = operand {
-            is_changed = make_number(state, traced(task, label, slot, r)) || is_changed;
-        }
+    for r in operands_of(insn).into_iter().flatten() {
+        is_changed = make_number(state, traced(task, label, slot, r)) || is_changed;
     }
     is_changed
 }
 
 /// Makes what a register holds a number, if it is a pointer and no r10. Whether that is a change.
 fn make_number(state: &mut State, r: Reg) -> bool {
-    match state.reg(r) {
-        RegState::Any | RegState::Num(_) => false,
-        RegState::Ptr(_) => {
-            if !r.is_frame_pointer() {
-                state.set_reg(r, RegState::Num(Num::top()));
-            }
-            !r.is_frame_pointer()
-        }
+    let is_pointer = matches!(state.reg(r), RegState::Ptr(_)) && !r.is_frame_pointer();
+    if is_pointer {
+        state.set_reg(r, RegState::Num(Num::top()));
     }
+    is_pointer
 }
 
 /// Makes the operands and the base of the instruction at a slot what it takes, by a change of the state at the label before it.
 /// Whether that is a change.
 pub fn change_kinds(task: Task, label: u32, slot: u32, state: &mut State) -> bool {
-    let has_number = make_numbers(task, label, slot, state);
-    if has_number {
-        return true;
-    }
-    lead(task, label, slot, state)
+    make_numbers(task, label, slot, state) || lead(task, label, slot, state)
 }

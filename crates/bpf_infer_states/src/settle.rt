@@ -5,8 +5,8 @@ use crate::nest::{Loop, Nest};
 use crate::sums::Sums;
 use crate::thresholds::{Reach, Thresholds};
 use bpf_infer_base::{
-    Edge, LABEL_WORK, LabelState, Limit, MOST_ENTRIES, Meter, Task, Visitor, Watch, get_or, held,
-    load_at, put, vacant,
+    Edge, LABEL_WORK, LabelState, Limit, Meter, Task, Visitor, Watch, get_or, held, load_at, put,
+    vacant,
 };
 use bpf_insn::Insn;
 use bpf_state::{Entries, State};
@@ -161,13 +161,8 @@ impl<'a> Settler<'a> {
             meter.tell(1, self.work);
             self.work = 0;
             self.is_late = meter.is_low();
-            if meter.is_spent() {
-                break;
-            }
-            if self.sums.kept() > MOST_ENTRIES {
-                return Ok(Err(Limit::Entries {
-                    most: MOST_ENTRIES as u64,
-                }));
+            if let Some(limit) = meter.limit().or(self.sums.limit()) {
+                return Ok(Err(limit));
             }
         }
         Ok(Err(Limit::Work { most: meter.most() }))
@@ -235,10 +230,10 @@ impl<'a> Settler<'a> {
         let Some(found) = self.nest.loop_at(number) else {
             return Ok(());
         };
-        let is_fresh = match self.active.last() {
-            Some(around) => around.is_inside_fresh(),
-            None => true,
-        };
+        let is_fresh = self
+            .active
+            .last()
+            .is_none_or(|around| around.is_inside_fresh());
         let thresholds = self.thresholds_of(found)?;
         self.active.push(Active {
             number,
@@ -329,10 +324,7 @@ impl<'a> Settler<'a> {
     /// Whether a state lies in that of a loop's head. False if the head isn't reached.
     fn lies_in(&mut self, sum: &Entries, head: usize) -> bool {
         sum.put_into(&mut *self.new);
-        match held(&self.states, head) {
-            Some(state) => self.new.entails_entries(state),
-            None => false,
-        }
+        held(&self.states, head).is_some_and(|state| self.new.entails_entries(state))
     }
 
     /// Whether a state says more than that of a loop's head, which it lies in.
@@ -399,10 +391,7 @@ impl<'a> Settler<'a> {
 
     /// The head's state doesn't rise any more.
     fn end_rising(&mut self, found: Loop, head: usize, sum: Entries) -> Result<usize, AllocError> {
-        let may_narrow = match self.active.last() {
-            Some(active) => active.may_narrow,
-            None => false,
-        };
+        let may_narrow = self.active.last().is_some_and(|active| active.may_narrow);
         if !may_narrow || self.is_tired() {
             return Ok(self.close(found));
         }

@@ -4,13 +4,12 @@ mod outcome;
 mod surveys;
 
 use crate::dead::{Seeds, add_seeds};
-use crate::judge::Report;
+use crate::judge::{Entry, Report};
 use crate::nest::Nest;
 use crate::settle::Settler;
 use crate::sums::take_in_at;
 use bpf_infer_base::{
-    Blocks, Cfg, Halt, LabelState, Limit, Meter, Quest, Task, Watch, get_or, graph_of, held, put,
-    vacant,
+    Blocks, Halt, LabelState, Limit, Meter, Task, Watch, get_or, graph_of, held, put, vacant,
 };
 use bpf_num::Num;
 use bpf_state::{Entries, State};
@@ -42,10 +41,8 @@ struct Judged {
 #[derive(Drop)]
 struct Analysis<'a> {
     alloc: Global,
-    quest: Quest<'a>,
-    cfg: &'a Cfg,
-    /// Whether walks end at faults, and dead code stays dead.
-    stops: bool,
+    /// All their blocks. Whether walks end at faults tells whether dead code stays dead, too.
+    whole: Task<'a>,
     /// What each returns.
     rets: Vec<Num>,
     /// Whether what each returns changed since all were judged.
@@ -62,18 +59,11 @@ fn is_same(a: Num, b: Num) -> bool {
 
 impl<'a> Analysis<'a> {
     /// Nothing is known of any function.
-    fn new(
-        alloc: Global,
-        quest: Quest<'a>,
-        cfg: &'a Cfg,
-        stops: bool,
-    ) -> Result<Analysis<'a>, AllocError> {
-        let count = cfg.function_count();
+    fn new(whole: Task<'a>) -> Result<Analysis<'a>, AllocError> {
+        let (alloc, count) = (whole.alloc, whole.cfg.functions.count());
         Ok(Analysis {
             alloc,
-            quest,
-            cfg,
-            stops,
+            whole,
             rets: vec![in alloc; Num::top(); count]?,
             is_changed: vec![in alloc; false; count]?,
             entries: vacant(alloc, count)?,
@@ -84,21 +74,9 @@ impl<'a> Analysis<'a> {
     /// What a walk over a function is given.
     fn task<'b>(&'b self, blocks: &'b Blocks) -> Task<'b> {
         Task {
-            program: self.quest.program,
-            cfg: self.cfg,
             blocks,
-            least: self.quest.least,
-            most: self.quest.most,
             rets: &self.rets,
-            stops: self.stops,
-        }
-    }
-
-    /// What was found of a function.
-    fn judged(&self, function: usize) -> Option<&Judged> {
-        match self.judged.get(function) {
-            Some(Some(judged)) => Some(judged),
-            _ => None,
+            ..self.whole
         }
     }
 
@@ -111,12 +89,11 @@ impl<'a> Analysis<'a> {
         entry: &State,
         meter: &mut Meter<'_, W>,
     ) -> Result<Judged, Halt> {
-        let first = self.cfg.first_slot(function);
-        let end = self.cfg.first_slot(function.saturating_add(1));
-        let slots = end.saturating_sub(first) as usize;
-        let mut seeds = Seeds::new(self.alloc, first, slots)?;
+        let first = self.whole.cfg.first_slot(function);
+        let end = self.whole.cfg.first_slot(function.saturating_add(1));
+        let mut seeds = Seeds::new(self.alloc, first, end)?;
         let mut judged = self.judge_once(first, end, entry, &seeds, meter)?;
-        if self.stops {
+        if self.whole.stops {
             return Ok(judged);
         }
         for _ in 0..DEAD_ROUNDS {
@@ -152,7 +129,7 @@ impl<'a> Analysis<'a> {
         meter: &mut Meter<'_, W>,
     ) -> Result<Judged, Halt> {
         let extra = seeds.slots()?;
-        let blocks = Blocks::cut_by_jumps(self.alloc, self.quest.program, first, end, &extra)?;
+        let blocks = Blocks::cut_by_jumps(self.alloc, self.whole.program, first, end, &extra)?;
         let states = self.states_of(&blocks, entry, seeds, meter)?;
         let task = self.task(&blocks);
         let report = Report::of(self.alloc, task, &states)?;
@@ -174,8 +151,8 @@ impl<'a> Analysis<'a> {
         seeds: &Seeds,
         meter: &mut Meter<'_, W>,
     ) -> Result<Vec<LabelState>, Halt> {
-        let graph = graph_of(self.alloc, self.quest.program, blocks)?;
-        let Some(nest) = Nest::of(self.alloc, &graph, blocks.count())? else {
+        let graph = graph_of(self.alloc, self.whole.program, blocks)?;
+        let Some(nest) = Nest::of(self.alloc, &graph)? else {
             return Err(Halt::unstable(blocks.first(), Limit::Depth));
         };
         let mut settler = Settler::new(self.alloc, self.task(blocks), &nest)?;
@@ -197,13 +174,12 @@ impl<'a> Analysis<'a> {
 
     /// Whether a function was judged with this entry, and with what its callees return.
     fn is_current(&self, function: usize, entry: &State) -> bool {
-        let Some(judged) = self.judged(function) else {
+        let Some(judged) = held(&self.judged, function) else {
             return false;
         };
-        for called in judged.report.entries.as_slice() {
-            if get_or(&self.is_changed, called.callee, true) {
-                return false;
-            }
+        let is_stale = |called: &Entry| get_or(&self.is_changed, called.callee, true);
+        if judged.report.entries.iter().any(is_stale) {
+            return false;
         }
         entry.entails_entries(&judged.entry) && judged.entry.state().entails(entry)
     }
@@ -224,16 +200,12 @@ impl<'a> Analysis<'a> {
     /// Takes note of the states in which a function calls others.
     fn enter_callees(&mut self, function: usize) -> Result<(), AllocError> {
         let mut room = State::blank();
-        if let Some(Some(judged)) = self.judged.get(function) {
-            for called in judged.report.entries.as_slice() {
-                let _is_changed = take_in_at(
-                    self.alloc,
-                    &mut room,
-                    &mut self.entries,
-                    called.callee,
-                    &*called.state,
-                )?;
-            }
+        let Some(judged) = held(&self.judged, function) else {
+            return Ok(());
+        };
+        for called in &judged.report.entries {
+            let (callee, state) = (called.callee, &*called.state);
+            let _is_changed = take_in_at(self.alloc, &mut room, &mut self.entries, callee, state)?;
         }
         Ok(())
     }
@@ -242,8 +214,8 @@ impl<'a> Analysis<'a> {
     fn pass<W: Watch>(&mut self, start: &State, meter: &mut Meter<'_, W>) -> Result<(), Halt> {
         self.entries = vacant(self.alloc, self.judged.len())?;
         put(&mut self.entries, 0, Some(Entries::of(self.alloc, start)?));
-        let cfg = self.cfg;
-        for function in cfg.callers_first() {
+        let cfg = self.whole.cfg;
+        for function in &cfg.callers_first {
             self.visit(*function, meter)?;
         }
         Ok(())
@@ -251,9 +223,8 @@ impl<'a> Analysis<'a> {
 
     /// What a function returns as far as its EXITs say.
     fn exit(&self, function: usize) -> Num {
-        self.judged(function)
-            .and_then(|judged| judged.report.exit)
-            .unwrap_or(Num::top())
+        let exit = held(&self.judged, function).and_then(|judged| judged.report.exit);
+        exit.unwrap_or(Num::top())
     }
 
     /// Makes each function return what its EXITs say, if that says more and may be taken; where they say less, any number.

@@ -1,7 +1,7 @@
 //! What arrives at labels over their edges.
 
 use crate::nest::Nest;
-use bpf_infer_base::{LabelState, edge_work, get_or, held, join, places_known, put, vacant};
+use bpf_infer_base::{LabelState, Limit, Tally, get_or, held, join, places_known, put, vacant};
 use bpf_state::{Entries, State};
 use std::alloc::{AllocError, Global};
 
@@ -12,22 +12,16 @@ pub fn take_in(
     sum: &mut LabelState,
     state: &State,
 ) -> Result<bool, AllocError> {
-    let is_first = match sum {
+    let joined = match sum {
+        Some(old) if state.entails_entries(old) => return Ok(false),
         Some(old) => {
-            if state.entails_entries(old) {
-                return Ok(false);
-            }
             old.put_into(room);
-            false
+            join(room, state, None);
+            Entries::of(alloc, room)?
         }
-        None => true,
+        None => Entries::of(alloc, state)?,
     };
-    if is_first {
-        *sum = Some(Entries::of(alloc, state)?);
-    } else {
-        join(room, state, None);
-        *sum = Some(Entries::of(alloc, room)?);
-    }
+    *sum = Some(joined);
     Ok(true)
 }
 
@@ -52,9 +46,8 @@ pub struct Sums {
     /// By labels, the place of the first of its sums; at the end how many there are. A label in k loops has k + 1.
     starts: Vec<usize>,
     sums: Vec<LabelState>,
-    /// By sums, how many entries each had when it began, and all of them together.
-    counts: Vec<u8>,
-    kept: usize,
+    /// The entries of the sums, of those that were taken too.
+    tally: Tally,
     /// Where states are joined.
     room: Box<State>,
     other: Box<State>,
@@ -74,8 +67,7 @@ impl Sums {
             alloc,
             starts,
             sums: vacant(alloc, count)?,
-            counts: vec![in alloc; 0; count]?,
-            kept: 0,
+            tally: Tally::new(alloc, count)?,
             room: Box::new(alloc, State::blank())?,
             other: Box::new(alloc, State::blank())?,
         })
@@ -91,37 +83,25 @@ impl Sums {
         self.start(label.saturating_add(1))
     }
 
-    /// How many entries there are, those of sums that were taken among them.
-    pub fn kept(&self) -> usize {
-        self.kept
+    /// The limit that is passed where the sums have more entries than may be kept.
+    pub fn limit(&self) -> Option<Limit> {
+        self.tally.limit()
     }
 
     /// A state arrives at a label over an edge in so many loops. The work, in slots.
     pub fn add(&mut self, label: usize, depth: usize, state: &State) -> Result<usize, AllocError> {
         let index = self.start(label).saturating_add(depth);
         if held(&self.sums, index).is_none() {
-            self.count(index, places_known(state));
+            self.tally.begin(index, places_known(state));
         }
         let is_changed = take_in_at(self.alloc, &mut *self.room, &mut self.sums, index, state)?;
-        let entries = get_or(&self.counts, index, 0) as usize;
-        Ok(edge_work(entries, is_changed))
-    }
-
-    /// Takes note how many entries a sum has.
-    fn count(&mut self, index: usize, count: usize) {
-        let before = get_or(&self.counts, index, 0) as usize;
-        self.kept = self.kept.saturating_sub(before).saturating_add(count);
-        put(
-            &mut self.counts,
-            index,
-            u8::try_from(count).unwrap_or(u8::MAX),
-        );
+        Ok(self.tally.edge_work(index, is_changed))
     }
 
     /// Forgets a sum.
     fn drop_sum(&mut self, index: usize) {
         put(&mut self.sums, index, None);
-        self.count(index, 0);
+        self.tally.begin(index, 0);
     }
 
     /// Forgets what arrives at a label over edges in so many loops.

@@ -1,6 +1,6 @@
 //! Thresholds of the widening: the numbers at which the bounds of a loop's states may stop.
 
-use bpf_infer_base::{REGISTERS, Stops, get_or, join, join_register, join_slots};
+use bpf_infer_base::{REGISTERS, Stops, compared, get_or, held, join, join_register, join_slots};
 use bpf_insn::{Insn, Operand, Reg};
 use bpf_state::{RegState, State};
 use std::alloc::{AllocError, Global};
@@ -67,13 +67,7 @@ impl Thresholds {
 
     /// Takes note of the constants in a jump.
     pub fn add_constant(&mut self, insn: &Insn) -> Result<(), AllocError> {
-        if let Insn::JumpIf {
-            dst,
-            src: Operand::Imm(imm),
-            off: _off,
-            ..
-        } = *insn
-        {
+        if let Some((dst, Operand::Imm(imm))) = compared(insn) {
             let register = dst as usize;
             self.add(register, imm as i64)?;
             if imm < 0 {
@@ -85,13 +79,7 @@ impl Thresholds {
 
     /// Takes note of what the registers of a jump are when it is met.
     pub fn learn(&mut self, insn: &Insn, state: &State) -> Result<(), AllocError> {
-        if let Insn::JumpIf {
-            dst,
-            src: Operand::Reg(src),
-            off: _off,
-            ..
-        } = *insn
-        {
+        if let Some((dst, Operand::Reg(src))) = compared(insn) {
             self.learn_bounds(dst, state.reg(src))?;
             self.learn_bounds(src, state.reg(dst))?;
         }
@@ -126,12 +114,8 @@ impl Thresholds {
 
     /// Whether a bound of an operand was kept.
     fn has(&self, register: usize, number: i64) -> bool {
-        for compared in self.operands.as_slice() {
-            if compared.register == register && compared.number == number {
-                return true;
-            }
-        }
-        false
+        let is_it = |known: &Compared| known.register == register && known.number == number;
+        self.operands.iter().any(is_it)
     }
 
     /// A register's stops; None if nothing is compared with it. Those for all else have all that is compared.
@@ -168,13 +152,7 @@ impl Thresholds {
 
     /// The stops of a register, else those for all else.
     fn stops_at(&self, register: usize) -> Option<&Stops> {
-        match self.stops.get(register) {
-            Some(Some(stops)) => Some(stops),
-            _ => match self.stops.get(REGISTERS) {
-                Some(Some(stops)) => Some(stops),
-                _ => None,
-            },
-        }
+        held(&self.stops, register).or(held(&self.stops, REGISTERS))
     }
 
     /// Makes a state one that another lies in too, with bounds that move moved on.

@@ -137,11 +137,12 @@ IsHardening rows h =
     × IsFlag (one_of (codes "padded") rows) h.padded × IsFlag (one_of (codes "proved") rows) h.proved
     × (option_map (λ s. s.now) h.notes ≡ first_of (codes "notes") rows) × (option_map (λ s. s.now) h.changes ≡ first_of (codes "changes") rows)
 
--- which programs are to be compared, by which notes, for which contexts and turns
+-- which programs are to be compared, by which notes, for which contexts and runs
 abbrev pub IsFollowing : List Row → Following → Type 0
 IsFollowing rows f =
     (f.original.now ≡ word_of (codes "OLD") rows) × (f.rewritten.now ≡ word_of (codes "NEW") rows) × (f.notes.now ≡ word_of (codes "NOTES") rows)
-    × IsCount 32 0 (one_of (codes "LEN") rows) f.length × IsCount 32 usual_turns (one_of (codes "turns") rows) f.turns × IsOrder rows f.order
+    × IsCount 32 0 (one_of (codes "LEN") rows) f.length × IsCount 32 usual_turns (one_of (codes "turns") rows) f.turns
+    × IsCount 32 0 (one_of (codes "untouched") rows) f.untouched × IsFlag (one_of (codes "padded") rows) f.padded × IsOrder rows f.order
 
 -- the request of a subcommand with these matches
 abbrev pub Asks : Text → List Row → Request → Type 0

@@ -15,5 +15,9 @@ pub struct Following<'a> {
     pub length: u32,
     /// How often a run of the original comes to one slot at most, at least once.
     pub turns: u32,
+    /// How many of the lowest bytes of each frame a run of the original accesses by r10 alone, at most 512.
+    pub untouched: u32,
+    /// Whether contexts are blocks: the original is given the packets that they hold.
+    pub padded: bool,
     pub order: Order,
 }

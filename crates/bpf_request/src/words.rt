@@ -209,6 +209,8 @@ fn following_in<'a>(matches: &ArgMatches<'a>) -> Following<'a>
         notes: word(matches, "NOTES"),
         length: number(matches, "LEN", 0),
         turns: number(matches, "turns", USUAL_TURNS),
+        untouched: number(matches, "untouched", 0),
+        padded: has_flag(matches, "padded"),
         order: order_of(matches),
     }
 }

@@ -1,8 +1,8 @@
 -- Which slots an access may touch, and which of their bytes.
-use Rattle.std.proofs.Common.{◌≡◌, ℕ, zero, suc, ℤ, pos, negsuc, ◌+ℤ◌, ◌-ℤ◌, ◌≤ℤ◌, ◌<ℤ◌, neg_ℤ, ◌+◌, ◌-◌, ◌*◌, ◌/◌, ◌%◌, ◌^◌, ◌<◌, ◌≤◌, refl, sym, ◌∙◌, ap, ap₂, arith, true, false, Bool, inl, inr}
-use Rattle.std.specs.Prelude.{nat_lt, nat_le, int_lt, unsigned_abs, ◌&&◌}
+use Rattle.std.proofs.Common.{◌≡◌, ℕ, zero, suc, ℤ, pos, negsuc, ◌+ℤ◌, ◌-ℤ◌, ◌≤ℤ◌, ◌<ℤ◌, neg_ℤ, ◌+◌, ◌-◌, ◌*◌, ◌/◌, ◌%◌, ◌^◌, ◌<◌, ◌≤◌, refl, sym, ◌∙◌, ap, ap₂, subst, arith, true, false, Bool, inl, inr}
+use Rattle.std.specs.Prelude.{nat_lt, nat_le, int_le, int_lt, unsigned_abs, ◌&&◌}
 use Rattle.std.specs.Int.{int_min, int_max, w128, cast_signed, cast_unsigned}
-use Rattle.std.proofs.lemmas.Bool.{leb-true, ltb-true, lt-ltb, le-leb, cases_lt}
+use Rattle.std.proofs.lemmas.Bool.{leb-true, ltb-true, lt-ltb, le-leb, cases_lt, false≢true}
 use Rattle.std.proofs.lemmas.Bool.Decides.{nat_tests}
 use Rattle.std.proofs.lemmas.Int.{ints, clamps}
 use Rattle.std.proofs.lemmas.Nat.{one_shl}
@@ -10,8 +10,8 @@ use Rattle.std.proofs.Math.Pow.{pow_mono}
 use Rattle.bpf_insn.specs.Instruction.{byte_count}
 use Rattle.bpf_insn.specs.declared.instruction.Size.{Size}
 use Rattle.bpf_insn.specs.declared.instruction.Size.TheVariants.{B, H, W, DW}
-use Rattle.bpf_state.specs.Access.{Span, first_byte, span_end, offset_in_slot}
-use Rattle.bpf_state.specs.code.Parts.{IsSpan, AreTouched, depth_of}
+use Rattle.bpf_state.specs.Access.{Span, IsOutside, LiesOutside, is_inside, first_byte, span_end, offset_in_slot}
+use Rattle.bpf_state.specs.code.Parts.{IsSpan, AreTouched, begins_outside, depth_of}
 
 same_tests : (a b : Bool) → (a ≡ true → b ≡ true) → (b ≡ true → a ≡ true) → a ≡ b
 same_tests true b f g = sym (f refl)
@@ -23,6 +23,49 @@ lt_from_test a b test = grind (arith, ints)
 
 test_from_lt : (a b : ℤ) → a <ℤ b → int_lt a b ≡ true
 test_from_lt a b lt = grind (arith, ints)
+
+-- ---- an offset outside
+
+le_from_test : (a b : ℤ) → int_le a b ≡ false → b <ℤ a
+le_from_test a b test = grind (arith, ints)
+
+test_from_le : (a b : ℤ) → a ≤ℤ b → int_le a b ≡ true
+test_from_le a b le = grind (arith, ints)
+
+ge_from_test : (a b : ℤ) → int_lt a b ≡ false → b ≤ℤ a
+ge_from_test a b test = grind (arith, ints)
+
+and_false : (a b : Bool) → (a && b) ≡ false → a ≡ true → b ≡ false
+and_false true b e f = e
+and_false false b e f = absurd (false≢true f)
+
+first_of : (len : ℕ) (p : Span) (b : Bool) → is_inside len (record p { in_frame = b }) ≡ false → begins_outside len (record p { in_frame = b }) ≡ true → LiesOutside len b p.lowest
+first_of len p true e f = inl (lt_from_test _ _ f)
+first_of len p false e f = inl (low (int_le (pos 0) p.lowest) refl)
+  where
+    low : (b : Bool) → int_le (pos 0) p.lowest ≡ b → p.lowest <ℤ pos 0
+    low false h = le_from_test _ _ h
+    low true h =
+        let end : pos len <ℤ span_end p = le_from_test _ _ (and_false _ _ e h) in
+        let last : (span_end p -ℤ pos 1) <ℤ pos len = lt_from_test _ _ f in
+        absurd (omega (arith, ints))
+
+last_of : (len : ℕ) (p : Span) (b : Bool) → is_inside len (record p { in_frame = b }) ≡ false → begins_outside len (record p { in_frame = b }) ≡ false → LiesOutside len b (span_end p -ℤ pos 1)
+last_of len p true e f =
+    let low : neg_ℤ (pos 512) ≤ℤ p.lowest = ge_from_test _ _ f in
+    let end : pos 0 <ℤ span_end p = le_from_test _ _ (and_false _ _ e (test_from_le _ _ low)) in
+    inr (omega (arith, ints))
+last_of len p false e f = inr (ge_from_test _ _ f)
+
+pub first_outside : (len : ℕ) (p : Span) (z : ℤ) → IsSpan p → is_inside len p ≡ false → begins_outside len p ≡ true → z ≡ p.lowest → IsOutside len p z
+first_outside len p z is e f g =
+    let some = is.some in let ordered = is.ordered in
+    subst (IsOutside len p) (sym g) (record { from = omega (arith, ints); below = omega (arith, ints); outside = first_of len p p.in_frame e f })
+
+pub last_outside : (len : ℕ) (p : Span) (z : ℤ) → IsSpan p → is_inside len p ≡ false → begins_outside len p ≡ false → z ≡ span_end p -ℤ pos 1 → IsOutside len p z
+last_outside len p z is e f g =
+    let some = is.some in let ordered = is.ordered in
+    subst (IsOutside len p) (sym g) (record { from = omega (arith, ints); below = omega (arith, ints); outside = last_of len p p.in_frame e f })
 
 -- ---- the depth of an offset
 

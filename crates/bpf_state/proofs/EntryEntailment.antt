@@ -21,7 +21,7 @@ use Rattle.bpf_state.proofs.EntryLemmas.{register_below}
 
 -- ---- pairs
 
-pair_at : {A : Type 0} (test : A → A → Bool) (xs ys : List A) (i : ℕ) (d : A) → i < length xs → i < length ys → all_pairs test xs ys ≡ true → test (get_or xs i d) (get_or ys i d) ≡ true
+pub pair_at : {A : Type 0} (test : A → A → Bool) (xs ys : List A) (i : ℕ) (d : A) → i < length xs → i < length ys → all_pairs test xs ys ≡ true → test (get_or xs i d) (get_or ys i d) ≡ true
 pair_at test [] ys i d h k e = absurd (omega arith)
 pair_at test (x ∷ xs) [] i d h k e = absurd (omega arith)
 pair_at test (x ∷ xs) (y ∷ ys) zero d h k e = (and_parts (test x y) (all_pairs test xs ys) e).0

@@ -5,9 +5,11 @@ pub mod AccessLemmas
 pub mod ListLemmas
 pub mod SlotLemmas
 pub mod AluLemmas
+pub mod CauseLemmas
 pub mod MemoryLemmas
 pub mod LaneLemmas
 pub mod CoverLemmas
 pub mod EntryLemmas
 pub mod EntryEntailment
 pub mod MixLemmas
+pub mod PlaceLemmas

@@ -1,5 +1,5 @@
 -- The slots that an access may touch: a test of some of them, and a change of each.
-use Rattle.std.proofs.Common.{◌≡◌, ℕ, zero, suc, ◌+◌, ◌<◌, ◌≤◌, List, [], ◌∷◌, length, get_or, refl, sym, ◌∙◌, ap, subst, arith, true, false, Bool, Option, None, inl, inr, ◌⊎◌, negsuc, min, ◌*◌, ◌%◌}
+use Rattle.std.proofs.Common.{◌≡◌, ℕ, zero, suc, ◌+◌, ◌-◌, ◌<◌, ◌≤◌, List, [], ◌∷◌, length, get_or, refl, sym, ◌∙◌, ap, subst, arith, true, false, Bool, Option, None, inl, inr, ◌⊎◌, negsuc, min, ◌*◌, ◌%◌}
 use Rattle.std.specs.Prelude.{◌&&◌, set, unsigned_abs, ℤ, pos, neg_ℤ, ◌-ℤ◌, ◌≤ℤ◌, if◌then◌else◌}
 use Rattle.std.proofs.lemmas.Bool.{and_from, and_left, and_right, or_left, or_right, or_from, le-leb, lt-leb, lt-ltb, le-ltb, cases_lt, cases_eq, cond-true, cond-false, eq-eqb, false≢true}
 use Rattle.std.proofs.lemmas.Bool.Decides.{nat_tests, Decides-int_eq}
@@ -11,7 +11,7 @@ use Rattle.std.proofs.lemmas.List.{get_or-set_same, get_or-set_other, length-set
 use Rattle.bpf_state.specs.declared.known.SlotState.{SlotState}
 use Rattle.bpf_state.specs.declared.known.SlotState.TheVariants.{Bytes}
 use Rattle.bpf_state.specs.declared.known.Tag.{Tag}
-use Rattle.bpf_state.specs.Access.{Span, touches, touched_bytes, any_slot, is_known, is_slot, offset_in_slot, first_byte, span_end}
+use Rattle.bpf_state.specs.Access.{Span, touches, touched_bytes, any_slot, IsFirstSlot, is_known, is_slot, offset_in_slot, first_byte, span_end}
 use Rattle.bpf_state.specs.Transfer.{each_slot, each_slot_tag}
 use Rattle.bpf_state.specs.code.Parts.{IsSpan, AreTouched}
 
@@ -59,6 +59,29 @@ touched_none p first end i test xs are long past none =
         | inr over ↦ and_left _ _ (outside p first end j are (omega arith) (inr over))
       ]
     ]))
+
+-- the first touched slot that passes
+pub touched_first : (p : Span) (first end : ℕ) (test : ℕ → SlotState → Bool) (xs : List SlotState) (i k : ℕ) → AreTouched p first end → first ≤ i → i < end → k ≡ i + 1 → NoneTo test first i xs → test (suc i) (get_or xs i (Bytes 0)) ≡ true → IsFirstSlot (λ k held. touches p k && test k held) xs k
+touched_first p first end test xs i k are from below e none t =
+    let within = are.within in
+    let last : suc i - 1 ≡ i = omega arith in
+    let same : k ≡ suc i = omega arith in
+    rw same (record {
+      low = omega arith;
+      high = omega arith;
+      passes = rw last (and_from _ _ (inside p first end i are from below) t);
+      first = before;
+    })
+  where
+    before : (j : ℕ) → 1 ≤ j → j < suc i → (touches p j && test j (get_or xs (j - 1) (Bytes 0))) ≡ false
+    before zero low lt = absurd (omega arith)
+    before (suc j) low lt =
+        let within = are.within in
+        let one : suc j - 1 ≡ j = omega arith in
+        rw one (elim (cases_lt j first) [
+          | inl less ↦ and_left _ _ (outside p first end j are (omega arith) (inl less))
+          | inr more ↦ and_right _ _ (none j more (omega arith))
+        ])
 
 -- ---- a change of each slot
 

@@ -9,10 +9,14 @@ pub mod Access
 pub mod Condition
 -- why an instruction is refused
 pub mod Fault
+-- what is at fault there
+pub mod Cause
 -- the state after each instruction
 pub mod Transfer
 -- one state lies in another
 pub mod Entails
+-- the first place of which something holds
+pub mod Places
 -- the states that a label can have
 pub mod Bare
 -- what the calls that change a state answer

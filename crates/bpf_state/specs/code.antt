@@ -4,3 +4,4 @@ pub mod Parts
 pub mod Results
 pub mod Entries
 pub mod Tags
+pub mod Mistakes

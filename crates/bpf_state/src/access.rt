@@ -29,12 +29,12 @@ impl Model for Reach {
     ghost inverse = { λ r. record { in_frame = r.in_frame; lowest = r.lowest; highest = r.highest; count = r.count } };
 }
 
-ghost use Rattle.std.specs.Prelude.{◌≡◌, ◌<◌, ◌^◌, ◌≤ℤ◌, ◌+ℤ◌, ◌-ℤ◌, pos, neg_ℤ, suc, IsTrue, true, Some, MatchResult};
+ghost use Rattle.std.specs.Prelude.{◌≡◌, ◌<◌, ◌^◌, ◌≤ℤ◌, ◌+ℤ◌, ◌-ℤ◌, pos, neg_ℤ, suc, not, is_some, IsTrue, IfSome, true, Some, MatchResult};
 ghost use Rattle.bpf_state.specs.Fault.{is_pointer};
 ghost use Rattle.bpf_insn.specs.Instruction.{byte_count};
-ghost use Rattle.bpf_state.specs.Access.{span_at, span_from, span_end, is_known, is_slot, is_inside, slot_number, first_byte, offset_in_slot, touched_bytes};
+ghost use Rattle.bpf_state.specs.Access.{IsOutside, span_at, span_from, span_end, is_known, is_slot, is_inside, slot_number, first_byte, offset_in_slot, touched_bytes};
 ghost use Rattle.bpf_state.specs.State.{IsRegister, register};
-ghost use Rattle.bpf_state.specs.code.Parts.{IsSpan, AreTouched, base_fault, depth_of};
+ghost use Rattle.bpf_state.specs.code.Parts.{IsSpan, AreTouched, base_fault, begins_outside, depth_of};
 ghost use Rattle.bpf_state.specs.Condition.{fault_number};
 
 impl Reach {
@@ -102,14 +102,14 @@ impl Reach {
     }
 
     /// The first byte that may be touched.
-    pub fn first(self) -> i128
+    pub(crate) fn first(self) -> i128
         ensures { result ≡ self.lowest }
     {
         self.lowest
     }
 
     /// The end of the bytes that may be touched.
-    pub fn end(self) -> i128
+    pub(crate) fn end(self) -> i128
         ensures { result ≡ span_end self }
     {
         self.highest + self.count as i128
@@ -139,6 +139,33 @@ impl Reach {
         }
     }
 
+    /// Where not all bytes lie inside: whether the first lies outside.
+    fn begins_outside(self, len: u32) -> bool
+        ensures { result ≡ begins_outside len self }
+    {
+        if self.in_frame {
+            self.lowest < FRAME_START as i128
+        } else {
+            self.end() - 1 < len as i128
+        }
+    }
+
+    /// An offset that may be touched and lies outside of the context of a length, or of the frame: that of the first or the last byte.
+    /// None exactly if all lie inside.
+    pub fn outside(self, len: u32) -> Option<i128>
+        ensures refused { is_some result ≡ not (is_inside len self) }
+        ensures offset { IfSome result (IsOutside len self) }
+    {
+        self.valid();
+        if self.is_inside(len) {
+            None
+        } else if self.begins_outside(len) {
+            Some(self.first())
+        } else {
+            Some(self.end() - 1)
+        }
+    }
+
     /// The indices of the slots that may be touched among all 64: the first, and the end of these.
     pub fn slots(self) -> (usize, usize)
         ensures { AreTouched self result.0 result.1 }
@@ -161,7 +188,7 @@ impl Reach {
     }
 
     /// The mask of the bytes that may be touched of the slot at a place.
-    pub fn mask(self, index: usize) -> u8
+    pub(crate) fn mask(self, index: usize) -> u8
         requires { index < 64 }
         ensures { result ≡ touched_bytes self (suc index) }
     {

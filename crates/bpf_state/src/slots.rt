@@ -1,8 +1,8 @@
 //! What accesses read of the slots, and what they leave there.
 
-ghost use Rattle.std.specs.Prelude.{◌≡◌, ◌≤◌, ◌&&◌, not, length, All, IsTrue, true, false, None, if◌then◌else◌};
+ghost use Rattle.std.specs.Prelude.{◌≡◌, ◌≤◌, ◌&&◌, not, length, All, IfSome, is_some, IsTrue, true, false, None, if◌then◌else◌};
 ghost use Rattle.bpf_state.specs.State.{IsSlot};
-ghost use Rattle.bpf_state.specs.Access.{is_known, is_slot, touches, touched_bytes, is_pointer_slot, are_known_bytes, any_slot};
+ghost use Rattle.bpf_state.specs.Access.{is_known, is_slot, touches, touched_bytes, is_pointer_slot, are_known_bytes, any_slot, IsFirstSlot};
 ghost use Rattle.bpf_state.specs.Transfer.{slot_written, slot_maybe_written, each_slot, each_slot_tag, with_touched};
 
 use crate::access::Reach;
@@ -54,32 +54,34 @@ fn is_pointer_slot(held: SlotState) -> bool
     }
 }
 
-/// Whether a slot that may be touched holds a pointer.
-pub(crate) fn any_pointer(slots: &Slots, reach: Reach) -> bool
-    ensures { result ≡ any_slot (λ k held. touches reach k && is_pointer_slot held) 1 slots.now }
+/// The first slot that may be touched and holds a pointer, by its number.
+pub(crate) fn pointer_slot(slots: &Slots, reach: Reach) -> Option<u8>
+    ensures some { is_some result ≡ any_slot (λ k held. touches reach k && is_pointer_slot held) 1 slots.now }
+    ensures first { IfSome result (IsFirstSlot (λ k held. touches reach k && is_pointer_slot held) slots.now) }
 {
     slots.valid();
     let (first, end) = reach.slots();
     for i in first..end {
         if is_pointer_slot(slots.get(i)) {
-            return true;
+            return Some(i as u8 + 1);
         }
     }
-    false
+    None
 }
 
-/// Whether a byte that may be touched isn't known as initialised.
-pub(crate) fn any_unknown(slots: &Slots, reach: Reach) -> bool
-    ensures { result ≡ any_slot (λ k held. touches reach k && not (are_known_bytes (touched_bytes reach k) held)) 1 slots.now }
+/// The first slot of which a byte may be touched that isn't known as initialised, by its number.
+pub(crate) fn unknown_slot(slots: &Slots, reach: Reach) -> Option<u8>
+    ensures some { is_some result ≡ any_slot (λ k held. touches reach k && not (are_known_bytes (touched_bytes reach k) held)) 1 slots.now }
+    ensures first { IfSome result (IsFirstSlot (λ k held. touches reach k && not (are_known_bytes (touched_bytes reach k) held)) slots.now) }
 {
     slots.valid();
     let (first, end) = reach.slots();
     for i in first..end {
         if !slots.knows(i, reach.mask(i)) {
-            return true;
+            return Some(i as u8 + 1);
         }
     }
-    false
+    None
 }
 
 fn write_slots(slots: &mut Slots, reach: Reach)

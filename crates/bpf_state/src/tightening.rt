@@ -8,7 +8,7 @@ use crate::known::{RegState, SlotState};
 use crate::masked::Slots;
 use crate::state::State;
 
-fn tightened_register(held: RegState) -> Option<RegState>
+pub(crate) fn tightened_register(held: RegState) -> Option<RegState>
     requires { IsRegister held }
     ensures value { result ≡ tightened_register held }
     ensures ordered { IfSome result IsRegister }
@@ -19,7 +19,7 @@ fn tightened_register(held: RegState) -> Option<RegState>
     }
 }
 
-fn tightened_slot(held: SlotState) -> Option<SlotState>
+pub(crate) fn tightened_slot(held: SlotState) -> Option<SlotState>
     requires { IsSlot held }
     ensures value { result ≡ tightened_slot held }
     ensures ordered { IfSome result IsSlot }

@@ -93,7 +93,7 @@ pub fn transfer(
 }
 
 /// Whether a test may be made: of numbers, and at 64 bits whether two pointers of one kind are equal.
-fn can_test(width: Width, cond: Cond, a: RegState, b: RegState) -> bool
+pub(crate) fn can_test(width: Width, cond: Cond, a: RegState, b: RegState) -> bool
     ensures { result ≡ can_test width cond a b }
 {
     match (a, b) {

@@ -6,7 +6,7 @@ use Rattle.clap.specs.declared.builder.command.Command.{Command}
 use Rattle.clap.specs.declared.builder.command.Command.TheViews.{out-Command}
 use Rattle.clap.specs.declared.builder.value_parser.ValueParser.TheVariants as parser
 use Rattle.clap.specs.declared.builder.action.ArgAction.TheVariants.{SetTrue}
-use Rattle.bpf_insn.specs.Limits.{max_context, greatest_slot}
+use Rattle.bpf_insn.specs.Limits.{max_context, frame_bytes, greatest_slot}
 
 -- a command as its parser sees it, with no argument that its subcommands share, unless memory ran out
 abbrev pub Grows : Result Command AllocError → App → Type 0
@@ -112,8 +112,12 @@ harden =
 abbrev pub follows_places : App
 follows_places = with_rule (with_rule (with_rule (with_rule (new_app (codes "follows")) (place (codes "OLD"))) (place (codes "NEW"))) (place (codes "NOTES"))) context_length
 
+-- the option `--untouched`, with a number up to the bytes of a frame
+abbrev pub untouched : Rule
+untouched = number (codes "untouched") (pos 0) (pos frame_bytes)
+
 abbrev pub follows : App
-follows = with_rule (with_rule follows_places turns) big
+follows = with_rule (with_rule (with_rule (with_rule follows_places turns) untouched) (flag (codes "padded"))) big
 
 abbrev pub migrate : App
 migrate = with_rule (with_rule (new_app (codes "migrate")) (place (codes "CERT"))) (place (codes "OUT"))

@@ -3,7 +3,7 @@
 use crate::argument::Argument::{
     self, Extra, Flag, Length, Named, Number, Otherwise, Place, Steps, Trace,
 };
-use bpf_insn::{MAX_CONTEXT, MAX_SLOTS};
+use bpf_insn::{FRAME_BYTES, MAX_CONTEXT, MAX_SLOTS};
 
 /// A command: its name, what help says of it, and its arguments.
 pub struct Entry {
@@ -160,6 +160,17 @@ pub const LAST: [Entry; 3] = [
                 1,
                 u32::MAX as i64,
                 "how often a run of OLD comes to one slot at most, else 65536",
+            ),
+            Number(
+                "untouched",
+                "N",
+                0,
+                FRAME_BYTES as i64,
+                "how many of the lowest bytes of each frame a run of OLD accesses by r10 alone, else 0",
+            ),
+            Flag(
+                "padded",
+                "contexts are blocks, and OLD is given the packets that they hold",
             ),
             BIG,
         ],

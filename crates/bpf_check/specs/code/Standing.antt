@@ -1,10 +1,11 @@
--- What is seen of labels.
-use Rattle.std.specs.Prelude.{◌≡◌, ℕ, ◌==◌, Bool, not, ◌&&◌, ◌||◌, List, option_to_list, is_none, is_some, option_map, IfSome, if◌then◌else◌}
+-- What is seen of labels, and of the budget at the start.
+use Rattle.std.specs.Prelude.{◌≡◌, ℕ, ◌==◌, ℤ, Bool, not, ◌&&◌, ◌||◌, List, find, option_to_list, is_none, is_some, Option, option_map, option_and_then, IfSome, if◌then◌else◌}
 use Rattle.std.specs.List.{list_any}
 use Rattle.bpf_insn.specs.Instruction.{Instructions, insn_at}
-use Rattle.bpf_state.specs.State.{tightened}
+use Rattle.bpf_state.specs.State.{tightened, first_state}
 use Rattle.bpf_cert.specs.View.{FunctionView, CertificateView, label_view, function_view}
-use Rattle.bpf_safety.specs.Labels.{first_with, function_at}
+use Rattle.bpf_safety.specs.Labels.{first_with, function_at, label_at}
+use Rattle.bpf_safety.specs.Budget.{budget, greatest_budget}
 use Rattle.bpf_safety.specs.Flaw.{is_bad_term, is_first_label, is_outside}
 use Rattle.bpf_check.specs.LabelIndex.{are_in_place}
 use Rattle.bpf_check.specs.declared.shape.SeenLabel.{SeenLabel}
@@ -14,6 +15,7 @@ use Rattle.bpf_check.specs.declared.standing.Standing.{Standing}
 pub record IsSeenLabel (p : Instructions) (c : CertificateView) (f : FunctionView) (s : SeenLabel) : Type 0 where
   pub misplaced : s.is_misplaced ≡ is_none (insn_at p.list s.label.now.slot)
   pub bad : is_some s.bad ≡ list_any (is_bad_term (label_view s.label.now)) (label_view s.label.now).terms
+  pub first : s.bad ≡ find (is_bad_term (label_view s.label.now)) (label_view s.label.now).terms
   pub outside : s.is_outside ≡ is_outside c f (label_view s.label.now)
   pub empty : s.is_empty ≡ is_none (tightened s.label.now.state)
 
@@ -30,3 +32,7 @@ stands_at slot f = f.first == slot || is_some (first_with (λ l. l.slot == slot)
 -- the functions that are told of at a slot, by their numbers: the one that it lies in where each label lies in its function, else all
 abbrev pub told_at : CertificateView → ℕ → List FunctionView
 told_at c slot = if are_in_place c then option_to_list (function_at c slot) else c.functions
+
+-- the greatest value of the budget at slot 0, where a run begins
+abbrev pub budget_at_start : CertificateView → Option ℤ
+budget_at_start c = option_and_then (λ l. greatest_budget (budget l) (first_state c.least c.most)) (label_at c 0)

@@ -8,9 +8,8 @@ ghost use Rattle.bpf_harden_notes.specs.RefusalNumbers.{harden_slot};
 ghost use Rattle.bpf_answers.specs.Answer.{Answered, Says, Unfinished, text_of as answer_text};
 ghost use Rattle.bpf_answers.specs.Answer.Answer.{NotHardened, NotShown};
 ghost use Rattle.bpf_follows.specs.declared.notes.Place.{Place};
-ghost use Rattle.bpf_follows.specs.Matching.{Matches};
 ghost use Rattle.bpf_follows_notes.specs.NotesText.{notes_text};
-ghost use Rattle.bpf_command.specs.Hardened.{BothStand, HardenFails, HardenSays, IsLeft, IsUnshown, NotAllMade, NotBothPut, NotBothStand, Stands, Unput, bounds_of};
+ghost use Rattle.bpf_command.specs.Hardened.{BothStand, HardenFails, HardenSays, IsLeft, IsUnshown, MatchesLeaving, NotAllMade, NotBothPut, NotBothStand, Stands, Unput};
 ghost use Rattle.bpf_places.specs.Made.{making};
 ghost use Rattle.bpf_answers.specs.Told.{OutputFails};
 
@@ -18,10 +17,10 @@ use crate::advice::{after_mismatch, after_proof, after_unshown};
 use crate::aside::Aside;
 use crate::commands::changes::changes_text;
 use bpf_answers::{Content, DONE, Failure, program_at, put, refuse_at, refuse_image};
-use bpf_follows::{Bounds, Mismatch, Place, follows, matching_keeps_meaning};
+use bpf_follows::{Bounds, Mismatch, Place, matching_keeps_meaning};
 use bpf_follows_notes::write;
 use bpf_harden::{HardenError, Hardened, Options, harden};
-use bpf_harden_follows::places_of;
+use bpf_harden_follows::{Evidence, evidence_of};
 use bpf_insn::{Code, MAX_CONTEXT, Program};
 use bpf_places::Places;
 use bpf_request::Hardening;
@@ -104,7 +103,8 @@ impl From<AllocError> for Unshown {
     }
 }
 
-/// Notes of a hardened program. With `--proved` they show that it keeps the meaning, or it is refused. People are told whether they show it.
+/// Notes of a hardened program. With `--proved` they show that it keeps the meaning, or it is refused. People are told whether they show it,
+/// and for which runs.
 fn shown<H: Aside>(
     alloc: Global,
     aside: &H,
@@ -112,21 +112,27 @@ fn shown<H: Aside>(
     hardened: &Hardened,
     asked: Hardening<'_>,
 ) -> Result<Vec<Option<Place>>, Unshown>
-    ensures matches { IfOk result (λ notes. asked.entry.proved ≡ true → Matches program.now hardened.now.program notes.items (bounds_of asked.entry)) }
+    ensures matches { IfOk result (λ notes. asked.entry.proved ≡ true → MatchesLeaving asked.entry program.now hardened.now.program notes.items) }
     ensures err { IfErr result (IsUnshown program.now hardened.now.program asked.entry) }
 {
-    let notes = places_of(alloc, program, hardened, asked.length)?;
-    let bounds = Bounds {
+    let runs = Bounds {
         length: asked.length,
+        padded: asked.padded,
         turns: asked.turns,
+        untouched: 0,
     };
-    match follows(program, &hardened.program, &notes, bounds) {
-        Ok(()) => {
-            after_proof(aside);
+    let Evidence {
+        notes,
+        untouched,
+        mismatch,
+    } = evidence_of(alloc, program, hardened, runs)?;
+    match mismatch {
+        None => {
+            after_proof(aside, untouched);
             Ok(notes)
         }
-        Err(mismatch) if asked.proved => Err(Unshown::Differs(mismatch)),
-        Err(mismatch) => {
+        Some(mismatch) if asked.proved => Err(Unshown::Differs(mismatch)),
+        Some(mismatch) => {
             after_mismatch(aside, mismatch);
             Ok(notes)
         }
@@ -175,7 +181,7 @@ fn beside_of<H: Aside>(
     asked: Hardening<'_>,
 ) -> Result<Beside, Unshown>
     ensures shown { IfOk result (λ beside. (notes : List (Option Place))
-        × (asked.entry.proved ≡ true → Matches program.now hardened.now.program notes (bounds_of asked.entry))
+        × (asked.entry.proved ≡ true → MatchesLeaving asked.entry program.now hardened.now.program notes)
         × IfSome asked.entry.notes (λ _. beside.notes.items ≡ notes_text notes)) }
     ensures err { IfErr result (IsUnshown program.now hardened.now.program asked.entry) }
 {

@@ -1,12 +1,11 @@
 //! C8: states that don't lie in the label that they lead to.
 
 use crate::known::{Known, Name, Written, known_register};
-use crate::places::{content, state_at, take_over};
+use crate::places::{content, state_at};
 use crate::sight::Sight;
 use bpf_cert::Label;
 use bpf_check::{Callee, JudgedEdge};
 use bpf_explain_page::Tell;
-use bpf_infer_base::{PLACES, place};
 use bpf_insn::Reg;
 use bpf_state::{SlotState, State, enter};
 
@@ -21,19 +20,12 @@ pub struct Difference {
 /// The first place at which a state doesn't lie in a label's.
 pub fn first_difference(state: &State, label: &Label) -> Option<Difference> {
     let claimed = state_at(label);
-    let mut mixed = claimed.copy();
-    for index in 0..PLACES {
-        let place = place(index);
-        take_over(&mut mixed, state, place);
-        if !mixed.entails_entries(&label.state) {
-            return Some(Difference {
-                name: Name(place),
-                held: Known(content(state, place)),
-                said: Written(content(&claimed, place)),
-            });
-        }
-    }
-    None
+    let place = state.first_lost(&claimed)?;
+    Some(Difference {
+        name: Name(place),
+        held: Known(content(state, place)),
+        said: Written(content(&claimed, place)),
+    })
 }
 
 /// The label at the end of an edge that a state goes along.

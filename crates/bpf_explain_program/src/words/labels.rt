@@ -7,10 +7,8 @@ use crate::words::edges::{Difference, first_difference};
 use bpf_cert::{Function, Label, Measure, Term};
 use bpf_check::{Index, SeenLabel, SeenStart, function_at, label_at, place_of};
 use bpf_explain_page::{Count, Tell};
-use bpf_infer_base::{PLACES, place};
 use bpf_insn::Code;
-use bpf_num::Num;
-use bpf_state::{Condition, Place, SlotState, State};
+use bpf_state::{Condition, SlotState, State};
 
 /// C2: a label is at no instruction's first slot.
 fn tell_place<W: Tell, C: Code>(out: &mut W, program: &C, slot: u32) {
@@ -51,20 +49,6 @@ fn tell_term<W: Tell>(out: &mut W, label: &Label, term: &Term) {
     }
 }
 
-/// The first place of a label whose number has no member, and the number.
-fn empty_number(label: &Label) -> Option<(Place, Num)> {
-    let state = state_at(label);
-    for index in 0..PLACES {
-        let place = place(index);
-        if let SlotState::Word(number) = content(&state, place) {
-            if number.tighten().is_none() {
-                return Some((place, number));
-            }
-        }
-    }
-    None
-}
-
 /// C13: a label lies outside of its function.
 fn tell_outside<W: Tell>(out: &mut W, certificate: &Index, function: &Function, label: &Label) {
     let first = function.first;
@@ -83,12 +67,10 @@ fn tell_outside<W: Tell>(out: &mut W, certificate: &Index, function: &Function, 
 
 /// C13: a label has no member.
 fn tell_empty<W: Tell>(out: &mut W, label: &Label) {
-    match empty_number(label) {
-        Some((place, number)) => {
-            let (name, said) = (Name(place), Written(SlotState::Word(number)));
-            write!(out, "no number is {said}, as the label says of {name}");
-        }
-        None => write!(out, "the label's state has no member"),
+    let state = state_at(label);
+    if let Some(place) = state.first_empty() {
+        let (name, said) = (Name(place), Written(content(&state, place)));
+        write!(out, "no number is {said}, as the label says of {name}");
     }
 }
 

@@ -2,15 +2,14 @@
 
 use crate::known::{Name, Offset, known_register};
 use crate::listing::Lengths;
-use crate::places::content;
 use crate::sight::Sight;
-use crate::words::kinds::tell_operands;
+use crate::words::kinds::tell_registers;
 use crate::words::origins::{tell_operand_tested, tell_sum_tested};
 use crate::words::register;
 use bpf_check::Index;
 use bpf_explain_page::{Count, Tell};
-use bpf_insn::{Access, Code, Insn};
-use bpf_state::{FRAME_START, Place, Reach, SlotState, State};
+use bpf_insn::{Access, Code};
+use bpf_state::{Place, Reach, unknown_bytes};
 use std::fmt;
 
 /// What an access does.
@@ -51,29 +50,17 @@ fn tell_readable<W: Tell>(out: &mut W, certificate: &Index) {
 
 /// `: `, and the byte that lies outside of the context or the frame.
 fn tell_outside<W: Tell>(out: &mut W, certificate: &Index, reach: Reach) {
-    let (first, last) = (reach.first(), reach.end().saturating_sub(1));
-    if reach.in_frame() {
-        if first < i128::from(FRAME_START) {
-            write!(out, ": byte {first} of a frame from -512 to -1");
-        } else {
-            write!(out, ": byte {last} of a frame from -512 to -1");
+    match reach.outside(certificate.least()) {
+        Some(byte) if reach.in_frame() => {
+            write!(out, ": byte {byte} of a frame from -512 to -1");
         }
-    } else if last >= i128::from(certificate.least()) {
-        let lengths = Lengths::of(certificate);
-        write!(out, ": byte {last} of a context of {lengths}");
-        tell_readable(out, certificate);
-    } else {
-        write!(out, ": byte {first}, in front of the context");
-    }
-}
-
-/// The registers of an operation that moves a pointer too far.
-fn tell_far<W: Tell>(out: &mut W, state: &State, insn: &Insn) {
-    let rule = "the pointer may leave its bounds, -2147483648 to 2147483648";
-    if let Insn::Alu { dst, src, .. } = *insn {
-        tell_operands(out, rule, state, dst, src)
-    } else {
-        write!(out, "{rule}")
+        Some(byte) if byte < 0 => write!(out, ": byte {byte}, in front of the context"),
+        Some(byte) => {
+            let lengths = Lengths::of(certificate);
+            write!(out, ": byte {byte} of a context of {lengths}");
+            tell_readable(out, certificate);
+        }
+        None => {}
     }
 }
 
@@ -86,7 +73,8 @@ pub fn tell_bounds<'a, W: Tell, C: Code>(
 ) {
     let state = &sight.before;
     let Some(access) = sight.site.insn.access() else {
-        tell_far(out, state, &sight.site.insn);
+        let rule = "the pointer may leave its bounds, -2147483648 to 2147483648";
+        tell_registers(out, rule, state, sight.site.insn.registers_read());
         return tell_operand_tested(out, program, sight);
     };
     let (name, held) = (
@@ -101,43 +89,19 @@ pub fn tell_bounds<'a, W: Tell, C: Code>(
     tell_sum_tested(out, program, sight, access.base);
 }
 
-/// The first slot with a byte that may be read and isn't known to be initialised, and the mask of those that are.
-fn unknown_slot(state: &State, reach: Reach) -> Option<(u8, u8)> {
-    let (first, end) = reach.slots();
-    for index in first..end {
-        let slot = index as u8 + 1;
-        if let SlotState::Bytes(known) = content(state, Place::Slot(slot)) {
-            if reach.mask(index) & !known != 0 {
-                return Some((slot, known));
-            }
-        }
-    }
-    None
-}
-
 /// C6: a stack byte that may be read isn't known to be initialised.
 pub fn tell_unknown_bytes<'a, W: Tell>(out: &mut W, sight: &Sight<'a>) {
-    let Some(access) = sight.site.insn.access() else {
-        return write!(out, "reads bytes that aren't known to be initialised");
+    let insn = &sight.site.insn;
+    let (Some(access), Some(unknown)) = (insn.access(), unknown_bytes(insn, &sight.before)) else {
+        return;
     };
-    let touch = Touch(access);
-    let found = match Reach::of_access(access, &sight.before) {
-        Some(reach) => unknown_slot(&sight.before, reach),
-        None => None,
-    };
-    match found {
-        Some((slot, 0)) => {
-            let name = Name(Place::Slot(slot));
-            write!(out, "{touch}: no byte of {name} is known to be initialised");
-        }
-        Some((slot, known)) => {
-            let name = Name(Place::Slot(slot));
-            write!(
-                out,
-                "{touch}: of {name} only the bytes b{known} are known to be initialised"
-            );
-        }
-        None => write!(out, "{touch}"),
+    let (touch, name) = (Touch(access), Name(Place::Slot(unknown.slot)));
+    match unknown.known {
+        0 => write!(out, "{touch}: no byte of {name} is known to be initialised"),
+        known => write!(
+            out,
+            "{touch}: of {name} only the bytes b{known} are known to be initialised"
+        ),
     }
 }
 

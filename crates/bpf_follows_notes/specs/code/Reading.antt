@@ -7,7 +7,7 @@ use Rattle.bpf_insn.specs.declared.instruction.Reg.TheVariants.{R0, R1, R2, R3, 
 use Rattle.bpf_follows.specs.declared.notes.Area.{Area}
 use Rattle.bpf_follows.specs.declared.notes.Area.TheVariants.{Given, Own}
 use Rattle.bpf_follows.specs.declared.notes.Kind.{Kind}
-use Rattle.bpf_follows.specs.declared.notes.Kind.TheVariants.{Nothing, Unset, Same, Both, Number, Natural, Offset, Fixed, Within, Start, Base, Moved, Address, Saved, Constant, Counter, Turn, Alone, Returns}
+use Rattle.bpf_follows.specs.declared.notes.Kind.TheVariants.{Nothing, Unset, Same, Both, Number, Natural, Inner, Length, Sized, Ending, Offset, Fixed, Within, Start, Head, Base, Moved, Address, Saved, Constant, Counter, Turn, Alone, Returns}
 use Rattle.bpf_follows.specs.declared.notes.Place.{Place}
 use Rattle.bpf_follows_notes.specs.declared.error.NotesError.{NotesError}
 use Rattle.bpf_follows_notes.specs.declared.error.NotesError.TheVariants.{Form}
@@ -98,8 +98,8 @@ unfoldable pub plain_in : List ℕ → Option (Kind × List ℕ)
 plain_in text =
     or_else (word_in (codes "same") Same text)
     (or_else (word_in (codes "unset") Unset text)
-    (or_else (word_in (codes "natural") Natural text)
     (or_else (word_in (codes "start") Start text)
+    (or_else (word_in (codes "head") Head text)
     (or_else (word_in (codes "base") Base text)
     (or_else (word_in (codes "both") Both text) (word_in (codes "alone") Alone text))))))
 
@@ -116,7 +116,12 @@ numbered_in text =
     (or_else (option_map (λ x. (Number x.0 x.1, x.2)) (bounds_in (codes "number:") text))
     (or_else (option_map (λ x. (Counter x.0, x.1)) (number_in (codes "turns:") text))
     (or_else (option_map (λ x. (Turn x.0, x.1)) (number_in (codes "turn:") text))
-    (or_else (option_map (λ x. (Returns x.0 x.1, x.2)) (bounds_in (codes "returns:") text)) (saved_in text)))))
+    (or_else (option_map (λ x. (Natural x.0, x.1)) (number_in (codes "natural:") text))
+    (or_else (option_map (λ x. (Length x.0, x.1)) (number_in (codes "length:") text))
+    (or_else (option_map (λ x. (Sized x.0, x.1)) (number_in (codes "sized:") text))
+    (or_else (option_map (λ x. (Ending x.0, x.1)) (number_in (codes "ending:") text))
+    (or_else (option_map (λ x. (Returns x.0 x.1, x.2)) (bounds_in (codes "returns:") text))
+    (or_else (option_map (λ x. (Inner x.0 x.1, x.2)) (bounds_in (codes "inner:") text)) (saved_in text))))))))))
 
 -- an offset into an area, or the pointer there
 unfoldable pub offset_in : Area → List ℕ → Option (Kind × List ℕ)

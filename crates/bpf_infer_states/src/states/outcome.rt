@@ -2,66 +2,52 @@
 
 ghost use Rattle.std.specs.Prelude.{◌≤◌};
 
+use crate::judge::lower;
 use crate::liveness::{keep_live, least_number, places_read};
 use crate::states::Analysis;
 use bpf_cert::{Function, Label};
 use bpf_infer_base::{
-    Cfg, Fault, Halt, Meter, Obstacle, PlaceSet, Quest, Sketch, Stop, Watch, labels_of, put,
+    Fault, Halt, Meter, Obstacle, PlaceSet, Sketch, Stop, Task, Watch, get_or, held, labels_of, put,
 };
 use bpf_infer_error::InferError;
 use bpf_num::Num;
-use std::alloc::{AllocError, Global};
-
-/// The lower of two faults.
-fn lower(a: Option<Fault>, b: Option<Fault>) -> Option<Fault> {
-    match (a, b) {
-        (Some(first), Some(second)) if second.slot < first.slot => Some(second),
-        (Some(first), _) => Some(first),
-        (None, second) => second,
-    }
-}
+use std::alloc::AllocError;
 
 impl<'a> Analysis<'a> {
     /// The lowest fault, or slot that isn't reached if all are to be.
     pub(super) fn fault(&self) -> Option<Fault> {
         let mut lowest = None;
+        let whole = self.whole;
         for function in 0..self.judged.len() {
-            let found = match self.judged(function) {
-                Some(judged) if self.stops => judged.report.fault,
+            let found = match held(&self.judged, function) {
+                Some(judged) if whole.stops => judged.report.fault,
                 Some(judged) => lower(judged.report.fault, judged.unreached.map(Fault::falls_off)),
-                None if self.stops => None,
-                None => Some(Fault::falls_off(self.cfg.first_slot(function))),
+                None if whole.stops => None,
+                None => Some(Fault::falls_off(whole.cfg.first_slot(function))),
             };
             lowest = lower(lowest, found);
         }
         lowest
     }
 
-    /// By labels of a function, the places that are read behind each.
-    fn places_read(&self, function: usize, read: &[PlaceSet]) -> Result<Vec<PlaceSet>, AllocError> {
-        match self.judged(function) {
-            Some(judged) => {
-                let task = self.task(&judged.blocks);
-                places_read(self.alloc, task, &judged.states, read)
-            }
-            None => Ok(Vec::new(self.alloc)),
-        }
-    }
-
     /// What a function reads of what it begins with; its labels' states say no more than is read. Its callees come before it.
     fn keep_live(&mut self, function: usize, read: &[PlaceSet]) -> Result<PlaceSet, AllocError> {
-        let live = self.places_read(function, read)?;
+        let Some(judged) = held(&self.judged, function) else {
+            return Ok(PlaceSet::ALL);
+        };
+        let (alloc, task) = (self.alloc, self.task(&judged.blocks));
+        let live = places_read(alloc, task, &judged.states, read)?;
         if let Some(Some(judged)) = self.judged.get_mut(function) {
-            keep_live(self.alloc, &mut judged.states, &live)?;
+            keep_live(alloc, &mut judged.states, &live)?;
         }
-        Ok(live.first().copied().unwrap_or(PlaceSet::ALL))
+        Ok(get_or(&live, 0, PlaceSet::ALL))
     }
 
     /// Makes all labels' states say no more than is read.
     pub(super) fn keep_all_live(&mut self) -> Result<(), AllocError> {
         let mut read = vec![in self.alloc; PlaceSet::ALL; self.judged.len()]?;
-        let cfg = self.cfg;
-        for function in cfg.callees_first() {
+        let cfg = self.whole.cfg;
+        for function in &cfg.callees_first {
             let places = self.keep_live(*function, &read)?;
             put(&mut read, *function, places);
         }
@@ -94,8 +80,8 @@ impl<'a> Analysis<'a> {
             let labels = self.labels(number)?;
             if !labels.is_empty() {
                 functions.push(Function {
-                    first: self.cfg.first_slot(number),
-                    depth: self.cfg.depth(number),
+                    first: self.whole.cfg.first_slot(number),
+                    depth: self.whole.cfg.depth(number),
                     ret: self.ret(number),
                     labels,
                 })?;
@@ -115,7 +101,7 @@ impl<'a> Analysis<'a> {
         let obstacle = halt.limit.map(Obstacle::Over);
         Stop {
             error: halt.error,
-            sketch: Sketch::of(self.quest.least, self.quest.most, functions, obstacle),
+            sketch: Sketch::of(self.whole.least, self.whole.most, functions, obstacle),
         }
     }
 }
@@ -123,16 +109,11 @@ impl<'a> Analysis<'a> {
 /// The fault that is named for a program: the lowest one to which correct instructions lead, with the states on the way to
 /// it. What is seen only where a walk went on behind another fault isn't named before that one. None if there is no such fault,
 /// or the states don't settle.
-fn first_fault<W: Watch>(
-    alloc: Global,
-    quest: Quest<'_>,
-    cfg: &Cfg,
-    meter: &mut Meter<'_, W>,
-) -> Result<Option<Stop>, Stop>
-    requires { quest.least ≤ quest.most }
+fn first_fault<W: Watch>(task: Task, meter: &mut Meter<'_, W>) -> Result<Option<Stop>, Stop>
+    requires { task.least ≤ task.most }
 {
-    let mut analysis = Analysis::new(alloc, quest, cfg, true)?;
-    if let Err(halt) = analysis.settle(&quest.start(), meter) {
+    let mut analysis = Analysis::new(task)?;
+    if let Err(halt) = analysis.settle(&task.start(), meter) {
         return match halt.error {
             InferError::Memory => Err(Stop::from(halt)),
             _ => Ok(None),
@@ -147,20 +128,15 @@ fn first_fault<W: Watch>(
 /// The functions of a program with their depths, what they return, and their labels with their states; each budget is 0. I1
 /// at a function whose states don't settle; I4 at an instruction that is refused: the lowest one to which correct
 /// instructions lead, else the lowest in dead code.
-pub fn draft<W: Watch>(
-    alloc: Global,
-    quest: Quest<'_>,
-    cfg: &Cfg,
-    meter: &mut Meter<'_, W>,
-) -> Result<Vec<Function>, Stop>
-    requires { quest.least ≤ quest.most }
+pub fn draft<W: Watch>(task: Task, meter: &mut Meter<'_, W>) -> Result<Vec<Function>, Stop>
+    requires { task.least ≤ task.most }
 {
-    let mut analysis = Analysis::new(alloc, quest, cfg, false)?;
-    if let Err(halt) = analysis.settle(&quest.start(), meter) {
+    let mut analysis = Analysis::new(task.tolerant())?;
+    if let Err(halt) = analysis.settle(&task.start(), meter) {
         return Err(analysis.stop(halt));
     }
     if let Some(fault) = analysis.fault() {
-        return Err(match first_fault(alloc, quest, cfg, meter)? {
+        return Err(match first_fault(task, meter)? {
             Some(stop) => stop,
             None => analysis.stop(Halt::from(fault.refusal())),
         });

@@ -5,7 +5,7 @@ ghost use Rattle.std.specs.Prelude.{◌≤◌};
 use crate::states::Analysis;
 use bpf_cert::Function;
 use bpf_infer_base::{
-    Callee, Cfg, Edge, Fault, LabelState, Meter, Quest, Task, Visitor, Watch, get_or, load_at, put,
+    Callee, Edge, Fault, LabelState, Meter, Task, Visitor, Watch, get_or, held, load_at, put,
     vacant,
 };
 use bpf_infer_error::{Condition, InferError};
@@ -81,15 +81,21 @@ impl Survey {
 
     /// Whether an instruction at a slot is reached.
     pub fn is_reached(&self, slot: u32) -> bool {
-        matches!(self.sights.get(slot as usize), Some(Some(_)))
+        held(&self.sights, slot as usize).is_some()
     }
 
     /// What is known of a register before the instruction at a slot; nothing where it isn't reached.
     pub fn register(&self, slot: u32, r: Reg) -> RegState {
-        match self.sights.get(slot as usize) {
-            Some(Some(sight)) => sight[r as usize],
-            _ => RegState::Any,
+        match held(&self.sights, slot as usize) {
+            Some(sight) => sight[r as usize],
+            None => RegState::Any,
         }
+    }
+
+    /// The bounds of a register before the instruction at a slot, if it holds a number.
+    pub fn bounds(&self, slot: u32, r: Reg) -> Option<(u64, u64)> {
+        let number = self.register(slot, r).number()?.unsigned();
+        Some((number.lo(), number.hi()))
     }
 
     /// The condition of the checker that the instruction at a slot fails, if it is reached.
@@ -99,14 +105,8 @@ impl Survey {
 
     /// The lowest slot that is reached at which a condition fails.
     pub fn lowest_fault(&self) -> Option<u32> {
-        let mut slot = 0u32;
-        for fault in &self.faults {
-            if fault.is_some() {
-                return Some(slot);
-            }
-            slot = slot.saturating_add(1);
-        }
-        None
+        let slot = self.faults.iter().position(|fault| fault.is_some())?;
+        u32::try_from(slot).ok()
     }
 
     /// Takes note of a label that is met for the first time.
@@ -139,12 +139,12 @@ impl Survey {
 impl<'a> Analysis<'a> {
     /// Takes note of what the states of all that is reached say.
     fn surveyed(&self) -> Result<Survey, AllocError> {
-        let slots = self.quest.program.slots() as usize;
+        let slots = self.whole.program.slots() as usize;
         let mut survey = Survey::new(self.alloc, slots, self.judged.len())?;
         put(&mut survey.called, 0, true);
-        for function in self.cfg.callers_first() {
+        for function in &self.whole.cfg.callers_first {
             if get_or(&survey.called, *function, false) {
-                if let Some(judged) = self.judged(*function) {
+                if let Some(judged) = held(&self.judged, *function) {
                     survey.visit(self.task(&judged.blocks), &judged.states)?;
                 }
             }
@@ -156,16 +156,11 @@ impl<'a> Analysis<'a> {
 
 /// What the states of a program say of the instructions that are reached, and what comes of them where none is refused. I1 at a
 /// function whose states don't settle.
-pub fn surveyed<W: Watch>(
-    alloc: Global,
-    quest: Quest<'_>,
-    cfg: &Cfg,
-    meter: &mut Meter<'_, W>,
-) -> Result<Survey, InferError>
-    requires { quest.least ≤ quest.most }
+pub fn surveyed<W: Watch>(task: Task, meter: &mut Meter<'_, W>) -> Result<Survey, InferError>
+    requires { task.least ≤ task.most }
 {
-    let mut analysis = Analysis::new(alloc, quest, cfg, false)?;
-    if let Err(halt) = analysis.settle(&quest.start(), meter) {
+    let mut analysis = Analysis::new(task.tolerant())?;
+    if let Err(halt) = analysis.settle(&task.start(), meter) {
         return Err(halt.error);
     }
     let mut survey = analysis.surveyed()?;

@@ -1,5 +1,5 @@
 -- What parts of the code compute.
-use Rattle.std.specs.Prelude.{◌≡◌, ℕ, suc, ◌^◌, ◌≤◌, ◌<◌, nat_le, nat_lt, ℤ, pos, neg_ℤ, ◌≤ℤ◌, unsigned_abs, Bool, true, false, not, ◌&&◌, ◌||◌, Option, Some, None, option_map, option_and_then, if◌then◌else◌}
+use Rattle.std.specs.Prelude.{◌≡◌, ℕ, suc, ◌^◌, ◌≤◌, ◌<◌, nat_le, nat_lt, ℤ, pos, neg_ℤ, ◌-ℤ◌, int_lt, ◌≤ℤ◌, unsigned_abs, Bool, true, false, not, ◌&&◌, ◌||◌, Option, Some, None, option_map, option_and_then, if◌then◌else◌}
 use Rattle.std.specs.Int.{int_min, int_max}
 use Rattle.std.specs.Option.{option_map_or}
 use Rattle.bpf_insn.specs.Instruction.{byte_count}
@@ -22,7 +22,7 @@ use Rattle.bpf_state.specs.declared.known.Tag.{Tag}
 use Rattle.bpf_state.specs.State.{AbstractState, register, put_register}
 use Rattle.bpf_state.specs.Transfer.{Outcome, unless, live, loaded, loaded_tag, any_signed, stored, fetched, modified_by}
 use Rattle.bpf_state.specs.Fault.{is_any, is_number, is_pointer}
-use Rattle.bpf_state.specs.Access.{Span, is_slot, touches, touched_bytes, is_inside, is_pointer_slot, are_known_bytes, any_slot}
+use Rattle.bpf_state.specs.Access.{Span, span_end, is_slot, touches, touched_bytes, is_inside, is_pointer_slot, are_known_bytes, any_slot}
 
 -- ---- accesses
 
@@ -43,6 +43,10 @@ pub record AreTouched (p : Span) (first end : ℕ) : Type 0 where
   pub ordered : first ≤ end
   pub within : end ≤ 64
   pub exact : (i : ℕ) → i < 64 → touches p (suc i) ≡ (nat_lt i end && nat_le first i)
+
+-- where not all bytes lie inside: whether the first lies outside
+abbrev pub begins_outside : ℕ → Span → Bool
+begins_outside len p = if p.in_frame then int_lt p.lowest (neg_ℤ (pos frame_bytes)) else int_lt (span_end p -ℤ pos 1) (pos len)
 
 -- ---- memory
 

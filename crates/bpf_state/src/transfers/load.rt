@@ -15,7 +15,7 @@ ghost use Rattle.bpf_state.specs.Condition.{fault_number};
 use crate::access::Reach;
 use crate::fault::StateFault;
 use crate::known::{RegState, Tag};
-use crate::slots::{any_pointer, any_unknown};
+use crate::slots::{pointer_slot, unknown_slot};
 use crate::state::State;
 use bpf_insn::{Reg, Size};
 use bpf_num::{KnownBits, Num, Signed, Unsigned, WordDomain};
@@ -134,7 +134,7 @@ pub(crate) fn read_fault(
 ) -> Option<StateFault>
     ensures { option_map fault_number result ≡ read_fault is_whole least state.now reach }
 {
-    if !is_whole && any_pointer(&state.slots, reach) {
+    if !is_whole && pointer_slot(&state.slots, reach).is_some() {
         return Some(StateFault::WrongKinds);
     }
     byte_fault(state, reach, least)
@@ -147,7 +147,7 @@ fn byte_fault(state: &State, reach: Reach, least: u32) -> Option<StateFault>
     if !reach.is_inside(least) {
         return Some(StateFault::OutOfBounds);
     }
-    if any_unknown(&state.slots, reach) {
+    if unknown_slot(&state.slots, reach).is_some() {
         return Some(StateFault::UnsetByte);
     }
     None

@@ -1,5 +1,6 @@
 use Rattle.std.proofs.Common.{rules}
 use Rattle.bpf_answers.specs.Answer.Answer.{Follows, NoNotes, NotFollowed}
+use Rattle.bpf_command_core.specs.Followed.{bounds_of}
 use Rattle.bpf_answers.proofs.MadeLemmas.{not_all_printed}
 use Rattle.bpf_command_core.proofs.follows.noted.Goals as goal
 
@@ -7,7 +8,7 @@ pub returns-in-Err-clause-begun : goal.returns-in-Err-clause-begun
 returns-in-Err-clause-begun g c = not_all_printed c.refuse_notes.result _ _ (NoNotes c.in-Err.error) _ c.refuse_notes.ensures.begun (search rules)
 
 pub returns-in-Ok-follows-clause-begun : goal.returns-in-Ok-follows-clause-begun
-returns-in-Ok-follows-clause-begun g c = not_all_printed c.say_followed.result _ _ (Follows c.args.asked.length c.args.asked.turns) _ c.say_followed.ensures.begun (search rules)
+returns-in-Ok-follows-clause-begun g c = not_all_printed c.say_followed.result _ _ (Follows (bounds_of c.args.asked)) _ c.say_followed.ensures.begun (search rules)
 
 pub returns-clause-begun : goal.returns-clause-begun
 returns-clause-begun g c = not_all_printed c.refuse_match.result _ _ (NotFollowed c.in-Err-follows.mismatch) _ c.refuse_match.ensures.begun (search rules)

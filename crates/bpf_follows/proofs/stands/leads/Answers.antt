@@ -18,14 +18,14 @@ returns-then-is_call g c =
       λ e to et may. (
         c.in-Some-led.new_slot,
         new_at,
-        subst (λ b. Reaches b c.args.notes.now new c.args.turns to c.in-Some-led.new_slot site.slot site.insn site.moved kinds) (sym call)
-            (subst (λ to. Enters c.args.notes.now new c.args.turns to c.in-Some-led.new_slot (listed (kinds_called kinds))) (same_Some _ _ (sym at ∙ et))
-            (subst (λ given. Enters c.args.notes.now new c.args.turns c.in-Some.slot c.in-Some-led.new_slot given) c.all_called.ensures (c.enters.ensures.0 e))),
+        subst (λ b. Reaches b c.args.notes.now new c.args.bounds to c.in-Some-led.new_slot site.slot site.insn site.moved kinds) (sym call)
+            (subst (λ to. Enters c.args.notes.now new c.args.bounds.turns to c.in-Some-led.new_slot (listed (kinds_called kinds))) (same_Some _ _ (sym at ∙ et))
+            (subst (λ given. Enters c.args.notes.now new c.args.bounds.turns c.in-Some.slot c.in-Some-led.new_slot given) c.all_called.ensures (c.enters.ensures.0 e))),
       ),
       λ all.
           let a = all c.in-Some.slot at (sym c.may_lead.ensures ∙ c.if-not-may_lead.false) in
           c.enters.ensures.1
-          (subst (λ given. Enters c.args.notes.now new c.args.turns c.in-Some.slot c.in-Some-led.new_slot given) (sym c.all_called.ensures)
-          (subst (λ to. Enters c.args.notes.now new c.args.turns c.in-Some.slot to (listed (kinds_called kinds))) (same_Some _ _ (sym a.1 ∙ new_at))
-          (subst (λ b. Reaches b c.args.notes.now new c.args.turns c.in-Some.slot a.0 site.slot site.insn site.moved kinds) call a.2))),
+          (subst (λ given. Enters c.args.notes.now new c.args.bounds.turns c.in-Some.slot c.in-Some-led.new_slot given) (sym c.all_called.ensures)
+          (subst (λ to. Enters c.args.notes.now new c.args.bounds.turns c.in-Some.slot to (listed (kinds_called kinds))) (same_Some _ _ (sym a.1 ∙ new_at))
+          (subst (λ b. Reaches b c.args.notes.now new c.args.bounds c.in-Some.slot a.0 site.slot site.insn site.moved kinds) call a.2))),
     )

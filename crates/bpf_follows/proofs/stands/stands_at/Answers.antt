@@ -42,7 +42,7 @@ returns-then-not-falls g c = (
   λ all.
       let s = all c.in-Some.place.now c.in-Some-insn.insn (sym c.place_at.ensures ∙ ap option_copied c.in-Some.is) (sym c.insn.ensures ∙ c.in-Some-insn.is) in
       let same = one_site (g.N.Code.program c.args.new.now) c.in-Some.place.now _ s.site c.in-Ok.site s.is_site (subst (λ front. IsSite (g.N.Code.program c.args.new.now) c.in-Some.place.now front c.in-Ok.site) c.front_at-front.ensures c.in-Ok.ensures.ok.0) in
-      sym c.if-not-falls.true ∙ c.falls.ensures.1 (subst (λ site. Falls c.args.notes.now c.args.bounds.turns site) same s.falls),
+      sym c.if-not-falls.true ∙ c.falls.ensures.1 (subst (λ site. Falls c.args.notes.now c.args.bounds site) same s.falls),
 )
 
 pub returns-then-not-leads : goal.returns-then-not-leads
@@ -51,7 +51,7 @@ returns-then-not-leads g c = (
   λ all.
       let s = all c.in-Some.place.now c.in-Some-insn.insn (sym c.place_at.ensures ∙ ap option_copied c.in-Some.is) (sym c.insn.ensures ∙ c.in-Some-insn.is) in
       let same = one_site (g.N.Code.program c.args.new.now) c.in-Some.place.now _ s.site c.in-Ok.site s.is_site (subst (λ front. IsSite (g.N.Code.program c.args.new.now) c.in-Some.place.now front c.in-Ok.site) c.front_at-front.ensures c.in-Ok.ensures.ok.0) in
-      sym c.if-not-leads.true ∙ c.leads.ensures.1 (subst (λ site. Leads c.args.notes.now (g.N.Code.program c.args.new.now) c.args.bounds.turns site) same s.leads),
+      sym c.if-not-leads.true ∙ c.leads.ensures.1 (subst (λ site. Leads c.args.notes.now (g.N.Code.program c.args.new.now) c.args.bounds site) same s.leads),
 )
 
 pub returns : goal.returns
@@ -60,9 +60,9 @@ returns g c = (
       let new : Instructions = g.N.Code.program c.args.new.now in
       let same_place : c.in-Some.place.now ≡ place = same_Some _ _ (sym (sym c.place_at.ensures ∙ ap option_copied c.in-Some.is) ∙ noted) in
       let same_insn : c.in-Some-insn.insn ≡ i = same_Some _ _ (sym (sym c.insn.ensures ∙ c.in-Some-insn.is) ∙ stands) in
-      subst (λ place. Stands new c.args.notes.now c.args.bounds.turns place (front_at (g.O.Code.program c.args.old.now) c.args.bounds c.args.slot i)) same_place
-      (subst (λ i. Stands new c.args.notes.now c.args.bounds.turns c.in-Some.place.now (front_at (g.O.Code.program c.args.old.now) c.args.bounds c.args.slot i)) same_insn
-      (subst (λ front. Stands new c.args.notes.now c.args.bounds.turns c.in-Some.place.now front) c.front_at-front.ensures
+      subst (λ place. Stands new c.args.notes.now c.args.bounds place (front_at (g.O.Code.program c.args.old.now) c.args.bounds c.args.slot i)) same_place
+      (subst (λ i. Stands new c.args.notes.now c.args.bounds c.in-Some.place.now (front_at (g.O.Code.program c.args.old.now) c.args.bounds c.args.slot i)) same_insn
+      (subst (λ front. Stands new c.args.notes.now c.args.bounds c.in-Some.place.now front) c.front_at-front.ensures
       (record { site = c.in-Ok.site; is_site = c.in-Ok.ensures.ok.0; lone = c.is_lone.ensures.0 c.if-not-is_lone.false; gives_back = c.gives_back.ensures.0 c.if-not-gives_back.false; falls = c.falls.ensures.0 c.if-not-falls.false; leads = c.leads.ensures.0 c.if-not-leads.false }))),
   λ all. refl,
 )

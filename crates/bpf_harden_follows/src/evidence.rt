@@ -1,0 +1,93 @@
+//! Whether notes show that a hardened program keeps the meaning of the old one.
+
+ghost use Rattle.bpf_insn.specs.Limits.{frame_bytes};
+ghost use Rattle.std.specs.Prelude.{◌≡◌, ◌≤◌, IfOk, IfSome, MatchOption};
+ghost use Rattle.bpf_follows.specs.Matching.{IsMismatch, Matches};
+
+use crate::places::places_of;
+use bpf_follows::{Bounds, Mismatch, Place, follows};
+use bpf_harden_notes::Hardened;
+use bpf_insn::{FRAME_BYTES, Program};
+use std::alloc::{AllocError, Global};
+
+/// Notes of a hardened program, and what of them fails, if something does.
+#[derive(Drop)]
+pub struct Evidence {
+    pub notes: Vec<Option<Place>>,
+    /// How many of the lowest bytes of each frame runs of the old program have to leave to r10.
+    pub untouched: u32,
+    pub mismatch: Option<Mismatch>,
+}
+
+/// How many of the lowest bytes of each frame hardening keeps accesses of the old program from.
+fn taken(new: &Hardened) -> u32
+    ensures { result ≤ frame_bytes }
+{
+    let mut deepest = 0;
+    for function in &new.functions {
+        deepest = function.depth.max(deepest);
+    }
+    (FRAME_BYTES as u32).saturating_sub(deepest)
+}
+
+/// Notes for these runs.
+fn judged(
+    alloc: Global,
+    old: &Program,
+    new: &Hardened,
+    bounds: Bounds,
+) -> Result<Evidence, AllocError>
+    ensures of { IfOk result (λ found. found.untouched ≡ bounds.untouched) }
+    ensures exact { IfOk result (λ found. MatchOption found.mismatch (Matches old.now new.now.program found.notes.items bounds) (IsMismatch old.now new.now.program found.notes.items bounds)) }
+{
+    let notes = places_of(alloc, old, new, bounds)?;
+    let mismatch = follows(old, &new.program, &notes, bounds).err();
+    Ok(Evidence {
+        notes,
+        untouched: bounds.untouched,
+        mismatch,
+    })
+}
+
+/// Notes of a hardened program for these contexts and turns. They are for each run if such ones show that it keeps the meaning, else for
+/// those that leave the bytes alone that hardening takes, if these show it. Where neither do, they are of the first kind.
+pub fn evidence_of(
+    alloc: Global,
+    old: &Program,
+    new: &Hardened,
+    runs: Bounds,
+) -> Result<Evidence, AllocError>
+    ensures few { IfOk result (λ found. found.untouched ≤ frame_bytes) }
+    ensures all { IfOk result (λ found. IfSome found.mismatch (λ _. found.untouched ≡ 0)) }
+    ensures exact { IfOk result (λ found. MatchOption found.mismatch (Matches old.now new.now.program found.notes.items (record { length = runs.length; padded = runs.padded; turns = runs.turns; untouched = found.untouched }))
+        (IsMismatch old.now new.now.program found.notes.items (record { length = runs.length; padded = runs.padded; turns = runs.turns; untouched = found.untouched }))) }
+{
+    let Bounds {
+        length,
+        padded,
+        turns,
+        ..
+    } = runs;
+    let each = Bounds {
+        length,
+        padded,
+        turns,
+        untouched: 0,
+    };
+    let first = judged(alloc, old, new, each)?;
+    if first.mismatch.is_none() {
+        return Ok(first);
+    }
+    let fewer = Bounds {
+        length,
+        padded,
+        turns,
+        untouched: taken(new),
+    };
+    let second = judged(alloc, old, new, fewer)?;
+    if second.mismatch.is_none() {
+        Ok(second)
+    } else {
+        Ok(first)
+    }
+}

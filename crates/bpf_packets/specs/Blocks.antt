@@ -1,0 +1,44 @@
+-- Packets in blocks: a block is the packet's length, the packet, and padding. A state on the packet and the same state inside of the block
+-- differ by where pointers into the context lead: there each is eight bytes further on.
+use Rattle.std.specs.Prelude.{◌≡◌, ℕ, ℤ, pos, ◌+ℤ◌, List, ◌++◌, length, map, option_map}
+use Rattle.bpf_insn.specs.Order.{bytes_of}
+use Rattle.bpf_insn.specs.declared.order.Order.{Order}
+use Rattle.bpf_semantics.specs.State.{Cell, StackFrame, State}
+use Rattle.bpf_semantics.specs.State.Cell.{Byte, Part}
+use Rattle.bpf_semantics.specs.Step.{wrapped}
+use Rattle.bpf_semantics.specs.declared.value.Value.{Value}
+use Rattle.bpf_semantics.specs.declared.value.Value.TheVariants.{Number, Pointer}
+use Rattle.bpf_semantics.specs.declared.value.Region.{Region}
+use Rattle.bpf_semantics.specs.declared.value.Region.TheVariants.{Context, Frame as FrameAt}
+
+-- ---- blocks
+
+-- the bytes before the packet, which are its length
+abbrev pub head_bytes : ℕ
+head_bytes = 8
+
+-- the block holds the packet, and its length in the byte order
+pub record IsBlock (order : Order) (packet block : List ℕ) : Type 0 where
+  pub padding : List ℕ
+  pub bytes_are : block ≡ bytes_of order head_bytes (length packet) ++ packet ++ padding
+
+-- ---- the same state inside of the block
+
+-- the offset of a pointer there
+abbrev pub offset_inside : Region → ℤ → ℤ
+offset_inside Context off = wrapped (off +ℤ pos head_bytes)
+offset_inside (FrameAt n) off = off
+
+abbrev pub inside_value : Value → Value
+inside_value (Number n) = Number n
+inside_value (Pointer region off) = Pointer region (offset_inside region off)
+
+abbrev pub inside_cell : Cell → Cell
+inside_cell (Byte b) = Byte b
+inside_cell (Part i region off) = Part i region (offset_inside region off)
+
+abbrev pub inside_frame : StackFrame → StackFrame
+inside_frame frame = record { slot = frame.slot; registers = map (option_map inside_value) frame.registers; stack = map (option_map inside_cell) frame.stack }
+
+abbrev pub inside : List ℕ → State → State
+inside block s = record { top = inside_frame s.top; waiting = map inside_frame s.waiting; context = block }

@@ -1,0 +1,28 @@
+-- The places of a state in their order, and the first of which something holds.
+use Rattle.std.specs.Prelude.{◌≡◌, ℕ, ◌+◌, ◌<◌, Bool, true, false, is_none}
+use Rattle.bpf_insn.specs.Instruction.{register_number}
+use Rattle.bpf_state.specs.declared.known.Place.{Place}
+use Rattle.bpf_state.specs.declared.known.Place.TheVariants.{Register, Slot}
+use Rattle.bpf_state.specs.State.{AbstractState, IsPlace, register, slot, tightened_register, tightened_slot}
+use Rattle.bpf_state.specs.Entails.{register_entails, slot_entails}
+
+-- r0 to r10, and then the slots
+abbrev pub place_number : Place → ℕ
+place_number (Register r) = register_number r
+place_number (Slot k) = 10 + k
+
+-- the first place that passes a test
+pub record IsFirstPlace (test : Place → Bool) (place : Place) : Type 0 where
+  pub placed : IsPlace place
+  pub passes : test place ≡ true
+  pub first : (p : Place) → IsPlace p → place_number p < place_number place → test p ≡ false
+
+-- what a state knows of a place lies in what another one does
+abbrev pub entails_at : AbstractState → AbstractState → Place → Bool
+entails_at s t (Register r) = register_entails (register s r) (register t r)
+entails_at s t (Slot k) = slot_entails (slot s k) (slot t k)
+
+-- what a state knows of a place is a number without a member
+abbrev pub is_empty_at : AbstractState → Place → Bool
+is_empty_at s (Register r) = is_none (tightened_register (register s r))
+is_empty_at s (Slot k) = is_none (tightened_slot (slot s k))
