@@ -56,36 +56,25 @@ fn write_answer<W: Tell>(out: &mut W, certificate: &Index, refusal: Option<Refus
     }
 }
 
-/// What a certificate says of a program, as its pass sees it.
-fn scene_with<'a, 'b, C: Code>(
+/// A program alone, or with what a certificate says of it, as its pass sees it.
+fn scene_of<'a, 'b, C: Code>(
     program: &C,
-    certificate: &'a Index<'b>,
+    certificate: Option<&'a Index<'b>>,
     has_budgets: bool,
     refusal: Option<Refusal>,
 ) -> Scene<'a, 'b> {
-    let flow = flow_of(program, certificate);
+    let flow = match certificate {
+        Some(certificate) => flow_of(program, certificate),
+        None => Flow::any(),
+    };
     let reached = reached_from_start(program, &flow);
     Scene {
-        certificate: Some(certificate),
+        certificate,
         has_budgets,
-        plan: Plan::with(program, certificate),
+        plan: Plan::of(program, certificate),
         flow,
         reached,
         refusal,
-    }
-}
-
-/// A program alone.
-fn scene_alone<'a, 'b, C: Code>(program: &C) -> Scene<'a, 'b> {
-    let flow = Flow::any();
-    let reached = reached_from_start(program, &flow);
-    Scene {
-        certificate: None,
-        has_budgets: false,
-        plan: Plan::of(program),
-        flow,
-        reached,
-        refusal: None,
     }
 }
 
@@ -126,7 +115,11 @@ pub fn tell_dot<C: Code, W: Tell>(
     begin_title(page);
     write_answer(page, &index, refusal);
     end_title(page);
-    write_scene(page, program, &scene_with(program, &index, true, refusal))
+    write_scene(
+        page,
+        program,
+        &scene_of(program, Some(&index), true, refusal),
+    )
 }
 
 /// Writes the control-flow graph of a program with the states of a certificate without budgets on a page, or of the program alone;
@@ -145,9 +138,9 @@ pub fn tell_sketched_dot<C: Code, W: Tell, D: Display + Drop>(
     match certificate {
         Some(certificate) => {
             let index = Index::of(certificate);
-            write_scene(page, program, &scene_with(program, &index, false, flaw))
+            write_scene(page, program, &scene_of(program, Some(&index), false, flaw))
         }
-        None => write_scene(page, program, &scene_alone(program)),
+        None => write_scene(page, program, &scene_of(program, None, false, None)),
     }
 }
 
@@ -157,6 +150,6 @@ pub fn tell_sketched_dot<C: Code, W: Tell, D: Display + Drop>(
 pub fn dot_plain<C: Code, W: Write>(program: &C, out: &mut W) -> io::Result<()> {
     let mut page = Page::new(out);
     write_style(&mut page);
-    write_scene(&mut page, program, &scene_alone(program));
+    write_scene(&mut page, program, &scene_of(program, None, false, None));
     page.finish()
 }

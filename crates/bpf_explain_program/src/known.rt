@@ -56,39 +56,33 @@ fn write_constant<W: fmt::Write>(f: &mut fmt::Formatter<W>, value: u64) -> fmt::
     }
 }
 
-/// The parts of a number with what stands between them. Whether one was there.
-fn write_parts<W: fmt::Write>(f: &mut fmt::Formatter<W>, n: Num) -> Result<bool, fmt::Error> {
-    let mut some = false;
+/// The parts of a number with what stands between them.
+fn write_parts<W: fmt::Write>(f: &mut fmt::Formatter<W>, n: Num) -> fmt::Result {
+    let mut comma = "";
     let (lo, hi) = (n.unsigned().lo(), n.unsigned().hi());
     if lo != 0 || hi != u64::MAX {
         write!(f, "u{lo}..{hi}")?;
-        some = true;
+        comma = ",";
     }
     if says_more_signed(n) {
         let (lo, hi) = (n.signed().lo(), n.signed().hi());
-        let comma = if some { "," } else { "" };
         write!(f, "{comma}s{lo}..{hi}")?;
-        some = true;
+        comma = ",";
     }
     if says_more_bits(n) {
         let (value, mask) = (n.bits().value(), n.bits().mask());
-        let comma = if some { "," } else { "" };
-        write!(f, "{comma}k{value}/{mask}")?;
-        some = true;
+        return write!(f, "{comma}k{value}/{mask}");
     }
-    Ok(some)
+    f.write_str(if comma.is_empty() { "any number" } else { "" })
 }
 
 impl fmt::Display for Number {
     fn fmt<W: fmt::Write>(&self, f: &mut fmt::Formatter<W>) -> fmt::Result {
         let bounds = self.0.unsigned();
         if bounds.lo() == bounds.hi() {
-            return write_constant(f, bounds.lo());
-        }
-        if write_parts(f, self.0)? {
-            Ok(())
+            write_constant(f, bounds.lo())
         } else {
-            write!(f, "any number")
+            write_parts(f, self.0)
         }
     }
 }
@@ -102,10 +96,7 @@ impl fmt::Display for Known {
         match self.0 {
             SlotState::Bytes(0) => write!(f, "anything"),
             SlotState::Bytes(mask) => write!(f, "b{mask}"),
-            SlotState::Word(number) => {
-                let number = Number(number);
-                write!(f, "{number}")
-            }
+            SlotState::Word(number) => fmt::Display::fmt(&Number(number), f),
             SlotState::Spilled(Pointer { area, lo, hi }) => {
                 let base = match area {
                     Area::Context => "ctx",
@@ -126,24 +117,18 @@ pub fn known_register(state: RegState) -> Known {
 #[derive(Clone, Copy)]
 pub struct Spelled(pub Insn);
 
-/// The bytes of an instruction's spelling, at most 64.
-pub fn spelling_of(insn: &Insn) -> ArrayVec<u8, 64> {
-    let mut text: ArrayVec<u8, 64> = ArrayVec::new();
-    let _ = bpf_text::write_line(&mut text, insn);
-    let _ = text.pop();
-    text
-}
-
 impl fmt::Display for Spelled {
     fn fmt<W: fmt::Write>(&self, f: &mut fmt::Formatter<W>) -> fmt::Result {
-        let text = spelling_of(&self.0);
-        f.write_str(from_utf8(text.as_slice()).unwrap_or(""))
+        let mut text: ArrayVec<u8, 64> = ArrayVec::new();
+        let _ = bpf_text::write_line(&mut text, &self.0);
+        let _ = text.pop();
+        f.pad(from_utf8(text.as_slice()).unwrap_or(""))
     }
 }
 
 /// An offset with its sign and a blank between, as `+ 8`.
 #[derive(Clone, Copy)]
-pub struct Offset(pub i16);
+pub struct Offset(pub i64);
 
 impl fmt::Display for Offset {
     fn fmt<W: fmt::Write>(&self, f: &mut fmt::Formatter<W>) -> fmt::Result {

@@ -3,8 +3,6 @@
 #![tactic(auto)]
 
 mod alone;
-mod control;
-mod effects;
 mod flaws;
 mod graph;
 mod judged;
@@ -25,12 +23,11 @@ mod whole;
 mod words;
 
 pub use alone::write_alone;
-pub use control::Control;
 pub use graph::{dot_plain, tell_sketched_dot};
 pub use judged::refusal_of;
 pub use known::{Name, Spelled};
 pub use listing::write_padded;
-pub use program::{tell_glimpse, tell_reason, tell_shown, tell_sketch, write_shown};
+pub use program::{tell_reason, tell_shown, tell_sketch, write_shown};
 pub use reach::tell_unreached;
 pub use shown::Shown;
 pub use source::{is_table, source_at};

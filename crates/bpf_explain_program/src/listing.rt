@@ -1,17 +1,17 @@
 //! The lines of a listing.
 
-use crate::effects::{places_compared, places_written};
-use crate::known::{Known, Name, Number, Written, spelling_of};
-use crate::places::{changes, content, is_same, is_unknown, take_all, take_over};
-use crate::sight::{Outcome, Sight};
+use crate::known::{Known, Name, Number, Spelled, Written};
+use crate::places::{
+    changes, content, is_same, is_unknown, places_compared, places_written, take_all, take_over,
+};
+use crate::sight::{Sight, Way};
 use bpf_cert::{Function, Label, Measure};
-use bpf_check::{Index, JudgedEdge, Seen};
+use bpf_check::{Index, Seen};
 use bpf_explain_page::{Count, Tell};
 use bpf_infer_base::{PLACES, PlaceSet, place, slots_touched};
-use bpf_insn::{Insn, Reg};
+use bpf_insn::{Code, Insn, Reg};
 use bpf_state::{Place, State};
 use std::fmt;
-use std::str::from_utf8;
 
 /// The lengths of contexts, as `16 bytes` or `0 to 64 bytes`.
 #[derive(Clone, Copy)]
@@ -34,8 +34,7 @@ impl fmt::Display for Lengths {
     fn fmt<W: fmt::Write>(&self, f: &mut fmt::Formatter<W>) -> fmt::Result {
         let (least, most) = (self.least, self.most);
         if least == most {
-            let bytes = Count(least, "byte");
-            write!(f, "{bytes}")
+            fmt::Display::fmt(&Count(least, "byte"), f)
         } else {
             write!(f, "{least} to {most} bytes")
         }
@@ -67,10 +66,7 @@ struct Counted(Measure);
 impl fmt::Display for Counted {
     fn fmt<W: fmt::Write>(&self, f: &mut fmt::Formatter<W>) -> fmt::Result {
         match self.0 {
-            Measure::Down(place) => {
-                let name = Name(place);
-                write!(f, "{name}")
-            }
+            Measure::Down(place) => fmt::Display::fmt(&Name(place), f),
             Measure::Up(place, limit) => {
                 let name = Name(place);
                 write!(f, "({limit} - {name})")
@@ -117,8 +113,7 @@ pub fn write_label<W: Tell>(out: &mut W, label: &Label, has_budgets: bool, room:
 
 /// The slot and the instruction, padded.
 pub fn write_padded<W: Tell>(out: &mut W, slot: u32, insn: &Insn) {
-    let spelled = spelling_of(insn);
-    let text = from_utf8(spelled.as_slice()).unwrap_or("");
+    let text = Spelled(*insn);
     write!(out, "{slot:>5}  {text:<36}");
 }
 
@@ -133,19 +128,19 @@ fn note_read<W: Tell>(out: &mut W, state: &State, shown: &mut State, place: Plac
 }
 
 /// Tells what is known of the registers that are read.
-fn note_registers<'a, W: Tell>(out: &mut W, sight: &Sight<'a>, shown: &mut State) {
-    for reg in sight.site.insn.registers_read().into_iter().flatten() {
-        note_read(out, &sight.before, shown, Place::Register(reg));
+fn note_registers<W: Tell>(out: &mut W, insn: &Insn, state: &State, shown: &mut State) {
+    for reg in insn.registers_read().into_iter().flatten() {
+        note_read(out, state, shown, Place::Register(reg));
     }
 }
 
 /// Tells what is known of the slots that are read.
-fn note_slots<'a, W: Tell>(out: &mut W, sight: &Sight<'a>, shown: &mut State) {
-    match sight.site.insn.access() {
+fn note_slots<W: Tell>(out: &mut W, insn: &Insn, state: &State, shown: &mut State) {
+    match insn.access() {
         Some(access) if access.reads => {
-            let (first, end) = slots_touched(access, &sight.before);
+            let (first, end) = slots_touched(access, state);
             for slot in first..end {
-                note_read(out, &sight.before, shown, Place::Slot(slot));
+                note_read(out, state, shown, Place::Slot(slot));
             }
         }
         _ => {}
@@ -164,136 +159,95 @@ fn note_changes<W: Tell>(out: &mut W, changed: PlaceSet, after: &State, verb: &s
     }
 }
 
-/// What an instruction costs with those before it.
-fn write_cost<'a, W: Tell>(out: &mut W, sight: &Sight<'a>) {
-    match (&sight.outcome, sight.cost()) {
-        (Outcome::Refused(_), _) => write!(out, "; refused"),
-        (_, Some(cost)) => write!(out, "; cost {cost}"),
-        (_, None) => write!(out, "; the cost isn't known"),
-    }
-}
-
 /// Tells what is known of the places that an instruction changes.
-fn note_written<'a, W: Tell>(out: &mut W, sight: &Sight<'a>, shown: &mut State) {
-    let after = if sight.goes_on() {
-        &sight.behind
-    } else {
-        sight.after()
-    };
+fn note_written<C: Code, W: Tell>(out: &mut W, sight: &Sight<'_, C>, shown: &mut State) {
+    let after = sight.after();
     let written = places_written(&sight.site.insn, &sight.before);
     let changed = changes(&sight.before, after, written);
     take_all(shown, after, changed);
     note_changes(out, changed, after, "becomes");
 }
 
-/// The notes behind an instruction that a state reaches.
-fn write_notes<'a, W: Tell>(out: &mut W, sight: &Sight<'a>, shown: &mut State) {
-    write_cost(out, sight);
-    note_registers(out, sight, shown);
-    note_slots(out, sight, shown);
-    match &sight.outcome {
-        Outcome::Done(seen) if seen.is_alive => note_written(out, sight, shown),
-        Outcome::Done(_) => write!(out, "; no run goes on from here"),
-        Outcome::Refused(_) | Outcome::Unreached => {}
+/// What an instruction that a state reaches costs with those before it, and what is known of its places.
+fn write_notes<C: Code, W: Tell>(out: &mut W, sight: &Sight<'_, C>, shown: &mut State) {
+    match (&sight.seen, sight.cost()) {
+        (None, _) => write!(out, "; refused"),
+        (Some(_), Some(cost)) => write!(out, "; cost {cost}"),
+        (Some(_), None) => write!(out, "; the cost isn't known"),
+    }
+    note_registers(out, &sight.site.insn, &sight.before, shown);
+    note_slots(out, &sight.site.insn, &sight.before, shown);
+    match &sight.seen {
+        Some(seen) if seen.is_alive => note_written(out, sight, shown),
+        Some(_) => write!(out, "; no run goes on from here"),
+        None => {}
     }
 }
 
 /// The line of an instruction.
-pub fn write_instruction<'a, W: Tell>(out: &mut W, sight: &Sight<'a>, shown: &mut State) {
+pub fn write_instruction<C: Code, W: Tell>(out: &mut W, sight: &Sight<'_, C>, shown: &mut State) {
     write_padded(out, sight.site.here.slot, &sight.site.insn);
-    match &sight.outcome {
-        Outcome::Unreached => write!(out, "; no state is known here"),
-        Outcome::Refused(_) | Outcome::Done(_) => write_notes(out, sight, shown),
+    match sight.here {
+        Some(_) => write_notes(out, sight, shown),
+        None => write!(out, "; no state is known here"),
     }
     write!(out, "\n");
 }
 
 // ---- edges
 
-/// Whether one of two labels has a term.
-fn have_terms(old: &Label, new: &Label) -> bool {
-    !old.budget.terms.as_slice().is_empty() || !new.budget.terms.as_slice().is_empty()
-}
-
-/// `; slack 0: base 23, cost 1, base there 2, kept 0, taken 20`
-fn write_slack<'a, W: Tell>(out: &mut W, sight: &Sight<'a>, edge: JudgedEdge<'a>, new: &Label) {
+/// `; slack 0: base 23, cost 1, base there 2, kept 0, taken 20`, the last two where one of the labels has a term.
+fn write_slack<C: Code, W: Tell>(out: &mut W, sight: &Sight<'_, C>, way: Way<'_, '_>, new: &Label) {
     let Some(here) = sight.here else {
         return;
     };
-    let (Some(slack), Some(cost)) = (edge.slack, sight.cost()) else {
+    let (Some(slack), Some(cost)) = (way.edge.slack, sight.cost()) else {
         return write!(out, "; the slack isn't known");
     };
-    let total = slack.left;
-    let (base, there) = (here.label.budget.base, new.budget.base);
-    if have_terms(here.label, new) {
+    let (total, old) = (slack.left, &here.label.budget);
+    let (base, there) = (old.base, new.budget.base);
+    write!(
+        out,
+        "; slack {total}: base {base}, cost {cost}, base there {there}"
+    );
+    if !old.terms.as_slice().is_empty() || !new.budget.terms.as_slice().is_empty() {
         let (kept, taken) = (slack.kept, slack.free);
-        write!(
-            out,
-            "; slack {total}: base {base}, cost {cost}, base there {there}, kept {kept}, taken {taken}"
-        );
-    } else {
-        write!(
-            out,
-            "; slack {total}: base {base}, cost {cost}, base there {there}"
-        );
+        write!(out, ", kept {kept}, taken {taken}");
     }
 }
 
-/// The line of an edge: where it leads, what is known there more, and what is left of the budget.
-fn write_edge<'a, W: Tell>(
+/// The line of an edge: where it leads, what is known there more, and what is left of the budget. Of one to the next instruction
+/// there is none, if it says no more than that it is there.
+fn write_way<C: Code, W: Tell>(
     out: &mut W,
-    sight: &Sight<'a>,
-    edge: JudgedEdge<'a>,
-    state: &State,
-    more: PlaceSet,
-    condition: &str,
+    sight: &Sight<'_, C>,
+    way: Way<'_, '_>,
+    shown: &mut State,
 ) {
+    let (edge, state, condition) = (way.edge, way.state, way.condition);
+    let more = changes(&sight.before, state, places_compared(&sight.site.insn));
+    if !way.is_jump {
+        if edge.is_live && edge.label.is_none() && more.is_empty() {
+            return;
+        }
+        take_all(shown, state, more);
+    }
     let to = edge.to;
     write!(out, "       to {to}{condition}");
     if edge.is_live {
         note_changes(out, more, state, "is");
-        match edge.label {
-            Some(label) if sight.has_budgets => write_slack(out, sight, edge, label),
-            _ => {}
-        }
     } else {
         write!(out, "; no run takes it");
+    }
+    match edge.label {
+        Some(label) if sight.has_budgets && edge.is_live => write_slack(out, sight, way, label),
+        _ => {}
     }
     write!(out, "\n");
 }
 
-/// The places of which more is known on an edge than behind the instruction.
-fn known_more<'a>(sight: &Sight<'a>, state: &State) -> PlaceSet {
-    changes(&sight.before, state, places_compared(&sight.site.insn))
-}
-
-/// The line of the edge along a jump.
-fn write_jump<'a, W: Tell>(out: &mut W, sight: &Sight<'a>, edge: JudgedEdge<'a>) {
-    let condition = sight.control().if_so();
-    let state = sight.jump_state();
-    let more = known_more(sight, state);
-    write_edge(out, sight, edge, state, more, condition);
-}
-
-/// The line of the edge to the next instruction, if it says more than that it is there.
-fn write_next<'a, W: Tell>(
-    out: &mut W,
-    sight: &Sight<'a>,
-    edge: JudgedEdge<'a>,
-    shown: &mut State,
-) {
-    let condition = sight.control().if_not();
-    let state = &sight.behind;
-    let more = known_more(sight, state);
-    if edge.is_live && edge.label.is_none() && more.is_empty() {
-        return;
-    }
-    take_all(shown, state, more);
-    write_edge(out, sight, edge, state, more, condition);
-}
-
 /// The line of an EXIT: what is left of the budget.
-fn write_exit<'a, W: Tell>(out: &mut W, seen: &Seen<'a>) {
+fn write_exit<W: Tell>(out: &mut W, seen: &Seen<'_>) {
     let (Some(slack), Some(cost)) = (seen.left_at_exit, seen.cost) else {
         return;
     };
@@ -305,15 +259,12 @@ fn write_exit<'a, W: Tell>(out: &mut W, seen: &Seen<'a>) {
 }
 
 /// The lines of an instruction's edges.
-pub fn write_edges<'a, W: Tell>(out: &mut W, sight: &Sight<'a>, shown: &mut State) {
-    match sight.seen() {
+pub fn write_edges<C: Code, W: Tell>(out: &mut W, sight: &Sight<'_, C>, shown: &mut State) {
+    match &sight.seen {
         Some(seen) if sight.has_budgets => write_exit(out, seen),
         _ => {}
     }
-    if let Some(edge) = sight.jump() {
-        write_jump(out, sight, edge);
-    }
-    if let Some(edge) = sight.next() {
-        write_next(out, sight, edge, shown);
+    for way in sight.ways().into_iter().flatten() {
+        write_way(out, sight, way, shown);
     }
 }

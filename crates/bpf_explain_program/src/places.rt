@@ -1,9 +1,9 @@
-//! What states know of places, of registers as of slots.
+//! What states know of places, of registers as of slots, and which places instructions write and compare.
 
-ghost use Rattle.std.specs.Prelude.{◌≡◌};
-
-use bpf_cert::{Label, value_slot};
+use crate::sight::is_test;
+use bpf_cert::value_slot;
 use bpf_infer_base::{PLACES, PlaceSet};
+use bpf_insn::Insn;
 use bpf_state::{Place, Pointer, SlotState, State, Tag};
 
 /// What a state knows of a place, of a register as of a slot.
@@ -20,13 +20,6 @@ pub fn content(state: &State, place: Place) -> SlotState {
     }
 }
 
-/// What a label says of each place.
-pub fn state_at(label: &Label) -> State
-    ensures { result ≡ label.now.state }
-{
-    label.state.state()
-}
-
 /// The counter that a place holds.
 pub fn tag_at(state: &State, place: Place) -> Option<Tag> {
     match place {
@@ -39,21 +32,6 @@ pub fn tag_at(state: &State, place: Place) -> Option<Tag> {
             }
         }
     }
-}
-
-/// Those of some places at which two states differ.
-pub fn changes(before: &State, after: &State, among: PlaceSet) -> PlaceSet {
-    let mut rest = among;
-    let mut changed = PlaceSet::NONE;
-    for _ in 0..PLACES {
-        let Some(place) = rest.take_first() else {
-            break;
-        };
-        if !is_same(content(before, place), content(after, place)) {
-            changed.add(place);
-        }
-    }
-    changed
 }
 
 /// Makes what a state knows of a place the same as what another one does.
@@ -97,6 +75,21 @@ pub fn is_unknown(content: SlotState) -> bool {
     matches!(content, SlotState::Bytes(0))
 }
 
+/// Those of some places at which two states differ.
+pub fn changes(before: &State, after: &State, among: PlaceSet) -> PlaceSet {
+    let mut rest = among;
+    let mut changed = PlaceSet::NONE;
+    for _ in 0..PLACES {
+        let Some(place) = rest.take_first() else {
+            break;
+        };
+        if !is_same(content(before, place), content(after, place)) {
+            changed.add(place);
+        }
+    }
+    changed
+}
+
 /// Makes what a state knows of some places the same as what another one does.
 pub fn take_all(state: &mut State, other: &State, places: PlaceSet) {
     let mut rest = places;
@@ -105,5 +98,23 @@ pub fn take_all(state: &mut State, other: &State, places: PlaceSet) {
             break;
         };
         take_over(state, other, place);
+    }
+}
+
+/// The places that may not be the same behind an instruction as in a state in front of it.
+pub fn places_written(insn: &Insn, state: &State) -> PlaceSet {
+    let written = PlaceSet::written_by(insn);
+    match insn.access() {
+        Some(access) if access.writes => written.union(PlaceSet::touched_by(access, state)),
+        _ => written,
+    }
+}
+
+/// The places of which more may be known on an instruction's edges: the registers that a conditional jump compares.
+pub fn places_compared(insn: &Insn) -> PlaceSet {
+    if is_test(insn) {
+        PlaceSet::read_by(insn)
+    } else {
+        PlaceSet::NONE
     }
 }

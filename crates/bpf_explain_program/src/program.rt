@@ -5,43 +5,15 @@ ghost use Rattle.bpf_check.specs.CheckedProgram.{IsCertifiedBy};
 
 use crate::graph::tell_dot;
 use crate::listing::{Lengths, steps_of, write_header};
-use crate::pass::{Observer, pass_over};
+use crate::pass::pass_over;
 use crate::reach::tell_unreached;
 use crate::report::{Report, View};
 use crate::shown::Shown;
-use crate::sight::Sight;
-use crate::source::SourceLines;
-use crate::standing::last_slot;
 use bpf_cert::Certificate;
 use bpf_check::{Index, Refusal};
 use bpf_explain_page::{Page, Tell};
 use bpf_insn::Code;
 use std::io::{self, Write};
-
-/// A report as it is written.
-#[derive(Drop)]
-struct Telling<'t, 'o, W: Tell> {
-    report: Report<'t>,
-    out: &'o mut W,
-}
-
-impl<'t, 'o, W: Tell> Observer for Telling<'t, 'o, W> {
-    fn observe<'a, C: Code>(
-        &mut self,
-        program: &C,
-        certificate: &Index,
-        sight: &Sight<'a>,
-    ) -> bool {
-        self.report
-            .tell_sight(self.out, program, certificate, sight);
-        if sight.site.insn.slots() > 1 {
-            let second = sight.site.here.slot.saturating_add(1);
-            self.report
-                .tell_slot(self.out, program, certificate, second);
-        }
-        !self.out.has_failed()
-    }
-}
 
 /// Goes over the slots of a program, and over those behind it at which labels stand.
 fn tell_all<C: Code, W: Tell>(
@@ -51,15 +23,9 @@ fn tell_all<C: Code, W: Tell>(
     lines: &[u8],
     out: &mut W,
 ) {
-    let report = Report::new(view, SourceLines::of(lines));
-    let has_budgets = report.has_budgets();
-    let mut telling = Telling { report, out };
-    let end = pass_over(program, certificate, has_budgets, &mut telling);
-    let Telling { mut report, out } = telling;
-    for slot in end..last_slot(certificate).saturating_add(1) {
-        report.tell_slot(out, program, certificate, slot);
-    }
-    report.tell_quiet(out);
+    let mut report = Report::new(program, certificate, view, lines, out);
+    let end = pass_over(program, certificate, view.has_budgets(), &mut report);
+    report.end(end);
 }
 
 /// The last lines: the answer, and all flaws.
@@ -136,28 +102,25 @@ pub fn tell_shown<C: Code, W: Tell>(
     }
 }
 
-/// Writes the listing of a program with the states of a certificate without budgets, and the flaw of one instruction, if it
-/// has it.
+/// Tells what is shown of a program with the states of a certificate without budgets: the listing, with the flaw of one instruction, if
+/// it has it, or one instruction; of the graph nothing.
 pub fn tell_sketch<C: Code, W: Tell>(
     program: &C,
     certificate: &Certificate,
-    lines: &[u8],
+    shown: Shown<'_>,
     flaw: Option<Refusal>,
     page: &mut W,
 ) {
-    let index = Index::of(certificate);
-    tell_all(program, &index, View::Sketch(flaw), lines, page)
-}
-
-/// Writes one instruction of a program with the states of a certificate before and behind it, without budgets and flaws.
-pub fn tell_glimpse<C: Code, W: Tell>(
-    program: &C,
-    certificate: &Certificate,
-    lines: &[u8],
-    slot: u32,
-    page: &mut W,
-) {
-    tell_at(program, certificate, View::Glimpse(slot), lines, page)
+    match shown {
+        Shown::Listing { lines } => {
+            let index = Index::of(certificate);
+            tell_all(program, &index, View::Sketch(flaw), lines, page)
+        }
+        Shown::Slot { slot, lines } => {
+            tell_at(program, certificate, View::Glimpse(slot), lines, page)
+        }
+        Shown::Graph => {}
+    }
 }
 
 /// Writes the flaw of one instruction, if it has it, judged without budgets.

@@ -2,7 +2,6 @@
 
 use crate::graph::{Flow, call_target};
 use crate::slots::Slots;
-use arrayvec::ArrayVec;
 use bpf_cert::LAST_SLOT;
 use bpf_check::jump_target;
 use bpf_explain_page::Tell;
@@ -66,7 +65,7 @@ pub fn reached_from_start<C: Code>(program: &C, flow: &Flow) -> Slots {
 // ---- what nothing reaches
 
 /// Slots one after the other: the first and the last.
-#[derive(Clone, Copy, Default)]
+#[derive(Clone, Copy)]
 struct Range {
     first: u32,
     last: u32,
@@ -83,72 +82,45 @@ impl fmt::Display for Range {
     }
 }
 
-/// Slots that nothing reaches: the first four ranges, and whether there are more.
-#[derive(Drop)]
-struct Unreached {
-    ranges: ArrayVec<Range, 4>,
-    has_more: bool,
+/// The first slots from one on at which instructions begin that aren't reached, one after the other.
+fn range_from<C: Code>(program: &C, reached: &Slots, from: u32) -> Option<Range> {
+    let mut found: Option<Range> = None;
+    for slot in from..program.slots().min(MAX_SLOTS as u32) {
+        if let Some(insn) = program.insn(slot) {
+            let last = slot.saturating_add(insn.slots()).saturating_sub(1);
+            found = match found {
+                Some(range) if reached.has(slot) => return Some(range),
+                Some(range) => Some(Range { last, ..range }),
+                None if reached.has(slot) => None,
+                None => Some(Range { first: slot, last }),
+            };
+        }
+    }
+    found
 }
 
-impl Unreached {
-    /// Puts the slots of an instruction behind the others.
-    fn add(&mut self, slot: u32, slots: u32) {
-        let last = slot.saturating_add(slots).saturating_sub(1);
-        if let Some(range) = self.ranges.last_mut() {
-            if range.last.saturating_add(1) == slot {
-                range.last = last;
-                return;
-            }
-        }
-        if self.ranges.try_push(Range { first: slot, last }).is_err() {
-            self.has_more = true;
-        }
-    }
-
-    /// Those of a program.
-    fn of<C: Code>(program: &C) -> Self {
-        let reached = reached_from_start(program, &Flow::any());
-        let mut unreached = Unreached {
-            ranges: ArrayVec::new(),
-            has_more: false,
-        };
-        for slot in 0..program.slots().min(MAX_SLOTS as u32) {
-            if let Some(insn) = program.insn(slot) {
-                if !reached.has(slot) {
-                    unreached.add(slot, insn.slots());
-                }
-            }
-        }
-        unreached
-    }
-
-    /// Whether it is one slot alone.
-    fn is_one(&self) -> bool {
-        match self.ranges.as_slice() {
-            [range] => range.first == range.last,
-            _ => false,
-        }
-    }
-}
-
-/// Tells which slots no jump, no call and no instruction before leads to: most often the functions behind the one that was
-/// taken for the program.
+/// Tells which slots no jump, no call and no instruction before leads to, up to four ranges: most often the functions behind the one
+/// that was taken for the program.
 pub fn tell_unreached<C: Code, W: Tell>(program: &C, out: &mut W) {
-    let unreached = Unreached::of(program);
-    let is_one = unreached.is_one();
-    let mut begin = if is_one { "slot " } else { "slots " };
-    if unreached.ranges.is_empty() {
+    let reached = reached_from_start(program, &Flow::any());
+    let Some(first) = range_from(program, &reached, 0) else {
         return;
+    };
+    let mut more = range_from(program, &reached, first.last.saturating_add(1));
+    let is_one = first.first == first.last && more.is_none();
+    let noun = if is_one { "slot" } else { "slots" };
+    write!(out, "{noun} {first}");
+    for _ in 0..3 {
+        let Some(range) = more else {
+            break;
+        };
+        write!(out, ", {range}");
+        more = range_from(program, &reached, range.last.saturating_add(1));
     }
-    for range in unreached.ranges.iter() {
-        let range = *range;
-        write!(out, "{begin}{range}");
-        begin = ", ";
-    }
-    let more = if unreached.has_more { " and more" } else { "" };
+    let rest = if more.is_some() { " and more" } else { "" };
     let verb = if is_one { "is" } else { "are" };
     write!(
         out,
-        "{more} {verb} never reached from slot 0: is the first function the one that is meant?\n"
+        "{rest} {verb} never reached from slot 0: is the first function the one that is meant?\n"
     );
 }

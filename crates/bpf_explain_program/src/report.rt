@@ -1,23 +1,24 @@
 //! The flaws at a slot, told in the order of their numbers.
 
-use crate::flaws::CONDITIONS;
+use crate::flaws::{CONDITIONS, Flaws};
 use crate::known::Spelled;
 use crate::listing::{write_edges, write_function, write_instruction, write_label};
-use crate::sight::{Outcome, Sight};
+use crate::pass::Observer;
+use crate::sight::Sight;
 use crate::source::SourceLines;
-use crate::standing::{Found, label_flaws, start_flaws};
+use crate::standing::{label_flaws, last_slot, standing_flaws, start_flaws};
 use crate::whole::write_whole;
 use crate::words::{
     Handings, Silence, tell, tell_function, tell_handed, tell_label, tell_silence, tell_start,
 };
 use bpf_cert::MAX_FUNCTIONS;
-use bpf_check::{Index, Refusal, SeenLabel, SeenStart, Standing, standing_at};
+use bpf_check::{Index, Refusal, Standing, see_start, standing_at};
 use bpf_explain_page::Tell;
-use bpf_insn::Code;
-use bpf_state::{Condition, State, StateFault, unset_register};
+use bpf_insn::{Code, Insn};
+use bpf_state::{Condition, State, StateFault, Work, unset_register};
 
 /// What is written of a program.
-#[derive(Clone, Copy, PartialEq, Eq)]
+#[derive(Clone, Copy)]
 pub enum View {
     /// The listing, with the flaws where they are.
     Listing,
@@ -33,6 +34,18 @@ pub enum View {
     Reason(Refusal),
 }
 
+impl View {
+    /// Whether budgets are told.
+    pub fn has_budgets(self) -> bool {
+        !matches!(self, View::Sketch(_) | View::Glimpse(_) | View::Reason(_))
+    }
+
+    /// Whether instructions are listed, with flaws behind them.
+    fn is_listing(self) -> bool {
+        matches!(self, View::Listing | View::Sketch(_))
+    }
+}
+
 /// Slots at which no state is known, for one reason and without another flaw.
 #[derive(Clone, Copy)]
 struct Quiet {
@@ -41,10 +54,21 @@ struct Quiet {
     silence: Silence,
 }
 
+/// The text that an instruction came from, if it is known, with what stands around it.
+fn write_source<W: Tell>(out: &mut W, before: &str, behind: &str, lines: &SourceLines<'_>) {
+    let text = lines.text();
+    if !text.is_empty() {
+        write!(out, "{before}{text}{behind}");
+    }
+}
+
 /// What goes on from slot to slot as a program is told.
 #[derive(Drop)]
-pub struct Report<'t> {
+pub struct Report<'a, 'o, C: Code, W: Tell> {
+    program: &'a C,
+    certificate: &'a Index<'a>,
     view: View,
+    out: &'o mut W,
     /// What was told last of each place.
     shown: State,
     /// Room for a label's state.
@@ -54,214 +78,170 @@ pub struct Report<'t> {
     quiet: Option<Quiet>,
     /// The calls that hand frame pointers over, once they are looked for.
     handings: Option<Handings>,
-    /// Where the instructions came from, and whether that is told at this one.
-    lines: SourceLines<'t>,
-    has_new_line: bool,
+    /// Where the instructions came from.
+    lines: SourceLines<'a>,
 }
 
-impl<'t> Report<'t> {
+impl<'a, 'o, C: Code, W: Tell> Report<'a, 'o, C, W> {
     /// Nothing is told yet.
-    pub fn new(view: View, lines: SourceLines<'t>) -> Self {
+    pub fn new(
+        program: &'a C,
+        certificate: &'a Index<'a>,
+        view: View,
+        lines: &'a [u8],
+        out: &'o mut W,
+    ) -> Self {
         Report {
+            program,
+            certificate,
             view,
+            out,
             shown: State::blank(),
             room: State::blank(),
             silence: Silence::Start,
             quiet: None,
             handings: None,
-            lines,
-            has_new_line: false,
+            lines: SourceLines::of(lines),
         }
-    }
-
-    /// Whether budgets are told.
-    pub fn has_budgets(&self) -> bool {
-        !matches!(
-            self.view,
-            View::Sketch(..) | View::Glimpse(_) | View::Reason(..)
-        )
     }
 
     /// What a flaw's line begins with.
-    fn begin<'a, W: Tell>(
-        &self,
-        out: &mut W,
-        condition: Condition,
-        slot: u32,
-        sight: Option<&Sight<'a>>,
-    ) {
+    fn begin(&mut self, condition: Condition, slot: u32, insn: Option<Insn>) {
         let number = condition.number();
-        if let View::Listing | View::Sketch(..) = self.view {
-            return write!(out, "     ! C{number}: ");
+        if self.view.is_listing() {
+            return write!(self.out, "     ! C{number}: ");
         }
-        match sight {
-            Some(sight) => {
-                let text = Spelled(sight.site.insn);
-                write!(out, "C{number} at slot {slot}, {text}: ");
-            }
-            None => write!(out, "C{number} at slot {slot}: "),
+        write!(self.out, "C{number} at slot {slot}");
+        if let Some(insn) = insn {
+            let text = Spelled(insn);
+            write!(self.out, ", {text}");
         }
+        write!(self.out, ": ");
     }
 
-    /// Tells a flaw of the instruction at a slot.
-    fn tell_visit<'a, W: Tell, C: Code>(
-        &mut self,
-        out: &mut W,
-        program: &C,
-        certificate: &Index,
-        sight: &Sight<'a>,
-        condition: Condition,
-    ) {
-        self.begin(out, condition, sight.site.here.slot, Some(sight));
+    /// Tells a flaw of the instruction at a slot, with the source's line, unless that stands above.
+    fn tell_visit(&mut self, sight: &Sight<'_, C>, condition: Condition) {
+        self.begin(condition, sight.site.here.slot, Some(sight.site.insn));
         match condition {
-            Condition::FallsOff if sight.is_never => tell_silence(out, self.silence),
-            _ => tell(out, program, certificate, sight, condition),
+            Condition::FallsOff if sight.is_never => tell_silence(self.out, self.silence),
+            _ => tell(self.out, sight, condition),
         }
         if condition == Condition::State(StateFault::UnsetRegister) {
-            self.tell_cause(out, program, certificate, sight);
+            self.tell_cause(sight);
         }
-        self.end_visit(out);
-    }
-
-    /// Ends a flaw's line: with the source's line, unless that stands above.
-    fn end_visit<W: Tell>(&self, out: &mut W) {
-        let text = self.lines.text();
-        if text.is_empty() || matches!(self.view, View::Listing | View::Sketch(..)) {
-            return write!(out, "\n");
+        if !self.view.is_listing() {
+            write_source(self.out, "; from ", "", &self.lines);
         }
-        write!(out, "; from {text}\n");
-    }
-
-    /// The line of the source that an instruction came from, where it is another one than before.
-    fn write_source<W: Tell>(&self, out: &mut W) {
-        let text = self.lines.text();
-        if self.has_new_line && !text.is_empty() {
-            write!(out, "; {text}\n");
-        }
+        write!(self.out, "\n");
     }
 
     /// Tells why nothing is known of a register that a function reads, if it was handed a frame pointer in it.
-    fn tell_cause<'a, W: Tell, C: Code>(
-        &mut self,
-        out: &mut W,
-        program: &C,
-        certificate: &Index,
-        sight: &Sight<'a>,
-    ) {
+    fn tell_cause(&mut self, sight: &Sight<'_, C>) {
         let Some(reg) = unset_register(&sight.site.insn, &sight.before) else {
             return;
         };
         let handings = match self.handings.take() {
             Some(handings) => handings,
-            None => Handings::of(program, certificate),
+            None => Handings::of(self.program, self.certificate),
         };
-        tell_handed(out, program, certificate, sight, reg, &handings);
+        tell_handed(self.out, sight, reg, &handings);
         self.handings = Some(handings);
     }
 
-    /// Tells that the first slot of a function, which is at a slot, has no label.
-    fn tell_shape<'a, W: Tell>(
-        &self,
-        out: &mut W,
-        standing: &Standing<'a>,
-        slot: u32,
-        condition: Condition,
-    ) {
-        if condition == Condition::Misshapen && standing.lacks_label {
-            self.begin(out, condition, slot, None);
-            tell_function(out, standing.function);
-            write!(out, "\n");
+    /// Tells a flaw of the certificate's beginning, if it has it.
+    fn tell_beginning(&mut self, condition: Condition) {
+        let seen = see_start(self.certificate, &mut self.room, &mut Work::new());
+        if start_flaws(&seen).has(condition) {
+            self.begin(condition, 0, None);
+            tell_start(self.out, self.certificate, &seen, condition);
+            write!(self.out, "\n");
         }
     }
 
-    /// Tells a flaw of a function's label, if it has it.
-    fn tell_in_label<'a, W: Tell, C: Code>(
-        &self,
-        out: &mut W,
-        program: &C,
-        certificate: &Index,
-        standing: &Standing<'a>,
-        seen: &SeenLabel<'a>,
-        condition: Condition,
-    ) {
-        if label_flaws(seen).has(condition) {
-            self.begin(out, condition, seen.label.slot, None);
-            tell_label(
-                out,
-                program,
-                certificate,
-                standing.function,
-                seen,
-                condition,
-            );
-            write!(out, "\n");
-        }
+    /// What stands at a slot, by a number from 0 on: None behind the last.
+    fn standing_at(&mut self, slot: u32, number: usize) -> Option<Standing<'a>> {
+        standing_at(self.program, self.certificate, slot, number, &mut self.room)
     }
 
     /// Tells a flaw of the functions and labels at a slot.
-    fn tell_standing<W: Tell, C: Code>(
-        &mut self,
-        out: &mut W,
-        program: &C,
-        certificate: &Index,
-        slot: u32,
-        condition: Condition,
-    ) {
+    fn tell_standing(&mut self, slot: u32, condition: Condition) {
         for number in 0..MAX_FUNCTIONS {
-            let Some(standing) = standing_at(program, certificate, slot, number, &mut self.room)
-            else {
+            let Some(standing) = self.standing_at(slot, number) else {
                 break;
             };
-            self.tell_shape(out, &standing, slot, condition);
-            if let Some(seen) = &standing.label {
-                self.tell_in_label(out, program, certificate, &standing, seen, condition);
+            if condition == Condition::Misshapen && standing.lacks_label {
+                self.begin(condition, slot, None);
+                tell_function(self.out, standing.function);
+                write!(self.out, "\n");
+            }
+            match &standing.label {
+                Some(seen) if label_flaws(seen).has(condition) => {
+                    self.begin(condition, slot, None);
+                    tell_label(
+                        self.out,
+                        self.program,
+                        self.certificate,
+                        &standing,
+                        condition,
+                    );
+                    write!(self.out, "\n");
+                }
+                _ => {}
             }
         }
     }
 
-    /// Tells a flaw of a certificate's beginning, if it has it.
-    fn tell_at_start<W: Tell>(
-        &self,
-        out: &mut W,
-        certificate: &Index,
-        seen: &SeenStart,
-        condition: Condition,
-    ) {
-        if start_flaws(seen).has(condition) {
-            self.begin(out, condition, 0, None);
-            tell_start(out, certificate, seen, condition);
-            write!(out, "\n");
+    /// Which conditions fail at a slot, but for those of the instruction there.
+    fn flaws_at(&mut self, slot: u32) -> Flaws {
+        let mut flaws = Flaws::NONE;
+        if slot == 0 {
+            let seen = see_start(self.certificate, &mut self.room, &mut Work::new());
+            flaws = start_flaws(&seen);
+        }
+        for number in 0..MAX_FUNCTIONS {
+            let Some(standing) = self.standing_at(slot, number) else {
+                break;
+            };
+            flaws.add_all(standing_flaws(&standing));
+        }
+        flaws
+    }
+
+    /// Tells all that is wrong at an instruction and at its slot, if something is, and first of the slots that were passed over.
+    /// Instructions at which no more is wrong than at an earlier one are passed over, but for one that is shown by itself.
+    fn tell_flaws(&mut self, sight: &Sight<'_, C>) {
+        let slot = sight.site.here.slot;
+        let others = self.flaws_at(slot);
+        let is_silent = sight.is_never && sight.flaws == Flaws::of(Condition::FallsOff);
+        match self.view {
+            View::List if is_silent && others.is_empty() => return self.pass_over(slot),
+            View::Listing if is_silent && others.is_empty() => return,
+            _ if others.is_empty() && sight.flaws.is_empty() => return,
+            _ => self.tell_quiet(),
+        }
+        for condition in (1..=CONDITIONS).filter_map(Condition::numbered) {
+            if slot == 0 {
+                self.tell_beginning(condition);
+            }
+            if sight.flaws.has(condition) {
+                self.tell_visit(sight, condition);
+            }
+            if others.has(condition) {
+                self.tell_standing(slot, condition);
+            }
         }
     }
 
-    /// Tells all that is wrong at a slot, if something is, and first of the slots that were passed over.
-    fn tell_found<'a, W: Tell, C: Code>(
-        &mut self,
-        out: &mut W,
-        program: &C,
-        certificate: &Index,
-        slot: u32,
-        sight: Option<&Sight<'a>>,
-        found: &Found,
-    ) {
-        if found.all().is_empty() {
+    /// Tells all that is wrong at a slot behind 0 at which no instruction begins, if something is.
+    fn tell_bare(&mut self, slot: u32) {
+        let flaws = self.flaws_at(slot);
+        if flaws.is_empty() {
             return;
         }
-        self.tell_quiet(out);
-        for number in 1..=CONDITIONS {
-            let Some(condition) = Condition::numbered(number) else {
-                continue;
-            };
-            if let Some(seen) = &found.start {
-                self.tell_at_start(out, certificate, seen, condition);
-            }
-            if let Some(sight) = sight {
-                if found.visit.has(condition) {
-                    self.tell_visit(out, program, certificate, sight, condition);
-                }
-            }
-            if found.standing.has(condition) {
-                self.tell_standing(out, program, certificate, slot, condition);
+        self.tell_quiet();
+        for condition in (1..=CONDITIONS).filter_map(Condition::numbered) {
+            if flaws.has(condition) {
+                self.tell_standing(slot, condition);
             }
         }
     }
@@ -269,204 +249,127 @@ impl<'t> Report<'t> {
     // ---- slots at which no state is known
 
     /// Tells of the slots that were passed over.
-    pub fn tell_quiet<W: Tell>(&mut self, out: &mut W) {
-        let Some(quiet) = self.quiet else {
+    fn tell_quiet(&mut self) {
+        let Some(Quiet { from, to, silence }) = self.quiet.take() else {
             return;
         };
-        self.quiet = None;
-        let (from, to) = (quiet.from, quiet.to);
         if from == to {
-            write!(out, "C11 at slot {from}: ");
+            write!(self.out, "C11 at slot {from}: ");
         } else {
-            write!(out, "C11 at slots {from} to {to}: ");
+            write!(self.out, "C11 at slots {from} to {to}: ");
         }
-        tell_silence(out, quiet.silence);
-        write!(out, "\n");
-    }
-
-    /// The first of the slots that were passed over, if it was for the reason that there is now.
-    fn quiet_from(&self) -> Option<u32> {
-        let quiet = self.quiet?;
-        if quiet.silence == self.silence {
-            Some(quiet.from)
-        } else {
-            None
-        }
+        tell_silence(self.out, silence);
+        write!(self.out, "\n");
     }
 
     /// Passes over a slot at which no state is known. Those that were passed over for another reason are told.
-    fn pass_over<W: Tell>(&mut self, out: &mut W, slot: u32) {
-        let from = match self.quiet_from() {
-            Some(from) => from,
-            None => {
-                self.tell_quiet(out);
-                slot
-            }
-        };
-        self.quiet = Some(Quiet {
-            from,
-            to: slot,
-            silence: self.silence,
-        });
+    fn pass_over(&mut self, slot: u32) {
+        let (silence, known) = (self.silence, self.quiet);
+        let mut from = slot;
+        match known {
+            Some(quiet) if quiet.silence == silence => from = quiet.from,
+            _ => self.tell_quiet(),
+        }
+        let to = slot;
+        self.quiet = Some(Quiet { from, to, silence });
+    }
+
+    /// Notes why no state goes on, if none does.
+    fn note_silence(&mut self, sight: &Sight<'_, C>) {
+        let slot = sight.site.here.slot;
+        match &sight.seen {
+            Some(seen) if seen.next.is_live => {}
+            Some(_) => self.silence = Silence::Ends(slot),
+            None if sight.is_never => {}
+            None => self.silence = Silence::Refused(slot),
+        }
     }
 
     // ---- slots
 
     /// The lines of the functions and labels at a slot.
-    fn write_standing<W: Tell, C: Code>(
-        &mut self,
-        out: &mut W,
-        program: &C,
-        certificate: &Index,
-        slot: u32,
-    ) {
-        let has_budgets = self.has_budgets();
+    fn write_standing(&mut self, slot: u32) {
         for number in 0..MAX_FUNCTIONS {
-            let Some(standing) = standing_at(program, certificate, slot, number, &mut self.room)
-            else {
+            let Some(standing) = self.standing_at(slot, number) else {
                 break;
             };
             if standing.function.first == slot {
-                write_function(out, standing.function);
+                write_function(self.out, standing.function);
             }
             if let Some(seen) = &standing.label {
-                write_label(out, seen.label, has_budgets, &mut self.room);
+                let has_budgets = self.view.has_budgets();
+                write_label(self.out, seen.label, has_budgets, &mut self.room);
             }
         }
     }
 
     /// Tells of a slot at which no instruction begins.
-    pub fn tell_slot<W: Tell, C: Code>(
-        &mut self,
-        out: &mut W,
-        program: &C,
-        certificate: &Index,
-        slot: u32,
-    ) {
-        match self.view {
-            View::Listing => self.write_standing(out, program, certificate, slot),
-            View::Sketch(..) => return self.write_standing(out, program, certificate, slot),
-            View::Glimpse(_) | View::Reason(..) => return,
-            View::Slot(wanted) if wanted != slot => return,
-            View::Slot(_) | View::List => {}
+    fn tell_slot(&mut self, slot: u32) {
+        if self.view.is_listing() {
+            self.write_standing(slot);
         }
-        let found = Found::of(program, certificate, slot, None, &mut self.room);
-        self.tell_found(out, program, certificate, slot, None, &found);
+        match self.view {
+            View::Listing | View::List => self.tell_bare(slot),
+            View::Slot(wanted) if wanted == slot => self.tell_bare(slot),
+            View::Slot(_) | View::Sketch(_) | View::Glimpse(_) | View::Reason(_) => {}
+        }
+    }
+
+    /// Tells of the slots from one behind the program on at which labels and functions stand, and of those that were passed over.
+    pub fn end(&mut self, from: u32) {
+        for slot in from..last_slot(self.certificate).saturating_add(1) {
+            self.tell_slot(slot);
+        }
+        self.tell_quiet();
     }
 
     /// The lines of an instruction, with those of what stands at its slot.
-    fn write_lines<'a, W: Tell, C: Code>(
-        &mut self,
-        out: &mut W,
-        program: &C,
-        certificate: &Index,
-        sight: &Sight<'a>,
-    ) {
-        self.write_standing(out, program, certificate, sight.site.here.slot);
+    fn write_lines(&mut self, sight: &Sight<'_, C>, has_new_line: bool) {
+        self.write_standing(sight.site.here.slot);
         if sight.site.here.label.is_some() {
             self.shown.copy_from(&sight.before);
         }
-        self.write_source(out);
-        write_instruction(out, sight, &mut self.shown);
-        write_edges(out, sight, &mut self.shown);
-    }
-
-    /// Notes why no state goes on, if none does.
-    fn note_silence<'a>(&mut self, sight: &Sight<'a>) {
-        let slot = sight.site.here.slot;
-        match &sight.outcome {
-            Outcome::Refused(_) => self.silence = Silence::Refused(slot),
-            Outcome::Unreached if !sight.is_never => self.silence = Silence::Refused(slot),
-            Outcome::Unreached => {}
-            Outcome::Done(seen) => {
-                if !seen.next.is_live {
-                    self.silence = Silence::Ends(slot);
-                }
-            }
+        if has_new_line {
+            write_source(self.out, "; ", "\n", &self.lines);
         }
-    }
-
-    /// Tells the flaws at an instruction, those that only pass on an earlier one together.
-    fn tell_flaws<'a, W: Tell, C: Code>(
-        &mut self,
-        out: &mut W,
-        program: &C,
-        certificate: &Index,
-        sight: &Sight<'a>,
-    ) {
-        let slot = sight.site.here.slot;
-        let found = Found::of(program, certificate, slot, Some(sight), &mut self.room);
-        if found.is_quiet(sight) && self.view != View::Slot(slot) {
-            if self.view == View::List {
-                self.pass_over(out, slot);
-            }
-            return;
-        }
-        self.tell_found(out, program, certificate, slot, Some(sight), &found);
-    }
-
-    /// Tells one flaw of an instruction, if it has it.
-    fn tell_one<'a, W: Tell, C: Code>(
-        &mut self,
-        out: &mut W,
-        program: &C,
-        certificate: &Index,
-        sight: &Sight<'a>,
-        condition: Condition,
-    ) {
-        if sight.flaws.has(condition) {
-            self.tell_visit(out, program, certificate, sight, condition);
-        }
-    }
-
-    /// The lines of an instruction that is shown by itself, with the whole states before and behind it.
-    fn write_alone<'a, W: Tell>(&mut self, out: &mut W, sight: &Sight<'a>) {
-        self.has_new_line = true;
-        self.write_source(out);
-        write_whole(out, sight);
+        write_instruction(self.out, sight, &mut self.shown);
+        write_edges(self.out, sight, &mut self.shown);
     }
 
     /// Tells of an instruction what the view shows.
-    fn show<'a, W: Tell, C: Code>(
-        &mut self,
-        out: &mut W,
-        program: &C,
-        certificate: &Index,
-        sight: &Sight<'a>,
-    ) {
+    fn show(&mut self, sight: &Sight<'_, C>) {
+        let slot = sight.site.here.slot;
+        let has_new_line = self.lines.go_to(slot);
+        if self.view.is_listing() {
+            self.write_lines(sight, has_new_line);
+        }
         match self.view {
-            View::Listing => {
-                self.write_lines(out, program, certificate, sight);
-                self.tell_flaws(out, program, certificate, sight);
+            View::Slot(wanted) | View::Glimpse(wanted) if wanted == slot => {
+                write_source(self.out, "; ", "\n", &self.lines);
+                write_whole(self.out, sight);
             }
-            View::List => self.tell_flaws(out, program, certificate, sight),
-            View::Glimpse(slot) if slot == sight.site.here.slot => self.write_alone(out, sight),
-            View::Slot(slot) if slot == sight.site.here.slot => {
-                self.write_alone(out, sight);
-                self.tell_flaws(out, program, certificate, sight);
+            _ => {}
+        }
+        match self.view {
+            View::Listing | View::List => self.tell_flaws(sight),
+            View::Slot(wanted) if wanted == slot => self.tell_flaws(sight),
+            View::Sketch(Some(flaw)) | View::Reason(flaw) if flaw.slot == slot => {
+                if sight.flaws.has(flaw.condition) {
+                    self.tell_visit(sight, flaw.condition);
+                }
             }
-            View::Sketch(Some(flaw)) if flaw.slot == sight.site.here.slot => {
-                self.write_lines(out, program, certificate, sight);
-                self.tell_one(out, program, certificate, sight, flaw.condition);
-            }
-            View::Sketch(..) => self.write_lines(out, program, certificate, sight),
-            View::Reason(flaw) if flaw.slot == sight.site.here.slot => {
-                self.tell_one(out, program, certificate, sight, flaw.condition);
-            }
-            View::Slot(_) | View::Glimpse(_) | View::Reason(..) => {}
+            View::Slot(_) | View::Sketch(_) | View::Glimpse(_) | View::Reason(_) => {}
         }
     }
+}
 
-    /// Tells of an instruction.
-    pub fn tell_sight<'a, W: Tell, C: Code>(
-        &mut self,
-        out: &mut W,
-        program: &C,
-        certificate: &Index,
-        sight: &Sight<'a>,
-    ) {
-        self.has_new_line = self.lines.go_to(sight.site.here.slot);
-        self.show(out, program, certificate, sight);
+impl<'a, 'o, C: Code, W: Tell> Observer<C> for Report<'a, 'o, C, W> {
+    fn observe(&mut self, sight: &Sight<'_, C>) -> bool {
+        self.show(sight);
         self.note_silence(sight);
+        if sight.site.insn.slots() > 1 {
+            self.tell_slot(sight.site.here.slot.saturating_add(1));
+        }
+        !self.out.has_failed()
     }
 }

@@ -1,32 +1,32 @@
 //! What the pass sees at an instruction.
 
-use crate::control::Control;
 use crate::flaws::Flaws;
 use bpf_check::{Here, Index, JudgedEdge, Seen, Site, Spot, WayOut};
-use bpf_insn::Insn;
-use bpf_state::{Condition, State, StateFault, Work};
+use bpf_insn::{Code, Insn};
+use bpf_state::{Condition, State, Work};
 
-/// What became of an instruction.
+/// An edge with the state that goes along it.
 #[derive(Clone, Copy)]
-pub enum Outcome<'a> {
-    /// No state reaches it.
-    Unreached,
-    /// It isn't allowed in its state.
-    Refused(StateFault),
-    /// It is done, with what the checker saw.
-    Done(Seen<'a>),
+pub struct Way<'s, 'a> {
+    pub edge: JudgedEdge<'a>,
+    pub state: &'s State,
+    pub is_jump: bool,
+    /// What is told behind its end: which way the test of a conditional jump goes.
+    pub condition: &'static str,
 }
 
 /// What the pass sees at an instruction.
 #[derive(Drop)]
-pub struct Sight<'a> {
+pub struct Sight<'a, C: Code> {
+    pub program: &'a C,
     /// Whether budgets are told.
     pub has_budgets: bool,
     /// The instruction, with what the certificate says of its slot and of those that it leads to.
     pub site: Site<'a>,
-    /// The last label and the cost since, in front of the instruction.
+    /// The last label and the cost since, in front of the instruction; None where no state reaches it.
     pub here: Option<Here<'a>>,
-    pub outcome: Outcome<'a>,
+    /// What the checker saw, where a state reaches the instruction and it is allowed there.
+    pub seen: Option<Seen<'a>>,
     /// How it leads out of its function, if it does.
     pub way_out: Option<WayOut>,
     pub flaws: Flaws,
@@ -41,14 +41,20 @@ pub struct Sight<'a> {
     pub work: Work,
 }
 
-impl<'a> Sight<'a> {
+/// Whether an instruction is a conditional jump.
+pub fn is_test(insn: &Insn) -> bool {
+    matches!(*insn, Insn::JumpIf { .. })
+}
+
+impl<'a, C: Code> Sight<'a, C> {
     /// Nothing is seen yet.
-    pub fn new(certificate: &'a Index<'a>, has_budgets: bool) -> Self {
+    pub fn new(program: &'a C, certificate: &'a Index<'a>, has_budgets: bool) -> Self {
         Sight {
+            program,
             has_budgets,
             site: Site::of(certificate, Spot::of(certificate, 0), Insn::Exit),
             here: None,
-            outcome: Outcome::Unreached,
+            seen: None,
             way_out: None,
             flaws: Flaws::NONE,
             is_never: false,
@@ -63,7 +69,7 @@ impl<'a> Sight<'a> {
     pub fn turn_to(&mut self, site: Site<'a>) {
         self.site = site;
         self.here = None;
-        self.outcome = Outcome::Unreached;
+        self.seen = None;
         self.way_out = None;
         self.flaws = Flaws::NONE;
         self.is_never = false;
@@ -76,64 +82,54 @@ impl<'a> Sight<'a> {
             .add_if(judged.not_entailed, Condition::NotEntailed);
         self.flaws.add_if(judged.over_budget, Condition::OverBudget);
         self.flaws.add_if(judged.past_end, Condition::FallsOff);
-        self.outcome = Outcome::Done(seen);
-    }
-
-    /// What the checker saw, where the instruction is done.
-    pub fn seen(&self) -> Option<&Seen<'a>> {
-        match &self.outcome {
-            Outcome::Done(seen) => Some(seen),
-            Outcome::Unreached | Outcome::Refused(_) => None,
-        }
+        self.seen = Some(seen);
     }
 
     /// The cost since the last label, this instruction counted, if it is known.
     pub fn cost(&self) -> Option<i128> {
-        self.seen()?.cost
+        self.seen.as_ref()?.cost
     }
 
-    /// The edge of a jump.
-    pub fn jump(&self) -> Option<JudgedEdge<'a>> {
-        self.seen()?.jump
-    }
-
-    /// The edge to the next instruction. A dead one is shown beside the edge of a conditional jump alone.
-    pub fn next(&self) -> Option<JudgedEdge<'a>> {
-        let seen = self.seen()?;
-        let is_beside = seen.jump.is_some() && self.site.insn.goes_on();
-        if seen.next.is_live || is_beside {
-            Some(seen.next)
+    /// The edge of the jump, and the one to the next instruction, of which a dead one is told beside that of a conditional jump
+    /// alone.
+    pub fn ways(&self) -> [Option<Way<'_, 'a>>; 2] {
+        let Some(seen) = &self.seen else {
+            return [None, None];
+        };
+        let is_test = is_test(&self.site.insn);
+        let (so, not) = if is_test {
+            (" if so", " if not")
         } else {
-            None
-        }
+            ("", "")
+        };
+        let next = Way {
+            edge: seen.next,
+            state: &self.behind,
+            is_jump: false,
+            condition: not,
+        };
+        let Some(edge) = seen.jump else {
+            return [None, seen.next.is_live.then_some(next)];
+        };
+        let jump = Way {
+            edge,
+            state: if is_test { &self.if_so } else { &self.behind },
+            is_jump: true,
+            condition: so,
+        };
+        let has_next = is_test || seen.next.is_live;
+        [Some(jump), has_next.then_some(next)]
     }
 
-    /// Whether a state goes on to the next instruction.
-    pub fn goes_on(&self) -> bool {
-        match self.seen() {
-            Some(seen) => seen.next.is_live,
-            None => false,
-        }
-    }
-
-    /// How the instruction goes on.
-    pub fn control(&self) -> Control {
-        Control::of(&self.site.insn)
-    }
-
-    /// The state behind the instruction, in front of its edges. Tests and calls leave the state as it was.
+    /// The state behind the instruction: on the edge to the next one, or in front of its edges. Tests and calls leave the state as
+    /// it was.
     pub fn after(&self) -> &State {
-        match self.control() {
-            Control::Test | Control::Call => &self.before,
-            Control::Next | Control::Jump | Control::Exit => &self.behind,
-        }
-    }
-
-    /// The state on the edge of a jump.
-    pub fn jump_state(&self) -> &State {
-        match self.control() {
-            Control::Test => &self.if_so,
-            Control::Next | Control::Jump | Control::Call | Control::Exit => &self.behind,
+        let goes_on = matches!(&self.seen, Some(seen) if seen.next.is_live);
+        let stays = matches!(self.site.insn, Insn::JumpIf { .. } | Insn::CallLocal { .. });
+        if stays && !goes_on {
+            &self.before
+        } else {
+            &self.behind
         }
     }
 }

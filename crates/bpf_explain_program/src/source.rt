@@ -24,9 +24,10 @@ pub fn is_table(table: &[u8]) -> bool {
     let mut lines = SourceLines::of(table);
     let mut least = 0;
     for _ in 0..u64::MAX {
-        let Some(line) = lines.take_line() else {
+        let Some((line, rest)) = lines.next_line() else {
             return true;
         };
+        lines.rest = rest;
         match entry_of(line) {
             Some((slot, _)) if slot >= least => least = slot,
             _ => return false,
@@ -53,13 +54,6 @@ impl<'a> SourceLines<'a> {
             Some(parts) => Some(parts),
             None => Some((self.rest, self.rest.get(..0).unwrap_or(&[]))),
         }
-    }
-
-    /// Takes the next line.
-    fn take_line(&mut self) -> Option<&'a [u8]> {
-        let (line, rest) = self.next_line()?;
-        self.rest = rest;
-        Some(line)
     }
 
     /// Reads one line, unless it is of a later slot. Whether one was read.

@@ -16,36 +16,17 @@ pub struct Sum {
     tested: u32,
 }
 
-/// An operand of a sum of two registers.
+/// A register as the instruction at a slot takes it: as an operand of a sum of two registers, or to test it.
 #[derive(Clone, Copy)]
-pub struct Part {
-    /// The slot of the sum.
+pub struct Use {
     pub slot: u32,
     pub reg: Reg,
     pub sum: Sum,
 }
 
-/// What a register holds.
-#[derive(Clone, Copy)]
-pub struct Held {
-    pub sum: Sum,
-    /// The two whose sum it is, but for a constant.
-    pub parts: [Option<Part>; 2],
-    /// The slot of the 64-bit 0 that it is computed from.
-    pub zero: Option<u32>,
-}
-
-/// A test by which a register is above or below something.
-#[derive(Clone, Copy)]
-pub struct Test {
-    pub slot: u32,
-    pub reg: Reg,
-    pub sum: Sum,
-}
-
-impl Default for Test {
+impl Default for Use {
     fn default() -> Self {
-        Test {
+        Use {
             slot: 0,
             reg: Reg::R0,
             sum: Sum::of(0),
@@ -53,11 +34,22 @@ impl Default for Test {
     }
 }
 
+/// What a register holds.
+#[derive(Clone, Copy)]
+pub struct Held {
+    pub sum: Sum,
+    /// The two whose sum it is, but for a constant.
+    pub parts: [Option<Use>; 2],
+    /// The slot of the 64-bit 0 that it is computed from.
+    pub zero: Option<u32>,
+}
+
 /// What registers hold, and which of them were tested.
 #[derive(Drop)]
 pub struct Trail {
     held: [Held; 11],
-    tests: ArrayVec<Test, 32>,
+    /// The tests by which a register is above or below something.
+    tests: ArrayVec<Use, 32>,
 }
 
 /// The number of the value that the instruction at a slot gives a register.
@@ -117,15 +109,11 @@ impl Trail {
     /// At a label.
     pub fn new() -> Self {
         let mut held = [Held::of(0); 11];
-        let mut value = 0u32;
-        for place in held.iter_mut() {
-            *place = Held::of(value);
-            value = value.saturating_add(1);
+        for number in 0..11 {
+            held[number] = Held::of(number as u32);
         }
-        Trail {
-            held,
-            tests: ArrayVec::new(),
-        }
+        let tests = ArrayVec::new();
+        Trail { held, tests }
     }
 
     /// From the label at a slot to the instruction at another one, over instructions that each follow the one before.
@@ -145,6 +133,12 @@ impl Trail {
             Some(held) => *held,
             None => Held::of(0),
         }
+    }
+
+    /// A register as the instruction at a slot takes it.
+    pub fn used(&self, slot: u32, reg: Reg) -> Use {
+        let sum = self.held(reg).sum;
+        Use { slot, reg, sum }
     }
 
     /// Lets a register hold something.
@@ -172,22 +166,10 @@ impl Trail {
     /// A sum of two registers. Of one that is such a sum itself the number that was added last stands for it.
     fn join(&mut self, slot: u32, dst: Reg, src: Reg) {
         let (left, right) = (self.held(dst), self.held(src));
-        let own = Part {
-            slot,
-            reg: dst,
-            sum: left.sum,
-        };
-        let added = Part {
-            slot,
-            reg: src,
-            sum: right.sum,
-        };
+        let (own, added) = (self.used(slot, dst), self.used(slot, src));
         let mut sum = Held::of(value_at(slot, dst));
-        sum.parts = [Some(left.parts[1].unwrap_or(own)), Some(added)];
-        sum.zero = match left.zero {
-            Some(zero) => Some(zero),
-            None => right.zero,
-        };
+        sum.parts = [left.parts[1].or(Some(own)), Some(added)];
+        sum.zero = left.zero.or(right.zero);
         self.set(dst, sum);
     }
 
@@ -195,11 +177,7 @@ impl Trail {
     fn test(&mut self, slot: u32, reg: Reg) {
         let mut held = self.held(reg);
         let number = self.tests.len();
-        let test = Test {
-            slot,
-            reg,
-            sum: held.sum,
-        };
+        let test = self.used(slot, reg);
         if number < 32 && self.tests.try_push(test).is_ok() {
             held.sum.tested |= 1 << number;
             self.set(reg, held);
@@ -215,8 +193,13 @@ impl Trail {
                 self.shift(dst, 0i64.saturating_sub(i64::from(by)), width);
             }
             (AluOp::Add, Operand::Reg(src), Width::W64) => self.join(slot, dst, src),
-            _ => self.set(dst, Held::of(value_at(slot, dst))),
+            _ => self.give(slot, dst),
         }
+    }
+
+    /// The instruction at a slot gives a register a value of which no more is known.
+    fn give(&mut self, slot: u32, reg: Reg) {
+        self.set(reg, Held::of(value_at(slot, reg)));
     }
 
     /// A 64-bit constant.
@@ -231,8 +214,7 @@ impl Trail {
     /// A call changes r0 to r5.
     fn forget_called(&mut self, slot: u32) {
         for number in 0..6u8 {
-            let reg = Reg::numbered(number);
-            self.set(reg, Held::of(value_at(slot, reg)));
+            self.give(slot, Reg::numbered(number));
         }
     }
 
@@ -261,17 +243,19 @@ impl Trail {
             | Insn::LoadSx { .. }
             | Insn::Store { .. }
             | Insn::StoreImm { .. }
-            | Insn::Atomic { .. } => {
+            | Insn::Atomic { .. }
+            | Insn::Ja { .. }
+            | Insn::JaLong { .. }
+            | Insn::Exit => {
                 if let Some(reg) = insn.register_written() {
-                    self.set(reg, Held::of(value_at(slot, reg)));
+                    self.give(slot, reg);
                 }
             }
-            Insn::Ja { .. } | Insn::JaLong { .. } | Insn::Exit => {}
         }
     }
 
     /// The last test of a value that a part has, too, which was made of another copy.
-    pub fn test_beside(&self, part: &Part) -> Option<Test> {
+    pub fn test_beside(&self, part: Use) -> Option<Use> {
         let mut found = None;
         let mut bit = 1u32;
         for test in self.tests.iter() {

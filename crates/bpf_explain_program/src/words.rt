@@ -11,7 +11,6 @@ mod shape;
 
 use crate::known::Name;
 use crate::sight::Sight;
-use bpf_check::Index;
 use bpf_explain_page::Tell;
 use bpf_insn::{Code, Reg};
 use bpf_state::{Condition, Place, StateFault};
@@ -25,23 +24,12 @@ pub fn register(reg: Reg) -> Name {
 }
 
 /// Tells why a condition fails at an instruction.
-pub fn tell<'a, W: Tell, C: Code>(
-    out: &mut W,
-    program: &C,
-    certificate: &Index,
-    sight: &Sight<'a>,
-    condition: Condition,
-) {
+pub fn tell<C: Code, W: Tell>(out: &mut W, sight: &Sight<'_, C>, condition: Condition) {
     match condition {
         Condition::NoLabel => shape::tell_missing_label(out, sight),
         Condition::State(StateFault::UnsetRegister) => kinds::tell_unknown(out, sight),
-        Condition::State(StateFault::WrongKinds) => kinds::tell_kinds(out, program, sight),
-        Condition::State(StateFault::OutOfBounds) => memory::tell_bounds(
-            out,
-            program,
-            certificate,
-            sight,
-        ),
+        Condition::State(StateFault::WrongKinds) => kinds::tell_kinds(out, sight),
+        Condition::State(StateFault::OutOfBounds) => memory::tell_bounds(out, sight),
         Condition::State(StateFault::UnsetByte) => memory::tell_unknown_bytes(out, sight),
         Condition::State(StateFault::Protected) => memory::tell_protected(out, sight),
         Condition::NotEntailed => edges::tell_difference(out, sight),

@@ -15,8 +15,8 @@ use bpf_cert::Certificate;
 use bpf_check::{Refusal, jump_target};
 use bpf_explain_page::{Page, Tell};
 use bpf_explain_program::{
-    Control, Shown, Spelled, refusal_of, source_at, tell_glimpse, tell_reason, tell_shown,
-    tell_sketch, tell_sketched_dot, tell_unreached,
+    Shown, Spelled, refusal_of, source_at, tell_reason, tell_shown, tell_sketch, tell_sketched_dot,
+    tell_unreached,
 };
 use bpf_infer::{
     Condition, InferError, Obstacle, Quest, Sketch, Stop, Watch, infer, search_or_stop, sketch_of,
@@ -27,7 +27,7 @@ use std::fmt;
 use std::io::{self, Write};
 
 /// Which search is explained.
-#[derive(Clone, Copy, PartialEq, Eq)]
+#[derive(Clone, Copy, PartialEq)]
 enum Effort {
     Plain,
     Deep,
@@ -167,16 +167,12 @@ fn write_round<W: Tell>(out: &mut W, program: &Program, stop: &Stop, effort: Eff
     }
 }
 
-/// Whether an instruction leads back, or calls a function.
-fn leads_back(insn: &Insn) -> bool {
-    Control::of(insn) == Control::Call || insn.distance().is_some_and(|off| off < 0)
-}
-
 /// Whether a program has a loop or calls a function: elsewhere both searches know the same.
 fn goes_round(program: &Program) -> bool {
     for slot in 0..program.slots() {
         if let Some(insn) = program.at(slot) {
-            if leads_back(insn) {
+            let calls = matches!(*insn, Insn::CallLocal { .. });
+            if calls || insn.distance().is_some_and(|off| off < 0) {
                 return true;
             }
         }
@@ -215,21 +211,6 @@ fn flaw_of(error: InferError) -> Option<Refusal> {
     }
 }
 
-/// Tells what is shown of the states that a search has.
-fn write_sketch<W: Tell>(
-    out: &mut W,
-    program: &Program,
-    certificate: &Certificate,
-    shown: Shown<'_>,
-    flaw: Option<Refusal>,
-) {
-    match shown {
-        Shown::Slot { slot, lines } => tell_glimpse(program, certificate, lines, slot, out),
-        Shown::Listing { lines } => tell_sketch(program, certificate, lines, flaw, out),
-        Shown::Graph => {}
-    }
-}
-
 /// Tells what is shown of the states that a search has, the refusal, and its flaw in these states.
 fn write_states<W: Tell>(
     out: &mut W,
@@ -241,7 +222,7 @@ fn write_states<W: Tell>(
     let flaw = flaw_of(stop.error);
     let refused = Refused(stop.error);
     if let Some(certificate) = &stop.sketch.certificate {
-        write_sketch(out, program, certificate, shown, flaw);
+        tell_sketch(program, certificate, shown, flaw, out);
     }
     write!(out, "{refused}\n");
     if let (Some(certificate), Some(flaw)) = (&stop.sketch.certificate, flaw) {

@@ -14,7 +14,7 @@ use Rattle.bpf_semantics.specs.declared.value.Value.TheVariants.{Number, Pointer
 use Rattle.bpf_semantics.specs.declared.value.Region.TheVariants.{Frame as FrameAt}
 use Rattle.bpf_follows.specs.declared.notes.Area.TheVariants.{Given, Own}
 use Rattle.bpf_follows.specs.declared.notes.Kind.{Kind}
-use Rattle.bpf_follows.specs.declared.notes.Kind.TheVariants.{Unset, Same, Number as NumberKind, Natural, Inner, Length, Offset, Fixed, Within, Start, Head, Base, Moved, Constant, Counter, Alone, Returns, Both}
+use Rattle.bpf_follows.specs.declared.notes.Kind.TheVariants.{Unset, Same, Number as NumberKind, Natural, Inner, Length, Offset, Fixed, Within, Start, Head, Base, Moved, Constant, Counter, Alone, Returns, Both, Closing, Ending}
 use Rattle.bpf_follows.specs.declared.notes.Place.{Place}
 use Rattle.bpf_follows.specs.Areas.{same_area}
 use Rattle.bpf_follows.specs.Relation.{Past, Kinds, places, Gives, weaker, natural_top, is_free, kinds_of, place_at, HasOffset, IsWithin, as_offset, register_in, FitsKind, FitsSlot, FrameFits, Follows}
@@ -96,6 +96,9 @@ module _ (ends : Order) (notes : List (Option Place)) (turns : ℕ) (passed : Pa
   kind_weaker old r (Inner least most) Both new lt e f = record { value = Pointer (FrameAt f.frame) f.offset; old_is = f.old_is; new_is = f.new_is }
   kind_weaker old r (Inner least most) Same new lt e f = λ v ev. f.new_is ∙ (sym f.old_is ∙ ev)
   kind_weaker old r Head Base new lt e f = f.1
+  kind_weaker old r (Closing by offset) (Ending more) new lt e f =
+      let same : by ≡ more = eqb-true by more (both_true (nat_lt r 11) (by == more) e).1 in
+      subst (λ by. FitsKind turns passed old r (Ending by) new) same (record { size = f.size; packet_is = f.packet_is; short = f.short; is = (f.is.0, f.is.2) })
   kind_weaker old r (Length most) (Length high) new lt e f =
       let more = leb-true most high (both_true (nat_lt r 11) (nat_le most high) e).1 in
       let few = f.is.0 in
@@ -151,6 +154,7 @@ module _ (ends : Order) (notes : List (Option Place)) (turns : ℕ) (passed : Pa
   slot_weaker registers xs ys k (Inner least most) Both e f = absurd f
   slot_weaker registers xs ys k (Inner least most) Same e f = absurd f
   slot_weaker registers xs ys k Head Base e f = absurd f
+  slot_weaker registers xs ys k (Closing by offset) (Ending more) e f = absurd f
   slot_weaker registers xs ys k (Length most) (Length high) e f = absurd f
   slot_weaker registers xs ys k (Length most) (NumberKind low high) e f = absurd f
   slot_weaker registers xs ys k (Length most) Both e f = absurd f

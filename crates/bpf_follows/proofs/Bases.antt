@@ -1,21 +1,21 @@
 -- Accesses by other registers than the old machine's, which go to the same place.
 use Rattle.std.proofs.Common.{◌≡◌, ℕ, ◌+◌, ◌<◌, ◌⊎◌, inl, inr, ◌==◌, ◌^◌, Bool, true, false, List, Option, Some, None, length, refl, sym, ap, ◌∙◌, subst, arith}
-use Rattle.std.specs.Prelude.{not, ◌&&◌, ◌||◌, nat_le, ℤ, pos, negsuc, ◌+ℤ◌, ◌-ℤ◌, ◌≤ℤ◌, FitsSigned, option_and_then, option_map, if◌then◌else◌}
+use Rattle.std.specs.Prelude.{◌&&◌, ◌||◌, nat_le, ℤ, pos, negsuc, ◌+ℤ◌, ◌-ℤ◌, ◌≤ℤ◌, FitsSigned, option_and_then, option_map, if◌then◌else◌}
 use Rattle.std.specs.Int.{w16, w64}
 use Rattle.std.specs.Option.{option_map_or}
 use Rattle.std.specs.Ordering.{int_eq}
 use Rattle.std.proofs.lemmas.Option.{none-some, same_Some, option_and_then_some}
-use Rattle.std.proofs.lemmas.Bool.{false≢true, eqb-true, and_right, cases_Bool}
+use Rattle.std.proofs.lemmas.Bool.{false≢true, eqb-true, cases_Bool}
 use Rattle.std.proofs.lemmas.Bool.Decides.{Decides-int_eq}
 use Rattle.std.proofs.lemmas.Int.{ints}
 use Rattle.bpf_insn.specs.Limits.{frame_bytes}
 use Rattle.bpf_insn.specs.Arithmetic.{extended}
-use Rattle.bpf_insn.specs.Effects.{Access, access_of}
+use Rattle.bpf_insn.specs.Effects.{Access}
 use Rattle.bpf_insn.specs.Instruction.{register_number, byte_count, slot_count, goes_on}
 use Rattle.bpf_insn.specs.declared.order.Order.{Order}
 use Rattle.bpf_insn.specs.declared.instruction.Reg.{Reg}
 use Rattle.bpf_insn.specs.declared.instruction.Size.{Size}
-use Rattle.bpf_insn.specs.declared.instruction.Size.TheVariants.{B, H, W, DW}
+use Rattle.bpf_insn.specs.declared.instruction.Size.TheVariants.{DW}
 use Rattle.bpf_insn.specs.declared.instruction.Insn.{Insn}
 use Rattle.bpf_insn.specs.declared.instruction.Insn.TheVariants.{Load, LoadSx, Store, StoreImm}
 use Rattle.bpf_semantics.specs.State.{State, IsState, depth, register}
@@ -29,25 +29,24 @@ use Rattle.bpf_semantics.specs.declared.value.Region.TheVariants.{Context, Frame
 use Rattle.bpf_follows.specs.declared.notes.Area.{Area}
 use Rattle.bpf_follows.specs.declared.notes.Area.TheVariants.{Given, Own}
 use Rattle.bpf_follows.specs.declared.notes.Kind.{Kind}
-use Rattle.bpf_follows.specs.declared.notes.Kind.TheVariants.{Same, Fixed, Address}
+use Rattle.bpf_follows.specs.declared.notes.Kind.TheVariants.{Same, Fixed, Closing, Address}
 use Rattle.bpf_follows.specs.declared.notes.Place.{Place}
 use Rattle.bpf_follows.specs.Areas.{origin, is_own, same_area, IsInto}
 use Rattle.bpf_follows.specs.Relation.{Past, Kinds, as_pointer, FitsKind, register_in, is_alone}
 use Rattle.bpf_follows.specs.Numbers.{loaded_number, number_kind, told}
 use Rattle.bpf_follows.specs.Extras.{is_same, is_r10, base_of, slot_of}
-use Rattle.bpf_follows.specs.Inner.{is_inner, is_beside, misses}
 use Rattle.bpf_follows.specs.Exact.{exact_kind, may_fall}
-use Rattle.bpf_follows.specs.Matching.{IsTame, is_far, fills_slot, slot_kind, slot_whole, by_kinds, is_based, are_same_place, place_area, is_same_place, IsSafe, is_near, ByAddress, is_changed, held, kinds_after}
+use Rattle.bpf_follows.specs.Matching.{IsTame, is_far, is_homed, fills_slot, slot_kind, slot_whole, by_kinds, is_based, are_same_place, place_area, is_same_place, IsSafe, ByAddress, is_far_put, is_changed, held, kinds_after}
 use Rattle.bpf_follows.specs.declared.site.Span.{Span}
 use Rattle.bpf_follows.proofs.Lists.{bind, unmapped, same_is_kept}
 use Rattle.bpf_follows.proofs.Owns.{Owns}
 use Rattle.bpf_follows.proofs.Has.{area_same}
 use Rattle.bpf_follows.proofs.Offsets.{wrapped_near, fits_64}
-use Rattle.bpf_follows.proofs.Between.{is_double, Between, Goes, goes_as, goes_alike, same_depth, location_same, PointersKept, pointers_kept, load_kept, load_extended_kept}
+use Rattle.bpf_follows.proofs.Between.{is_double, Between, Goes, goes_as, goes_alike, same_depth, location_same, PointersKept, load_kept, load_extended_kept}
 use Rattle.bpf_follows.proofs.Known.{load_own, load_known}
-use Rattle.bpf_follows.proofs.Instruction.{both_true, register_kept, put_as, store_at, Arrived, arrived, FallArrives, is_flow}
-use Rattle.bpf_follows.proofs.Frames.{or_false}
-use Rattle.bpf_follows.proofs.InnerStore.{stores_inner, inner_store, no_beside, store_hits}
+use Rattle.bpf_follows.proofs.Instruction.{both_true, register_kept, put_as, far_is, pointers_loaded, Arrived, arrived, FallArrives, is_flow}
+use Rattle.bpf_follows.proofs.InnerStore.{kinds_around, none_around}
+use Rattle.bpf_follows.proofs.InnerInsn.{far_put}
 use Rattle.bpf_follows.proofs.Onward.{floor, room, placed, LieIn, all_rooms, access_in, in_all}
 use Rattle.bpf_follows.proofs.Extra.{base_at}
 use Rattle.bpf_follows.proofs.OffsetInsn.{fits_in}
@@ -113,6 +112,9 @@ module _ (ends : Order) (notes : List (Option Place)) (turns : ℕ) (passed : Pa
   based : (offset c at a o : ℤ) → offset +ℤ c ≡ at → at +ℤ o ≡ c +ℤ a → pos 0 +ℤ a ≡ offset +ℤ o
   based offset c at a o e f = omega (arith, ints)
 
+  unmoved : (z : ℤ) → z +ℤ pos 0 ≡ z
+  unmoved z = omega (arith, ints)
+
   pub same_place : (kinds : Kinds) (s t : State) (old new : Access) (base : Value) (at : Location) → Between ends notes turns passed kinds s t → length s.context < 2 ^ 32 → FitsSigned w16 new.offset → is_same_place kinds old new ≡ true
       → register s old.base ≡ Some base → location_of s (byte_count old.size) old.offset base ≡ Some at → SamePlace s t old new (place_area (kinds (register_number new.base)) (kinds (register_number old.base))) at
   same_place kinds s t old new base at b short near e eb el =
@@ -143,53 +145,39 @@ module _ (ends : Order) (notes : List (Option Place)) (turns : ℕ) (passed : Pa
             there = there_at kinds s t (byte_count old.size) new.offset old.offset h.region (pos 0) h.offset at b el' (based h.offset (origin area) fixed new.offset old.offset g.is sum);
             kept = area_kept area (register_in s.top 10) s t (byte_count old.size) old.offset h.offset h.region at h.into el';
           }
+      by_kinds kind (Closing by fixed) f g e =
+          let k = both_true (is_based Given new.base kind) (int_eq (fixed +ℤ old.offset) (pos 0 +ℤ new.offset)) e in
+          let sum : fixed +ℤ old.offset ≡ pos 0 +ℤ new.offset = (Decides-int_eq (fixed +ℤ old.offset) (pos 0 +ℤ new.offset)).0 k.1 in
+          let is : base ≡ Pointer Context fixed = same_Some _ _ (sym eb ∙ g.is.1) in
+          let el' : location_of s (byte_count old.size) old.offset (Pointer Context fixed) ≡ Some at = subst (λ v. location_of s (byte_count old.size) old.offset v ≡ Some at) is el in
+          record {
+            value = Pointer Context (pos 0);
+            is = base_at turns passed (register_in s.top) new.base kind Given Context (register t new.base) (based_is Given new.base kind k.0) refl f;
+            there = there_at kinds s t (byte_count old.size) new.offset old.offset Context (pos 0) fixed at b el' (based fixed (pos 0) fixed new.offset old.offset (unmoved fixed) sum);
+            kept = area_kept Given (register_in s.top 10) s t (byte_count old.size) old.offset fixed Context at refl el';
+          }
       by_kinds kind other f g e = absurd (false≢true e)
 
   -- what is stored is the same
-  abbrev Lone : Insn → Type 0
-  Lone i = is_far i ≡ true → is_alone notes ≡ false
-
-  far_apart : (kinds : Kinds) (r : Reg) → is_near kinds r ≡ false → (is_r10 r ≡ false) × (is_inner (kinds (register_number r)) ≡ false)
-  far_apart kinds r e = or_false (is_r10 r) (is_inner (kinds (register_number r))) e
-
-  -- an access that goes by another register is no store by a pointer that both have
-  pub outer_store : (kinds : Kinds) (i moved : Insn) → ByAddress kinds i moved → inner_store kinds i ≡ false
-  outer_store kinds i moved a =
-      ap (λ o. option_map_or (stores_inner kinds) o false) a.old_is
-      ∙ ap (λ inner. a.old.writes && (not a.old.reads && (not (is_r10 a.old.base) && inner))) (far_apart kinds a.old.base a.other).1
-      ∙ none a.old.writes a.old.reads (is_r10 a.old.base)
-    where
-      none : (w r b : Bool) → (w && (not r && (not b && false))) ≡ false
-      none true true b = refl
-      none true false true = refl
-      none true false false = refl
-      none false r b = refl
+  abbrev Lone : Kinds → Insn → Type 0
+  Lone kinds i = is_far i ≡ true → is_homed kinds i ≡ false → is_alone notes ≡ false
 
   -- a pointer that is loaded whole
-  pointers_there : (kinds : Kinds) (s t : State) (size : Size) (dst src : Reg) (off : ℤ) (area : Area) (at : Location) → Between ends notes turns passed kinds s t → is_near kinds src ≡ false → (is_own area ≡ true → IsTame kinds (Load size dst src off)) → Lone (Load size dst src off)
-      → (is_own area ≡ false → PointersKept ends notes turns passed s t at) → is_double size ≡ true → PointersKept ends notes turns passed s t at
-  pointers_there kinds s t DW dst src off area at b far tame lone kept e = by_cases (cases_Bool (is_own area))
+  pointers_there : (kinds : Kinds) (s t : State) (size : Size) (dst src : Reg) (off : ℤ) (area : Area) (base : Value) (at : Location) → Between ends notes turns passed kinds s t → Owns s → (is_own area ≡ true → IsTame kinds (Load size dst src off)) → Lone kinds (Load size dst src off)
+      → register s src ≡ Some base → location_of s (byte_count size) off base ≡ Some at → (is_own area ≡ false → PointersKept ends notes turns passed s t at) → is_double size ≡ true → PointersKept ends notes turns passed s t at
+  pointers_there kinds s t size dst src off area base at b o tame lone eb el kept e = by_cases (cases_Bool (is_own area))
     where
-      is_far_load : is_far (Load DW dst src off) ≡ true
-      is_far_load = ap (λ c. not c && true) (far_apart kinds src far).0
-
-      hits : (k : ℕ) → misses kinds (Load DW dst src off) k ≡ false
-      hits k = and_right (not (is_r10 src)) (is_beside (kinds (register_number src)) (record { base = src; offset = off; size = DW; reads = true; writes = false }) k) (no_beside (kinds (register_number src)) (record { base = src; offset = off; size = DW; reads = true; writes = false }) k (far_apart kinds src far).1)
-
       by_cases : (is_own area ≡ true) ⊎ (is_own area ≡ false) → PointersKept ends notes turns passed s t at
-      by_cases (inl own) = pointers_kept ends notes turns passed kinds s t at b ((λ k lt. (tame own).far is_far_load k lt (hits k)), lone is_far_load)
+      by_cases (inl own) = let safe = tame own in pointers_loaded ends notes turns passed kinds s t size dst src off base at b o (record { far = λ far reads. (safe.far far reads, lone far); near = safe.near }) eb el e
       by_cases (inr away) = kept away
-  pointers_there kinds s t B dst src off area at b far tame lone kept e = absurd (false≢true e)
-  pointers_there kinds s t H dst src off area at b far tame lone kept e = absurd (false≢true e)
-  pointers_there kinds s t W dst src off area at b far tame lone kept e = absurd (false≢true e)
 
   or_own : (a b : Bool) → b ≡ true → (a || b) ≡ true
   or_own true b e = refl
   or_own false b e = e
 
   -- an access by another register does the same
-  pub address_goes : (order : Order) (i moved : Insn) (kinds : Kinds) (s t u : State) → IsState s → Owns s → Between ends notes turns passed kinds s t → length s.context < 2 ^ 32 → Lone i → ByAddress kinds i moved → does order i s ≡ Some u
-      → Goes ends notes turns passed (kinds_after i (number_kind kinds i) kinds) (s.top.slot + slot_count i) (t.top.slot + slot_count i) u (does order moved t)
+  pub address_goes : (order : Order) (i moved : Insn) (kinds : Kinds) (s t u : State) → IsState s → Owns s → Between ends notes turns passed kinds s t → length s.context < 2 ^ 32 → Lone kinds i → ByAddress kinds i moved → does order i s ≡ Some u
+      → Goes ends notes turns passed (kinds_around i (number_kind kinds i) kinds) (s.top.slot + slot_count i) (t.top.slot + slot_count i) u (does order moved t)
   unfolding does
   address_goes order (Load size dst src off) moved kinds s t u state o b short lone a e =
       let old : Access = record { base = src; offset = off; size = size; reads = true; writes = false } in
@@ -198,12 +186,11 @@ module _ (ends : Order) (notes : List (Option Place)) (turns : ℕ) (passed : Pa
       let area : Area = place_area (kinds (register_number a.new.base)) (kinds (register_number src)) in
       let place : SamePlace s t old a.new (place_area (kinds (register_number a.new.base)) (kinds (register_number src))) at = same_place kinds s t old a.new base at b short a.near (subst (λ old. is_same_place kinds old a.new ≡ true) (sym old_is) a.same_place) eb ea in
       let safe : IsSafe kinds (Load size dst src off) old a.new = subst (λ old. IsSafe kinds (Load size dst src off) old a.new) (sym old_is) a.safe in
-      let far : is_near kinds src ≡ false = ap (λ (x : Access). is_near kinds x.base) old_is ∙ a.other in
       let moved_is : Load size dst a.new.base a.new.offset ≡ moved = same_Some _ _ a.alike in
-      (subst (λ m. Goes ends notes turns passed (kinds_after (Load size dst src off) (loaded_number size) kinds) (s.top.slot + 1) (t.top.slot + 1) u (does order m t)) moved_is
+      (subst (λ m. Goes ends notes turns passed (kinds_around (Load size dst src off) (loaded_number size) kinds) (s.top.slot + 1) (t.top.slot + 1) u (does order m t)) moved_is
       (goes_as ends notes turns passed _ _ _ u _ _
       (bind _ (register t a.new.base) place.value _ place.is (bind _ (location_of t (byte_count size) a.new.offset place.value) at _ place.there (bind _ (load order t size at) v _
-      (load_kept ends notes turns passed order kinds s t size at b (pointers_there kinds s t size dst src off (place_area (kinds (register_number a.new.base)) (kinds (register_number src))) at b far (λ own. safe.tame (or_own a.new.writes _ own)) lone place.kept) v ev) refl)))
+      (load_kept ends notes turns passed order kinds s t size at b (pointers_there kinds s t size dst src off (place_area (kinds (register_number a.new.base)) (kinds (register_number src))) base at b o (λ own. safe.tame (or_own a.new.writes _ own)) lone eb ea place.kept) v ev) refl)))
       (put_as ends notes turns passed kinds s t u (Load size dst src off) (loaded_number size) dst v v (λ q. refl) (load_own ends notes turns passed size) (load_known ends notes turns passed (register_in s.top 10) order s size at v state ev) b e3))))))
   address_goes order (LoadSx size dst src off) moved kinds s t u state o b short lone a e =
       let old : Access = record { base = src; offset = off; size = size; reads = true; writes = false } in
@@ -211,7 +198,7 @@ module _ (ends : Order) (notes : List (Option Place)) (turns : ℕ) (passed : Pa
       let old_is : old ≡ a.old = same_Some _ _ a.old_is in
       let place = same_place kinds s t old a.new base at b short a.near (subst (λ old. is_same_place kinds old a.new ≡ true) (sym old_is) a.same_place) eb ea in
       let moved_is : LoadSx size dst a.new.base a.new.offset ≡ moved = same_Some _ _ a.alike in
-      (subst (λ m. Goes ends notes turns passed (kinds_after (LoadSx size dst src off) Same kinds) (s.top.slot + 1) (t.top.slot + 1) u (does order m t)) moved_is
+      (subst (λ m. Goes ends notes turns passed (kinds_around (LoadSx size dst src off) Same kinds) (s.top.slot + 1) (t.top.slot + 1) u (does order m t)) moved_is
       (goes_as ends notes turns passed _ _ _ u _ _
       (bind _ (register t a.new.base) place.value _ place.is (bind _ (location_of t (byte_count size) a.new.offset place.value) at _ place.there (bind _ (load_extended order t size at) v _ (load_extended_kept ends notes turns passed order kinds s t size at b v ev) refl)))
       (put_as ends notes turns passed kinds s t u (LoadSx size dst src off) Same dst v v (λ q. refl) refl (same_is_kept (Some v)) b e3))))))
@@ -221,24 +208,22 @@ module _ (ends : Order) (notes : List (Option Place)) (turns : ℕ) (passed : Pa
       let old_is : old ≡ a.old = same_Some _ _ a.old_is in
       let place = same_place kinds s t old a.new base at b short a.near (subst (λ old. is_same_place kinds old a.new ≡ true) (sym old_is) a.same_place) eb ea in
       let moved_is : Store size a.new.base a.new.offset src ≡ moved = same_Some _ _ a.alike in
-      let writes : true ≡ a.new.writes = ap (λ (x : Access). x.writes) (same_Some _ _ (ap access_of moved_is ∙ a.new_is)) in
-      let tame : IsTame kinds (Store size dst off src) = a.safe.tame (ap (λ w. w || is_own (place_area (kinds (register_number a.new.base)) (kinds (register_number a.old.base)))) (sym writes)) in
-      (subst (λ m. Goes ends notes turns passed (kinds_after (Store size dst off src) Same kinds) (s.top.slot + 1) (t.top.slot + 1) u (does order m t)) moved_is
+      let far : is_r10 dst ≡ false = ap (λ (x : Access). is_r10 x.base) old_is ∙ a.other in
+      (subst (λ m. Goes ends notes turns passed (kinds_around (Store size dst off src) Same kinds) (s.top.slot + 1) (t.top.slot + 1) u (does order m t)) moved_is
       (goes_as ends notes turns passed _ _ _ u _ _
       (bind _ (register t a.new.base) place.value _ place.is (bind _ (register t src) v _ (register_kept ends notes turns passed kinds s t src b a.safe.stored v ev) (bind _ (location_of t (byte_count size) a.new.offset place.value) at _ place.there refl)))
-      (store_at ends notes turns passed order (Store size dst off src) kinds s t u dst size off base v at refl refl refl b o (record { far = λ f. (tame.far f, lone f); near = tame.near }) (λ k. store_hits kinds old k refl (outer_store kinds _ moved a)) eb ea e3))))))
+      (far_put ends notes turns passed order (Store size dst off src) old kinds s t u base v at refl (record { writes = refl; alone = refl; far = far }) refl refl b o (lone (far_is ends notes turns passed (Store size dst off src) old refl far refl)) eb ea e3))))))
   address_goes order (StoreImm size dst off imm) moved kinds s t u state o b short lone a e =
       let old : Access = record { base = dst; offset = off; size = size; reads = false; writes = true } in
       option_and_then_some _ (register s dst) u e (λ base eb e1. option_and_then_some _ (location_of s (byte_count size) off base) u e1 (λ at ea e3.
       let old_is : old ≡ a.old = same_Some _ _ a.old_is in
       let place = same_place kinds s t old a.new base at b short a.near (subst (λ old. is_same_place kinds old a.new ≡ true) (sym old_is) a.same_place) eb ea in
       let moved_is : StoreImm size a.new.base a.new.offset imm ≡ moved = same_Some _ _ a.alike in
-      let writes : true ≡ a.new.writes = ap (λ (x : Access). x.writes) (same_Some _ _ (ap access_of moved_is ∙ a.new_is)) in
-      let tame : IsTame kinds (StoreImm size dst off imm) = a.safe.tame (ap (λ w. w || is_own (place_area (kinds (register_number a.new.base)) (kinds (register_number a.old.base)))) (sym writes)) in
-      (subst (λ m. Goes ends notes turns passed (kinds_after (StoreImm size dst off imm) Same kinds) (s.top.slot + 1) (t.top.slot + 1) u (does order m t)) moved_is
+      let far : is_r10 dst ≡ false = ap (λ (x : Access). is_r10 x.base) old_is ∙ a.other in
+      (subst (λ m. Goes ends notes turns passed (kinds_around (StoreImm size dst off imm) Same kinds) (s.top.slot + 1) (t.top.slot + 1) u (does order m t)) moved_is
       (goes_as ends notes turns passed _ _ _ u _ _
       (bind _ (register t a.new.base) place.value _ place.is (bind _ (location_of t (byte_count size) a.new.offset place.value) at _ place.there refl))
-      (store_at ends notes turns passed order (StoreImm size dst off imm) kinds s t u dst size off base (Number (extended imm)) at refl refl refl b o (record { far = λ f. (tame.far f, lone f); near = tame.near }) (λ k. store_hits kinds old k refl (outer_store kinds _ moved a)) eb ea e3)))))
+      (far_put ends notes turns passed order (StoreImm size dst off imm) old kinds s t u base (Number (extended imm)) at refl (record { writes = refl; alone = refl; far = far }) refl refl b o (lone (far_is ends notes turns passed (StoreImm size dst off imm) old refl far refl)) eb ea e3)))))
   address_goes order i moved kinds s t u state o b short lone a e = absurd (none-some _ a.alike)
 
   -- a load or store tells nothing of numbers, and goes on
@@ -249,27 +234,28 @@ module _ (ends : Order) (notes : List (Option Place)) (turns : ℕ) (passed : Pa
   untold (StoreImm size dst off imm) moved kinds a = (refl, refl, λ r. refl)
   untold i moved kinds a = absurd (none-some _ a.alike)
 
-  pub by_address : (order : Order) (i moved : Insn) (kinds : Kinds) (s t u : State) → IsState s → Owns s → Between ends notes turns passed kinds s t → length s.context < 2 ^ 32 → Lone i → ByAddress kinds i moved → FallArrives ends notes turns passed i (number_kind kinds i) kinds s.top.slot t.top.slot
+  pub by_address : (order : Order) (i moved : Insn) (kinds : Kinds) (s t u : State) → IsState s → Owns s → Between ends notes turns passed kinds s t → length s.context < 2 ^ 32 → Lone kinds i → is_far_put i ≡ false → ByAddress kinds i moved → FallArrives ends notes turns passed i (number_kind kinds i) kinds s.top.slot t.top.slot
       → does order i s ≡ Some u → Arrived ends notes turns passed u (does order moved t)
-  by_address order i moved kinds s t u state o b short lone a falls e =
+  by_address order i moved kinds s t u state o b short lone plain a falls e =
       let h = untold i moved kinds a in
       arrived ends notes turns passed _ _ _ u _
-      (goes_alike ends notes turns passed (kinds_after i (number_kind kinds i) kinds) (kinds_after i (number_kind kinds i) (told false i kinds)) _ _ u _ (λ r. ap (λ kind. if is_changed i r then number_kind kinds i else held i kind) (sym (h.2 r)))
+      (goes_alike ends notes turns passed (kinds_around i (number_kind kinds i) kinds) (kinds_after i (number_kind kinds i) (told false i kinds)) _ _ u _
+      (λ r. none_around kinds i (number_kind kinds i) r plain ∙ ap (λ kind. if is_changed i r then number_kind kinds i else held i kind) (sym (h.2 r)))
       (address_goes order i moved kinds s t u state o b short lone a e)) (falls h.0 h.1)
 
   -- only loads and stores go by other registers
   pub goes_on_plainly : (i moved : Insn) (kinds : Kinds) → ByAddress kinds i moved → (is_flow i ≡ false) × (by_kinds kinds i ≡ None)
   goes_on_plainly (Load DW dst src off) moved kinds a = (
     refl,
-    ap (λ b. if b && is_same (kinds 10) then option_and_then (slot_whole kinds) (slot_of off) else None) (ap (λ (x : Access). is_r10 x.base) (same_Some _ _ a.old_is) ∙ (far_apart kinds a.old.base a.other).0),
+    ap (λ b. if b && is_same (kinds 10) then option_and_then (slot_whole kinds) (slot_of off) else None) (ap (λ (x : Access). is_r10 x.base) (same_Some _ _ a.old_is) ∙ a.other),
   )
   goes_on_plainly (Store DW dst off src) moved kinds a = (
     refl,
-    ap (λ b. if (b && is_same (kinds 10)) && fills_slot (kinds (register_number src)) then option_map (λ k. slot_kind (kinds (register_number src))) (slot_of off) else None) (ap (λ (x : Access). is_r10 x.base) (same_Some _ _ a.old_is) ∙ (far_apart kinds a.old.base a.other).0),
+    ap (λ b. if (b && is_same (kinds 10)) && fills_slot (kinds (register_number src)) then option_map (λ k. slot_kind (kinds (register_number src))) (slot_of off) else None) (ap (λ (x : Access). is_r10 x.base) (same_Some _ _ a.old_is) ∙ a.other),
   )
   goes_on_plainly (StoreImm DW dst off imm) moved kinds a = (
     refl,
-    ap (λ b. if b && is_same (kinds 10) then option_and_then (λ k. exact_kind (extended imm)) (slot_of off) else None) (ap (λ (x : Access). is_r10 x.base) (same_Some _ _ a.old_is) ∙ (far_apart kinds a.old.base a.other).0),
+    ap (λ b. if b && is_same (kinds 10) then option_and_then (λ k. exact_kind (extended imm)) (slot_of off) else None) (ap (λ (x : Access). is_r10 x.base) (same_Some _ _ a.old_is) ∙ a.other),
   )
   goes_on_plainly (Load size dst src off) moved kinds a = (refl, refl)
   goes_on_plainly (LoadSx size dst src off) moved kinds a = (refl, refl)

@@ -2,7 +2,7 @@
 use Rattle.std.proofs.Common.{◌≡◌, ℕ, suc, ◌+◌, ◌*◌, ◌-◌, ◌/◌, ◌<◌, ◌≤◌, ◌⊎◌, inl, inr, ◌%◌, ◌==◌, Bool, true, false, cond, List, Option, Some, None, length, get_or, take, drop, refl, sym, ap, ◌∙◌, subst, arith}
 use Rattle.std.specs.Prelude.{ℤ, option_map}
 use Rattle.std.proofs.lemmas.Option.{none-some, same_Some}
-use Rattle.std.proofs.lemmas.Bool.{cases_Bool, eqb-true, eqb-false, eq-eqb, false≢true}
+use Rattle.std.proofs.lemmas.Bool.{cases_Bool, eqb-true, eqb-false, eq-eqb, ne_eqb, false≢true}
 use Rattle.std.proofs.lemmas.List.{get_or-take, get_or-drop}
 use Rattle.std.specs.Option.{option_or}
 use Rattle.bpf_insn.specs.Order.{bytes_of, number_of}
@@ -19,7 +19,6 @@ use Rattle.bpf_semantics.specs.Memory.Location.{InContext, InFrame}
 use Rattle.bpf_semantics.specs.Step.{load, load_extended, store}
 use Rattle.bpf_semantics.specs.declared.value.Value.{Value}
 use Rattle.bpf_semantics.specs.declared.value.Value.TheVariants.{Number, Pointer}
-use Rattle.bpf_semantics.specs.declared.value.Region.{Region}
 use Rattle.bpf_semantics.specs.declared.value.Region.TheVariants.{Context, Frame as FrameAt}
 use Rattle.bpf_follows.specs.declared.notes.Kind.{Kind}
 use Rattle.bpf_follows.specs.declared.notes.Kind.TheVariants.{Same}
@@ -36,6 +35,15 @@ use Rattle.bpf_follows.proofs.Frames.{fits_behind, SlotsAre, slots_behind, slot_
 abbrev pub is_double : Size → Bool
 is_double DW = true
 is_double _ = false
+
+-- in the context, or in the running frame
+abbrev pub IsHere : State → Location → Type 0
+IsHere s (InContext i) = Unit {0}
+IsHere s (InFrame n i) = n ≡ depth s
+
+pub here_next : (s : State) (x : ℕ) (at : Location) → IsHere s at → IsHere (at_slot x s) at
+here_next s x (InContext i) h = h
+here_next s x (InFrame n i) h = h
 
 -- ---- states
 
@@ -140,12 +148,27 @@ module _ (ends : Order) (notes : List (Option Place)) (turns : ℕ) (passed : Pa
       all_kept s.top.stack t.top.stack h.top.long (as_long IsRead s.top.stack t.top.stack h.top.stack)
       (λ k lt. plain_kept ends turns passed (register_in s.top) s.top.stack t.top.stack k (kinds (11 + k)) (plain k lt) (h.top.slots k lt))
 
-  -- all slots are so, and those of frames that wait, too
-  abbrev pub Calm : Kinds → Type 0
-  Calm kinds = AllPlain kinds × (is_alone notes ≡ false)
+  pub own_stack : (s : State) → stack_of s (depth s) ≡ s.top.stack
+  own_stack s = let none : depth s - depth s ≡ 0 = omega arith in ap (λ d. (get_or (frames s) d s.top).stack) none
 
-  pub stacks_kept : (kinds : Kinds) (s t : State) (n : ℕ) → Between kinds s t → Calm kinds → EachPair IsKept (stack_of s n) (stack_of t n)
-  stacks_kept kinds s t n h plain = stacks_in IsKept kinds s t n h (top_plain kinds s t h plain.0) (λ a b f. f.kept plain.1)
+  pub own_stack_of : (kinds : Kinds) (s t : State) → Between kinds s t → stack_of t (depth s) ≡ t.top.stack
+  own_stack_of kinds s t h = ap (stack_of t) (sym (same_depth kinds s t h)) ∙ own_stack t
+
+  -- all slots are so, and where the location is in a frame that waits, those of such frames, too
+  abbrev pub Calm : Kinds → State → Location → Type 0
+  Calm kinds s at = AllPlain kinds × (IsHere s at ⊎ (is_alone notes ≡ false))
+
+  pub stacks_kept : (kinds : Kinds) (s t : State) (n : ℕ) → Between kinds s t → Calm kinds s (InFrame n 0) → EachPair IsKept (stack_of s n) (stack_of t n)
+  stacks_kept kinds s t n h plain = by_cases plain.1
+    where
+      own : EachPair IsKept s.top.stack t.top.stack
+      own = top_plain kinds s t h plain.0
+
+      by_cases : (n ≡ depth s) ⊎ (is_alone notes ≡ false) → EachPair IsKept (stack_of s n) (stack_of t n)
+      by_cases (inl here) =
+          subst (λ n. EachPair IsKept (stack_of s n) (stack_of t n)) (sym here)
+          (subst (λ xs. EachPair IsKept xs (stack_of t (depth s))) (sym (own_stack s)) (subst (λ ys. EachPair IsKept s.top.stack ys) (sym (own_stack_of kinds s t h)) own))
+      by_cases (inr reached) = stacks_in IsKept kinds s t n h own (λ a b f. f.kept reached)
 
   -- loads
 
@@ -165,7 +188,7 @@ module _ (ends : Order) (notes : List (Option Place)) (turns : ℕ) (passed : Pa
       let c = cond_first (i % 8 == 0) (pointer_in (get_or (stack_of s n) i None)) v e in
       ap (λ b. cond b (pointer_in (get_or (stack_of t n) i None)) None) c.0 ∙ pointer_kept _ _ v kept c.1
 
-  pub pointers_kept : (kinds : Kinds) (s t : State) (at : Location) → Between kinds s t → Calm kinds → PointersKept s t at
+  pub pointers_kept : (kinds : Kinds) (s t : State) (at : Location) → Between kinds s t → Calm kinds s at → PointersKept s t at
   pointers_kept kinds s t (InContext i) h plain = λ v e. e
   pointers_kept kinds s t (InFrame n i) h plain = pointer_at_kept s t n i (pair_at IsKept (stack_of s n) (stack_of t n) i None None (same_is_kept None) (stacks_kept kinds s t n h plain))
 
@@ -224,7 +247,7 @@ module _ (ends : Order) (notes : List (Option Place)) (turns : ℕ) (passed : Pa
   same_slot same registers xs ys k e f = subst (λ kind. FitsSlot ends turns passed registers xs ys k kind) (sym e) f
 
   -- both stacks at a depth get other cells
-  stack_put : (kinds same : Kinds) (s t : State) (n : ℕ) (xs ys : Cells) → Between kinds s t → Calm kinds → InAll kinds same → n ≤ depth s → length xs ≡ length (stack_of s n) → EachPair IsKept xs ys
+  stack_put : (kinds same : Kinds) (s t : State) (n : ℕ) (xs ys : Cells) → Between kinds s t → Calm kinds s (InFrame n 0) → InAll kinds same → n ≤ depth s → length xs ≡ length (stack_of s n) → EachPair IsKept xs ys
       → Goes same s.top.slot t.top.slot (with_stack s n xs) (Some (with_stack t n ys))
   stack_put kinds same s t n xs ys h plain all live long k = by_cases (cases_Bool (n == depth s))
     where
@@ -259,7 +282,8 @@ module _ (ends : Order) (notes : List (Option Place)) (turns : ℕ) (passed : Pa
           let a = waiting_stack s n m xs e more in
           let b = waiting_stack t n m ys (ap (λ d. n == d) deep ∙ e) (ap (λ d. d - n) deep ∙ more) in
           let there : length xs ≡ length (get_or s.waiting m s.top).stack = long ∙ ap (λ d. length (get_or (frames s) d s.top).stack) more in
-          let pair = waits_stack _ _ xs ys plain.1 (pair_inside (FrameWaits ends notes turns passed) s.waiting t.waiting m s.top t.top inside h.waiting) there k in
+          let reached : is_alone notes ≡ false = elim plain.1 [ inl here ↦ absurd (not_top here) | inr reached ↦ reached ] in
+          let pair = waits_stack _ _ xs ys reached (pair_inside (FrameWaits ends notes turns passed) s.waiting t.waiting m s.top t.top inside h.waiting) there k in
           let top_kept = top_plain kinds s t h plain.0 in
           subst (λ u. Goes same s.top.slot t.top.slot u (Some (with_stack t n ys))) (sym a)
           (record {
@@ -275,33 +299,63 @@ module _ (ends : Order) (notes : List (Option Place)) (turns : ℕ) (passed : Pa
             new_slot = refl;
           })
 
-  pub number_stored : (order : Order) (kinds same : Kinds) (s t u : State) (k x : ℕ) (at : Location) → Between kinds s t → Calm kinds → InAll kinds same → IsLive s at → store_number order k x at s ≡ Some u → Goes same s.top.slot t.top.slot u (store_number order k x at t)
+  -- the stack of a frame that waits is the same, if functions that are called may reach it
+  pub waiting_kept : (kinds : Kinds) (s t : State) (n : ℕ) → Between kinds s t → is_alone notes ≡ false → n < depth s → EachPair IsKept (stack_of s n) (stack_of t n)
+  waiting_kept kinds s t n h reached below =
+      let m : ℕ = depth s - n - 1 in
+      let inside : m < length s.waiting = omega arith in
+      let more : depth s - n ≡ suc m = omega arith in
+      let pair = pair_inside (FrameWaits ends notes turns passed) s.waiting t.waiting m s.top t.top inside h.waiting in
+      let deep : depth t ≡ depth s = same_depth kinds s t h in
+      subst (λ d. EachPair IsKept (get_or (frames s) d s.top).stack (stack_of t n)) (sym more)
+      (subst (λ d. EachPair IsKept (get_or s.waiting m s.top).stack (get_or (frames t) d t.top).stack) (sym (ap (λ d. d - n) deep ∙ more)) (pair.kept reached))
+
+  -- it gets other cells in both
+  waiting_put : (kinds : Kinds) (s t : State) (n : ℕ) (xs ys : Cells) → Between kinds s t → is_alone notes ≡ false → n < depth s → length xs ≡ length (stack_of s n) → EachPair IsKept xs ys
+      → Goes kinds s.top.slot t.top.slot (with_stack s n xs) (Some (with_stack t n ys))
+  waiting_put kinds s t n xs ys h reached below long k =
+      let m : ℕ = depth s - n - 1 in
+      let inside : m < length s.waiting = omega arith in
+      let more : depth s - n ≡ suc m = omega arith in
+      let deep : depth t ≡ depth s = same_depth kinds s t h in
+      let apart : n == depth s ≡ false = ne_eqb n (depth s) (λ same. absurd (omega arith)) in
+      let a = waiting_stack s n m xs apart more in
+      let b = waiting_stack t n m ys (ap (λ d. n == d) deep ∙ apart) (ap (λ d. d - n) deep ∙ more) in
+      let there : length xs ≡ length (get_or s.waiting m s.top).stack = long ∙ ap (λ d. length (get_or (frames s) d s.top).stack) more in
+      let pair = waits_stack _ _ xs ys reached (pair_inside (FrameWaits ends notes turns passed) s.waiting t.waiting m s.top t.top inside h.waiting) there k in
+      subst (λ u. Goes kinds s.top.slot t.top.slot u (Some (with_stack t n ys))) (sym a)
+      (record {
+        state = waiting_with t m ys;
+        is = ap Some b;
+        between = record { top = h.top; waiting = pairs_set (FrameWaits ends notes turns passed) s.waiting t.waiting m _ _ pair h.waiting; context_is = h.context_is };
+        old_slot = refl;
+        new_slot = refl;
+      })
+
+  -- a value that is put into the frame of a function that waits
+  pub waiting_stored : (order : Order) (kinds : Kinds) (s t u : State) (size : Size) (v : Value) (n i : ℕ) → Between kinds s t → is_alone notes ≡ false → n < depth s → store order size v (InFrame n i) s ≡ Some u → Goes kinds s.top.slot t.top.slot u (store order size v (InFrame n i) t)
+  unfolding store_number store_pointer with_bytes with_parts
+  waiting_stored order kinds s t u size (Number x) n i h reached below e =
+      subst (λ u. Goes kinds s.top.slot t.top.slot u (store_number order (byte_count size) x (InFrame n i) t)) (same_Some _ _ e)
+      (waiting_put kinds s t n _ _ h reached below (length-each_cell (cell_after (bytes_of order (byte_count size) x) i) 0 (stack_of s n))
+      (each_kept (cell_after (bytes_of order (byte_count size) x) i) 0 (stack_of s n) (stack_of t n) (bytes_keep (bytes_of order (byte_count size) x) i) (waiting_kept kinds s t n h reached below)))
+  waiting_stored order kinds s t u DW (Pointer region off) n i h reached below e =
+      let c = cond_first (i % 8 == 0) _ u e in
+      let g = waiting_put kinds s t n _ _ h reached below (length-each_cell (part_after region off i) 0 (stack_of s n)) (each_kept (part_after region off i) 0 (stack_of s n) (stack_of t n) (parts_keep region off i) (waiting_kept kinds s t n h reached below)) in
+      subst (λ u. Goes kinds s.top.slot t.top.slot u (store_pointer region off (InFrame n i) t)) (same_Some _ _ c.1)
+      (goes_as kinds s.top.slot t.top.slot _ _ _ (ap (λ b. cond b (Some (with_stack t n (with_parts region off i (stack_of t n)))) None) c.0) g)
+  waiting_stored order kinds s t u B (Pointer region off) n i h reached below e = absurd (none-some _ e)
+  waiting_stored order kinds s t u H (Pointer region off) n i h reached below e = absurd (none-some _ e)
+  waiting_stored order kinds s t u W (Pointer region off) n i h reached below e = absurd (none-some _ e)
+
+  pub number_stored : (order : Order) (kinds same : Kinds) (s t u : State) (k x : ℕ) (at : Location) → Between kinds s t → Calm kinds s at → InAll kinds same → IsLive s at → store_number order k x at s ≡ Some u → Goes same s.top.slot t.top.slot u (store_number order k x at t)
   unfolding store_number with_bytes
   number_stored order kinds same s t u k x (InContext i) h plain all live e = absurd (none-some _ e)
   number_stored order kinds same s t u k x (InFrame n i) h plain all live e =
       subst (λ u. Goes same s.top.slot t.top.slot u (store_number order k x (InFrame n i) t)) (same_Some _ _ e)
       (stack_put kinds same s t n _ _ h plain all live (length-each_cell (cell_after (bytes_of order k x) i) 0 (stack_of s n)) (each_kept (cell_after (bytes_of order k x) i) 0 (stack_of s n) (stack_of t n) (bytes_keep (bytes_of order k x) i) (stacks_kept kinds s t n h plain)))
 
-  pointer_stored : (kinds same : Kinds) (s t u : State) (region : Region) (off : ℤ) (at : Location) → Between kinds s t → Calm kinds → InAll kinds same → IsLive s at → store_pointer region off at s ≡ Some u → Goes same s.top.slot t.top.slot u (store_pointer region off at t)
-  unfolding store_pointer with_parts
-  pointer_stored kinds same s t u region off (InContext i) h plain all live e = absurd (none-some _ e)
-  pointer_stored kinds same s t u region off (InFrame n i) h plain all live e =
-      let c = cond_first (i % 8 == 0) _ u e in
-      let g = stack_put kinds same s t n _ _ h plain all live (length-each_cell (part_after region off i) 0 (stack_of s n)) (each_kept (part_after region off i) 0 (stack_of s n) (stack_of t n) (parts_keep region off i) (stacks_kept kinds s t n h plain)) in
-      subst (λ u. Goes same s.top.slot t.top.slot u (store_pointer region off (InFrame n i) t)) (same_Some _ _ c.1)
-      (goes_as same s.top.slot t.top.slot _ _ _ (ap (λ b. cond b (Some (with_stack t n (with_parts region off i (stack_of t n)))) None) c.0) g)
-
-  pub store_kept : (order : Order) (kinds same : Kinds) (s t u : State) (size : Size) (v : Value) (at : Location) → Between kinds s t → Calm kinds → InAll kinds same → IsLive s at → store order size v at s ≡ Some u → Goes same s.top.slot t.top.slot u (store order size v at t)
-  store_kept order kinds same s t u size (Number x) at h plain all live e = number_stored order kinds same s t u (byte_count size) x at h plain all live e
-  store_kept order kinds same s t u DW (Pointer region off) at h plain all live e = pointer_stored kinds same s t u region off at h plain all live e
-  store_kept order kinds same s t u B (Pointer region off) at h plain all live e = absurd (none-some _ e)
-  store_kept order kinds same s t u H (Pointer region off) at h plain all live e = absurd (none-some _ e)
-  store_kept order kinds same s t u W (Pointer region off) at h plain all live e = absurd (none-some _ e)
-
   -- ---- the own frame, at a place that is known
-
-  pub own_stack : (s : State) → stack_of s (depth s) ≡ s.top.stack
-  own_stack s = let none : depth s - depth s ≡ 0 = omega arith in ap (λ d. (get_or (frames s) d s.top).stack) none
 
   -- the running frames get other stacks
   own_put : (kinds after : Kinds) (s t : State) (xs ys : Cells) → Between kinds s t → FrameFits ends turns passed after (with_stack_in s.top xs) (with_stack_in t.top ys) → Goes after s.top.slot t.top.slot (with_stack s (depth s) xs) (Some (with_stack t (depth s) ys))
@@ -312,9 +366,6 @@ module _ (ends : Order) (notes : List (Option Place)) (turns : ℕ) (passed : Pa
       let b = top_stack t (depth s) ys (ap (λ d. depth s == d) deep ∙ here) in
       subst (λ u. Goes after s.top.slot t.top.slot u (Some (with_stack t (depth s) ys))) (sym a)
       (record { state = with_top t (with_stack_in t.top ys); is = ap Some b; between = record { top = fits; waiting = h.waiting; context_is = h.context_is }; old_slot = refl; new_slot = refl })
-
-  pub own_stack_of : (kinds : Kinds) (s t : State) → Between kinds s t → stack_of t (depth s) ≡ t.top.stack
-  own_stack_of kinds s t h = ap (stack_of t) (sym (same_depth kinds s t h)) ∙ own_stack t
 
   some_slots : (kinds after : Kinds) (written : ℕ → Bool) (kind : Kind) (registers : ℕ → Option Value) (xs ys : Cells) → InSome kinds after written kind
       → ((k : ℕ) → k < 64 → written k ≡ true → FitsSlot ends turns passed registers xs ys k kind) → ((k : ℕ) → k < 64 → written k ≡ false → FitsSlot ends turns passed registers xs ys k (kinds (11 + k)))

@@ -16,7 +16,7 @@ use Rattle.bpf_semantics.specs.declared.value.Value.TheVariants.{Number, Pointer
 use Rattle.bpf_semantics.specs.declared.value.Region.TheVariants.{Frame as FrameAt}
 use Rattle.bpf_follows.specs.declared.notes.Area.TheVariants.{Given, Own}
 use Rattle.bpf_follows.specs.declared.notes.Kind.{Kind}
-use Rattle.bpf_follows.specs.declared.notes.Kind.TheVariants.{Nothing, Unset, Same, Number as NumberKind, Natural, Inner, Length, Sized, Ending, Head, Offset, Fixed, Within, Start, Base, Moved, Address, Constant, Counter, Turn, Alone, Returns, Both, Saved}
+use Rattle.bpf_follows.specs.declared.notes.Kind.TheVariants.{Nothing, Unset, Same, Number as NumberKind, Natural, Inner, Length, Sized, Closing, Ending, Head, Offset, Fixed, Within, Start, Base, Moved, Address, Constant, Counter, Turn, Alone, Returns, Both, Saved, Kept}
 use Rattle.bpf_follows.specs.declared.notes.Place.{Place}
 use Rattle.bpf_follows.specs.Relation.{Past, Kinds, Gives, weaker, kinds_of, EachPair, FitsKind, FitsSlot, FrameFollows, FrameWaits, register_in, is_of_other, is_alone, places, place_at, received, kinds_waiting}
 use Rattle.bpf_follows.specs.Extras.{is_same}
@@ -61,6 +61,7 @@ held_by_call : (off : ℤ) (kind : Kind) → held (CallLocal off) kind ≡ hande
 held_by_call off (Moved area of by) = refl
 held_by_call off (Address area of by) = refl
 held_by_call off (Saved of) = refl
+held_by_call off (Kept of least most) = refl
 held_by_call off Both = refl
 held_by_call off Nothing = refl
 held_by_call off Unset = refl
@@ -70,6 +71,7 @@ held_by_call off (Natural half) = refl
 held_by_call off (Inner least most) = refl
 held_by_call off (Length most) = refl
 held_by_call off (Sized most) = refl
+held_by_call off (Closing by offset) = refl
 held_by_call off (Ending by) = refl
 held_by_call off Head = refl
 held_by_call off (Offset Given) = refl
@@ -90,6 +92,7 @@ own_held : (off : ℤ) (kind : Kind) → is_of_other (held (CallLocal off) kind)
 own_held off (Moved area of by) = refl
 own_held off (Address area of by) = refl
 own_held off (Saved of) = refl
+own_held off (Kept of least most) = refl
 own_held off Both = refl
 own_held off Nothing = refl
 own_held off Unset = refl
@@ -99,6 +102,7 @@ own_held off (Natural half) = refl
 own_held off (Inner least most) = refl
 own_held off (Length most) = refl
 own_held off (Sized most) = refl
+own_held off (Closing by offset) = refl
 own_held off (Ending by) = refl
 own_held off Head = refl
 own_held off (Offset Given) = refl
@@ -124,6 +128,7 @@ module _ (ends : Order) (notes : List (Option Place)) (turns : ℕ) (passed : Pa
   handed_fits old more r (Moved area of by) new e f = tt
   handed_fits old more r (Address area of by) new e f = tt
   handed_fits old more r (Saved of) new e f = tt
+  handed_fits old more r (Kept of least most) new e f = tt
   handed_fits old more r Both new e f = fits_moved turns passed old more r r Both new refl e f
   handed_fits old more r Nothing new e f = tt
   handed_fits old more r Unset new e f = fits_moved turns passed old more r r Unset new refl e f
@@ -133,6 +138,7 @@ module _ (ends : Order) (notes : List (Option Place)) (turns : ℕ) (passed : Pa
   handed_fits old more r (Inner least most) new e f = record { value = Pointer (FrameAt f.frame) f.offset; old_is = e ∙ f.old_is; new_is = f.new_is }
   handed_fits old more r (Length most) new e f = fits_moved turns passed old more r r (Length most) new refl e f
   handed_fits old more r (Sized most) new e f = fits_moved turns passed old more r r (Sized most) new refl e f
+  handed_fits old more r (Closing by offset) new e f = fits_moved turns passed old more r r (Closing by offset) new refl e f
   handed_fits old more r (Ending by) new e f = fits_moved turns passed old more r r (Ending by) new refl e f
   handed_fits old more r Head new e f = fits_moved turns passed old more r r Head new refl e f
   handed_fits old more r (Offset Given) new e f = fits_moved turns passed old more r r (Offset Given) new refl e f
@@ -252,6 +258,7 @@ module _ (ends : Order) (notes : List (Option Place)) (turns : ℕ) (passed : Pa
   own_weaker r (Inner least most) (Inner low high) e own = absurd (false≢true (sym own))
   own_weaker r (Inner least most) Both e own = refl
   own_weaker r Head Base e own = refl
+  own_weaker r (Closing by offset) (Ending more) e own = refl
   own_weaker r (Length most) (Length high) e own = refl
   own_weaker r (Length most) (NumberKind low high) e own = refl
   own_weaker r (Length most) Both e own = refl

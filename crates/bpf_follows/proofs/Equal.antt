@@ -10,7 +10,7 @@ use Rattle.bpf_follows.specs.declared.notes.Area.{Area}
 use Rattle.bpf_follows.specs.declared.notes.Area.TheVariants.{Given, Own}
 use Rattle.bpf_follows.specs.contracts.notes.AreaPartialEq.TheImpl as area_eq
 use Rattle.bpf_follows.specs.declared.notes.Kind.{Kind}
-use Rattle.bpf_follows.specs.declared.notes.Kind.TheVariants.{Nothing, Unset, Same, Both, Number, Natural, Inner, Length, Sized, Ending, Head, Offset, Fixed, Within, Start, Base, Moved, Address, Saved, Constant, Counter, Turn, Alone, Returns}
+use Rattle.bpf_follows.specs.declared.notes.Kind.TheVariants.{Nothing, Unset, Same, Both, Number, Natural, Inner, Length, Sized, Closing, Ending, Head, Offset, Fixed, Within, Start, Base, Moved, Address, Saved, Kept, Constant, Counter, Turn, Alone, Returns}
 use Rattle.bpf_follows.specs.contracts.notes.KindPartialEq.TheImpl as kind_eq
 
 both_true : (a b : Bool) → (a && b) ≡ true → (a ≡ true) × (b ≡ true)
@@ -68,6 +68,9 @@ kind_same (Inner a0 a1) (Inner b0 b1) e =
 kind_same (Length a0) (Length b0) e = ap Length (eqb-true a0 b0 e)
 kind_same (Sized a0) (Sized b0) e = ap Sized (eqb-true a0 b0 e)
 kind_same (Ending a0) (Ending b0) e = ap Ending (eqb-true a0 b0 e)
+kind_same (Closing a0 a1) (Closing b0 b1) e =
+    let h = both_true (a0 == b0) (int_eq a1 b1) e in
+    ap (λ x. Closing x a1) (eqb-true a0 b0 h.0) ∙ ap (λ x. Closing b0 x) ((Decides-int_eq a1 b1).0 h.1)
 kind_same Head Head e = refl
 kind_same (Offset a0) (Offset b0) e = ap Offset (area_same a0 b0 e)
 kind_same (Fixed a0 a1) (Fixed b0 b1) e =
@@ -88,6 +91,10 @@ kind_same (Address a0 a1 a2) (Address b0 b1 b2) e =
     let k = both_true ((reg_eq.ghosts).eq a1 b1) (int_eq a2 b2) h.1 in
     ap (λ x. Address x a1 a2) (area_same a0 b0 h.0) ∙ ap (λ x. Address b0 x a2) (reg_same a1 b1 k.0) ∙ ap (λ x. Address b0 b1 x) ((Decides-int_eq a2 b2).0 k.1)
 kind_same (Saved a0) (Saved b0) e = ap Saved (reg_same a0 b0 e)
+kind_same (Kept a0 a1 a2) (Kept b0 b1 b2) e =
+    let h = both_true ((reg_eq.ghosts).eq a0 b0) ((a1 == b1) && (a2 == b2)) e in
+    let k = both_true (a1 == b1) (a2 == b2) h.1 in
+    ap (λ x. Kept x a1 a2) (reg_same a0 b0 h.0) ∙ ap (λ x. Kept b0 x a2) (eqb-true a1 b1 k.0) ∙ ap (λ x. Kept b0 b1 x) (eqb-true a2 b2 k.1)
 kind_same (Constant a0) (Constant b0) e = ap Constant ((Decides-int_eq a0 b0).0 e)
 kind_same (Counter a0) (Counter b0) e = ap Counter (eqb-true a0 b0 e)
 kind_same (Turn a0) (Turn b0) e = ap Turn (eqb-true a0 b0 e)
@@ -108,6 +115,7 @@ kind_self (Inner a0 a1) = and_from _ _ ((Decides-eqb a0 a0).1 refl) ((Decides-eq
 kind_self (Length a0) = (Decides-eqb a0 a0).1 refl
 kind_self (Sized a0) = (Decides-eqb a0 a0).1 refl
 kind_self (Ending a0) = (Decides-eqb a0 a0).1 refl
+kind_self (Closing a0 a1) = and_from _ _ ((Decides-eqb a0 a0).1 refl) ((Decides-int_eq a1 a1).1 refl)
 kind_self Head = refl
 kind_self (Offset a0) = area_self a0
 kind_self (Fixed a0 a1) = and_from _ _ (area_self a0) ((Decides-int_eq a1 a1).1 refl)
@@ -117,6 +125,7 @@ kind_self Base = refl
 kind_self (Moved a0 a1 a2) = and_from _ _ (area_self a0) (and_from _ _ (reg_self a1) ((Decides-int_eq a2 a2).1 refl))
 kind_self (Address a0 a1 a2) = and_from _ _ (area_self a0) (and_from _ _ (reg_self a1) ((Decides-int_eq a2 a2).1 refl))
 kind_self (Saved a0) = reg_self a0
+kind_self (Kept a0 a1 a2) = and_from _ _ (reg_self a0) (and_from _ _ ((Decides-eqb a1 a1).1 refl) ((Decides-eqb a2 a2).1 refl))
 kind_self (Constant a0) = (Decides-int_eq a0 a0).1 refl
 kind_self (Counter a0) = (Decides-eqb a0 a0).1 refl
 kind_self (Turn a0) = (Decides-eqb a0 a0).1 refl

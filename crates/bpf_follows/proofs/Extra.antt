@@ -1,11 +1,12 @@
 -- Extra instructions of the new program that write registers: it does them alone, and what they make of them is as is said.
 use Rattle.std.proofs.Common.{◌≡◌, ℕ, zero, suc, ◌+◌, ◌-◌, ◌<◌, ◌≤◌, ◌⊎◌, inl, inr, ◌==◌, ◌^◌, Bool, true, false, cond, List, [], ◌∷◌, Option, Some, None, length, get_or, set, refl, sym, ap, ap₂, ◌∙◌, subst, arith}
-use Rattle.std.specs.Prelude.{take, drop, ◌&&◌, nat_lt, ℤ, pos, negsuc, ◌+ℤ◌, option_and_then, if◌then◌else◌}
+use Rattle.std.specs.Prelude.{take, drop, ◌&&◌, nat_lt, ℤ, pos, negsuc, ◌+ℤ◌, ◌-ℤ◌, option_and_then, if◌then◌else◌}
 use Rattle.std.specs.Option.{option_or}
 use Rattle.std.specs.Ordering.{int_eq}
 use Rattle.std.proofs.lemmas.Option.{none-some, same_Some, option_and_then_some}
-use Rattle.std.proofs.lemmas.Bool.{cases_Bool, eqb-true, eqb-false, ltb-true, false≢true}
+use Rattle.std.proofs.lemmas.Bool.{cases_Bool, eqb-true, eqb-false, eq-eqb, ltb-true, false≢true}
 use Rattle.std.proofs.lemmas.Bool.Decides.{Decides-int_eq}
+use Rattle.std.proofs.lemmas.Int.{ints}
 use Rattle.std.proofs.lemmas.List.{length-set, get_or-set_same, get_or-set_other}
 use Rattle.bpf_insn.specs.Arithmetic.{modulo, alu, extended}
 use Rattle.bpf_insn.specs.Order.{number_of}
@@ -16,12 +17,12 @@ use Rattle.bpf_insn.specs.declared.instruction.Operand.{Operand}
 use Rattle.bpf_insn.specs.declared.instruction.Operand.TheVariants.{Imm, Reg as FromReg}
 use Rattle.bpf_insn.specs.declared.instruction.Width.TheVariants.{W64}
 use Rattle.bpf_insn.specs.declared.instruction.AluOp.{AluOp}
-use Rattle.bpf_insn.specs.declared.instruction.AluOp.TheVariants.{Add, Mov}
+use Rattle.bpf_insn.specs.declared.instruction.AluOp.TheVariants.{Add, Sub, Mov}
 use Rattle.bpf_insn.specs.declared.instruction.Insn.{Insn}
 use Rattle.bpf_insn.specs.declared.instruction.Insn.TheVariants.{Alu}
 use Rattle.bpf_semantics.specs.State.{State, register, with_register, at_slot}
 use Rattle.bpf_semantics.specs.Memory.{inside}
-use Rattle.bpf_semantics.specs.Step.{does, next, operand, alu_result, wrapped, Step, step_of}
+use Rattle.bpf_semantics.specs.Step.{does, next, operand, same_region, alu_result, wrapped, Step, step_of}
 use Rattle.bpf_semantics.specs.Flat.{addresses}
 use Rattle.bpf_semantics.specs.declared.value.Value.{Value}
 use Rattle.bpf_semantics.specs.declared.value.Value.TheVariants.{Number, Pointer}
@@ -30,21 +31,25 @@ use Rattle.bpf_semantics.specs.declared.value.Region.TheVariants.{Context, Frame
 use Rattle.bpf_follows.specs.declared.notes.Area.{Area}
 use Rattle.bpf_follows.specs.declared.notes.Area.TheVariants.{Given, Own}
 use Rattle.bpf_follows.specs.declared.notes.Kind.{Kind}
-use Rattle.bpf_follows.specs.declared.notes.Kind.TheVariants.{Nothing, Same, Number as NumberKind, Natural, Inner, Length, Ending, Head, Offset, Fixed, Within, Start, Base, Moved, Address, Constant, Counter, Turn, Alone, Returns, Both}
+use Rattle.bpf_follows.specs.declared.notes.Kind.TheVariants.{Nothing, Same, Number as NumberKind, Natural, Inner, Length, Ending, Closing, Head, Offset, Fixed, Within, Start, Base, Moved, Address, Constant, Counter, Turn, Alone, Returns, Both}
 use Rattle.bpf_follows.specs.declared.notes.Place.{Place}
 use Rattle.bpf_follows.specs.declared.site.Span.{Span}
 use Rattle.bpf_follows.specs.declared.site.Front.{Front}
 use Rattle.bpf_packets.specs.Blocks.{head_bytes}
 use Rattle.bpf_follows.specs.Areas.{origin, is_own, same_area, first_of, IsInto}
 use Rattle.bpf_follows.specs.Relation.{Past, kind_in, HasOffset, as_number, as_offset, as_pointer, CountsDown, FitsKind, FitsSlot, register_in}
-use Rattle.bpf_follows.specs.Extras.{constant_kind, kind_of, offset_in, copied, is_taken, moved_end, shifted, added, is_same, is_r10, is_base, base_of, address_at, address, put_kind, put_by}
+use Rattle.bpf_follows.specs.Extras.{constant_kind, kind_of, offset_in, given_in, copied, is_taken, moved_end, shifted, added, is_same, is_r10, is_base, base_of, address_at, address, unmade, put_kind, put_by}
 use Rattle.bpf_follows.proofs.Lists.{bind, unmapped, cond_first}
 use Rattle.bpf_follows.proofs.Has.{area_same, has_new}
-use Rattle.bpf_follows.proofs.Offsets.{moved_number, pointer_there}
+use Rattle.bpf_follows.proofs.Offsets.{moved_number, pointer_there, offset_there}
 use Rattle.bpf_follows.proofs.Onward.{Rooms, floor, room, placed, LieIn}
 use Rattle.bpf_follows.proofs.Between.{Between}
 use Rattle.bpf_follows.proofs.Slots.{register_below}
 use Rattle.bpf_follows.proofs.Instruction.{both_true}
+
+region_itself : (region : Region) → same_region region region ≡ true
+region_itself Context = refl
+region_itself (FrameAt n) = eq-eqb n n refl
 
 -- ---- kinds that are written
 
@@ -173,6 +178,17 @@ module _ (turns : ℕ) (passed : Past) (old : ℕ → Option Value) where
       by_cases false h = refl
   constant_fits w kind new imm f = refl
 
+  -- where the old machine's pointer is
+  pub given_is : (w : ℕ) (have : Kind) (offset : ℤ) (new : Option Value) → given_in have ≡ Some offset → FitsKind turns passed old w have new → old w ≡ Some (Pointer Context offset)
+  given_is w (Fixed Given at) offset new e f =
+      let there : f.has.offset ≡ at = unmoved f.has.offset at f.is in
+      f.has.old_is ∙ ap (λ region. Some (Pointer region f.has.offset)) f.has.into ∙ ap (λ z. Some (Pointer Context z)) (there ∙ same_Some _ _ e)
+    where
+      unmoved : (x y : ℤ) → x +ℤ pos 0 ≡ y → x ≡ y
+      unmoved x y e = omega (arith, ints)
+  given_is w (Closing by at) offset new e f = f.is.1 ∙ ap (λ z. Some (Pointer Context z)) (same_Some _ _ e)
+  given_is w have offset new e f = absurd (none-some _ e)
+
   moved_copy : (w : ℕ) (area : Area) (of : Reg) (by : ℤ) (new : Option Value) → HasOffset area by as_offset (old 10) (old (register_number of)) new → Writes turns passed old w (Moved area of by) new
   moved_copy w area of by new h = record { value = as_number (h.offset +ℤ (origin area +ℤ by)); is = h.new_is; fits = has_new area by as_offset (old 10) (old (register_number of)) new _ (sym h.new_is) h }
 
@@ -187,6 +203,9 @@ module _ (turns : ℕ) (passed : Past) (old : ℕ → Option Value) where
   copied_fits w r (Ending by) made new e f =
       subst (λ made. Writes turns passed old w made new) (same_Some _ _ e)
       (record { value = Number (f.size + by); is = f.is.1; fits = record { size = f.size; packet_is = f.packet_is; short = f.short; is = (f.is.0, refl) } })
+  copied_fits w r (Closing by offset) made new e f =
+      subst (λ made. Writes turns passed old w made new) (same_Some _ _ e)
+      (record { value = Number (f.size + by); is = f.is.2; fits = record { size = f.size; packet_is = f.packet_is; short = f.short; is = (f.is.0, refl) } })
   copied_fits w r (Offset area) made new e f = subst (λ made. Writes turns passed old w made new) (same_Some _ _ e) (moved_copy w area r (pos 0) new f)
   copied_fits w r (Fixed area at) made new e f = subst (λ made. Writes turns passed old w made new) (same_Some _ _ e) (moved_copy w area r (pos 0) new f.has)
   copied_fits w r (Within area least most) made new e f = subst (λ made. Writes turns passed old w made new) (same_Some _ _ e) (moved_copy w area r (pos 0) new f.has)
@@ -253,6 +272,7 @@ module _ (turns : ℕ) (passed : Past) (old : ℕ → Option Value) where
   added_fits : (w : ℕ) (front : Option Front) (s : State) (r : Reg) (kind made : Kind) (new : Option Value) (imm : ℤ) → Facts passed turns front s → added front r kind imm ≡ Some made → FitsKind turns passed old (register_number r) kind new → Writes turns passed old w made (alu_result W64 Add new (Number (extended imm)))
   added_fits w front s r (Counter head) made new imm facts e f = taken_fits w front s head made new imm facts e f
   added_fits w front s r (Ending by) made new imm facts e f = end_fits w by made imm new f e
+  added_fits w front s r (Closing by offset) made new imm facts e f = end_fits w by made imm new (record { size = f.size; packet_is = f.packet_is; short = f.short; is = (f.is.0, f.is.2) }) e
   added_fits w front s r (Offset area) made new imm facts e f = shifted_fits w r (Offset area) made new imm e f
   added_fits w front s r (Within area least most) made new imm facts e f = shifted_fits w r (Within area least most) made new imm e f
   added_fits w front s r (Fixed area at) made new imm facts e f = shifted_fits w r (Fixed area at) made new imm e f
@@ -295,6 +315,30 @@ module _ (turns : ℕ) (passed : Past) (old : ℕ → Option Value) where
           let a = address_is dst src kind other made e in
           let h = moved_has turns passed old src other a.m more a.moved g in
           (address_made w a.m made more new a.is h (base_at turns passed old dst kind a.m.0 h.region new a.base h.into f)).1
+
+  -- the pointer at 0 is taken away again from the one that was made of the register's own offset
+  unmade_fits : (dst src : Reg) (base : Option Area) (kind other made : Kind) (new more : Option Value) → base_of src other ≡ base → unmade dst base kind ≡ Some made → FitsKind turns passed old (register_number dst) kind new → FitsKind turns passed old (register_number src) other more
+      → Writes turns passed old (register_number dst) made (option_and_then (λ b. alu_result W64 Sub new b) more)
+  unmade_fits dst src (Some area) (Address into of by) other made new more eb e f g =
+      let c = cond_first (same_area area into && (register_number of == register_number dst && int_eq by (pos 0))) (Some (Offset into)) made e in
+      let k = both_true (same_area area into) (register_number of == register_number dst && int_eq by (pos 0)) c.0 in
+      let own = both_true (register_number of == register_number dst) (int_eq by (pos 0)) k.1 in
+      let z : ℤ = f.offset +ℤ (origin into +ℤ by) in
+      let at : more ≡ Some (Pointer f.region (pos 0)) = base_at turns passed old src other into f.region more (eb ∙ ap Some (area_same area into k.0)) f.into g in
+      record {
+        value = as_offset f.region z;
+        is = ap₂ (λ n s. option_and_then (λ b. alu_result W64 Sub n b) s) f.new_is at ∙ (ap (λ b. if b then Some (Number (modulo (wrapped z -ℤ pos 0) addresses)) else None) (region_itself f.region) ∙ ap (λ n. Some (Number n)) (offset_there z));
+        fits = subst (λ made. FitsKind turns passed old (register_number dst) made (Some (as_offset f.region z))) (same_Some _ _ c.1) (record {
+          region = f.region;
+          into = f.into;
+          offset = f.offset;
+          fits = f.fits;
+          old_is = ap old (sym (eqb-true (register_number of) (register_number dst) own.0)) ∙ f.old_is;
+          new_is = ap (λ by. Some (as_offset f.region (f.offset +ℤ (origin into +ℤ by)))) ((Decides-int_eq by (pos 0)).0 own.1);
+        });
+      }
+  unmade_fits dst src (Some area) kind other made new more eb e f g = absurd (none-some _ e)
+  unmade_fits dst src None kind other made new more eb e f g = absurd (none-some _ e)
 
 -- ---- one of them
 
@@ -379,6 +423,8 @@ module _ (ends : Order) (notes : List (Option Place)) (turns : ℕ) (passed : Pa
   kind_put front Add dst (Imm imm) kinds kind s t facts b e = added_fits turns passed (register_in s.top) (register_number dst) front s dst (kind_of kinds dst) kind (register t dst) imm facts e (fits_at kinds s t dst b)
   kind_put front Add dst (FromReg src) kinds kind s t facts b e =
       address_fits turns passed (register_in s.top) (register_number dst) dst src (kind_of kinds dst) (kind_of kinds src) kind (register t dst) (register t src) e (fits_at kinds s t dst b) (fits_at kinds s t src b)
+  kind_put front Sub dst (FromReg src) kinds kind s t facts b e =
+      unmade_fits turns passed (register_in s.top) dst src (base_of src (kind_of kinds src)) (kind_of kinds dst) (kind_of kinds src) kind (register t dst) (register t src) refl e (fits_at kinds s t dst b) (fits_at kinds s t src b)
   kind_put front op dst src kinds kind s t facts b e = absurd (none-some _ e)
 
   -- what is put into a register other than r10

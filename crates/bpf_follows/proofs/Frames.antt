@@ -16,8 +16,8 @@ use Rattle.bpf_semantics.specs.declared.value.Region.TheVariants.{Frame as Frame
 use Rattle.bpf_follows.specs.declared.notes.Area.{Area}
 use Rattle.bpf_follows.specs.declared.notes.Area.TheVariants.{Given, Own}
 use Rattle.bpf_follows.specs.declared.notes.Kind.{Kind}
-use Rattle.bpf_follows.specs.declared.notes.Kind.TheVariants.{Nothing, Unset, Same, Number as NumberKind, Natural, Inner, Length, Sized, Ending, Offset, Fixed, Within, Start, Head, Base, Moved, Address, Constant, Counter, Turn, Alone, Returns, Both, Saved}
-use Rattle.bpf_follows.specs.Relation.{Past, Kinds, Gives, weaker, is_free, IsRead, EachPair, as_offset, as_pointer, IsOneValue, FitsKind, SlotKept, FitsSlot, FrameFits, register_in, is_of_other}
+use Rattle.bpf_follows.specs.declared.notes.Kind.TheVariants.{Nothing, Unset, Same, Number as NumberKind, Natural, Inner, Length, Sized, Closing, Ending, Offset, Fixed, Within, Start, Head, Base, Moved, Address, Constant, Counter, Turn, Alone, Returns, Both, Saved, Kept}
+use Rattle.bpf_follows.specs.Relation.{Past, Kinds, Gives, weaker, is_free, IsRead, EachPair, as_offset, as_pointer, IsOneValue, IsOneNumber, FitsKind, SlotKept, FitsSlot, FrameFits, register_in, is_of_other}
 use Rattle.bpf_follows.specs.Returned.{is_call}
 use Rattle.bpf_follows.specs.Matching.{is_changed, is_lost, held, kinds_after}
 use Rattle.bpf_follows.proofs.Lists.{Cells}
@@ -39,6 +39,7 @@ fits_moved turns passed old more q r (Natural half) new own e f = record { numbe
 fits_moved turns passed old more q r (Inner least most) new own e f = false_true own
 fits_moved turns passed old more q r (Length most) new own e f = record { size = f.size; packet_is = f.packet_is; short = f.short; is = (f.is.0, e ∙ f.is.1, f.is.2) }
 fits_moved turns passed old more q r (Sized most) new own e f = record { size = f.size; packet_is = f.packet_is; short = f.short; is = (f.is.0, e ∙ f.is.1) }
+fits_moved turns passed old more q r (Closing by offset) new own e f = record { size = f.size; packet_is = f.packet_is; short = f.short; is = (f.is.0, e ∙ f.is.1, f.is.2) }
 fits_moved turns passed old more q r (Ending by) new own e f = f
 fits_moved turns passed old more q r Head new own e f = (e ∙ f.0, f.1)
 fits_moved turns passed old more q r (Offset Given) new own e f = has_given (pos 0) as_offset (old 10) (more 10) (old q) (more r) new e f
@@ -52,6 +53,7 @@ fits_moved turns passed old more q r Base new own e f = f
 fits_moved turns passed old more q r (Moved area of by) new own e f = false_true own
 fits_moved turns passed old more q r (Address area of by) new own e f = false_true own
 fits_moved turns passed old more q r (Saved of) new own e f = false_true own
+fits_moved turns passed old more q r (Kept of least most) new own e f = false_true own
 fits_moved turns passed old more q r Both new own e f = record { value = f.value; old_is = e ∙ f.old_is; new_is = f.new_is }
 fits_moved turns passed old more q r (Constant value) new own e f = f
 fits_moved turns passed old more q r (Counter head) new own e f = f
@@ -64,12 +66,14 @@ abbrev pub is_of_register : Kind → Bool
 is_of_register (Moved area of by) = true
 is_of_register (Address area of by) = true
 is_of_register (Saved of) = true
+is_of_register (Kept of least most) = true
 is_of_register kind = false
 
 pub not_register : (kind : Kind) → is_of_other kind ≡ false → is_of_register kind ≡ false
 not_register (Moved area of by) e = e
 not_register (Address area of by) e = e
 not_register (Saved of) e = e
+not_register (Kept of least most) e = e
 not_register kind e = refl
 
 -- the same where r10 is the same, too
@@ -80,6 +84,7 @@ fits_anew turns passed old more q r (Within area least most) new own e et f = re
 fits_anew turns passed old more q r (Moved area of by) new own e et f = false_true own
 fits_anew turns passed old more q r (Address area of by) new own e et f = false_true own
 fits_anew turns passed old more q r (Saved of) new own e et f = false_true own
+fits_anew turns passed old more q r (Kept of least most) new own e et f = false_true own
 fits_anew turns passed old more q r Nothing new own e et f = fits_moved turns passed old more q r Nothing new refl e f
 fits_anew turns passed old more q r Unset new own e et f = fits_moved turns passed old more q r Unset new refl e f
 fits_anew turns passed old more q r Same new own e et f = fits_moved turns passed old more q r Same new refl e f
@@ -89,6 +94,7 @@ fits_anew turns passed old more q r (Natural half) new own e et f = fits_moved t
 fits_anew turns passed old more q r (Inner least most) new own e et f = record { frame = f.frame; offset = f.offset; own_is = et ∙ f.own_is; old_is = e ∙ f.old_is; new_is = f.new_is; low = f.low; high = f.high }
 fits_anew turns passed old more q r (Length most) new own e et f = fits_moved turns passed old more q r (Length most) new refl e f
 fits_anew turns passed old more q r (Sized most) new own e et f = fits_moved turns passed old more q r (Sized most) new refl e f
+fits_anew turns passed old more q r (Closing by offset) new own e et f = fits_moved turns passed old more q r (Closing by offset) new refl e f
 fits_anew turns passed old more q r (Ending by) new own e et f = fits_moved turns passed old more q r (Ending by) new refl e f
 fits_anew turns passed old more q r Head new own e et f = fits_moved turns passed old more q r Head new refl e f
 fits_anew turns passed old more q r Start new own e et f = fits_moved turns passed old more q r Start new refl e f
@@ -129,6 +135,10 @@ fits_held turns passed i old more r kind new kept same = by_kind kind
     saved of f true l = tt
     saved of f false l = subst (λ o. IsOneValue o new) (sym (kept (register_number of) (register_below of) (lost_not i (register_number of) l).0)) f
 
+    numbered : (of : Reg) (least most : ℕ) → FitsKind turns passed old r (Kept of least most) new → (b : Bool) → is_lost i (register_number of) ≡ b → FitsKind turns passed more r (if b then Nothing else Kept of least most) new
+    numbered of least most f true l = tt
+    numbered of least most f false l = subst (λ o. IsOneNumber least most o new) (sym (kept (register_number of) (register_below of) (lost_not i (register_number of) l).0)) f
+
     inner : (least most : ℕ) → FitsKind turns passed old r (Inner least most) new → (b : Bool) → is_lost i 10 ≡ b → FitsKind turns passed more r (if b then Both else Inner least most) new
     inner least most f true l = record { value = Pointer (FrameAt f.frame) f.offset; old_is = same ∙ f.old_is; new_is = f.new_is }
     inner least most f false l = fits_anew turns passed old more r r (Inner least most) new refl same (kept 10 (omega arith) (lost_not i 10 l).1) f
@@ -140,6 +150,7 @@ fits_held turns passed i old more r kind new kept same = by_kind kind
     by_kind (Moved area of by) f = moved area of by f (is_lost i (register_number of)) refl
     by_kind (Address area of by) f = address area of by f (is_lost i (register_number of)) refl
     by_kind (Saved of) f = saved of f (is_lost i (register_number of)) refl
+    by_kind (Kept of least most) f = numbered of least most f (is_lost i (register_number of)) refl
     by_kind Nothing f = fits_moved turns passed old more r r Nothing new refl same f
     by_kind Unset f = fits_moved turns passed old more r r Unset new refl same f
     by_kind Same f = fits_moved turns passed old more r r Same new refl same f
@@ -149,6 +160,7 @@ fits_held turns passed i old more r kind new kept same = by_kind kind
     by_kind (Inner least most) f = inner least most f (is_lost i 10) refl
     by_kind (Length most) f = fits_moved turns passed old more r r (Length most) new refl same f
     by_kind (Sized most) f = fits_moved turns passed old more r r (Sized most) new refl same f
+    by_kind (Closing by offset) f = fits_moved turns passed old more r r (Closing by offset) new refl same f
     by_kind (Ending by) f = fits_moved turns passed old more r r (Ending by) new refl same f
     by_kind Head f = fits_moved turns passed old more r r Head new refl same f
     by_kind Start f = fits_moved turns passed old more r r Start new refl same f
@@ -196,6 +208,11 @@ slot_held ends turns passed i old more xs ys k (Saved of) kept f = by_cases (is_
     by_cases : (b : Bool) → is_lost i (register_number of) ≡ b → FitsSlot ends turns passed more xs ys k (if b then Nothing else Saved of)
     by_cases true l = tt
     by_cases false l = record { unset = f.unset; value = f.value; holds = f.holds; fits = subst (λ o. IsOneValue o (Some f.value)) (sym (kept (register_number of) (register_below of) (lost_not i (register_number of) l).0)) f.fits }
+slot_held ends turns passed i old more xs ys k (Kept of least most) kept f = by_cases (is_lost i (register_number of)) refl
+  where
+    by_cases : (b : Bool) → is_lost i (register_number of) ≡ b → FitsSlot ends turns passed more xs ys k (if b then Nothing else Kept of least most)
+    by_cases true l = tt
+    by_cases false l = record { unset = f.unset; value = f.value; holds = f.holds; fits = subst (λ o. IsOneNumber least most o (Some f.value)) (sym (kept (register_number of) (register_below of) (lost_not i (register_number of) l).0)) f.fits }
 slot_held ends turns passed i old more xs ys k Nothing kept f = tt
 slot_held ends turns passed i old more xs ys k Unset kept f = f
 slot_held ends turns passed i old more xs ys k Same kept f = f
@@ -205,6 +222,7 @@ slot_held ends turns passed i old more xs ys k (Natural half) kept f = absurd f
 slot_held ends turns passed i old more xs ys k (Inner least most) kept f = absurd f
 slot_held ends turns passed i old more xs ys k (Length most) kept f = absurd f
 slot_held ends turns passed i old more xs ys k (Sized most) kept f = absurd f
+slot_held ends turns passed i old more xs ys k (Closing by offset) kept f = absurd f
 slot_held ends turns passed i old more xs ys k Head kept f = absurd f
 slot_held ends turns passed i old more xs ys k (Ending by) kept f = record { unset = f.unset; value = f.value; holds = f.holds; fits = f.fits }
 slot_held ends turns passed i old more xs ys k (Offset Given) kept f = f
@@ -225,6 +243,7 @@ pub slot_moved : (ends : Order) (turns : ℕ) (passed : Past) (old more : ℕ �
 slot_moved ends turns passed old more xs ys k (Moved area of by) own f = false_true own
 slot_moved ends turns passed old more xs ys k (Address area of by) own f = false_true own
 slot_moved ends turns passed old more xs ys k (Saved of) own f = false_true own
+slot_moved ends turns passed old more xs ys k (Kept of least most) own f = false_true own
 slot_moved ends turns passed old more xs ys k Both own f = f
 slot_moved ends turns passed old more xs ys k Nothing own f = tt
 slot_moved ends turns passed old more xs ys k Unset own f = f
@@ -234,6 +253,7 @@ slot_moved ends turns passed old more xs ys k (Natural half) own f = absurd f
 slot_moved ends turns passed old more xs ys k (Inner least most) own f = absurd f
 slot_moved ends turns passed old more xs ys k (Length most) own f = absurd f
 slot_moved ends turns passed old more xs ys k (Sized most) own f = absurd f
+slot_moved ends turns passed old more xs ys k (Closing by offset) own f = absurd f
 slot_moved ends turns passed old more xs ys k Head own f = absurd f
 slot_moved ends turns passed old more xs ys k (Ending by) own f = record { unset = f.unset; value = f.value; holds = f.holds; fits = f.fits }
 slot_moved ends turns passed old more xs ys k (Offset Given) own f = f

@@ -1,4 +1,5 @@
--- Stores and loads by pointers into the own frame that both programs have: they leave alone what lies out of their reach.
+-- Stores by other registers than r10, and loads by pointers and offsets into the own frame of which bounds are known: they leave alone what
+-- lies out of their reach.
 use Rattle.std.proofs.Common.{◌≡◌, ℕ, ◌+◌, ◌*◌, ◌-◌, ◌/◌, ◌%◌, ◌<◌, ◌≤◌, ◌⊎◌, inl, inr, ◌==◌, Bool, true, false, List, Option, Some, None, length, get_or, refl, sym, ap, ◌∙◌, subst, arith}
 use Rattle.std.specs.Prelude.{ℤ, pos, ◌+ℤ◌, ◌≤ℤ◌, int_le, nat_le, not, ◌&&◌, ◌||◌, if◌then◌else◌}
 use Rattle.std.specs.Option.{option_map_or}
@@ -20,20 +21,20 @@ use Rattle.bpf_semantics.specs.declared.value.Value.{Value}
 use Rattle.bpf_semantics.specs.declared.value.Value.TheVariants.{Number, Pointer}
 use Rattle.bpf_semantics.specs.declared.value.Region.{Region}
 use Rattle.bpf_follows.specs.declared.notes.Kind.{Kind}
-use Rattle.bpf_follows.specs.declared.notes.Kind.TheVariants.{Same, Inner}
+use Rattle.bpf_follows.specs.declared.notes.Kind.TheVariants.{Nothing, Same}
 use Rattle.bpf_follows.specs.declared.notes.Place.{Place}
 use Rattle.bpf_follows.specs.Relation.{Past, Kinds, IsKept, IsRead, EachPair, FitsKind, FitsSlot, register_in}
 use Rattle.bpf_follows.specs.Extras.{is_r10}
-use Rattle.bpf_follows.specs.Inner.{is_beside, is_inner, misses_by, misses}
+use Rattle.bpf_follows.specs.Inner.{reach, is_outside, is_beside, misses_by, misses}
 use Rattle.bpf_follows.specs.Returned.{is_call}
-use Rattle.bpf_follows.specs.Matching.{is_plain, touches, is_written, writes_slot, is_changed, held, is_spared, kinds_after}
+use Rattle.bpf_follows.specs.Matching.{is_plain, is_far_put_by, is_far_put, touches, is_written, writes_slot, is_changed, held, kinds_after, is_spared, is_blurred, is_far_store}
 use Rattle.bpf_follows.proofs.Lists.{cond_first, as_long, Cells}
 use Rattle.bpf_follows.proofs.Owns.{Owns}
 use Rattle.bpf_follows.proofs.Slots.{register_below, plain_kept, within, outside, parts_put, parts_read, each_read}
 use Rattle.bpf_follows.proofs.Frames.{InSome, fits_held, slot_held}
 use Rattle.bpf_follows.proofs.Between.{Between, Goes, PointersKept, pointer_at_kept, own_stack, own_stack_of, number_near, value_near}
 use Rattle.bpf_follows.proofs.Near.{own_placed, low_unwritten, changed_by, in_one}
-use Rattle.bpf_follows.proofs.Pointers.{Points, PointsBy, kind_points}
+use Rattle.bpf_follows.proofs.Pointers.{Points, Reaches, reach_points}
 
 -- ---- where an access by such a pointer lies
 
@@ -51,13 +52,18 @@ either_of : (a b : Bool) → (a || b) ≡ true → (a ≡ true) ⊎ (b ≡ true)
 either_of true b e = inl refl
 either_of false b e = inr e
 
-pub lies : (s : State) (a : Access) (least most : ℕ) (base : Value) (at : Location) → Points s least most base → location_of s (byte_count a.size) a.offset base ≡ Some at → Lies s (Inner least most) a at
-lies s a least most base at p el =
+pub lies : (s : State) (kind : Kind) (a : Access) (least most : ℕ) (base : Value) (at : Location) → reach kind ≡ Some (least, most) → Points s least most base → location_of s (byte_count a.size) a.offset base ≡ Some at → Lies s kind a at
+lies s kind a least most base at er p el =
     let n = own_placed s (byte_count a.size) a.offset p.offset at (subst (λ v. location_of s (byte_count a.size) a.offset v ≡ Some at) p.is el) in
     let low = p.low in
     let high = p.high in
     let away = n.away in
-    record { first = n.first; is = n.is; fits = n.fits; beside = λ k e. beside n.first k away low high (either_of (int_le (pos (8 * k + 8)) (pos least +ℤ a.offset)) (int_le ((pos most +ℤ a.offset) +ℤ pos (byte_count a.size)) (pos (8 * k))) e) }
+    record {
+      first = n.first;
+      is = n.is;
+      fits = n.fits;
+      beside = λ k e. beside n.first k away low high (either_of (int_le (pos (8 * k + 8)) (pos least +ℤ a.offset)) (int_le ((pos most +ℤ a.offset) +ℤ pos (byte_count a.size)) (pos (8 * k))) (sym (ap (λ o. option_map_or (is_outside a k) o false) er) ∙ e));
+    }
   where
     beside : (first k : ℕ) → (p.offset +ℤ a.offset) +ℤ pos frame_bytes ≡ pos first → pos least ≤ℤ (p.offset +ℤ pos frame_bytes) → (p.offset +ℤ pos frame_bytes) ≤ℤ pos most
         → (int_le (pos (8 * k + 8)) (pos least +ℤ a.offset) ≡ true) ⊎ (int_le ((pos most +ℤ a.offset) +ℤ pos (byte_count a.size)) (pos (8 * k)) ≡ true) → is_within (first / 8) ((first + byte_count a.size + 7) / 8) k ≡ false
@@ -89,44 +95,53 @@ not_beside s kind a at l = by_cases (cases_Bool (is_beside kind a (l.first / 8))
     by_cases (inl e) = absurd (false≢true (sym (l.beside (l.first / 8) e) ∙ begins l.first (byte_count a.size) (sized a.size)))
     by_cases (inr e) = e
 
--- ---- stores by such a pointer
+abbrev pub has_reach : Kind → Bool
+has_reach kind = option_map_or (λ (by : ℕ × ℕ). true) (reach kind) false
 
-abbrev pub stores_inner : Kinds → Access → Bool
-stores_inner kinds a = a.writes && (not a.reads && (not (is_r10 a.base) && is_inner (kinds (register_number a.base))))
-
-abbrev pub inner_store : Kinds → Insn → Bool
-inner_store kinds i = option_map_or (stores_inner kinds) (access_of i) false
-
-pub no_beside : (kind : Kind) (a : Access) (k : ℕ) → is_inner kind ≡ false → is_beside kind a k ≡ false
-no_beside (Inner least most) a k e = absurd (false≢true (sym e))
-no_beside kind a k e = refl
-
--- another store may go to each slot
-pub store_hits : (kinds : Kinds) (a : Access) (k : ℕ) → a.writes ≡ true → stores_inner kinds a ≡ false → misses_by kinds k a ≡ false
-store_hits kinds a k ew e = hits a.writes a.reads (is_r10 a.base) (is_inner (kinds (register_number a.base))) (is_beside (kinds (register_number a.base)) a k) ew (no_beside (kinds (register_number a.base)) a k) e
+pub no_beside : (kind : Kind) (a : Access) (k : ℕ) → has_reach kind ≡ false → is_beside kind a k ≡ false
+no_beside kind a k = by_reach (reach kind)
   where
-    hits : (w r b c x : Bool) → w ≡ true → (c ≡ false → x ≡ false) → (w && (not r && (not b && c))) ≡ false → (not b && (not (r && w) && x)) ≡ false
-    hits false r b c x ew h e = absurd (false≢true ew)
-    hits true r true c x ew h e = refl
-    hits true true false c x ew h e = refl
-    hits true false false true x ew h e = absurd (false≢true (sym e))
-    hits true false false false x ew h e = h refl
+    by_reach : (o : Option (ℕ × ℕ)) → option_map_or (λ (by : ℕ × ℕ). true) o false ≡ false → option_map_or (is_outside a k) o false ≡ false
+    by_reach None e = refl
+    by_reach (Some by) e = absurd (false≢true (sym e))
 
--- and spares none
-pub none_spared : (kinds : Kinds) (i : Insn) (r : ℕ) → inner_store kinds i ≡ false → is_spared kinds i r ≡ false
+-- ---- stores by other registers than r10
+
+-- what isn't such a store spares no slot
+pub none_spared : (kinds : Kinds) (i : Insn) (r : ℕ) → is_far_put i ≡ false → is_spared kinds i r ≡ false
 none_spared kinds i r = by_access (access_of i)
   where
-    by_access : (o : Option Access) → option_map_or (stores_inner kinds) o false ≡ false → (option_map_or (is_written r) o false && option_map_or (misses_by kinds (r - 11)) o false) ≡ false
+    none : (w r b c x : Bool) → (w && (not r && not b)) ≡ false → ((w && c) && (not b && (not (r && w) && x))) ≡ false
+    none false r b c x e = refl
+    none true r true c x e = and_right c false refl
+    none true true false c x e = and_right c false refl
+    none true false false c x e = absurd (false≢true (sym e))
+
+    by_access : (o : Option Access) → option_map_or is_far_put_by o false ≡ false → (option_map_or (is_written r) o false && option_map_or (misses_by kinds (r - 11)) o false) ≡ false
     by_access None e = refl
-    by_access (Some a) e = by_writes (cases_Bool a.writes)
-      where
-        by_writes : (a.writes ≡ true) ⊎ (a.writes ≡ false) → (is_written r a && misses_by kinds (r - 11) a) ≡ false
-        by_writes (inl w) = and_right (is_written r a) (misses_by kinds (r - 11) a) (store_hits kinds a (r - 11) w e)
-        by_writes (inr w) = ap (λ w. (w && (nat_le 11 r && (if is_r10 a.base then touches a (r - 11) else true))) && misses_by kinds (r - 11) a) w
+    by_access (Some a) e = none a.writes a.reads (is_r10 a.base) (nat_le 11 r && (if is_r10 a.base then touches a (r - 11) else true)) (is_beside (kinds (register_number a.base)) a (r - 11)) e
+
+-- a store by r10 isn't one, and what isn't a store
+pub near_put : (i : Insn) → is_far_store i ≡ false → is_far_put i ≡ false
+near_put i = by_access (access_of i)
+  where
+    none : (w r b : Bool) → (w && not b) ≡ false → (w && (not r && not b)) ≡ false
+    none false r b e = refl
+    none true r true e = and_right (not r) false refl
+    none true r false e = absurd (false≢true (sym e))
+
+    by_access : (o : Option Access) → option_map_or (λ a. a.writes && not (is_r10 a.base)) o false ≡ false → option_map_or is_far_put_by o false ≡ false
+    by_access None e = refl
+    by_access (Some a) e = none a.writes a.reads (is_r10 a.base) e
 
 -- what is said behind a store that spares slots
 abbrev pub kinds_around : Insn → Kind → Kinds → Kinds
-kinds_around i kind kinds r = if is_spared kinds i r then held i (kinds r) else kinds_after i kind kinds r
+kinds_around i kind kinds r = if is_spared kinds i r then held i (kinds r) else if is_blurred kinds i r then Nothing else kinds_after i kind kinds r
+
+pub none_around : (kinds : Kinds) (i : Insn) (kind : Kind) (r : ℕ) → is_far_put i ≡ false → kinds_around i kind kinds r ≡ kinds_after i kind kinds r
+none_around kinds i kind r e =
+    ap (λ b. if b then held i (kinds r) else if is_blurred kinds i r then Nothing else kinds_after i kind kinds r) (none_spared kinds i r e)
+    ∙ ap (λ b. if b && (nat_le 11 r && not (is_plain (kinds r))) then Nothing else kinds_after i kind kinds r) e
 
 -- what is said where the slots are changed that are hit
 abbrev pub struck : (ℕ → Bool) → Kinds → Kinds
@@ -147,14 +162,15 @@ struck_some hit kinds = record { low = struck_low hit kinds; put = λ k lt e. st
 
 module _ (ends : Order) (notes : List (Option Place)) (turns : ℕ) (passed : Past) where
   -- where a register of such a kind leads
-  pub lies_by : (kinds : Kinds) (s t : State) (a : Access) (base : Value) (at : Location) → Between ends notes turns passed kinds s t → Owns s → is_inner (kinds (register_number a.base)) ≡ true → register s a.base ≡ Some base → location_of s (byte_count a.size) a.offset base ≡ Some at
+  pub lies_by : (kinds : Kinds) (s t : State) (a : Access) (base : Value) (at : Location) → Between ends notes turns passed kinds s t → Owns s → has_reach (kinds (register_number a.base)) ≡ true → register s a.base ≡ Some base → location_of s (byte_count a.size) a.offset base ≡ Some at
       → Lies s (kinds (register_number a.base)) a at
   lies_by kinds s t a base at h o inner eb el =
-      by_kind (kinds (register_number a.base)) inner (kind_points ends notes turns passed (kinds (register_number a.base)) s a.base base (register t a.base) o (h.top.registers (register_number a.base) (register_below a.base)) eb)
+      by_reach (reach (kinds (register_number a.base))) refl inner
+      (reach_points ends notes turns passed (kinds (register_number a.base)) s a.base base (register t a.base) o (h.top.registers (register_number a.base) (register_below a.base)) eb)
     where
-      by_kind : (kind : Kind) → is_inner kind ≡ true → PointsBy s kind base → Lies s kind a at
-      by_kind (Inner least most) e p = lies s a least most base at p el
-      by_kind kind e p = absurd (false≢true e)
+      by_reach : (reached : Option (ℕ × ℕ)) → reach (kinds (register_number a.base)) ≡ reached → option_map_or (λ (by : ℕ × ℕ). true) reached false ≡ true → Reaches s reached base → Lies s (kinds (register_number a.base)) a at
+      by_reach (Some (least, most)) er e p = lies s (kinds (register_number a.base)) a least most base at er p el
+      by_reach None er e p = absurd (false≢true e)
 
   -- ---- a value that is put into the running frame
 
@@ -162,7 +178,7 @@ module _ (ends : Order) (notes : List (Option Place)) (turns : ℕ) (passed : Pa
   eighths n e = omega arith
 
   -- a pointer is stored to a whole slot alone
-  whole_stored : (order : Order) (s u : State) (region : Region) (z : ℤ) (n i : ℕ) → store order DW (Pointer region z) (InFrame n i) s ≡ Some u → i % 8 == 0 ≡ true
+  pub whole_stored : (order : Order) (s u : State) (region : Region) (z : ℤ) (n i : ℕ) → store order DW (Pointer region z) (InFrame n i) s ≡ Some u → i % 8 == 0 ≡ true
   unfolding store_pointer
   whole_stored order s u region z n i e = (cond_first (i % 8 == 0) _ u e).0
 
@@ -207,10 +223,10 @@ module _ (ends : Order) (notes : List (Option Place)) (turns : ℕ) (passed : Pa
 
   -- ---- behind it
 
-  pub around : (i : Insn) (kinds after : Kinds) (x y : ℕ) (u : State) (o : Option State) → is_call i ≡ false → ((q : ℕ) → q < 11 → is_changed i q ≡ false) → ((k : ℕ) → k < 64 → writes_slot i (11 + k) ≡ true)
-      → ((r : ℕ) → r < 11 → after r ≡ kinds r) → ((k : ℕ) → k < 64 → misses kinds i k ≡ true → after (11 + k) ≡ kinds (11 + k)) → ((k : ℕ) → k < 64 → misses kinds i k ≡ false → is_plain (after (11 + k)) ≡ true)
+  pub around : (i : Insn) (kinds after : Kinds) (x y : ℕ) (u : State) (o : Option State) → is_call i ≡ false → is_far_put i ≡ true → ((q : ℕ) → q < 11 → is_changed i q ≡ false) → ((k : ℕ) → k < 64 → writes_slot i (11 + k) ≡ true)
+      → ((r : ℕ) → r < 11 → after r ≡ kinds r) → ((k : ℕ) → k < 64 → misses kinds i k ≡ true → after (11 + k) ≡ kinds (11 + k)) → ((k : ℕ) → k < 64 → is_plain (kinds (11 + k)) ≡ true → is_plain (after (11 + k)) ≡ true)
       → Goes ends notes turns passed after x y u o → Goes ends notes turns passed (kinds_around i Same kinds) x y u o
-  around i kinds after x y u o call none writes low missed hit g =
+  around i kinds after x y u o call far none writes low missed plain g =
       let top = g.between.top in
       record {
         state = g.state;
@@ -226,7 +242,9 @@ module _ (ends : Order) (notes : List (Option Place)) (turns : ℕ) (passed : Pa
     where
       low_is : (r : ℕ) → r < 11 → kinds_around i Same kinds r ≡ held i (kinds r)
       low_is r lt =
-          ap (λ w. if w && misses kinds i (r - 11) then held i (kinds r) else kinds_after i Same kinds r) (low_unwritten i r lt)
+          ap (λ w. if w && misses kinds i (r - 11) then held i (kinds r) else if is_blurred kinds i r then Nothing else kinds_after i Same kinds r) (low_unwritten i r lt)
+          ∙ ap (λ f. if f && (nat_le 11 r && not (is_plain (kinds r))) then Nothing else kinds_after i Same kinds r) far
+          ∙ ap (λ b. if b && not (is_plain (kinds r)) then Nothing else kinds_after i Same kinds r) (lt-leb 11 r lt)
           ∙ ap (λ c. if c then Same else held i (kinds r)) (none r lt)
 
       registers : (r : ℕ) → r < 11 → FitsKind turns passed (register_in u.top) r (kinds_around i Same kinds r) (register_in g.state.top r)
@@ -236,27 +254,39 @@ module _ (ends : Order) (notes : List (Option Place)) (turns : ℕ) (passed : Pa
           (subst (λ kind. FitsKind turns passed (register_in u.top) r kind (register_in g.state.top r)) (low r lt) (g.between.top.registers r lt)))
 
       -- a slot is spared where it is missed
-      slot_is : (k : ℕ) (b : Bool) → k < 64 → misses kinds i k ≡ b → kinds_around i Same kinds (11 + k) ≡ (if b then held i (kinds (11 + k)) else kinds_after i Same kinds (11 + k))
+      slot_is : (k : ℕ) (b : Bool) → k < 64 → misses kinds i k ≡ b → kinds_around i Same kinds (11 + k) ≡ (if b then held i (kinds (11 + k)) else if is_blurred kinds i (11 + k) then Nothing else kinds_after i Same kinds (11 + k))
       slot_is k b lt e =
           let slot : 11 + k - 11 ≡ k = omega arith in
-          ap (λ w. if w && misses kinds i (11 + k - 11) then held i (kinds (11 + k)) else kinds_after i Same kinds (11 + k)) (writes k lt)
-          ∙ ap (λ q. if misses kinds i q then held i (kinds (11 + k)) else kinds_after i Same kinds (11 + k)) slot
-          ∙ ap (λ b. if b then held i (kinds (11 + k)) else kinds_after i Same kinds (11 + k)) e
+          ap (λ w. if w && misses kinds i (11 + k - 11) then held i (kinds (11 + k)) else if is_blurred kinds i (11 + k) then Nothing else kinds_after i Same kinds (11 + k)) (writes k lt)
+          ∙ ap (λ q. if misses kinds i q then held i (kinds (11 + k)) else if is_blurred kinds i (11 + k) then Nothing else kinds_after i Same kinds (11 + k)) slot
+          ∙ ap (λ b. if b then held i (kinds (11 + k)) else if is_blurred kinds i (11 + k) then Nothing else kinds_after i Same kinds (11 + k)) e
 
-      changed : (k : ℕ) → k < 64 → kinds_after i Same kinds (11 + k) ≡ Same
-      changed k lt = ap (λ c. if c then Same else held i (kinds (11 + k))) (changed_by i (11 + k) true call (writes k lt))
+      -- else it may be hit, or not
+      hit_is : (k : ℕ) (b : Bool) → k < 64 → misses kinds i k ≡ false → is_plain (kinds (11 + k)) ≡ b → kinds_around i Same kinds (11 + k) ≡ (if b then Same else Nothing)
+      hit_is k b lt e eb =
+          slot_is k false lt e
+          ∙ ap (λ f. if f && (nat_le 11 (11 + k) && not (is_plain (kinds (11 + k)))) then Nothing else kinds_after i Same kinds (11 + k)) far
+          ∙ ap (λ c. if c && not (is_plain (kinds (11 + k))) then Nothing else kinds_after i Same kinds (11 + k)) (le-leb 11 (11 + k) (omega arith))
+          ∙ ap (λ c. if not (is_plain (kinds (11 + k))) then Nothing else if c then Same else held i (kinds (11 + k))) (changed_by i (11 + k) true call (writes k lt))
+          ∙ ap (λ b. if not b then Nothing else Same) eb
+          ∙ either b
+        where
+          either : (b : Bool) → (if not b then Nothing else Same) ≡ (if b then Same else Nothing)
+          either true = refl
+          either false = refl
 
       slots : (k : ℕ) → k < 64 → FitsSlot ends turns passed (register_in u.top) u.top.stack g.state.top.stack k (kinds_around i Same kinds (11 + k))
-      slots k lt = by_cases (cases_Bool (misses kinds i k))
+      slots k lt = by_cases (cases_Bool (misses kinds i k)) (cases_Bool (is_plain (kinds (11 + k))))
         where
           here : FitsSlot ends turns passed (register_in u.top) u.top.stack g.state.top.stack k (after (11 + k))
           here = g.between.top.slots k lt
 
-          by_cases : (misses kinds i k ≡ true) ⊎ (misses kinds i k ≡ false) → FitsSlot ends turns passed (register_in u.top) u.top.stack g.state.top.stack k (kinds_around i Same kinds (11 + k))
-          by_cases (inl e) =
+          by_cases : (misses kinds i k ≡ true) ⊎ (misses kinds i k ≡ false) → (is_plain (kinds (11 + k)) ≡ true) ⊎ (is_plain (kinds (11 + k)) ≡ false) → FitsSlot ends turns passed (register_in u.top) u.top.stack g.state.top.stack k (kinds_around i Same kinds (11 + k))
+          by_cases (inl e) way =
               subst (λ kind. FitsSlot ends turns passed (register_in u.top) u.top.stack g.state.top.stack k kind) (sym (slot_is k true lt e))
               (slot_held ends turns passed i (register_in u.top) (register_in u.top) u.top.stack g.state.top.stack k (kinds (11 + k)) (λ q lq e. refl)
               (subst (λ kind. FitsSlot ends turns passed (register_in u.top) u.top.stack g.state.top.stack k kind) (missed k lt e) here))
-          by_cases (inr e) =
-              subst (λ kind. FitsSlot ends turns passed (register_in u.top) u.top.stack g.state.top.stack k kind) (sym (slot_is k false lt e ∙ changed k lt))
-              (plain_kept ends turns passed (register_in u.top) u.top.stack g.state.top.stack k (after (11 + k)) (hit k lt e) here)
+          by_cases (inr e) (inl same) =
+              subst (λ kind. FitsSlot ends turns passed (register_in u.top) u.top.stack g.state.top.stack k kind) (sym (hit_is k true lt e same))
+              (plain_kept ends turns passed (register_in u.top) u.top.stack g.state.top.stack k (after (11 + k)) (plain k lt same) here)
+          by_cases (inr e) (inr other) = subst (λ kind. FitsSlot ends turns passed (register_in u.top) u.top.stack g.state.top.stack k kind) (sym (hit_is k false lt e other)) tt

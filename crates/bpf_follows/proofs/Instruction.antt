@@ -36,17 +36,18 @@ use Rattle.bpf_follows.specs.Relation.{Past, Kinds, IsKept, register_in, FitsKin
 use Rattle.bpf_follows.specs.Exact.{may_go, may_fall, may_lead}
 use Rattle.bpf_follows.specs.Numbers.{loaded_number, number_kind, told}
 use Rattle.bpf_follows.specs.Extras.{is_same, is_r10, slot_of}
-use Rattle.bpf_follows.specs.Inner.{is_beside, is_inner, misses}
+use Rattle.bpf_follows.specs.Inner.{is_beside, misses}
 use Rattle.bpf_follows.specs.Returned.{is_call, led}
-use Rattle.bpf_follows.specs.Matching.{is_changed, is_plain, is_whole, is_far, whole_slot, IsPlainAt, kinds_after, Arrives, undirected}
+use Rattle.bpf_follows.specs.Matching.{is_changed, is_plain, is_whole, is_far, is_far_put, whole_slot, IsPlainAt, is_homed, kinds_after, Arrives, undirected}
 use Rattle.bpf_follows.proofs.Lists.{bind, mapped, unmapped, same_is_kept}
 use Rattle.bpf_follows.proofs.Owns.{Owns, live_location, live_next}
 use Rattle.bpf_follows.proofs.Slots.{register_below}
 use Rattle.bpf_follows.proofs.Frames.{is_of_register, holding, SlotsAre, InSome, no_slots}
-use Rattle.bpf_follows.proofs.Between.{is_double, Between, Goes, goes_held, goes_alike, same_depth, stands_at, goes_as, put_kept, location_same, number_kept, Calm, PointersKept, pointers_kept, load_kept, load_extended_kept, number_stored, store_kept, number_near}
+use Rattle.bpf_follows.proofs.Between.{is_double, here_next, Between, Goes, goes_held, goes_alike, same_depth, stands_at, goes_as, put_kept, location_same, number_kept, Calm, PointersKept, pointers_kept, load_kept, load_extended_kept, number_stored, number_near}
 pub use Rattle.bpf_follows.proofs.Arrivals.{both_true, plus_zero, Arrived, kind_given, fits_given, arrived}
 use Rattle.bpf_follows.proofs.Known.{alu_known, load_own, load_known, told_between}
-use Rattle.bpf_follows.proofs.InnerStore.{inner_store, Lies, lies_by, not_beside, no_beside, store_hits, own_stored, whole_kept}
+use Rattle.bpf_follows.proofs.Homed.{calm_by}
+use Rattle.bpf_follows.proofs.InnerStore.{Lies, has_reach, lies_by, not_beside, no_beside, own_stored, whole_kept}
 use Rattle.bpf_follows.proofs.Ways.{goes_there}
 use Rattle.bpf_follows.proofs.Near.{near, slot_here, stored, stored_are, after_stored, changed_low, in_all, in_some}
 
@@ -102,7 +103,7 @@ is_flow i = false
 
 -- what the instruction does on the frame is the same
 pub record Tame (notes : List (Option Place)) (kinds : Kinds) (i : Insn) : Type 0 where
-  pub far : is_far i ≡ true → ((k : ℕ) → k < 64 → IsPlainAt kinds i k) × (is_alone notes ≡ false)
+  pub far : is_far i ≡ true → is_far_put i ≡ false → ((k : ℕ) → k < 64 → IsPlainAt kinds i k) × (is_homed kinds i ≡ false → is_alone notes ≡ false)
   pub near : (k : ℕ) → whole_slot i ≡ Some k → is_plain (kinds (11 + k)) ≡ true
 
 module _ (ends : Order) (notes : List (Option Place)) (turns : ℕ) (passed : Past) where
@@ -205,74 +206,74 @@ module _ (ends : Order) (notes : List (Option Place)) (turns : ℕ) (passed : Pa
       ap (λ o. option_map_or (λ a. not (is_r10 a.base) && (a.writes || is_whole i)) o false) ea ∙ ap₂ (λ b w. not b && (w || is_whole i)) e ew
 
   -- where it may go to each slot all are plain
-  calm : (i : Insn) (kinds : Kinds) → Tame notes kinds i → is_far i ≡ true → ((k : ℕ) → misses kinds i k ≡ false) → Calm ends notes turns passed kinds
-  calm i kinds tame far hits = let t = tame.far far in (λ k lt. t.0 k lt (hits k), t.1)
+  calm : (i : Insn) (a : Access) (kinds : Kinds) (s t : State) (base : Value) (at : Location) → access_of i ≡ Some a → Between ends notes turns passed kinds s t → Owns s → Tame notes kinds i → is_far i ≡ true → is_far_put i ≡ false → ((k : ℕ) → misses kinds i k ≡ false)
+      → register s a.base ≡ Some base → location_of s (byte_count a.size) a.offset base ≡ Some at → Calm ends notes turns passed kinds s at
+  calm i a kinds s t base at ea h o tame far reads hits eb el = let g = tame.far far reads in calm_by ends notes turns passed i a kinds s t base at (λ k lt. g.0 k lt (hits k)) g.1 ea h o eb el
 
-  -- a number is put somewhere
-  number_put : (order : Order) (i : Insn) (a : Access) (kinds : Kinds) (s t u : State) (x : ℕ) (base : Value) (at : Location) → access_of i ≡ Some a → a.writes ≡ true → Between ends notes turns passed kinds s t → Owns s → Tame notes kinds i → ((k : ℕ) → misses kinds i k ≡ false)
+  calm_next : (kinds : Kinds) (s : State) (x : ℕ) (at : Location) → Calm ends notes turns passed kinds s at → Calm ends notes turns passed kinds (at_slot x s) at
+  calm_next kinds s x at c = (c.0, elim c.1 [ inl here ↦ inl (here_next s x at here) | inr reached ↦ inr reached ])
+
+  -- a number is put into the own frame
+  number_here : (order : Order) (i : Insn) (a : Access) (kinds : Kinds) (s t u : State) (x : ℕ) (base : Value) (at : Location) → access_of i ≡ Some a → a.writes ≡ true → Between ends notes turns passed kinds s t → Owns s → is_r10 a.base ≡ true
       → register s a.base ≡ Some base → location_of s (byte_count a.size) a.offset base ≡ Some at → store_number order (byte_count a.size) x at (next i s) ≡ Some u
       → Goes ends notes turns passed (stored i Same kinds) (s.top.slot + slot_count i) (t.top.slot + slot_count i) u (store_number order (byte_count a.size) x at (next i t))
-  number_put order i a kinds s t u x base at ea ew h o tame hits eb el e = by_cases (cases_Bool (is_r10 a.base))
-    where
-      stands : Between ends notes turns passed kinds (next i s) (next i t)
-      stands = stands_at ends notes turns passed kinds s t _ _ h
+  number_here order i a kinds s t u x base at ea ew h o r10 eb el e =
+      let n = near s a.base (byte_count a.size) a.offset base at o r10 eb el in
+      subst (λ at. Goes ends notes turns passed (stored i Same kinds) (s.top.slot + slot_count i) (t.top.slot + slot_count i) u (store_number order (byte_count a.size) x at (next i t))) (sym n.is)
+      (number_near ends notes turns passed order kinds (stored i Same kinds) (next i s) (next i t) u (byte_count a.size) x n.first (stands_at ends notes turns passed kinds s t _ _ h) (in_some i a Same kinds n.first ea ew r10 n.away)
+      (subst (λ at. store_number order (byte_count a.size) x at (next i s) ≡ Some u) n.is e))
 
+  -- or somewhere, where it is read as well
+  number_put : (order : Order) (i : Insn) (a : Access) (kinds : Kinds) (s t u : State) (x : ℕ) (base : Value) (at : Location) → access_of i ≡ Some a → a.writes ≡ true → Between ends notes turns passed kinds s t → Owns s → Tame notes kinds i → is_far_put i ≡ false → ((k : ℕ) → misses kinds i k ≡ false)
+      → register s a.base ≡ Some base → location_of s (byte_count a.size) a.offset base ≡ Some at → store_number order (byte_count a.size) x at (next i s) ≡ Some u
+      → Goes ends notes turns passed (stored i Same kinds) (s.top.slot + slot_count i) (t.top.slot + slot_count i) u (store_number order (byte_count a.size) x at (next i t))
+  number_put order i a kinds s t u x base at ea ew h o tame reads hits eb el e = by_cases (cases_Bool (is_r10 a.base))
+    where
       by_cases : (is_r10 a.base ≡ true) ⊎ (is_r10 a.base ≡ false) → Goes ends notes turns passed (stored i Same kinds) (s.top.slot + slot_count i) (t.top.slot + slot_count i) u (store_number order (byte_count a.size) x at (next i t))
-      by_cases (inl r10) =
-          let n = near s a.base (byte_count a.size) a.offset base at o r10 eb el in
-          subst (λ at. Goes ends notes turns passed (stored i Same kinds) (s.top.slot + slot_count i) (t.top.slot + slot_count i) u (store_number order (byte_count a.size) x at (next i t))) (sym n.is)
-          (number_near ends notes turns passed order kinds (stored i Same kinds) (next i s) (next i t) u (byte_count a.size) x n.first stands (in_some i a Same kinds n.first ea ew r10 n.away) (subst (λ at. store_number order (byte_count a.size) x at (next i s) ≡ Some u) n.is e))
+      by_cases (inl r10) = number_here order i a kinds s t u x base at ea ew h o r10 eb el e
       by_cases (inr far) =
-          number_stored ends notes turns passed order kinds (stored i Same kinds) (next i s) (next i t) u (byte_count a.size) x at stands (calm i kinds tame (far_is i a ea far ew) hits) (in_all i a kinds ea ew far)
+          number_stored ends notes turns passed order kinds (stored i Same kinds) (next i s) (next i t) u (byte_count a.size) x at (stands_at ends notes turns passed kinds s t _ _ h)
+          (calm_next kinds s (s.top.slot + slot_count i) at (calm i a kinds s t base at ea h o tame (far_is i a ea far ew) reads hits eb el)) (in_all i a kinds ea ew far)
           (live_next s (s.top.slot + slot_count i) at (live_location s (byte_count a.size) a.offset base at el)) e
 
   -- a pointer is put into a slot
-  pointer_put : (order : Order) (i : Insn) (a : Access) (kinds : Kinds) (s t u : State) (region : Region) (z : ℤ) (base : Value) (at : Location) → access_of i ≡ Some a → a.writes ≡ true → a.size ≡ DW → Between ends notes turns passed kinds s t → Owns s → Tame notes kinds i → ((k : ℕ) → misses kinds i k ≡ false)
+  pointer_here : (order : Order) (i : Insn) (a : Access) (kinds : Kinds) (s t u : State) (region : Region) (z : ℤ) (base : Value) (at : Location) → access_of i ≡ Some a → a.writes ≡ true → a.size ≡ DW → Between ends notes turns passed kinds s t → Owns s → is_r10 a.base ≡ true
       → register s a.base ≡ Some base → location_of s (byte_count a.size) a.offset base ≡ Some at → store order DW (Pointer region z) at (next i s) ≡ Some u
       → Goes ends notes turns passed (stored i Same kinds) (s.top.slot + slot_count i) (t.top.slot + slot_count i) u (store order DW (Pointer region z) at (next i t))
-  pointer_put order i a kinds s t u region z base at ea ew double h o tame hits eb el e = by_cases (cases_Bool (is_r10 a.base))
-    where
-      stands : Between ends notes turns passed kinds (next i s) (next i t)
-      stands = stands_at ends notes turns passed kinds s t _ _ h
+  pointer_here order i a kinds s t u region z base at ea ew double h o r10 eb el e =
+      let n = near s a.base (byte_count a.size) a.offset base at o r10 eb el in
+      subst (λ at. Goes ends notes turns passed (stored i Same kinds) (s.top.slot + slot_count i) (t.top.slot + slot_count i) u (store order DW (Pointer region z) at (next i t))) (sym n.is)
+      (own_stored ends notes turns passed order kinds (stored i Same kinds) (next i s) (next i t) u DW (Pointer region z) n.first (stands_at ends notes turns passed kinds s t _ _ h)
+      (subst (λ size. InSome kinds (stored i Same kinds) (is_within (n.first / 8) ((n.first + byte_count size + 7) / 8)) Same) double (in_some i a Same kinds n.first ea ew r10 n.away))
+      (subst (λ size. n.first + byte_count size ≤ 512) double n.fits)
+      (subst (λ at. store order DW (Pointer region z) at (next i s) ≡ Some u) n.is e))
 
-      by_cases : (is_r10 a.base ≡ true) ⊎ (is_r10 a.base ≡ false) → Goes ends notes turns passed (stored i Same kinds) (s.top.slot + slot_count i) (t.top.slot + slot_count i) u (store order DW (Pointer region z) at (next i t))
-      by_cases (inl r10) =
-          let n = near s a.base (byte_count a.size) a.offset base at o r10 eb el in
-          subst (λ at. Goes ends notes turns passed (stored i Same kinds) (s.top.slot + slot_count i) (t.top.slot + slot_count i) u (store order DW (Pointer region z) at (next i t))) (sym n.is)
-          (own_stored ends notes turns passed order kinds (stored i Same kinds) (next i s) (next i t) u DW (Pointer region z) n.first stands
-          (subst (λ size. InSome kinds (stored i Same kinds) (is_within (n.first / 8) ((n.first + byte_count size + 7) / 8)) Same) double (in_some i a Same kinds n.first ea ew r10 n.away))
-          (subst (λ size. n.first + byte_count size ≤ 512) double n.fits)
-          (subst (λ at. store order DW (Pointer region z) at (next i s) ≡ Some u) n.is e))
-      by_cases (inr far) =
-          store_kept ends notes turns passed order kinds (stored i Same kinds) (next i s) (next i t) u DW (Pointer region z) at stands (calm i kinds tame (far_is i a ea far ew) hits) (in_all i a kinds ea ew far)
-          (live_next s (s.top.slot + slot_count i) at (live_location s (byte_count a.size) a.offset base at el)) e
-
-  -- a value is stored at a place
-  pub store_at : (order : Order) (i : Insn) (kinds : Kinds) (s t u : State) (dst : Reg) (size : Size) (off : ℤ) (base v : Value) (at : Location) → access_of i ≡ Some (record { base = dst; offset = off; size = size; reads = false; writes = true }) → is_call i ≡ false → register_written i ≡ None
-      → Between ends notes turns passed kinds s t → Owns s → Tame notes kinds i → ((k : ℕ) → misses kinds i k ≡ false) → register s dst ≡ Some base → location_of s (byte_count size) off base ≡ Some at → store order size v at (next i s) ≡ Some u
+  -- a value is stored in the own frame
+  store_here : (order : Order) (i : Insn) (kinds : Kinds) (s t u : State) (dst : Reg) (size : Size) (off : ℤ) (base v : Value) (at : Location) → access_of i ≡ Some (record { base = dst; offset = off; size = size; reads = false; writes = true }) → is_call i ≡ false → register_written i ≡ None
+      → Between ends notes turns passed kinds s t → Owns s → is_r10 dst ≡ true → register s dst ≡ Some base → location_of s (byte_count size) off base ≡ Some at → store order size v at (next i s) ≡ Some u
       → Goes ends notes turns passed (kinds_after i Same kinds) (s.top.slot + slot_count i) (t.top.slot + slot_count i) u (store order size v at (next i t))
-  store_at order i kinds s t u dst size off base v at ea call none h o tame hits eb el e = behind_store i Same kinds _ _ u _ call none (by_value size v ea el e)
+  store_here order i kinds s t u dst size off base v at ea call none h o r10 eb el e = behind_store i Same kinds _ _ u _ call none (by_value size v ea el e)
     where
       by_value : (size : Size) (v : Value) → access_of i ≡ Some (record { base = dst; offset = off; size = size; reads = false; writes = true }) → location_of s (byte_count size) off base ≡ Some at → store order size v at (next i s) ≡ Some u
           → Goes ends notes turns passed (stored i Same kinds) (s.top.slot + slot_count i) (t.top.slot + slot_count i) u (store order size v at (next i t))
-      by_value size (Number x) ea el e1 = number_put order i (record { base = dst; offset = off; size = size; reads = false; writes = true }) kinds s t u x base at ea refl h o tame hits eb el e1
-      by_value DW (Pointer region z) ea el e1 = pointer_put order i (record { base = dst; offset = off; size = DW; reads = false; writes = true }) kinds s t u region z base at ea refl refl h o tame hits eb el e1
+      by_value size (Number x) ea el e1 = number_here order i (record { base = dst; offset = off; size = size; reads = false; writes = true }) kinds s t u x base at ea refl h o r10 eb el e1
+      by_value DW (Pointer region z) ea el e1 = pointer_here order i (record { base = dst; offset = off; size = DW; reads = false; writes = true }) kinds s t u region z base at ea refl refl h o r10 eb el e1
       by_value B (Pointer region z) ea el e1 = absurd (none-some _ e1)
       by_value H (Pointer region z) ea el e1 = absurd (none-some _ e1)
       by_value W (Pointer region z) ea el e1 = absurd (none-some _ e1)
 
   store_next : (order : Order) (i : Insn) (kinds : Kinds) (s t u : State) (dst : Reg) (size : Size) (off : ℤ) (base v : Value) → access_of i ≡ Some (record { base = dst; offset = off; size = size; reads = false; writes = true }) → is_call i ≡ false → register_written i ≡ None
-      → Between ends notes turns passed kinds s t → Owns s → Tame notes kinds i → ((k : ℕ) → misses kinds i k ≡ false) → register s dst ≡ Some base
+      → Between ends notes turns passed kinds s t → Owns s → is_r10 dst ≡ true → register s dst ≡ Some base
       → option_and_then (λ at. store order size v at (next i s)) (location_of s (byte_count size) off base) ≡ Some u
       → Goes ends notes turns passed (kinds_after i Same kinds) (s.top.slot + slot_count i) (t.top.slot + slot_count i) u (option_and_then (λ at. store order size v at (next i t)) (location_of t (byte_count size) off base))
-  store_next order i kinds s t u dst size off base v ea call none h o tame hits eb e = option_and_then_some _ (location_of s (byte_count size) off base) u e (λ at el e1.
+  store_next order i kinds s t u dst size off base v ea call none h o r10 eb e = option_and_then_some _ (location_of s (byte_count size) off base) u e (λ at el e1.
       goes_as ends notes turns passed _ _ _ u _ _ (bind _ (location_of t (byte_count size) off base) at _ (location_kept kinds s t (byte_count size) off base at h el) refl)
-      (store_at order i kinds s t u dst size off base v at ea call none h o tame hits eb el e1))
+      (store_here order i kinds s t u dst size off base v at ea call none h o r10 eb el e1))
 
   -- a pointer that is loaded whole
-  pointers_loaded : (kinds : Kinds) (s t : State) (size : Size) (dst src : Reg) (off : ℤ) (base : Value) (at : Location) → Between ends notes turns passed kinds s t → Owns s → Tame notes kinds (Load size dst src off) → register s src ≡ Some base → location_of s (byte_count size) off base ≡ Some at
+  pub pointers_loaded : (kinds : Kinds) (s t : State) (size : Size) (dst src : Reg) (off : ℤ) (base : Value) (at : Location) → Between ends notes turns passed kinds s t → Owns s → Tame notes kinds (Load size dst src off) → register s src ≡ Some base → location_of s (byte_count size) off base ≡ Some at
       → is_double size ≡ true → PointersKept ends notes turns passed s t at
-  pointers_loaded kinds s t DW dst src off base at h o tame eb el e = by_cases (cases_Bool (is_r10 src)) (cases_Bool (is_inner (kinds (register_number src))))
+  pointers_loaded kinds s t DW dst src off base at h o tame eb el e = by_cases (cases_Bool (is_r10 src)) (cases_Bool (has_reach (kinds (register_number src))))
     where
       a : Access
       a = record { base = src; offset = off; size = DW; reads = true; writes = false }
@@ -280,7 +281,7 @@ module _ (ends : Order) (notes : List (Option Place)) (turns : ℕ) (passed : Pa
       far_load : is_r10 src ≡ false → is_far (Load DW dst src off) ≡ true
       far_load far = ap (λ b. not b && true) far
 
-      by_cases : (is_r10 src ≡ true) ⊎ (is_r10 src ≡ false) → (is_inner (kinds (register_number src)) ≡ true) ⊎ (is_inner (kinds (register_number src)) ≡ false) → PointersKept ends notes turns passed s t at
+      by_cases : (is_r10 src ≡ true) ⊎ (is_r10 src ≡ false) → (has_reach (kinds (register_number src)) ≡ true) ⊎ (has_reach (kinds (register_number src)) ≡ false) → PointersKept ends notes turns passed s t at
       by_cases (inl r10) way =
           let n = near s src 8 off base at o r10 eb el in
           let fits = n.fits in
@@ -288,7 +289,7 @@ module _ (ends : Order) (notes : List (Option Place)) (turns : ℕ) (passed : Pa
           subst (PointersKept ends notes turns passed s t) (sym n.is) (whole_kept ends notes turns passed kinds s t n.first h n.fits (λ whole. tame.near (n.first / 8) (slot whole)))
       by_cases (inr far) (inl inner) =
           let l = lies_by ends notes turns passed kinds s t a base at h o inner eb el in
-          subst (PointersKept ends notes turns passed s t) (sym l.is) (whole_kept ends notes turns passed kinds s t l.first h l.fits (λ whole. (tame.far (far_load far)).0 (l.first / 8) (below l.first l.fits) (hit l)))
+          subst (PointersKept ends notes turns passed s t) (sym l.is) (whole_kept ends notes turns passed kinds s t l.first h l.fits (λ whole. (tame.far (far_load far) refl).0 (l.first / 8) (below l.first l.fits) (hit l)))
         where
           below : (i : ℕ) → i + 8 ≤ 512 → i / 8 < 64
           below i fits = omega arith
@@ -296,12 +297,17 @@ module _ (ends : Order) (notes : List (Option Place)) (turns : ℕ) (passed : Pa
           hit : (l : Lies s (kinds (register_number src)) a at) → misses kinds (Load DW dst src off) (l.first / 8) ≡ false
           hit l = and_right (not (is_r10 src)) (is_beside (kinds (register_number src)) a (l.first / 8)) (not_beside s (kinds (register_number src)) a at l)
       by_cases (inr far) (inr outer) =
-          pointers_kept ends notes turns passed kinds s t at h (calm (Load DW dst src off) kinds tame (far_load far) (λ k. and_right (not (is_r10 src)) (is_beside (kinds (register_number src)) a k) (no_beside (kinds (register_number src)) a k outer)))
+          pointers_kept ends notes turns passed kinds s t at h (calm (Load DW dst src off) a kinds s t base at refl h o tame (far_load far) refl (λ k. and_right (not (is_r10 src)) (is_beside (kinds (register_number src)) a k) (no_beside (kinds (register_number src)) a k outer)) eb el)
   pointers_loaded kinds s t B dst src off base at h o tame eb el e = absurd (false≢true e)
   pointers_loaded kinds s t H dst src off base at h o tame eb el e = absurd (false≢true e)
   pointers_loaded kinds s t W dst src off base at h o tame eb el e = absurd (false≢true e)
 
-  pub plain : (order : Order) (i : Insn) (kinds : Kinds) (s t u : State) → IsState s → Between ends notes turns passed kinds s t → Owns s → AllSame kinds (registers_read i) → Tame notes kinds i → inner_store kinds i ≡ false → goes_on i ≡ true → distance i ≡ None → does order i s ≡ Some u → Next order i kinds s t u
+  by_r10 : (b : Bool) → not b ≡ false → b ≡ true
+  by_r10 true e = refl
+  by_r10 false e = absurd (false≢true (sym e))
+
+  -- a store by another register than r10 aside
+  pub plain : (order : Order) (i : Insn) (kinds : Kinds) (s t u : State) → IsState s → Between ends notes turns passed kinds s t → Owns s → AllSame kinds (registers_read i) → Tame notes kinds i → is_far_put i ≡ false → goes_on i ≡ true → distance i ≡ None → does order i s ≡ Some u → Next order i kinds s t u
   unfolding does
   plain order (Alu Mov width dst src) kinds s t u state h o same tame outer on none e = alu_next order Mov width dst src kinds s t u state o h same (λ b v ev. ev) e
   plain order (Alu op width dst src) kinds s t u state h o same tame outer on none e = alu_next order op width dst src kinds s t u state o h same.1 (λ b v ev. alu_kept width op (register s dst) (register t dst) b v (register_kept kinds s t dst h same.0) ev) e
@@ -314,18 +320,18 @@ module _ (ends : Order) (notes : List (Option Place)) (turns : ℕ) (passed : Pa
   plain order (Store size dst off src) kinds s t u state h o same tame outer on none e = option_and_then_some _ (register s dst) u e (λ base eb e1. option_and_then_some _ (register s src) u e1 (λ v ev e2.
       goes_as ends notes turns passed _ _ _ u _ _
       (bind _ (register t dst) base _ (register_kept kinds s t dst h same.0 base eb) (bind _ (register t src) v _ (register_kept kinds s t src h same.1.0 v ev) refl))
-      (store_next order (Store size dst off src) kinds s t u dst size off base v refl refl refl h o tame (λ k. store_hits kinds (record { base = dst; offset = off; size = size; reads = false; writes = true }) k refl outer) eb e2)))
+      (store_next order (Store size dst off src) kinds s t u dst size off base v refl refl refl h o (by_r10 (is_r10 dst) outer) eb e2)))
   plain order (StoreImm size dst off imm) kinds s t u state h o same tame outer on none e = option_and_then_some _ (register s dst) u e (λ base eb e1.
       goes_as ends notes turns passed _ _ _ u _ _
       (bind _ (register t dst) base _ (register_kept kinds s t dst h same.0 base eb) refl)
-      (store_next order (StoreImm size dst off imm) kinds s t u dst size off base (Number (extended imm)) refl refl refl h o tame (λ k. store_hits kinds (record { base = dst; offset = off; size = size; reads = false; writes = true }) k refl outer) eb e1))
+      (store_next order (StoreImm size dst off imm) kinds s t u dst size off base (Number (extended imm)) refl refl refl h o (by_r10 (is_r10 dst) outer) eb e1))
   plain order (Atomic wide op dst off src) kinds s t u state h o same tame outer on none e =
       let i : Insn = Atomic wide op dst off src in
       let size : Size = word_size wide in
       let k : ℕ = byte_count size in
       option_and_then_some _ (register s dst) u e (λ base eb e1. option_and_then_some _ (number_of_register s src) u e1 (λ x ex e2. option_and_then_some _ (location_of s k off base) u e2 (λ at ea e3. option_and_then_some _ (number_at order s k at) u e3 (λ old eo e4. option_and_then_some _ (atomic_result op size old x (number_of_register s R0)) u e4 (λ new en e5. option_and_then_some _ (store_number order k new at (next i s)) u e5 (λ mid em e6.
       let a : Access = record { base = dst; offset = off; size = size; reads = true; writes = true } in
-      let put = number_put order i a kinds s t mid new base at refl refl h o tame (λ k. and_right (not (is_r10 dst)) false refl) eb ea em in
+      let put = number_put order i a kinds s t mid new base at refl refl h o tame refl (λ k. and_right (not (is_r10 dst)) false refl) eb ea em in
       let fetch = goes_alike ends notes turns passed (kinds_after i Same (stored i Same kinds)) (kinds_after i Same kinds) _ _ u _ (after_stored i Same kinds refl)
       (fetched_kept i (stored i Same kinds) mid put.state u (fetch_register op src) old (λ q lt. changed_low i q refl lt) (stored_are i Same kinds refl) put.between e6) in
       goes_as ends notes turns passed _ _ _ u _ _
@@ -379,7 +385,7 @@ module _ (ends : Order) (notes : List (Option Place)) (turns : ℕ) (passed : Pa
       (goes_held ends notes turns passed i kind after _ _ (next i s) (Some (next j t)) (λ q lt. refl) (λ k lt c. absurd (false≢true c)) (record { state = next j t; is = refl; between = stands_at ends notes turns passed after s t _ _ h; old_slot = refl; new_slot = refl })) (falls refl may))
 
   -- an instruction that neither calls nor ends, on registers that hold the same, with another distance
-  pub same_arrives : (order : Order) (i : Insn) (z : ℤ) (kinds : Kinds) (s t u : State) → IsState s → Between ends notes turns passed kinds s t → Owns s → AllSame kinds (registers_read i) → Tame notes kinds i → inner_store kinds i ≡ false → is_flow i ≡ false
+  pub same_arrives : (order : Order) (i : Insn) (z : ℤ) (kinds : Kinds) (s t u : State) → IsState s → Between ends notes turns passed kinds s t → Owns s → AllSame kinds (registers_read i) → Tame notes kinds i → is_far_put i ≡ false → is_flow i ≡ false
       → FallArrives i (number_kind kinds i) kinds s.top.slot t.top.slot → JumpArrives i (redirect i z) (number_kind kinds i) kinds s.top.slot t.top.slot → does order i s ≡ Some u → Arrived ends notes turns passed u (does order (redirect i z) t)
   unfolding does
   same_arrives order (Ja off) z kinds s t u state h o same tame outer flow falls jumps e = jumped (Ja off) (Ja z) Same kinds s t u off z h (λ q. refl) refl refl (jumps refl) e

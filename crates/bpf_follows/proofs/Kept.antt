@@ -1,7 +1,7 @@
 -- What the new program keeps in its frame, and extra instructions one after another.
 use Rattle.std.proofs.Common.{◌≡◌, ℕ, zero, suc, ◌+◌, ◌*◌, ◌-◌, ◌<◌, ◌≤◌, ◌⊎◌, inl, inr, ◌==◌, ◌^◌, Bool, true, false, cond, List, Option, Some, None, length, get_or, set, refl, sym, ap, ◌∙◌, subst, arith}
 use Rattle.std.specs.Prelude.{ℤ, pos, ◌+ℤ◌, not, take, drop, ◌&&◌, nat_le, option_map, if◌then◌else◌}
-use Rattle.std.specs.Option.{option_or}
+use Rattle.std.specs.Option.{option_map_or, option_or}
 use Rattle.std.specs.Ordering.{int_eq}
 use Rattle.std.proofs.lemmas.Option.{none-some, same_Some, option_and_then_some}
 use Rattle.std.proofs.lemmas.Bool.{leb-true, le-leb, cases_Bool, eqb-true, eqb-false, eq-eqb, false≢true}
@@ -27,12 +27,12 @@ use Rattle.bpf_semantics.specs.declared.value.Value.TheVariants.{Number, Pointer
 use Rattle.bpf_semantics.specs.declared.value.Region.TheVariants.{Context, Frame as FrameAt}
 use Rattle.bpf_semantics.proofs.NumberLemmas.{modulo_below}
 use Rattle.bpf_follows.specs.declared.notes.Kind.{Kind}
-use Rattle.bpf_follows.specs.declared.notes.Kind.TheVariants.{Nothing, Natural, Inner, Length, Sized, Ending, Offset, Fixed, Within, Start, Head, Base, Moved, Address, Constant, Counter, Turn, Both, Saved}
+use Rattle.bpf_follows.specs.declared.notes.Kind.TheVariants.{Nothing, Number as NumberKind, Natural, Inner, Length, Sized, Closing, Ending, Offset, Fixed, Within, Start, Head, Base, Moved, Address, Constant, Counter, Turn, Both, Saved, Kept}
 use Rattle.bpf_follows.specs.declared.notes.Place.{Place}
 use Rattle.bpf_follows.specs.declared.site.Front.{Front}
 use Rattle.bpf_follows.specs.Areas.{origin}
-use Rattle.bpf_follows.specs.Relation.{Past, kind_in, is_free, IsOneValue, FitsKind, Holds, IsUnset, IsRead, FitsSlot, register_in}
-use Rattle.bpf_follows.specs.Extras.{is_same, is_r10, slot_of, kind_of, copied, frame_slot, own_kind, kept_kind, free_slot, stored, stored_constant, restored, taken, is_base, size_in, packet_length, moved_by, made, put_by}
+use Rattle.bpf_follows.specs.Relation.{Past, kind_in, is_free, IsOneValue, IsOneNumber, FitsKind, Holds, IsUnset, IsRead, FitsSlot, register_in}
+use Rattle.bpf_follows.specs.Extras.{is_same, is_r10, slot_of, kind_of, copied, frame_slot, own_kind, kept_kind, free_slot, stored, stored_constant, given_in, closing, restored, taken, is_base, size_in, packet_length, moved_by, made, put_by}
 use Rattle.bpf_follows.specs.Guards.{passes, passed_by}
 use Rattle.bpf_follows.specs.Sequence.{written, extra, extra_at, behind, most_extras, extras}
 use Rattle.bpf_follows.proofs.Lists.{bind, unmapped, cond_first, cond_second, as_long, Cells}
@@ -43,7 +43,7 @@ use Rattle.bpf_follows.proofs.Slots.{register_below, free_unset, slot_as, load_h
 use Rattle.bpf_follows.proofs.Between.{Between, same_depth, location_same, own_stack_of}
 use Rattle.bpf_follows.proofs.Near.{whole_slot_at}
 use Rattle.bpf_follows.proofs.Instruction.{both_true, same_kept}
-use Rattle.bpf_follows.proofs.Extra.{kind_set, HoldsPacket, Facts, free_is, base_has, copied_fits, Goes1, moves, writes, fits_at, put_goes, new_step}
+use Rattle.bpf_follows.proofs.Extra.{kind_set, given_is, HoldsPacket, Facts, free_is, base_has, copied_fits, Goes1, moves, writes, fits_at, put_goes, new_step}
 use Rattle.bpf_follows.proofs.PacketGuards.{passes_goes}
 
 -- ---- values that are kept
@@ -53,6 +53,7 @@ is_own Base = true
 is_own (Moved area of by) = true
 is_own (Address area of by) = true
 is_own (Saved of) = true
+is_own (Kept of least most) = true
 is_own (Constant value) = true
 is_own (Counter head) = true
 is_own (Turn head) = true
@@ -60,28 +61,42 @@ is_own (Ending by) = true
 is_own kind = false
 
 module _ (ends : Order) (turns : ℕ) (passed : Past) (registers : ℕ → Option Value) where
+  closing_fits : (w x : ℕ) (by : ℕ) (have : Kind) (v : Value) (new : Option Value) → FitsKind turns passed registers w have new → FitsKind turns passed registers x (Ending by) (Some v) → FitsKind turns passed registers w (closing by have) (Some v)
+  closing_fits w x by have v new h f = by_given (given_in have) refl
+    where
+      by_given : (o : Option ℤ) → given_in have ≡ o → FitsKind turns passed registers w (option_map_or (Closing by) o (Ending by)) (Some v)
+      by_given None e = f
+      by_given (Some offset) e = record { size = f.size; packet_is = f.packet_is; short = f.short; is = (f.is.0, given_is turns passed registers w have offset new e h, f.is.1) }
+
   -- what is kept is said wherever it stands, and what was saved is put back
-  restored_fits : (dst : Reg) (x : ℕ) (kind : Kind) (v : Value) → is_own kind ≡ true → FitsKind turns passed registers x kind (Some v) → FitsKind turns passed registers (register_number dst) (restored dst kind) (Some v)
+  restored_fits : (dst : Reg) (x : ℕ) (have kind : Kind) (v : Value) (new : Option Value) → is_own kind ≡ true → FitsKind turns passed registers (register_number dst) have new → FitsKind turns passed registers x kind (Some v)
+      → FitsKind turns passed registers (register_number dst) (restored dst have kind) (Some v)
   unfolding restored
-  restored_fits dst x (Saved of) v e f = by_cases (register_number of == register_number dst) refl
+  restored_fits dst x have (Saved of) v new e h f = by_cases (register_number of == register_number dst) refl
     where
       by_cases : (b : Bool) → register_number of == register_number dst ≡ b → FitsKind turns passed registers (register_number dst) (if b then Both else Saved of) (Some v)
       by_cases true eb = subst (λ q. IsOneValue (registers q) (Some v)) (eqb-true (register_number of) (register_number dst) eb) f
       by_cases false eb = f
-  restored_fits dst x Base v e f = f
-  restored_fits dst x (Moved area of by) v e f = f
-  restored_fits dst x (Address area of by) v e f = f
-  restored_fits dst x (Constant value) v e f = f
-  restored_fits dst x (Counter head) v e f = f
-  restored_fits dst x (Turn head) v e f = f
-  restored_fits dst x (Ending by) v e f = f
-  restored_fits dst x kind v e f = absurd (false≢true e)
+  restored_fits dst x have (Kept of least most) v new e h f = by_cases (register_number of == register_number dst) refl
+    where
+      by_cases : (b : Bool) → register_number of == register_number dst ≡ b → FitsKind turns passed registers (register_number dst) (if b then NumberKind least most else Kept of least most) (Some v)
+      by_cases true eb = subst (λ q. IsOneNumber least most (registers q) (Some v)) (eqb-true (register_number of) (register_number dst) eb) f
+      by_cases false eb = f
+  restored_fits dst x have (Ending by) v new e h f = closing_fits (register_number dst) x by have v new h f
+  restored_fits dst x have Base v new e h f = f
+  restored_fits dst x have (Moved area of by) v new e h f = f
+  restored_fits dst x have (Address area of by) v new e h f = f
+  restored_fits dst x have (Constant value) v new e h f = f
+  restored_fits dst x have (Counter head) v new e h f = f
+  restored_fits dst x have (Turn head) v new e h f = f
+  restored_fits dst x have kind v new e h f = absurd (false≢true e)
 
   own_value : (w : ℕ) (kind : Kind) (v : Value) → ((q : ℕ) → FitsMachine (registers q)) → is_own kind ≡ true → FitsKind turns passed registers w kind (Some v) → FitsMachine (Some v)
   own_value w Base v machine e f = subst FitsMachine (sym f) (record { sfits = omega arith })
   own_value w (Moved area of by) v machine e f = subst FitsMachine (sym f.new_is) (modulo_below (f.offset +ℤ (origin area +ℤ by)))
   own_value w (Address area of by) v machine e f = subst FitsMachine (sym f.new_is) (machine_there f.region f.offset _ (subst FitsMachine f.old_is (machine (register_number of))) (wrapped_fits (f.offset +ℤ (origin area +ℤ by))))
   own_value w (Saved of) v machine e f = subst FitsMachine (f.old_is ∙ sym f.new_is) (machine (register_number of))
+  own_value w (Kept of least most) v machine e f = subst FitsMachine (f.old_is ∙ sym f.new_is) (machine (register_number of))
   own_value w (Constant value) v machine e f = subst FitsMachine (sym f) (modulo_below value)
   own_value w (Counter head) v machine e f = subst FitsMachine (sym f.2) f.1
   own_value w (Turn head) v machine e f = subst FitsMachine (sym f.2) f.1
@@ -93,6 +108,7 @@ module _ (ends : Order) (turns : ℕ) (passed : Past) (registers : ℕ → Optio
   own_slot xs ys k (Moved area of by) v e u h f = record { unset = u; value = v; holds = h; fits = f }
   own_slot xs ys k (Address area of by) v e u h f = record { unset = u; value = v; holds = h; fits = f }
   own_slot xs ys k (Saved of) v e u h f = record { unset = u; value = v; holds = h; fits = f }
+  own_slot xs ys k (Kept of least most) v e u h f = record { unset = u; value = v; holds = h; fits = f }
   own_slot xs ys k (Constant value) v e u h f = record { unset = u; value = v; holds = h; fits = f }
   own_slot xs ys k (Counter head) v e u h f = record { unset = u; value = v; holds = h; fits = f }
   own_slot xs ys k (Turn head) v e u h f = record { unset = u; value = v; holds = h; fits = f }
@@ -111,6 +127,7 @@ module _ (ends : Order) (turns : ℕ) (passed : Past) (registers : ℕ → Optio
   slot_has xs ys k (Moved area of by) made e f = subst (Has ys k) (same_Some _ _ e) (record { value = f.value; holds = f.holds; fits = f.fits; own = refl })
   slot_has xs ys k (Address area of by) made e f = subst (Has ys k) (same_Some _ _ e) (record { value = f.value; holds = f.holds; fits = f.fits; own = refl })
   slot_has xs ys k (Saved of) made e f = subst (Has ys k) (same_Some _ _ e) (record { value = f.value; holds = f.holds; fits = f.fits; own = refl })
+  slot_has xs ys k (Kept of least most) made e f = subst (Has ys k) (same_Some _ _ e) (record { value = f.value; holds = f.holds; fits = f.fits; own = refl })
   slot_has xs ys k (Constant value) made e f = subst (Has ys k) (same_Some _ _ e) (record { value = f.value; holds = f.holds; fits = f.fits; own = refl })
   slot_has xs ys k (Counter head) made e f = subst (Has ys k) (same_Some _ _ e) (record { value = f.value; holds = f.holds; fits = f.fits; own = refl })
   slot_has xs ys k (Turn head) made e f = subst (Has ys k) (same_Some _ _ e) (record { value = f.value; holds = f.holds; fits = f.fits; own = refl })
@@ -130,6 +147,7 @@ module _ (ends : Order) (turns : ℕ) (passed : Past) (registers : ℕ → Optio
   copied_own r Head made e = subst (λ made. is_own made ≡ true) (same_Some _ _ e) refl
   copied_own r (Length most) made e = subst (λ made. is_own made ≡ true) (same_Some _ _ e) refl
   copied_own r (Ending by) made e = subst (λ made. is_own made ≡ true) (same_Some _ _ e) refl
+  copied_own r (Closing by offset) made e = subst (λ made. is_own made ≡ true) (same_Some _ _ e) refl
   copied_own r (Offset area) made e = subst (λ made. is_own made ≡ true) (same_Some _ _ e) refl
   copied_own r (Fixed area at) made e = subst (λ made. is_own made ≡ true) (same_Some _ _ e) refl
   copied_own r (Within area least most) made e = subst (λ made. is_own made ≡ true) (same_Some _ _ e) refl
@@ -142,6 +160,7 @@ module _ (ends : Order) (turns : ℕ) (passed : Past) (registers : ℕ → Optio
   register_put w r (Counter head) made new e f = subst (λ made. Put made new w) (same_Some _ _ e) (record { value = Number f.0; is = f.2; fits = (f.0, f.1, refl, f.3); own = refl })
   register_put w r (Turn head) made new e f = subst (λ made. Put made new w) (same_Some _ _ e) (record { value = Number f.0; is = f.2; fits = (f.0, f.1, refl, f.3); own = refl })
   register_put w r Both made new e f = subst (λ made. Put made new w) (same_Some _ _ e) (record { value = f.value; is = f.new_is; fits = record { value = f.value; old_is = f.old_is; new_is = refl }; own = refl })
+  register_put w r (NumberKind least most) made new e f = subst (λ made. Put made new w) (same_Some _ _ e) (record { value = Number f.number; is = f.new_is; fits = record { number = f.number; low = f.low; high = f.high; old_is = f.old_is; new_is = refl }; own = refl })
   register_put w r (Natural half) made new e f = subst (λ made. Put made new w) (same_Some _ _ e) (record { value = Number f.number; is = f.new_is; fits = record { value = Number f.number; old_is = f.old_is; new_is = refl }; own = refl })
   register_put w r (Inner least most) made new e f = subst (λ made. Put made new w) (same_Some _ _ e) (record { value = Pointer (FrameAt f.frame) f.offset; is = f.new_is; fits = record { value = Pointer (FrameAt f.frame) f.offset; old_is = f.old_is; new_is = refl }; own = refl })
   register_put w r kind made new e f =
@@ -282,7 +301,7 @@ module _ (ends : Order) (notes : List (Option Place)) (turns : ℕ) (passed : Pa
   taken_goes kinds made_kinds dst src off w s t o b e is =
       let free = cond_second (is_r10 dst) _ w e in
       option_and_then_some _ (frame_slot kinds src off) w free.1 (λ k ek e1.
-      let m = unmapped (λ kind. (register_number dst, restored dst kind)) (own_kind (kind_in kinds (11 + k))) w e1 in
+      let m = unmapped (λ kind. (register_number dst, restored dst (kind_of kinds dst) kind)) (own_kind (kind_in kinds (11 + k))) w e1 in
       let a = at_frame kinds s t src off k o.0 b ek in
       let has = slot_has ends turns passed (register_in s.top) s.top.stack t.top.stack k (kind_in kinds (11 + k)) m.0 m.1 (b.top.slots k a.below) in
       let holds : Holds ends (stack_of t (depth s)) k has.value = subst (λ xs. Holds ends xs k has.value) (sym (own_stack_of ends notes turns passed (kind_in kinds) s t b)) has.holds in
@@ -293,8 +312,8 @@ module _ (ends : Order) (notes : List (Option Place)) (turns : ℕ) (passed : Pa
         is = bind _ (register t src) _ _ a.is (bind _ (location_of t 8 off (Pointer (FrameAt (depth s)) (pos 0))) _ _ a.there (bind _ (load ends t DW (InFrame (depth s) (8 * k))) has.value _ (load_holds ends t (depth s) k has.value holds) (ap (λ c. cond c None (Some end)) free.0)));
         at = refl;
         between = subst (λ made. Between ends notes turns passed (kind_in made) s end) (ap (λ (w : ℕ × Kind). set kinds w.0 w.1) m.2 ∙ is)
-            (writes ends notes turns passed kinds (restored dst m.0) s after (register_number dst) (Some has.value) (register_below dst) (moves ends notes turns passed kinds s t (t.top.slot + 1) b)
-            (restored_fits ends turns passed (register_in s.top) dst (11 + k) m.0 has.value has.own has.fits));
+            (writes ends notes turns passed kinds (restored dst (kind_of kinds dst) m.0) s after (register_number dst) (Some has.value) (register_below dst) (moves ends notes turns passed kinds s t (t.top.slot + 1) b)
+            (restored_fits ends turns passed (register_in s.top) dst (11 + k) (kind_of kinds dst) m.0 has.value (register t dst) has.own (fits_at ends notes turns passed kinds s t dst b) has.fits));
       })
 
   -- a packet's length, with which its block begins

@@ -1,6 +1,6 @@
 -- The law: by induction on the old machine's steps, each of which the new machine follows by some.
 use Rattle.std.proofs.Common.{◌<◌, ◌⊎◌, inl, inr, ◌^◌, true, None, length, ap₂, ◌≡◌, ℕ, zero, suc, ◌+◌, ◌*◌, ◌≤◌, ◌==◌, false, List, [], ◌∷◌, Option, Some, refl, sym, ap, ◌∙◌, subst, arith}
-use Rattle.std.specs.Prelude.{get_or, ◌-◌, ℤ, pos, ◌+ℤ◌, Bool, nat_le, ◌&&◌, ◌||◌, IsSome, option_map, if◌then◌else◌}
+use Rattle.std.specs.Prelude.{get_or, ◌-◌, ℤ, pos, ◌+ℤ◌, Bool, nat_le, not, ◌&&◌, ◌||◌, IsSome, option_map, if◌then◌else◌}
 use Rattle.std.specs.Option.{option_map_or, option_or}
 use Rattle.std.proofs.lemmas.Bool.{false≢true, eqb-false}
 use Rattle.std.proofs.lemmas.Int.{ints}
@@ -27,7 +27,7 @@ use Rattle.bpf_semantics.specs.MachineLaws.{StepsAreComputed, StepKeepsContext, 
 use Rattle.bpf_follows.specs.declared.notes.Bounds.{Bounds}
 use Rattle.bpf_follows.specs.declared.notes.Area.TheVariants.{Given, Own}
 use Rattle.bpf_follows.specs.declared.notes.Kind.{Kind}
-use Rattle.bpf_follows.specs.declared.notes.Kind.TheVariants.{Unset, Fixed}
+use Rattle.bpf_follows.specs.declared.notes.Kind.TheVariants.{Nothing, Unset, Fixed}
 use Rattle.bpf_follows.specs.declared.site.Span.{Span}
 use Rattle.bpf_follows.specs.declared.site.Site.{Site}
 use Rattle.bpf_follows.specs.declared.notes.Place.{Place}
@@ -40,7 +40,8 @@ use Rattle.bpf_follows.specs.Numbers.{number_kind, told}
 use Rattle.bpf_follows.specs.Extras.{is_same}
 use Rattle.bpf_follows.specs.Exact.{by_exact, may_fall, may_lead}
 use Rattle.bpf_follows.specs.Returned.{led, is_call, called_back, GivesBack}
-use Rattle.bpf_follows.specs.Matching.{front_at, undirected, AreSame, rebased, by_offsets, by_kinds, result_kind, is_framed, written_kind, AllPlain, IsTame, Reads, widened, Pairs, IsLone, held, kinds_after, kinds_behind, kinds_beyond, kinds_called, listed, start_kinds, kinds_back, is_far_store, is_lowest, is_spared, is_changed, Arrives, Enters, Falls, Leads, Reaches, Stands, Matches, kinds_along}
+use Rattle.bpf_follows.specs.Stuck.{is_stuck}
+use Rattle.bpf_follows.specs.Matching.{front_at, undirected, AreSame, rebased, by_offsets, by_kinds, result_kind, is_framed, written_kind, AllPlain, IsTame, Reads, widened, Pairs, IsLone, held, kinds_after, kinds_behind, kinds_beyond, kinds_called, listed, start_kinds, kinds_back, is_far_store, is_lowest, is_spared, is_blurred, is_plain, is_changed, Arrives, Enters, Falls, Leads, Reaches, Stands, Matches, kinds_along}
 use Rattle.bpf_follows.proofs.KindLemmas.{listed_at, unset_listed}
 use Rattle.bpf_follows.proofs.Lists.{bind, unmapped, cond_first, cond_second}
 use Rattle.bpf_follows.proofs.Onward.{Rooms, floor, room, placed, LieIn, Stays, Ends, Goes as GoesOn, Last, On, goes, exit_is, surely_in, spans_at}
@@ -51,8 +52,8 @@ use Rattle.bpf_follows.proofs.Instruction.{redirect, distance_of, moved_is, is_f
 use Rattle.bpf_follows.proofs.OffsetInsn.{framed_arrives}
 use Rattle.bpf_follows.proofs.Spills.{offsets_arrive}
 use Rattle.bpf_follows.proofs.Bases.{by_address, goes_on_plainly}
-use Rattle.bpf_follows.proofs.InnerStore.{none_spared}
-use Rattle.bpf_follows.proofs.InnerInsn.{near_outer}
+use Rattle.bpf_follows.proofs.Stops.{unless_stopped}
+use Rattle.bpf_follows.proofs.InnerStore.{none_spared, near_put}
 use Rattle.bpf_follows.proofs.ExactInsn.{exact_arrives}
 use Rattle.bpf_follows.proofs.Wide.{narrow, widened_arrives}
 use Rattle.bpf_follows.proofs.Spared.{AllAbove, FarStore, old_above, far_store, kinds_spared, far_arrives}
@@ -134,12 +135,12 @@ module _ (computed : StepsAreComputed) (keeps : StepKeepsContext) (states : Step
 
     -- an instruction that isn't a call leaves what it leaves, whatever frames there are
     back_is : (taken : Bool) (made : Kind) → written_kind (known site.slot site.kinds) site.insn site.moved ≡ made → is_call site.insn ≡ false → (r : ℕ)
-        → kinds_back notes site.slot taken site.insn site.moved (known site.slot site.kinds) r ≡ (if is_spared (known site.slot site.kinds) site.insn r then held site.insn (known site.slot site.kinds r) else kinds_after site.insn made (told taken site.insn (known site.slot site.kinds)) r)
+        → kinds_back notes site.slot taken site.insn site.moved (known site.slot site.kinds) r ≡ (if is_spared (known site.slot site.kinds) site.insn r then held site.insn (known site.slot site.kinds r) else if is_blurred (known site.slot site.kinds) site.insn r then Nothing else kinds_after site.insn made (told taken site.insn (known site.slot site.kinds)) r)
     back_is taken made e no_call r =
         ap (λ c. if c then received (called_back notes site.slot site.insn) (kinds_beyond (is_alone notes) taken site.insn site.moved (known site.slot site.kinds)) r else kinds_beyond (is_alone notes) taken site.insn site.moved (known site.slot site.kinds) r) no_call
-        ∙ ap (λ c. if is_spared (known site.slot site.kinds) site.insn r || (c && (is_alone notes && nat_le 11 r)) then held site.insn (known site.slot site.kinds r) else kinds_behind taken site.insn site.moved (known site.slot site.kinds) r) no_call
-        ∙ either (is_spared (known site.slot site.kinds) site.insn r) (held site.insn (known site.slot site.kinds r)) (kinds_behind taken site.insn site.moved (known site.slot site.kinds) r)
-        ∙ ap (λ made. if is_spared (known site.slot site.kinds) site.insn r then held site.insn (known site.slot site.kinds r) else kinds_after site.insn made (told taken site.insn (known site.slot site.kinds)) r) e
+        ∙ ap (λ c. if is_spared (known site.slot site.kinds) site.insn r || (c && (is_alone notes && nat_le 11 r)) then held site.insn (known site.slot site.kinds r) else if is_blurred (known site.slot site.kinds) site.insn r then Nothing else kinds_behind taken site.insn site.moved (known site.slot site.kinds) r) no_call
+        ∙ either (is_spared (known site.slot site.kinds) site.insn r) (held site.insn (known site.slot site.kinds r)) (if is_blurred (known site.slot site.kinds) site.insn r then Nothing else kinds_behind taken site.insn site.moved (known site.slot site.kinds) r)
+        ∙ ap (λ made. if is_spared (known site.slot site.kinds) site.insn r then held site.insn (known site.slot site.kinds r) else if is_blurred (known site.slot site.kinds) site.insn r then Nothing else kinds_after site.insn made (told taken site.insn (known site.slot site.kinds)) r) e
       where
         either : (b : Bool) (x y : Kind) → (if b || false then x else y) ≡ (if b then x else y)
         either true x y = refl
@@ -154,7 +155,8 @@ module _ (computed : StepsAreComputed) (keeps : StepKeepsContext) (states : Step
         same r =
             ap (λ c. if c && (nat_le 11 r && nat_le (8 * (r - 11) + 8) bounds.untouched) then held site.insn (known site.slot site.kinds r) else kinds_back notes site.slot taken site.insn site.moved (known site.slot site.kinds) r) near
             ∙ back_is taken made e no_call r
-            ∙ ap (λ spared. if spared then held site.insn (known site.slot site.kinds r) else kinds_after site.insn made (told taken site.insn (known site.slot site.kinds)) r) (none_spared (known site.slot site.kinds) site.insn r (near_outer (known site.slot site.kinds) site.insn near))
+            ∙ ap (λ spared. if spared then held site.insn (known site.slot site.kinds r) else if is_blurred (known site.slot site.kinds) site.insn r then Nothing else kinds_after site.insn made (told taken site.insn (known site.slot site.kinds)) r) (none_spared (known site.slot site.kinds) site.insn r (near_put site.insn near))
+            ∙ ap (λ put. if put && (nat_le 11 r && not (is_plain (known site.slot site.kinds r))) then Nothing else kinds_after site.insn made (told taken site.insn (known site.slot site.kinds)) r) (near_put site.insn near)
 
     falls_at : (made : Kind) → written_kind (known site.slot site.kinds) site.insn site.moved ≡ made → is_call site.insn ≡ false → is_far_store site.insn ≡ false → FallArrives old.order notes bounds.turns passed site.insn made (known site.slot site.kinds) s.top.slot t.top.slot
     falls_at made e no_call near on may = arrives_behind false _ _ made e no_call near (falls_beyond may on)
@@ -198,7 +200,7 @@ module _ (computed : StepsAreComputed) (keeps : StepKeepsContext) (states : Step
         by_result None eo (inr same) =
             let made_is : result_kind (known site.slot site.kinds) site.insn ≡ number_kind (known site.slot site.kinds) site.insn = ap (λ o. option_map_or (λ (kind : Kind). kind) o (number_kind (known site.slot site.kinds) site.insn)) eo in
             caught passed t u (does old.order (redirect site.insn (distance_of site.moved)) t) (steps_by (redirect site.insn (distance_of site.moved)) is)
-            (same_arrives old.order notes bounds.turns passed old.order site.insn (distance_of site.moved) (known site.slot site.kinds) s t u state b o same.0 (record { far = λ f. (same.1.far f, lone.far f); near = same.1.near }) (near_outer (known site.slot site.kinds) site.insn near) flow (falls_at (number_kind (known site.slot site.kinds) site.insn) (written_is plain _ made_is) (no_call site.insn flow) near)
+            (same_arrives old.order notes bounds.turns passed old.order site.insn (distance_of site.moved) (known site.slot site.kinds) s t u state b o same.0 (record { far = λ f reads. (same.1.far f reads, lone.far f); near = same.1.near }) (near_put site.insn near) flow (falls_at (number_kind (known site.slot site.kinds) site.insn) (written_is plain _ made_is) (no_call site.insn flow) near)
             (jumps_at (redirect site.insn (distance_of site.moved)) (number_kind (known site.slot site.kinds) site.insn) is (written_is plain _ made_is) (no_call site.insn flow) near) e)
 
     call_does : (off : ℤ) → site.insn ≡ CallLocal off → (is_alone notes ≡ false → AllPlain (known site.slot site.kinds)) → (undirected site.moved ≡ undirected site.insn) → does old.order (CallLocal off) s ≡ Some u → Caught passed u t
@@ -242,7 +244,7 @@ module _ (computed : StepsAreComputed) (keeps : StepKeepsContext) (states : Step
         let h = goes_on_plainly old.order notes bounds.turns passed site.insn site.moved (known site.slot site.kinds) a in
         let made_is : result_kind (known site.slot site.kinds) site.insn ≡ number_kind (known site.slot site.kinds) site.insn = ap (λ o. option_map_or (λ (kind : Kind). kind) o (number_kind (known site.slot site.kinds) site.insn)) h.1 in
         caught passed t u (does old.order site.moved t) (steps_by site.moved refl)
-        (by_address old.order notes bounds.turns passed old.order site.insn site.moved (known site.slot site.kinds) s t u state o b short lone.far a (falls_at made (written_is plain made made_is) (no_call site.insn h.0) near) e)
+        (by_address old.order notes bounds.turns passed old.order site.insn site.moved (known site.slot site.kinds) s t u state o b short lone.far (near_put site.insn near) a (falls_at made (written_is plain made made_is) (no_call site.insn h.0) near) e)
     pair_does plain near short (inr (inr (inl w))) e =
         let h = narrow old.order notes bounds.turns passed (known site.slot site.kinds) site.insn site.moved w in
         caught passed t u (does old.order site.moved t) (steps_by site.moved refl)
@@ -267,7 +269,7 @@ module _ (computed : StepsAreComputed) (keeps : StepKeepsContext) (states : Step
         same : (r : ℕ) → kinds_along notes bounds.untouched site.slot false site.insn site.moved (known site.slot site.kinds) r ≡ kinds_spared bounds.untouched site.insn (number_kind (known site.slot site.kinds) site.insn) (known site.slot site.kinds) r
         same r =
             ap (λ kind. if is_lowest bounds.untouched site.insn r then held site.insn (known site.slot site.kinds r) else kind)
-            (back_is false (number_kind (known site.slot site.kinds) site.insn) made_is f.no_call r ∙ ap (λ kind. if is_spared (known site.slot site.kinds) site.insn r then held site.insn (known site.slot site.kinds r) else (if is_changed site.insn r then number_kind (known site.slot site.kinds) site.insn else held site.insn kind)) (f.untold r))
+            (back_is false (number_kind (known site.slot site.kinds) site.insn) made_is f.no_call r ∙ ap (λ kind. if is_spared (known site.slot site.kinds) site.insn r then held site.insn (known site.slot site.kinds r) else if is_blurred (known site.slot site.kinds) site.insn r then Nothing else (if is_changed site.insn r then number_kind (known site.slot site.kinds) site.insn else held site.insn kind)) (f.untold r))
 
     from_body : (is_far_store site.insn ≡ true → AllAbove bounds.untouched s site.insn) → length s.context < 2 ^ 32 → Pairs (known site.slot site.kinds) site.insn site.moved → does old.order site.insn s ≡ Some u → Caught passed u t
     from_body above short pairs e = by_cases (is_far_store site.insn) (is_framed site.insn site.moved) refl refl
@@ -373,7 +375,7 @@ module _ (computed : StepsAreComputed) (keeps : StepKeepsContext) (states : Step
   step_caught : (passed : Past) (s t u : State) → passed.packet ≡ packet → Owns s → Awaited (Takes notes bounds.turns) s → Follows old.order notes bounds.turns passed s t → Sure s → IsState u → Step old s u → Stays old rooms s → passed.visits s.top.slot + 1 ≤ bounds.turns → Caught (counted passed s.top.slot) u t
   unfolding step_of
   step_caught passed s t u same o awaited f sure after e stays few = option_and_then_some _ (insn_at old.list s.top.slot) u e (λ i ei ed.
-      let st = matches.each s.top.slot f.top.place i f.top.noted ei in
+      let st = unless_stopped old.order notes bounds.turns passed old.order bounds.length i (kinds_of f.top.place) s t u (between passed s t f) o sure.long ed (matches.each s.top.slot f.top.place i f.top.noted ei) in
       let held : HoldsPacket old.order passed s.context = λ n en. sure.holds n (sym same ∙ en) in
       let h = front passed i s t (o, sure.state.each_frame.0.values) f st held (in_front passed i s same ei sure few) in
       let site = st.is_site in
@@ -382,10 +384,10 @@ module _ (computed : StepsAreComputed) (keeps : StepKeepsContext) (states : Step
       record { count = h.count + c.count; state = c.state; steps = runs new h.count c.count t h.state c.state h.steps c.steps; follows = c.follows })
 
   -- what waiting frames take is kept
-  awaited_step : (passed : Past) (s t u : State) → Follows old.order notes bounds.turns passed s t → Awaited (Takes notes bounds.turns) s → Step old s u → Awaited (Takes notes bounds.turns) u
+  awaited_step : (passed : Past) (s t u : State) → Owns s → length s.context ≡ bounds.length → Follows old.order notes bounds.turns passed s t → Awaited (Takes notes bounds.turns) s → Step old s u → Awaited (Takes notes bounds.turns) u
   unfolding step_of
-  awaited_step passed s t u f h e = option_and_then_some _ (insn_at old.list s.top.slot) u e (λ i ei ed.
-      let st = matches.each s.top.slot f.top.place i f.top.noted ei in
+  awaited_step passed s t u o long f h e = option_and_then_some _ (insn_at old.list s.top.slot) u e (λ i ei ed.
+      let st = unless_stopped old.order notes bounds.turns passed old.order bounds.length i (kinds_of f.top.place) s t u (between passed s t f) o long ed (matches.each s.top.slot f.top.place i f.top.noted ei) in
       awaited_does (Takes notes bounds.turns) old.order i s u h (subst (λ i. Onward (Takes notes bounds.turns) i s) st.is_site.insn_is (onward notes bounds f.top.place st.site s f.top.noted st.is_site.slot_is st.gives_back st.falls h)) ed)
 
   -- ---- the end
@@ -399,7 +401,7 @@ module _ (computed : StepsAreComputed) (keeps : StepKeepsContext) (states : Step
   unfolding finish_of
   finish_caught passed s t v same o f sure e few = option_and_then_some _ (insn_at old.list s.top.slot) v e (λ i ei er.
       let is = exit_is s.waiting (number_of_register s R0) i v er in
-      let st = matches.each s.top.slot f.top.place i f.top.noted ei in
+      let st : Stands new notes bounds f.top.place (front_at old bounds s.top.slot i) = elim (matches.each s.top.slot f.top.place i f.top.noted ei) [ inl stuck ↦ absurd (false≢true (ap (is_stuck bounds.length (kinds_of f.top.place)) (sym is) ∙ stuck)) | inr stands ↦ stands ] in
       let held : HoldsPacket old.order passed s.context = λ n en. sure.holds n (sym same ∙ en) in
       let h = front passed i s t (o, sure.state.each_frame.0.values) f st held (in_front passed i s same ei sure few) in
       let k = counted passed s.top.slot in
@@ -481,7 +483,7 @@ module _ (computed : StepsAreComputed) (keeps : StepKeepsContext) (states : Step
         context_is = keeps old mid s step ∙ before.context_is;
         state = after;
         owns = own_step old mid s before.follows.top.fits.eleven_old before.owns step;
-        awaited = awaited_step (past first k) mid before.new_state s before.follows before.awaited step;
+        awaited = awaited_step (past first k) mid before.new_state s before.owns sure.long before.follows before.awaited step;
       }
 
   -- and then it ends

@@ -16,6 +16,7 @@ mod Near
 mod Bytes
 mod Offsets
 mod Pointers
+mod Homed
 mod Known
 mod Arrivals
 mod Ways
@@ -31,6 +32,7 @@ mod Kept
 mod OffsetInsn
 mod Spills
 mod Bases
+mod Stops
 mod ExactInsn
 mod Wide
 mod Spared

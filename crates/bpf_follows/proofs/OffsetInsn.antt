@@ -37,7 +37,7 @@ use Rattle.bpf_follows.specs.Areas.{origin, area_of, is_offset, are_alike, unbou
 use Rattle.bpf_follows.specs.Relation.{Past, Kinds, HasOffset, IsFixed, IsWithin, IsOneNumber, as_number, as_offset, FitsKind, register_in}
 use Rattle.bpf_follows.specs.Extras.{is_same, is_r10}
 use Rattle.bpf_follows.specs.Exact.{farthest, fixed_at}
-use Rattle.bpf_follows.specs.Matching.{copy_kind, within_at, offset_sum, computed, moved_kind, is_equality, are_offsets, is_framed, kinds_after}
+use Rattle.bpf_follows.specs.Matching.{copy_kind, within_at, within_ints, offset_sum, computed, moved_kind, is_equality, are_offsets, is_framed, kinds_after}
 use Rattle.bpf_follows.proofs.Lists.{bind, cond_first}
 use Rattle.bpf_follows.proofs.Owns.{Owns}
 use Rattle.bpf_follows.proofs.Slots.{register_below}
@@ -120,10 +120,59 @@ module _ (ends : Order) (notes : List (Option Place)) (turns : ℕ) (passed : Pa
       subst (λ made. Gets old made v (alu_result W64 Add new (Number b))) (sym (unbounded_is kind a.0 a.1) ∙ c.1)
       (moves_to (old 10) a.0 h.region (h.offset +ℤ pos b) v _ _ h.into (same_Some _ _ (sym (ap (λ o. alu_result W64 Add o (Number b)) h.old_is) ∙ ev)) (ap (λ o. alu_result W64 Add o (Number b)) h.new_is) (up h.offset (origin a.0 +ℤ pos 0) b))
 
+  -- of which nothing is said
+  plainly : (own : Option Value) (area : Area) (imm : ℤ) (old new : Option Value) (v : Value) → HasOffset area (pos 0) as_offset own old new → alu_result W64 Add old (Number (extended imm)) ≡ Some v → Computes own (Offset area) v (alu_result W64 Add new (Number (extended imm)))
+  plainly own area imm old new v h ev =
+      moves_to own area h.region (h.offset +ℤ pos (extended imm)) v _ _ h.into (same_Some _ _ (sym (ap (λ o. alu_result W64 Add o (Number (extended imm))) h.old_is) ∙ ev)) (ap (λ o. alu_result W64 Add o (Number (extended imm))) h.new_is) (up h.offset (origin area +ℤ pos 0) (extended imm))
+
+  -- one between bounds, and a constant
+  within_by : (own : Option Value) (area : Area) (least most low high : ℕ) (imm : ℤ) (old new : Option Value) (v : Value) → IsWithin area least most own old new → pos least +ℤ imm ≡ pos low → pos most +ℤ imm ≡ pos high → alu_result W64 Add old (Number (extended imm)) ≡ Some v
+      → Computes own (within_at area low high) v (alu_result W64 Add new (Number (extended imm)))
+  within_by own area least most low high imm old new v f el eh ev = by_cases (nat_lt low (2 ^ 32)) (nat_lt high (2 ^ 32)) refl
+    where
+      h : HasOffset area (pos 0) as_offset own old new
+      h = f.has
+
+      to : Pointer h.region (wrapped (h.offset +ℤ pos (extended imm))) ≡ v
+      to = same_Some _ _ (sym (ap (λ o. alu_result W64 Add o (Number (extended imm))) h.old_is) ∙ ev)
+
+      above : pos low ≤ℤ ((h.offset +ℤ imm) +ℤ origin area)
+      above = let l = f.low in omega (arith, ints)
+
+      below : ((h.offset +ℤ imm) +ℤ origin area) ≤ℤ pos high
+      below = let l = f.high in omega (arith, ints)
+
+      otherwise : Computes own (Offset area) v (alu_result W64 Add new (Number (extended imm)))
+      otherwise = plainly own area imm old new v h ev
+
+      by_cases : (a b : Bool) → nat_lt high (2 ^ 32) ≡ b → Computes own (if a && b then Within area low high else Offset area) v (alu_result W64 Add new (Number (extended imm)))
+      by_cases true true eb =
+          let fits = small_origin area (h.offset +ℤ imm) low high above below (ltb-true high (2 ^ 32) eb) in
+          record {
+            value = as_number (h.offset +ℤ (origin area +ℤ imm));
+            is = ap (λ o. alu_result W64 Add o (Number (extended imm))) h.new_is ∙ ap (λ n. Some (Number n)) (moved_number h.offset (origin area) imm);
+            alone = refl;
+            fits = record {
+              has = record { region = h.region; into = h.into; offset = h.offset +ℤ imm; fits = fits; old_is = ap Some (sym to) ∙ ap (λ z. Some (Pointer h.region z)) (fixed_sum h.offset imm fits); new_is = ap (λ z. Some (as_number z)) (turned h.offset (origin area) imm) };
+              low = above;
+              high = below;
+            };
+          }
+      by_cases true false eb = otherwise
+      by_cases false b eb = otherwise
+
+  within_moved : (own : Option Value) (area : Area) (least most : ℕ) (imm low high : ℤ) (old new : Option Value) (v : Value) → IsWithin area least most own old new → pos least +ℤ imm ≡ low → pos most +ℤ imm ≡ high → alu_result W64 Add old (Number (extended imm)) ≡ Some v
+      → Computes own (within_ints area low high) v (alu_result W64 Add new (Number (extended imm)))
+  within_moved own area least most imm (pos low) (pos high) old new v f el eh ev = within_by own area least most low high imm old new v f el eh ev
+  within_moved own area least most imm (pos low) (negsuc high) old new v f el eh ev = plainly own area imm old new v f.has ev
+  within_moved own area least most imm (negsuc low) high old new v f el eh ev = plainly own area imm old new v f.has ev
+
   pub moved_by : (op : AluOp) (kind made : Kind) (old : ℕ → Option Value) (r : ℕ) (new : Option Value) (imm : ℤ) (v : Value) → moved_kind op kind imm ≡ Some made → FitsKind turns passed old r kind new → alu_result W64 op (old r) (Number (extended imm)) ≡ Some v
       → Gets old made v (alu_result W64 op new (Number (extended imm)))
   moved_by Add (Fixed area at) made old r new imm v e f ev =
       subst (λ made. Gets old made v (alu_result W64 Add new (Number (extended imm)))) (same_Some _ _ e) (fixed_by (old 10) area at imm (old r) new v f ev)
+  moved_by Add (Within area least most) made old r new imm v e f ev =
+      subst (λ made. Gets old made v (alu_result W64 Add new (Number (extended imm)))) (same_Some _ _ e) (within_moved (old 10) area least most imm _ _ (old r) new v f refl refl ev)
   moved_by Add kind made old r new imm v e f ev = added_by kind made old r new (extended imm) v e f ev
   moved_by Sub kind made old r new imm v e f ev =
       let c = cond_is (is_offset kind) (unbounded kind) made e in

@@ -65,6 +65,12 @@ pointer_there z = ap (cast_signed w64) (modulo_same {z = pos 0 +ℤ pos (modulo 
     zero_plus : (y : ℤ) → pos 0 +ℤ y ≡ y
     zero_plus y = omega (arith, ints)
 
+-- and the offset that is left where that is taken away again
+pub offset_there : (z : ℤ) → modulo (wrapped z -ℤ pos 0) addresses ≡ modulo z addresses
+offset_there z =
+    let none : Same (z -ℤ pos 0) z = same_equal (omega (arith, ints)) in
+    modulo_same (same_trans (same_minus (wrapped-same z) (same_refl (pos 0))) none)
+
 pub wrapped_near : (z : ℤ) → FitsSigned w64 z → wrapped z ≡ z
 wrapped_near z f = same_offsets 0 (wrapped z) z (wrapped_fits z) f (modulo_same (same_plus (same_refl (pos 0)) (wrapped-same z)))
 

@@ -22,11 +22,12 @@ use Rattle.bpf_semantics.specs.declared.value.Value.{Value}
 use Rattle.bpf_semantics.specs.declared.value.Value.TheVariants.{Number as ANumber, Pointer}
 use Rattle.bpf_semantics.specs.declared.value.Region.TheVariants.{Frame as FrameAt}
 use Rattle.bpf_follows.specs.declared.notes.Kind.{Kind}
-use Rattle.bpf_follows.specs.declared.notes.Kind.TheVariants.{Number, Inner}
+use Rattle.bpf_follows.specs.declared.notes.Area.TheVariants.{Own}
+use Rattle.bpf_follows.specs.declared.notes.Kind.TheVariants.{Number, Inner, Fixed, Within}
 use Rattle.bpf_follows.specs.declared.notes.Place.{Place}
-use Rattle.bpf_follows.specs.Relation.{Past, Kinds, FitsKind, register_in}
+use Rattle.bpf_follows.specs.Relation.{Past, Kinds, HasOffset, as_offset, FitsKind, register_in}
 use Rattle.bpf_follows.specs.Extras.{is_r10}
-use Rattle.bpf_follows.specs.Inner.{inner_kind, number_bounds, added_bounds, inner_at, inner_copy, inner_sum, inner_made}
+use Rattle.bpf_follows.specs.Inner.{inner_kind, number_bounds, added_bounds, inner_at, inner_copy, inner_sum, inner_made, reach}
 use Rattle.bpf_follows.proofs.Owns.{Owns}
 use Rattle.bpf_follows.proofs.Offsets.{wrapped_near, fits_64, fixed_sum}
 use Rattle.bpf_follows.proofs.Slots.{register_below}
@@ -46,11 +47,15 @@ abbrev pub PointsBy : State → Kind → Value → Type 0
 PointsBy s (Inner least most) v = Points s least most v
 PointsBy s kind v = Unit {0}
 
+abbrev pub Reaches : State → Option (ℕ × ℕ) → Value → Type 0
+Reaches s None v = Unit {0}
+Reaches s (Some by) v = Points s by.0 by.1 v
+
 abbrev frame_of : Value → ℕ
 frame_of (Pointer (FrameAt n) z) = n
 frame_of v = 0
 
-same_frame : (n m : ℕ) → Some (Pointer (FrameAt n) (pos 0)) ≡ Some (Pointer (FrameAt m) (pos 0)) → n ≡ m
+pub same_frame : (n m : ℕ) → Some (Pointer (FrameAt n) (pos 0)) ≡ Some (Pointer (FrameAt m) (pos 0)) → n ≡ m
 same_frame n m e = ap frame_of (same_Some _ _ e)
 
 module _ (ends : Order) (notes : List (Option Place)) (turns : ℕ) (passed : Past) where
@@ -59,6 +64,28 @@ module _ (ends : Order) (notes : List (Option Place)) (turns : ℕ) (passed : Pa
       let here : f.frame ≡ depth s = same_frame f.frame (depth s) (sym f.own_is ∙ o.0) in
       record { offset = f.offset; is = same_Some _ _ (sym ev ∙ f.old_is) ∙ ap (λ n. Pointer (FrameAt n) f.offset) here; low = f.low; high = f.high }
   kind_points kind s r v new o f ev = tt
+
+  -- an offset into the own frame is one of such a pointer
+  own_points : (s : State) (r : Reg) (v : Value) (new : Option Value) (least most : ℕ) → Owns s → (h : HasOffset Own (pos 0) as_offset (register_in s.top 10) (register_in s.top (register_number r)) new) → register s r ≡ Some v
+      → pos least ≤ℤ (h.offset +ℤ pos frame_bytes) → (h.offset +ℤ pos frame_bytes) ≤ℤ pos most → Points s least most v
+  own_points s r v new least most o h ev low high =
+      let here : h.into.0 ≡ depth s = same_frame h.into.0 (depth s) (sym h.into.2 ∙ o.0) in
+      record {
+        offset = h.offset;
+        is = same_Some _ _ (sym ev ∙ h.old_is) ∙ ap (λ region. Pointer region h.offset) h.into.1 ∙ ap (λ n. Pointer (FrameAt n) h.offset) here;
+        low = low;
+        high = high;
+      }
+
+  pub reach_points : (kind : Kind) (s : State) (r : Reg) (v : Value) (new : Option Value) → Owns s → FitsKind turns passed (register_in s.top) (register_number r) kind new → register s r ≡ Some v → Reaches s (reach kind) v
+  reach_points (Inner least most) s r v new o f ev = kind_points (Inner least most) s r v new o f ev
+  reach_points (Within Own least most) s r v new o f ev = own_points s r v new least most o f.has ev f.low f.high
+  reach_points (Fixed Own (pos n)) s r v new o f ev =
+      let h = f.has in
+      let is : h.offset +ℤ pos frame_bytes ≡ pos n = f.is in
+      own_points s r v new n n o f.has ev (omega (arith, ints)) (omega (arith, ints))
+  reach_points (Fixed Own (negsuc n)) s r v new o f ev = tt
+  reach_points kind s r v new o f ev = tt
 
   inner_points : (kinds : Kinds) (s t : State) (r : Reg) (v : Value) → Owns s → Between ends notes turns passed kinds s t → register s r ≡ Some v → PointsBy s (inner_kind kinds r) v
   inner_points kinds s t r v o h ev = by_cases (is_r10 r) refl

@@ -1,5 +1,6 @@
 -- What stands for an instruction is one.
-use Rattle.std.proofs.Common.{◌≡◌, ℕ, List, sym, ap, ◌∙◌}
+use Rattle.std.proofs.Common.{◌≡◌, ◌⊎◌, inl, inr, ℕ, Bool, true, false, List, sym, ap, ◌∙◌}
+use Rattle.std.proofs.lemmas.Bool.{false≢true}
 use Rattle.std.proofs.lemmas.Option.{same_Some}
 use Rattle.bpf_insn.specs.Instruction.{Instructions, insn_at}
 use Rattle.bpf_insn.specs.declared.instruction.Insn.{Insn}
@@ -21,3 +22,8 @@ one_site new place front a b h k =
     let same_kinds : a.kinds ≡ b.kinds = same_Some _ _ (sym h.reaches ∙ k.reaches) in
     ap (λ x. site x a.insn a.new_slot a.moved a.kinds) same_slot ∙ ap (λ x. site b.slot x a.new_slot a.moved a.kinds) same_insn ∙ ap (λ x. site b.slot b.insn x a.moved a.kinds) same_new
     ∙ ap (λ x. site b.slot b.insn b.new_slot x a.kinds) same_moved ∙ ap (λ x. site b.slot b.insn b.new_slot b.moved x) same_kinds
+
+-- of two, the one that is left
+pub unless_stuck : {T : Type 0} (b : Bool) → b ≡ false → (b ≡ true) ⊎ T → T
+unless_stuck b e (inl stuck) = absurd (false≢true (sym e ∙ stuck))
+unless_stuck b e (inr stands) = stands

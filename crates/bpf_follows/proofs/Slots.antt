@@ -26,7 +26,7 @@ use Rattle.bpf_semantics.proofs.FlatBytes.{number-bytes}
 use Rattle.bpf_semantics.proofs.StateLemmas.{get_each, length-each_cell, without_is}
 use Rattle.bpf_follows.specs.declared.notes.Area.TheVariants.{Given, Own}
 use Rattle.bpf_follows.specs.declared.notes.Kind.{Kind}
-use Rattle.bpf_follows.specs.declared.notes.Kind.TheVariants.{Nothing, Unset, Same, Number as NumberKind, Natural, Inner, Length, Sized, Head, Offset, Fixed, Within, Start, Alone, Returns, Both}
+use Rattle.bpf_follows.specs.declared.notes.Kind.TheVariants.{Nothing, Unset, Same, Number as NumberKind, Natural, Inner, Length, Sized, Closing, Head, Offset, Fixed, Within, Start, Alone, Returns, Both}
 use Rattle.bpf_follows.specs.Relation.{Past, IsKept, EachPair, IsRead, cell_of, Holds, IsUnset, SlotKept, FitsSlot, as_number, is_free}
 use Rattle.bpf_follows.specs.Matching.{is_plain}
 use Rattle.bpf_follows.proofs.Lists.{mapped, same_is_kept, pairs_weaker, pair_at, Cells}
@@ -112,6 +112,7 @@ module _ (order : Order) (turns : ℕ) (passed : Past) (registers : ℕ → Opti
   plain_kept xs ys k (Inner least most) e f = absurd f
   plain_kept xs ys k (Length most) e f = absurd f
   plain_kept xs ys k (Sized most) e f = absurd f
+  plain_kept xs ys k (Closing by offset) e f = absurd f
   plain_kept xs ys k Head e f = absurd f
   plain_kept xs ys k (Offset area) e f = absurd (false≢true e)
   plain_kept xs ys k (Fixed area offset) e f = absurd (false≢true e)
@@ -132,6 +133,7 @@ module _ (order : Order) (turns : ℕ) (passed : Past) (registers : ℕ → Opti
   free_unset xs ys k (Inner least most) e f = absurd f
   free_unset xs ys k (Length most) e f = absurd f
   free_unset xs ys k (Sized most) e f = absurd f
+  free_unset xs ys k (Closing by offset) e f = absurd f
   free_unset xs ys k Head e f = absurd f
   free_unset xs ys k (Offset area) e f = absurd (false≢true e)
   free_unset xs ys k (Fixed area offset) e f = absurd (false≢true e)
@@ -159,6 +161,7 @@ module _ (order : Order) (turns : ℕ) (passed : Past) (registers : ℕ → Opti
   slot_as xs ys xs' ys' k (Inner least most) ex ey f = f
   slot_as xs ys xs' ys' k (Length most) ex ey f = f
   slot_as xs ys xs' ys' k (Sized most) ex ey f = f
+  slot_as xs ys xs' ys' k (Closing by offset) ex ey f = f
   slot_as xs ys xs' ys' k Head ex ey f = f
   slot_as xs ys xs' ys' k (Offset Own) ex ey f = f
   slot_as xs ys xs' ys' k (Fixed Own offset) ex ey f = f

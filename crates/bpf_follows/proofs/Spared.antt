@@ -1,6 +1,6 @@
 -- Stores by other registers than r10, which leave the lowest bytes of each frame alone: the slots there hold what they held.
 use Rattle.std.proofs.Common.{◌≡◌, ℕ, ◌+◌, ◌*◌, ◌-◌, ◌/◌, ◌%◌, ◌<◌, ◌≤◌, inl, inr, ◌==◌, ◌^◌, Bool, true, false, List, Option, Some, None, length, get_or, set, ◌⊎◌, refl, sym, ap, ap₂, ◌∙◌, subst, arith}
-use Rattle.std.specs.Prelude.{not, ◌&&◌, nat_le, IsSome, option_and_then, option_map, if◌then◌else◌}
+use Rattle.std.specs.Prelude.{not, ◌&&◌, ◌||◌, nat_le, IsSome, option_and_then, option_map, if◌then◌else◌}
 use Rattle.std.specs.Option.{option_map_or}
 use Rattle.std.proofs.lemmas.Option.{none-some, same_Some, option_and_then_some}
 use Rattle.std.proofs.lemmas.Bool.{false≢true, cases_Bool, and_right, and_left, eqb-true, eqb-false, leb-true, lt-leb}
@@ -30,7 +30,7 @@ use Rattle.bpf_follows.specs.Returned.{is_call}
 use Rattle.bpf_follows.specs.Numbers.{number_kind, told}
 use Rattle.bpf_follows.specs.Extras.{is_same, is_r10, slot_of}
 use Rattle.bpf_follows.specs.Exact.{exact_kind, may_fall}
-use Rattle.bpf_follows.specs.Matching.{AreSame, IsTame, Reads, is_far, fills_slot, slot_kind, by_kinds, is_framed, widened, undirected, ByAddress, Pairs, is_changed, held, kinds_after, is_far_store, is_lowest, Arrives}
+use Rattle.bpf_follows.specs.Matching.{AreSame, IsTame, Reads, is_whole, is_far_access, is_far, is_homed, is_far_put, fills_slot, slot_kind, by_kinds, is_framed, widened, undirected, ByAddress, Pairs, is_changed, held, kinds_after, is_far_store, is_lowest, Arrives}
 use Rattle.bpf_follows.proofs.Lists.{Cells, as_long, cond_first, cond_second}
 use Rattle.bpf_follows.proofs.Owns.{Owns}
 use Rattle.bpf_follows.proofs.Onward.{IsAbove, leaves_above, access_lies, passed_by}
@@ -39,9 +39,9 @@ use Rattle.bpf_follows.proofs.Frames.{slot_held}
 use Rattle.bpf_follows.proofs.Between.{Between, Goes, goes_alike, same_depth, location_same}
 use Rattle.bpf_follows.proofs.Near.{changed_low}
 use Rattle.bpf_follows.proofs.Instruction.{both_true, moved_is, register_kept, plain, Arrived, arrived}
-use Rattle.bpf_follows.proofs.Bases.{same_place, address_goes, outer_store}
-use Rattle.bpf_follows.proofs.InnerStore.{inner_store, none_spared, kinds_around}
-use Rattle.bpf_follows.proofs.InnerInsn.{inner_goes}
+use Rattle.bpf_follows.proofs.Bases.{same_place, address_goes}
+use Rattle.bpf_follows.proofs.InnerStore.{kinds_around, none_around}
+use Rattle.bpf_follows.proofs.InnerInsn.{far_goes}
 
 -- ---- cells of the running frame that a store leaves
 
@@ -250,17 +250,29 @@ module _ (ends : Order) (notes : List (Option Place)) (turns : ℕ) (passed : Pa
   same_insn i moved far e = absurd (false≢true far)
 
   -- behind one the lowest slots are as they were
-  pub far_arrives : (untouched : ℕ) (order : Order) (i moved : Insn) (kinds : Kinds) (s t u : State) → IsState s → Owns s → Between ends notes turns passed kinds s t → length s.context < 2 ^ 32 → is_far_store i ≡ true → Pairs kinds i moved → (is_far i ≡ true → is_alone notes ≡ false)
+  pub far_arrives : (untouched : ℕ) (order : Order) (i moved : Insn) (kinds : Kinds) (s t u : State) → IsState s → Owns s → Between ends notes turns passed kinds s t → length s.context < 2 ^ 32 → is_far_store i ≡ true → Pairs kinds i moved → (is_far i ≡ true → is_homed kinds i ≡ false → is_alone notes ≡ false)
       → AllAbove untouched s i → Arrives notes turns (s.top.slot + slot_count i) (t.top.slot + slot_count i) (kinds_spared untouched i (number_kind kinds i) kinds) → does order i s ≡ Some u → Arrived ends notes turns passed u (does order moved t)
   far_arrives untouched order i moved kinds s t u state o b short far pairs lone above arrives e = by_pair pairs
     where
       f : FarStore i kinds
       f = far_store i kinds far
 
-      -- where no slot is spared
-      around_none : inner_store kinds i ≡ false → (moved : Insn) → Goes ends notes turns passed (kinds_after i (number_kind kinds i) kinds) (s.top.slot + slot_count i) (t.top.slot + slot_count i) u (does order moved t)
+      -- what reads as well
+      around_none : is_far_put i ≡ false → (moved : Insn) → Goes ends notes turns passed (kinds_after i (number_kind kinds i) kinds) (s.top.slot + slot_count i) (t.top.slot + slot_count i) u (does order moved t)
           → Goes ends notes turns passed (kinds_around i (number_kind kinds i) kinds) (s.top.slot + slot_count i) (t.top.slot + slot_count i) u (does order moved t)
-      around_none outer moved = goes_alike ends notes turns passed _ _ _ _ u (does order moved t) (λ r. sym (ap (λ spared. if spared then held i (kinds r) else kinds_after i (number_kind kinds i) kinds r) (none_spared kinds i r outer)))
+      around_none outer moved = goes_alike ends notes turns passed _ _ _ _ u (does order moved t) (λ r. sym (none_around kinds i (number_kind kinds i) r outer))
+
+      is_far_too : is_far i ≡ true
+      is_far_too = by_stores (access_of i) far
+        where
+          by_one : (w r b : Bool) → (w && not b) ≡ true → (not b && (w || r)) ≡ true
+          by_one true r true e = absurd (false≢true e)
+          by_one true r false e = refl
+          by_one false r b e = absurd (false≢true e)
+
+          by_stores : (o : Option Access) → option_map_or (λ a. a.writes && not (is_r10 a.base)) o false ≡ true → option_map_or (is_far_access i) o false ≡ true
+          by_stores None e = absurd (false≢true e)
+          by_stores (Some a) e = by_one a.writes (is_whole i) (is_r10 a.base) e
 
       there : (a : Access) → access_of i ≡ Some a → AreSame kinds (registers_read i) → AllAbove untouched t i
       there a ea same = same_above untouched order i a kinds s t u b ea (same_base i a kinds far ea same) above e
@@ -273,11 +285,11 @@ module _ (ends : Order) (notes : List (Option Place)) (turns : ℕ) (passed : Pa
       same_goes same tame =
           arrived ends notes turns passed (kinds_spared untouched i (number_kind kinds i) kinds) _ _ u (does order i t)
           (spared_goes untouched order i i (number_kind kinds i) kinds _ _ s t u b f.straight f.no_call f.writes f.writes above (by_access (access_of i) refl f.writes same) e
-          (by_base (cases_Bool (inner_store kinds i)))) arrives
+          (by_base (cases_Bool (is_far_put i)))) arrives
         where
-          by_base : (inner_store kinds i ≡ true) ⊎ (inner_store kinds i ≡ false) → Goes ends notes turns passed (kinds_around i (number_kind kinds i) kinds) (s.top.slot + slot_count i) (t.top.slot + slot_count i) u (does order i t)
-          by_base (inl inner) = inner_goes ends notes turns passed order i kinds s t u b o same tame inner e
-          by_base (inr outer) = around_none outer i (plain ends notes turns passed order i kinds s t u state b o same (record { far = λ g. (tame.far g, lone g); near = tame.near }) outer f.on f.none e)
+          by_base : (is_far_put i ≡ true) ⊎ (is_far_put i ≡ false) → Goes ends notes turns passed (kinds_around i (number_kind kinds i) kinds) (s.top.slot + slot_count i) (t.top.slot + slot_count i) u (does order i t)
+          by_base (inl put) = far_goes ends notes turns passed order i kinds s t u b o same (lone is_far_too) put e
+          by_base (inr outer) = around_none outer i (plain ends notes turns passed order i kinds s t u state b o same (record { far = λ g reads. (tame.far g reads, lone g); near = tame.near }) outer f.on f.none e)
 
       by_reads : Reads kinds i → Arrived ends notes turns passed u (does order i t)
       by_reads (inl some) = absurd (false≢true (subst IsSome f.by_none some))
@@ -289,6 +301,6 @@ module _ (ends : Order) (notes : List (Option Place)) (turns : ℕ) (passed : Pa
           let h = same_size i moved kinds far a in
           arrived ends notes turns passed (kinds_spared untouched i (number_kind kinds i) kinds) _ _ u (does order moved t)
           (spared_goes untouched order i moved (number_kind kinds i) kinds _ _ s t u b f.straight f.no_call f.writes h.1 above (address_above untouched order i moved kinds s t u b short a h.0 above e) e
-          (around_none (outer_store ends notes turns passed kinds i moved a) moved (address_goes ends notes turns passed order i moved kinds s t u state o b short lone a e))) arrives
+          (address_goes ends notes turns passed order i moved kinds s t u state o b short lone a e)) arrives
       by_pair (inr (inr (inl w))) = absurd (none-some _ (sym f.narrow ∙ w))
       by_pair (inr (inr (inr framed))) = absurd (false≢true (sym (f.plain moved) ∙ framed))

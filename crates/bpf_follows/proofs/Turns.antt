@@ -6,7 +6,7 @@ use Rattle.bpf_insn.specs.declared.order.Order.{Order}
 use Rattle.bpf_semantics.specs.State.{StackFrame, State}
 use Rattle.bpf_semantics.specs.declared.value.Value.{Value}
 use Rattle.bpf_follows.specs.declared.notes.Kind.{Kind}
-use Rattle.bpf_follows.specs.declared.notes.Kind.TheVariants.{Nothing, Unset, Same, Number as NumberKind, Natural, Inner, Length, Sized, Ending, Head, Offset, Fixed, Within, Start, Base, Moved, Address, Constant, Counter, Turn, Alone, Returns, Both, Saved}
+use Rattle.bpf_follows.specs.declared.notes.Kind.TheVariants.{Nothing, Unset, Same, Number as NumberKind, Natural, Inner, Length, Sized, Closing, Ending, Head, Offset, Fixed, Within, Start, Base, Moved, Address, Constant, Counter, Turn, Alone, Returns, Both, Saved, Kept}
 use Rattle.bpf_follows.specs.declared.notes.Place.{Place}
 use Rattle.bpf_follows.specs.Relation.{Past, OfPacket, kind_in, FitsKind, FrameFits, FrameWaits, FitsSlot, register_in, settled, known}
 use Rattle.bpf_follows.proofs.Lists.{pairs_weaker, Cells}
@@ -38,6 +38,7 @@ kind_more turns passed more old r (Natural half) new le f = f
 kind_more turns passed more old r (Inner least most) new le f = f
 kind_more turns passed more old r (Length most) new le f = of_more passed more le f
 kind_more turns passed more old r (Sized most) new le f = of_more passed more le f
+kind_more turns passed more old r (Closing by offset) new le f = of_more passed more le f
 kind_more turns passed more old r (Ending by) new le f = of_more passed more le f
 kind_more turns passed more old r Head new le f = f
 kind_more turns passed more old r (Offset area) new le f = f
@@ -48,6 +49,7 @@ kind_more turns passed more old r Base new le f = f
 kind_more turns passed more old r (Moved area of by) new le f = f
 kind_more turns passed more old r (Address area of by) new le f = f
 kind_more turns passed more old r (Saved of) new le f = f
+kind_more turns passed more old r (Kept of least most) new le f = f
 kind_more turns passed more old r Both new le f = f
 kind_more turns passed more old r (Constant value) new le f = f
 kind_more turns passed more old r (Counter head) new le f = let grows = le.visits head in (f.0, f.1, f.2, omega arith)
@@ -64,6 +66,7 @@ slot_more ends turns passed more registers xs ys k (Natural half) le f = f
 slot_more ends turns passed more registers xs ys k (Inner least most) le f = f
 slot_more ends turns passed more registers xs ys k (Length most) le f = f
 slot_more ends turns passed more registers xs ys k (Sized most) le f = f
+slot_more ends turns passed more registers xs ys k (Closing by offset) le f = f
 slot_more ends turns passed more registers xs ys k Head le f = f
 slot_more ends turns passed more registers xs ys k (Ending by) le f = record { unset = f.unset; value = f.value; holds = f.holds; fits = kind_more turns passed more registers (11 + k) (Ending by) (Some f.value) le f.fits }
 slot_more ends turns passed more registers xs ys k (Offset area) le f = f
@@ -74,6 +77,7 @@ slot_more ends turns passed more registers xs ys k Base le f = record { unset = 
 slot_more ends turns passed more registers xs ys k (Moved area of by) le f = record { unset = f.unset; value = f.value; holds = f.holds; fits = kind_more turns passed more registers (11 + k) (Moved area of by) (Some f.value) le f.fits }
 slot_more ends turns passed more registers xs ys k (Address area of by) le f = record { unset = f.unset; value = f.value; holds = f.holds; fits = kind_more turns passed more registers (11 + k) (Address area of by) (Some f.value) le f.fits }
 slot_more ends turns passed more registers xs ys k (Saved of) le f = record { unset = f.unset; value = f.value; holds = f.holds; fits = kind_more turns passed more registers (11 + k) (Saved of) (Some f.value) le f.fits }
+slot_more ends turns passed more registers xs ys k (Kept of least most) le f = record { unset = f.unset; value = f.value; holds = f.holds; fits = kind_more turns passed more registers (11 + k) (Kept of least most) (Some f.value) le f.fits }
 slot_more ends turns passed more registers xs ys k Both le f = f
 slot_more ends turns passed more registers xs ys k (Constant value) le f = record { unset = f.unset; value = f.value; holds = f.holds; fits = kind_more turns passed more registers (11 + k) (Constant value) (Some f.value) le f.fits }
 slot_more ends turns passed more registers xs ys k (Counter head) le f = record { unset = f.unset; value = f.value; holds = f.holds; fits = kind_more turns passed more registers (11 + k) (Counter head) (Some f.value) le f.fits }
@@ -117,6 +121,7 @@ kind_settled turns passed slot old r (Natural half) new f = f
 kind_settled turns passed slot old r (Inner least most) new f = f
 kind_settled turns passed slot old r (Length most) new f = f
 kind_settled turns passed slot old r (Sized most) new f = f
+kind_settled turns passed slot old r (Closing by offset) new f = f
 kind_settled turns passed slot old r (Ending by) new f = f
 kind_settled turns passed slot old r Head new f = f
 kind_settled turns passed slot old r (Offset area) new f = f
@@ -127,6 +132,7 @@ kind_settled turns passed slot old r Base new f = f
 kind_settled turns passed slot old r (Moved area of by) new f = f
 kind_settled turns passed slot old r (Address area of by) new f = f
 kind_settled turns passed slot old r (Saved of) new f = f
+kind_settled turns passed slot old r (Kept of least most) new f = f
 kind_settled turns passed slot old r Both new f = f
 kind_settled turns passed slot old r (Constant value) new f = f
 kind_settled turns passed slot old r (Counter head) new f = (f.0, f.1, f.2, omega arith)
@@ -147,6 +153,7 @@ slot_settled ends turns passed slot registers xs ys k (Natural half) f = f
 slot_settled ends turns passed slot registers xs ys k (Inner least most) f = f
 slot_settled ends turns passed slot registers xs ys k (Length most) f = f
 slot_settled ends turns passed slot registers xs ys k (Sized most) f = f
+slot_settled ends turns passed slot registers xs ys k (Closing by offset) f = f
 slot_settled ends turns passed slot registers xs ys k Head f = f
 slot_settled ends turns passed slot registers xs ys k (Ending by) f = record { unset = f.unset; value = f.value; holds = f.holds; fits = kind_settled turns passed slot registers (11 + k) (Ending by) (Some f.value) f.fits }
 slot_settled ends turns passed slot registers xs ys k (Offset area) f = f
@@ -157,6 +164,7 @@ slot_settled ends turns passed slot registers xs ys k Base f = record { unset = 
 slot_settled ends turns passed slot registers xs ys k (Moved area of by) f = record { unset = f.unset; value = f.value; holds = f.holds; fits = kind_settled turns passed slot registers (11 + k) (Moved area of by) (Some f.value) f.fits }
 slot_settled ends turns passed slot registers xs ys k (Address area of by) f = record { unset = f.unset; value = f.value; holds = f.holds; fits = kind_settled turns passed slot registers (11 + k) (Address area of by) (Some f.value) f.fits }
 slot_settled ends turns passed slot registers xs ys k (Saved of) f = record { unset = f.unset; value = f.value; holds = f.holds; fits = kind_settled turns passed slot registers (11 + k) (Saved of) (Some f.value) f.fits }
+slot_settled ends turns passed slot registers xs ys k (Kept of least most) f = record { unset = f.unset; value = f.value; holds = f.holds; fits = kind_settled turns passed slot registers (11 + k) (Kept of least most) (Some f.value) f.fits }
 slot_settled ends turns passed slot registers xs ys k Both f = f
 slot_settled ends turns passed slot registers xs ys k (Constant value) f = record { unset = f.unset; value = f.value; holds = f.holds; fits = kind_settled turns passed slot registers (11 + k) (Constant value) (Some f.value) f.fits }
 slot_settled ends turns passed slot registers xs ys k (Counter head) f = record { unset = f.unset; value = f.value; holds = f.holds; fits = kind_settled turns passed slot registers (11 + k) (Counter head) (Some f.value) f.fits }

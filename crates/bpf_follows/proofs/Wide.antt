@@ -27,12 +27,11 @@ use Rattle.bpf_follows.specs.Relation.{Past, Kinds, FitsKind, register_in}
 use Rattle.bpf_follows.specs.Numbers.{is_bounded, number_kind}
 use Rattle.bpf_follows.specs.Extras.{is_same}
 use Rattle.bpf_follows.specs.Exact.{by_exact}
-use Rattle.bpf_follows.specs.Matching.{AreSame, result_kind, is_sum, is_moved, is_natural, is_wide, widened}
+use Rattle.bpf_follows.specs.Matching.{AreSame, result_kind, is_sum, is_moved, is_natural, is_wide, widened, is_far_put}
 use Rattle.bpf_follows.proofs.Lists.{bind}
 use Rattle.bpf_follows.proofs.Owns.{Owns}
 use Rattle.bpf_follows.proofs.Slots.{register_below}
 use Rattle.bpf_follows.proofs.Between.{Between}
-use Rattle.bpf_follows.proofs.InnerStore.{inner_store}
 use Rattle.bpf_follows.proofs.Instruction.{both_true, is_flow, Arrived, FallArrives, Tame, same_arrives}
 use Rattle.bpf_follows.proofs.ExactInsn.{exact_arrives}
 
@@ -58,7 +57,7 @@ low_natural : (n : ℕ) → n < 2 ^ 32 → Some (ANumber (extended (pos n))) ≡
 low_natural n small = let e : n % 2 ^ 64 ≡ n % 2 ^ 64 % 2 ^ 32 = omega arith in ap (λ x. Some (ANumber x)) e
 
 tame : (notes : List (Option Place)) (op : AluOp) (dst : Reg) (src : Operand) (kinds : Kinds) → Tame notes kinds (Alu op W32 dst src)
-tame notes op dst src kinds = record { far = λ e. absurd (false≢true e); near = λ k e. absurd (none-some _ e) }
+tame notes op dst src kinds = record { far = λ e reads. absurd (false≢true e); near = λ k e. absurd (none-some _ e) }
 
 module _ (ends : Order) (notes : List (Option Place)) (turns : ℕ) (passed : Past) where
   -- what both widths make of the new machine's registers
@@ -148,7 +147,7 @@ module _ (ends : Order) (notes : List (Option Place)) (turns : ℕ) (passed : Pa
   does_alike order op dst src t v ev alike = bind _ (operand t src) v _ ev (ap (option_and_then (λ x. put dst x (next (Alu op W32 dst src) t))) alike) ∙ sym (bind _ (operand t src) v _ ev refl)
 
   -- it goes on
-  pub narrow : (kinds : Kinds) (i moved : Insn) → widened kinds i ≡ Some moved → (is_flow i ≡ false) × (inner_store kinds i ≡ false)
+  pub narrow : (kinds : Kinds) (i moved : Insn) → widened kinds i ≡ Some moved → (is_flow i ≡ false) × (is_far_put i ≡ false)
   narrow kinds (Alu op W32 dst src) moved e = (refl, refl)
   narrow kinds i moved e = absurd (none-some _ e)
 

@@ -1,7 +1,8 @@
 -- What offsets are counted in: the context, or the function's own frame.
-use Rattle.std.specs.Prelude.{◌≡◌, ℕ, ℤ, pos, Bool, true, false, Option, Some, None, if◌then◌else◌}
+use Rattle.std.specs.Prelude.{◌≡◌, ◌==◌, ℕ, ℤ, pos, Bool, true, false, Option, Some, None, if◌then◌else◌}
 use Rattle.std.specs.Option.{option_map_or}
 use Rattle.bpf_insn.specs.Limits.{frame_bytes}
+use Rattle.bpf_insn.specs.Instruction.{register_number}
 use Rattle.bpf_semantics.specs.declared.value.Value.{Value}
 use Rattle.bpf_semantics.specs.declared.value.Value.TheVariants.{Pointer}
 use Rattle.bpf_semantics.specs.declared.value.Region.{Region}
@@ -10,7 +11,7 @@ use Rattle.bpf_packets.specs.Blocks.{head_bytes}
 use Rattle.bpf_follows.specs.declared.notes.Area.{Area}
 use Rattle.bpf_follows.specs.declared.notes.Area.TheVariants.{Given, Own}
 use Rattle.bpf_follows.specs.declared.notes.Kind.{Kind}
-use Rattle.bpf_follows.specs.declared.notes.Kind.TheVariants.{Nothing, Offset, Fixed, Within}
+use Rattle.bpf_follows.specs.declared.notes.Kind.TheVariants.{Nothing, Inner, Head, Start, Address, Offset, Fixed, Within}
 
 -- where pointers at 0 point, counted from the area's first byte: r10 is the end of its frame
 abbrev pub origin : Area → ℤ
@@ -63,3 +64,11 @@ are_alike a b = alike (area_of a) (area_of b)
 -- an offset of which no bounds are said
 abbrev pub unbounded : Kind → Kind
 unbounded kind = option_map_or (λ area. Offset area) (area_of kind) Nothing
+
+-- the old program has a pointer in a register of this kind, into the context or into the own frame
+abbrev pub is_homed_by : ℕ → Kind → Bool
+is_homed_by r (Inner least most) = true
+is_homed_by r Head = true
+is_homed_by r Start = true
+is_homed_by r (Address area of by) = register_number of == r
+is_homed_by r kind = is_offset kind

@@ -1,6 +1,6 @@
 -- Extra instructions that write a register or a slot of the frame: what they make of it, while the old program stands still.
 use Rattle.std.specs.Prelude.{ℕ, ◌+◌, ◌/◌, ◌%◌, ◌^◌, ◌==◌, nat_lt, not, ◌&&◌, ℤ, pos, negsuc, ◌+ℤ◌, Bool, true, false, List, Option, Some, None, option_and_then, option_map, if◌then◌else◌}
-use Rattle.std.specs.Option.{option_or}
+use Rattle.std.specs.Option.{option_map_or, option_or}
 use Rattle.std.specs.Ordering.{int_eq}
 use Rattle.bpf_insn.specs.Limits.{frame_bytes}
 use Rattle.bpf_insn.specs.Instruction.{register_number, not_negative}
@@ -10,14 +10,14 @@ use Rattle.bpf_insn.specs.declared.instruction.Operand.{Operand}
 use Rattle.bpf_insn.specs.declared.instruction.Operand.TheVariants.{Imm, Reg as FromReg}
 use Rattle.bpf_insn.specs.declared.instruction.Size.TheVariants.{DW}
 use Rattle.bpf_insn.specs.declared.instruction.Width.TheVariants.{W64}
-use Rattle.bpf_insn.specs.declared.instruction.AluOp.TheVariants.{Add, Mov}
+use Rattle.bpf_insn.specs.declared.instruction.AluOp.TheVariants.{Add, Sub, Mov}
 use Rattle.bpf_insn.specs.declared.instruction.Insn.{Insn}
 use Rattle.bpf_insn.specs.declared.instruction.Insn.TheVariants.{Alu, Load, Store, StoreImm}
 use Rattle.bpf_packets.specs.Blocks.{head_bytes}
 use Rattle.bpf_follows.specs.declared.notes.Area.{Area}
 use Rattle.bpf_follows.specs.declared.notes.Area.TheVariants.{Given, Own}
 use Rattle.bpf_follows.specs.declared.notes.Kind.{Kind}
-use Rattle.bpf_follows.specs.declared.notes.Kind.TheVariants.{Same, Both, Number, Natural, Inner, Length, Sized, Ending, Offset, Fixed, Within, Start, Head, Base, Moved, Address, Saved, Constant, Counter, Turn, Alone, Returns}
+use Rattle.bpf_follows.specs.declared.notes.Kind.TheVariants.{Same, Both, Number, Natural, Inner, Length, Sized, Ending, Closing, Offset, Fixed, Within, Start, Head, Base, Moved, Address, Saved, Kept, Constant, Counter, Turn, Alone, Returns}
 use Rattle.bpf_follows.specs.declared.site.Front.{Front}
 use Rattle.bpf_follows.specs.Areas.{same_area}
 use Rattle.bpf_follows.specs.Relation.{kind_in, is_free}
@@ -61,6 +61,7 @@ copied r Head = Some Base
 copied r Base = Some Base
 copied r (Length most) = Some (Ending 0)
 copied r (Ending by) = Some (Ending by)
+copied r (Closing by offset) = Some (Ending by)
 copied r (Offset area) = Some (Moved area r (pos 0))
 copied r (Fixed area offset) = Some (Moved area r (pos 0))
 copied r (Within area least most) = Some (Moved area r (pos 0))
@@ -84,6 +85,7 @@ moved_end by (negsuc n) = None
 
 abbrev pub added : Option Front → Reg → Kind → ℤ → Option Kind
 added front r (Ending by) imm = moved_end by imm
+added front r (Closing by offset) imm = moved_end by imm
 added front r (Counter head) imm = if is_taken front (Counter head) && int_eq imm (negsuc 0) then Some (Turn head) else None
 added front r kind imm = option_and_then (shifted imm) (offset_in r kind)
 
@@ -107,12 +109,18 @@ address_at base moved = option_and_then (λ b. option_and_then (λ m. if same_ar
 abbrev pub address : Reg → Kind → Reg → Kind → Option Kind
 address dst kind src other = option_or (address_at (base_of src other) (offset_in dst kind)) (address_at (base_of dst kind) (offset_in src other))
 
+-- the pointer at 0 is taken away again from the one that was made of the register's own offset
+abbrev pub unmade : Reg → Option Area → Kind → Option Kind
+unmade r (Some base) (Address area of by) = if same_area base area && (register_number of == register_number r && int_eq by (pos 0)) then Some (Offset area) else None
+unmade r base kind = None
+
 -- what a 64-bit operation makes of a register
 abbrev pub put_kind : Option Front → List Kind → AluOp → Reg → Operand → Option Kind
 put_kind front kinds Mov dst (Imm imm) = Some (constant_kind (kind_of kinds dst) imm)
 put_kind front kinds Mov dst (FromReg src) = copied src (kind_of kinds src)
 put_kind front kinds Add dst (Imm imm) = added front dst (kind_of kinds dst) imm
 put_kind front kinds Add dst (FromReg src) = address dst (kind_of kinds dst) src (kind_of kinds src)
+put_kind front kinds Sub dst (FromReg src) = unmade dst (base_of src (kind_of kinds src)) (kind_of kinds dst)
 put_kind front kinds _ dst src = None
 
 -- what an extra instruction puts into its register
@@ -143,6 +151,7 @@ own_kind Base = Some Base
 own_kind (Moved area of by) = Some (Moved area of by)
 own_kind (Address area of by) = Some (Address area of by)
 own_kind (Saved of) = Some (Saved of)
+own_kind (Kept of least most) = Some (Kept of least most)
 own_kind (Constant value) = Some (Constant value)
 own_kind (Counter head) = Some (Counter head)
 own_kind (Turn head) = Some (Turn head)
@@ -154,6 +163,7 @@ abbrev pub kept_kind : Reg → Kind → Option Kind
 kept_kind r (Counter head) = Some (Counter head)
 kept_kind r (Turn head) = Some (Turn head)
 kept_kind r Both = Some (Saved r)
+kept_kind r (Number least most) = Some (Kept r least most)
 kept_kind r (Natural half) = Some (Saved r)
 kept_kind r (Inner least most) = Some (Saved r)
 kept_kind r kind = copied r kind
@@ -168,14 +178,26 @@ stored kinds dst off src = option_and_then (λ k. option_map (λ kind. (11 + k, 
 abbrev pub stored_constant : List Kind → Reg → ℤ → ℤ → Option (ℕ × Kind)
 stored_constant kinds dst off imm = option_map (λ k. (11 + k, Constant imm)) (free_slot kinds dst off)
 
--- what was saved is put back
-unfoldable pub restored : Reg → Kind → Kind
-restored r (Saved of) = if register_number of == register_number r then Both else Saved of
-restored r kind = kind
+-- the offset of the pointer into the context that the old program has in a register, if that is always the same
+abbrev pub given_in : Kind → Option ℤ
+given_in (Fixed Given offset) = Some offset
+given_in (Closing by offset) = Some offset
+given_in kind = None
+
+-- the packet's end is put where something was
+abbrev pub closing : ℕ → Kind → Kind
+closing by have = option_map_or (Closing by) (given_in have) (Ending by)
+
+-- what was saved is put back where something was
+unfoldable pub restored : Reg → Kind → Kind → Kind
+restored r have (Saved of) = if register_number of == register_number r then Both else Saved of
+restored r have (Kept of least most) = if register_number of == register_number r then Number least most else Kept of least most
+restored r have (Ending by) = closing by have
+restored r have kind = kind
 
 -- what is taken out of one
 abbrev pub taken : List Kind → Reg → Reg → ℤ → Option (ℕ × Kind)
-taken kinds dst src off = if is_r10 dst then None else option_and_then (λ k. option_map (λ kind. (register_number dst, restored dst kind)) (own_kind (kind_in kinds (11 + k)))) (frame_slot kinds src off)
+taken kinds dst src off = if is_r10 dst then None else option_and_then (λ k. option_map (λ kind. (register_number dst, restored dst (kind_of kinds dst) kind)) (own_kind (kind_in kinds (11 + k)))) (frame_slot kinds src off)
 
 -- ---- blocks
 

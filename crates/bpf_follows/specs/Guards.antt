@@ -4,7 +4,7 @@ use Rattle.std.specs.Int.{int_min, int_max}
 use Rattle.std.specs.Option.{option_map_or, option_or}
 use Rattle.std.specs.Ordering.{int_eq}
 use Rattle.bpf_insn.specs.Arithmetic.{extended}
-use Rattle.bpf_insn.specs.Effects.{access_of}
+use Rattle.bpf_insn.specs.Effects.{Access, access_of}
 use Rattle.bpf_insn.specs.Instruction.{register_number}
 use Rattle.bpf_insn.specs.declared.instruction.Reg.{Reg}
 use Rattle.bpf_insn.specs.declared.instruction.Operand.TheVariants.{Imm, Reg as FromReg}
@@ -18,12 +18,12 @@ use Rattle.bpf_packets.specs.Blocks.{head_bytes}
 use Rattle.bpf_follows.specs.declared.notes.Area.{Area}
 use Rattle.bpf_follows.specs.declared.notes.Area.TheVariants.{Given}
 use Rattle.bpf_follows.specs.declared.notes.Kind.{Kind}
-use Rattle.bpf_follows.specs.declared.notes.Kind.TheVariants.{Same, Both, Number, Natural, Length, Ending, Offset, Fixed, Within}
+use Rattle.bpf_follows.specs.declared.notes.Kind.TheVariants.{Same, Both, Number, Natural, Length, Ending, Closing, Offset, Fixed, Within}
 use Rattle.bpf_follows.specs.declared.site.Span.{Span}
 use Rattle.bpf_follows.specs.declared.site.Range.{Range}
 use Rattle.bpf_follows.specs.declared.site.Front.{Front}
 use Rattle.bpf_follows.specs.Areas.{same_area, first_of, size_of}
-use Rattle.bpf_follows.specs.Extras.{kind_of, is_taken, offset_in}
+use Rattle.bpf_follows.specs.Extras.{kind_of, is_taken, offset_in, given_in}
 
 -- where accesses go that lie among the bytes from the first one to before the end, moved up and down: between which numbers that is
 abbrev pub range_of : ℕ → ℕ → Span → ℤ → ℤ → Range
@@ -91,26 +91,37 @@ abbrev pub is_long : ℤ → Kind → Bool
 is_long imm (Length most) = nat_le most (extended imm)
 is_long imm _ = false
 
+-- how far behind the packet's end a register is
+abbrev pub end_in : Kind → Option ℕ
+end_in (Ending by) = Some by
+end_in (Closing by offset) = Some by
+end_in kind = None
+
 -- an offset that is moved is at most so far behind the packet's end, if the bytes beside it lie in the packet
 abbrev pub is_before : ℤ → ℕ → Span → Bool
 is_before moved by span = int_le (moved +ℤ pos head_bytes) (span.to +ℤ pos by) && int_le span.from (moved +ℤ pos head_bytes)
 
+abbrev pub is_behind : Front → Area × Reg × ℤ → ℕ → Bool
+is_behind front m by = same_area m.0 Given && option_map_or (is_before m.2 by) (get_or front.spans (register_number m.1) None) false
+
 abbrev pub ends_behind : Front → Option (Area × Reg × ℤ) → Kind → Bool
-ends_behind front (Some m) (Ending by) = same_area m.0 Given && option_map_or (is_before m.2 by) (get_or front.spans (register_number m.1) None) false
-ends_behind front m kind = false
+ends_behind front (Some m) kind = option_map_or (is_behind front m) (end_in kind) false
+ends_behind front None kind = false
 
 -- the packet's end, and so many bytes more, isn't below a constant, if the bytes beside an offset lie in the packet
 abbrev pub is_reached : ℤ → ℕ → ℤ → Span → Bool
 is_reached offset by imm span = int_le (pos (extended imm)) (((offset +ℤ span.to) +ℤ pos by) -ℤ pos head_bytes)
 
 -- by the instruction's own access, at an offset that is always the same
-abbrev pub reached : Front → Option (Area × ℤ) → Reg → ℕ → ℤ → Bool
-reached front (Some p) r by imm = same_area p.0 Given && option_map_or (is_reached p.1 by imm) (get_or front.spans (register_number r) None) false
-reached front None r by imm = false
+abbrev pub reached : Front → Option ℤ → Reg → ℤ → ℕ → Bool
+reached front (Some offset) r imm by = option_map_or (is_reached offset by imm) (get_or front.spans (register_number r) None) false
+reached front None r imm by = false
+
+abbrev pub reached_by : Front → List Kind → ℤ → Access → ℕ → Bool
+reached_by front kinds imm a by = reached front (given_in (kind_of kinds a.base)) a.base imm by
 
 abbrev pub reaches : Front → List Kind → Kind → ℤ → Bool
-reaches front kinds (Ending by) imm = option_map_or (λ a. reached front (fixed_in (kind_of kinds a.base)) a.base by imm) (access_of front.insn) false
-reaches front kinds kind imm = false
+reaches front kinds kind imm = option_map_or (λ by. option_map_or (λ a. reached_by front kinds imm a by) (access_of front.insn) false) (end_in kind) false
 
 -- ---- all of them
 

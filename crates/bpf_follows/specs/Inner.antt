@@ -1,9 +1,9 @@
--- Pointers into the own frame that both programs have, between bounds: what instructions make of them, and which slots accesses by them never
--- come to. Nothing here speaks of runs.
-use Rattle.std.specs.Prelude.{ℕ, ◌+◌, ◌*◌, ◌^◌, nat_lt, int_le, ◌&&◌, ◌||◌, not, ℤ, pos, ◌+ℤ◌, Bool, true, false, Option, Some, None, option_and_then, if◌then◌else◌}
+-- Pointers into the own frame that both programs have, between bounds: what instructions make of them. Which slots accesses by them, and by
+-- offsets into the own frame, never come to. Nothing here speaks of runs.
+use Rattle.std.specs.Prelude.{ℕ, ◌+◌, ◌*◌, ◌^◌, nat_lt, int_le, ◌&&◌, ◌||◌, not, ℤ, pos, ◌+ℤ◌, Bool, false, Option, Some, None, option_and_then, option_map, if◌then◌else◌}
 use Rattle.std.specs.Option.{option_map_or}
 use Rattle.bpf_insn.specs.Effects.{Access, access_of}
-use Rattle.bpf_insn.specs.Instruction.{register_number, byte_count}
+use Rattle.bpf_insn.specs.Instruction.{register_number, byte_count, not_negative}
 use Rattle.bpf_insn.specs.Limits.{frame_bytes}
 use Rattle.bpf_insn.specs.declared.instruction.Reg.{Reg}
 use Rattle.bpf_insn.specs.declared.instruction.Operand.{Operand}
@@ -13,8 +13,9 @@ use Rattle.bpf_insn.specs.declared.instruction.Width.TheVariants.{W64}
 use Rattle.bpf_insn.specs.declared.instruction.AluOp.{AluOp}
 use Rattle.bpf_insn.specs.declared.instruction.AluOp.TheVariants.{Add, Mov}
 use Rattle.bpf_insn.specs.declared.instruction.Insn.{Insn}
+use Rattle.bpf_follows.specs.declared.notes.Area.TheVariants.{Own}
 use Rattle.bpf_follows.specs.declared.notes.Kind.{Kind}
-use Rattle.bpf_follows.specs.declared.notes.Kind.TheVariants.{Number, Inner}
+use Rattle.bpf_follows.specs.declared.notes.Kind.TheVariants.{Number, Inner, Fixed, Within}
 use Rattle.bpf_follows.specs.Relation.{Kinds}
 use Rattle.bpf_follows.specs.Extras.{is_r10}
 
@@ -54,10 +55,19 @@ inner_made kinds width op dst src = None
 
 -- ---- accesses
 
--- an access by a register of this kind never comes to slot k
+-- between which bytes of the own frame lies what the old program points to by a register of this kind: a pointer that both have, or an offset
+abbrev pub reach : Kind → Option (ℕ × ℕ)
+reach (Inner least most) = Some (least, most)
+reach (Within Own least most) = Some (least, most)
+reach (Fixed Own offset) = option_map (λ n. (n, n)) (not_negative offset)
+reach kind = None
+
+-- an access by a pointer between these two never comes to slot k
+abbrev pub is_outside : Access → ℕ → ℕ × ℕ → Bool
+is_outside a k by = int_le (pos (8 * k + 8)) (pos by.0 +ℤ a.offset) || int_le ((pos by.1 +ℤ a.offset) +ℤ pos (byte_count a.size)) (pos (8 * k))
+
 abbrev pub is_beside : Kind → Access → ℕ → Bool
-is_beside (Inner least most) a k = int_le (pos (8 * k + 8)) (pos least +ℤ a.offset) || int_le ((pos most +ℤ a.offset) +ℤ pos (byte_count a.size)) (pos (8 * k))
-is_beside kind a k = false
+is_beside kind a k = option_map_or (is_outside a k) (reach kind) false
 
 -- r10 aside, and what reads and writes at once
 abbrev pub misses_by : Kinds → ℕ → Access → Bool
@@ -66,7 +76,3 @@ misses_by kinds k a = not (is_r10 a.base) && (not (a.reads && a.writes) && is_be
 -- the instruction never comes to slot k of the own frame
 abbrev pub misses : Kinds → Insn → ℕ → Bool
 misses kinds i k = option_map_or (misses_by kinds k) (access_of i) false
-
-abbrev pub is_inner : Kind → Bool
-is_inner (Inner least most) = true
-is_inner kind = false

@@ -21,6 +21,8 @@ pub mod Guards
 pub mod Sequence
 -- registers that hold one number always
 pub mod Exact
+-- where the old program is surely stuck
+pub mod Stuck
 -- what the notes have to say at each slot
 pub mod Matching
 -- the numbers of what fails

@@ -24,18 +24,19 @@ use Rattle.bpf_packets.specs.Blocks.{head_bytes}
 use Rattle.bpf_follows.specs.declared.notes.Area.{Area}
 use Rattle.bpf_follows.specs.declared.notes.Area.TheVariants.{Given, Own}
 use Rattle.bpf_follows.specs.declared.notes.Kind.{Kind}
-use Rattle.bpf_follows.specs.declared.notes.Kind.TheVariants.{Nothing, Unset, Same, Both, Number, Inner, Sized, Head, Offset, Fixed, Within, Start, Moved, Address, Saved}
+use Rattle.bpf_follows.specs.declared.notes.Kind.TheVariants.{Nothing, Unset, Same, Both, Number, Inner, Sized, Closing, Head, Offset, Fixed, Within, Start, Moved, Address, Saved, Kept}
 use Rattle.bpf_follows.specs.declared.notes.Bounds.{Bounds}
 use Rattle.bpf_follows.specs.declared.notes.Place.{Place}
 use Rattle.bpf_follows.specs.declared.site.Front.{Front}
 use Rattle.bpf_follows.specs.declared.site.Site.{Site}
 use Rattle.bpf_follows.specs.declared.mismatch.Mismatch.{Mismatch}
 use Rattle.bpf_follows.specs.declared.mismatch.Mismatch.TheVariants.{Order, Start as AtStart, At}
-use Rattle.bpf_follows.specs.Areas.{origin, is_own, same_area, is_offset, are_alike, unbounded}
+use Rattle.bpf_follows.specs.Areas.{origin, is_own, same_area, is_offset, are_alike, unbounded, is_homed_by}
 use Rattle.bpf_follows.specs.Relation.{places, Kinds, Gives, kind_in, kinds_of, known, place_at, is_of_other, is_alone, received}
 use Rattle.bpf_follows.specs.Returned.{is_call, led, called_back, GivesBack}
 use Rattle.bpf_follows.specs.Ahead.{spans_ahead, span_behind}
-use Rattle.bpf_follows.specs.Inner.{is_inner, misses}
+use Rattle.bpf_follows.specs.Inner.{misses}
+use Rattle.bpf_follows.specs.Stuck.{is_stuck}
 use Rattle.bpf_follows.specs.Numbers.{is_bounded, number_kind, told}
 use Rattle.bpf_follows.specs.Extras.{is_same, is_r10, base_of, slot_of}
 use Rattle.bpf_follows.specs.Sequence.{extras}
@@ -73,6 +74,11 @@ copy_kind _ = None
 abbrev pub within_at : Area → ℕ → ℕ → Kind
 within_at area low high = if nat_lt low (2 ^ 32) && nat_lt high (2 ^ 32) then Within area low high else Offset area
 
+-- the same, if neither is below 0
+abbrev pub within_ints : Area → ℤ → ℤ → Kind
+within_ints area (pos low) (pos high) = within_at area low high
+within_ints area low high = Offset area
+
 -- the sum of an offset and what is the same in both
 abbrev pub offset_sum : Kind → Kind → Kind
 offset_sum (Fixed area offset) (Number least most) = option_map_or (λ o. within_at area (o + least) (o + most)) (not_negative offset) (Offset area)
@@ -91,6 +97,7 @@ computed _ a b = None
 
 abbrev pub moved_kind : AluOp → Kind → ℤ → Option Kind
 moved_kind Add (Fixed area offset) imm = Some (fixed_at area (offset +ℤ imm))
+moved_kind Add (Within area least most) imm = Some (within_ints area (pos least +ℤ imm) (pos most +ℤ imm))
 moved_kind Add kind imm = if is_offset kind then Some (unbounded kind) else None
 moved_kind Sub kind imm = if is_offset kind then Some (unbounded kind) else None
 moved_kind _ kind imm = None
@@ -176,6 +183,13 @@ is_far_access i a = not (is_r10 a.base) && (a.writes || is_whole i)
 abbrev pub is_far : Insn → Bool
 is_far i = option_map_or (is_far_access i) (access_of i) false
 
+-- it writes there, and reads nothing
+abbrev pub is_far_put_by : Access → Bool
+is_far_put_by a = a.writes && (not a.reads && not (is_r10 a.base))
+
+abbrev pub is_far_put : Insn → Bool
+is_far_put i = option_map_or is_far_put_by (access_of i) false
+
 -- the slot of its own frame that it reads whole
 abbrev pub whole_slot : Insn → Option ℕ
 whole_slot (Load DW dst src off) = if is_r10 src then slot_of off else None
@@ -185,13 +199,18 @@ whole_slot _ = None
 abbrev pub IsPlainAt : Kinds → Insn → ℕ → Type 0
 IsPlainAt kinds i k = misses kinds i k ≡ false → is_plain (kinds (11 + k)) ≡ true
 
+-- where it reads there
 pub record IsTame (kinds : Kinds) (i : Insn) : Type 0 where
-  pub far : is_far i ≡ true → (k : ℕ) → k < 64 → IsPlainAt kinds i k
+  pub far : is_far i ≡ true → is_far_put i ≡ false → (k : ℕ) → k < 64 → IsPlainAt kinds i k
   pub near : (k : ℕ) → whole_slot i ≡ Some k → is_plain (kinds (11 + k)) ≡ true
+
+-- its register points into the context or into the own frame: there alone the instruction goes
+abbrev pub is_homed : Kinds → Insn → Bool
+is_homed kinds i = option_map_or (λ a. is_homed_by (register_number a.base) (kinds (register_number a.base))) (access_of i) false
 
 -- Where functions leave the frames of others alone the instruction goes to the own frame alone; else it calls only where all slots are so.
 pub record IsLone (alone : Bool) (kinds : Kinds) (i : Insn) : Type 0 where
-  pub far : is_far i ≡ true → alone ≡ false
+  pub far : is_far i ≡ true → is_homed kinds i ≡ false → alone ≡ false
   pub calls : is_call i ≡ true → alone ≡ false → AllPlain kinds
 
 abbrev pub Reads : Kinds → Insn → Type 0
@@ -236,6 +255,7 @@ by_base area offset kind old new = is_based area new.base kind && int_eq (offset
 abbrev pub are_same_place : Access → Access → Kind → Kind → Bool
 are_same_place old new (Address area of by) other = register_number of == register_number old.base && int_eq (by +ℤ new.offset) (old.offset -ℤ origin area)
 are_same_place old new kind (Fixed area offset) = by_base area offset kind old new
+are_same_place old new kind (Closing by offset) = by_base Given offset kind old new
 are_same_place old new kind other = false
 
 abbrev pub is_same_place : Kinds → Access → Access → Bool
@@ -252,10 +272,6 @@ pub record IsSafe (kinds : Kinds) (i : Insn) (old new : Access) : Type 0 where
   pub tame : (new.writes || is_own (place_area (kinds (register_number new.base)) (kinds (register_number old.base)))) ≡ true → IsTame kinds i
   pub stored : IsSame kinds (stored_by i)
 
--- both programs have the pointer into the own frame
-abbrev pub is_near : Kinds → Reg → Bool
-is_near kinds r = is_r10 r || is_inner (kinds (register_number r))
-
 -- displacements have 16 bits
 pub record ByAddress (kinds : Kinds) (i moved : Insn) : Type 0 where
   pub old : Access
@@ -264,7 +280,7 @@ pub record ByAddress (kinds : Kinds) (i moved : Insn) : Type 0 where
   pub new_is : access_of moved ≡ Some new
   pub alike : rebased i new.base new.offset ≡ Some moved
   pub same_place : is_same_place kinds old new ≡ true
-  pub other : is_near kinds old.base ≡ false
+  pub other : is_r10 old.base ≡ false
   pub safe : IsSafe kinds i old new
   pub near : FitsSigned w16 new.offset
 
@@ -333,6 +349,7 @@ is_gone i (Within area least most) = is_own area && is_lost i 10
 is_gone i (Moved area of by) = is_lost i (register_number of)
 is_gone i (Address area of by) = is_lost i (register_number of)
 is_gone i (Saved of) = is_lost i (register_number of)
+is_gone i (Kept of least most) = is_lost i (register_number of)
 is_gone i kind = false
 
 abbrev pub held : Insn → Kind → Kind
@@ -351,9 +368,14 @@ kinds_behind taken i moved kinds = kinds_after i (written_kind kinds i moved) (t
 abbrev pub is_spared : Kinds → Insn → ℕ → Bool
 is_spared kinds i r = writes_slot i r && misses kinds i (r - 11)
 
+-- one that may go to this slot, or leave it as it was, and that wasn't the same
+abbrev pub is_blurred : Kinds → Insn → ℕ → Bool
+is_blurred kinds i r = is_far_put i && (nat_le 11 r && not (is_plain (kinds r)))
+
 -- behind a call that leaves its frame alone the slots hold what they held, and so do those to which a store never goes
 abbrev pub kinds_beyond : Bool → Bool → Insn → Insn → Kinds → Kinds
-kinds_beyond alone taken i moved kinds r = if is_spared kinds i r || (is_call i && (alone && nat_le 11 r)) then held i (kinds r) else kinds_behind taken i moved kinds r
+kinds_beyond alone taken i moved kinds r =
+    if is_spared kinds i r || (is_call i && (alone && nat_le 11 r)) then held i (kinds r) else if is_blurred kinds i r then Nothing else kinds_behind taken i moved kinds r
 
 -- behind a call r0 is what the function gives back
 abbrev pub kinds_back : List (Option Place) → ℕ → Bool → Insn → Insn → Kinds → Kinds
@@ -444,10 +466,10 @@ pub record Stands (new : Instructions) (notes : List (Option Place)) (bounds : B
 abbrev pub front_at : Instructions → Bounds → ℕ → Insn → Front
 front_at old bounds slot i = record { slot = slot; insn = i; length = bounds.length; padded = bounds.padded; untouched = bounds.untouched; spans = spans_ahead old slot; behind = span_behind old slot i }
 
--- at a slot that is noted, where an instruction of the old program begins
+-- at a slot that is noted, where an instruction of the old program begins at which that isn't surely stuck
 abbrev pub StandsAt : Instructions → Instructions → List (Option Place) → Bounds → ℕ → Type 0
 StandsAt old new notes bounds slot = (place : Place) (i : Insn) → place_at notes slot ≡ Some place → insn_at old.list slot ≡ Some i
-    → Stands new notes bounds place (front_at old bounds slot i)
+    → (is_stuck bounds.length (kinds_of place) i ≡ true) ⊎ Stands new notes bounds place (front_at old bounds slot i)
 
 -- r1 is the context, and r2 its length; in blocks, the old program's are the packet and its length
 abbrev pub given_kinds : Bool → ℕ → Kind × Kind

@@ -20,7 +20,7 @@ use Rattle.bpf_packets.specs.Blocks.{head_bytes}
 use Rattle.bpf_follows.specs.declared.notes.Area.{Area}
 use Rattle.bpf_follows.specs.declared.notes.Area.TheVariants.{Given, Own}
 use Rattle.bpf_follows.specs.declared.notes.Kind.{Kind}
-use Rattle.bpf_follows.specs.declared.notes.Kind.TheVariants.{Nothing, Unset, Same, Both, Number, Natural, Inner, Length, Sized, Ending, Offset, Fixed, Within, Start, Head, Base, Moved, Address, Saved, Constant, Counter, Turn, Alone, Returns}
+use Rattle.bpf_follows.specs.declared.notes.Kind.TheVariants.{Nothing, Unset, Same, Both, Number, Natural, Inner, Length, Sized, Ending, Closing, Offset, Fixed, Within, Start, Head, Base, Moved, Address, Saved, Kept, Constant, Counter, Turn, Alone, Returns}
 use Rattle.bpf_follows.specs.declared.notes.Place.{Place}
 use Rattle.bpf_follows.specs.Areas.{origin, is_own, same_area, IsInto}
 
@@ -53,6 +53,7 @@ is_free Base = true
 is_free (Moved area of by) = true
 is_free (Address area of by) = true
 is_free (Saved of) = true
+is_free (Kept of least most) = true
 is_free (Ending by) = true
 is_free (Constant value) = true
 is_free (Counter head) = true
@@ -87,6 +88,7 @@ weaker turns r have (Within into low high) = within_weaker r have into low high
 weaker turns r Start Same = true
 weaker turns r Start Base = true
 weaker turns r Head Base = true
+weaker turns r (Closing by offset) (Ending more) = nat_lt r 11 && by == more
 weaker turns r (Constant value) (Counter head) = nat_le turns (extended value)
 weaker turns r (Number least most) (Number low high) = nat_le low least && nat_le most high
 weaker turns r (Number least most) (Natural half) = nat_lt r 11 && nat_le most (natural_top half)
@@ -212,12 +214,14 @@ FitsKind turns passed old r (Within area least most) new = IsWithin area least m
 FitsKind turns passed old r (Length most) new = OfPacket passed.packet (λ n. (n ≤ most) × (old r ≡ Some (ANumber n)) × (new ≡ Some (ANumber n)))
 FitsKind turns passed old r (Sized most) new = OfPacket passed.packet (λ n. (n ≤ most) × (old r ≡ Some (ANumber n)))
 FitsKind turns passed old r (Ending by) new = OfPacket passed.packet (λ n. (by < 2 ^ 32) × (new ≡ Some (ANumber (n + by))))
+FitsKind turns passed old r (Closing by offset) new = OfPacket passed.packet (λ n. (by < 2 ^ 32) × (old r ≡ Some (Pointer Context offset)) × (new ≡ Some (ANumber (n + by))))
 FitsKind turns passed old r Head new = (old r ≡ Some (Pointer Context (pos head_bytes))) × (new ≡ Some (Pointer Context (pos 0)))
 FitsKind turns passed old r Start new = (old r ≡ Some (Pointer Context (pos 0))) × (new ≡ Some (Pointer Context (pos 0)))
 FitsKind turns passed old r Base new = new ≡ Some (Pointer Context (pos 0))
 FitsKind turns passed old r (Moved area of by) new = HasOffset area by as_offset (old 10) (old (register_number of)) new
 FitsKind turns passed old r (Address area of by) new = HasOffset area by as_pointer (old 10) (old (register_number of)) new
 FitsKind turns passed old r (Saved of) new = IsOneValue (old (register_number of)) new
+FitsKind turns passed old r (Kept of least most) new = IsOneNumber least most (old (register_number of)) new
 FitsKind turns passed old r (Constant value) new = new ≡ Some (ANumber (extended value))
 FitsKind turns passed old r Alone new = IsKept (old r) new
 FitsKind turns passed old r (Returns least most) new = IsKept (old r) new
@@ -293,6 +297,7 @@ FitsSlot order turns passed registers old new k (Fixed area offset) = IfGiven ar
 FitsSlot order turns passed registers old new k (Within area least most) = ⊥
 FitsSlot order turns passed registers old new k (Length most) = ⊥
 FitsSlot order turns passed registers old new k (Sized most) = ⊥
+FitsSlot order turns passed registers old new k (Closing by offset) = ⊥
 FitsSlot order turns passed registers old new k Head = ⊥
 FitsSlot order turns passed registers old new k Start = ⊥
 FitsSlot order turns passed registers old new k Alone = ⊥
@@ -336,6 +341,7 @@ is_of_other (Within area least most) = is_own area
 is_of_other (Moved area of by) = true
 is_of_other (Address area of by) = true
 is_of_other (Saved of) = true
+is_of_other (Kept of least most) = true
 is_of_other _ = false
 
 -- what r10 holds in front of the first instruction says whether each function leaves the frames of others alone

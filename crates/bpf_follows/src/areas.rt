@@ -1,10 +1,11 @@
 //! Offsets, and what they are counted in: the context, or the function's own frame.
 
 ghost use Rattle.std.specs.Prelude.{◌≡◌};
-ghost use Rattle.bpf_follows.specs.Areas.{origin, is_own, same_area, size_of, first_of, area_of, is_offset, are_alike, unbounded};
+ghost use Rattle.bpf_insn.specs.Instruction.{register_number};
+ghost use Rattle.bpf_follows.specs.Areas.{origin, is_own, same_area, size_of, first_of, area_of, is_offset, are_alike, unbounded, is_homed_by};
 
 use crate::notes::{Area, Kind};
-use bpf_insn::FRAME_BYTES;
+use bpf_insn::{FRAME_BYTES, Reg};
 use bpf_packets::HEAD_BYTES;
 
 /// Where pointers at 0 point, counted from an area's first byte: r10 is the end of its frame.
@@ -86,5 +87,16 @@ pub fn unbounded(kind: Kind) -> Kind
     match area_of(kind) {
         Some(area) => Kind::Offset { area },
         None => Kind::Nothing,
+    }
+}
+
+/// Whether the old program has a pointer into the context or into the own frame in a register of this kind.
+pub fn is_homed_by(r: Reg, kind: Kind) -> bool
+    ensures { result ≡ is_homed_by (register_number r) kind }
+{
+    match kind {
+        Kind::Inner { .. } | Kind::Head | Kind::Start => true,
+        Kind::Address { of, .. } => of as u8 == r as u8,
+        _ => is_offset(kind),
     }
 }

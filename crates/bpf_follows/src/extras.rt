@@ -2,14 +2,14 @@
 //! and make addresses in front of an instruction.
 
 ghost use Rattle.std.specs.Prelude.{◌≡◌, ◌<◌, IfSome};
-ghost use Rattle.bpf_follows.specs.Extras.{is_same, constant_kind, offset_in, copied, is_taken, moved_end, added, is_base, base_of, address_at, address, put_kind, put_by, made};
+ghost use Rattle.bpf_follows.specs.Extras.{is_same, constant_kind, offset_in, copied, is_taken, moved_end, added, is_base, base_of, address_at, address, unmade, put_kind, put_by, made};
 ghost use Rattle.bpf_follows.specs.Sequence.{written, extra, extra_at, extras};
 
 use crate::areas::same_area;
 use crate::frame::is_r10;
 use crate::guards::{passed_by, passes};
 use crate::keeps::moved_by;
-use crate::kinds::kind_in;
+use crate::kinds::{is_register, kind_in};
 use crate::notes::{Area, Kind, Kinds};
 use crate::site::Front;
 use bpf_insn::{AluOp, Code, Insn, Operand, Reg, Width};
@@ -81,6 +81,7 @@ pub fn copied(r: Reg, kind: Kind) -> Option<Kind>
         Kind::Within { area, .. } => Some(Kind::Moved { area, of: r, by: 0 }),
         Kind::Moved { .. } | Kind::Address { .. } => Some(kind),
         Kind::Constant { .. } | Kind::Ending { .. } => Some(kind),
+        Kind::Closing { by, .. } => Some(Kind::Ending { by }),
         _ => None,
     }
 }
@@ -110,7 +111,7 @@ fn added(front: Option<Front>, r: Reg, kind: Kind, imm: i32) -> Option<Kind>
 {
     match (offset_in(r, kind), kind) {
         (Some((area, of, 0)), _) => Some(Kind::Moved { area, of, by: imm }),
-        (None, Kind::Ending { by }) => moved_end(by, imm),
+        (None, Kind::Ending { by } | Kind::Closing { by, .. }) => moved_end(by, imm),
         (None, Kind::Counter { head }) if is_taken(front, kind) && imm == -1 => {
             Some(Kind::Turn { head })
         }
@@ -161,6 +162,20 @@ fn address(dst: Reg, kind: Kind, src: Reg, other: Kind) -> Option<Kind>
     }
 }
 
+/// The register's own offset, where the pointer at 0 is taken away again from the one that was made of it.
+fn unmade(r: Reg, base: Option<Area>, kind: Kind) -> Option<Kind>
+    ensures { result ≡ unmade r base kind }
+{
+    let Kind::Address { area, of, by } = kind else {
+        return None;
+    };
+    if same_area(base?, area) && is_register(of, r) && by == 0 {
+        Some(Kind::Offset { area })
+    } else {
+        None
+    }
+}
+
 /// What a 64-bit operation makes of a register.
 fn put_kind(front: Option<Front>, kinds: &Kinds, op: AluOp, dst: Reg, src: Operand) -> Option<Kind>
     ensures { result ≡ put_kind front kinds.now op dst src }
@@ -171,6 +186,7 @@ fn put_kind(front: Option<Front>, kinds: &Kinds, op: AluOp, dst: Reg, src: Opera
         (AluOp::Mov, Operand::Reg(src)) => copied(src, kind_in(kinds, src)),
         (AluOp::Add, Operand::Imm(imm)) => added(front, dst, kind, imm),
         (AluOp::Add, Operand::Reg(src)) => address(dst, kind, src, kind_in(kinds, src)),
+        (AluOp::Sub, Operand::Reg(src)) => unmade(dst, base_of(src, kind_in(kinds, src)), kind),
         _ => None,
     }
 }

@@ -4,7 +4,7 @@ ghost use Rattle.std.specs.Prelude.{◌≡◌, ◌<◌, ◌+ℤ◌, pos, IfSome}
 ghost use Rattle.bpf_insn.specs.Limits.{frame_bytes};
 ghost use Rattle.bpf_insn.specs.Instruction.{not_negative};
 ghost use Rattle.bpf_follows.specs.Extras.{is_r10, whole_at, slot_of};
-ghost use Rattle.bpf_follows.specs.Matching.{touches, is_written, writes_slot, is_whole, is_far_access, is_far, whole_slot, is_far_store, is_lowest};
+ghost use Rattle.bpf_follows.specs.Matching.{touches, is_written, writes_slot, is_whole, is_far_access, is_far, is_far_put_by, is_far_put, whole_slot, is_far_store, is_lowest};
 
 use crate::kinds::REGISTERS;
 use bpf_insn::{Access, FRAME_BYTES, Insn, Reg, Size};
@@ -99,6 +99,23 @@ pub fn is_far(insn: &Insn) -> bool
 {
     match insn.access() {
         Some(access) => is_far_access(insn, access),
+        None => false,
+    }
+}
+
+/// Whether an access writes to any slot of any frame, and reads nothing there.
+fn is_far_put_by(access: Access) -> bool
+    ensures { result ≡ is_far_put_by access }
+{
+    access.writes && !access.reads && !is_r10(access.base)
+}
+
+/// Whether the instruction does so.
+pub fn is_far_put(insn: &Insn) -> bool
+    ensures { result ≡ is_far_put insn.now }
+{
+    match insn.access() {
+        Some(access) => is_far_put_by(access),
         None => false,
     }
 }

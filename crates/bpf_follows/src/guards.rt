@@ -2,10 +2,11 @@
 
 ghost use Rattle.std.specs.Prelude.{◌≡◌, pos, ◌+ℤ◌, ◌-ℤ◌};
 ghost use Rattle.bpf_packets.specs.Blocks.{head_bytes};
-ghost use Rattle.bpf_follows.specs.Guards.{range_of, offset_range, fixed_in, added_to, added_range, is_near, clipped, natural_part, bounds_range, range_in, is_most, is_least, is_other, is_long, is_before, ends_behind, is_reached, reached, reaches, passes_constant, passes, at_most, at_least, passed_by};
+ghost use Rattle.bpf_follows.specs.Guards.{range_of, offset_range, fixed_in, added_to, added_range, is_near, clipped, natural_part, bounds_range, range_in, is_most, is_least, is_other, is_long, end_in, is_before, is_behind, ends_behind, is_reached, reached, reached_by, reaches, passes_constant, passes, at_most, at_least, passed_by};
 
 use crate::areas::{first_of, same_area, size_of};
 use crate::extras::{is_taken, offset_in};
+use crate::keeps::given_in;
 use crate::kinds::{is_register, kind_in};
 use crate::notes::{Area, Kind, Kinds};
 use crate::site::{Front, Range, Span};
@@ -224,11 +225,21 @@ fn is_before(moved: i32, by: u32, span: Span) -> bool
     at <= farther(span.to, by) && i64::from(span.from) <= at
 }
 
+/// How far behind the packet's end a register is, if it holds that.
+fn end_in(kind: Kind) -> Option<u32>
+    ensures { result ≡ end_in kind }
+{
+    match kind {
+        Kind::Ending { by } | Kind::Closing { by, .. } => Some(by),
+        _ => None,
+    }
+}
+
 /// Whether that holds of the offset in a register, and of the packet's end in another one, by the accesses that surely follow.
 fn ends_behind(front: &Front, moved: Option<(Area, Reg, i32)>, end: Kind) -> bool
     ensures { result ≡ ends_behind front.now moved end }
 {
-    let (Some((area, of, moved)), Kind::Ending { by }) = (moved, end) else {
+    let (Some((area, of, moved)), Some(by)) = (moved, end_in(end)) else {
         return false;
     };
     match front.spans[usize::from(of as u8)] {
@@ -244,15 +255,15 @@ fn is_reached(offset: i32, by: u32, imm: i32, span: Span) -> bool
     i128::from(extended(imm)) <= i128::from(surely(offset, span.to, by))
 }
 
-/// Whether that holds by what surely is accessed by a register whose offset is always the same.
-fn reached(front: &Front, fixed: Option<(Area, i32)>, r: Reg, by: u32, imm: i32) -> bool
-    ensures { result ≡ reached front.now fixed r by imm }
+/// Whether that holds by what surely is accessed by a register, where the old program's offset is always the same.
+fn reached(front: &Front, offset: Option<i32>, r: Reg, imm: i32, by: u32) -> bool
+    ensures { result ≡ reached front.now offset r imm by }
 {
-    let Some((area, offset)) = fixed else {
+    let Some(offset) = offset else {
         return false;
     };
     match front.spans[usize::from(r as u8)] {
-        Some(span) => same_area(area, Area::Given) && is_reached(offset, by, imm, span),
+        Some(span) => is_reached(offset, by, imm, span),
         None => false,
     }
 }
@@ -261,16 +272,11 @@ fn reached(front: &Front, fixed: Option<(Area, i32)>, r: Reg, by: u32, imm: i32)
 fn reaches(front: &Front, kinds: &Kinds, end: Kind, imm: i32) -> bool
     ensures { result ≡ reaches front.now kinds.now end imm }
 {
-    let (Kind::Ending { by }, Some(access)) = (end, front.insn.access()) else {
+    let (Some(by), Some(access)) = (end_in(end), front.insn.access()) else {
         return false;
     };
-    reached(
-        front,
-        fixed_in(kind_in(kinds, access.base)),
-        access.base,
-        by,
-        imm,
-    )
+    let offset = given_in(kind_in(kinds, access.base));
+    reached(front, offset, access.base, imm, by)
 }
 
 // ---- all of them

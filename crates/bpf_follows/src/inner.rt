@@ -1,13 +1,14 @@
-//! Pointers into the own frame that both programs have: what an instruction makes of them, and which slots accesses by them never come to.
+//! Pointers into the own frame that both programs have: what an instruction makes of them. Which slots accesses by them, and by offsets into
+//! the own frame, never come to.
 
 ghost use Rattle.std.specs.Prelude.{◌≡◌, pos, ◌+ℤ◌, int_le, option_and_then};
 ghost use Rattle.bpf_insn.specs.Instruction.{byte_count};
 ghost use Rattle.bpf_follows.specs.Relation.{known};
-ghost use Rattle.bpf_follows.specs.Inner.{inner_kind, number_bounds, inner_at, inner_copy, inner_sum, inner_made, is_beside, misses_by, misses, is_inner};
+ghost use Rattle.bpf_follows.specs.Inner.{inner_kind, number_bounds, inner_at, inner_copy, inner_sum, inner_made, reach, is_outside, is_beside, misses_by, misses};
 
 use crate::frame::is_r10;
 use crate::kinds::known_in;
-use crate::notes::Kind;
+use crate::notes::{Area, Kind};
 use crate::site::Site;
 use bpf_insn::{Access, AluOp, FRAME_BYTES, Operand, Reg, Width};
 
@@ -95,7 +96,7 @@ pub fn inner_made(site: &Site, width: Width, op: AluOp, dst: Reg, src: Operand) 
 // ---- accesses
 
 /// The first byte of an access, where the register points to this one.
-fn first_at(least: u32, access: Access) -> i64
+pub fn first_at(least: u32, access: Access) -> i64
     ensures { result ≡ (pos least +ℤ access.offset) }
 {
     i64::from(least) + i64::from(access.off)
@@ -115,16 +116,45 @@ fn is_up_to(a: i64, b: i64) -> bool
     a <= b
 }
 
+/// Between which bytes of the own frame lies what the old program points to by a register of this kind.
+fn reach(kind: Kind) -> Option<(u32, u32)>
+    ensures { result ≡ reach kind }
+{
+    match kind {
+        Kind::Inner { least, most } => Some((least, most)),
+        Kind::Within {
+            area: Area::Own,
+            least,
+            most,
+        } => Some((least, most)),
+        Kind::Fixed {
+            area: Area::Own,
+            offset,
+        } => {
+            let offset = u32::try_from(offset).ok()?;
+            Some((offset, offset))
+        }
+        _ => None,
+    }
+}
+
+/// Whether an access by a pointer between these two never comes to a slot.
+fn is_outside(access: Access, slot: u8, least: u32, most: u32) -> bool
+    ensures { result ≡ is_outside access slot (least, most) }
+{
+    let start = 8 * u32::from(slot);
+    is_up_to(i64::from(start + 8), first_at(least, access))
+        || is_up_to(end_at(most, access), i64::from(start))
+}
+
 /// Whether an access by a register of this kind never comes to a slot.
 fn is_beside(kind: Kind, access: Access, slot: u8) -> bool
     ensures { result ≡ is_beside kind access slot }
 {
-    let Kind::Inner { least, most } = kind else {
-        return false;
-    };
-    let start = 8 * u32::from(slot);
-    is_up_to(i64::from(start + 8), first_at(least, access))
-        || is_up_to(end_at(most, access), i64::from(start))
+    match reach(kind) {
+        Some((least, most)) => is_outside(access, slot, least, most),
+        None => false,
+    }
 }
 
 /// The same, r10 aside, and what reads and writes at once.
@@ -144,11 +174,4 @@ pub fn misses(site: &Site, slot: u8) -> bool
         Some(access) => misses_by(site, slot, access),
         None => false,
     }
-}
-
-/// Whether both programs have such a pointer in a register of this kind.
-pub fn is_inner(kind: Kind) -> bool
-    ensures { result ≡ is_inner kind }
-{
-    matches!(kind, Kind::Inner { .. })
 }

@@ -1,12 +1,12 @@
 //! Extra instructions that put what the new program keeps into its frame, and take it out again.
 
 ghost use Rattle.std.specs.Prelude.{◌≡◌, ◌<◌, IfSome};
-ghost use Rattle.bpf_follows.specs.Extras.{frame_slot, own_kind, kept_kind, free_slot, stored, restored, taken, packet_length, constant_put, moved_by};
+ghost use Rattle.bpf_follows.specs.Extras.{frame_slot, own_kind, kept_kind, free_slot, stored, given_in, closing, restored, taken, packet_length, constant_put, moved_by};
 
 use crate::extras::{copied, is_base, is_same};
 use crate::frame::{is_r10, slot_of};
 use crate::kinds::{REGISTERS, is_free, is_register, kind_in, kind_of};
-use crate::notes::{Kind, Kinds};
+use crate::notes::{Area, Kind, Kinds};
 use bpf_insn::{Insn, Reg, Size};
 
 /// The slot of the own frame that begins so far from a register.
@@ -28,7 +28,7 @@ fn own_kind(kind: Kind) -> Option<Kind>
     match kind {
         Kind::Base | Kind::Moved { .. } | Kind::Address { .. } | Kind::Saved { .. } => Some(kind),
         Kind::Constant { .. } | Kind::Counter { .. } | Kind::Turn { .. } => Some(kind),
-        Kind::Ending { .. } => Some(kind),
+        Kind::Kept { .. } | Kind::Ending { .. } => Some(kind),
         _ => None,
     }
 }
@@ -40,6 +40,7 @@ fn kept_kind(r: Reg, kind: Kind) -> Option<Kind>
     match kind {
         Kind::Counter { .. } | Kind::Turn { .. } => Some(kind),
         Kind::Both | Kind::Natural { .. } | Kind::Inner { .. } => Some(Kind::Saved { of: r }),
+        Kind::Number { least, most } => Some(Kind::Kept { of: r, least, most }),
         _ => copied(r, kind),
     }
 }
@@ -67,13 +68,39 @@ fn stored(kinds: &Kinds, dst: Reg, off: i16, src: Reg) -> Option<(u8, Kind)>
     Some((REGISTERS + slot, kind))
 }
 
-/// What is put back of what was saved.
+/// The offset of the pointer into the context that the old program has in a register of this kind, if that is always the same.
+pub fn given_in(kind: Kind) -> Option<i32>
+    ensures { result ≡ given_in kind }
+{
+    match kind {
+        Kind::Fixed {
+            area: Area::Given,
+            offset,
+        } => Some(offset),
+        Kind::Closing { offset, .. } => Some(offset),
+        _ => None,
+    }
+}
+
+/// The packet's end, in the place of what is of a kind.
+fn closing(by: u32, have: Kind) -> Kind
+    ensures { result ≡ closing by have }
+{
+    match given_in(have) {
+        Some(offset) => Kind::Closing { by, offset },
+        None => Kind::Ending { by },
+    }
+}
+
+/// What is put back of what was saved, in the place of what is of a kind.
 #[tactic(auto, unfolding(crate::specs::Extras::restored))]
-fn restored(r: Reg, kind: Kind) -> Kind
-    ensures { result ≡ restored r kind }
+pub fn restored(r: Reg, have: Kind, kind: Kind) -> Kind
+    ensures { result ≡ restored r have kind }
 {
     match kind {
         Kind::Saved { of } if is_register(of, r) => Kind::Both,
+        Kind::Kept { of, least, most } if is_register(of, r) => Kind::Number { least, most },
+        Kind::Ending { by } => closing(by, have),
         _ => kind,
     }
 }
@@ -88,7 +115,7 @@ fn taken(kinds: &Kinds, dst: Reg, src: Reg, off: i16) -> Option<(u8, Kind)>
     }
     let slot = frame_slot(kinds, src, off)?;
     let kind = own_kind(kind_of(kinds, REGISTERS + slot))?;
-    Some((dst as u8, restored(dst, kind)))
+    Some((dst as u8, restored(dst, kind_in(kinds, dst), kind)))
 }
 
 /// What a register holds behind a load of a packet's length, with which its block begins.

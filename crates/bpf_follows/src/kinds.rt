@@ -4,15 +4,16 @@ ghost use Rattle.std.specs.Prelude.{◌≡◌, ◌<◌, ◌==◌, ◌↔◌, IsT
 ghost use Rattle.bpf_insn.specs.Instruction.{register_number};
 ghost use Rattle.bpf_follows.specs.Relation.{kind_in, place_at, is_lone, is_alone, is_free, is_of_other, offset_weaker, within_weaker, weaker, Gives, known};
 ghost use Rattle.bpf_follows.specs.Returned.{is_call};
-ghost use Rattle.bpf_follows.specs.Matching.{is_changed, is_lost, is_gone, held, kinds_behind, is_spared, kinds_beyond, handed, kinds_called, listed, given_kinds, start_kinds};
+ghost use Rattle.bpf_follows.specs.Matching.{is_changed, is_lost, is_gone, held, kinds_behind, is_spared, is_blurred, kinds_beyond, handed, kinds_called, listed, given_kinds, start_kinds};
 
 use crate::areas::{is_own, same_area};
-use crate::frame::writes_slot;
+use crate::frame::{is_far_put, writes_slot};
 use crate::inner::misses;
 use crate::notes::{Area, Bounds, Kind, Kinds, PLACES, Place};
 use crate::numbers::{natural_top, told};
 use crate::pairs::written_kind;
 use crate::site::Site;
+use crate::tame::is_plain;
 use bpf_insn::{Insn, Reg, extended};
 use bpf_packets::HEAD_BYTES;
 
@@ -74,7 +75,7 @@ pub fn is_free(kind: Kind) -> bool
 {
     match kind {
         Kind::Unset | Kind::Base | Kind::Moved { .. } | Kind::Address { .. } => true,
-        Kind::Saved { .. } | Kind::Ending { .. } => true,
+        Kind::Saved { .. } | Kind::Kept { .. } | Kind::Ending { .. } => true,
         Kind::Constant { .. } | Kind::Counter { .. } | Kind::Turn { .. } => true,
         _ => false,
     }
@@ -126,6 +127,7 @@ fn weaker(turns: u32, r: u8, have: Kind, want: Kind) -> bool
                 most: high,
             },
         ) => { low <= least && most <= high }
+        (Kind::Closing { by, .. }, Kind::Ending { by: more }) => r < REGISTERS && by == more,
         (Kind::Number { most, .. }, Kind::Natural { half }) => {
             r < REGISTERS && u64::from(most) <= natural_top(half)
         }
@@ -215,6 +217,7 @@ fn is_gone(insn: &Insn, kind: Kind) -> bool
         Kind::Moved { of, .. } => is_lost(insn, of as u8),
         Kind::Address { of, .. } => is_lost(insn, of as u8),
         Kind::Saved { of } => is_lost(insn, of as u8),
+        Kind::Kept { of, .. } => is_lost(insn, of as u8),
         _ => false,
     }
 }
@@ -267,6 +270,14 @@ fn is_spared(site: &Site, r: u8) -> bool
     writes_slot(&site.insn, r) && misses(site, r - REGISTERS)
 }
 
+/// Whether it is one that may go to this slot, or leave it as it was, and that wasn't the same.
+pub fn is_blurred(site: &Site, r: u8) -> bool
+    requires { r < 75 }
+    ensures { result ≡ is_blurred (known site.now.slot site.now.kinds) site.now.insn r }
+{
+    is_far_put(&site.insn) && r >= REGISTERS && !is_plain(known(site, r))
+}
+
 /// The same, where each function leaves the frames of others alone, if it does.
 pub fn kind_beyond(alone: bool, site: &Site, taken: bool, r: u8) -> Kind
     requires { r < 75 }
@@ -274,6 +285,8 @@ pub fn kind_beyond(alone: bool, site: &Site, taken: bool, r: u8) -> Kind
 {
     if is_spared(site, r) || is_call(&site.insn) && alone && r >= REGISTERS {
         held(&site.insn, known(site, r))
+    } else if is_blurred(site, r) {
+        Kind::Nothing
     } else {
         kind_behind(site, taken, r)
     }
@@ -288,7 +301,8 @@ fn is_of_other(kind: Kind) -> bool
         Kind::Offset { area } => is_own(area),
         Kind::Fixed { area, .. } => is_own(area),
         Kind::Within { area, .. } => is_own(area),
-        Kind::Moved { .. } | Kind::Address { .. } | Kind::Saved { .. } => true,
+        Kind::Moved { .. } | Kind::Address { .. } => true,
+        Kind::Saved { .. } | Kind::Kept { .. } => true,
         _ => false,
     }
 }

@@ -35,6 +35,8 @@ pub enum Kind {
     Sized { most: u32 },
     /// That length, and so many bytes more. Of the old program nothing is said.
     Ending { by: u32 },
+    /// The same, where the old program has the pointer into the context at this offset there.
+    Closing { by: u32, offset: i32 },
     /// The offset, modulo 2^64, of the pointer into an area that the old program has there.
     Offset { area: Area },
     /// The same, and the offset is always this one.
@@ -53,6 +55,8 @@ pub enum Kind {
     Address { area: Area, of: Reg, by: i32 },
     /// The value that the old program has in a register, where it has one.
     Saved { of: Reg },
+    /// The number that the old program has in a register, from the least to the most.
+    Kept { of: Reg, least: u32, most: u32 },
     /// A constant, with its sign extended. Of the old program nothing is said.
     Constant { value: i32 },
     /// The turns that are left to the loop whose head is the old instruction at a slot. Of the old program nothing is said.

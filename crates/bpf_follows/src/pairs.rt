@@ -3,7 +3,7 @@
 ghost use Rattle.std.specs.Prelude.{◌≡◌, ◌<◌, ◌↔◌, IsTrue, IsOk, Some};
 ghost use Rattle.std.specs.List.{filter_map};
 ghost use Rattle.bpf_follows.specs.Relation.{known};
-ghost use Rattle.bpf_follows.specs.Matching.{undirected, IsSame, AreSame, copy_kind, within_at, offset_sum, computed, moved_kind, of_operand, is_equality, are_offsets, by_offsets, by_kinds, result_kind, is_framed, written_kind, Reads, is_sum, is_moved, is_natural, is_wide, widened, Pairs};
+ghost use Rattle.bpf_follows.specs.Matching.{undirected, IsSame, AreSame, copy_kind, within_at, within_ints, offset_sum, computed, moved_kind, of_operand, is_equality, are_offsets, by_offsets, by_kinds, result_kind, is_framed, written_kind, Reads, is_sum, is_moved, is_natural, is_wide, widened, Pairs};
 
 use crate::areas::{are_alike, is_offset, origin, unbounded};
 use crate::exact::{by_exact, fixed_at};
@@ -100,6 +100,16 @@ fn within_at(area: Area, low: u64, high: u64) -> Kind
     }
 }
 
+/// The same, if neither is below 0.
+fn within_ints(area: Area, low: i64, high: i64) -> Kind
+    ensures { result ≡ within_ints area low high }
+{
+    match (u64::try_from(low), u64::try_from(high)) {
+        (Ok(low), Ok(high)) => within_at(area, low, high),
+        _ => Kind::Offset { area },
+    }
+}
+
 /// The sum of an offset and what is the same in both.
 fn offset_sum(a: Kind, b: Kind) -> Kind
     ensures { result ≡ offset_sum a b }
@@ -151,6 +161,11 @@ fn moved(op: AluOp, kind: Kind, imm: i32) -> Option<Kind>
         (AluOp::Add, Kind::Fixed { area, offset }) => {
             Some(fixed_at(area, i64::from(offset) + i64::from(imm)))
         }
+        (AluOp::Add, Kind::Within { area, least, most }) => Some(within_ints(
+            area,
+            i64::from(least) + i64::from(imm),
+            i64::from(most) + i64::from(imm),
+        )),
         (AluOp::Add | AluOp::Sub, _) if is_offset(kind) => Some(unbounded(kind)),
         _ => None,
     }

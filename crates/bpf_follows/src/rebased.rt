@@ -3,12 +3,11 @@
 ghost use Rattle.std.specs.Prelude.{◌≡◌, ◌+ℤ◌, ◌-ℤ◌, ◌↔◌, IsTrue};
 ghost use Rattle.std.specs.Ordering.{int_eq};
 ghost use Rattle.bpf_follows.specs.Relation.{known};
-ghost use Rattle.bpf_follows.specs.Matching.{rebased, stored_by, is_based, by_base, are_same_place, is_same_place, place_area, IsSafe, is_near, ByAddress};
+ghost use Rattle.bpf_follows.specs.Matching.{rebased, stored_by, is_based, by_base, are_same_place, is_same_place, place_area, IsSafe, ByAddress};
 
 use crate::areas::{is_own, origin, same_area};
 use crate::extras::base_of;
 use crate::frame::is_r10;
-use crate::inner::is_inner;
 use crate::kinds::{is_register, known_in};
 use crate::notes::{Area, Kind};
 use crate::pairs::{reads_same, same};
@@ -112,6 +111,9 @@ fn are_same_place(old: Access, new: Access, kind: Kind, other: Kind) -> bool
     if let Kind::Fixed { area, offset } = other {
         return by_base(area, offset, kind, old, new);
     }
+    if let Kind::Closing { offset, .. } = other {
+        return by_base(Area::Given, offset, kind, old, new);
+    }
     false
 }
 
@@ -144,13 +146,6 @@ fn is_safe(site: &Site, old: Access, new: Access) -> bool
     reads_same(site, stored_by(&site.insn))
 }
 
-/// Whether both programs have the pointer into the own frame in a register.
-fn is_near(site: &Site, r: Reg) -> bool
-    ensures { result ≡ is_near (known site.now.slot site.now.kinds) r }
-{
-    is_r10(r) || is_inner(known_in(site, r))
-}
-
 /// Whether the new instruction is the old one's access by another register, which goes to the same place.
 pub fn by_address(site: &Site) -> bool
     ensures { IsTrue result ↔ ByAddress (known site.now.slot site.now.kinds) site.now.insn site.now.moved }
@@ -162,7 +157,7 @@ pub fn by_address(site: &Site) -> bool
         Some(insn) => {
             same(site.moved, insn)
                 && is_same_place(site, old, new)
-                && !is_near(site, old.base)
+                && !is_r10(old.base)
                 && is_safe(site, old, new)
         }
         None => false,

@@ -17,6 +17,7 @@ use crate::notes::{Bounds, Place};
 use crate::pairs::pairs;
 use crate::returned::{gives_back, led};
 use crate::site::{Front, Site};
+use crate::stuck::is_stuck;
 use crate::tame::is_lone;
 use bpf_insn::{Code, Insn};
 
@@ -133,6 +134,9 @@ pub fn stands_at<O: Code, N: Code>(
     let Some(insn) = old.insn(slot) else {
         return Ok(());
     };
+    if is_stuck(bounds.length, &place.kinds, &insn) {
+        return Ok(());
+    }
     let front = front_at(old, bounds, slot, insn);
     let site = match site_of(new, place, front) {
         Ok(site) => site,

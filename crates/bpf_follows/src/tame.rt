@@ -2,16 +2,17 @@
 
 ghost use Rattle.std.specs.Prelude.{◌≡◌, ◌<◌, ◌+◌, ◌↔◌, ℕ, IsTrue, Some, true};
 ghost use Rattle.bpf_follows.specs.Relation.{known, is_alone};
-ghost use Rattle.bpf_follows.specs.Matching.{is_plain, AllPlain, IsPlainAt, whole_slot, IsTame, IsLone};
+ghost use Rattle.bpf_follows.specs.Matching.{is_plain, AllPlain, IsPlainAt, whole_slot, IsTame, is_homed, IsLone};
 
-use crate::frame::{is_far, whole_slot};
+use crate::areas::is_homed_by;
+use crate::frame::{is_far, is_far_put, whole_slot};
 use crate::inner::misses;
-use crate::kinds::{REGISTERS, is_alone, is_call, known};
+use crate::kinds::{REGISTERS, is_alone, is_call, known, known_in};
 use crate::notes::{Kind, PLACES, Place};
 use crate::site::Site;
 
 /// Whether each cell of a slot of this kind is the same, wherever the old program has something there.
-fn is_plain(kind: Kind) -> bool
+pub fn is_plain(kind: Kind) -> bool
     ensures { result ≡ is_plain kind }
 {
     !matches!(
@@ -66,10 +67,20 @@ fn is_near_plain(site: &Site) -> bool
 pub fn is_tame(site: &Site) -> bool
     ensures { IsTrue result ↔ IsTame (known site.now.slot site.now.kinds) site.now.insn }
 {
-    if is_far(&site.insn) && !reached_plain(site) {
+    if is_far(&site.insn) && !is_far_put(&site.insn) && !reached_plain(site) {
         return false;
     }
     is_near_plain(site)
+}
+
+/// Whether the instruction goes to the context or to the own frame alone.
+pub fn is_homed(site: &Site) -> bool
+    ensures { result ≡ is_homed (known site.now.slot site.now.kinds) site.now.insn }
+{
+    match site.insn.access() {
+        Some(access) => is_homed_by(access.base, known_in(site, access.base)),
+        None => false,
+    }
 }
 
 /// Whether it leaves the frames of others alone, if the notes say that all do; else, if it is a call, whether those may reach this one.
@@ -77,7 +88,7 @@ pub fn is_lone(notes: &[Option<Place>], site: &Site) -> bool
     ensures { IsTrue result ↔ IsLone (is_alone notes.now) (known site.now.slot site.now.kinds) site.now.insn }
 {
     if is_alone(notes) {
-        return !is_far(&site.insn);
+        return !is_far(&site.insn) || is_homed(site);
     }
     !is_call(&site.insn) || all_plain(site)
 }

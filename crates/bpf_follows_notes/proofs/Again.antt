@@ -11,12 +11,12 @@ use Rattle.bpf_insn.specs.declared.instruction.Reg.{Reg}
 use Rattle.bpf_follows.specs.declared.notes.Area.{Area}
 use Rattle.bpf_follows.specs.declared.notes.Area.TheVariants.{Given, Own}
 use Rattle.bpf_follows.specs.declared.notes.Kind.{Kind}
-use Rattle.bpf_follows.specs.declared.notes.Kind.TheVariants.{Nothing, Unset, Same, Both, Number, Natural, Inner, Length, Sized, Ending, Offset, Fixed, Within, Start, Head, Base, Moved, Address, Saved, Constant, Counter, Turn, Alone, Returns}
+use Rattle.bpf_follows.specs.declared.notes.Kind.TheVariants.{Nothing, Unset, Same, Both, Number, Natural, Inner, Length, Sized, Ending, Closing, Offset, Fixed, Within, Start, Head, Base, Moved, Address, Saved, Kept, Constant, Counter, Turn, Alone, Returns}
 use Rattle.bpf_follows.specs.declared.notes.Place.{Place}
 use Rattle.bpf_follows_notes.specs.declared.error.NotesError.{NotesError}
 use Rattle.bpf_follows_notes.specs.declared.error.NotesError.TheVariants.{Form}
-use Rattle.bpf_follows_notes.specs.NotesText.{IntFits, KindFits, PlaceFits, NoteFits, entry_text, behind_text, bounds_text, area_text, held_text, kinds_text, place_text, note_text, note_line, note_lines}
-use Rattle.bpf_follows_notes.specs.code.Reading.{behind, number_in, word_in, value_in, bounds_in, behind_in, plain_in, numbered_in, offset_in, area_in, kind_in, entry_in, kinds_in, nothing_said, place_in, note_in, taken_at, with_front, lines_in, after_lines, saved_in}
+use Rattle.bpf_follows_notes.specs.NotesText.{IntFits, KindFits, PlaceFits, NoteFits, entry_text, behind_text, bounds_text, kept_text, beside_text, area_text, held_text, kinds_text, place_text, note_text, note_line, note_lines}
+use Rattle.bpf_follows_notes.specs.code.Reading.{behind, number_in, word_in, value_in, bounds_in, behind_in, plain_in, numbered_in, offset_in, area_in, kind_in, entry_in, kinds_in, nothing_said, place_in, note_in, taken_at, with_front, lines_in, after_lines, saved_in, kept_in, closing_in, held_in}
 use Rattle.bpf_follows_notes.proofs.Spelled.{behind_word}
 use Rattle.bpf_follows_notes.proofs.Decimals.{Ends, digits_again, number_again, int_again, register_again, register_small}
 
@@ -41,7 +41,7 @@ unfolding kind_in plain_in word_in behind
 head_again c rest = refl
 
 offset_again : (area : Area) (c : ℕ) (rest : List ℕ) → kind_in ((area_text area ++ codes "offset") ++ c ∷ rest) ≡ Some (Offset area, c ∷ rest)
-unfolding kind_in plain_in word_in numbered_in value_in bounds_in number_in saved_in area_in offset_in behind
+unfolding kind_in plain_in word_in numbered_in value_in bounds_in number_in held_in kept_in closing_in saved_in area_in offset_in behind
 offset_again Given c rest = refl
 offset_again Own c rest = refl
 
@@ -62,7 +62,7 @@ unfolding kind_in plain_in word_in behind
 alone_again c rest = refl
 
 fixed_again : (area : Area) (offset : ℤ) → IntFits offset → (c : ℕ) (rest : List ℕ) → Ends c → kind_in ((area_text area ++ (codes "fixed:" ++ signed_decimal offset)) ++ c ∷ rest) ≡ Some (Fixed area offset, c ∷ rest)
-unfolding kind_in plain_in word_in numbered_in value_in bounds_in number_in saved_in area_in offset_in behind
+unfolding kind_in plain_in word_in numbered_in value_in bounds_in number_in held_in kept_in closing_in saved_in area_in offset_in behind
 fixed_again Given offset fits c rest h = rw (int_again offset c rest fits h) refl
 fixed_again Own offset fits c rest h = rw (int_again offset c rest fits h) refl
 
@@ -109,7 +109,7 @@ unfolding bounds_in number_in behind
 no_inner_there text = refl
 
 within_again : (area : Area) (least most : ℕ) → least < 2 ^ 32 → most < 2 ^ 32 → (c : ℕ) (rest : List ℕ) → Ends c → kind_in ((area_text area ++ (codes "within:" ++ bounds_text least most)) ++ c ∷ rest) ≡ Some (Within area least most, c ∷ rest)
-unfolding kind_in plain_in word_in numbered_in value_in number_in saved_in area_in offset_in behind
+unfolding kind_in plain_in word_in numbered_in value_in number_in held_in kept_in closing_in saved_in area_in offset_in behind
 within_again Given least most low high c rest h = rw (no_number (codes "ithin:" ++ (bounds_text least most ++ c ∷ rest)), no_returns (codes "ithin:" ++ (bounds_text least most ++ c ∷ rest)), no_inner (codes "ithin:" ++ (bounds_text least most ++ c ∷ rest)), both_again (codes "within:") least most low high c rest h) refl
 within_again Own least most low high c rest h = rw (no_number_there (codes "rame:within:" ++ (bounds_text least most ++ c ∷ rest)), no_returns_there (codes "rame:within:" ++ (bounds_text least most ++ c ∷ rest)), no_inner_there (codes "rame:within:" ++ (bounds_text least most ++ c ∷ rest)), both_again (codes "within:") least most low high c rest h) refl
 
@@ -168,8 +168,43 @@ unfolding kind_in plain_in word_in numbered_in value_in bounds_in number_in behi
 ending_again by fits c rest h = rw (digits_again by c rest fits h) refl
 
 saved_again : (of : Reg) (c : ℕ) (rest : List ℕ) → Ends c → kind_in ((codes "saved:r" ++ decimal (register_number of)) ++ c ∷ rest) ≡ Some (Saved of, c ∷ rest)
-unfolding kind_in plain_in word_in numbered_in value_in bounds_in number_in saved_in behind
+unfolding kind_in plain_in word_in numbered_in value_in bounds_in number_in held_in kept_in closing_in saved_in behind
 saved_again of c rest h = rw (digits_again (register_number of) c rest (omega (arith, register_small of)) h, register_again of) refl
+
+-- no other such word stands there
+no_number_front : (text : List ℕ) → bounds_in (codes "number:") (107 ∷ text) ≡ None
+unfolding bounds_in number_in behind
+no_number_front text = refl
+
+no_returns_front : (text : List ℕ) → bounds_in (codes "returns:") (107 ∷ text) ≡ None
+unfolding bounds_in number_in behind
+no_returns_front text = refl
+
+no_inner_front : (text : List ℕ) → bounds_in (codes "inner:") (107 ∷ text) ≡ None
+unfolding bounds_in number_in behind
+no_inner_front text = refl
+
+kept_again : (of : Reg) (least most : ℕ) → least < 2 ^ 32 → most < 2 ^ 32 → (c : ℕ) (rest : List ℕ) → Ends c → kind_in ((codes "kept:r" ++ kept_text of least most) ++ c ∷ rest) ≡ Some (Kept of least most, c ∷ rest)
+unfolding kind_in plain_in word_in numbered_in value_in number_in held_in kept_in behind
+kept_again of least most low high c rest h =
+    rw (
+      append_assoc (decimal (register_number of)) (58 ∷ bounds_text least most) (c ∷ rest),
+      no_number_front (codes "ept:r" ++ (decimal (register_number of) ++ (58 ∷ (bounds_text least most ++ c ∷ rest)))),
+      no_returns_front (codes "ept:r" ++ (decimal (register_number of) ++ (58 ∷ (bounds_text least most ++ c ∷ rest)))),
+      no_inner_front (codes "ept:r" ++ (decimal (register_number of) ++ (58 ∷ (bounds_text least most ++ c ∷ rest)))),
+      digits_again (register_number of) 58 (bounds_text least most ++ c ∷ rest) (omega (arith, register_small of)) (refl, refl),
+      register_again of,
+      both_again (codes ":") least most low high c rest h,
+    ) refl
+
+closing_again : (by : ℕ) (offset : ℤ) → by < 2 ^ 32 → IntFits offset → (c : ℕ) (rest : List ℕ) → Ends c → kind_in ((codes "closing:" ++ beside_text by offset) ++ c ∷ rest) ≡ Some (Closing by offset, c ∷ rest)
+unfolding kind_in plain_in word_in numbered_in value_in bounds_in number_in held_in kept_in closing_in behind
+closing_again by offset small fits c rest h =
+    rw (
+      append_assoc (decimal by) (58 ∷ signed_decimal offset) (c ∷ rest),
+      digits_again by 58 (signed_decimal offset ++ c ∷ rest) small (refl, refl),
+      int_again offset c rest fits h,
+    ) refl
 
 beside_again : (word : List ℕ) (of : Reg) (by : ℤ) → IntFits by → (c : ℕ) (rest : List ℕ) → Ends c → behind_in word (word ++ (behind_text of by ++ c ∷ rest)) ≡ Some (of, by, c ∷ rest)
 unfolding behind_in behind
@@ -182,7 +217,7 @@ beside_again word of by fits c rest h =
     ) refl
 
 moved_again : (area : Area) (of : Reg) (by : ℤ) → IntFits by → (c : ℕ) (rest : List ℕ) → Ends c → kind_in ((area_text area ++ (codes "moved:r" ++ behind_text of by)) ++ c ∷ rest) ≡ Some (Moved area of by, c ∷ rest)
-unfolding kind_in plain_in word_in numbered_in value_in bounds_in number_in saved_in area_in offset_in behind
+unfolding kind_in plain_in word_in numbered_in value_in bounds_in number_in held_in kept_in closing_in saved_in area_in offset_in behind
 moved_again Given of by fits c rest h = rw (beside_again (codes "moved:r") of by fits c rest h) refl
 moved_again Own of by fits c rest h = rw (beside_again (codes "moved:r") of by fits c rest h) refl
 
@@ -192,7 +227,7 @@ unfolding behind_in number_in behind
 no_moved text = refl
 
 address_again : (area : Area) (of : Reg) (by : ℤ) → IntFits by → (c : ℕ) (rest : List ℕ) → Ends c → kind_in ((area_text area ++ (codes "address:r" ++ behind_text of by)) ++ c ∷ rest) ≡ Some (Address area of by, c ∷ rest)
-unfolding kind_in plain_in word_in numbered_in value_in bounds_in number_in saved_in area_in offset_in behind
+unfolding kind_in plain_in word_in numbered_in value_in bounds_in number_in held_in kept_in closing_in saved_in area_in offset_in behind
 address_again Given of by fits c rest h = rw (no_moved (codes "ddress:r" ++ (behind_text of by ++ c ∷ rest)), beside_again (codes "address:r") of by fits c rest h) refl
 address_again Own of by fits c rest h = rw (no_moved (codes "ddress:r" ++ (behind_text of by ++ c ∷ rest)), beside_again (codes "address:r") of by fits c rest h) refl
 
@@ -208,6 +243,7 @@ held_is r (Natural half) fits = inr (record { word = codes "natural:" ++ decimal
 held_is r (Length most) fits = inr (record { word = codes "length:" ++ decimal most; text = refl; again = length_again most fits })
 held_is r (Sized most) fits = inr (record { word = codes "sized:" ++ decimal most; text = refl; again = sized_again most fits })
 held_is r (Ending by) fits = inr (record { word = codes "ending:" ++ decimal by; text = refl; again = ending_again by fits })
+held_is r (Closing by offset) fits = inr (record { word = codes "closing:" ++ beside_text by offset; text = refl; again = closing_again by offset fits.0 fits.1 })
 held_is r Head fits = inr (record { word = codes "head"; text = refl; again = λ c rest h. head_again c rest })
 held_is r (Offset area) fits = inr (record { word = area_text area ++ codes "offset"; text = refl; again = λ c rest h. offset_again area c rest })
 held_is r (Fixed area offset) fits = inr (record { word = area_text area ++ (codes "fixed:" ++ signed_decimal offset); text = refl; again = fixed_again area offset fits })
@@ -217,6 +253,7 @@ held_is r Base fits = inr (record { word = codes "base"; text = refl; again = λ
 held_is r (Moved area of by) fits = inr (record { word = area_text area ++ (codes "moved:r" ++ behind_text of by); text = refl; again = moved_again area of by fits })
 held_is r (Address area of by) fits = inr (record { word = area_text area ++ (codes "address:r" ++ behind_text of by); text = refl; again = address_again area of by fits })
 held_is r (Saved of) fits = inr (record { word = codes "saved:r" ++ decimal (register_number of); text = refl; again = saved_again of })
+held_is r (Kept of least most) fits = inr (record { word = codes "kept:r" ++ kept_text of least most; text = refl; again = kept_again of least most fits.0 fits.1 })
 held_is r (Constant value) fits = inr (record { word = codes "constant:" ++ signed_decimal value; text = refl; again = constant_again value fits })
 held_is r (Counter head) fits = inr (record { word = codes "turns:" ++ decimal head; text = refl; again = turns_again head fits })
 held_is r (Turn head) fits = inr (record { word = codes "turn:" ++ decimal head; text = refl; again = turn_again head fits })

@@ -8,7 +8,7 @@ use Rattle.bpf_insn.specs.declared.instruction.Reg.{Reg}
 use Rattle.bpf_follows.specs.declared.notes.Area.{Area}
 use Rattle.bpf_follows.specs.declared.notes.Area.TheVariants.{Given, Own}
 use Rattle.bpf_follows.specs.declared.notes.Kind.{Kind}
-use Rattle.bpf_follows.specs.declared.notes.Kind.TheVariants.{Nothing, Unset, Same, Both, Number, Natural, Inner, Length, Sized, Ending, Offset, Fixed, Within, Start, Head, Base, Moved, Address, Saved, Constant, Counter, Turn, Alone, Returns}
+use Rattle.bpf_follows.specs.declared.notes.Kind.TheVariants.{Nothing, Unset, Same, Both, Number, Natural, Inner, Length, Sized, Ending, Closing, Offset, Fixed, Within, Start, Head, Base, Moved, Address, Saved, Kept, Constant, Counter, Turn, Alone, Returns}
 use Rattle.bpf_follows.specs.declared.notes.Place.{Place}
 
 -- ---- what has a text
@@ -30,6 +30,7 @@ KindFits (Inner least most) = (least < 2 ^ 32) × (most < 2 ^ 32)
 KindFits (Length most) = most < 2 ^ 32
 KindFits (Sized most) = most < 2 ^ 32
 KindFits (Ending by) = by < 2 ^ 32
+KindFits (Closing by offset) = (by < 2 ^ 32) × IntFits offset
 KindFits (Offset area) = Unit {0}
 KindFits (Fixed area offset) = IntFits offset
 KindFits (Within area least most) = (least < 2 ^ 32) × (most < 2 ^ 32)
@@ -39,6 +40,7 @@ KindFits Base = Unit {0}
 KindFits (Moved area of by) = IntFits by
 KindFits (Address area of by) = IntFits by
 KindFits (Saved of) = Unit {0}
+KindFits (Kept of least most) = (least < 2 ^ 32) × (most < 2 ^ 32)
 KindFits (Constant value) = IntFits value
 KindFits (Counter head) = head < 2 ^ 32
 KindFits (Turn head) = head < 2 ^ 32
@@ -75,6 +77,14 @@ behind_text r by = decimal (register_number r) ++ (codes ":" ++ signed_decimal b
 abbrev pub bounds_text : ℕ → ℕ → List ℕ
 bounds_text least most = decimal least ++ (codes ":" ++ decimal most)
 
+-- those behind another register's number
+abbrev pub kept_text : Reg → ℕ → ℕ → List ℕ
+kept_text r least most = decimal (register_number r) ++ (codes ":" ++ bounds_text least most)
+
+-- how far behind the packet's end, and the old program's offset
+abbrev pub beside_text : ℕ → ℤ → List ℕ
+beside_text by offset = decimal by ++ (codes ":" ++ signed_decimal offset)
+
 -- what an offset is counted in: the context, or the own frame
 abbrev pub area_text : Area → List ℕ
 area_text Given = []
@@ -91,6 +101,7 @@ held_text r (Inner least most) = entry_text r (codes "inner:" ++ bounds_text lea
 held_text r (Length most) = entry_text r (codes "length:" ++ decimal most)
 held_text r (Sized most) = entry_text r (codes "sized:" ++ decimal most)
 held_text r (Ending by) = entry_text r (codes "ending:" ++ decimal by)
+held_text r (Closing by offset) = entry_text r (codes "closing:" ++ beside_text by offset)
 held_text r (Offset area) = entry_text r (area_text area ++ codes "offset")
 held_text r (Fixed area offset) = entry_text r (area_text area ++ (codes "fixed:" ++ signed_decimal offset))
 held_text r (Within area least most) = entry_text r (area_text area ++ (codes "within:" ++ bounds_text least most))
@@ -100,6 +111,7 @@ held_text r Base = entry_text r (codes "base")
 held_text r (Moved area of by) = entry_text r (area_text area ++ (codes "moved:r" ++ behind_text of by))
 held_text r (Address area of by) = entry_text r (area_text area ++ (codes "address:r" ++ behind_text of by))
 held_text r (Saved of) = entry_text r (codes "saved:r" ++ decimal (register_number of))
+held_text r (Kept of least most) = entry_text r (codes "kept:r" ++ kept_text of least most)
 held_text r (Constant value) = entry_text r (codes "constant:" ++ signed_decimal value)
 held_text r (Counter head) = entry_text r (codes "turns:" ++ decimal head)
 held_text r (Turn head) = entry_text r (codes "turn:" ++ decimal head)

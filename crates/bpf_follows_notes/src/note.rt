@@ -1,7 +1,7 @@
 //! What a line says, if it is one of notes: what is read here is spelled again, and compared.
 
 ghost use Rattle.std.specs.Prelude.{◌≡◌, option_map};
-ghost use Rattle.bpf_follows_notes.specs.code.Reading.{register_at, plain_in, value_in, bounds_in, behind_in, saved_in, numbered_in, offset_in, area_in, kind_in, entry_in, kinds_in, nothing_said, place_in, note_in};
+ghost use Rattle.bpf_follows_notes.specs.code.Reading.{register_at, plain_in, value_in, bounds_in, behind_in, saved_in, kept_in, closing_in, held_in, numbered_in, offset_in, area_in, kind_in, entry_in, kinds_in, nothing_said, place_in, note_in};
 
 use crate::digits::{behind, int_in, number_in};
 use bpf_follows::{Area, Kind, Kinds, PLACES, Place};
@@ -100,6 +100,42 @@ fn saved_in(text: &[u8]) -> Option<(Kind, &[u8])>
     Some((Kind::Saved { of }, rest))
 }
 
+/// The kind of a number that was saved of a register.
+#[tactic(auto, unfolding(crate::specs::code::Reading::kept_in))]
+fn kept_in(text: &[u8]) -> Option<(Kind, &[u8])>
+    ensures { option_map (λ x. (x.0, x.1.now)) result ≡ kept_in text.now }
+{
+    let (number, rest) = number_in(text, b"kept:r")?;
+    let of = register_at(number)?;
+    let (least, most, rest) = bounds_in(rest, b":")?;
+    Some((Kind::Kept { of, least, most }, rest))
+}
+
+/// The kind of the packet's end, where the old program has a pointer.
+#[tactic(auto, unfolding(crate::specs::code::Reading::closing_in))]
+fn closing_in(text: &[u8]) -> Option<(Kind, &[u8])>
+    ensures { option_map (λ x. (x.0, x.1.now)) result ≡ closing_in text.now }
+{
+    let (by, rest) = number_in(text, b"closing:")?;
+    let rest = behind(rest, b":")?;
+    let (offset, rest) = int_in(rest)?;
+    Some((Kind::Closing { by, offset }, rest))
+}
+
+/// One of these kinds.
+#[tactic(auto, unfolding(crate::specs::code::Reading::held_in))]
+fn held_in(text: &[u8]) -> Option<(Kind, &[u8])>
+    ensures { option_map (λ x. (x.0, x.1.now)) result ≡ held_in text.now }
+{
+    if let Some(found) = kept_in(text) {
+        return Some(found);
+    }
+    if let Some(found) = closing_in(text) {
+        return Some(found);
+    }
+    saved_in(text)
+}
+
 /// The kind with a number, or of what was saved.
 #[tactic(auto, unfolding(crate::specs::code::Reading::numbered_in))]
 fn numbered_in(text: &[u8]) -> Option<(Kind, &[u8])>
@@ -135,7 +171,7 @@ fn numbered_in(text: &[u8]) -> Option<(Kind, &[u8])>
     if let Some((least, most, rest)) = bounds_in(text, b"inner:") {
         return Some((Kind::Inner { least, most }, rest));
     }
-    saved_in(text)
+    held_in(text)
 }
 
 /// The kind with an area.

@@ -3,7 +3,7 @@
 ghost use Rattle.std.specs.Prelude.{◌≡◌, ◌++◌, codes, decimal, IfOk, OnOk, option_copied};
 ghost use Rattle.std.specs.Fmt.{signed_decimal};
 ghost use Rattle.bpf_insn.specs.Instruction.{register_number};
-ghost use Rattle.bpf_follows_notes.specs.NotesText.{entry_text, behind_text, bounds_text, area_text, held_text, kinds_text, place_text, note_line, notes_text};
+ghost use Rattle.bpf_follows_notes.specs.NotesText.{entry_text, behind_text, bounds_text, kept_text, beside_text, area_text, held_text, kinds_text, place_text, note_line, notes_text};
 
 use bpf_follows::{Area, Kind, Kinds, PLACES, Place};
 use bpf_insn::Reg;
@@ -140,6 +140,25 @@ fn put_behind(
     put_number(text, b":", behind.1)
 }
 
+/// Puts a register that holds a number between bounds which the old program has in another one.
+#[tactic(auto, using(crate::proofs::Spelled::texts), unfolding(crate::specs::NotesText::entry_text))]
+fn put_kept(text: &mut Vec<u8>, register: u8, of: Reg, bounds: (u32, u32)) -> Result<(), AllocError>
+    ensures { OnOk result (text.new.items ≡ text.old.items ++ entry_text register (codes "kept:r" ++ kept_text of bounds.0 bounds.1)) }
+{
+    put_head(text, register, b"kept:r", u32::from(of as u8))?;
+    put_number(text, b":", bounds.0)?;
+    put_number(text, b":", bounds.1)
+}
+
+/// Puts a register that holds the packet's end, and how far behind that, where the old program has a pointer at an offset.
+#[tactic(auto, using(crate::proofs::Spelled::texts), unfolding(crate::specs::NotesText::entry_text))]
+fn put_closing(text: &mut Vec<u8>, register: u8, by: u32, offset: i32) -> Result<(), AllocError>
+    ensures { OnOk result (text.new.items ≡ text.old.items ++ entry_text register (codes "closing:" ++ beside_text by offset)) }
+{
+    put_head(text, register, b"closing:", by)?;
+    put_number(text, b":", offset)
+}
+
 /// Puts what a register holds, if that is something.
 #[tactic(auto, using(crate::proofs::Spelled::texts), unfolding(crate::specs::NotesText::held_text))]
 fn put_held(text: &mut Vec<u8>, register: u8, kind: Kind) -> Result<(), AllocError>
@@ -156,6 +175,8 @@ fn put_held(text: &mut Vec<u8>, register: u8, kind: Kind) -> Result<(), AllocErr
         Kind::Length { most } => put_head(text, register, b"length:", most),
         Kind::Sized { most } => put_head(text, register, b"sized:", most),
         Kind::Ending { by } => put_head(text, register, b"ending:", by),
+        Kind::Kept { of, least, most } => put_kept(text, register, of, (least, most)),
+        Kind::Closing { by, offset } => put_closing(text, register, by, offset),
         Kind::Head => put_entry(text, register, b"head"),
         Kind::Start => put_entry(text, register, b"start"),
         Kind::Base => put_entry(text, register, b"base"),

@@ -4,7 +4,7 @@ use crate::facts::{Facts, REGISTERS, offset_area, offset_bounds, slot_at};
 use bpf_follows::inner::misses;
 use bpf_follows::numbers::{number_kind, told};
 use bpf_follows::site::Site;
-use bpf_follows::{Area, Kind, by_exact};
+use bpf_follows::{Area, Kind, by_exact, is_blurred};
 use bpf_insn::{Access, AluOp, FRAME_BYTES, Insn, Operand, Reg, Size, Width};
 
 /// What a copy of a register holds.
@@ -27,6 +27,17 @@ fn moved(facts: &Facts, dst: Reg, by: Option<i32>) -> Kind {
             Some(offset) => Kind::Fixed { area, offset },
             None => Kind::Offset { area },
         },
+        (Kind::Within { least, most, .. }, Some(by)) => shifted(area, least, most, by),
+        _ => Kind::Offset { area },
+    }
+}
+
+/// One between bounds that are moved.
+fn shifted(area: Area, least: u32, most: u32, by: i32) -> Kind {
+    let low = i64::from(least).saturating_add(i64::from(by));
+    let high = i64::from(most).saturating_add(i64::from(by));
+    match (u32::try_from(low), u32::try_from(high)) {
+        (Ok(least), Ok(most)) => Kind::Within { area, least, most },
         _ => Kind::Offset { area },
     }
 }
@@ -68,7 +79,7 @@ fn computed_by(facts: &Facts, op: AluOp, dst: Reg, src: Reg) -> Kind {
 fn computed_with(facts: &Facts, op: AluOp, dst: Reg, by: i32) -> Kind {
     match op {
         AluOp::Add => moved(facts, dst, Some(by)),
-        AluOp::Sub => moved(facts, dst, by.checked_neg()),
+        AluOp::Sub => moved(facts, dst, None),
         _ => Kind::Same,
     }
 }
@@ -157,7 +168,11 @@ fn write_frame(facts: &mut Facts, site: &Site, untouched: u32) {
     let kind = stored(facts, &site.insn);
     for slot in 0..SLOTS {
         if writes(site, slot, untouched) {
-            facts.put(usize::from(slot).saturating_add(REGISTERS), kind);
+            let is_known = !is_blurred(site, slot + REGISTERS as u8);
+            facts.put(
+                usize::from(slot).saturating_add(REGISTERS),
+                if is_known { kind } else { Kind::Nothing },
+            );
         }
     }
 }
@@ -240,15 +255,6 @@ fn tell(facts: &mut Facts, site: &Site, taken: bool) {
         if let Kind::Number { .. } | Kind::Natural { .. } = facts.get(Reg::numbered(number)) {
             facts.set(Reg::numbered(number), told(site, taken, number));
         }
-    }
-}
-
-/// Whether an instruction writes by another register than r10, or reads a whole slot by one.
-pub fn is_far(insn: &Insn) -> bool {
-    let is_whole = matches!(*insn, Insn::Load { size: Size::DW, .. });
-    match insn.access() {
-        Some(access) => access.base != Reg::R10 && (access.writes || is_whole),
-        None => false,
     }
 }
 

@@ -1,6 +1,7 @@
 //! Extra instructions: what they leave in the new program's registers, while the old one stands still.
 
 use crate::facts::{Facts, is_free, slot_at};
+use bpf_follows::keeps::restored;
 use bpf_follows::{Area, Kind};
 use bpf_insn::{AluOp, Cond, Insn, Operand, Reg, Size, Width};
 use bpf_packets::HEAD_BYTES;
@@ -47,6 +48,7 @@ fn copied(from: Reg, kind: Kind) -> Kind {
         Kind::Length { .. } => Kind::Ending { by: 0 },
         Kind::Base | Kind::Moved { .. } | Kind::Address { .. } | Kind::Constant { .. } => kind,
         Kind::Ending { .. } => kind,
+        Kind::Closing { by, .. } => Kind::Ending { by },
         _ => Kind::Nothing,
     }
 }
@@ -78,7 +80,7 @@ fn constant(kind: Kind, value: i32) -> Kind {
 fn moved(r: Reg, kind: Kind, by: i32) -> Kind {
     match (kind, offset_in(r, kind)) {
         (Kind::Turn { head }, _) if by == -1 => Kind::Counter { head },
-        (Kind::Ending { by: before }, _) => ending(before, by),
+        (Kind::Ending { by: before } | Kind::Closing { by: before, .. }, _) => ending(before, by),
         (_, Some((area, of, 0))) => Kind::Moved { area, of, by },
         _ => Kind::Nothing,
     }
@@ -103,6 +105,15 @@ fn summed(facts: &Facts, dst: Reg, src: Reg) -> Kind {
     address(base_of(dst, left), offset_in(src, right)).unwrap_or(Kind::Nothing)
 }
 
+/// The register's own offset, where the pointer at 0 is taken away again from the one that was made of it.
+fn unmade(facts: &Facts, dst: Reg, src: Reg) -> Kind {
+    match (base_of(src, facts.get(src)), facts.get(dst)) {
+        (Some(base), Kind::Address { area, of, by: 0 }) if base == area && of == dst =>
+            Kind::Offset { area },
+        _ => Kind::Nothing,
+    }
+}
+
 /// What a 64-bit operation puts into its register.
 fn put(facts: &Facts, op: AluOp, dst: Reg, src: Operand) -> Kind {
     match (op, src) {
@@ -110,6 +121,7 @@ fn put(facts: &Facts, op: AluOp, dst: Reg, src: Operand) -> Kind {
         (AluOp::Mov, Operand::Reg(src)) => copied(src, facts.get(src)),
         (AluOp::Add, Operand::Imm(by)) => moved(dst, facts.get(dst), by),
         (AluOp::Add, Operand::Reg(src)) => summed(facts, dst, src),
+        (AluOp::Sub, Operand::Reg(src)) => unmade(facts, dst, src),
         _ => Kind::Nothing,
     }
 }
@@ -149,6 +161,11 @@ fn kept(facts: &Facts, src: Reg) -> Kind {
     match facts.get(src) {
         Kind::Counter { head } => Kind::Counter { head },
         Kind::Both | Kind::Natural { .. } | Kind::Inner { .. } => Kind::Saved { of: src },
+        Kind::Number { least, most } => Kind::Kept {
+            of: src,
+            least,
+            most,
+        },
         kind => copied(src, kind),
     }
 }
@@ -263,11 +280,7 @@ fn pass_other(facts: &mut Facts, slot: u32, insn: &Insn) {
     }
     if let Some((dst, place)) = taken(insn) {
         if is_free(facts.at(place)) && facts.at(place) != Kind::Unset {
-            let kind = match facts.at(place) {
-                Kind::Saved { of } if of == dst => Kind::Both,
-                kind => kind,
-            };
-            facts.set(dst, kind);
+            facts.set(dst, restored(dst, facts.get(dst), facts.at(place)));
             return;
         }
     }

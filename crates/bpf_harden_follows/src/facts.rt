@@ -27,7 +27,7 @@ pub fn slot_at(off: i16) -> Option<usize> {
 pub fn is_free(kind: Kind) -> bool {
     match kind {
         Kind::Unset | Kind::Base | Kind::Moved { .. } | Kind::Address { .. } => true,
-        Kind::Saved { .. } => true,
+        Kind::Saved { .. } | Kind::Kept { .. } => true,
         Kind::Constant { .. } | Kind::Counter { .. } | Kind::Turn { .. } => true,
         Kind::Ending { .. } => true,
         _ => false,
@@ -53,7 +53,8 @@ fn joined_slot(a: Kind, b: Kind) -> Kind {
 /// The register whose offset a kind is beside.
 fn beside(kind: Kind) -> Option<Reg> {
     match kind {
-        Kind::Moved { of, .. } | Kind::Address { of, .. } | Kind::Saved { of } => Some(of),
+        Kind::Moved { of, .. } | Kind::Address { of, .. } => Some(of),
+        Kind::Saved { of } | Kind::Kept { of, .. } => Some(of),
         _ => None,
     }
 }
@@ -266,6 +267,9 @@ fn joined(r: Reg, a: Kind, b: Kind) -> Kind {
     }
     match (a, b) {
         (Kind::Start, Kind::Base) | (Kind::Base, Kind::Start) => Kind::Base,
+        (Kind::Closing { by, .. }, Kind::Ending { by: more } | Kind::Closing { by: more, .. })
+        | (Kind::Ending { by: more }, Kind::Closing { by, .. })
+            if by == more => Kind::Ending { by },
         (Kind::Constant { .. }, Kind::Counter { head })
         | (Kind::Counter { head }, Kind::Constant { .. }) => Kind::Counter { head },
         _ => Kind::Nothing,
@@ -360,7 +364,7 @@ impl Facts {
     /// What slots hold of registers of the old program is gone, as if nothing was there.
     pub fn forget_saved(&mut self) {
         for place in REGISTERS..PLACES {
-            if let Kind::Saved { .. } = self.at(place) {
+            if let Kind::Saved { .. } | Kind::Kept { .. } = self.at(place) {
                 self.put(place, Kind::Unset);
             }
         }

@@ -1,11 +1,11 @@
 //! The places of a hardened program, by the slots of the old one.
 
-use crate::behind::{Frames, is_far, step};
+use crate::behind::{Frames, step};
 use crate::extra::{pass, taken, tested};
 use crate::facts::Facts;
 use crate::returns::Returns;
 use bpf_follows::site::Site;
-use bpf_follows::{Bounds, Kind, Place, may_fall, may_lead};
+use bpf_follows::{Bounds, Kind, PLACES, Place, is_far, is_homed, is_stuck, may_fall, may_lead};
 use bpf_harden_notes::{Change, Hardened};
 use bpf_insn::{AluOp, Insn, Operand, Program, Reg, Width};
 use std::alloc::{AllocError, Global};
@@ -37,6 +37,8 @@ struct Finder<'a> {
     facts: Vec<Option<Facts>>,
     /// By old slots, whether that was changed since it was looked at.
     is_new: Vec<bool>,
+    /// The bytes of a context.
+    length: u32,
     frames: Frames,
     /// By old slots, how often that was changed.
     times: Vec<u32>,
@@ -81,18 +83,6 @@ fn takes_from(insn: &Insn, r: Reg) -> bool {
     *insn == take
 }
 
-/// Whether no instruction writes by another register than r10, or reads a whole slot by one.
-fn is_alone(old: &Program) -> bool {
-    for slot in 0..old.slots() {
-        if let Some(insn) = old.at(slot) {
-            if is_far(insn) {
-                return false;
-            }
-        }
-    }
-    true
-}
-
 /// The numbers that tests of a program compare with, and those next to them.
 fn stops_of(alloc: Global, old: &Program) -> Result<Vec<u32>, AllocError> {
     let mut stops = Vec::new(alloc);
@@ -127,7 +117,8 @@ impl<'a> Finder<'a> {
         alloc: Global,
         old: &'a Program,
         new: &'a Hardened,
-        untouched: u32,
+        length: u32,
+        frames: Frames,
     ) -> Result<Finder<'a>, AllocError> {
         let mut changes = vec![in alloc; None; new.program.slots() as usize]?;
         for note in &new.notes {
@@ -144,10 +135,8 @@ impl<'a> Finder<'a> {
             entries,
             facts: vec![in alloc; None; old.slots() as usize]?,
             is_new: vec![in alloc; false; old.slots() as usize]?,
-            frames: Frames {
-                are_alone: is_alone(old),
-                untouched,
-            },
+            length,
+            frames,
             times: vec![in alloc; 0; old.slots() as usize]?,
             returns: Returns::new(alloc, old.slots())?,
             stops: stops_of(alloc, old)?,
@@ -156,14 +145,18 @@ impl<'a> Finder<'a> {
 
     // ---- where what stands
 
-    /// Where what stands for an old slot begins: behind a CALL with the test of what came back.
+    /// Where what stands for an old slot begins: behind a CALL with the test of what came back, and behind an access with what gives registers
+    /// back what they held.
     fn first(&self, slot: u32) -> Option<u32> {
-        let first = at(&self.new.slots, slot)?;
-        let before = first.saturating_sub(1);
-        match at(&self.changes, before) {
-            Some(Change::Returned) => Some(before),
-            _ => Some(first),
+        let mut first = at(&self.new.slots, slot)?;
+        for _ in 0..MOST_EXTRA {
+            let before = first.saturating_sub(1);
+            match at(&self.changes, before) {
+                Some(Change::Returned | Change::Save | Change::Address) => first = before,
+                _ => return Some(first),
+            }
         }
+        Some(first)
     }
 
     /// Where calls of a function lead that begins at an old slot; else as `first`.
@@ -242,8 +235,8 @@ impl<'a> Finder<'a> {
     // ---- along the edges
 
     /// Where bounds stop that grew so often, if they grow at once.
-    fn stops_at(&self, times: u32) -> Option<&[u32]> {
-        if times <= PATIENCE {
+    fn stops_at(&self, times: u32, is_back: bool) -> Option<&[u32]> {
+        if !is_back || times <= PATIENCE {
             None
         } else if times <= MORE_PATIENCE {
             Some(&self.stops)
@@ -252,8 +245,8 @@ impl<'a> Finder<'a> {
         }
     }
 
-    /// A way leads to an old slot, with what holds there, in the function that begins at `owner`.
-    fn arrive(&mut self, slot: u32, facts: &Facts, owner: u32) {
+    /// A way leads to an old slot, with what holds there, in the function that begins at `owner`. Bounds grow at once where it leads back.
+    fn arrive(&mut self, from: u32, slot: u32, facts: &Facts, owner: u32) {
         if self.first(slot).is_none() {
             return;
         }
@@ -263,7 +256,7 @@ impl<'a> Finder<'a> {
         let times = self.times.get(slot as usize).copied().unwrap_or(0);
         if let Some(before) = at(&self.facts, slot) {
             found = before;
-            is_new = found.join(facts, self.stops_at(times));
+            is_new = found.join(facts, self.stops_at(times, slot <= from));
         }
         if let Some(counter) = self.counter(slot) {
             if let Kind::Constant { .. } = found.at(counter) {
@@ -282,7 +275,7 @@ impl<'a> Finder<'a> {
         if let (Some(entry), Some(first)) = (self.entry(slot), self.first(slot)) {
             let mut set = self.passed(facts, slot, entry, first);
             set.settle();
-            self.arrive(slot, &set, slot);
+            self.arrive(slot, slot, &set, slot);
         }
     }
 
@@ -294,7 +287,7 @@ impl<'a> Finder<'a> {
             let mut behind = *before;
             step(&mut behind, site, true, self.frames);
             let owner = self.returns.owner(site.slot);
-            self.arrive(target, &behind, owner);
+            self.arrive(site.slot, target, &behind, owner);
         }
     }
 
@@ -329,7 +322,7 @@ impl<'a> Finder<'a> {
         }
         let next = site.slot.saturating_add(site.insn.slots());
         let owner = self.returns.owner(site.slot);
-        self.arrive(next, &behind, owner);
+        self.arrive(site.slot, next, &behind, owner);
     }
 
     /// Calls of which no EXIT is found may give back anything. Whether there was one.
@@ -350,28 +343,48 @@ impl<'a> Finder<'a> {
         is_found
     }
 
-    /// Goes on from an old slot.
-    fn go_on(&mut self, slot: u32, facts: &Facts) {
-        let (Some(insn), Some(first), Some(body)) = (
-            self.old.at(slot),
-            self.first(slot),
-            self.body(slot),
-        ) else {
-            return;
-        };
-        let insn = *insn;
-        let before = self.passed(facts, slot, first, body);
+    /// The old instruction at a slot, if the old program isn't surely stuck there, what stands for it, and what holds in front of both.
+    fn site(&self, slot: u32, facts: &Facts) -> Option<Site> {
+        let insn = *self.old.at(slot)?;
+        if is_stuck(self.length, &facts.kinds, &insn) {
+            return None;
+        }
+        let first = self.first(slot)?;
+        let body = self.body(slot)?;
         let moved = match self.new.program.at(body) {
             Some(moved) => *moved,
             None => insn,
         };
-        let site = Site {
+        Some(Site {
             slot,
             insn,
             new_slot: body,
             moved,
-            kinds: before.kinds,
+            kinds: self.passed(facts, slot, first, body).kinds,
+        })
+    }
+
+    /// Whether an instruction may reach the frames of other functions, where all that leads to it is known.
+    fn is_reaching(&self) -> bool {
+        for slot in 0..self.old.slots() {
+            if let Some(facts) = at(&self.facts, slot) {
+                if let Some(site) = self.site(slot, &facts) {
+                    if is_far(&site.insn) && !is_homed(&site) {
+                        return true;
+                    }
+                }
+            }
+        }
+        false
+    }
+
+    /// Goes on from an old slot.
+    fn go_on(&mut self, slot: u32, facts: &Facts) {
+        let Some(site) = self.site(slot, facts) else {
+            return;
         };
+        let insn = site.insn;
+        let before = Facts { kinds: site.kinds };
         if insn == Insn::Exit {
             self.end(slot, &before);
         }
@@ -413,6 +426,49 @@ impl<'a> Finder<'a> {
             kinds: facts.kinds,
         })
     }
+
+    /// Where a program falls behind its last instruction, which has nothing there.
+    fn beyond(&self) -> Option<Place> {
+        let mut last = None;
+        for slot in 0..self.old.slots() {
+            if let Some(insn) = self.old.at(slot) {
+                last = if insn.goes_on() { Some(slot) } else { None };
+            }
+        }
+        let place = self.place(last?)?;
+        let behind = self.behind(place.body);
+        let mut kinds = [Kind::Nothing; PLACES];
+        kinds[Reg::R10 as usize] = place.kinds[Reg::R10 as usize];
+        Some(Place {
+            entry: behind,
+            first: behind,
+            body: behind,
+            kinds,
+        })
+    }
+}
+
+/// What is found where functions leave the frames of others alone, or don't.
+fn found<'a>(
+    alloc: Global,
+    old: &'a Program,
+    new: &'a Hardened,
+    bounds: Bounds,
+    are_alone: bool,
+) -> Result<Finder<'a>, AllocError> {
+    let untouched = bounds.untouched;
+    let frames = Frames {
+        are_alone,
+        untouched,
+    };
+    let mut finder = Finder::new(alloc, old, new, bounds.length, frames)?;
+    finder.enter(0, &Facts::start(bounds, are_alone));
+    for _ in 0..ROUNDS {
+        if !finder.round() && !finder.unanswered() {
+            break;
+        }
+    }
+    Ok(finder)
 }
 
 /// By the slots of a program, what stands in the one that it was hardened to, for contexts of so many bytes and runs that leave so many of
@@ -424,17 +480,16 @@ pub fn places_of(
     new: &Hardened,
     bounds: Bounds,
 ) -> Result<Vec<Option<Place>>, AllocError> {
-    let mut finder = Finder::new(alloc, old, new, bounds.untouched)?;
-    let are_alone = finder.frames.are_alone;
-    finder.enter(0, &Facts::start(bounds, are_alone));
-    for _ in 0..ROUNDS {
-        if !finder.round() && !finder.unanswered() {
-            break;
-        }
+    let mut finder = found(alloc, old, new, bounds, true)?;
+    if finder.is_reaching() {
+        finder = found(alloc, old, new, bounds, false)?;
     }
     let mut places = Vec::new(alloc);
     for slot in 0..old.slots() {
         places.push(finder.place(slot))?;
+    }
+    if let Some(place) = finder.beyond() {
+        places.push(Some(place))?;
     }
     Ok(places)
 }

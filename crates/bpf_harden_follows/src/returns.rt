@@ -7,6 +7,15 @@ use std::alloc::{AllocError, Global};
 /// How often bounds grow before they grow at once.
 const PATIENCE: u32 = 3;
 
+/// The least number of ones alone that isn't below one.
+fn ones(n: u32) -> u32 {
+    let two = n | n >> 1;
+    let four = two | two >> 2;
+    let eight = four | four >> 4;
+    let sixteen = eight | eight >> 8;
+    sixteen | sixteen >> 16
+}
+
 /// By old slots: a function stands at its first one.
 #[derive(Drop)]
 pub struct Returns {
@@ -73,7 +82,7 @@ impl Returns {
         if let Some(before) = self.given(function) {
             found = match joined_numbers(before, number) {
                 Kind::Number { least, most } if PATIENCE < times => {
-                    grown(before, Kind::Number { least, most }, &[])
+                    grown(before, Kind::Number { least, most }, &[ones(most)])
                 }
                 kind => kind,
             };

@@ -38,11 +38,7 @@ fn flaw_at(refusal: Option<Refusal>, slot: u32, insn: &Insn) -> Option<u8> {
 
 /// The first line of the function at a slot.
 fn write_head<W: Tell>(out: &mut W, certificate: Option<&Index>, slot: u32) {
-    let known = match certificate {
-        Some(certificate) => function_at(certificate, slot),
-        None => None,
-    };
-    match known {
+    match certificate.and_then(|certificate| function_at(certificate, slot)) {
         Some(function) => write_function(out, function),
         None => write!(out, "fn {slot}\n"),
     }
@@ -50,16 +46,17 @@ fn write_head<W: Tell>(out: &mut W, certificate: Option<&Index>, slot: u32) {
 
 /// The line of the label at a slot, if one stands there and budgets are told.
 fn write_promise<'a, 'b, W: Tell>(out: &mut W, scene: &Scene<'a, 'b>, slot: u32) {
-    let known = match scene.certificate {
-        Some(certificate) if scene.has_budgets => label_at(certificate, slot),
-        _ => None,
-    };
-    let Some(label) = known else {
-        return;
-    };
-    write!(out, "at {slot}: budget ");
-    write_budget(out, label);
-    write!(out, "\n");
+    match scene
+        .certificate
+        .and_then(|certificate| label_at(certificate, slot))
+    {
+        Some(label) if scene.has_budgets => {
+            write!(out, "at {slot}: budget ");
+            write_budget(out, label);
+            write!(out, "\n");
+        }
+        _ => {}
+    }
 }
 
 /// The line of an instruction, with the number of its flaw.

@@ -3,41 +3,37 @@
 ghost use Rattle.std.specs.Prelude.{◌≤◌};
 ghost use Rattle.bpf_insn.specs.Limits.{greatest_slot};
 
-use crate::control::Control;
 use crate::graph::Scene;
 use crate::graph::plan::call_target;
+use crate::sight::is_test;
 use bpf_check::jump_target;
 use bpf_explain_page::Tell;
 use bpf_insn::{Code, Insn, MAX_SLOTS};
 
-/// What an edge stands for.
-#[derive(Clone, Copy)]
-enum Way {
-    Next,
-    IfSo,
-    IfNot,
-    Call,
-}
+/// What is written behind the ends of an edge that is live, and of one that is dead.
+type Style = (&'static str, &'static str);
 
-/// What is written behind an edge's ends.
-fn attributes(way: Way, is_live: bool) -> &'static str {
-    match (way, is_live) {
-        (Way::Next, true) => ";\n",
-        (Way::Next, false) => " [style=dashed, color=gray];\n",
-        (Way::IfSo, true) => " [label=\"if so\"];\n",
-        (Way::IfSo, false) => " [label=\"if so\", style=dashed, color=gray, fontcolor=gray];\n",
-        (Way::IfNot, true) => " [label=\"if not\"];\n",
-        (Way::IfNot, false) => " [label=\"if not\", style=dashed, color=gray, fontcolor=gray];\n",
-        (Way::Call, true) => " [label=\"call\", style=dotted];\n",
-        (Way::Call, false) => " [label=\"call\", style=dotted, color=gray, fontcolor=gray];\n",
-    }
-}
+const NEXT: Style = (";\n", " [style=dashed, color=gray];\n");
+
+const IF_SO: Style = (
+    " [label=\"if so\"];\n",
+    " [label=\"if so\", style=dashed, color=gray, fontcolor=gray];\n",
+);
+
+const IF_NOT: Style = (
+    " [label=\"if not\"];\n",
+    " [label=\"if not\", style=dashed, color=gray, fontcolor=gray];\n",
+);
+
+const CALL: Style = (
+    " [label=\"call\", style=dotted];\n",
+    " [label=\"call\", style=dotted, color=gray, fontcolor=gray];\n",
+);
 
 /// The line of an edge.
-fn write_edge<W: Tell>(out: &mut W, from: u32, to: u32, way: Way, is_live: bool) {
-    write!(out, "  b{from} -> b{to}");
-    let rest = attributes(way, is_live);
-    write!(out, "{rest}");
+fn write_edge<W: Tell>(out: &mut W, from: u32, to: u32, style: Style, is_live: bool) {
+    let rest = if is_live { style.0 } else { style.1 };
+    write!(out, "  b{from} -> b{to}{rest}");
 }
 
 /// The edges of the instruction at a slot, in the block that begins at `from`.
@@ -51,13 +47,13 @@ fn write_from<'a, 'b, W: Tell>(
 )
     requires { slot ≤ greatest_slot }
 {
-    let (so, not) = if Control::of(insn) == Control::Test {
-        (Way::IfSo, Way::IfNot)
+    let (so, not) = if is_test(insn) {
+        (IF_SO, IF_NOT)
     } else {
-        (Way::Next, Way::Next)
+        (NEXT, NEXT)
     };
     if let Some(to) = call_target(slot, insn) {
-        write_edge(out, from, to, Way::Call, scene.flow.reached.has(slot));
+        write_edge(out, from, to, CALL, scene.flow.reached.has(slot));
     }
     if let Some(to) = jump_target(slot, insn) {
         write_edge(out, from, to, so, scene.flow.jumps.has(slot));

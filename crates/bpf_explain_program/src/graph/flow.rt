@@ -3,7 +3,7 @@
 use crate::pass::{Observer, pass_over};
 use crate::sight::Sight;
 use crate::slots::Slots;
-use bpf_check::{Index, JudgedEdge};
+use bpf_check::Index;
 use bpf_insn::Code;
 
 /// Which instructions and edges runs may take.
@@ -17,14 +17,6 @@ pub struct Flow {
     pub nexts: Slots,
     /// Those behind which nothing is known: no state reaches them, or they are refused.
     unknown: Slots,
-}
-
-/// Whether there is an edge, and a state goes along it.
-fn is_live<'a>(edge: Option<JudgedEdge<'a>>) -> bool {
-    match edge {
-        Some(edge) => edge.is_live,
-        None => false,
-    }
 }
 
 impl Flow {
@@ -57,33 +49,24 @@ impl Flow {
     pub fn may_go_on(&self, slot: u32) -> bool {
         self.nexts.has(slot) || self.unknown.has(slot)
     }
+}
 
-    /// Takes note of what the pass sees at an instruction.
-    fn note<'a>(&mut self, sight: &Sight<'a>) {
+impl<C: Code> Observer<C> for Flow {
+    fn observe(&mut self, sight: &Sight<'_, C>) -> bool {
         let slot = sight.site.here.slot;
         if sight.here.is_some() {
             self.reached.add(slot);
         }
-        if sight.seen().is_none() {
+        if sight.seen.is_none() {
             self.unknown.add(slot);
         }
-        if is_live(sight.jump()) {
-            self.jumps.add(slot);
+        for way in sight.ways().into_iter().flatten() {
+            match (way.edge.is_live, way.is_jump) {
+                (true, true) => self.jumps.add(slot),
+                (true, false) => self.nexts.add(slot),
+                (false, _) => {}
+            }
         }
-        if is_live(sight.next()) {
-            self.nexts.add(slot);
-        }
-    }
-}
-
-impl Observer for Flow {
-    fn observe<'a, C: Code>(
-        &mut self,
-        _program: &C,
-        _certificate: &Index,
-        sight: &Sight<'a>,
-    ) -> bool {
-        self.note(sight);
         true
     }
 }

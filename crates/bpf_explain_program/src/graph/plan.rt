@@ -27,8 +27,9 @@ pub fn call_target(slot: u32, insn: &Insn) -> Option<u32>
 }
 
 impl Plan {
-    /// The blocks by the program's jumps and calls, the functions where calls lead.
-    pub fn of<C: Code>(program: &C) -> Plan {
+    /// The blocks by the program's jumps and calls, the functions where calls lead; with a certificate its functions, and blocks by its
+    /// labels, too.
+    pub fn of<C: Code>(program: &C, certificate: Option<&Index>) -> Plan {
         let mut plan = Plan {
             blocks: Slots::none(),
             functions: Slots::none(),
@@ -41,15 +42,8 @@ impl Plan {
                 plan.note_call(slot, &insn);
             }
         }
-        plan
-    }
-
-    /// The blocks by the program's jumps and calls and by the certificate's labels, the functions of the certificate.
-    pub fn with<C: Code>(program: &C, certificate: &Index) -> Plan {
-        let mut plan = Plan::of(program);
-        plan.functions = Slots::none();
-        for function in certificate.functions() {
-            plan.note_function(function);
+        if let Some(certificate) = certificate {
+            plan.note_functions(certificate);
         }
         plan
     }
@@ -77,10 +71,18 @@ impl Plan {
         }
     }
 
+    /// Functions begin where a certificate says so.
+    fn note_functions(&mut self, certificate: &Index) {
+        self.functions = Slots::none();
+        for function in certificate.functions() {
+            self.functions.add(function.first);
+            self.note_blocks(function);
+        }
+    }
+
     /// Blocks begin at a function's first slot and at its labels.
-    fn note_function(&mut self, function: &Function) {
+    fn note_blocks(&mut self, function: &Function) {
         self.blocks.add(function.first);
-        self.functions.add(function.first);
         for label in function.labels.as_slice() {
             self.blocks.add(label.slot);
         }

@@ -1,29 +1,29 @@
 //! Budgets that don't cover a cost.
 
-use crate::known::{Known, Name};
+use crate::known::{Known, Name, Offset};
 use crate::places::{content, tag_at};
-use crate::sight::Sight;
+use crate::sight::{Sight, Way};
 use bpf_cert::{Label, Measure, Term};
-use bpf_check::{JudgedEdge, place_of};
+use bpf_check::place_of;
 use bpf_explain_page::Tell;
-use bpf_state::{Place, SlotState, State, Tag};
+use bpf_insn::Code;
+use bpf_state::{SlotState, State, Tag};
 
 /// What a place that holds a counter did on the way: `r6 falls by 1 at weight 5`.
 fn tell_move<W: Tell>(out: &mut W, old: &Label, term: &Term, tag: Tag) {
     let name = Name(place_of(term));
     let weight = term.weight;
-    let by = tag.offset.unsigned_abs();
     if let Some(counted) = old.budget.terms.as_slice().get(usize::from(tag.term)) {
         let before = Name(place_of(counted));
         if place_of(counted) != place_of(term) {
-            let slot = old.slot;
-            let sign = if tag.offset < 0 { "-" } else { "+" };
+            let (slot, by) = (old.slot, Offset(tag.offset));
             return write!(
                 out,
-                ", and {name} is {before} of slot {slot} {sign} {by} at weight {weight}"
+                ", and {name} is {before} of slot {slot} {by} at weight {weight}"
             );
         }
     }
+    let by = tag.offset.unsigned_abs();
     if tag.offset < 0 {
         write!(out, ", and {name} falls by {by} at weight {weight}");
     } else if tag.offset > 0 {
@@ -86,12 +86,8 @@ fn tell_way<W: Tell>(out: &mut W, way: &str, cost: i128, old: &Label, new: &Labe
 }
 
 /// Tells of an edge if it isn't paid. Whether it isn't.
-fn tell_edge<'a, W: Tell>(
-    out: &mut W,
-    sight: &Sight<'a>,
-    edge: JudgedEdge<'a>,
-    state: &State,
-) -> bool {
+fn tell_edge<C: Code, W: Tell>(out: &mut W, sight: &Sight<'_, C>, way: Way<'_, '_>) -> bool {
+    let edge = way.edge;
     if !edge.is_unpaid() {
         return false;
     }
@@ -101,21 +97,21 @@ fn tell_edge<'a, W: Tell>(
     let Some(new) = edge.label else {
         return false;
     };
-    let way = if edge.to <= sight.site.here.slot {
+    let leads = if edge.to <= sight.site.here.slot {
         "the loop back to"
     } else {
         "the way to"
     };
-    tell_way(out, way, cost, here.label, new);
-    tell_terms(out, here.label, new, state);
+    tell_way(out, leads, cost, here.label, new);
+    tell_terms(out, here.label, new, way.state);
     let lack = slack.left;
     write!(out, ": slack {lack}");
     true
 }
 
 /// What an EXIT costs, if it is one, and what is left of the budget.
-fn tell_exit<'a, W: Tell>(out: &mut W, sight: &Sight<'a>) {
-    let (Some(here), Some(seen)) = (sight.here, sight.seen()) else {
+fn tell_exit<C: Code, W: Tell>(out: &mut W, sight: &Sight<'_, C>) {
+    let (Some(here), Some(seen)) = (sight.here, &sight.seen) else {
         return;
     };
     let (Some(slack), Some(cost)) = (seen.left_at_exit, seen.cost) else {
@@ -130,14 +126,11 @@ fn tell_exit<'a, W: Tell>(out: &mut W, sight: &Sight<'a>) {
 }
 
 /// C9: the budget at the last label doesn't cover the cost on an edge or at EXIT.
-pub fn tell_unpaid<'a, W: Tell>(out: &mut W, sight: &Sight<'a>) {
+pub fn tell_unpaid<C: Code, W: Tell>(out: &mut W, sight: &Sight<'_, C>) {
     tell_exit(out, sight);
-    if let Some(edge) = sight.jump() {
-        if tell_edge(out, sight, edge, sight.jump_state()) {
+    for way in sight.ways().into_iter().flatten() {
+        if tell_edge(out, sight, way) {
             return;
         }
-    }
-    if let Some(edge) = sight.next() {
-        let _ = tell_edge(out, sight, edge, &sight.behind);
     }
 }

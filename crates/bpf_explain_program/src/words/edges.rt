@@ -1,46 +1,32 @@
 //! C8: states that don't lie in the label that they lead to.
 
 use crate::known::{Known, Name, Written, known_register};
-use crate::places::{content, state_at};
-use crate::sight::Sight;
+use crate::places::content;
+use crate::sight::{Sight, Way};
 use bpf_cert::Label;
-use bpf_check::{Callee, JudgedEdge};
+use bpf_check::Callee;
 use bpf_explain_page::Tell;
-use bpf_insn::Reg;
+use bpf_insn::{Code, Reg};
 use bpf_state::{SlotState, State, enter};
 
-/// A place at which a state doesn't lie in a label's: what it holds, and what the label says of it.
-#[derive(Clone, Copy)]
-pub struct Difference {
-    pub name: Name,
-    pub held: Known,
-    pub said: Written,
-}
-
-/// The first place at which a state doesn't lie in a label's.
-pub fn first_difference(state: &State, label: &Label) -> Option<Difference> {
-    let claimed = state_at(label);
+/// The first place at which a state doesn't lie in a label's: what it holds, and what the label says of it.
+pub fn first_difference(state: &State, label: &Label) -> Option<(Name, Known, Written)> {
+    let claimed = label.state.state();
     let place = state.first_lost(&claimed)?;
-    Some(Difference {
-        name: Name(place),
-        held: Known(content(state, place)),
-        said: Written(content(&claimed, place)),
-    })
-}
-
-/// The label at the end of an edge that a state goes along.
-fn label_ahead<'a>(edge: Option<JudgedEdge<'a>>) -> Option<&'a Label> {
-    let edge = edge?;
-    if edge.is_refused { edge.label } else { None }
+    let (held, said) = (content(state, place), content(&claimed, place));
+    Some((Name(place), Known(held), Written(said)))
 }
 
 /// Tells where an edge's state doesn't lie in the label at its end: `r3 at slot 9 is anything; the label says u0..7`. Whether it
 /// doesn't.
-fn tell_edge<'a, W: Tell>(out: &mut W, edge: Option<JudgedEdge<'a>>, state: &State) -> bool {
-    let Some(label) = label_ahead(edge) else {
+fn tell_way<W: Tell>(out: &mut W, way: Way<'_, '_>) -> bool {
+    let Some(label) = way.edge.label else {
         return false;
     };
-    let Some(Difference { name, held, said }) = first_difference(state, label) else {
+    if !way.edge.is_refused {
+        return false;
+    }
+    let Some((name, held, said)) = first_difference(way.state, label) else {
         return false;
     };
     let to = label.slot;
@@ -49,14 +35,14 @@ fn tell_edge<'a, W: Tell>(out: &mut W, edge: Option<JudgedEdge<'a>>, state: &Sta
 }
 
 /// Tells where a callee's label claims more than holds at the call.
-fn tell_entry<'a, W: Tell>(out: &mut W, callee: Callee<'a>, state: &State) {
+fn tell_entry<W: Tell>(out: &mut W, callee: Callee<'_>, state: &State) {
     let Some(label) = callee.label else {
         return;
     };
-    let first = callee.function.first;
     let mut entry = state.copy();
     enter(&mut entry);
-    if let Some(Difference { name, held, said }) = first_difference(&entry, label) {
+    if let Some((name, held, said)) = first_difference(&entry, label) {
+        let first = callee.function.first;
         write!(
             out,
             "{name} is {held} where the function at slot {first} begins; its label says {said}"
@@ -65,7 +51,7 @@ fn tell_entry<'a, W: Tell>(out: &mut W, callee: Callee<'a>, state: &State) {
 }
 
 /// Tells that a function is said to return less than r0 may hold.
-fn tell_result<'a, W: Tell>(out: &mut W, sight: &Sight<'a>) {
+fn tell_result<C: Code, W: Tell>(out: &mut W, sight: &Sight<'_, C>) {
     let Some(function) = sight.site.here.function else {
         return;
     };
@@ -79,19 +65,17 @@ fn tell_result<'a, W: Tell>(out: &mut W, sight: &Sight<'a>) {
 }
 
 /// C8: a state doesn't lie in what is claimed where it leads to.
-pub fn tell_difference<'a, W: Tell>(out: &mut W, sight: &Sight<'a>) {
-    let Some(seen) = sight.seen() else {
-        return;
-    };
-    if seen.returns_wrongly {
-        return tell_result(out, sight);
-    }
-    match sight.site.callee {
-        Some(callee) if seen.enters_wrongly => return tell_entry(out, callee, &sight.before),
+pub fn tell_difference<C: Code, W: Tell>(out: &mut W, sight: &Sight<'_, C>) {
+    match (&sight.seen, sight.site.callee) {
+        (Some(seen), _) if seen.returns_wrongly => return tell_result(out, sight),
+        (Some(seen), Some(callee)) if seen.enters_wrongly => {
+            return tell_entry(out, callee, &sight.before);
+        }
         _ => {}
     }
-    if tell_edge(out, sight.jump(), sight.jump_state()) {
-        return;
+    for way in sight.ways().into_iter().flatten() {
+        if tell_way(out, way) {
+            return;
+        }
     }
-    let _ = tell_edge(out, sight.next(), &sight.behind);
 }

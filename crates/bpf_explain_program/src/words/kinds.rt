@@ -10,7 +10,7 @@ use bpf_insn::{Code, Insn, Reg, Width};
 use bpf_state::{Mistake, Place, State, mistake_of_kinds, unset_register};
 
 /// C3: a register that is read may be uninitialised.
-pub fn tell_unknown<'a, W: Tell>(out: &mut W, sight: &Sight<'a>) {
+pub fn tell_unknown<C: Code, W: Tell>(out: &mut W, sight: &Sight<'_, C>) {
     if let Some(reg) = unset_register(&sight.site.insn, &sight.before) {
         let name = register(reg);
         write!(out, "reads {name}, of which nothing is known");
@@ -18,12 +18,7 @@ pub fn tell_unknown<'a, W: Tell>(out: &mut W, sight: &Sight<'a>) {
 }
 
 /// A rule, and what some registers hold.
-pub fn tell_registers<W: Tell>(
-    out: &mut W,
-    rule: &str,
-    state: &State,
-    registers: [Option<Reg>; 3],
-) {
+fn tell_registers<W: Tell>(out: &mut W, rule: &str, state: &State, registers: [Option<Reg>; 3]) {
     write!(out, "{rule}");
     let mut is_first = true;
     for reg in registers.into_iter().flatten() {
@@ -35,7 +30,7 @@ pub fn tell_registers<W: Tell>(
 }
 
 /// A rule, and what the registers that an instruction reads hold.
-fn tell_operands<'a, W: Tell>(out: &mut W, rule: &str, sight: &Sight<'a>) {
+pub fn tell_operands<C: Code, W: Tell>(out: &mut W, rule: &str, sight: &Sight<'_, C>) {
     tell_registers(out, rule, &sight.before, sight.site.insn.registers_read());
 }
 
@@ -51,7 +46,7 @@ fn is_narrow(insn: &Insn) -> bool {
 }
 
 /// A register that holds no number, and the other operands of arithmetic.
-fn tell_number_wanted<'a, W: Tell>(out: &mut W, sight: &Sight<'a>, reg: Reg) {
+fn tell_number_wanted<C: Code, W: Tell>(out: &mut W, sight: &Sight<'_, C>, reg: Reg) {
     let insn = &sight.site.insn;
     let rule = if matches!(*insn, Insn::Exit) {
         "the result must be a number"
@@ -68,7 +63,7 @@ fn tell_number_wanted<'a, W: Tell>(out: &mut W, sight: &Sight<'a>, reg: Reg) {
 }
 
 /// The spilled pointer in a slot that is read in part, or changed.
-fn tell_part<'a, W: Tell>(out: &mut W, sight: &Sight<'a>, slot: u8) {
+fn tell_part<C: Code, W: Tell>(out: &mut W, sight: &Sight<'_, C>, slot: u8) {
     let place = Place::Slot(slot);
     let (name, held) = (Name(place), Known(content(&sight.before, place)));
     let (deed, rule) = if matches!(sight.site.insn, Insn::Atomic { .. }) {
@@ -83,34 +78,34 @@ fn tell_part<'a, W: Tell>(out: &mut W, sight: &Sight<'a>, slot: u8) {
 }
 
 /// A pointer that isn't stored as a whole, and where to.
-fn tell_stored<'a, W: Tell>(out: &mut W, sight: &Sight<'a>) {
+fn tell_stored<C: Code, W: Tell>(out: &mut W, sight: &Sight<'_, C>) {
     let rule = "a pointer is stored as 8 bytes at one known multiple of 8 of the frame";
     let [base, source, _] = sight.site.insn.registers_read();
     tell_registers(out, rule, &sight.before, [source, base, None]);
 }
 
 /// An address that isn't in a pointer.
-fn tell_address<'a, W: Tell, C: Code>(out: &mut W, program: &C, sight: &Sight<'a>) {
+fn tell_address<C: Code, W: Tell>(out: &mut W, sight: &Sight<'_, C>) {
     let Some(access) = sight.site.insn.access() else {
         return;
     };
-    let (name, off) = (register(access.base), Offset(access.off));
+    let (name, off) = (register(access.base), Offset(i64::from(access.off)));
     let held = known_register(sight.before.reg(access.base));
     write!(
         out,
         "the address {name} {off} isn't in a pointer: {name} is {held}"
     );
-    tell_lost(out, program, sight, access.base);
+    tell_lost(out, sight, access.base);
 }
 
 /// C4: operands or slots are of the wrong kinds.
-pub fn tell_kinds<'a, W: Tell, C: Code>(out: &mut W, program: &C, sight: &Sight<'a>) {
+pub fn tell_kinds<C: Code, W: Tell>(out: &mut W, sight: &Sight<'_, C>) {
     let Some(mistake) = mistake_of_kinds(&sight.site.insn, &sight.before) else {
         return;
     };
     let rule = match mistake {
         Mistake::NotNumber(reg) => return tell_number_wanted(out, sight, reg),
-        Mistake::NotPointer(_) => return tell_address(out, program, sight),
+        Mistake::NotPointer(_) => return tell_address(out, sight),
         Mistake::StoredInPart => return tell_stored(out, sight),
         Mistake::ReadInPart(slot) => return tell_part(out, sight, slot),
         Mistake::PointersAdded => "two pointers can't be added",

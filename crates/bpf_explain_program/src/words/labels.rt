@@ -2,50 +2,42 @@
 
 use crate::known::{Known, Name, Written};
 use crate::listing::steps_of;
-use crate::places::{content, state_at};
-use crate::words::edges::{Difference, first_difference};
+use crate::places::content;
+use crate::words::edges::first_difference;
 use bpf_cert::{Function, Label, Measure, Term};
-use bpf_check::{Index, SeenLabel, SeenStart, function_at, label_at, place_of};
+use bpf_check::{Index, SeenStart, Standing, function_at, label_at, place_of};
 use bpf_explain_page::{Count, Tell};
 use bpf_insn::Code;
 use bpf_state::{Condition, SlotState, State};
 
 /// C2: a label is at no instruction's first slot.
-fn tell_place<W: Tell, C: Code>(out: &mut W, program: &C, slot: u32) {
-    let slots = Count(program.slots(), "slot");
+fn tell_place<C: Code, W: Tell>(out: &mut W, program: &C, slot: u32) {
     if slot < program.slots() {
-        write!(
+        return write!(
             out,
             "the label stands at the second slot of a wide instruction"
         );
-    } else {
-        write!(
-            out,
-            "the label stands behind the program's end: it has {slots}"
-        );
     }
+    let slots = Count(program.slots(), "slot");
+    write!(
+        out,
+        "the label stands behind the program's end: it has {slots}"
+    );
 }
 
 /// C9: a term counts what is no number, or what may be above its limit.
 fn tell_term<W: Tell>(out: &mut W, label: &Label, term: &Term) {
     let place = place_of(term);
-    let name = Name(place);
-    let held = content(&state_at(label), place);
+    let (name, held) = (Name(place), Known(content(&label.state.state(), place)));
     match (term.measure, held) {
-        (Measure::Up(_, limit), SlotState::Word(_)) => {
-            let held = Known(held);
-            write!(
-                out,
-                "the label counts {name} up to {limit}, and {name} is {held}"
-            );
-        }
-        _ => {
-            let held = Known(held);
-            write!(
-                out,
-                "the label counts {name}, which is {held} and no number"
-            );
-        }
+        (Measure::Up(_, limit), Known(SlotState::Word(_))) => write!(
+            out,
+            "the label counts {name} up to {limit}, and {name} is {held}"
+        ),
+        _ => write!(
+            out,
+            "the label counts {name}, which is {held} and no number"
+        ),
     }
 }
 
@@ -67,7 +59,7 @@ fn tell_outside<W: Tell>(out: &mut W, certificate: &Index, function: &Function, 
 
 /// C13: a label has no member.
 fn tell_empty<W: Tell>(out: &mut W, label: &Label) {
-    let state = state_at(label);
+    let state = label.state.state();
     if let Some(place) = state.first_empty() {
         let (name, said) = (Name(place), Written(content(&state, place)));
         write!(out, "no number is {said}, as the label says of {name}");
@@ -75,20 +67,22 @@ fn tell_empty<W: Tell>(out: &mut W, label: &Label) {
 }
 
 /// Tells why a condition fails at a label of a function.
-pub fn tell_label<'a, W: Tell, C: Code>(
+pub fn tell_label<C: Code, W: Tell>(
     out: &mut W,
     program: &C,
     certificate: &Index,
-    function: &Function,
-    seen: &SeenLabel<'a>,
+    standing: &Standing<'_>,
     condition: Condition,
 ) {
+    let Some(seen) = &standing.label else {
+        return;
+    };
     let label = seen.label;
     match (condition, seen.bad) {
         (Condition::MisplacedLabel, _) => tell_place(out, program, label.slot),
         (Condition::OverBudget, Some(term)) => tell_term(out, label, &term),
         (Condition::Misshapen, _) if seen.is_outside => {
-            tell_outside(out, certificate, function, label);
+            tell_outside(out, certificate, standing.function, label);
         }
         (Condition::Misshapen, _) => tell_empty(out, label),
         _ => {}
@@ -111,7 +105,7 @@ fn tell_other_start<W: Tell>(out: &mut W, certificate: &Index) {
     let Some(label) = label_at(certificate, 0) else {
         return;
     };
-    if let Some(Difference { name, held, said }) = first_difference(&start, label) {
+    if let Some((name, held, said)) = first_difference(&start, label) {
         write!(
             out,
             "{name} at the start is {held}; the label at slot 0 says {said}"

@@ -3,7 +3,7 @@
 use crate::known::{Name, Offset, known_register};
 use crate::listing::Lengths;
 use crate::sight::Sight;
-use crate::words::kinds::tell_registers;
+use crate::words::kinds::tell_operands;
 use crate::words::origins::{tell_operand_tested, tell_sum_tested};
 use crate::words::register;
 use bpf_check::Index;
@@ -29,7 +29,7 @@ impl fmt::Display for Touch {
     fn fmt<W: fmt::Write>(&self, f: &mut fmt::Formatter<W>) -> fmt::Result {
         let bytes = Count(u32::from(self.0.size.bytes()), "byte");
         let verb = verb(self.0);
-        let (name, off) = (register(self.0.base), Offset(self.0.off));
+        let (name, off) = (register(self.0.base), Offset(i64::from(self.0.off)));
         write!(f, "{verb} {bytes} at {name} {off}")
     }
 }
@@ -65,32 +65,23 @@ fn tell_outside<W: Tell>(out: &mut W, certificate: &Index, reach: Reach) {
 }
 
 /// C5: an access may leave the context or the frame, or a pointer its bounds.
-pub fn tell_bounds<'a, W: Tell, C: Code>(
-    out: &mut W,
-    program: &C,
-    certificate: &Index,
-    sight: &Sight<'a>,
-) {
-    let state = &sight.before;
+pub fn tell_bounds<C: Code, W: Tell>(out: &mut W, sight: &Sight<'_, C>) {
     let Some(access) = sight.site.insn.access() else {
         let rule = "the pointer may leave its bounds, -2147483648 to 2147483648";
-        tell_registers(out, rule, state, sight.site.insn.registers_read());
-        return tell_operand_tested(out, program, sight);
+        tell_operands(out, rule, sight);
+        return tell_operand_tested(out, sight);
     };
-    let (name, held) = (
-        register(access.base),
-        known_register(state.reg(access.base)),
-    );
-    let touch = Touch(access);
+    let held = known_register(sight.before.reg(access.base));
+    let (touch, name) = (Touch(access), register(access.base));
     write!(out, "{touch}, {name} is {held}");
-    if let Some(reach) = Reach::of_access(access, state) {
-        tell_outside(out, certificate, reach);
+    if let Some(reach) = Reach::of_access(access, &sight.before) {
+        tell_outside(out, sight.site.certificate, reach);
     }
-    tell_sum_tested(out, program, sight, access.base);
+    tell_sum_tested(out, sight, access.base);
 }
 
 /// C6: a stack byte that may be read isn't known to be initialised.
-pub fn tell_unknown_bytes<'a, W: Tell>(out: &mut W, sight: &Sight<'a>) {
+pub fn tell_unknown_bytes<C: Code, W: Tell>(out: &mut W, sight: &Sight<'_, C>) {
     let insn = &sight.site.insn;
     let (Some(access), Some(unknown)) = (insn.access(), unknown_bytes(insn, &sight.before)) else {
         return;
@@ -106,7 +97,7 @@ pub fn tell_unknown_bytes<'a, W: Tell>(out: &mut W, sight: &Sight<'a>) {
 }
 
 /// C7: the context or r10 is written.
-pub fn tell_protected<'a, W: Tell>(out: &mut W, sight: &Sight<'a>) {
+pub fn tell_protected<C: Code, W: Tell>(out: &mut W, sight: &Sight<'_, C>) {
     match sight.site.insn.access() {
         Some(access) if access.writes => {
             let held = known_register(sight.before.reg(access.base));

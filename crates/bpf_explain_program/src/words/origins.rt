@@ -1,81 +1,68 @@
 //! Where the operands of a refused instruction come from: tests of copies, frame pointers that were handed over, and lost tables.
 
+use crate::graph::call_target;
+use crate::known::Offset;
 use crate::sight::Sight;
-use crate::trail::{Part, Test, Trail};
+use crate::trail::{Trail, Use};
 use crate::words::register;
 use arrayvec::ArrayVec;
-use bpf_cert::LAST_SLOT;
-use bpf_check::{Index, function_at, label_at};
+use bpf_check::{Index, label_at};
 use bpf_explain_page::Tell;
-use bpf_insn::{Code, Insn, MAX_SLOTS, Reg, target};
+use bpf_insn::{Code, Insn, MAX_SLOTS, Reg};
 
 /// How far back an instruction is looked for that gave a register its value before the last label.
 const BACK: u32 = 4096;
 
 // ---- tests of copies
 
-/// What a test of another copy of a part is told by: `slot 36 tests r4, which is r3 + 8; r3 itself isn't bounded by it`.
-fn tell_beside<W: Tell>(out: &mut W, test: Test, part: Part) {
-    let (slot, by) = (test.slot, test.sum.offset.saturating_sub(part.sum.offset));
-    let (tested, name) = (register(test.reg), register(part.reg));
-    let sign = if by < 0 { "-" } else { "+" };
-    let amount = by.unsigned_abs();
-    match (by, test.sum.is_short || part.sum.is_short) {
+/// Tells of a test of another copy of a part: `slot 36 tests r4, which is r3 + 8; r3 itself isn't bounded by it`.
+fn tell_beside<W: Tell>(out: &mut W, test: Use, part: Use) {
+    let by = test.sum.offset.saturating_sub(part.sum.offset);
+    let (slot, tested) = (test.slot, register(test.reg));
+    let (name, by) = (register(part.reg), Offset(by));
+    let is_short = test.sum.is_short || part.sum.is_short;
+    match (by.0, is_short) {
         (0, false) => write!(out, "; slot {slot} tests {tested}, a copy of {name}"),
-        (0, true) => write!(
-            out,
-            "; slot {slot} tests {tested}, which is {name} in 32 bits"
-        ),
-        (_, false) => write!(
-            out,
-            "; slot {slot} tests {tested}, which is {name} {sign} {amount}"
-        ),
-        (_, true) => write!(
-            out,
-            "; slot {slot} tests {tested}, which is {name} {sign} {amount} in 32 bits"
-        ),
+        (0, true) => write!(out, "; slot {slot} tests {tested}, which is {name}"),
+        _ => write!(out, "; slot {slot} tests {tested}, which is {name} {by}"),
+    }
+    if is_short {
+        write!(out, " in 32 bits");
     }
     write!(out, "; {name} itself isn't bounded by it");
 }
 
 /// Tells of a part that a test of another copy left unbounded. Whether there is one.
-fn tell_part<W: Tell>(out: &mut W, trail: &Trail, part: &Part) -> bool {
+fn tell_part<W: Tell>(out: &mut W, trail: &Trail, part: Use) -> bool {
     let Some(test) = trail.test_beside(part) else {
         return false;
     };
     if test.reg != part.reg {
-        tell_beside(out, test, *part);
+        tell_beside(out, test, part);
         return true;
     }
-    if test.slot > part.slot {
-        let (slot, name, sum) = (test.slot, register(part.reg), part.slot);
+    let (slot, name, sum) = (test.slot, register(part.reg), part.slot);
+    if slot > sum {
         write!(
             out,
             "; slot {slot} tests {name} behind slot {sum}, which adds it: test it before"
         );
-        return true;
     }
-    false
+    slot > sum
 }
 
 /// What the instructions since the last label tell in front of an instruction.
-fn trail_to<'a, C: Code>(program: &C, sight: &Sight<'a>) -> Option<Trail> {
-    let here = sight.here?;
-    Some(Trail::between(program, here.label.slot, sight.site.here.slot))
+fn trail_to<C: Code>(sight: &Sight<'_, C>) -> Option<Trail> {
+    let label = sight.here?.label.slot;
+    Some(Trail::between(sight.program, label, sight.site.here.slot))
 }
 
 /// Tells which test of a copy doesn't bound what was added to a register, if there is one.
-pub fn tell_sum_tested<'a, W: Tell, C: Code>(
-    out: &mut W,
-    program: &C,
-    sight: &Sight<'a>,
-    base: Reg,
-) {
-    let Some(trail) = trail_to(program, sight) else {
+pub fn tell_sum_tested<C: Code, W: Tell>(out: &mut W, sight: &Sight<'_, C>, base: Reg) {
+    let Some(trail) = trail_to(sight) else {
         return;
     };
-    let held = trail.held(base);
-    for part in held.parts.iter().flatten() {
+    for part in trail.held(base).parts.into_iter().flatten() {
         if tell_part(out, &trail, part) {
             return;
         }
@@ -83,17 +70,12 @@ pub fn tell_sum_tested<'a, W: Tell, C: Code>(
 }
 
 /// Tells which test of a copy doesn't bound an operand of a sum, if there is one.
-pub fn tell_operand_tested<'a, W: Tell, C: Code>(out: &mut W, program: &C, sight: &Sight<'a>) {
-    let Some(trail) = trail_to(program, sight) else {
+pub fn tell_operand_tested<C: Code, W: Tell>(out: &mut W, sight: &Sight<'_, C>) {
+    let Some(trail) = trail_to(sight) else {
         return;
     };
     for reg in sight.site.insn.registers_read().into_iter().flatten() {
-        let part = Part {
-            slot: sight.site.here.slot,
-            reg,
-            sum: trail.held(reg).sum,
-        };
-        if tell_part(out, &trail, &part) {
+        if tell_part(out, &trail, trail.used(sight.site.here.slot, reg)) {
             return;
         }
     }
@@ -116,18 +98,18 @@ fn zero_before<C: Code>(program: &C, slot: u32, reg: Reg) -> Option<u32> {
 }
 
 /// The slot of the 64-bit 0 that a register is computed from.
-fn zero_of<'a, C: Code>(program: &C, sight: &Sight<'a>, reg: Reg) -> Option<u32> {
+fn zero_of<C: Code>(sight: &Sight<'_, C>, reg: Reg) -> Option<u32> {
     let label = sight.here?.label.slot;
-    let held = trail_to(program, sight)?.held(reg);
+    let held = trail_to(sight)?.held(reg);
     if held.zero.is_some() {
         return held.zero;
     }
     if let Some(before) = held.sum.register_before() {
-        return zero_before(program, label, before);
+        return zero_before(sight.program, label, before);
     }
-    for part in held.parts.iter().flatten() {
+    for part in held.parts.into_iter().flatten() {
         if let Some(before) = part.sum.register_before() {
-            let zero = zero_before(program, label, before);
+            let zero = zero_before(sight.program, label, before);
             if zero.is_some() {
                 return zero;
             }
@@ -137,8 +119,8 @@ fn zero_of<'a, C: Code>(program: &C, sight: &Sight<'a>, reg: Reg) -> Option<u32>
 }
 
 /// Tells of the 64-bit 0 that an address is computed from, if it is.
-pub fn tell_lost<'a, W: Tell, C: Code>(out: &mut W, program: &C, sight: &Sight<'a>, base: Reg) {
-    if let Some(slot) = zero_of(program, sight, base) {
+pub fn tell_lost<C: Code, W: Tell>(out: &mut W, sight: &Sight<'_, C>, base: Reg) {
+    if let Some(slot) = zero_of(sight, base) {
         write!(
             out,
             "; slot {slot} loads a 64-bit 0, mostly the address of a table that a lost relocation left out"
@@ -173,13 +155,6 @@ pub struct Handings {
 }
 
 impl Handings {
-    /// None is found yet.
-    fn none() -> Self {
-        Handings {
-            found: ArrayVec::new(),
-        }
-    }
-
     /// Takes note of the registers that a call hands over.
     fn note(&mut self, trail: &Trail, slot: u32, first: u32) {
         for number in 1..6u8 {
@@ -192,17 +167,17 @@ impl Handings {
 
     /// Those of a program, as far as the instructions since the label before each tell.
     pub fn of<C: Code>(program: &C, certificate: &Index) -> Self {
-        let mut handings = Handings::none();
+        let mut handings = Handings {
+            found: ArrayVec::new(),
+        };
         let mut trail = Trail::new();
         for slot in 0..program.slots().min(MAX_SLOTS as u32) {
             if label_at(certificate, slot).is_some() {
                 trail = Trail::new();
             }
             if let Some(insn) = program.insn(slot) {
-                if let Insn::CallLocal { off } = insn {
-                    if let Some(first) = target(slot, off) {
-                        handings.note(&trail, slot, first);
-                    }
+                if let Some(first) = call_target(slot, &insn) {
+                    handings.note(&trail, slot, first);
                 }
                 trail.follow(slot, &insn);
             }
@@ -212,32 +187,22 @@ impl Handings {
 
     /// The call that hands a register over to a function.
     fn to(&self, first: u32, reg: Reg) -> Option<u32> {
-        for handing in self.found.iter() {
-            if handing.first == first && handing.reg == reg {
-                return Some(handing.slot);
-            }
-        }
-        None
+        let is_such = |handing: &&Handing| handing.first == first && handing.reg == reg;
+        Some(self.found.iter().find(is_such)?.slot)
     }
 }
 
 /// Tells of the call that hands a frame pointer over in the register of which nothing is known.
-pub fn tell_handed<'a, W: Tell, C: Code>(
+pub fn tell_handed<C: Code, W: Tell>(
     out: &mut W,
-    program: &C,
-    certificate: &Index,
-    sight: &Sight<'a>,
+    sight: &Sight<'_, C>,
     reg: Reg,
     handings: &Handings,
 ) {
-    let (Some(function), Some(trail)) = (
-        function_at(certificate, sight.site.here.slot),
-        trail_to(program, sight),
-    ) else {
+    let (Some(function), Some(trail)) = (sight.site.here.function, trail_to(sight)) else {
         return;
     };
-    let held = trail.held(reg);
-    let Some(before) = held.sum.register_before() else {
+    let Some(before) = trail.held(reg).sum.register_before() else {
         return;
     };
     if let Some(slot) = handings.to(function.first, before) {

@@ -3,9 +3,10 @@
 use crate::sight::Sight;
 use bpf_check::{Spot, WayOut};
 use bpf_explain_page::Tell;
+use bpf_insn::Code;
 
 /// Why no state goes on to an instruction without a label.
-#[derive(Clone, Copy, PartialEq, Eq)]
+#[derive(Clone, Copy, PartialEq)]
 pub enum Silence {
     /// The program's first slot has no label.
     Start,
@@ -38,14 +39,14 @@ pub fn tell_end<W: Tell>(out: &mut W) {
 }
 
 /// C1: no label stands at a jump's target.
-pub fn tell_missing_label<'a, W: Tell>(out: &mut W, sight: &Sight<'a>) {
+pub fn tell_missing_label<C: Code, W: Tell>(out: &mut W, sight: &Sight<'_, C>) {
     if let Some(Spot { slot: to, .. }) = sight.site.jump {
         write!(out, "jumps to slot {to}, where no label stands");
     }
 }
 
 /// C10: a callee's depth isn't below its caller's.
-pub fn tell_depth<'a, W: Tell>(out: &mut W, sight: &Sight<'a>) {
+pub fn tell_depth<C: Code, W: Tell>(out: &mut W, sight: &Sight<'_, C>) {
     let (Some(callee), Some(caller)) = (sight.site.callee, sight.site.here.function) else {
         return;
     };
@@ -57,7 +58,7 @@ pub fn tell_depth<'a, W: Tell>(out: &mut W, sight: &Sight<'a>) {
 }
 
 /// A call that leads to no function.
-fn tell_nowhere<'a, W: Tell>(out: &mut W, sight: &Sight<'a>) {
+fn tell_nowhere<C: Code, W: Tell>(out: &mut W, sight: &Sight<'_, C>) {
     let by = i64::from(sight.site.insn.distance().unwrap_or(0));
     let to = i64::from(sight.site.here.slot)
         .saturating_add(1)
@@ -69,7 +70,7 @@ fn tell_nowhere<'a, W: Tell>(out: &mut W, sight: &Sight<'a>) {
 }
 
 /// Where an instruction leads out of its function.
-fn tell_out<'a, W: Tell>(out: &mut W, sight: &Sight<'a>, leads: &str, to: u32) {
+fn tell_out<C: Code, W: Tell>(out: &mut W, sight: &Sight<'_, C>, leads: &str, to: u32) {
     if let Some(function) = sight.site.here.function {
         let first = function.first;
         write!(
@@ -80,7 +81,7 @@ fn tell_out<'a, W: Tell>(out: &mut W, sight: &Sight<'a>, leads: &str, to: u32) {
 }
 
 /// C12: a jump or the next instruction lies in another function, or a call leads to none.
-pub fn tell_leaving<'a, W: Tell>(out: &mut W, sight: &Sight<'a>) {
+pub fn tell_leaving<C: Code, W: Tell>(out: &mut W, sight: &Sight<'_, C>) {
     match sight.way_out {
         Some(WayOut::Call) => tell_nowhere(out, sight),
         Some(WayOut::Jump(to)) => tell_out(out, sight, "jumps to", to),

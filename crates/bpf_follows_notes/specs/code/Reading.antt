@@ -7,7 +7,7 @@ use Rattle.bpf_insn.specs.declared.instruction.Reg.TheVariants.{R0, R1, R2, R3, 
 use Rattle.bpf_follows.specs.declared.notes.Area.{Area}
 use Rattle.bpf_follows.specs.declared.notes.Area.TheVariants.{Given, Own}
 use Rattle.bpf_follows.specs.declared.notes.Kind.{Kind}
-use Rattle.bpf_follows.specs.declared.notes.Kind.TheVariants.{Nothing, Unset, Same, Both, Number, Natural, Inner, Length, Sized, Ending, Offset, Fixed, Within, Start, Head, Base, Moved, Address, Saved, Constant, Counter, Turn, Alone, Returns}
+use Rattle.bpf_follows.specs.declared.notes.Kind.TheVariants.{Nothing, Unset, Same, Both, Number, Natural, Inner, Length, Sized, Ending, Closing, Offset, Fixed, Within, Start, Head, Base, Moved, Address, Saved, Kept, Constant, Counter, Turn, Alone, Returns}
 use Rattle.bpf_follows.specs.declared.notes.Place.{Place}
 use Rattle.bpf_follows_notes.specs.declared.error.NotesError.{NotesError}
 use Rattle.bpf_follows_notes.specs.declared.error.NotesError.TheVariants.{Form}
@@ -110,6 +110,25 @@ saved_in text = do
   of ← register_at n.0
   Some (Saved of, n.1)
 
+-- the kind of a number that was saved of a register
+unfoldable pub kept_in : List ℕ → Option (Kind × List ℕ)
+kept_in text = do
+  n ← number_in (codes "kept:r") text
+  of ← register_at n.0
+  bounds ← bounds_in (codes ":") n.1
+  Some (Kept of bounds.0 bounds.1, bounds.2)
+
+-- the kind of the packet's end, where the old program has a pointer
+unfoldable pub closing_in : List ℕ → Option (Kind × List ℕ)
+closing_in text = do
+  by ← number_in (codes "closing:") text
+  rest ← behind (codes ":") by.1
+  offset ← int_in rest
+  Some (Closing by.0 offset.0, offset.1)
+
+unfoldable pub held_in : List ℕ → Option (Kind × List ℕ)
+held_in text = or_else (kept_in text) (or_else (closing_in text) (saved_in text))
+
 unfoldable pub numbered_in : List ℕ → Option (Kind × List ℕ)
 numbered_in text =
     or_else (option_map (λ x. (Constant x.0, x.1)) (value_in (codes "constant:") text))
@@ -121,7 +140,7 @@ numbered_in text =
     (or_else (option_map (λ x. (Sized x.0, x.1)) (number_in (codes "sized:") text))
     (or_else (option_map (λ x. (Ending x.0, x.1)) (number_in (codes "ending:") text))
     (or_else (option_map (λ x. (Returns x.0 x.1, x.2)) (bounds_in (codes "returns:") text))
-    (or_else (option_map (λ x. (Inner x.0 x.1, x.2)) (bounds_in (codes "inner:") text)) (saved_in text))))))))))
+    (or_else (option_map (λ x. (Inner x.0 x.1, x.2)) (bounds_in (codes "inner:") text)) (held_in text))))))))))
 
 -- an offset into an area, or the pointer there
 unfoldable pub offset_in : Area → List ℕ → Option (Kind × List ℕ)
